@@ -1,0 +1,62 @@
+-- The words that scripts, traces, states and answers share, a byte a character.
+use Rattle.std.specs.Prelude.{◌≡◌, ℕ, List, codes}
+use Rattle.uv_ids.specs.declared.phase.Kind.{Kind}
+use Rattle.uv_ids.specs.declared.phase.Kind.TheVariants.{Timer}
+use Rattle.uv_ids.specs.declared.phase.Mode.{Mode}
+use Rattle.uv_ids.specs.declared.phase.Mode.TheVariants as mode
+use Rattle.uv_ids.specs.declared.phase.Phase.{Phase}
+use Rattle.uv_ids.specs.declared.phase.Phase.TheVariants as phase
+use Rattle.uv_ids.specs.declared.code.Code.{Code}
+use Rattle.uv_ids.specs.declared.code.Code.TheVariants as code
+use Rattle.uv_ids.specs.declared.fault.Why.{Why}
+use Rattle.uv_ids.specs.declared.fault.Why.TheVariants as why
+
+-- a kind of handle
+abbrev pub kind_word : Kind → List ℕ
+kind_word Timer = codes "timer"
+
+-- the word names no kind
+abbrev pub IsNoKind : List ℕ → Type 0
+IsNoKind word = (kind : Kind) → word ≡ kind_word kind → ⊥
+
+-- a mode of a run
+abbrev pub mode_word : Mode → List ℕ
+mode_word mode.Default = codes "default"
+mode_word mode.Once = codes "once"
+mode_word mode.Nowait = codes "nowait"
+
+-- the word names no mode
+abbrev pub IsNoMode : List ℕ → Type 0
+IsNoMode word = (mode : Mode) → word ≡ mode_word mode → ⊥
+
+-- a section of an iteration, in the order of libuv's design overview at 1.45
+abbrev pub phase_word : Phase → List ℕ
+phase_word phase.Pending = codes "pending"
+phase_word phase.Idle = codes "idle"
+phase_word phase.Prepare = codes "prepare"
+phase_word phase.Done = codes "done"
+phase_word phase.Async = codes "async"
+phase_word phase.Check = codes "check"
+phase_word phase.Closing = codes "closing"
+phase_word phase.Timers = codes "timers"
+
+-- what an op answers
+abbrev pub code_word : Code → List ℕ
+code_word code.Ok = codes "ok"
+code_word code.Einval = codes "EINVAL"
+code_word code.Ebusy = codes "EBUSY"
+code_word code.Ecanceled = codes "ECANCELED"
+code_word code.Ebound = codes "EBOUND"
+code_word code.Efull = codes "EFULL"
+code_word code.Estale = codes "ESTALE"
+code_word code.Ekind = codes "EKIND"
+
+-- why a step was refused
+abbrev pub why_word : Why → List ℕ
+why_word why.Blocked = codes "blocked"
+why_word why.Ended = codes "ended"
+why_word why.NoWork = codes "nowork"
+why_word why.BusyWorker = codes "busyworker"
+why_word why.IdleWorker = codes "idleworker"
+why_word why.NoWorker = codes "noworker"
+why_word why.Range = codes "range"

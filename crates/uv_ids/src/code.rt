@@ -1,0 +1,50 @@
+//! What an op answers.
+ghost use Rattle.std.specs.Prelude.{◌≡◌};
+ghost use Rattle.uv_ids.specs.Words.{code_word};
+
+use crate::id::Id;
+
+/// A status: success, or one of libuv's error codes, or one of this profile's own.
+#[derive(Clone, Copy, Debug, PartialEq, Eq)]
+pub enum Code {
+    Ok,
+    /// UV_EINVAL: a closing handle, or a timer that was never started.
+    Einval,
+    /// UV_EBUSY: work that doesn't wait for a worker, or a loop that still holds handles.
+    Ebusy,
+    /// UV_ECANCELED: the request was cancelled before a worker took it.
+    Ecanceled,
+    /// The name has a live handle or request already (own).
+    Ebound,
+    /// No slot is free or unused (own).
+    Efull,
+    /// The name's handle or request is gone, or there never was one (own).
+    Estale,
+    /// The op is not one for a handle of this kind (own).
+    Ekind,
+}
+
+impl Code {
+    /// The word of traces.
+    pub fn word(self) -> &'static str
+        ensures { result.now ≡ code_word self }
+    {
+        match self {
+            Code::Ok => "ok",
+            Code::Einval => "EINVAL",
+            Code::Ebusy => "EBUSY",
+            Code::Ecanceled => "ECANCELED",
+            Code::Ebound => "EBOUND",
+            Code::Efull => "EFULL",
+            Code::Estale => "ESTALE",
+            Code::Ekind => "EKIND",
+        }
+    }
+}
+
+/// What an op answers: a status, or the id of what it made.
+#[derive(Clone, Copy, Debug, PartialEq, Eq)]
+pub enum Answer {
+    Code(Code),
+    Id(Id),
+}

@@ -1,0 +1,18 @@
+//! The plain words that every crate of the loop shares: ids, names, events, answers, trace lines and faults.
+#![tactic(auto)]
+
+mod code;
+mod due;
+mod event;
+mod fault;
+mod id;
+mod phase;
+mod seen;
+
+pub use code::{Answer, Code};
+pub use due::Due;
+pub use event::Event;
+pub use fault::{Fault, Why};
+pub use id::{Id, Var};
+pub use phase::{Kind, Mode, Phase};
+pub use seen::{Seen, Site};

@@ -1,0 +1,101 @@
+//! The words of the loop: kinds of handle, modes of a run, sections of an iteration.
+ghost use Rattle.std.specs.Prelude.{◌≡◌, IfSome, IfNone};
+ghost use Rattle.uv_ids.specs.Words.{kind_word, mode_word, phase_word, IsNoKind, IsNoMode};
+
+/// The kind of a handle (uv_handle_type).
+#[derive(Clone, Copy, Debug, PartialEq, Eq)]
+pub enum Kind {
+    Timer,
+}
+
+impl Kind {
+    /// The word of scripts, traces and states.
+    pub fn word(self) -> &'static str
+        ensures { result.now ≡ kind_word self }
+    {
+        match self {
+            Kind::Timer => "timer",
+        }
+    }
+
+    /// The kind that a word names.
+    pub fn from_word(word: &[u8]) -> Option<Kind>
+        ensures some { IfSome result (λ kind. word.now ≡ kind_word kind) }
+        ensures none { IfNone result (IsNoKind word.now) }
+    {
+        match word {
+            b"timer" => Some(Kind::Timer),
+            _ => None,
+        }
+    }
+}
+
+/// How far a run goes (uv_run_mode).
+#[derive(Clone, Copy, Debug, PartialEq, Eq)]
+pub enum Mode {
+    /// Until the loop isn't alive or is stopped.
+    Default,
+    /// One iteration, whose poll may block.
+    Once,
+    /// One iteration, whose poll doesn't block.
+    Nowait,
+}
+
+impl Mode {
+    /// The word of scripts, traces and states.
+    pub fn word(self) -> &'static str
+        ensures { result.now ≡ mode_word self }
+    {
+        match self {
+            Mode::Default => "default",
+            Mode::Once => "once",
+            Mode::Nowait => "nowait",
+        }
+    }
+
+    /// The mode that a word names.
+    pub fn from_word(word: &[u8]) -> Option<Mode>
+        ensures some { IfSome result (λ mode. word.now ≡ mode_word mode) }
+        ensures none { IfNone result (IsNoMode word.now) }
+    {
+        match word {
+            b"default" => Some(Mode::Default),
+            b"once" => Some(Mode::Once),
+            b"nowait" => Some(Mode::Nowait),
+            _ => None,
+        }
+    }
+}
+
+/// A section of the loop, as its trace line names it; the poll has a line of its own, which shows its timeout.
+///
+/// The order of an iteration is that of libuv's design overview at 1.45.
+#[derive(Clone, Copy, Debug, PartialEq, Eq)]
+pub enum Phase {
+    Pending,
+    Idle,
+    Prepare,
+    Done,
+    Async,
+    Check,
+    Closing,
+    Timers,
+}
+
+impl Phase {
+    /// The word of traces.
+    pub fn word(self) -> &'static str
+        ensures { result.now ≡ phase_word self }
+    {
+        match self {
+            Phase::Pending => "pending",
+            Phase::Idle => "idle",
+            Phase::Prepare => "prepare",
+            Phase::Done => "done",
+            Phase::Async => "async",
+            Phase::Check => "check",
+            Phase::Closing => "closing",
+            Phase::Timers => "timers",
+        }
+    }
+}
