@@ -8,9 +8,9 @@ use crate::phase::{Mode, Phase};
 #[derive(Clone, Copy, Debug, PartialEq, Eq)]
 pub enum Site {
     /// The line of the main program, from 0.
-    Main(u32),
+    Main(usize),
     /// The line of a name's handle callback, from 0.
-    On(Var, u32),
+    On(Var, usize),
 }
 
 /// One line of the trace. An op is named by its place in the script, which has its text.

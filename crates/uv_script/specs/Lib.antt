@@ -1,0 +1,4 @@
+pub mod Program
+pub mod Lines
+pub mod Words
+pub mod Grammar

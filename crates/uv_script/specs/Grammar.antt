@@ -1,0 +1,99 @@
+-- The grammar of scripts: which lines make which script.
+use Rattle.std.specs.Prelude.{◌≡◌, ℕ, ◌+◌, ◌<◌, ◌≤◌, ◌^◌, List, [], ◌∷◌, ◌++◌, length, take, sum_by, Contains, Option, Some, None, Result, Ok, Err, slice_get, slice_set, codes}
+use Rattle.uv_ids.specs.declared.id.Var.{Var}
+use Rattle.uv_ids.specs.declared.phase.Kind.{Kind}
+use Rattle.uv_ids.specs.declared.phase.Mode.{Mode}
+use Rattle.uv_ids.specs.declared.fault.Fault.{Fault}
+use Rattle.uv_ids.specs.declared.fault.Fault.TheVariants as fault
+use Rattle.uv_ids.specs.Words.{kind_word, mode_word}
+use Rattle.uv_script.specs.declared.op.Op.{Op}
+use Rattle.uv_script.specs.declared.op.Op.TheVariants as op
+use Rattle.uv_script.specs.declared.op.MainOp.{MainOp}
+use Rattle.uv_script.specs.declared.op.MainOp.TheVariants as main
+use Rattle.uv_script.specs.declared.op.CallbackLine.{CallbackLine}
+use Rattle.uv_script.specs.Lines.{lines_of, fields_of, IsLine, IsSkipped}
+use Rattle.uv_script.specs.Program.{Program, on_lines}
+use Rattle.uv_script.specs.Words.{IsName, IsNumber, IsDeclared}
+
+-- what a line says
+pub data Statement : Type 0 where
+  -- `var NAME`
+  Declares : List ℕ → Statement
+  -- `main OP`
+  InMain : MainOp → Statement
+  -- `on NAME [@k] OP`
+  InCallback : Var → CallbackLine → Statement
+
+-- the fields of an op, where these names are declared
+pub data IsOp (names : List (List ℕ)) (fields : List (List ℕ)) : Op → Type 0 where
+  init : (name : List ℕ) (v : Var) (kind : Kind) → fields ≡ codes "init" ∷ name ∷ kind_word kind ∷ [] → IsDeclared names name v → IsOp names fields (op.Init v kind)
+  start : (name : List ℕ) (v : Var) (timeout repeat : List ℕ) (t r : ℕ) → fields ≡ codes "start" ∷ name ∷ timeout ∷ repeat ∷ [] → IsDeclared names name v → IsNumber timeout t → IsNumber repeat r → IsOp names fields (op.Start v t r)
+  stop : (name : List ℕ) (v : Var) → fields ≡ codes "stop" ∷ name ∷ [] → IsDeclared names name v → IsOp names fields (op.Stop v)
+
+-- the fields of a line, and what it says
+pub data Says (names : List (List ℕ)) (fields : List (List ℕ)) : Statement → Type 0 where
+  declares : (name : List ℕ) → fields ≡ codes "var" ∷ name ∷ [] → IsName name → (Contains names name → ⊥) → Says names fields (Declares name)
+  in_main : (rest : List (List ℕ)) (op : Op) → fields ≡ codes "main" ∷ rest → IsOp names rest op → Says names fields (InMain (main.Op op))
+  runs : (mode : Mode) → fields ≡ codes "main" ∷ codes "run" ∷ mode_word mode ∷ [] → Says names fields (InMain (main.Run mode))
+  in_callback : (name : List ℕ) (v : Var) (rest : List (List ℕ)) (op : Op) → fields ≡ codes "on" ∷ name ∷ rest → IsDeclared names name v → IsOp names rest op → Says names fields (InCallback v (record { call = None; op = op }))
+  -- with `@k` the op is done in the k-th call only
+  in_call : (name : List ℕ) (v : Var) (number : List ℕ) (k : ℕ) (rest : List (List ℕ)) (op : Op) → fields ≡ codes "on" ∷ name ∷ (64 ∷ number) ∷ rest → IsDeclared names name v → IsNumber number k → 1 ≤ k → k < 2 ^ 32 → IsOp names rest op → Says names fields (InCallback v (record { call = Some k; op = op }))
+
+-- the lines that count: all but empty ones and comments
+abbrev pub line_count : Program → ℕ
+line_count p = length p.names + length p.main + sum_by length p.on
+
+-- there is room for one more line, and for one more name
+abbrev pub HasRoom : Program → Statement → Type 0
+HasRoom p (Declares name) = (line_count p < 65535) × (length p.names < 4096)
+HasRoom p (InMain op) = line_count p < 65535
+HasRoom p (InCallback v line) = line_count p < 65535
+
+-- the script with what one more line says
+abbrev pub with_statement : Program → Statement → Program
+with_statement p (Declares name) = record p { names = p.names ++ name ∷ []; on = p.on ++ [] ∷ [] }
+with_statement p (InMain op) = record p { main = p.main ++ op ∷ [] }
+with_statement p (InCallback v line) = record p { on = slice_set p.on v.0 (on_lines p v ++ line ∷ []) }
+
+-- the line takes the script before it to the script after it
+pub data Reads (p : Program) (line : List ℕ) : Program → Type 0 where
+  skips : IsLine line → IsSkipped line → Reads p line p
+  says : (s : Statement) → IsLine line → Says p.names (fields_of line) s → HasRoom p s → Reads p line (with_statement p s)
+
+-- so do these lines, one after another
+pub data ReadsAll : Program → List (List ℕ) → Program → Type 0 where
+  none : {p : Program} → ReadsAll p [] p
+  one : {p q r : Program} {line : List ℕ} {lines : List (List ℕ)} → Reads p line q → ReadsAll q lines r → ReadsAll p (line ∷ lines) r
+
+-- the script of no line
+abbrev pub blank : Program
+blank = record { names = []; main = []; on = [] }
+
+-- the script of a text
+abbrev pub IsScript : List ℕ → Program → Type 0
+IsScript text p = ReadsAll blank (lines_of text) p
+
+-- the text's first line outside the grammar, from 1: those before it are a script, and it takes that nowhere
+pub record IsBadLine (text : List ℕ) (number : ℕ) : Type 0 where
+  pub before : List (List ℕ)
+  pub line : List ℕ
+  pub after : List (List ℕ)
+  pub lines_are : lines_of text ≡ before ++ line ∷ after
+  pub counted : number ≡ length before + 1
+  pub script : Program
+  pub read : ReadsAll blank before script
+  pub refused : (q : Program) → Reads script line q → ⊥
+
+-- what may be answered to a text; no text needs memory that a growth must have
+abbrev pub Parses : List ℕ → Result Program Fault → Type 0
+Parses text (Ok p) = IsScript text p
+Parses text (Err (fault.Script line)) = IsBadLine text line
+Parses text (Err fault.Memory) = Unit {0}
+Parses text (Err (fault.Refused why)) = ⊥
+Parses text (Err fault.StepsFull) = ⊥
+Parses text (Err fault.Read) = ⊥
+Parses text (Err fault.Write) = ⊥
+Parses text (Err (fault.Torn at)) = ⊥
+Parses text (Err fault.Stalled) = ⊥
+Parses text (Err (fault.Differs at)) = ⊥
+Parses text (Err fault.Limit) = ⊥

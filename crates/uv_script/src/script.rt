@@ -1,0 +1,55 @@
+//! A script's parts.
+ghost use Rattle.std.specs.Prelude.{◌≡◌, slice_get, length};
+ghost use Rattle.uv_script.specs.Program.{on_lines};
+
+use crate::names::Names;
+use crate::op::{CallbackLine, MainOp};
+use std::marker::Model;
+use uv_ids::Var;
+
+/// A script that was read.
+#[derive(Drop)]
+pub struct Script {
+    names: Names,
+    main: Vec<MainOp>,
+    on: Vec<Vec<CallbackLine>>,
+}
+
+impl Model for Script {
+    ghost use Rattle.std.specs.Prelude.{map};
+    ghost use Rattle.uv_script.specs.Program.{Program};
+
+    ghost Value = { Program };
+
+    ghost view = { λ script. record {
+      names = script.names;
+      main = script.main.items;
+      on = map (λ lines. lines.items) script.on.items;
+    } };
+}
+
+impl Script {
+    /// The declared names.
+    pub fn names(&self) -> &Names
+        ensures { result.now ≡ self.now.names }
+    {
+        &self.names
+    }
+
+    /// A line of the main program, from 0.
+    pub fn main_op(&self, line: usize) -> Option<MainOp>
+        ensures { result ≡ slice_get self.now.main line }
+    {
+        self.main.get(line).copied()
+    }
+
+    /// The lines of a name's handle callback.
+    pub fn on_lines(&self, name: Var) -> &[CallbackLine]
+        ensures { result.now ≡ on_lines self.now name }
+    {
+        match self.on.get(name.0 as usize) {
+            Some(lines) => lines.as_slice(),
+            None => &[],
+        }
+    }
+}
