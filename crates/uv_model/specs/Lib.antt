@@ -1,0 +1,10 @@
+pub mod Handles
+pub mod State
+pub mod Timers
+pub mod Timeout
+pub mod Ops
+pub mod Next
+pub mod Steps
+pub mod After
+pub mod Bounds
+pub mod Trail

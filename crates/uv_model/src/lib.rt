@@ -1,1 +1,14 @@
+//! The model of the loop: its state, what one step does to it, what every machine does, and the plain loop, a machine of
+//! lists and an ordered map.
 #![tactic(auto)]
+
+mod handle;
+mod machine;
+mod place;
+mod plain;
+mod state;
+
+pub use handle::{Handle, Named, Slot};
+pub use machine::{Machine, Outcome};
+pub use place::{Body, Place, Run, Stage, Timing};
+pub use plain::PlainLoop;

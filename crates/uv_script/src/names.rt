@@ -2,6 +2,8 @@
 ghost use Rattle.std.specs.Prelude.{◌≡◌, length, slice_get, option_map};
 
 
+ghost use Rattle.std.specs.Prelude.{◌≡◌, length};
+
 use indexmap::IndexSet;
 use std::marker::Model;
 use uv_ids::Var;
@@ -18,4 +20,13 @@ impl Model for Names {
     ghost Value = { List (List ℕ) };
 
     ghost view = { λ names. map (λ name. name.items) names.set.keys };
+}
+
+impl Names {
+    /// How many names there are.
+    pub fn len(&self) -> usize
+        ensures { result ≡ length self.now }
+    {
+        self.set.len()
+    }
 }

@@ -1,0 +1,270 @@
+-- A state's numbers are no larger than the number of its steps, and its times no later than the clock's limit.
+use Rattle.std.proofs.Common.{◌≡◌, ℕ, suc, ◌+◌, ◌<◌, ◌≤◌, ◌^◌, List, [], ◌∷◌, ◌++◌, length, Bool, true, false, Option, Some, None, if◌then◌else◌, nat_lt, nat_le, ◌==◌, ◌&&◌, slice_get, slice_set, unwrap_or, All, refl, arith, ap, subst, replicate, add-zero, zero-add}
+use Rattle.std.proofs.lemmas.Grind.{elements}
+use Rattle.std.proofs.lemmas.Bool.Decides.{nat_tests}
+use Rattle.uv_ids.specs.declared.id.Id.{Id}
+use Rattle.uv_ids.specs.declared.id.Var.{Var}
+use Rattle.uv_ids.specs.declared.due.Due.{Due}
+use Rattle.uv_ids.specs.declared.phase.Kind.{Kind}
+use Rattle.uv_ids.specs.declared.event.Event.{Event}
+use Rattle.uv_ids.specs.declared.event.Event.TheVariants.{Loop, Tick}
+use Rattle.uv_script.specs.declared.op.Op.{Op}
+use Rattle.uv_script.specs.declared.op.Op.TheVariants.{Init, Start, Stop}
+use Rattle.uv_script.specs.declared.op.MainOp.{MainOp}
+use Rattle.uv_script.specs.declared.op.MainOp.TheVariants as main
+use Rattle.uv_script.specs.declared.op.CallbackLine.{CallbackLine}
+use Rattle.uv_script.specs.Program.{Program}
+use Rattle.uv_model.specs.declared.handle.Handle.{Handle}
+use Rattle.uv_model.specs.declared.handle.Slot.{Slot}
+use Rattle.uv_model.specs.declared.handle.Named.{Named}
+use Rattle.uv_model.specs.declared.place.Body.{Body}
+use Rattle.uv_model.specs.declared.place.Run.{Run}
+use Rattle.uv_model.specs.declared.place.Stage.{Stage}
+use Rattle.uv_model.specs.declared.place.Stage.TheVariants.{Entry, First, Pending, Idle, Prepare, Poll, Done, Async, Check, Closing, Timers}
+use Rattle.uv_model.specs.declared.place.Timing.{Timing}
+use Rattle.uv_model.specs.declared.place.Timing.TheVariants.{Collecting, Firing}
+use Rattle.uv_model.specs.declared.place.Place.{Place}
+use Rattle.uv_model.specs.declared.place.Place.TheVariants.{Main, Running}
+use Rattle.uv_model.specs.Handles.{new_handle, inactive}
+use Rattle.uv_model.specs.State.{State, fresh, named, unbound, handle_of, with_handle, with_named, with_new, unused_slot, live}
+use Rattle.uv_model.specs.Timers.{stopped, started, without_id, with_timer, without_timer, due_after}
+use Rattle.uv_model.specs.Timeout.{is_alive, has_passed}
+use Rattle.uv_model.specs.Ops as ops
+use Rattle.uv_model.specs.Ops.{do_op}
+use Rattle.uv_model.specs.Next.{Next, Moves, Refuses, next, loop_step, main_step, run_step, body_step, stage_step, tick, timers, collect, fire, leave_timers, enter, ends, call, restarted, made_ready, refreshed, is_default, timers_stage, body_from, goes}
+use Rattle.uv_model.specs.After.{after, goes_on, state_of}
+use Rattle.uv_model.specs.Bounds.{line_of, HoldsBefore, StartsBefore, IsSmall}
+use Rattle.uv_model.proofs.Counts.{at_name}
+
+abbrev pub Counts : ℕ → List Named → Type 0
+Counts n names = All (λ (x : Named). x.calls ≤ n) names
+
+abbrev pub Drawn : ℕ → List Slot → Type 0
+Drawn n slots = All (λ (x : Slot). HoldsBefore n x.content) slots
+
+pub record IsBounded (n : ℕ) (s : State) : Type 0 where
+  pub counts : Counts n s.names
+  pub starts : s.next_start ≤ n
+  pub drawn : Drawn s.next_start s.slots
+  pub time : s.time ≤ 2 ^ 62
+  pub clock : s.clock ≤ 2 ^ 62
+  pub line : line_of s.place ≤ n
+
+abbrev pub StaysBounded : ℕ → Next → Type 0
+StaysBounded n (Moves t seen) = IsBounded n t
+StaysBounded n (Refuses why) = Unit {0}
+
+if_keeps : {A : Type 0} (P : A → Type 0) (b : Bool) (x y : A) → P x → P y → P (if b then x else y)
+if_keeps P true x y h k = h
+if_keeps P false x y h k = k
+
+if_when : {A : Type 0} (P : A → Type 0) (b : Bool) (x y : A) → (b ≡ true → P x) → (b ≡ false → P y) → P (if b then x else y)
+if_when P true x y h k = h refl
+if_when P false x y h k = k refl
+
+-- ---- the parts
+
+counts_more : (n : ℕ) (names : List Named) → Counts n names → Counts (suc n) names
+counts_more n names h = λ k d l. omega (arith, h k d l)
+
+counts_set : (n : ℕ) (names : List Named) (i : ℕ) (x : Named) → Counts n names → x.calls ≤ n → Counts n (slice_set names i x)
+counts_set n names i x h l = grind (arith, elements, h)
+
+holds_more : (m n : ℕ) (content : Option Handle) → m ≤ n → HoldsBefore m content → HoldsBefore n content
+holds_more m n None l h = tt
+holds_more m n (Some x) l h = λ a. omega (arith, h a)
+
+drawn_more : (m n : ℕ) (slots : List Slot) → m ≤ n → Drawn m slots → Drawn n slots
+drawn_more m n slots l h = λ k d w. holds_more m n _ l (h k d w)
+
+drawn_set : (n : ℕ) (slots : List Slot) (i : ℕ) (x : Slot) → Drawn n slots → HoldsBefore n x.content → Drawn n (slice_set slots i x)
+drawn_set n slots i x h b = grind (arith, elements, h)
+
+drawn_push : (n : ℕ) (slots : List Slot) (x : Slot) → Drawn n slots → HoldsBefore n x.content → Drawn n (slots ++ x ∷ [])
+drawn_push n slots x h b = grind (arith, elements, h)
+
+never : (n : ℕ) (h : Handle) → h.active ≡ false → StartsBefore n h
+never n h e = λ a. cc (a, e)
+
+count_of : (n : ℕ) (s : State) (v : Var) → Counts n s.names → (named s v).calls ≤ n
+count_of n s v h = let l : (named s v).calls < suc n = at_name (suc n) s.names v.0 (slice_get s.names v.0) refl (λ k d w. omega (arith, h k d w)) (omega arith) in omega arith
+
+-- ---- the changes of a state
+
+more : (n : ℕ) (s : State) → IsBounded n s → IsBounded (suc n) s
+more n s h = record { counts = counts_more n s.names h.counts; starts = omega arith; drawn = h.drawn; time = h.time; clock = h.clock; line = omega arith }
+
+placed : (n : ℕ) (s : State) (place : Place) → IsBounded n s → line_of place ≤ n → IsBounded n (record s { place = place })
+placed n s place h l = record { counts = h.counts; starts = h.starts; drawn = h.drawn; time = h.time; clock = h.clock; line = l }
+
+renamed : (n : ℕ) (s : State) (v : Var) (x : Named) → IsBounded n s → x.calls ≤ n → IsBounded n (with_named s v x)
+renamed n s v x h l = record { counts = counts_set n s.names v.0 x h.counts l; starts = h.starts; drawn = h.drawn; time = h.time; clock = h.clock; line = h.line }
+
+listed : (n : ℕ) (s : State) (ts : List (Due × Id)) (ready : List Id) → IsBounded n s → IsBounded n (record s { timers = ts; ready = ready })
+listed n s ts ready h = record { counts = h.counts; starts = h.starts; drawn = h.drawn; time = h.time; clock = h.clock; line = h.line }
+
+kept_in : (n : ℕ) (s : State) (id : Id) (x : Handle) → IsBounded n s → StartsBefore s.next_start x → IsBounded n (with_handle s id x)
+kept_in n s id x h b = record { counts = h.counts; starts = h.starts; drawn = drawn_set s.next_start s.slots id.slot _ h.drawn b; time = h.time; clock = h.clock; line = h.line }
+
+at_clock : (n : ℕ) (s : State) → IsBounded n s → IsBounded n (refreshed s)
+at_clock n s h = record { counts = h.counts; starts = h.starts; drawn = h.drawn; time = h.clock; clock = h.clock; line = h.line }
+
+stopped_bounded : (n : ℕ) (s : State) (id : Id) (x : Handle) → IsBounded n s → IsBounded n (stopped s id x)
+stopped_bounded n s id x h =
+    let ts = if x.active then without_timer s.timers x.due else s.timers in
+    let ready = without_id s.ready id in
+    kept_in n (record s { timers = ts; ready = ready }) id (inactive x) (listed n s ts ready h) (never s.next_start (inactive x) refl)
+
+started_bounded : (n : ℕ) (s : State) (id : Id) (x : Handle) (timeout repeat : ℕ) → IsBounded n s → IsBounded (suc n) (started s id x timeout repeat)
+started_bounded n s id x timeout repeat h = record {
+  counts = counts_more n s.names h.counts;
+  starts = omega arith;
+  drawn = drawn_set (s.next_start + 1) s.slots id.slot _ (drawn_more s.next_start (s.next_start + 1) s.slots (omega arith) h.drawn) (λ a. omega arith);
+  time = h.time;
+  clock = h.clock;
+  line = omega arith;
+}
+
+-- ---- the ops
+
+init_in_bounded : (n : ℕ) (s : State) (v : Var) (kind : Kind) (id : Option Id) → IsBounded n s → IsBounded (suc n) (ops.init_in s v kind id).state
+init_in_bounded n s v kind None h = more n s h
+init_in_bounded n s v kind (Some id) h =
+    let m = more n s h in
+    let wide : IsBounded (suc n) (with_new s (new_handle v kind)) = record { counts = m.counts; starts = m.starts; drawn = drawn_push s.next_start s.slots _ h.drawn (never s.next_start (new_handle v kind) refl); time = h.time; clock = h.clock; line = m.line } in
+    renamed (suc n) (with_new s (new_handle v kind)) v (record (named s v) { id = Some id }) wide (omega (arith, count_of n s v h.counts))
+
+init_bounded : (n : ℕ) (s : State) (v : Var) (kind : Kind) (t : Option (Id × Handle)) → IsBounded n s → IsBounded (suc n) (ops.init s v kind t).state
+init_bounded n s v kind (Some t) h = more n s h
+init_bounded n s v kind None h = init_in_bounded n s v kind (unused_slot s) h
+
+start_bounded : (n : ℕ) (s : State) (timeout repeat : ℕ) (t : Option (Id × Handle)) → IsBounded n s → IsBounded (suc n) (ops.start s timeout repeat t).state
+start_bounded n s timeout repeat None h = more n s h
+start_bounded n s timeout repeat (Some t) h = started_bounded n (stopped s t.0 t.1) t.0 t.1 timeout repeat (stopped_bounded n s t.0 t.1 h)
+
+stop_bounded : (n : ℕ) (s : State) (t : Option (Id × Handle)) → IsBounded n s → IsBounded (suc n) (ops.stop s t).state
+stop_bounded n s None h = more n s h
+stop_bounded n s (Some t) h = more n (stopped s t.0 t.1) (stopped_bounded n s t.0 t.1 h)
+
+op_bounded : (n : ℕ) (s : State) (op : Op) → IsBounded n s → IsBounded (suc n) (do_op s op).state
+op_bounded n s (Init v kind) h = init_bounded n s v kind (live s v) h
+op_bounded n s (Start v timeout repeat) h = start_bounded n s timeout repeat (live s v) h
+op_bounded n s (Stop v) h = stop_bounded n s (live s v) h
+
+-- ---- the rows
+
+run_at : (n : ℕ) (s : State) (run : Run) → IsBounded n s → run.line ≤ n → IsBounded (suc n) (record s { place = Running run })
+run_at n s run h l = placed (suc n) s (Running run) (more n s h) (omega arith)
+
+ends_bounded : (n : ℕ) (s : State) (run : Run) → IsBounded n s → run.line ≤ n → StaysBounded (suc n) (ends s run)
+ends_bounded n s run h l = placed (suc n) s (Main (run.line + 1)) (more n s h) (omega arith)
+
+enter_bounded : (n : ℕ) (s : State) (run : Run) → IsBounded n s → run.line ≤ n → StaysBounded (suc n) (enter s run)
+enter_bounded n s run h l = if_keeps (StaysBounded (suc n)) (goes s) _ _
+    (if_keeps (StaysBounded (suc n)) (is_default run.mode) _ _ (run_at n s (record run { stage = First Collecting; body = None }) h l) (run_at n s (record run { stage = Pending; body = None }) h l))
+    (ends_bounded n s run h l)
+
+leave_bounded : (n : ℕ) (s : State) (run : Run) (first : Bool) → IsBounded n s → run.line ≤ n → StaysBounded (suc n) (leave_timers s run first)
+leave_bounded n s run true h l = if_keeps (StaysBounded (suc n)) (goes s) _ _ (run_at n s (record run { stage = Pending; body = None }) h l) (ends_bounded n s run h l)
+leave_bounded n s run false h l = if_keeps (StaysBounded (suc n)) (is_default run.mode && goes s) _ _ (run_at n s (record run { stage = Pending; body = None }) h l) (ends_bounded n s run h l)
+
+call_bounded : (p : Program) (n : ℕ) (s : State) (run : Run) (id : Id) (v : Var) → IsBounded (suc n) s → Counts n s.names → run.line ≤ n → StaysBounded (suc n) (call p s run id v)
+call_bounded p n s run id v h counts l =
+    let x : Named = record (named s v) { calls = (named s v).calls + 1 } in
+    let t = with_named s v x in
+    placed (suc n) t (Running (record run { body = body_from p v x.calls 0 })) (renamed (suc n) s v x h (omega (arith, count_of n s v counts))) (omega arith)
+
+restarted_bounded : (n : ℕ) (s : State) (id : Id) (x : Handle) → IsBounded n s → IsBounded (suc n) (restarted s id x)
+restarted_bounded n s id x h = if_keeps (IsBounded (suc n)) (x.repeat == 0) s (started s id x x.repeat x.repeat) (more n s h) (started_bounded n s id x x.repeat x.repeat h)
+
+restarted_names : (n : ℕ) (s : State) (id : Id) (x : Handle) → Counts n s.names → Counts n (restarted s id x).names
+restarted_names n s id x h = if_keeps (λ (t : State). Counts n t.names) (x.repeat == 0) s (started s id x x.repeat x.repeat) h h
+
+fire_bounded : (p : Program) (n : ℕ) (s : State) (run : Run) (first : Bool) (ids : List Id) → IsBounded n s → run.line ≤ n → StaysBounded (suc n) (fire p s run first ids)
+fire_bounded p n s run first [] h l = leave_bounded n s run first h l
+fire_bounded p n s run first (id ∷ rest) h l =
+    let t = record s { ready = rest } in
+    let x = handle_of s id in
+    let b = listed n s s.timers rest h in
+    call_bounded p n (restarted t id x) (record run { stage = timers_stage first Firing }) id x.name (restarted_bounded n t id x b) (restarted_names n t id x h.counts) l
+
+collect_bounded : (p : Program) (n : ℕ) (s : State) (run : Run) (first : Bool) (ts : List (Due × Id)) → IsBounded n s → run.line ≤ n → StaysBounded (suc n) (collect p s run first ts)
+collect_bounded p n s run first [] h l = fire_bounded p n s run first s.ready h l
+collect_bounded p n s run first (t ∷ rest) h l = if_keeps (StaysBounded (suc n)) (nat_le t.0.at s.time) _ _
+    (let ready = s.ready ++ t.1 ∷ [] in
+    let x = inactive (handle_of s t.1) in
+    let u = record (made_ready s t.1) { timers = rest } in
+    run_at n u (record run { stage = timers_stage first Collecting; body = None }) (kept_in n (record s { timers = rest; ready = ready }) t.1 x (listed n s rest ready h) (never s.next_start x refl)) l)
+    (fire_bounded p n s run first s.ready h l)
+
+timers_bounded : (p : Program) (n : ℕ) (s : State) (run : Run) (first : Bool) (timing : Timing) → IsBounded n s → run.line ≤ n → StaysBounded (suc n) (timers p s run first timing)
+timers_bounded p n s run first Collecting h l = collect_bounded p n s run first s.timers h l
+timers_bounded p n s run first Firing h l = fire_bounded p n s run first s.ready h l
+
+stage_bounded : (p : Program) (n : ℕ) (s : State) (run : Run) (stage : Stage) → IsBounded n s → run.line ≤ n → StaysBounded (suc n) (stage_step p s run stage)
+stage_bounded p n s run Entry h l = enter_bounded n s run h l
+stage_bounded p n s run (First timing) h l = timers_bounded p n s run true timing h l
+stage_bounded p n s run Pending h l = run_at n s (record run { stage = Idle; body = None }) h l
+stage_bounded p n s run Idle h l = run_at n s (record run { stage = Prepare; body = None }) h l
+stage_bounded p n s run Prepare h l = run_at n s (record run { stage = _; body = None }) h l
+stage_bounded p n s run (Poll deadline) h l = if_keeps (StaysBounded (suc n)) (has_passed s.clock deadline) _ _ (run_at n (refreshed s) (record run { stage = Done; body = None }) (at_clock n s h) l) tt
+stage_bounded p n s run Done h l = run_at n s (record run { stage = Async; body = None }) h l
+stage_bounded p n s run Async h l = run_at n s (record run { stage = Check; body = None }) h l
+stage_bounded p n s run Check h l = run_at n s (record run { stage = Closing; body = None }) h l
+stage_bounded p n s run Closing h l = run_at n (refreshed s) (record run { stage = Timers Collecting; body = None }) (at_clock n s h) l
+stage_bounded p n s run (Timers timing) h l = timers_bounded p n s run false timing h l
+
+body_bounded : (p : Program) (n : ℕ) (s : State) (run : Run) (body : Body) (line : Option CallbackLine) → IsBounded n s → run.line ≤ n → StaysBounded (suc n) (body_step p s run body line)
+body_bounded p n s run body None h l = stage_bounded p n s run run.stage h l
+body_bounded p n s run body (Some line) h l = placed (suc n) (do_op s line.op).state (Running (record run { body = body_from p body.name body.call (body.next + 1) })) (op_bounded n s line.op h) (omega arith)
+
+main_bounded : (n : ℕ) (s : State) (line : ℕ) (x : Option MainOp) → IsBounded n s → line ≤ n → StaysBounded (suc n) (main_step s line x)
+main_bounded n s line None h l = tt
+main_bounded n s line (Some (main.Run mode)) h l =
+    run_at n (if is_default mode then refreshed s else s) (record { mode = mode; line = line; stage = Entry; body = None })
+    (if_keeps (IsBounded n) (is_default mode) (refreshed s) s (at_clock n s h) h) l
+main_bounded n s line (Some (main.Op op)) h l = placed (suc n) (do_op s op).state (Main (line + 1)) (op_bounded n s op h) (omega arith)
+
+run_bounded : (p : Program) (n : ℕ) (s : State) (run : Run) (body : Option Body) → IsBounded n s → run.line ≤ n → StaysBounded (suc n) (run_step p s run body)
+run_bounded p n s run None h l = stage_bounded p n s run run.stage h l
+run_bounded p n s run (Some body) h l = body_bounded p n s run body _ h l
+
+place_bounded : (p : Program) (n : ℕ) (s : State) (place : Place) → IsBounded n s → line_of place ≤ n → StaysBounded (suc n) (loop_step p s place)
+place_bounded p n s (Main line) h l = main_bounded n s line _ h l
+place_bounded p n s (Running run) h l = run_bounded p n s run run.body h l
+
+tick_bounded : (n : ℕ) (s : State) (ms : ℕ) → IsBounded n s → StaysBounded (suc n) (tick s ms)
+tick_bounded n s ms h = if_when (StaysBounded (suc n)) (nat_le (s.clock + ms) (2 ^ 62)) _ _
+    (λ e. let m = more n s h in let small : s.clock + ms ≤ 2 ^ 62 = grind (arith, nat_tests, e) in record { counts = m.counts; starts = m.starts; drawn = m.drawn; time = m.time; clock = small; line = m.line })
+    (λ e. tt)
+
+pub next_bounded : (p : Program) (n : ℕ) (s : State) (e : Event) → IsBounded n s → StaysBounded (suc n) (next p s e)
+unfolding next
+next_bounded p n s Loop h = place_bounded p n s s.place h h.line
+next_bounded p n s (Tick ms) h = tick_bounded n s ms h
+
+state_bounded : (p : Program) (n : ℕ) (s : State) (e : Event) → IsBounded n s → IsBounded (suc n) (state_of s (next p s e))
+state_bounded p n s e h = kept (next p s e) (next_bounded p n s e h) where
+  kept : (x : Next) → StaysBounded (suc n) x → IsBounded (suc n) (state_of s x)
+  kept (Moves t seen) k = k
+  kept (Refuses why) k = more n s h
+
+-- ---- a list of events
+
+goes_on_bounded : (p : Program) (n : ℕ) (s : State) (es : List Event) → IsBounded n s → IsBounded (n + length es) (goes_on p s es)
+goes_on_bounded p n s [] h = rw add-zero h
+goes_on_bounded p n s (e ∷ es) h =
+    let t = state_of s (next p s e) in
+    let same : suc n + length es ≡ n + length (e ∷ es) = omega arith in
+    subst (λ (m : ℕ). IsBounded m (goes_on p t es)) same (goes_on_bounded p (suc n) t es (state_bounded p n s e h))
+
+fresh_names : (n : ℕ) → Counts 0 (replicate n (record { id = None; calls = 0 }))
+fresh_names n = grind (arith, elements)
+
+after_bounded : (p : Program) (es : List Event) → IsBounded (length es) (after p es)
+unfolding after
+after_bounded p es = rw (← zero-add (length es)) (goes_on_bounded p 0 (fresh p) es (record { counts = fresh_names (length p.names); starts = omega arith; drawn = λ k d l. absurd (omega arith); time = omega arith; clock = omega arith; line = omega arith }))
+
+-- after few steps the numbers fit
+pub after_small : (p : Program) (es : List Event) → length es ≤ 2 ^ 24 → IsSmall (after p es)
+after_small p es l = let h = after_bounded p es in record { counts = λ k d i. omega (arith, h.counts k d i); starts = omega arith; drawn = h.drawn; time = omega arith; line = omega arith }

@@ -1,0 +1,6 @@
+pub mod Lines
+pub mod Order
+pub mod Starts
+pub mod Counts
+pub mod Bounded
+pub mod Runs

@@ -1,0 +1,34 @@
+-- A timer that is started again.
+use Rattle.std.proofs.Common.{◌≡◌, ℕ, ◌+◌, ◌<◌, List, Bool, true, false, if◌then◌else◌, refl, sym, ◌∙◌, ap₂}
+use Rattle.std.proofs.lemmas.List.{set-set}
+use Rattle.std.specs.List.Sorted.{IsStrictlySortedBy}
+use Rattle.std.specs.Map.{keys_of}
+use Rattle.uv_ids.specs.Due.{due_cmp}
+use Rattle.uv_ids.specs.declared.id.Id.{Id}
+use Rattle.uv_ids.specs.declared.due.Due.{Due}
+use Rattle.uv_model.specs.declared.handle.Handle.{Handle}
+use Rattle.uv_model.specs.declared.handle.Slot.{Slot}
+use Rattle.uv_model.specs.State.{State, with_handle}
+use Rattle.uv_model.specs.Timers.{with_timer, without_timer, without_id, due_after, stopped, started}
+use Rattle.uv_model.specs.Bounds.{StartsBefore}
+use Rattle.uv_model.proofs.Order.{without-with_timer, another}
+
+-- the new key may be put in before the old one is taken out
+swapped : (ts : List (Due × Id)) (active : Bool) (old new : Due) (id : Id) → IsStrictlySortedBy due_cmp (keys_of ts) → (active ≡ true → old.start < new.start) → (if active then without_timer (with_timer ts new id) old else with_timer ts new id) ≡ with_timer (if active then without_timer ts old else ts) new id
+swapped ts true old new id s l = without-with_timer ts old new id s (another old new (l refl))
+swapped ts false old new id s l = refl
+
+pub started_again : (s : State) (id : Id) (h : Handle) (timeout repeat : ℕ) → IsStrictlySortedBy due_cmp (keys_of s.timers) → StartsBefore s.next_start h →
+    with_handle
+    (record s {
+      timers = if h.active then without_timer (with_timer s.timers (due_after s timeout) id) h.due else with_timer s.timers (due_after s timeout) id;
+      ready = without_id s.ready id;
+      next_start = s.next_start + 1;
+    })
+    id
+    (record h { active = true; begun = true; due = due_after s timeout; repeat = repeat })
+    ≡ started (stopped s id h) id h timeout repeat
+started_again s id h timeout repeat sorted before =
+    ap₂ (λ (ts : List (Due × Id)) (slots : List Slot). record s { timers = ts; ready = without_id s.ready id; next_start = s.next_start + 1; slots = slots })
+    (swapped s.timers h.active h.due (due_after s timeout) id sorted before)
+    (refl ∙ sym (set-set s.slots id.slot _ _))

@@ -1,0 +1,210 @@
+-- One step of the loop: a place and what holds there give the line and the next place (design overview, the order of 1.45).
+use Rattle.std.specs.Prelude.{ℕ, ◌+◌, ◌^◌, List, [], ◌∷◌, ◌++◌, Bool, true, false, ◌&&◌, ◌==◌, drop, Option, Some, None, slice_get, nat_le, if◌then◌else◌}
+use Rattle.uv_ids.specs.declared.id.Id.{Id}
+use Rattle.uv_ids.specs.declared.id.Var.{Var}
+use Rattle.uv_ids.specs.declared.due.Due.{Due}
+use Rattle.uv_ids.specs.declared.phase.Mode.{Mode}
+use Rattle.uv_ids.specs.declared.phase.Mode.TheVariants.{Default, Once, Nowait}
+use Rattle.uv_ids.specs.declared.phase.Phase.{Phase}
+use Rattle.uv_ids.specs.declared.phase.Phase.TheVariants as phase
+use Rattle.uv_ids.specs.declared.event.Event.{Event}
+use Rattle.uv_ids.specs.declared.event.Event.TheVariants.{Loop, Tick}
+use Rattle.uv_ids.specs.declared.seen.Seen.{Seen}
+use Rattle.uv_ids.specs.declared.seen.Seen.TheVariants as seen
+use Rattle.uv_ids.specs.declared.seen.Site.TheVariants as site
+use Rattle.uv_ids.specs.declared.fault.Why.{Why}
+use Rattle.uv_ids.specs.declared.fault.Why.TheVariants.{Blocked, Ended, Range}
+use Rattle.uv_script.specs.declared.op.MainOp.{MainOp}
+use Rattle.uv_script.specs.declared.op.MainOp.TheVariants as main
+use Rattle.uv_script.specs.declared.op.CallbackLine.{CallbackLine}
+use Rattle.uv_script.specs.Program.{Program, on_lines}
+use Rattle.uv_model.specs.declared.handle.Handle.{Handle}
+use Rattle.uv_model.specs.declared.place.Body.{Body}
+use Rattle.uv_model.specs.declared.place.Run.{Run}
+use Rattle.uv_model.specs.declared.place.Stage.{Stage}
+use Rattle.uv_model.specs.declared.place.Stage.TheVariants.{Entry, First, Pending, Idle, Prepare, Poll, Done, Async, Check, Closing, Timers}
+use Rattle.uv_model.specs.declared.place.Timing.{Timing}
+use Rattle.uv_model.specs.declared.place.Timing.TheVariants.{Collecting, Firing}
+use Rattle.uv_model.specs.declared.place.Place.{Place}
+use Rattle.uv_model.specs.declared.place.Place.TheVariants.{Main, Running}
+use Rattle.uv_model.specs.Handles.{inactive}
+use Rattle.uv_model.specs.State.{State, handle_of, with_handle, named, with_named}
+use Rattle.uv_model.specs.Timers.{started}
+use Rattle.uv_model.specs.Timeout.{is_alive, poll_timeout, deadline_of, has_passed}
+use Rattle.uv_model.specs.Ops.{do_op}
+
+-- what an event does: the state after it and the line that it appends, if it appends one; or why it is refused
+pub data Next : Type 0 where
+  Moves : State → Option Seen → Next
+  Refuses : Why → Next
+
+-- ---- the callbacks' bodies
+
+-- a line with no number is for every call, one with a number for that call
+abbrev pub is_for : ℕ → Option ℕ → Bool
+is_for call None = true
+is_for call (Some k) = k == call
+
+-- the first line for this call among these, the first of which has this number
+abbrev pub next_line : ℕ → ℕ → List CallbackLine → Option ℕ
+next_line call number [] = None
+next_line call number (line ∷ lines) = if is_for call line.call then Some number else next_line call (number + 1) lines
+
+-- the body of a call, if it has a line from this one on
+abbrev pub body_at : Var → ℕ → Option ℕ → Option Body
+body_at v call None = None
+body_at v call (Some next) = Some (record { name = v; call = call; next = next })
+
+abbrev pub body_from : Program → Var → ℕ → ℕ → Option Body
+body_from p v call number = body_at v call (next_line call number (drop number (on_lines p v)))
+
+-- ---- where a run stands
+
+abbrev pub at : State → Run → Stage → State
+at s run stage = record s { place = Running (record run { stage = stage; body = None }) }
+
+-- a section begins
+abbrev pub begins : State → Run → Stage → Phase → Next
+begins s run stage phase = Moves (at s run stage) (Some (seen.Section phase))
+
+abbrev pub new_iteration : State → Run → Next
+new_iteration s run = begins s run Pending phase.Pending
+
+-- the run ends, and says whether the loop is alive
+abbrev pub ends : State → Run → Next
+ends s run = Moves (record s { place = Main (run.line + 1) }) (Some (seen.End (is_alive s)))
+
+abbrev pub is_default : Mode → Bool
+is_default Default = true
+is_default Once = false
+is_default Nowait = false
+
+-- the loop goes on: it is alive
+abbrev pub goes : State → Bool
+goes s = is_alive s
+
+-- the loop's time is set to the clock
+abbrev pub refreshed : State → State
+refreshed s = record s { time = s.clock }
+
+-- ---- the rows
+
+-- entry: in default the timers that are due run first
+abbrev pub enter : State → Run → Next
+enter s run =
+    if goes s
+    then (if is_default run.mode then begins s run (First Collecting) phase.Timers else new_iteration s run)
+    else ends s run
+
+-- the poll begins, with its timeout
+abbrev pub begin_poll : State → Run → Next
+begin_poll s run =
+    let timeout = poll_timeout s run.mode in
+    Moves (at s run (Poll (deadline_of s timeout))) (Some (seen.Poll timeout))
+
+-- the poll is left when its deadline has passed; on leaving it the time is refreshed
+abbrev pub poll : State → Run → Option ℕ → Next
+poll s run deadline = if has_passed s.clock deadline then begins (refreshed s) run Done phase.Done else Refuses Blocked
+
+-- the timers of an iteration begin with the time refreshed
+abbrev pub begin_timers : State → Run → Next
+begin_timers s run = begins (refreshed s) run (Timers Collecting) phase.Timers
+
+-- the timers section of the entry, or that of an iteration
+abbrev pub timers_stage : Bool → Timing → Stage
+timers_stage true timing = First timing
+timers_stage false timing = Timers timing
+
+-- after the timers: from the entry the first iteration, and in default one iteration after another
+abbrev pub leave_timers : State → Run → Bool → Next
+leave_timers s run true = if goes s then new_iteration s run else ends s run
+leave_timers s run false = if is_default run.mode && goes s then new_iteration s run else ends s run
+
+-- the callback of a handle begins: one call more of its name
+abbrev pub call : Program → State → Run → Id → Var → Next
+call p s run id v =
+    let count = (named s v).calls + 1 in
+    Moves
+    (record (with_named s v (record (named s v) { calls = count })) { place = Running (record run { body = body_from p v count 0 }) })
+    (Some (seen.Call v id))
+
+-- a timer that repeats is started again with its repeat as timeout
+abbrev pub restarted : State → Id → Handle → State
+restarted s id h = if h.repeat == 0 then s else started s id h h.repeat h.repeat
+
+-- the front of the ready list is called; with none the section is over
+abbrev pub fire : Program → State → Run → Bool → List Id → Next
+fire p s run first [] = leave_timers s run first
+fire p s run first (id ∷ rest) =
+    let h = handle_of s id in
+    call p (restarted (record s { ready = rest }) id h) (record run { stage = timers_stage first Firing }) id h.name
+
+-- a timer goes to the end of the ready list, inactive
+abbrev pub made_ready : State → Id → State
+made_ready s id = with_handle (record s { ready = s.ready ++ id ∷ [] }) id (inactive (handle_of s id))
+
+-- all due timers leave the order of timers for the ready list, one a step and without a line, before the first is called
+abbrev pub collect : Program → State → Run → Bool → List (Due × Id) → Next
+collect p s run first [] = fire p s run first s.ready
+collect p s run first (t ∷ rest) =
+    if nat_le t.0.at s.time
+    then Moves (at (record (made_ready s t.1) { timers = rest }) run (timers_stage first Collecting)) None
+    else fire p s run first s.ready
+
+abbrev pub timers : Program → State → Run → Bool → Timing → Next
+timers p s run first Collecting = collect p s run first s.timers
+timers p s run first Firing = fire p s run first s.ready
+
+-- what a run does next where no body is under way
+abbrev pub stage_step : Program → State → Run → Stage → Next
+stage_step p s run Entry = enter s run
+stage_step p s run (First timing) = timers p s run true timing
+stage_step p s run Pending = begins s run Idle phase.Idle
+stage_step p s run Idle = begins s run Prepare phase.Prepare
+stage_step p s run Prepare = begin_poll s run
+stage_step p s run (Poll deadline) = poll s run deadline
+stage_step p s run Done = begins s run Async phase.Async
+stage_step p s run Async = begins s run Check phase.Check
+stage_step p s run Check = begins s run Closing phase.Closing
+stage_step p s run Closing = begin_timers s run
+stage_step p s run (Timers timing) = timers p s run false timing
+
+-- a body under way does its next op; with none it is over
+abbrev pub body_step : Program → State → Run → Body → Option CallbackLine → Next
+body_step p s run body None = stage_step p s run run.stage
+body_step p s run body (Some line) =
+    let done = do_op s line.op in
+    Moves
+    (record done.state { place = Running (record run { body = body_from p body.name body.call (body.next + 1) }) })
+    (Some (seen.Op (site.On body.name body.next) done.answer))
+
+abbrev pub run_step : Program → State → Run → Option Body → Next
+run_step p s run None = stage_step p s run run.stage
+run_step p s run (Some body) = body_step p s run body (slice_get (on_lines p body.name) body.next)
+
+-- the main program does its next line; a default run refreshes the time as it begins
+abbrev pub main_step : State → ℕ → Option MainOp → Next
+main_step s line None = Refuses Ended
+main_step s line (Some (main.Run mode)) = Moves
+    (record (if is_default mode then refreshed s else s) { place = Running (record { mode = mode; line = line; stage = Entry; body = None }) })
+    (Some (seen.Run mode))
+main_step s line (Some (main.Op op)) =
+    let done = do_op s op in
+    Moves (record done.state { place = Main (line + 1) }) (Some (seen.Op (site.Main line) done.answer))
+
+abbrev pub loop_step : Program → State → Place → Next
+loop_step p s (Main line) = main_step s line (slice_get p.main line)
+loop_step p s (Running run) = run_step p s run run.body
+
+-- the latest time that the clock may show, in ms
+abbrev pub LATEST : ℕ
+LATEST = 2 ^ 62
+
+-- the clock goes on
+abbrev pub tick : State → ℕ → Next
+tick s ms = if nat_le (s.clock + ms) LATEST then Moves (record s { clock = s.clock + ms }) (Some (seen.Tick ms)) else Refuses Range
+
+-- one step
+unfoldable pub next : Program → State → Event → Next
+next p s Loop = loop_step p s s.place
+next p s (Tick ms) = tick s ms

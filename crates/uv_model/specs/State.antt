@@ -1,0 +1,98 @@
+-- The state of a loop: plain lists, a map in the order of timers, and numbers.
+use Rattle.std.specs.Prelude.{ℕ, ◌==◌, ◌<◌, ◌+◌, List, [], ◌∷◌, ◌++◌, length, Bool, Option, Some, None, unwrap_or, option_and_then, nat_lt, replicate, slice_get, slice_set, if◌then◌else◌}
+use Rattle.uv_ids.specs.declared.id.Id.{Id}
+use Rattle.uv_ids.specs.declared.id.Var.{Var}
+use Rattle.uv_ids.specs.declared.due.Due.{Due}
+use Rattle.uv_ids.specs.declared.seen.Seen.{Seen}
+use Rattle.uv_ids.specs.declared.fault.Why.{Why}
+use Rattle.uv_ids.specs.declared.phase.Kind.TheVariants.{Timer}
+use Rattle.uv_script.specs.Program.{Program}
+use Rattle.uv_model.specs.declared.handle.Handle.{Handle}
+use Rattle.uv_model.specs.declared.handle.Slot.{Slot}
+use Rattle.uv_model.specs.declared.handle.Named.{Named}
+use Rattle.uv_model.specs.declared.place.Place.{Place}
+use Rattle.uv_model.specs.declared.place.Place.TheVariants.{Main}
+use Rattle.uv_model.specs.Handles.{new_handle}
+
+pub record State : Type 0 where
+  -- where the loop stands
+  pub place : Place
+  -- for each name, what it is bound to and how often it was called
+  pub names : List Named
+  -- the slots of the arena that were ever used, by number
+  pub slots : List Slot
+  -- the active timers, by due time and then by start number
+  pub timers : List (Due × Id)
+  -- the timers that a section collected and will call, front first
+  pub ready : List Id
+  -- the loop's cached time in ms (uv_now)
+  pub time : ℕ
+  -- the clock in ms
+  pub clock : ℕ
+  -- the number that the next start of a timer draws
+  pub next_start : ℕ
+
+-- the state in which every script begins
+abbrev pub fresh : Program → State
+fresh p = record {
+  place = Main 0;
+  names = replicate (length p.names) (record { id = None; calls = 0 });
+  slots = [];
+  timers = [];
+  ready = [];
+  time = 0;
+  clock = 0;
+  next_start = 0;
+}
+
+-- how many slots the arena has
+abbrev pub CAPACITY : ℕ
+CAPACITY = 1024
+
+-- the id of the next unused slot, while there is one
+abbrev pub unused_slot : State → Option Id
+unused_slot s = if nat_lt (length s.slots) CAPACITY then Some (record { slot = length s.slots; generation = 0 }) else None
+
+-- the state with a handle in a slot that was never used
+abbrev pub with_new : State → Handle → State
+with_new s h = record s { slots = s.slots ++ record { generation = 0; content = Some h } ∷ [] }
+
+-- the handle in a slot, if the slot still has the generation of the id
+abbrev pub held_in : Id → Slot → Option Handle
+held_in id slot = if slot.generation == id.generation then slot.content else None
+
+-- the handle of an id whose slot still holds it
+abbrev pub held : State → Id → Option Handle
+held s id = option_and_then (held_in id) (slice_get s.slots id.slot)
+
+-- the handle of an id on one of the lists, whose slot holds it
+abbrev pub handle_of : State → Id → Handle
+handle_of s id = unwrap_or (held s id) (new_handle (record { 0 = 0 }) Timer)
+
+-- the state with this record in the slot of an id
+abbrev pub with_handle : State → Id → Handle → State
+with_handle s id h = record s { slots = slice_set s.slots id.slot (record { generation = id.generation; content = Some h }) }
+
+-- a name that is bound to nothing and was never called
+abbrev pub unbound : Named
+unbound = record { id = None; calls = 0 }
+
+-- what a name is bound to, and its count
+abbrev pub named : State → Var → Named
+named s v = unwrap_or (slice_get s.names v.0) unbound
+
+-- the state with a name bound or counted anew
+abbrev pub with_named : State → Var → Named → State
+with_named s v n = record s { names = slice_set s.names v.0 n }
+
+-- the id and the handle of a name that is live: its slot still holds the handle that the name was bound to
+abbrev pub with_id : Id → Option Handle → Option (Id × Handle)
+with_id id None = None
+with_id id (Some h) = Some (id, h)
+
+abbrev pub live_id : State → Option Id → Option (Id × Handle)
+live_id s None = None
+live_id s (Some id) = with_id id (held s id)
+
+abbrev pub live : State → Var → Option (Id × Handle)
+live s v = live_id s (named s v).id

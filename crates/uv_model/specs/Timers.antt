@@ -1,0 +1,49 @@
+-- The timers of a state: a map in the order of due times and start numbers.
+use Rattle.std.specs.Prelude.{ℕ, ◌+◌, ◌^◌, ◌-◌, ◌==◌, ◌&&◌, List, Bool, true, filter, min, not, if◌then◌else◌}
+use Rattle.std.specs.Map.{remove_entry}
+use Rattle.std.specs.BTreeMap.{insert_entry, is_at}
+use Rattle.uv_ids.specs.Due.{due_cmp}
+use Rattle.uv_ids.specs.declared.id.Id.{Id}
+use Rattle.uv_ids.specs.declared.due.Due.{Due}
+use Rattle.uv_model.specs.declared.handle.Handle.{Handle}
+use Rattle.uv_model.specs.Handles.{inactive}
+use Rattle.uv_model.specs.State.{State, with_handle}
+
+-- the timers with one more, at its place in the order
+abbrev pub with_timer : List (Due × Id) → Due → Id → List (Due × Id)
+with_timer timers due id = insert_entry due_cmp timers due id
+
+-- the timers without the one that is due then
+abbrev pub without_timer : List (Due × Id) → Due → List (Due × Id)
+without_timer timers due = remove_entry (is_at (due_cmp due)) timers
+
+abbrev pub same_id : Id → Id → Bool
+same_id a b = (a.slot == b.slot) && (a.generation == b.generation)
+
+-- a list of ids without one of them
+abbrev pub without_id : List Id → Id → List Id
+without_id ids id = filter (λ x. not (same_id x id)) ids
+
+-- a timer that is stopped: off the order of timers and the ready list, and inactive
+abbrev pub stopped : State → Id → Handle → State
+stopped s id h = with_handle
+    (record s {
+      timers = if h.active then without_timer s.timers h.due else s.timers;
+      ready = without_id s.ready id;
+    })
+    id
+    (inactive h)
+
+-- when a timer is due that is started now: no later than the largest time (uv_timer_start)
+abbrev pub due_after : State → ℕ → Due
+due_after s timeout = record { at = min (s.time + timeout) (2 ^ 64 - 1); start = s.next_start }
+
+-- a stopped timer that is started: it gets its due time, the next start number and its repeat, and is active
+abbrev pub started : State → Id → Handle → ℕ → ℕ → State
+started s id h timeout repeat = with_handle
+    (record s {
+      timers = with_timer s.timers (due_after s timeout) id;
+      next_start = s.next_start + 1;
+    })
+    id
+    (record h { active = true; begun = true; due = due_after s timeout; repeat = repeat })

@@ -1,0 +1,63 @@
+//! What the arena's slots and the script's names hold.
+ghost use Rattle.std.specs.Prelude.{◌≡◌};
+ghost use Rattle.uv_model.specs.Handles.{new_handle, inactive};
+
+use uv_ids::{Due, Id, Kind, Var};
+
+/// A handle's record.
+#[derive(Clone, Copy, Debug, PartialEq, Eq)]
+pub struct Handle {
+    /// The name that its `init` bound to it.
+    pub name: Var,
+    pub kind: Kind,
+    pub active: bool,
+    /// Whether a timer was ever started.
+    pub begun: bool,
+    /// When an active timer is due; zeros for one that isn't active (own).
+    pub due: Due,
+    /// A timer's repeat in ms, and 0 for none.
+    pub repeat: u64,
+}
+
+impl Handle {
+    /// A handle as `init` makes it.
+    pub fn new(name: Var, kind: Kind) -> Handle
+        ensures { result ≡ new_handle name kind }
+    {
+        Handle {
+            name,
+            kind,
+            active: false,
+            begun: false,
+            due: Due { at: 0, start: 0 },
+            repeat: 0,
+        }
+    }
+
+    /// The handle, stopped.
+    pub fn inactive(self) -> Handle
+        ensures { result ≡ inactive self }
+    {
+        Handle {
+            active: false,
+            due: Due { at: 0, start: 0 },
+            ..self
+        }
+    }
+}
+
+/// A slot of the arena that was used.
+#[derive(Clone, Copy, Debug, PartialEq, Eq)]
+pub struct Slot {
+    /// How often the slot was freed (own).
+    pub generation: u32,
+    pub content: Option<Handle>,
+}
+
+/// What a name is bound to, and how often its callback was called.
+#[derive(Clone, Copy, Debug, PartialEq, Eq)]
+pub struct Named {
+    /// The id that the last `init` of the name gave. It stays when the slot is freed.
+    pub id: Option<Id>,
+    pub calls: u32,
+}

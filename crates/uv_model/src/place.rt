@@ -1,0 +1,62 @@
+//! Where the loop stands.
+
+use uv_ids::{Mode, Var};
+
+/// Where the loop stands.
+#[derive(Clone, Copy, Debug, PartialEq, Eq)]
+pub enum Place {
+    /// At a line of the main program, from 0.
+    Main(usize),
+    /// In a run.
+    Running(Run),
+}
+
+/// A run under way.
+#[derive(Clone, Copy, Debug, PartialEq, Eq)]
+pub struct Run {
+    pub mode: Mode,
+    /// The line of the main program that began the run.
+    pub line: usize,
+    pub stage: Stage,
+    /// The callback's body under way.
+    pub body: Option<Body>,
+}
+
+/// How far a run is.
+#[derive(Clone, Copy, Debug, PartialEq, Eq)]
+pub enum Stage {
+    /// After the run's line.
+    Entry,
+    /// In the timers section at the entry of a default run.
+    First(Timing),
+    Pending,
+    Idle,
+    Prepare,
+    /// In the poll, with its deadline in ms; none is infinite.
+    Poll(Option<u64>),
+    Done,
+    Async,
+    Check,
+    Closing,
+    /// In the timers section of an iteration.
+    Timers(Timing),
+}
+
+/// How far a timers section is.
+#[derive(Clone, Copy, Debug, PartialEq, Eq)]
+pub enum Timing {
+    /// The due timers are moved to the ready list (own).
+    Collecting,
+    /// The ready timers are called.
+    Firing,
+}
+
+/// A callback's body: the call that it belongs to, and its next line.
+#[derive(Clone, Copy, Debug, PartialEq, Eq)]
+pub struct Body {
+    pub name: Var,
+    /// Which call of the name it is, from 1.
+    pub call: u32,
+    /// The next line of the name's callback, from 0.
+    pub next: usize,
+}

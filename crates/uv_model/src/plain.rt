@@ -1,0 +1,118 @@
+//! The plain loop: a machine of lists and an ordered map, which goes back by running the shorter list of steps anew.
+ghost use Rattle.std.specs.Prelude.{◌≡◌, ◌≤◌, IfOk, OnOk, length};
+ghost use Rattle.uv_model.specs.After.{after, state_of, STEPS};
+ghost use Rattle.uv_model.specs.Next.{next};
+ghost use Rattle.uv_model.specs.Bounds.{IsSmall};
+
+use crate::machine::{Machine, Outcome};
+use crate::state::LoopState;
+use std::alloc::{AllocError, Global};
+use std::marker::Model;
+use uv_ids::{Event, Fault, Seen};
+use uv_script::Script;
+
+/// The most steps that a machine takes (own).
+const STEPS: usize = 16_777_216;
+
+/// A machine whose every step is the model's own.
+#[derive(Drop)]
+pub struct PlainLoop {
+    alloc: Global,
+    script: Script,
+    steps: Vec<Event>,
+    seen: Vec<Option<Seen>>,
+    state: LoopState,
+}
+
+impl Model for PlainLoop {
+    ghost use Rattle.uv_model.specs.Trail.{Trail, IsAfter};
+
+    ghost Value = { Trail };
+
+    ghost view = { λ a. record { program = a.script; standing = a.steps.items } };
+
+    ghost invariant = { λ a. IsAfter a.script a.steps.items a.seen.items a.state };
+}
+
+/// Does one step of a list; a refused one changes nothing.
+fn follow(state: &mut LoopState, script: &Script, event: Event) -> Result<(), AllocError>
+    requires { IsSmall state.old }
+    ensures { OnOk result (state.new ≡ state_of state.old (next script.now state.old event)) }
+{
+    match state.step(script, event) {
+        Ok(_) | Err(Fault::Refused(_)) => Ok(()),
+        Err(_) => Err(AllocError),
+    }
+}
+
+/// The state after a list of steps, from the beginning.
+#[tactic(auto, using(crate::proofs::Runs::runs, crate::proofs::Bounded::after_small))]
+fn replay(alloc: Global, script: &Script, steps: &[Event]) -> Result<LoopState, AllocError>
+    requires { length steps.now ≤ STEPS }
+    ensures { IfOk result (λ state. state ≡ after script.now steps.now) }
+{
+    let mut state = LoopState::fresh(alloc, script)?;
+    for event in steps {
+        follow(&mut state, script, *event)?;
+    }
+    Ok(state)
+}
+
+#[tactic(auto, using(crate::proofs::Runs::runs, crate::proofs::Bounded::after_small))]
+impl Machine for PlainLoop {
+    ghost program = { λ machine. machine.program };
+
+    ghost standing = { λ machine. machine.standing };
+
+    fn begin(alloc: Global, script: Script) -> Result<Self, Fault> {
+        let Ok(state) = LoopState::fresh(alloc, &script) else {
+            return Err(Fault::Memory);
+        };
+        Ok(PlainLoop {
+            alloc,
+            script,
+            steps: Vec::new(alloc),
+            seen: Vec::new(alloc),
+            state,
+        })
+    }
+
+    fn step(&mut self, event: Event) -> Result<Outcome, Fault> {
+        if self.steps.len() >= STEPS {
+            return Err(Fault::StepsFull);
+        }
+        if self.steps.reserve(1).is_err() || self.seen.reserve(1).is_err() {
+            return Err(Fault::Memory);
+        }
+        let outcome = self.state.step(&self.script, event)?;
+        self.steps.push_reserved(event);
+        self.seen.push_reserved(outcome.seen);
+        Ok(outcome)
+    }
+
+    fn back(&mut self) -> Result<bool, Fault> {
+        if self.steps.is_empty() {
+            return Ok(false);
+        }
+        let shorter = self.steps.len() - 1;
+        let Ok(state) = replay(self.alloc, &self.script, &self.steps[..shorter]) else {
+            return Err(Fault::Memory);
+        };
+        self.state = state;
+        self.steps.truncate(shorter);
+        self.seen.truncate(shorter);
+        Ok(true)
+    }
+
+    fn len(&self) -> usize {
+        self.steps.len()
+    }
+
+    fn seen(&self, step: usize) -> Option<Seen> {
+        self.seen[step - 1]
+    }
+
+    fn script(&self) -> &Script {
+        &self.script
+    }
+}

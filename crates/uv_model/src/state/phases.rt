@@ -1,0 +1,362 @@
+//! The phases of a run, and one step.
+ghost use Rattle.std.specs.Prelude.{◌≡◌, ◌<◌, ◌+◌, ◌^◌, IfOk, OnErr, length, slice_get, drop, None, Some, OnOk};
+ghost use Rattle.uv_script.specs.Program.{on_lines};
+ghost use Rattle.uv_model.specs.State.{named};
+ghost use Rattle.uv_model.specs.Bounds.{IsSmall};
+ghost use Rattle.uv_model.specs.Timeout.{is_alive, poll_timeout, deadline_of, has_passed};
+ghost use Rattle.uv_model.specs.Next.{Moves, is_for, next_line, body_at, body_from, begins, new_iteration, ends, enter, begin_poll, poll, begin_timers, timers_stage, leave_timers, call, fire, made_ready, collect, timers, stage_step, body_step, main_step, tick, next, is_default, LATEST};
+ghost use Rattle.uv_model.specs.Steps.{Steps, Falls};
+
+use crate::handle::Named;
+use crate::machine::Outcome;
+use crate::place::{Body, Place, Run, Stage, Timing};
+use crate::state::LoopState;
+use std::alloc::AllocError;
+use uv_ids::{Event, Fault, Id, Mode, Phase, Seen, Site, Var, Why};
+use uv_script::{CallbackLine, MainOp, Script};
+
+/// The longest poll in ms (own).
+const LONGEST_POLL: u64 = 2_147_483_647;
+
+/// The latest time that the clock may show, in ms.
+const LATEST: u64 = 1 << 62;
+
+/// A step that appended a line.
+fn seen(seen: Seen) -> Outcome
+    ensures { result.seen ≡ Some seen }
+{
+    Outcome { seen: Some(seen) }
+}
+
+/// Whether a line is for a call.
+fn is_for(line: CallbackLine, call: u32) -> bool
+    ensures { result ≡ is_for call line.call }
+{
+    line.call.is_none_or(|k| k == call)
+}
+
+/// The body of a call, if it has a line from this one on.
+#[tactic(auto, using(crate::proofs::Lines::steps))]
+fn body_from(script: &Script, name: Var, call: u32, from: usize) -> Option<Body>
+    ensures { result ≡ body_from script.now name call from }
+{
+    let lines = script.on_lines(name);
+    for next in from..lines.len() {
+        if is_for(lines[next], call) {
+            return Some(Body { name, call, next });
+        }
+    }
+    None
+}
+
+fn timers_stage(first: bool, timing: Timing) -> Stage
+    ensures { result ≡ timers_stage first timing }
+{
+    if first {
+        Stage::First(timing)
+    } else {
+        Stage::Timers(timing)
+    }
+}
+
+impl LoopState {
+    /// Whether the loop is alive (uv_loop_alive).
+    fn is_alive(&self) -> bool
+        ensures { result ≡ is_alive self.now }
+    {
+        !self.timers.is_empty()
+    }
+
+    /// How long the poll may wait, in ms; none is infinite (uv_backend_timeout).
+    fn poll_timeout(&self, mode: Mode) -> Option<u64>
+        ensures { result ≡ poll_timeout self.now mode }
+    {
+        match mode {
+            Mode::Nowait => Some(0),
+            Mode::Default | Mode::Once => match self.timers.first_key_value() {
+                None => Some(0),
+                Some((due, _)) => Some(due.at.saturating_sub(self.time).min(LONGEST_POLL)),
+            },
+        }
+    }
+
+    /// Goes to a section of the run under way.
+    fn begin(&mut self, run: Run, stage: Stage, phase: Phase) -> Outcome
+        ensures { begins self.old run stage phase ≡ Moves self.new result.seen }
+    {
+        self.place = Place::Running(Run {
+            stage,
+            body: None,
+            ..run
+        });
+        seen(Seen::Section(phase))
+    }
+
+    fn new_iteration(&mut self, run: Run) -> Outcome
+        ensures { new_iteration self.old run ≡ Moves self.new result.seen }
+    {
+        self.begin(run, Stage::Pending, Phase::Pending)
+    }
+
+    fn end(&mut self, run: Run) -> Outcome
+        requires { run.line < 2 ^ 63 }
+        ensures { ends self.old run ≡ Moves self.new result.seen }
+    {
+        let alive = self.is_alive();
+        self.place = Place::Main(run.line + 1);
+        seen(Seen::End(alive))
+    }
+
+    fn enter(&mut self, run: Run) -> Outcome
+        requires { run.line < 2 ^ 63 }
+        ensures { enter self.old run ≡ Moves self.new result.seen }
+    {
+        if !self.is_alive() {
+            self.end(run)
+        } else if matches!(run.mode, Mode::Default) {
+            self.begin(run, Stage::First(Timing::Collecting), Phase::Timers)
+        } else {
+            self.new_iteration(run)
+        }
+    }
+
+    fn begin_poll(&mut self, run: Run) -> Outcome
+        requires { self.old.time < 2 ^ 63 }
+        ensures { begin_poll self.old run ≡ Moves self.new result.seen }
+    {
+        let timeout = self.poll_timeout(run.mode);
+        let deadline = timeout.map(|t| self.time + t);
+        self.place = Place::Running(Run {
+            stage: Stage::Poll(deadline),
+            body: None,
+            ..run
+        });
+        seen(Seen::Poll(timeout))
+    }
+
+    fn poll(&mut self, run: Run, deadline: Option<u64>) -> Result<Outcome, Why>
+        ensures { Falls (poll self.old run deadline) self.old result self.new }
+    {
+        match deadline {
+            Some(deadline) if deadline <= self.clock => {
+                self.time = self.clock;
+                Ok(self.begin(run, Stage::Done, Phase::Done))
+            }
+            _ => Err(Why::Blocked),
+        }
+    }
+
+    fn begin_timers(&mut self, run: Run) -> Outcome
+        ensures { begin_timers self.old run ≡ Moves self.new result.seen }
+    {
+        self.time = self.clock;
+        self.begin(run, Stage::Timers(Timing::Collecting), Phase::Timers)
+    }
+
+    fn leave_timers(&mut self, run: Run, first: bool) -> Outcome
+        requires { run.line < 2 ^ 63 }
+        ensures { leave_timers self.old run first ≡ Moves self.new result.seen }
+    {
+        if self.is_alive() && (first || matches!(run.mode, Mode::Default)) {
+            self.new_iteration(run)
+        } else {
+            self.end(run)
+        }
+    }
+
+    /// Begins the callback of a handle.
+    fn call(&mut self, script: &Script, run: Run, id: Id, name: Var) -> Outcome
+        requires { (named self.old name).calls < 2 ^ 31 }
+        ensures { call script.now self.old run id name ≡ Moves self.new result.seen }
+    {
+        let named = self.named(name);
+        let calls = named.calls + 1;
+        self.set_named(name, Named { calls, ..named });
+        let body = body_from(script, name, calls, 0);
+        self.place = Place::Running(Run { body, ..run });
+        seen(Seen::Call(name, id))
+    }
+
+    /// Calls the front of the ready list, or leaves the section.
+    fn fire(&mut self, script: &Script, run: Run, first: bool) -> Result<Outcome, AllocError>
+        requires small { IsSmall self.old }
+        requires line { run.line < 2 ^ 63 }
+        ensures ok { IfOk result (λ outcome. fire script.now self.old run first self.old.ready ≡ Moves self.new outcome.seen) }
+        ensures err { OnErr result (self.new ≡ self.old) }
+    {
+        if self.ready.is_empty() {
+            return Ok(self.leave_timers(run, first));
+        }
+        self.fire_front(script, run, first)
+    }
+
+    #[tactic(auto, using(crate::proofs::Counts::small))]
+    fn fire_front(&mut self, script: &Script, run: Run, first: bool) -> Result<Outcome, AllocError>
+        requires small { IsSmall self.old }
+        requires ready { 0 < length self.old.ready }
+        ensures ok { IfOk result (λ outcome. fire script.now self.old run first self.old.ready ≡ Moves self.new outcome.seen) }
+        ensures err { OnErr result (self.new ≡ self.old) }
+    {
+        let id = self.ready[0];
+        let handle = self.handle_of(id);
+        if handle.repeat != 0 {
+            self.start_stopped(id, handle, handle.repeat, handle.repeat)?;
+        }
+        self.ready.remove(0);
+        let stage = timers_stage(first, Timing::Firing);
+        Ok(self.call(script, Run { stage, ..run }, id, handle.name))
+    }
+
+    /// Puts a timer that is due at the end of the ready list, inactive. Without memory nothing changes.
+    fn make_ready(&mut self, id: Id) -> Result<(), AllocError>
+        ensures ok { OnOk result (self.new ≡ made_ready self.old id) }
+        ensures err { OnErr result (self.new ≡ self.old) }
+    {
+        self.ready.push(id)?;
+        let handle = self.handle_of(id);
+        self.set_handle(id, handle.inactive());
+        Ok(())
+    }
+
+    /// Collects the first timer if it is due.
+    fn collect(&mut self, script: &Script, run: Run, first: bool) -> Result<Outcome, AllocError>
+        requires small { IsSmall self.old }
+        requires line { run.line < 2 ^ 63 }
+        ensures ok { IfOk result (λ outcome. collect script.now self.old run first self.old.timers ≡ Moves self.new outcome.seen) }
+        ensures err { OnErr result (self.new ≡ self.old) }
+    {
+        let id = match self.timers.first_key_value() {
+            Some((due, id)) if due.at <= self.time => *id,
+            _ => return self.fire(script, run, first),
+        };
+        self.make_ready(id)?;
+        self.timers.pop_first();
+        let stage = timers_stage(first, Timing::Collecting);
+        self.place = Place::Running(Run {
+            stage,
+            body: None,
+            ..run
+        });
+        Ok(Outcome { seen: None })
+    }
+
+    fn in_timers(
+        &mut self,
+        script: &Script,
+        run: Run,
+        first: bool,
+        timing: Timing,
+    ) -> Result<Outcome, Fault>
+        requires small { IsSmall self.old }
+        requires line { run.line < 2 ^ 63 }
+        ensures { Steps (timers script.now self.old run first timing) self.old result self.new }
+    {
+        let outcome = match timing {
+            Timing::Collecting => self.collect(script, run, first),
+            Timing::Firing => self.fire(script, run, first),
+        };
+        outcome.map_err(|_| Fault::Memory)
+    }
+
+    /// What the run does next where no body is under way.
+    fn at_stage(&mut self, script: &Script, run: Run) -> Result<Outcome, Fault>
+        requires small { IsSmall self.old }
+        requires line { run.line < 2 ^ 63 }
+        ensures { Steps (stage_step script.now self.old run run.stage) self.old result self.new }
+    {
+        match run.stage {
+            Stage::Entry => Ok(self.enter(run)),
+            Stage::First(timing) => self.in_timers(script, run, true, timing),
+            Stage::Pending => Ok(self.begin(run, Stage::Idle, Phase::Idle)),
+            Stage::Idle => Ok(self.begin(run, Stage::Prepare, Phase::Prepare)),
+            Stage::Prepare => Ok(self.begin_poll(run)),
+            Stage::Poll(deadline) => self.poll(run, deadline).map_err(Fault::Refused),
+            Stage::Done => Ok(self.begin(run, Stage::Async, Phase::Async)),
+            Stage::Async => Ok(self.begin(run, Stage::Check, Phase::Check)),
+            Stage::Check => Ok(self.begin(run, Stage::Closing, Phase::Closing)),
+            Stage::Closing => Ok(self.begin_timers(run)),
+            Stage::Timers(timing) => self.in_timers(script, run, false, timing),
+        }
+    }
+
+    /// The next op of the body under way.
+    fn in_body(&mut self, script: &Script, run: Run, body: Body) -> Result<Outcome, Fault>
+        requires small { IsSmall self.old }
+        requires line { run.line < 2 ^ 63 }
+        ensures { Steps (body_step script.now self.old run body (slice_get (on_lines script.now body.name) body.next)) self.old result self.new }
+    {
+        let Some(line) = script.on_lines(body.name).get(body.next).copied() else {
+            return self.at_stage(script, run);
+        };
+        let Ok(answer) = self.do_op(line.op) else {
+            return Err(Fault::Memory);
+        };
+        let rest = body_from(script, body.name, body.call, body.next + 1);
+        self.place = Place::Running(Run { body: rest, ..run });
+        Ok(seen(Seen::Op(Site::On(body.name, body.next), answer)))
+    }
+
+    /// The next line of the main program.
+    fn in_main(&mut self, script: &Script, line: usize) -> Result<Outcome, Fault>
+        requires small { IsSmall self.old }
+        requires line { line < 2 ^ 63 }
+        ensures { Steps (main_step self.old line (slice_get script.now.main line)) self.old result self.new }
+    {
+        match script.main_op(line) {
+            None => Err(Fault::Refused(Why::Ended)),
+            Some(MainOp::Run(mode)) => Ok(self.begin_run(mode, line)),
+            Some(MainOp::Op(op)) => {
+                let Ok(answer) = self.do_op(op) else {
+                    return Err(Fault::Memory);
+                };
+                self.place = Place::Main(line + 1);
+                Ok(seen(Seen::Op(Site::Main(line), answer)))
+            }
+        }
+    }
+
+    fn begin_run(&mut self, mode: Mode, line: usize) -> Outcome
+        ensures { main_step self.old line (Some (MainOp.Run mode)) ≡ Moves self.new result.seen }
+    {
+        if matches!(mode, Mode::Default) {
+            self.time = self.clock;
+        }
+        self.place = Place::Running(Run {
+            mode,
+            line,
+            stage: Stage::Entry,
+            body: None,
+        });
+        seen(Seen::Run(mode))
+    }
+
+    fn tick(&mut self, ms: u64) -> Result<Outcome, Why>
+        ensures { Falls (tick self.old ms) self.old result self.new }
+    {
+        match self.clock.checked_add(ms) {
+            Some(clock) if clock <= LATEST => {
+                self.clock = clock;
+                Ok(seen(Seen::Tick(ms)))
+            }
+            _ => Err(Why::Range),
+        }
+    }
+
+    /// Does one step. After an error the state is as before.
+    #[tactic(auto, unfolding(crate::specs::Next::next))]
+    pub fn step(&mut self, script: &Script, event: Event) -> Result<Outcome, Fault>
+        requires { IsSmall self.old }
+        ensures { Steps (next script.now self.old event) self.old result self.new }
+    {
+        match event {
+            Event::Tick(ms) => self.tick(ms).map_err(Fault::Refused),
+            Event::Loop => match self.place {
+                Place::Main(line) => self.in_main(script, line),
+                Place::Running(run) => match run.body {
+                    None => self.at_stage(script, run),
+                    Some(body) => self.in_body(script, run, body),
+                },
+            },
+        }
+    }
+}

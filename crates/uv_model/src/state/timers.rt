@@ -1,0 +1,108 @@
+//! The timers: the ordered map of those that are active, and the ready list.
+ghost use Rattle.std.specs.Prelude.{◌≡◌, ◌<◌, ◌+◌, ◌^◌, OnOk, OnErr, if◌then◌else◌};
+ghost use Rattle.uv_model.specs.Timers.{without_id, without_timer, stopped, started, due_after};
+ghost use Rattle.uv_model.specs.Bounds.{StartsBefore};
+
+use crate::handle::Handle;
+use crate::state::LoopState;
+use std::alloc::AllocError;
+use std::collections::BTreeMap;
+use uv_ids::{Due, Id};
+
+/// Takes an id off a list.
+fn remove_id(ids: &mut Vec<Id>, id: Id)
+    ensures { ids.new.items ≡ without_id ids.old.items id }
+{
+    ids.retain(|x| *x != id);
+}
+
+/// Takes a timer off the order, if it is active.
+fn remove_timer(timers: &mut BTreeMap<Due, Id>, handle: Handle)
+    ensures { timers.new.entries ≡ (if handle.active then without_timer timers.old.entries handle.due else timers.old.entries) }
+{
+    if handle.active {
+        timers.remove(&handle.due);
+    }
+}
+
+impl LoopState {
+    /// When a timer is due that is started now.
+    fn due_after(&self, timeout: u64) -> Due
+        ensures { result ≡ due_after self.now timeout }
+    {
+        Due {
+            at: self.time.saturating_add(timeout),
+            start: self.next_start,
+        }
+    }
+
+    /// Takes a timer off the order of timers and the ready list.
+    pub(super) fn stop_timer(&mut self, id: Id, handle: Handle)
+        ensures { self.new ≡ stopped self.old id handle }
+    {
+        remove_timer(&mut self.timers, handle);
+        remove_id(&mut self.ready, id);
+        self.set_handle(id, handle.inactive());
+    }
+
+    /// Starts a timer that is stopped. Without memory nothing changes.
+    pub(super) fn start_stopped(
+        &mut self,
+        id: Id,
+        handle: Handle,
+        timeout: u64,
+        repeat: u64,
+    ) -> Result<(), AllocError>
+        requires { self.old.next_start < 2 ^ 63 }
+        ensures ok { OnOk result (self.new ≡ started self.old id handle timeout repeat) }
+        ensures err { OnErr result (self.new ≡ self.old) }
+    {
+        let due = self.due_after(timeout);
+        self.timers.insert(due, id)?;
+        self.next_start += 1;
+        self.set_handle(
+            id,
+            Handle {
+                active: true,
+                begun: true,
+                due,
+                repeat,
+                ..handle
+            },
+        );
+        Ok(())
+    }
+
+    /// Stops a timer and starts it again. Its new place in the order is taken first, since that may want memory; then nothing
+    /// changes.
+    #[tactic(auto, using(crate::proofs::Starts::started_again))]
+    pub(super) fn start_timer(
+        &mut self,
+        id: Id,
+        handle: Handle,
+        timeout: u64,
+        repeat: u64,
+    ) -> Result<(), AllocError>
+        requires starts { self.old.next_start < 2 ^ 63 }
+        requires drawn { StartsBefore self.old.next_start handle }
+        ensures ok { OnOk result (self.new ≡ started (stopped self.old id handle) id handle timeout repeat) }
+        ensures err { OnErr result (self.new ≡ self.old) }
+    {
+        let due = self.due_after(timeout);
+        self.timers.insert(due, id)?;
+        remove_timer(&mut self.timers, handle);
+        remove_id(&mut self.ready, id);
+        self.next_start += 1;
+        self.set_handle(
+            id,
+            Handle {
+                active: true,
+                begun: true,
+                due,
+                repeat,
+                ..handle
+            },
+        );
+        Ok(())
+    }
+}
