@@ -1,5 +1,6 @@
 -- A list of events, one step after another.
-use Rattle.std.specs.Prelude.{◌≡◌, ℕ, List, [], ◌∷◌, ◌++◌, ◌<◌, ◌≤◌, ◌-◌, length, take, Bool, true, false, Option, None, Result, Ok, Err}
+use Rattle.std.specs.Prelude.{◌≡◌, ℕ, List, [], ◌∷◌, ◌++◌, ◌<◌, ◌≤◌, ◌-◌, length, take, Bool, true, false, Option, None, Result, Ok, Err, option_to_list}
+use Rattle.std.specs.List.{flat_map}
 use Rattle.uv_ids.specs.declared.event.Event.{Event}
 use Rattle.uv_ids.specs.declared.seen.Seen.{Seen}
 use Rattle.uv_ids.specs.declared.fault.Fault.{Fault}
@@ -36,6 +37,10 @@ seen_from p s (e ∷ es) = seen_of (next p s e) ∷ seen_from p (state_of s (nex
 -- what each of these events appends, from the beginning
 unfoldable pub seen_by : Program → List Event → List (Option Seen)
 seen_by p es = seen_from p (fresh p) es
+
+-- the trace: the lines that these events append, in order
+abbrev pub lines : Program → List Event → List Seen
+lines p es = flat_map option_to_list (seen_by p es)
 
 -- the step is taken
 abbrev pub IsMove : Next → Type 0

@@ -1,0 +1,37 @@
+-- Steps that are taken back.
+use Rattle.std.proofs.Common.{◌≡◌, ℕ, ◌+◌, ◌-◌, ◌<◌, ◌≤◌, List, ◌++◌, length, take, drop, ap, ap₂, sym, ◌∙◌, arith, length-take, append_assoc}
+use Rattle.std.proofs.lemmas.Grind.{common_steps}
+use Rattle.std.proofs.lemmas.List.{take-append-drop}
+use Rattle.uv_ids.specs.declared.event.Event.{Event}
+use Rattle.uv_script.specs.Program.{Program}
+use Rattle.uv_session.specs.Shown.{Shown, moved_back}
+
+-- the first steps of a list as standing, and the others as taken back
+abbrev pub split : Program → ℕ → ℕ → List Event → Shown
+split p limit k es = record { program = p; limit = limit; standing = take k es; taken_back = drop k es }
+
+length-first : (k : ℕ) (es : List Event) → k ≤ length es → length (take k es) ≡ k
+length-first k es l = rw length-take (omega arith)
+
+first : (k n : ℕ) (es : List Event) → n ≤ k → k ≤ length es → take (k - n) es ≡ take (length (take k es) - n) (take k es)
+first k n es l m = rw (length-first k es m) (grind (arith, common_steps))
+
+rest : (k n : ℕ) (es : List Event) → n ≤ k → k ≤ length es → drop (k - n) es ≡ drop (length (take k es) - n) (take k es) ++ drop k es
+rest k n es l m = rw (length-first k es m) (
+    let whole : take k es ++ drop k es ≡ es = take-append-drop k es in
+    let short : length (take k es) ≡ k = length-first k es m in
+    ap (drop (k - n)) (sym whole) ∙ grind (arith, common_steps))
+
+pub split_moved : (p : Program) (limit k n : ℕ) (es : List Event) → n ≤ k → k ≤ length es → split p limit (k - n) es ≡ moved_back n (split p limit k es)
+split_moved p limit k n es l m = ap₂ (λ (xs ys : List Event). record { program = p; limit = limit; standing = xs; taken_back = ys }) (first k n es l m) (rest k n es l m)
+
+-- one step more
+pub moved_more : (s : Shown) (n : ℕ) → n < length s.standing → moved_back 1 (moved_back n s) ≡ moved_back (n + 1) s
+moved_more s n l =
+    let k = length s.standing - n in
+    let same : length s.standing - (n + 1) ≡ k - 1 = omega arith in
+    let low : 1 ≤ k = omega arith in
+    let high : k ≤ length s.standing = omega arith in
+    rw same (ap₂ (λ (xs ys : List Event). record { program = s.program; limit = s.limit; standing = xs; taken_back = ys })
+    (sym (first k 1 s.standing low high))
+    (sym (append_assoc _ (drop k s.standing) s.taken_back) ∙ ap (λ (xs : List Event). xs ++ s.taken_back) (sym (rest k 1 s.standing low high))))

@@ -1,0 +1,29 @@
+-- The lines of the first steps, one step after another.
+use Rattle.std.proofs.Common.{◌≡◌, ℕ, ◌+◌, ◌-◌, ◌<◌, ◌≤◌, List, [], ◌∷◌, ◌++◌, length, take, Option, Some, None, refl, ap, sym, ◌∙◌, append_assoc, append-nil, arith}
+use Rattle.std.proofs.lemmas.List.{take_more, take_all}
+use Rattle.std.proofs.lemmas.Option.{get_or_from_slice_get}
+use Rattle.std.specs.Prelude.{slice_get, option_to_list}
+use Rattle.std.specs.List.{flat_map}
+use Rattle.uv_ids.specs.declared.event.Event.{Event}
+use Rattle.uv_ids.specs.declared.seen.Seen.{Seen}
+use Rattle.uv_script.specs.Program.{Program}
+use Rattle.uv_model.specs.After.{seen_by, lines}
+use Rattle.uv_model.proofs.Runs.{length-seen_by}
+
+-- the lines that are there
+abbrev pub those : List (Option Seen) → List Seen
+those xs = flat_map option_to_list xs
+
+those-append : (xs ys : List (Option Seen)) → those (xs ++ ys) ≡ those xs ++ those ys
+those-append [] ys = refl
+those-append (x ∷ xs) ys = ap (λ (zs : List Seen). option_to_list x ++ zs) (those-append xs ys) ∙ sym (append_assoc (option_to_list x) (those xs) (those ys))
+
+-- one step more
+pub those_more : (xs : List (Option Seen)) (i : ℕ) (x : Option Seen) → slice_get xs i ≡ Some x → i < length xs → those (take (i + 1) xs) ≡ those (take i xs) ++ option_to_list x
+those_more xs i x h l = rw (take_more xs i x l, get_or_from_slice_get xs i x x h) (those-append (take i xs) (x ∷ []) ∙ ap (λ (zs : List Seen). those (take i xs) ++ zs) (append-nil (option_to_list x)))
+
+-- all of them
+pub those_all : (p : Program) (es : List Event) (i : ℕ) → length es ≤ i → those (take i (seen_by p es)) ≡ lines p es
+those_all p es i l = let m : length (seen_by p es) ≤ i = rw length-seen_by l in rw (take_all i (seen_by p es) m) refl
+
+pub ruleset traces = (those_more, length-seen_by)

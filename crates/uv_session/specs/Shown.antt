@@ -1,0 +1,41 @@
+-- A session: the steps that stand, and those that were taken back. The state shown is the one after the standing steps.
+use Rattle.std.specs.Prelude.{◌≡◌, ℕ, ◌-◌, ◌<◌, ◌≤◌, List, [], ◌++◌, length, take, drop, Result, Ok, Err}
+use Rattle.uv_ids.specs.declared.event.Event.{Event}
+use Rattle.uv_ids.specs.declared.fault.Fault.{Fault}
+use Rattle.uv_ids.specs.declared.fault.Fault.TheVariants.{Memory, Refused}
+use Rattle.uv_ids.specs.declared.fault.Why.TheVariants.{Range}
+use Rattle.uv_script.specs.Program.{Program}
+use Rattle.uv_model.specs.declared.machine.Outcome.{Outcome}
+use Rattle.uv_model.specs.After.{Answers}
+
+pub record Shown : Type 0 where
+  pub program : Program
+  -- how many steps there may be
+  pub limit : ℕ
+  pub standing : List Event
+  pub taken_back : List Event
+
+-- the last n standing steps go to the front of those taken back
+abbrev pub moved_back : ℕ → Shown → Shown
+moved_back n s =
+    let rest = length s.standing - n in
+    record s { standing = take rest s.standing; taken_back = drop rest s.standing ++ s.taken_back }
+
+-- an accepted event discards what was taken back, a refused one keeps it
+abbrev pub taken_after : Result Outcome Fault → List Event → List Event
+taken_after (Ok outcome) taken = []
+taken_after (Err fault) taken = taken
+
+-- what may be answered to an event, and the session after it
+pub record TakesEvent (s : Shown) (e : Event) (r : Result Outcome Fault) (t : Shown) : Type 0 where
+  pub same_program : t.program ≡ s.program
+  pub same_limit : t.limit ≡ s.limit
+  pub answer : Answers s.limit s.program s.standing e r t.standing
+  pub taken_back : t.taken_back ≡ taken_after r s.taken_back
+
+-- what may be answered to `back n`, and the session after it; after want of memory some of the steps may be taken back
+abbrev pub MovesBack : Shown → ℕ → Result (Unit {0}) Fault → Shown → Type 0
+MovesBack s n (Ok done) t = (n ≤ length s.standing) × (t ≡ moved_back n s)
+MovesBack s n (Err Memory) t = (k : ℕ) × ((k ≤ n) × (n ≤ length s.standing) × (t ≡ moved_back k s))
+MovesBack s n (Err (Refused Range)) t = (length s.standing < n) × (t ≡ s)
+MovesBack s n (Err _) t = ⊥

@@ -1,0 +1,150 @@
+//! What stands, and what was taken back.
+ghost use Rattle.std.specs.Prelude.{◌≡◌, ◌≤◌, ◌<◌, ◌-◌, [], IfOk, IfErr, OnOk, length, ◌++◌, min, option_to_list};
+ghost use Rattle.uv_ids.specs.declared.fault.Fault.TheVariants.{Memory};
+ghost use Rattle.uv_model.specs.After.{STEPS, lines};
+ghost use Rattle.uv_session.specs.Shown.{TakesEvent, MovesBack, moved_back};
+
+use std::alloc::{AllocError, Global};
+use std::marker::Model;
+use uv_ids::{Event, Fault, Seen, Why};
+use uv_model::{Machine, Outcome};
+
+/// The most steps that a session has (own).
+const STEPS: usize = 16_777_216;
+
+/// A machine and the list of its steps, of which the first ones stand and the others were taken back.
+#[derive(Drop)]
+pub struct Session<M: Machine> {
+    alloc: Global,
+    machine: M,
+    events: Vec<Event>,
+    standing: usize,
+    limit: usize,
+}
+
+impl<M: Machine> Model for Session<M> {
+    ghost use Rattle.std.specs.Prelude.{take, drop};
+    ghost use Rattle.uv_session.specs.Shown.{Shown};
+    ghost use Rattle.uv_session.specs.Held.{IsHeld};
+
+    ghost Value = { Shown };
+
+    ghost view = { λ a. record {
+      program = M.program a.machine;
+      limit = a.limit;
+      standing = take a.standing a.events.items;
+      taken_back = drop a.standing a.events.items;
+    } };
+
+    ghost invariant = { λ a. IsHeld (M.program a.machine) (M.standing a.machine) a.events.items a.standing a.limit };
+}
+
+impl<M: Machine> Session<M> {
+    /// A session of a machine that has taken no step. It takes as many steps as the limit says, 2^24 at most.
+    #[tactic(auto, using(uv_model::proofs::Runs::accepting))]
+    pub fn new(alloc: Global, machine: M, limit: usize) -> Session<M>
+        requires begun { M.standing machine ≡ [] }
+        ensures program { result.program ≡ M.program machine }
+        ensures limit { result.limit ≡ min limit STEPS }
+        ensures standing { result.standing ≡ [] }
+        ensures taken_back { result.taken_back ≡ [] }
+    {
+        Session {
+            alloc,
+            machine,
+            events: Vec::new(alloc),
+            standing: 0,
+            limit: limit.min(STEPS),
+        }
+    }
+
+    /// Does one step. An accepted one discards what was taken back; after an error all is as before.
+    #[tactic(auto, using(uv_model::proofs::Runs::accepting))]
+    pub fn do_event(&mut self, event: Event) -> Result<Outcome, Fault>
+        ensures { TakesEvent self.old event result self.new }
+    {
+        if self.standing >= self.limit {
+            return Err(Fault::StepsFull);
+        }
+        if self.events.reserve(1).is_err() {
+            return Err(Fault::Memory);
+        }
+        let outcome = self.machine.step(event)?;
+        self.events.truncate(self.standing);
+        self.events.push_reserved(event);
+        self.standing += 1;
+        Ok(outcome)
+    }
+
+    /// Takes the last steps back. `Refused(Range)` where fewer stand, with nothing changed; want of memory may leave some of
+    /// them taken back.
+    pub fn back(&mut self, n: usize) -> Result<(), Fault>
+        ensures { MovesBack self.old n result self.new }
+    {
+        if n > self.standing {
+            return Err(Fault::Refused(Why::Range));
+        }
+        for _ in 0..n {
+            self.back_one()?;
+        }
+        Ok(())
+    }
+
+    /// Takes the last step back.
+    fn back_one(&mut self) -> Result<(), Fault>
+        requires { 0 < length self.old.standing }
+        ensures ok { OnOk result (self.new ≡ moved_back 1 self.old) }
+        ensures err { IfErr result (λ fault. (fault ≡ Memory) × (self.new ≡ self.old)) }
+    {
+        self.machine.back()?;
+        self.standing -= 1;
+        Ok(())
+    }
+
+    /// The lines of the standing steps.
+    #[tactic(auto, using(crate::proofs::Traces::traces))]
+    pub fn trace(&self) -> Result<Vec<Seen>, Fault>
+        ensures lines { IfOk result (λ trace. trace.items ≡ lines self.now.program self.now.standing) }
+        ensures err { IfErr result (λ fault. fault ≡ Memory) }
+    {
+        let mut trace = Vec::new(self.alloc);
+        for step in 1..self.machine.len() + 1 {
+            if push_some(&mut trace, self.machine.seen(step)).is_err() {
+                return Err(Fault::Memory);
+            }
+        }
+        Ok(trace)
+    }
+
+    /// The steps that stand.
+    pub fn steps(&self) -> &[Event]
+        ensures { result.now ≡ self.now.standing }
+    {
+        &self.events[..self.standing]
+    }
+
+    /// The steps that were taken back, the next one to run again first.
+    pub fn taken_back(&self) -> &[Event]
+        ensures { result.now ≡ self.now.taken_back }
+    {
+        &self.events[self.standing..]
+    }
+
+    /// The machine, which has taken the standing steps.
+    pub fn machine(&self) -> &M
+        ensures steps { M.standing result.now ≡ self.now.standing }
+        ensures program { M.program result.now ≡ self.now.program }
+    {
+        &self.machine
+    }
+}
+
+/// Puts a line at the end, if there is one.
+fn push_some(trace: &mut Vec<Seen>, seen: Option<Seen>) -> Result<(), AllocError>
+    ensures { OnOk result (trace.new.items ≡ trace.old.items ++ option_to_list seen) }
+{
+    if let Some(seen) = seen {
+        trace.push(seen)?;
+    }
+    Ok(())
+}
