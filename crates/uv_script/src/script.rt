@@ -1,6 +1,6 @@
 //! A script's parts.
 ghost use Rattle.std.specs.Prelude.{◌≡◌, slice_get, length};
-ghost use Rattle.uv_script.specs.Program.{on_lines};
+ghost use Rattle.uv_script.specs.Program.{on_lines, IsWhole};
 
 use crate::names::Names;
 use crate::op::{CallbackLine, MainOp};
@@ -17,7 +17,7 @@ pub struct Script {
 
 impl Model for Script {
     ghost use Rattle.std.specs.Prelude.{map};
-    ghost use Rattle.uv_script.specs.Program.{Program};
+    ghost use Rattle.uv_script.specs.Program.{Program, IsWhole};
 
     ghost Value = { Program };
 
@@ -26,12 +26,19 @@ impl Model for Script {
       main = script.main.items;
       on = map (λ lines. lines.items) script.on.items;
     } };
+
+    ghost invariant = { λ script. IsWhole (record {
+      names = script.names;
+      main = script.main.items;
+      on = map (λ lines. lines.items) script.on.items;
+    }) };
 }
 
 impl Script {
     /// The declared names.
     pub fn names(&self) -> &Names
-        ensures { result.now ≡ self.now.names }
+        ensures names { result.now ≡ self.now.names }
+        ensures whole { IsWhole self.now }
     {
         &self.names
     }

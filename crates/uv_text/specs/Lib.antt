@@ -1,0 +1,3 @@
+pub mod Trace
+pub mod Commands
+pub mod Reading

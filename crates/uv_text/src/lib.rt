@@ -1,1 +1,8 @@
+//! The texts that a person sees, and the reader of the commands that a person gives.
 #![tactic(auto)]
+
+mod command;
+mod trace;
+
+pub use command::{Asked, Command, read_command};
+pub use trace::seen_text;

@@ -1,0 +1,64 @@
+-- The text of a trace line.
+use Rattle.std.specs.Prelude.{ℕ, List, [], ◌++◌, Bool, true, false, Option, Some, None, slice_get, codes, decimal}
+use Rattle.uv_ids.specs.Words.{mode_word, phase_word, code_word}
+use Rattle.uv_ids.specs.declared.id.Id.{Id}
+use Rattle.uv_ids.specs.declared.id.Var.{Var}
+use Rattle.uv_ids.specs.declared.code.Answer.{Answer}
+use Rattle.uv_ids.specs.declared.code.Answer.TheVariants as answer
+use Rattle.uv_ids.specs.declared.seen.Site.{Site}
+use Rattle.uv_ids.specs.declared.seen.Site.TheVariants as site
+use Rattle.uv_ids.specs.declared.seen.Seen.{Seen}
+use Rattle.uv_ids.specs.declared.seen.Seen.TheVariants as seen
+use Rattle.uv_script.specs.declared.op.MainOp.{MainOp}
+use Rattle.uv_script.specs.declared.op.MainOp.TheVariants as main
+use Rattle.uv_script.specs.declared.op.CallbackLine.{CallbackLine}
+use Rattle.uv_script.specs.Program.{Program, on_lines}
+use Rattle.uv_script.specs.Text.{op_text, name_text}
+
+-- an id: `SLOT.GENERATION`
+abbrev pub id_text : Id → List ℕ
+id_text id = decimal id.slot ++ codes "." ++ decimal id.generation
+
+-- what an op answered: a code or an id
+abbrev pub answer_text : Answer → List ℕ
+answer_text (answer.Code code) = code_word code
+answer_text (answer.Id id) = id_text id
+
+-- a poll timeout in ms
+abbrev pub timeout_text : Option ℕ → List ℕ
+timeout_text (Some ms) = decimal ms
+timeout_text None = codes "infinite"
+
+-- the op at a line of the main program, as the script has it
+abbrev pub main_text : Program → Option MainOp → List ℕ
+main_text p (Some (main.Op op)) = op_text p.names op
+main_text p (Some (main.Run mode)) = []
+main_text p None = []
+
+-- the op at a line of a callback
+abbrev pub callback_text : Program → Option CallbackLine → List ℕ
+callback_text p (Some line) = op_text p.names line.op
+callback_text p None = []
+
+-- the op at a place of the script
+abbrev pub site_text : Program → Site → List ℕ
+site_text p (site.Main line) = main_text p (slice_get p.main line)
+site_text p (site.On v line) = callback_text p (slice_get (on_lines p v) line)
+
+-- `call NAME ID`
+abbrev pub call_text : Program → Var → Id → List ℕ
+call_text p v id = codes "call " ++ name_text p.names v ++ codes " " ++ id_text id
+
+abbrev pub line_text : Program → Seen → List ℕ
+line_text p (seen.Op site answer) = site_text p site ++ codes " = " ++ answer_text answer
+line_text p (seen.Run mode) = codes "run " ++ mode_word mode
+line_text p (seen.Section phase) = phase_word phase
+line_text p (seen.Poll timeout) = codes "poll " ++ timeout_text timeout
+line_text p (seen.Call v id) = call_text p v id
+line_text p (seen.End true) = codes "end 1"
+line_text p (seen.End false) = codes "end 0"
+line_text p (seen.Tick ms) = codes "out tick " ++ decimal ms
+
+-- a line with its line feed
+abbrev pub seen_text : Program → Seen → List ℕ
+seen_text p seen = line_text p seen ++ codes "\n"

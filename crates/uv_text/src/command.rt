@@ -1,0 +1,136 @@
+//! The commands of a conversation.
+ghost use Rattle.std.specs.Prelude.{◌≡◌, ℕ, List};
+ghost use Rattle.uv_text.specs.Commands.{Asks, MOST};
+ghost use Rattle.uv_text.specs.Reading.{asked_of, is_skipped, command_of, command_alone, command_with, loops, goes_back};
+
+use uv_script::{Fields, is_line, number};
+
+/// What a line of a conversation asks for.
+#[derive(Clone, Copy, Debug, PartialEq, Eq)]
+pub enum Command {
+    /// `loop [n]`: so many steps of the loop, 1 to 2^24.
+    Loop(u32),
+    /// `tick MS`: the clock goes on.
+    Tick(u64),
+    /// `back n`: takes so many steps back, 0 to 2^24.
+    Back(u32),
+    /// `trace`: shows the lines of the standing steps.
+    Trace,
+    /// `quit`: ends the conversation.
+    Quit,
+}
+
+/// How a line of a conversation is read.
+#[derive(Clone, Copy, Debug, PartialEq, Eq)]
+pub enum Asked {
+    /// An empty line, or a comment.
+    Nothing,
+    Do(Command),
+    /// Anything else.
+    Bad,
+}
+
+/// The most steps that one command names (own).
+const MOST: u64 = 16_777_216;
+
+/// Reads a line, without its line feed.
+#[tactic(auto, using(crate::proofs::Commands::reading))]
+pub fn read_command(line: &[u8]) -> Asked
+    ensures rule { Asks line.now result }
+    ensures test { result ≡ asked_of line.now }
+{
+    read(line)
+}
+
+fn read(line: &[u8]) -> Asked
+    ensures { result ≡ asked_of line.now }
+{
+    if !is_line(line) {
+        return Asked::Bad;
+    }
+    if is_skipped(line) {
+        return Asked::Nothing;
+    }
+    match read_fields(Fields::of(line)) {
+        Some(command) => Asked::Do(command),
+        None => Asked::Bad,
+    }
+}
+
+/// Whether a line is empty or a comment.
+fn is_skipped(line: &[u8]) -> bool
+    ensures { result ≡ is_skipped line.now }
+{
+    match line {
+        [] => true,
+        [first, ..] => *first == b'#',
+    }
+}
+
+fn read_fields(mut fields: Fields) -> Option<Command>
+    ensures { result ≡ command_of fields.entry }
+{
+    let word = fields.next()?;
+    let Some(argument) = fields.next() else {
+        return alone(word);
+    };
+    match fields.next() {
+        None => with_number(word, number(argument)),
+        Some(_) => None,
+    }
+}
+
+fn alone(word: &[u8]) -> Option<Command>
+    ensures { result ≡ command_alone word.now }
+{
+    if word == b"loop".as_slice() {
+        Some(Command::Loop(1))
+    } else if word == b"trace".as_slice() {
+        Some(Command::Trace)
+    } else if word == b"quit".as_slice() {
+        Some(Command::Quit)
+    } else {
+        None
+    }
+}
+
+fn with_number(word: &[u8], number: Option<u64>) -> Option<Command>
+    ensures { result ≡ command_with word.now number }
+{
+    let n = number?;
+    if word == b"loop".as_slice() {
+        loops(n)
+    } else if word == b"tick".as_slice() {
+        Some(Command::Tick(n))
+    } else if word == b"back".as_slice() {
+        goes_back(n)
+    } else {
+        None
+    }
+}
+
+fn loops(n: u64) -> Option<Command>
+    ensures { result ≡ loops n }
+{
+    if 1 <= n && n <= MOST {
+        Some(Command::Loop(n as u32))
+    } else {
+        None
+    }
+}
+
+fn goes_back(n: u64) -> Option<Command>
+    ensures { result ≡ goes_back n }
+{
+    if n <= MOST {
+        Some(Command::Back(n as u32))
+    } else {
+        None
+    }
+}
+
+/// Every line asks for something.
+#[tactic(auto, using(crate::proofs::Commands::reading))]
+pub fn every_line_asks()
+    ensures { (line : List ℕ) → Asks line (asked_of line) }
+{}

@@ -1,0 +1,106 @@
+//! The text of a trace.
+ghost use Rattle.std.specs.Prelude.{◌≡◌, ◌++◌, IfOk, IfErr, OnOk};
+ghost use Rattle.uv_ids.specs.declared.fault.Fault.TheVariants.{Memory};
+ghost use Rattle.uv_text.specs.Trace.{id_text, call_text, timeout_text, answer_text, site_text, line_text, seen_text};
+
+use std::alloc::{AllocError, Global};
+use uv_ids::{Answer, Fault, Id, Seen, Site, Var};
+use uv_script::{MainOp, Script, push_number};
+
+/// A trace line with its line feed.
+pub fn seen_text(alloc: Global, script: &Script, seen: Seen) -> Result<Vec<u8>, Fault>
+    ensures text { IfOk result (λ text. text.items ≡ seen_text script.now seen) }
+    ensures err { IfErr result (λ fault. fault ≡ Memory) }
+{
+    let mut text = Vec::new(alloc);
+    match push_seen(&mut text, script, seen) {
+        Ok(()) => Ok(text),
+        Err(_) => Err(Fault::Memory),
+    }
+}
+
+fn push_seen(text: &mut Vec<u8>, script: &Script, seen: Seen) -> Result<(), AllocError>
+    ensures { OnOk result (text.new.items ≡ text.old.items ++ seen_text script.now seen) }
+{
+    push_line(text, script, seen)?;
+    text.extend_from_slice(b"\n")
+}
+
+fn push_line(text: &mut Vec<u8>, script: &Script, seen: Seen) -> Result<(), AllocError>
+    ensures { OnOk result (text.new.items ≡ text.old.items ++ line_text script.now seen) }
+{
+    match seen {
+        Seen::Op(site, answer) => {
+            push_site(text, script, site)?;
+            text.extend_from_slice(b" = ")?;
+            push_answer(text, answer)
+        }
+        Seen::Run(mode) => {
+            text.extend_from_slice(b"run ")?;
+            text.extend_from_slice(mode.word().as_bytes())
+        }
+        Seen::Section(phase) => text.extend_from_slice(phase.word().as_bytes()),
+        Seen::Poll(timeout) => {
+            text.extend_from_slice(b"poll ")?;
+            push_timeout(text, timeout)
+        }
+        Seen::Call(name, id) => push_call(text, script, name, id),
+        Seen::End(true) => text.extend_from_slice(b"end 1"),
+        Seen::End(false) => text.extend_from_slice(b"end 0"),
+        Seen::Tick(ms) => {
+            text.extend_from_slice(b"out tick ")?;
+            push_number(text, ms)
+        }
+    }
+}
+
+fn push_call(text: &mut Vec<u8>, script: &Script, name: Var, id: Id) -> Result<(), AllocError>
+    ensures { OnOk result (text.new.items ≡ text.old.items ++ call_text script.now name id) }
+{
+    text.extend_from_slice(b"call ")?;
+    script.names().push_name(text, name)?;
+    text.extend_from_slice(b" ")?;
+    push_id(text, id)
+}
+
+/// The op at a place of the script.
+fn push_site(text: &mut Vec<u8>, script: &Script, site: Site) -> Result<(), AllocError>
+    ensures { OnOk result (text.new.items ≡ text.old.items ++ site_text script.now site) }
+{
+    match site {
+        Site::Main(line) => match script.main_op(line) {
+            Some(MainOp::Op(op)) => op.push_text(text, script.names()),
+            Some(MainOp::Run(_)) | None => Ok(()),
+        },
+        Site::On(name, line) => match script.on_lines(name).get(line).copied() {
+            Some(line) => line.op.push_text(text, script.names()),
+            None => Ok(()),
+        },
+    }
+}
+
+fn push_answer(text: &mut Vec<u8>, answer: Answer) -> Result<(), AllocError>
+    ensures { OnOk result (text.new.items ≡ text.old.items ++ answer_text answer) }
+{
+    match answer {
+        Answer::Code(code) => text.extend_from_slice(code.word().as_bytes()),
+        Answer::Id(id) => push_id(text, id),
+    }
+}
+
+fn push_id(text: &mut Vec<u8>, id: Id) -> Result<(), AllocError>
+    ensures { OnOk result (text.new.items ≡ text.old.items ++ id_text id) }
+{
+    push_number(text, u64::from(id.slot))?;
+    text.extend_from_slice(b".")?;
+    push_number(text, u64::from(id.generation))
+}
+
+fn push_timeout(text: &mut Vec<u8>, timeout: Option<u64>) -> Result<(), AllocError>
+    ensures { OnOk result (text.new.items ≡ text.old.items ++ timeout_text timeout) }
+{
+    match timeout {
+        Some(ms) => push_number(text, ms),
+        None => text.extend_from_slice(b"infinite"),
+    }
+}
