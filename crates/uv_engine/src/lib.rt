@@ -1,1 +1,12 @@
+//! A conversation: bytes in, bytes out.
 #![tactic(auto)]
+
+mod answer;
+mod converse;
+mod input;
+mod sink;
+mod source;
+
+pub use converse::Ended;
+pub use sink::{Sink, WriteFailed};
+pub use source::{ReadFailed, Source};

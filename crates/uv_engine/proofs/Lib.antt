@@ -1,0 +1,5 @@
+pub mod Text
+pub mod Replies
+pub mod Gathers
+pub mod Loops
+pub mod Talking

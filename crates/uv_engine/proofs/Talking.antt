@@ -1,0 +1,156 @@
+-- The answers to lines, one line after another.
+use Rattle.std.proofs.Common.{◌≡◌, ◌≢◌, ℕ, List, [], ◌∷◌, ◌++◌, Result, Ok, Err, suc, ◌==◌, arith, Bool, true, false, refl, ap, sym, ◌∙◌, subst, append_assoc, append-nil}
+use Rattle.uv_ids.specs.declared.fault.Fault.{Fault}
+use Rattle.uv_session.specs.Shown.{Shown}
+use Rattle.uv_text.specs.declared.command.Command.{Command}
+use Rattle.uv_text.specs.declared.command.Command.TheVariants.{Loop, Tick, Back, Trace, Quit}
+use Rattle.uv_text.specs.declared.command.Asked.{Asked}
+use Rattle.uv_text.specs.declared.command.Asked.TheVariants.{Nothing, Do, Bad}
+use Rattle.uv_text.specs.Commands.{Asks}
+use Rattle.uv_text.specs.Reading.{asked_of}
+use Rattle.uv_script.specs.Lines.{lines_of}
+use Rattle.uv_engine.specs.Input.{TakesLine, NoFeed}
+use Rattle.uv_engine.specs.declared.converse.Ended.{Ended}
+use Rattle.uv_engine.specs.declared.converse.Ended.TheVariants as ended
+use Rattle.std.proofs.lemmas.List.{append_cancel_left}
+use Rattle.uv_engine.specs.Sink.{CutShort}
+use Rattle.uv_engine.specs.Gather.{Grown, CutOff, Gathers, GathersOne}
+use Rattle.uv_engine.specs.Out.{Talks, input_ends, quits, goes_on, Answers, asked_after}
+use Rattle.uv_engine.specs.Talk.{TalksWhole, TalksCut, TalksOn, Finishes}
+use Rattle.uv_engine.proofs.Gathers.{grown_none, grown_more}
+
+-- what was written and gathered goes on to the answers to all lines, by any answers to the lines that are left
+pub record CanTalkOn (all : List (List ℕ)) (s0 : Shown) (lines : List (List ℕ)) (s : Shown) (old written gathered : List ℕ) : Type 0 where
+  pub part : List ℕ
+  pub grown : Grown old written
+  pub said : written ++ gathered ≡ old ++ part
+  pub onward : (rest : List ℕ) (end : Ended) → Talks lines s rest end → Talks all s0 (part ++ rest) end
+
+pub can_begin : (lines : List (List ℕ)) (s : Shown) (old : List ℕ) → CanTalkOn lines s lines s old old []
+can_begin lines s old = record { part = []; grown = grown_none old; said = refl; onward = λ rest end h. h }
+
+-- every line asks for something
+abbrev pub EveryLine : Type 0
+EveryLine = (line : List ℕ) → Asks line (asked_of line)
+
+-- some answers to the lines
+pub record SomeTalk (lines : List (List ℕ)) (s : Shown) : Type 0 where
+  pub text : List ℕ
+  pub end : Ended
+  pub is : Talks lines s text end
+
+on_line : (line : List ℕ) (lines : List (List ℕ)) (s : Shown) (asked : Asked) (text : List ℕ) → Asks line asked → asked ≢ Do Quit → Answers asked s text → SomeTalk lines (asked_after asked s) → SomeTalk (line ∷ lines) s
+on_line line lines s asked text a q h k = record { text = text ++ k.text; end = k.end; is = goes_on asked text k.text a q h k.is }
+
+pub some_talk : EveryLine → (lines : List (List ℕ)) (s : Shown) → SomeTalk lines s
+some_talk every [] s = record { text = []; end = ended.Input; is = input_ends }
+some_talk every (line ∷ lines) s = at (asked_of line) (every line) (λ t. some_talk every lines t) where
+  at : (asked : Asked) → Asks line asked → ((t : Shown) → SomeTalk lines t) → SomeTalk (line ∷ lines) s
+  at Nothing a k = on_line line lines s Nothing [] a (λ e. cc e) refl (k s)
+  at Bad a k = on_line line lines s Bad _ a (λ e. cc e) refl (k s)
+  at (Do (Loop n)) a k = on_line line lines s (Do (Loop n)) _ a (λ e. cc e) refl (k _)
+  at (Do (Tick ms)) a k = on_line line lines s (Do (Tick ms)) _ a (λ e. cc e) refl (k _)
+  at (Do (Back n)) a k = on_line line lines s (Do (Back n)) _ a (λ e. cc e) refl (k _)
+  at (Do Trace) a k = on_line line lines s (Do Trace) _ a (λ e. cc e) refl (k s)
+  at (Do Quit) a k = record { text = []; end = ended.Quit; is = quits a }
+
+all_head : (b : ℕ) (bs : List ℕ) → NoFeed (b ∷ bs) → (b == 10) ≡ false
+all_head b bs h = h 0 0 (omega arith)
+
+all_tail : (b : ℕ) (bs : List ℕ) → NoFeed (b ∷ bs) → NoFeed bs
+all_tail b bs h = λ k d l. h (suc k) d (omega arith)
+
+lines_fed : (line rest : List ℕ) → NoFeed line → lines_of (line ++ 10 ∷ rest) ≡ line ∷ lines_of rest
+lines_fed [] rest h = refl
+lines_fed (b ∷ bs) rest h = rw (all_head b bs h, lines_fed bs rest (all_tail b bs h)) refl
+
+lines_last : (line : List ℕ) → NoFeed line → line ≢ [] → lines_of line ≡ line ∷ []
+lines_last [] h n = absurd (n refl)
+lines_last (b ∷ []) h n = rw (all_head b [] h) refl
+lines_last (b ∷ c ∷ bs) h n = rw (all_head b (c ∷ bs) h, lines_last (c ∷ bs) (all_tail b (c ∷ bs) h) (λ e. cc e)) refl
+
+-- the lines with the next one
+pub lines_next : (old new line : List ℕ) (fed : Bool) → TakesLine old line fed new → lines_of old ≡ line ∷ lines_of new
+lines_next old new line true h = ap lines_of h.1 ∙ lines_fed line new h.0
+lines_next old new line false h = ap lines_of h.2 ∙ lines_last line h.0 h.1 ∙ ap (λ (ls : List ℕ). line ∷ lines_of ls) (sym h.3)
+
+-- what was written is a beginning of answers to all
+pub cut_talk : (all : List (List ℕ)) (s0 : Shown) (old new whole rest : List ℕ) (end : Ended) → Talks all s0 whole end → Grown old new → new ++ rest ≡ old ++ whole → TalksCut all s0 old new
+cut_talk all s0 old new whole rest end talks grown e = record {
+  text = whole;
+  end = end;
+  is = talks;
+  cut = record {
+    part = grown.part;
+    rest = rest;
+    whole = append_cancel_left old (grown.part ++ rest) whole (sym (append_assoc old grown.part rest) ∙ ap (λ (xs : List ℕ). xs ++ rest) (sym grown.is) ∙ e);
+    written = grown.is;
+  };
+}
+
+-- more was written of what was gathered
+pub can_write : (all : List (List ℕ)) (s0 : Shown) (lines : List (List ℕ)) (s : Shown) (old w t v u : List ℕ) → CanTalkOn all s0 lines s old w t → Gathers (Ok tt) w t [] v u → CanTalkOn all s0 lines s old v u
+can_write all s0 lines s old w t v u h k = record {
+  part = h.part;
+  grown = grown_more old w v h.grown k.0;
+  said = k.1 ∙ append-nil (w ++ t) ∙ h.said;
+  onward = h.onward;
+}
+
+-- a line was answered
+pub can_answer : (all : List (List ℕ)) (s0 : Shown) (line : List ℕ) (lines : List (List ℕ)) (s r : Shown) (asked : Asked) (old w t v u : List ℕ) → CanTalkOn all s0 (line ∷ lines) s old w t → Asks line asked → asked ≢ Do Quit → GathersOne (Answers asked s) (Ok tt) w t v u → r ≡ asked_after asked s → CanTalkOn all s0 lines r old v u
+can_answer all s0 line lines s r asked old w t v u h a q k e = record {
+  part = h.part ++ k.text;
+  grown = grown_more old w v h.grown k.gathers.0;
+  said = k.gathers.1 ∙ ap (λ (xs : List ℕ). xs ++ k.text) h.said ∙ append_assoc old h.part k.text;
+  onward = λ rest end talks. subst (λ (xs : List ℕ). Talks all s0 xs end) (sym (append_assoc h.part k.text rest)) (h.onward (k.text ++ rest) end (goes_on asked k.text rest a q k.is (subst (λ (x : Shown). Talks lines x rest end) e talks)));
+}
+
+-- ---- the ends
+-- the next line can't be had
+pub cut_waiting : EveryLine → (all : List (List ℕ)) (s0 : Shown) (lines : List (List ℕ)) (s : Shown) (old w t : List ℕ) → CanTalkOn all s0 lines s old w t → TalksCut all s0 old w
+cut_waiting every all s0 lines s old w t h =
+    let some = some_talk every lines s in
+    cut_talk all s0 old w (h.part ++ some.text) (t ++ some.text) some.end (h.onward some.text some.end some.is) h.grown
+      (sym (append_assoc w t some.text) ∙ ap (λ (xs : List ℕ). xs ++ some.text) h.said ∙ append_assoc old h.part some.text)
+
+-- a write failed
+pub cut_writing : EveryLine → (all : List (List ℕ)) (s0 : Shown) (lines : List (List ℕ)) (s : Shown) (old w t v : List ℕ) → CanTalkOn all s0 lines s old w t → CutOff w ((w ++ t) ++ []) v → TalksCut all s0 old v
+cut_writing every all s0 lines s old w t v h k =
+    let some = some_talk every lines s in
+    cut_talk all s0 old v (h.part ++ some.text) (k.rest ++ some.text) some.end (h.onward some.text some.end some.is) (grown_more old w v h.grown k.grown)
+      (sym (append_assoc v k.rest some.text) ∙ ap (λ (xs : List ℕ). xs ++ some.text) (k.whole ∙ append-nil (w ++ t) ∙ h.said) ∙ append_assoc old h.part some.text)
+
+-- an answer was cut off
+pub cut_answer : EveryLine → (all : List (List ℕ)) (s0 : Shown) (line : List ℕ) (lines : List (List ℕ)) (s : Shown) (asked : Asked) (f : Fault) (old w t v u : List ℕ) → CanTalkOn all s0 (line ∷ lines) s old w t → Asks line asked → asked ≢ Do Quit → GathersOne (Answers asked s) (Err f) w t v u → TalksCut all s0 old v
+cut_answer every all s0 line lines s asked f old w t v u h a q k =
+    let some = some_talk every lines (asked_after asked s) in
+    let text = k.text ++ some.text in
+    let cut = k.gathers in
+    cut_talk all s0 old v (h.part ++ text) (cut.rest ++ some.text) some.end (h.onward text some.end (goes_on asked k.text some.text a q k.is some.is)) (grown_more old w v h.grown cut.grown)
+      (sym (append_assoc v cut.rest some.text) ∙ ap (λ (xs : List ℕ). xs ++ some.text) (cut.whole ∙ ap (λ (xs : List ℕ). xs ++ k.text) h.said ∙ append_assoc old h.part k.text)
+      ∙ append_assoc old (h.part ++ k.text) some.text ∙ ap (λ (xs : List ℕ). old ++ xs) (append_assoc h.part k.text some.text))
+
+-- the last text is written, or a beginning of it
+finish_talk : EveryLine → (all : List (List ℕ)) (s0 : Shown) (lines : List (List ℕ)) (s : Shown) (old w t v : List ℕ) (end : Ended) (r : Result Ended Fault) → CanTalkOn all s0 lines s old w t → Talks lines s [] end → Finishes r end w t v → TalksOn all s0 r old v
+finish_talk every all s0 lines s old w t v end (Ok ended) h talks k = record {
+  text = h.part ++ [];
+  is = subst (λ (x : Ended). Talks all s0 (h.part ++ []) x) (sym k.0) (h.onward [] end talks);
+  written = k.1 ∙ h.said ∙ ap (λ (xs : List ℕ). old ++ xs) (sym (append-nil h.part));
+}
+finish_talk every all s0 lines s old w t v end (Err fault) h talks k =
+    cut_talk all s0 old v (h.part ++ []) (k.rest ++ []) end (h.onward [] end talks) (grown_more old w v h.grown (record { part = k.part; is = k.written }))
+      (ap (λ (xs : List ℕ). xs ++ (k.rest ++ [])) k.written ∙ append_assoc w k.part (k.rest ++ [])
+      ∙ ap (λ (xs : List ℕ). w ++ xs) (sym (append_assoc k.part k.rest []) ∙ append-nil (k.part ++ k.rest) ∙ k.whole) ∙ h.said ∙ ap (λ (xs : List ℕ). old ++ xs) (sym (append-nil h.part)))
+
+-- the input is at its end
+pub talk_ends : EveryLine → (all : List (List ℕ)) (s0 : Shown) (lines : List (List ℕ)) (s : Shown) (old w t v : List ℕ) (r : Result Ended Fault) → CanTalkOn all s0 lines s old w t → lines ≡ [] → Finishes r ended.Input w t v → TalksOn all s0 r old v
+talk_ends every all s0 lines s old w t v r h e k = finish_talk every all s0 lines s old w t v ended.Input r h (subst (λ (ls : List (List ℕ)). Talks ls s [] ended.Input) (sym e) input_ends) k
+
+-- `quit` was read
+pub talk_quits : EveryLine → (all : List (List ℕ)) (s0 : Shown) (line : List ℕ) (lines : List (List ℕ)) (s : Shown) (old w t v : List ℕ) (r : Result Ended Fault) → CanTalkOn all s0 (line ∷ lines) s old w t → Asks line (Do Quit) → Finishes r ended.Quit w t v → TalksOn all s0 r old v
+talk_quits every all s0 line lines s old w t v r h a k = finish_talk every all s0 (line ∷ lines) s old w t v ended.Quit r h (quits a) k
+
+-- the next line stands in front of the others
+pub can_next : (all : List (List ℕ)) (s0 s : Shown) (before after line : List ℕ) (fed : Bool) (old w t : List ℕ) → TakesLine before line fed after → CanTalkOn all s0 (lines_of before) s old w t → CanTalkOn all s0 (line ∷ lines_of after) s old w t
+can_next all s0 s before after line fed old w t h k = subst (λ (ls : List (List ℕ)). CanTalkOn all s0 ls s old w t) (lines_next before after line fed h) k

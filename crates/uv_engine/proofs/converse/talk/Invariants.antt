@@ -1,0 +1,15 @@
+use Rattle.std.proofs.Common.{◌≡◌}
+use Rattle.uv_script.specs.Lines.{lines_of}
+use Rattle.uv_engine.specs.Input.{left, size, EndIsSeen}
+use Rattle.uv_engine.proofs.Talking.{CanTalkOn}
+use Rattle.uv_engine.proofs.converse.talk.Given as goal
+
+-- any answers to the lines that are left make answers to all
+abbrev pub invariant-lines : goal.invariant-lines
+invariant-lines g l = record {
+  end : g.R.Source.Tells → EndIsSeen l.input (g.R.Source.remaining l.reader);
+  text : g.R.Source.Tells → g.W.Sink.Tells → CanTalkOn (lines_of (left l.initial.input (g.R.Source.remaining l.initial.reader))) l.initial.session (lines_of (left l.input (g.R.Source.remaining l.reader))) l.session (g.W.Sink.written l.initial.writer) (g.W.Sink.written l.writer) l.text.items;
+}
+
+abbrev pub decreases-lines : goal.decreases-lines
+decreases-lines g l = size l.input

@@ -1,0 +1,14 @@
+use Rattle.std.proofs.Common.{◌≡◌}
+use Rattle.uv_engine.specs.Input.{left, size, turns_left, EndIsSeen}
+use Rattle.uv_engine.proofs.input.Input.next_line.Given as goal
+
+-- what is left stays
+abbrev pub invariant-loop-text : goal.invariant-loop-text
+invariant-loop-text g l = record {
+  left_is : g.R.Source.Tells → left l.self (g.R.Source.remaining l.reader) ≡ left l.initial.self (g.R.Source.remaining l.initial.reader);
+  end : g.R.Source.Tells → EndIsSeen l.self (g.R.Source.remaining l.reader);
+  size_is : size l.self ≡ size l.initial.self;
+}
+
+abbrev pub decreases-loop-text : goal.decreases-loop-text
+decreases-loop-text g l = turns_left l.self

@@ -1,0 +1,41 @@
+-- A reader's lines, one after another.
+use Rattle.std.specs.Prelude.{◌≡◌, ◌≢◌, ℕ, ◌+◌, ◌==◌, true, false, List, [], ◌∷◌, ◌++◌, Bool, All, Option, Some, None, length, if◌then◌else◌}
+
+-- what was read of an input and not yet taken
+pub record Buffered : Type 0 where
+  -- the beginning of a line whose end was not yet seen
+  pub part : List ℕ
+  -- the bytes that follow it
+  pub ahead : List ℕ
+  -- the reader is at its end
+  pub ended : Bool
+  -- how many bytes more may be read
+  pub budget : ℕ
+
+abbrev pub pending : Buffered → List ℕ
+pending b = b.part ++ b.ahead
+
+-- the bytes that are left, where these remain in the reader
+abbrev pub left : Buffered → List ℕ → List ℕ
+left b remaining = pending b ++ remaining
+
+-- the bytes that can still come, at the most
+abbrev pub size : Buffered → ℕ
+size b = length (pending b) + b.budget
+
+-- how many reads can still come, at the most
+abbrev pub turns_left : Buffered → ℕ
+turns_left b = b.budget + (if b.ended then 0 else 1)
+
+-- no byte is a line feed
+abbrev pub NoFeed : List ℕ → Type 0
+NoFeed line = All (λ b. (b == 10) ≡ false) line
+
+-- a line is taken off the front, with its line feed if it has one; only a last line may lack it
+abbrev pub TakesLine : List ℕ → List ℕ → Bool → List ℕ → Type 0
+TakesLine old line true new = NoFeed line × (old ≡ line ++ 10 ∷ new)
+TakesLine old line false new = NoFeed line × (line ≢ []) × (old ≡ line) × (new ≡ [])
+
+-- where the end of the reader was seen, nothing remains in it
+abbrev pub EndIsSeen : Buffered → List ℕ → Type 0
+EndIsSeen b remaining = b.ended ≡ true → remaining ≡ []

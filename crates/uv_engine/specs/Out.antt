@@ -1,0 +1,110 @@
+-- What a conversation writes, and how it ends.
+use Rattle.std.specs.Prelude.{◌≡◌, ◌≢◌, ℕ, ◌+◌, List, [], ◌∷◌, ◌++◌, length, Result, Ok, Err, codes}
+use Rattle.uv_ids.specs.declared.event.Event.TheVariants as event
+use Rattle.uv_ids.specs.declared.fault.Fault.{Fault}
+use Rattle.uv_ids.specs.declared.fault.Fault.TheVariants as fault
+use Rattle.uv_script.specs.Program.{Program}
+use Rattle.uv_script.specs.Lines.{lines_of}
+use Rattle.uv_script.specs.Grammar.{IsScript, IsBadLine}
+use Rattle.uv_model.specs.After.{STEPS}
+use Rattle.uv_session.specs.Shown.{Shown}
+use Rattle.uv_text.specs.declared.command.Command.{Command}
+use Rattle.uv_text.specs.declared.command.Command.TheVariants.{Loop, Tick, Back, Trace, Quit}
+use Rattle.uv_text.specs.declared.command.Asked.{Asked}
+use Rattle.uv_text.specs.declared.command.Asked.TheVariants.{Nothing, Do, Bad}
+use Rattle.uv_text.specs.Commands.{Asks}
+use Rattle.uv_engine.specs.declared.converse.Ended.{Ended}
+use Rattle.uv_engine.specs.declared.converse.Ended.TheVariants as ended
+use Rattle.uv_engine.specs.Input.{NoFeed}
+use Rattle.uv_engine.specs.Sink.{CutShort}
+use Rattle.uv_engine.specs.Reply.{reply, reply_text, reply_after, loop_text, loop_after, back_text, back_after, trace_text}
+
+-- what a command prints
+abbrev pub Prints : Command → Shown → List ℕ → Type 0
+Prints (Loop n) s text = text ≡ loop_text n s
+Prints (Tick ms) s text = text ≡ reply_text s.program (reply s (event.Tick ms))
+Prints (Back n) s text = text ≡ back_text n s
+Prints Trace s text = text ≡ trace_text s
+Prints Quit s text = text ≡ []
+
+-- the session after a command
+abbrev pub command_after : Command → Shown → Shown
+command_after (Loop n) s = loop_after n s
+command_after (Tick ms) s = reply_after s (reply s (event.Tick ms))
+command_after (Back n) s = back_after n s
+command_after Trace s = s
+command_after Quit s = s
+
+-- what a line prints, and the session after it
+abbrev pub Answers : Asked → Shown → List ℕ → Type 0
+Answers Nothing s text = text ≡ []
+Answers (Do command) s text = Prints command s text
+Answers Bad s text = text ≡ codes "bad command\n"
+
+abbrev pub asked_after : Asked → Shown → Shown
+asked_after Nothing s = s
+asked_after (Do command) s = command_after command s
+asked_after Bad s = s
+
+-- what these lines print, one after another, up to `quit` or the last one
+pub data Talks : List (List ℕ) → Shown → List ℕ → Ended → Type 0 where
+  input_ends : {s : Shown} → Talks [] s [] ended.Input
+  quits : {line : List ℕ} {lines : List (List ℕ)} {s : Shown} → Asks line (Do Quit) → Talks (line ∷ lines) s [] ended.Quit
+  goes_on : {line : List ℕ} {lines : List (List ℕ)} {s : Shown} {end : Ended} (asked : Asked) (text rest : List ℕ) → Asks line asked → asked ≢ Do Quit → Answers asked s text → Talks lines (asked_after asked s) rest end → Talks (line ∷ lines) s (text ++ rest) end
+
+-- the line `begin` cuts an input: the bytes before it are the script, and those after it the commands
+pub data Begins : List ℕ → List ℕ → List ℕ → Type 0 where
+  here : {commands : List ℕ} → Begins (codes "begin\n" ++ commands) [] commands
+  here_at_end : Begins (codes "begin") [] []
+  later : {line rest script commands : List ℕ} → NoFeed line → line ≢ codes "begin" → Begins rest script commands → Begins (line ++ 10 ∷ rest) (line ++ 10 ∷ script) commands
+
+-- no line of the input is `begin`
+pub data NeverBegins : List ℕ → Type 0 where
+  nothing : NeverBegins []
+  last_line : {line : List ℕ} → NoFeed line → line ≢ codes "begin" → NeverBegins line
+  one_line : {line rest : List ℕ} → NoFeed line → line ≢ codes "begin" → NeverBegins rest → NeverBegins (line ++ 10 ∷ rest)
+
+-- the session of a script that has taken no step
+abbrev pub started : Program → Shown
+started p = record { program = p; limit = STEPS; standing = []; taken_back = [] }
+
+-- how a conversation ends: with the commands, or at a line that is outside the grammar of scripts
+pub data End : Type 0 where
+  Ends : Ended → End
+  BadScript : ℕ → End
+
+-- what is written for an input, and how that ends. A script without `begin` is bad in the line after its last one.
+pub data Out (input : List ℕ) : List ℕ → End → Type 0 where
+  talks : {text : List ℕ} {end : Ended} (script commands : List ℕ) (p : Program) → Begins input script commands → IsScript script p → Talks (lines_of commands) (started p) text end → Out input text (Ends end)
+  bad_line : {number : ℕ} (script commands : List ℕ) → Begins input script commands → IsBadLine script number → Out input [] (BadScript number)
+  no_begin : (p : Program) → NeverBegins input → IsScript input p → Out input [] (BadScript (length (lines_of input) + 1))
+  bad_input : {number : ℕ} → NeverBegins input → IsBadLine input number → Out input [] (BadScript number)
+
+-- a beginning of what is written for the input
+pub record IsCut (input old new : List ℕ) : Type 0 where
+  pub text : List ℕ
+  pub end : End
+  pub is : Out input text end
+  pub cut : CutShort old text new
+
+-- what was written for the input
+pub record IsWhole (input : List ℕ) (end : End) (old new : List ℕ) : Type 0 where
+  pub text : List ℕ
+  pub is : Out input text end
+  pub written : new ≡ old ++ text
+
+-- a growth was refused, or the reader or the writer failed
+abbrev pub IsDeviceFault : Fault → Type 0
+IsDeviceFault fault.Memory = Unit {0}
+IsDeviceFault fault.Read = Unit {0}
+IsDeviceFault fault.Write = Unit {0}
+IsDeviceFault _ = ⊥
+
+-- what a conversation may answer, and what it has written then
+abbrev pub Converses : List ℕ → Result Ended Fault → List ℕ → List ℕ → Type 0
+Converses input (Ok end) old new = IsWhole input (Ends end) old new
+Converses input (Err (fault.Script line)) old new = Out input [] (BadScript line) × (new ≡ old)
+Converses input (Err fault.Memory) old new = IsCut input old new
+Converses input (Err fault.Read) old new = IsCut input old new
+Converses input (Err fault.Write) old new = IsCut input old new
+Converses input (Err _) old new = ⊥

@@ -1,0 +1,28 @@
+-- What the calls of an input's buffer do.
+use Rattle.std.specs.Prelude.{◌≡◌, ℕ, List, [], ◌∷◌, ◌++◌, true, Option, Some, None, Vec}
+use Rattle.std.specs.Global.{Global}
+use Rattle.uv_ids.specs.declared.fault.Fault.{Fault}
+use Rattle.uv_ids.specs.declared.fault.Fault.TheVariants as fault
+use Rattle.uv_engine.specs.declared.input.Line.{Line}
+use Rattle.uv_engine.specs.Input.{Buffered, pending, NoFeed, TakesLine}
+
+-- the reader and the count are as before
+pub record SameReader (old new : Buffered) : Type 0 where
+  pub ended : new.ended ≡ old.ended
+  pub budget : new.budget ≡ old.budget
+
+-- a line is taken that ends in what was read; with none, all that was read is part of the next line
+abbrev pub TakesAhead : Buffered → Option (Vec ℕ Global) → Buffered → Type 0
+TakesAhead old (Some text) new = TakesLine (pending old) text.items true (pending new)
+TakesAhead old None new = (pending new ≡ pending old) × (new.ahead ≡ [])
+
+-- the next line is taken of what is left, or nothing is left
+abbrev pub TakesNext : List ℕ → Option Line → List ℕ → Type 0
+TakesNext old (Some line) new = TakesLine old line.text.items line.fed new
+TakesNext old None new = old ≡ []
+
+-- a read failed, or there was no memory, or the input is too long
+abbrev pub ReadFault : Fault → Type 0
+ReadFault fault.Read = Unit {0}
+ReadFault fault.Memory = Unit {0}
+ReadFault _ = ⊥

@@ -1,0 +1,99 @@
+//! The conversation.
+ghost use Rattle.std.specs.Prelude.{◌≡◌, ◌++◌, [], IfOk, IfErr, ◌≢◌, true, false};
+ghost use Rattle.uv_script.specs.Lines.{lines_of};
+ghost use Rattle.uv_engine.specs.Input.{left, EndIsSeen};
+ghost use Rattle.uv_engine.specs.Gather.{Gathers};
+ghost use Rattle.uv_engine.specs.Out.{IsDeviceFault};
+ghost use Rattle.uv_engine.specs.Talk.{TalksOn, Finishes};
+
+use crate::answer::answer;
+use crate::input::Input;
+use crate::sink::{Sink, write_out};
+use crate::source::Source;
+use std::alloc::Global;
+use uv_ids::Fault;
+use uv_model::Machine;
+use uv_session::Session;
+use uv_text::{Asked, Command, every_line_asks, read_command};
+
+/// The most steps of a conversation (own).
+const STEPS: usize = 16_777_216;
+
+/// How a conversation ended.
+#[derive(Clone, Copy, Debug, PartialEq, Eq)]
+pub enum Ended {
+    /// At the command `quit`.
+    Quit,
+    /// At the end of the input.
+    Input,
+}
+
+/// Writes the gathered text where the next line has to be waited for.
+fn write_if_waiting<W: Sink>(
+    input: &Input,
+    writer: &mut W,
+    text: &mut Vec<u8>,
+) -> Result<(), Fault>
+    ensures text { W.Tells → Gathers result (W.written writer.old) text.old.items [] (W.written writer.new) text.new.items }
+    ensures err { IfErr result IsDeviceFault }
+{
+    if input.has_line() {
+        return Ok(());
+    }
+    write_out(writer, text)
+}
+
+/// Answers the lines of an input, one after another, up to `quit` or the end of the input. The answers to the lines that
+/// were read are written before more is read.
+fn talk<M: Machine, R: Source, W: Sink>(
+    alloc: Global,
+    session: &mut Session<M>,
+    input: &mut Input,
+    reader: &mut R,
+    writer: &mut W,
+) -> Result<Ended, Fault>
+    requires end { R.Tells → EndIsSeen input.old (R.remaining reader.old) }
+    ensures text { R.Tells → W.Tells → TalksOn (lines_of (left input.old (R.remaining reader.old))) session.old result (W.written writer.old) (W.written writer.new) }
+    ensures err { IfErr result IsDeviceFault }
+{
+    every_line_asks();
+    let mut text = Vec::new(alloc);
+    'lines: loop {
+        match write_if_waiting(input, writer, &mut text) {
+            Ok(()) => {}
+            Err(fault) => return Err(fault),
+        }
+        match input.next_line(reader) {
+            Err(fault) => return Err(fault),
+            Ok(None) => return finish(writer, &mut text, Ended::Input),
+            Ok(Some(line)) => {
+                let asked = read_command(line.text.as_slice());
+                if is_quit(asked) {
+                    return finish(writer, &mut text, Ended::Quit);
+                }
+                match answer(alloc, session, writer, &mut text, asked) {
+                    Ok(()) => {}
+                    Err(fault) => return Err(fault),
+                }
+            }
+        }
+    }
+}
+
+fn is_quit(asked: Asked) -> bool
+    ensures quit { result ≡ true → asked ≡ Asked.Do Command.Quit }
+    ensures other { result ≡ false → asked ≢ Asked.Do Command.Quit }
+{
+    matches!(asked, Asked::Do(Command::Quit))
+}
+
+/// Writes what was gathered, at the end.
+fn finish<W: Sink>(writer: &mut W, text: &mut Vec<u8>, ended: Ended) -> Result<Ended, Fault>
+    ensures text { W.Tells → Finishes result ended (W.written writer.old) text.old.items (W.written writer.new) }
+    ensures err { IfErr result IsDeviceFault }
+{
+    match write_out(writer, text) {
+        Ok(()) => Ok(ended),
+        Err(fault) => Err(fault),
+    }
+}

@@ -1,0 +1,158 @@
+//! The lines of a reader.
+ghost use Rattle.std.specs.Prelude.{◌≡◌, ◌<◌, ◌+◌, ◌++◌, [], IfOk, IfErr, OnOk, OnSome, length, false};
+ghost use Rattle.uv_engine.specs.Input.{Buffered, pending, left, EndIsSeen, size, turns_left};
+ghost use Rattle.uv_engine.specs.Taking.{TakesAhead, TakesNext, SameReader, ReadFault};
+
+use crate::source::Source;
+use std::alloc::{AllocError, Global};
+use std::collections::VecDeque;
+use std::marker::Model;
+use std::mem;
+use uv_ids::Fault;
+
+/// The longest input in bytes (own).
+const LIMIT: usize = 1_073_741_824;
+
+/// What was read of an input and not yet taken.
+#[derive(Drop)]
+pub struct Input {
+    alloc: Global,
+    /// The beginning of a line whose end was not yet seen.
+    part: Vec<u8>,
+    /// The bytes that follow it.
+    ahead: VecDeque<u8>,
+    ended: bool,
+    /// How many bytes more may be read.
+    budget: usize,
+}
+
+impl Model for Input {
+    ghost use Rattle.uv_engine.specs.Input.{Buffered, NoFeed};
+
+    ghost Value = { Buffered };
+
+    ghost view = { λ a. record { part = a.part.items; ahead = a.ahead.items; ended = a.ended; budget = a.budget } };
+
+    ghost invariant = { λ a. NoFeed a.part.items };
+}
+
+/// A line without its line feed, and whether it had one.
+#[derive(Drop)]
+pub struct Line {
+    pub text: Vec<u8>,
+    pub fed: bool,
+}
+
+fn push_all(ahead: &mut VecDeque<u8>, bytes: &[u8]) -> Result<(), AllocError>
+    ensures { OnOk result (ahead.new.items ≡ ahead.old.items ++ bytes.now) }
+{
+    for byte in bytes {
+        ahead.push_back(*byte)?;
+    }
+    Ok(())
+}
+
+impl Input {
+    /// Nothing was read yet.
+    pub fn new(alloc: Global) -> Input
+        ensures { pending result ≡ [] }
+    {
+        Input {
+            alloc,
+            part: Vec::new(alloc),
+            ahead: VecDeque::new(alloc),
+            ended: false,
+            budget: LIMIT,
+        }
+    }
+
+    /// Whether the end of the next line was read already.
+    pub fn has_line(&self) -> bool {
+        self.ahead.contains(&b'\n')
+    }
+
+    fn take_part(&mut self) -> Vec<u8>
+        ensures line { result.items ≡ self.old.part }
+        ensures rest { self.new ≡ record self.old { part = [] } }
+    {
+        mem::replace(&mut self.part, Vec::new(self.alloc))
+    }
+
+    /// The next line, if its line feed was read.
+    fn take_ahead(&mut self) -> Result<Option<Vec<u8>>, AllocError>
+        ensures line { IfOk result (λ line. TakesAhead self.old line self.new) }
+        ensures reader { OnOk result (SameReader self.old self.new) }
+    {
+        while let Some(byte) = self.ahead.pop_front() {
+            if byte == b'\n' {
+                return Ok(Some(self.take_part()));
+            }
+            self.part.push(byte)?;
+        }
+        Ok(None)
+    }
+
+    /// Reads some bytes more. `Read` where the reader fails, or gives more than 2^30 bytes in all.
+    fn read_ahead<R: Source>(&mut self, reader: &mut R) -> Result<(), Fault>
+        requires { self.old.ended ≡ false }
+        ensures bytes { OnOk result (R.Tells → left self.old (R.remaining reader.old) ≡ left self.new (R.remaining reader.new)) }
+        ensures end { OnOk result (R.Tells → EndIsSeen self.new (R.remaining reader.new)) }
+        ensures part { OnOk result (self.new.part ≡ self.old.part) }
+        ensures turns { OnOk result (turns_left self.new < turns_left self.old) }
+        ensures size { OnOk result (size self.new ≡ size self.old) }
+        ensures err { IfErr result (λ fault. ReadFault fault) }
+    {
+        let mut room = [0; 4096];
+        match reader.read(&mut room) {
+            Err(_) => Err(Fault::Read),
+            Ok(0) => {
+                self.ended = true;
+                Ok(())
+            }
+            Ok(n) => {
+                if n > self.budget {
+                    return Err(Fault::Read);
+                }
+                if push_all(&mut self.ahead, &room[..n]).is_err() {
+                    return Err(Fault::Memory);
+                }
+                self.budget -= n;
+                Ok(())
+            }
+        }
+    }
+
+    /// The next line; none at the end of the input.
+    pub fn next_line<R: Source>(&mut self, reader: &mut R) -> Result<Option<Line>, Fault>
+        requires end { R.Tells → EndIsSeen self.old (R.remaining reader.old) }
+        ensures line { IfOk result (λ line. R.Tells → TakesNext (left self.old (R.remaining reader.old)) line (left self.new (R.remaining reader.new))) }
+        ensures size { IfOk result (λ line. OnSome line (size self.new < size self.old)) }
+        ensures end { OnOk result (R.Tells → EndIsSeen self.new (R.remaining reader.new)) }
+        ensures err { IfErr result (λ fault. ReadFault fault) }
+    {
+        loop {
+            match self.take_ahead() {
+                Ok(Some(text)) => return Ok(Some(Line { text, fed: true })),
+                Ok(None) => {}
+                Err(_) => return Err(Fault::Memory),
+            }
+            if self.ended {
+                return Ok(self.take_last());
+            }
+            self.read_ahead(reader)?;
+        }
+    }
+
+    /// The last line, which has no line feed, if there is one.
+    fn take_last(&mut self) -> Option<Line>
+        requires { self.old.ahead ≡ [] }
+        ensures line { TakesNext (pending self.old) result (pending self.new) }
+        ensures size { OnSome result (size self.new < size self.old) }
+    {
+        if self.part.is_empty() {
+            return None;
+        }
+        let text = self.take_part();
+        Some(Line { text, fed: false })
+    }
+}
