@@ -6,3 +6,4 @@ pub mod Reply
 pub mod Gather
 pub mod Out
 pub mod Talk
+pub mod Start

@@ -4,6 +4,7 @@
 mod answer;
 mod converse;
 mod input;
+mod script;
 mod sink;
 mod source;
 

@@ -1,3 +1,10 @@
 pub mod Places
-pub mod Tests
+pub mod Checks
 pub mod Cuts
+pub mod KindWords
+pub mod Fresh
+pub mod Counts
+pub mod Agrees
+pub mod AfterLines
+pub mod OneReading
+pub mod SomeReading

@@ -28,3 +28,8 @@ line_count p = length p.names + length p.main + sum_by length p.on
 pub record IsWhole (p : Program) : Type 0 where
   pub callbacks : length p.on ≡ length p.names
   pub few : line_count p ≤ 65535
+
+-- the script is whole, and this many of its lines count
+pub record IsCounted (lines : ℕ) (p : Program) : Type 0 where
+  pub whole : IsWhole p
+  pub counted : lines ≡ line_count p

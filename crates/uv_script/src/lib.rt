@@ -4,13 +4,19 @@
 mod lines;
 mod names;
 mod op;
+mod parse;
 mod script;
+mod statement;
 mod text;
 mod words;
 
 pub use lines::{Fields, Lines, is_line};
 pub use names::Names;
 pub use op::{CallbackLine, MainOp, Op};
+pub use parse::one_reading;
 pub use script::Script;
 pub use text::push_number;
 pub use words::{is_name, number};
+
+#[cfg(test)]
+mod tests;

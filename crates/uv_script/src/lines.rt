@@ -2,7 +2,7 @@
 ghost use Rattle.std.specs.Prelude.{◌≡◌, ◌==◌, ◌↔◌, false, All, IfNone, IfSome, IsTrue};
 ghost use Rattle.std.specs.Iterator.{YieldsFirstRef, item_count};
 ghost use Rattle.uv_script.specs.Lines.{lines_of, fields_of, IsLine, IsCut};
-ghost use Rattle.uv_script.specs.Tests.{is_printable, is_line};
+ghost use Rattle.uv_script.specs.Checks.{is_printable, is_line};
 
 use std::marker::Model;
 
@@ -75,6 +75,7 @@ fn is_printable(byte: u8) -> bool
 /// Whether a line keeps the rule of lines: at most 256 bytes, from the space to the tilde.
 pub fn is_line(line: &[u8]) -> bool
     ensures rule { IsTrue result ↔ IsLine line.now }
+    // The same, as the readers of lines compute it.
     ensures test { result ≡ is_line line.now }
 {
     line.len() <= 256 && line.iter().all(|byte| is_printable(*byte))

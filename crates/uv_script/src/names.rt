@@ -1,11 +1,11 @@
 //! The names that a script declares.
-ghost use Rattle.std.specs.Prelude.{◌≡◌, ◌↔◌, length, slice_get, option_map, Contains, IfSome, IfNone, IsTrue};
-ghost use Rattle.std.specs.List.{position};
-ghost use Rattle.std.specs.Str.{bytes_eq};
+ghost use Rattle.std.specs.Prelude.{◌≡◌, ◌↔◌, ◌<◌, ◌++◌, ◌∷◌, [], length, slice_get, option_map, Contains, IfSome, IfNone, IsTrue, OnOk, OnErr};
+ghost use Rattle.uv_script.specs.Reading.{place_of};
 ghost use Rattle.uv_script.specs.Names.{AreNames};
-ghost use Rattle.uv_script.specs.Words.{IsDeclared};
+ghost use Rattle.uv_script.specs.Words.{IsDeclared, IsName};
 
 use indexmap::IndexSet;
+use std::alloc::{AllocError, Global};
 use std::marker::Model;
 use uv_ids::Var;
 
@@ -27,6 +27,28 @@ impl Model for Names {
 }
 
 impl Names {
+    /// No names.
+    pub(crate) fn new(alloc: Global) -> Names
+        ensures { result ≡ [] }
+    {
+        Names {
+            set: IndexSet::new(alloc),
+        }
+    }
+
+    /// Adds a name behind the others.
+    pub(crate) fn declare(&mut self, alloc: Global, name: &[u8]) -> Result<(), AllocError>
+        requires name { IsName name.now }
+        requires fresh { Contains self.old name.now → ⊥ }
+        requires room { length self.old < 4096 }
+        ensures ok { OnOk result (self.new ≡ self.old ++ name.now ∷ []) }
+        ensures err { OnErr result (self.new ≡ self.old) }
+    {
+        let name = Vec::from_slice(alloc, name)?;
+        self.set.insert(name)?;
+        Ok(())
+    }
+
     /// How many names there are, at most 4096.
     pub fn len(&self) -> usize
         ensures len { result ≡ length self.now }
@@ -46,17 +68,17 @@ impl Names {
     pub fn get(&self, name: Var) -> Option<&[u8]>
         ensures { option_map (λ text. text.now) result ≡ slice_get self.now name.0 }
     {
-        match self.set.get_index(name.0 as usize) {
-            Some(text) => Some(text.as_slice()),
-            None => None,
-        }
+        let text = self.set.get_index(name.0 as usize)?;
+        Some(text.as_slice())
     }
 
     /// The number of this name, if it was declared.
+    #[tactic(auto, unfolding(crate::specs::Reading::place_of))]
     pub fn number(&self, name: &[u8]) -> Option<Var>
         ensures some { IfSome result (IsDeclared self.now name.now) }
         ensures none { IfNone result (Contains self.now name.now → ⊥) }
-        ensures place { option_map (λ number. number.0) result ≡ position (bytes_eq name.now) self.now }
+        // The same, as the readers of lines compute it.
+        ensures place { result ≡ place_of self.now name.now }
     {
         match self.set.get_index_of(name) {
             Some(index) => Some(Var(index as u32)),

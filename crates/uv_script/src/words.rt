@@ -1,7 +1,7 @@
 //! The fields of a line: names and numbers.
 ghost use Rattle.std.specs.Prelude.{◌≡◌, ◌↔◌, ◌<◌, ◌^◌, IsTrue, IfSome, IfNone, ℕ};
 ghost use Rattle.uv_script.specs.Words.{IsName, IsNumber};
-ghost use Rattle.uv_script.specs.Tests.{is_letter, is_name_byte, is_name, is_canonical, number_of};
+ghost use Rattle.uv_script.specs.Checks.{is_letter, is_name_byte, is_name, is_canonical, number_of};
 
 use std::str;
 
@@ -14,6 +14,7 @@ fn is_name_byte(byte: u8) -> bool
 /// Whether a field is a name: a lower case letter, and then up to 31 lower case letters, digits or `_`.
 pub fn is_name(field: &[u8]) -> bool
     ensures rule { IsTrue result ↔ IsName field.now }
+    // The same, as the readers of lines compute it.
     ensures test { result ≡ is_name field.now }
 {
     match field {
@@ -41,6 +42,7 @@ fn is_canonical(digits: &[u8]) -> bool
 pub fn number(field: &[u8]) -> Option<u64>
     ensures some { IfSome result (IsNumber field.now) }
     ensures none { IfNone result ((n : ℕ) → IsNumber field.now n → ⊥) }
+    // The same, as the readers of lines compute it.
     ensures value { result ≡ number_of field.now }
 {
     if !is_canonical(field) {

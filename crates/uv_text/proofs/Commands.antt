@@ -6,8 +6,8 @@ use Rattle.std.proofs.lemmas.Bool.{and_parts, and_from, leb-true, le-leb, both_w
 use Rattle.std.proofs.lemmas.Bool.Decides.{Decides-eqb}
 use Rattle.uv_script.specs.Lines.{fields_of, IsLine, IsSkipped, empty, comment}
 use Rattle.uv_script.specs.Words.{IsNumber}
-use Rattle.uv_script.specs.Tests.{is_line, number_of}
-use Rattle.uv_script.proofs.Tests.{is_line_decides, number_of-sound, number_of-complete}
+use Rattle.uv_script.specs.Checks.{is_line, number_of}
+use Rattle.uv_script.proofs.Checks.{is_line_decides, number_of-sound, number_of-complete}
 use Rattle.uv_text.specs.declared.command.Command.{Command}
 use Rattle.uv_text.specs.declared.command.Command.TheVariants.{Loop, Tick, Back, Trace, Quit}
 use Rattle.uv_text.specs.declared.command.Asked.{Asked}

@@ -2,7 +2,7 @@
 use Rattle.std.specs.Prelude.{ℕ, List, [], ◌∷◌, Bool, true, false, ◌&&◌, ◌==◌, nat_le, Option, Some, None, if◌then◌else◌, codes}
 use Rattle.std.specs.Str.{bytes_eq}
 use Rattle.uv_script.specs.Lines.{fields_of}
-use Rattle.uv_script.specs.Tests.{is_line, number_of}
+use Rattle.uv_script.specs.Checks.{is_line, number_of}
 use Rattle.uv_text.specs.declared.command.Command.{Command}
 use Rattle.uv_text.specs.declared.command.Command.TheVariants.{Loop, Tick, Back, Trace, Quit}
 use Rattle.uv_text.specs.declared.command.Asked.{Asked}

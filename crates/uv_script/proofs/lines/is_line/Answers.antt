@@ -1,8 +1,8 @@
 use Rattle.std.proofs.Common.{rules, ◌↔◌, IsTrue}
 use Rattle.std.proofs.lemmas.Bool.Decides.{same_from_decides}
 use Rattle.uv_script.specs.Lines.{IsLine}
-use Rattle.uv_script.specs.Tests.{is_line}
-use Rattle.uv_script.proofs.Tests.{is_line_decides}
+use Rattle.uv_script.specs.Checks.{is_line}
+use Rattle.uv_script.proofs.Checks.{is_line_decides}
 use Rattle.uv_script.proofs.lines.is_line.Goals as goal
 
 pub returns-then-line-le256-clause-test : goal.returns-then-line-le256-clause-test

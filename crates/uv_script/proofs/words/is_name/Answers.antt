@@ -2,8 +2,8 @@ use Rattle.std.proofs.Common.{◌↔◌, IsTrue, arith}
 use Rattle.std.proofs.lemmas.Grind.{common_steps}
 use Rattle.std.proofs.lemmas.Bool.Decides.{same_from_decides}
 use Rattle.uv_script.specs.Words.{IsName}
-use Rattle.uv_script.specs.Tests.{is_name}
-use Rattle.uv_script.proofs.Tests.{is_name_decides}
+use Rattle.uv_script.specs.Checks.{is_name}
+use Rattle.uv_script.proofs.Checks.{is_name_decides}
 use Rattle.uv_script.proofs.words.is_name.Goals as goal
 
 pub returns-then-rest-le31-clause-test : goal.returns-then-rest-le31-clause-test

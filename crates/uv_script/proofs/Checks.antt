@@ -13,7 +13,7 @@ use Rattle.std.proofs.lemmas.Str.{IsUtf8-from_ascii}
 use Rattle.std.proofs.lemmas.Str.Parse.{IsNumeralModel, numerals_by_value, tells_all_ascii_digits, parse_plain}
 use Rattle.uv_script.specs.Lines.{IsLine}
 use Rattle.uv_script.specs.Words.{IsLetter, IsDigit, IsName, IsNumber}
-use Rattle.uv_script.specs.Tests.{is_printable, is_line, is_name_byte, is_name, is_canonical, is_number, number_of}
+use Rattle.uv_script.specs.Checks.{is_printable, is_line, is_name_byte, is_name, is_canonical, is_number, number_of}
 
 within : (low high b : ℕ) → Decides (nat_le low b && nat_le b high) ((low ≤ b) × (b ≤ high))
 within low high b = (

@@ -1,4 +1,4 @@
--- The rules of bytes as tests, which the code computes; beside each clause that cites one stands the rule itself.
+-- The rules of bytes as tests that the code computes. Where a public clause cites one, the rule itself stands beside it.
 use Rattle.std.specs.Prelude.{ℕ, ◌^◌, ◌&&◌, ◌||◌, ◌==◌, Bool, true, false, not, nat_le, nat_lt, List, [], ◌∷◌, length, Option, Some, None, if◌then◌else◌}
 use Rattle.std.specs.List.{list_all}
 use Rattle.std.specs.Str.{all_ascii_digits}

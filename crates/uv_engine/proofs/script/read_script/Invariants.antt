@@ -1,0 +1,14 @@
+use Rattle.std.proofs.Common.{◌≡◌}
+use Rattle.uv_engine.specs.Input.{left, size, EndIsSeen}
+use Rattle.uv_engine.proofs.Starting.{CanBegin}
+use Rattle.uv_engine.proofs.script.read_script.Given as goal
+
+-- the lines so far, none of which is `begin`, are the front of the script
+abbrev pub invariant-lines : goal.invariant-lines
+invariant-lines g l = record {
+  end : g.R.Source.Tells → EndIsSeen l.input (g.R.Source.remaining l.reader);
+  text : g.R.Source.Tells → CanBegin (left l.initial.input (g.R.Source.remaining l.initial.reader)) l.text.items (left l.input (g.R.Source.remaining l.reader));
+}
+
+abbrev pub decreases-lines : goal.decreases-lines
+decreases-lines g l = size l.input

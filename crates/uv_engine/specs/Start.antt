@@ -1,0 +1,41 @@
+-- How a conversation's script is read.
+use Rattle.std.specs.Prelude.{◌≡◌, ℕ, ◌+◌, List, [], ◌∷◌, ◌++◌, Bool, true, false, length, Result, Ok, Err}
+use Rattle.uv_ids.specs.declared.fault.Fault.{Fault}
+use Rattle.uv_ids.specs.declared.fault.Fault.TheVariants as fault
+use Rattle.uv_script.specs.Program.{Program}
+use Rattle.uv_script.specs.Lines.{lines_of}
+use Rattle.uv_script.specs.Grammar.{IsScript, IsBadLine}
+use Rattle.uv_engine.specs.Out.{Out, Begins, BadScript}
+
+-- a line as it stood in the text
+abbrev pub with_line : List ℕ → Bool → List ℕ
+with_line line true = line ++ 10 ∷ []
+with_line line false = line
+
+-- the script was read and the commands are left, or the input ends at a bad line
+pub record HasScript (input : List ℕ) (p : Program) (commands : List ℕ) : Type 0 where
+  pub script : List ℕ
+  pub begins : Begins input script commands
+  pub is : IsScript script p
+
+abbrev pub ReadsScript : List ℕ → Result Program Fault → List ℕ → Type 0
+ReadsScript input (Ok p) commands = HasScript input p commands
+ReadsScript input (Err (fault.Script line)) commands = Out input [] (BadScript line)
+ReadsScript input (Err _) commands = Unit {0}
+
+-- a script that can't be read is bad, or there is no memory, or the reader fails
+abbrev pub IsStartFault : Fault → Type 0
+IsStartFault (fault.Script line) = Unit {0}
+IsStartFault fault.Memory = Unit {0}
+IsStartFault fault.Read = Unit {0}
+IsStartFault _ = ⊥
+
+-- what is wrong with a text that has no line `begin`
+pub data MissesBegin (text : List ℕ) : ℕ → Type 0 where
+  after_last : (p : Program) → IsScript text p → MissesBegin text (length (lines_of text) + 1)
+  at_line : {number : ℕ} → IsBadLine text number → MissesBegin text number
+
+abbrev pub NoScript : List ℕ → Fault → Type 0
+NoScript text (fault.Script line) = MissesBegin text line
+NoScript text fault.Memory = Unit {0}
+NoScript text _ = ⊥

@@ -1,0 +1,68 @@
+//! The script in front of a conversation.
+ghost use Rattle.std.specs.Prelude.{◌≡◌, ◌≢◌, ◌++◌, [], ◌∷◌, IfOk, IfErr, OnOk, true, false, codes};
+ghost use Rattle.uv_engine.specs.Input.{left, EndIsSeen};
+ghost use Rattle.uv_engine.specs.Start.{ReadsScript, NoScript, IsStartFault, with_line};
+
+use crate::input::{Input, Line};
+use crate::source::Source;
+use std::alloc::{AllocError, Global};
+use uv_ids::Fault;
+use uv_script::{Lines, Script};
+
+/// Reads the script: the lines before the line `begin`.
+pub fn read_script<R: Source>(
+    alloc: Global,
+    input: &mut Input,
+    reader: &mut R,
+) -> Result<Script, Fault>
+    requires end { R.Tells → EndIsSeen input.old (R.remaining reader.old) }
+    ensures script { R.Tells → ReadsScript (left input.old (R.remaining reader.old)) result (left input.new (R.remaining reader.new)) }
+    ensures end { OnOk result (R.Tells → EndIsSeen input.new (R.remaining reader.new)) }
+    ensures err { IfErr result IsStartFault }
+{
+    let mut text = Vec::new(alloc);
+    'lines: loop {
+        match input.next_line(reader) {
+            Err(fault) => return Err(fault),
+            Ok(None) => return Err(without_begin(alloc, text.as_slice())),
+            Ok(Some(line)) => {
+                if is_begin(&line) {
+                    return Script::parse(alloc, text.as_slice());
+                }
+                if push_line(&mut text, &line).is_err() {
+                    return Err(Fault::Memory);
+                }
+            }
+        }
+    }
+}
+
+fn is_begin(line: &Line) -> bool
+    ensures begin { result ≡ true → line.now.text.items ≡ codes "begin" }
+    ensures other { result ≡ false → line.now.text.items ≢ codes "begin" }
+{
+    line.text.as_slice() == b"begin".as_slice()
+}
+
+/// Puts a line at the end of a text, as it was read.
+fn push_line(text: &mut Vec<u8>, line: &Line) -> Result<(), AllocError>
+    ensures { OnOk result (text.new.items ≡ text.old.items ++ with_line line.now.text.items line.now.fed) }
+{
+    text.extend_from_slice(line.text.as_slice())?;
+    if line.fed {
+        text.push(b'\n')?;
+    }
+    Ok(())
+}
+
+/// What is wrong with an input without the line `begin`: its first bad line, or the line after its last one.
+fn without_begin(alloc: Global, text: &[u8]) -> Fault
+    ensures { NoScript text.now result }
+{
+    match Script::parse(alloc, text) {
+        Ok(_) => Fault::Script {
+            line: Lines::of(text).count() + 1,
+        },
+        Err(fault) => fault,
+    }
+}
