@@ -3,3 +3,4 @@ pub mod Replies
 pub mod Gathers
 pub mod Loops
 pub mod Talking
+pub mod Starting

@@ -21,7 +21,7 @@ shown p l xs us = record { program = p; limit = l; standing = xs; taken_back = u
 same_fields : (p q : Program) (l m : ℕ) (xs ys us vs : List Event) → p ≡ q → l ≡ m → xs ≡ ys → us ≡ vs → shown p l xs us ≡ shown q m ys vs
 same_fields p q l m xs ys us vs a b c d = cc
 
-same_shown : (s t : Shown) → s.program ≡ t.program → s.limit ≡ t.limit → s.standing ≡ t.standing → s.taken_back ≡ t.taken_back → s ≡ t
+pub same_shown : (s t : Shown) → s.program ≡ t.program → s.limit ≡ t.limit → s.standing ≡ t.standing → s.taken_back ≡ t.taken_back → s ≡ t
 same_shown s t a b c d = same_fields s.program t.program s.limit t.limit s.standing t.standing s.taken_back t.taken_back a b c d
 
 pub took : (s t : Shown) (e : Event) (outcome : Outcome) → TakesEvent s e (Ok outcome) t → reply s e ≡ Took t outcome.seen

@@ -1,13 +1,25 @@
 -- The lines of a script, one after another.
-use Rattle.std.proofs.Common.{◌≡◌, ◌≢◌, ◌⊎◌, inl, inr, ℕ, ◌+◌, List, [], ◌∷◌, ◌++◌, Bool, true, false, length, Result, Ok, Err, refl, ap, sym, ◌∙◌, subst, append_assoc, append-nil, codes}
+use Rattle.std.proofs.Common.{◌≡◌, ◌≢◌, ◌⊎◌, inl, inr, ℕ, ◌+◌, List, [], ◌∷◌, ◌++◌, Bool, true, false, length, Result, Ok, Err, refl, ap, sym, ◌∙◌, subst, arith, ◌==◌, IfErr, append_assoc, append-nil, codes}
 use Rattle.uv_ids.specs.declared.fault.Fault.{Fault}
 use Rattle.uv_ids.specs.declared.fault.Fault.TheVariants as fault
 use Rattle.uv_script.specs.Program.{Program}
 use Rattle.uv_script.specs.Lines.{lines_of}
+use Rattle.std.specs.Str.{bytes_eq}
+use Rattle.std.proofs.lemmas.Slice.Eq.{bytes_eq-Decides}
+use Rattle.std.proofs.lemmas.Bool.{both_ways}
+use Rattle.std.proofs.lemmas.Bool.Decides.{Decides-eqb}
+use Rattle.std.proofs.lemmas.Grind.{elements}
 use Rattle.uv_script.specs.Grammar.{IsScript, IsBadLine, Parses}
-use Rattle.uv_engine.specs.Input.{TakesLine, NoFeed}
-use Rattle.uv_engine.specs.Out.{Out, Begins, NeverBegins, BadScript, here, here_at_end, later, nothing, last_line, one_line, bad_line, no_begin, bad_input}
-use Rattle.uv_engine.specs.Start.{HasScript, ReadsScript, MissesBegin, after_last, at_line, NoScript, with_line}
+use Rattle.uv_script.specs.Laws.{HasReading}
+use Rattle.uv_model.specs.After.{STEPS}
+use Rattle.uv_session.specs.Shown.{Shown}
+use Rattle.uv_engine.specs.declared.conversation.Ended.{Ended}
+use Rattle.uv_engine.specs.Talk.{TalksCut, TalksOn}
+use Rattle.uv_engine.proofs.Talking.{EveryLine, some_talk}
+use Rattle.uv_engine.proofs.Replies.{same_shown}
+use Rattle.uv_engine.specs.Input.{TakesLine, NoFeed, Buffered, pending, left}
+use Rattle.uv_engine.specs.Out.{Out, Begins, NeverBegins, End, Ends, BadScript, IsCut, Converses, IsDeviceFault, started, talks, here, here_at_end, later, nothing, last_line, one_line, bad_line, no_begin, bad_input}
+use Rattle.uv_engine.specs.Start.{HasScript, ReadsScript, MissesBegin, after_last, at_line, NoScript, IsStartFault, with_line}
 
 -- what was read goes on to the whole input: where the rest has a script its front is this text, and where the rest is
 -- never `begin` nor is the whole, which is this text and the rest
@@ -29,6 +41,16 @@ more_fed input text before line after h n e other = record {
   whole = h.whole ∙ ap (λ (xs : List ℕ). text ++ xs) (e ∙ sym (append_assoc line (10 ∷ []) after)) ∙ sym (append_assoc text (line ++ 10 ∷ []) after);
 }
 
+-- behind the last line nothing begins
+fed_line : (line rest : List ℕ) → line ++ 10 ∷ rest ≡ [] → ⊥
+fed_line [] rest e = cc e
+fed_line (b ∷ bs) rest e = cc e
+
+no_more : (after script commands : List ℕ) → after ≡ [] → Begins after script commands → ⊥
+no_more _ script commands e (here {commands = c}) = cc e
+no_more _ script commands e here_at_end = cc e
+no_more _ _ commands e (later {line = line} {rest = rest} n other k) = fed_line line rest e
+
 more_last : (input text before line after : List ℕ) → CanBegin input text before → NoFeed line → before ≡ line → after ≡ [] → line ≢ codes "begin" → CanBegin input (text ++ line) after
 more_last input text before line after h n e z other =
     let never_line : NeverBegins before = subst NeverBegins (sym e) (last_line n other) in record {
@@ -36,3 +58,191 @@ more_last input text before line after h n e z other =
       never = λ k. h.never never_line;
       whole = h.whole ∙ ap (λ (xs : List ℕ). text ++ xs) e ∙ ap (λ (xs : List ℕ). text ++ xs) (sym (append-nil line)) ∙ sym (append_assoc text line []) ∙ ap (λ (xs : List ℕ). (text ++ line) ++ xs) (sym z);
     }
+
+pub can_go_on : (input text before line after more : List ℕ) (fed : Bool) → CanBegin input text before → TakesLine before line fed after → line ≢ codes "begin" → more ≡ text ++ with_line line fed → CanBegin input more after
+can_go_on input text before line after more true h k other e = subst (λ (xs : List ℕ). CanBegin input xs after) (sym e) (more_fed input text before line after h k.0 k.1 other)
+can_go_on input text before line after more false h k other e = subst (λ (xs : List ℕ). CanBegin input xs after) (sym e) (more_last input text before line after h k.0 k.2 k.3 other)
+
+begins_here : (before line after : List ℕ) (fed : Bool) → TakesLine before line fed after → line ≡ codes "begin" → Begins before [] after
+begins_here before line after true k e = subst (λ (xs : List ℕ). Begins xs [] after) (sym (k.1 ∙ ap (λ (xs : List ℕ). xs ++ 10 ∷ after) e)) here
+begins_here before line after false k e = subst (λ (xs : List ℕ). Begins before [] xs) (sym k.3) (subst (λ (xs : List ℕ). Begins xs [] []) (sym (k.2 ∙ e)) here_at_end)
+
+parsed : (input text after : List ℕ) (r : Result Program Fault) → Begins input text after → Parses text r → ReadsScript input r after
+parsed input text after (Ok p) b h = record { script = text; begins = b; is = h }
+parsed input text after (Err (fault.Script line)) b h = bad_line text after b h
+parsed input text after (Err fault.Memory) b h = tt
+parsed input text after (Err (fault.Refused why)) b h = absurd h
+parsed input text after (Err fault.StepsFull) b h = absurd h
+parsed input text after (Err fault.Read) b h = absurd h
+parsed input text after (Err fault.Write) b h = absurd h
+parsed input text after (Err (fault.Torn at)) b h = absurd h
+parsed input text after (Err fault.Stalled) b h = absurd h
+parsed input text after (Err (fault.Differs at)) b h = absurd h
+parsed input text after (Err fault.Limit) b h = absurd h
+
+-- the line `begin` was read
+pub script_read : (input text before line after : List ℕ) (fed : Bool) (r : Result Program Fault) → CanBegin input text before → TakesLine before line fed after → line ≡ codes "begin" → Parses text r → ReadsScript input r after
+script_read input text before line after fed r h k e p =
+    parsed input text after r (subst (λ (xs : List ℕ). Begins input xs after) (append-nil text) (h.begins [] after (begins_here before line after fed k e))) p
+
+missing : (input text : List ℕ) (line : ℕ) → NeverBegins input → input ≡ text → MissesBegin text line → Out input [] (BadScript line)
+missing input text _ n e (after_last p h) = subst (λ (xs : List ℕ). Out input [] (BadScript (length (lines_of xs) + 1))) e (no_begin p n (subst (λ (xs : List ℕ). IsScript xs p) (sym e) h))
+missing input text line n e (at_line h) = bad_input n (subst (λ (xs : List ℕ). IsBadLine xs line) (sym e) h)
+
+-- the input is at its end
+pub script_missing : (input text before after : List ℕ) (f : Fault) → CanBegin input text before → before ≡ [] → NoScript text f → ReadsScript input (Err f) after
+script_missing input text before after (fault.Script line) h e m =
+    missing input text line (h.never (subst NeverBegins (sym e) nothing)) (h.whole ∙ ap (λ (xs : List ℕ). text ++ xs) e ∙ append-nil text) m
+script_missing input text before after fault.Memory h e m = tt
+script_missing input text before after (fault.Refused why) h e m = absurd m
+script_missing input text before after fault.StepsFull h e m = absurd m
+script_missing input text before after fault.Read h e m = absurd m
+script_missing input text before after fault.Write h e m = absurd m
+script_missing input text before after (fault.Torn at) h e m = absurd m
+script_missing input text before after fault.Stalled h e m = absurd m
+script_missing input text before after (fault.Differs at) h e m = absurd m
+script_missing input text before after fault.Limit h e m = absurd m
+
+-- what a parse may answer are faults of a start
+pub start_fault : (text : List ℕ) (f : Fault) → Parses text (Err f) → IsStartFault f
+start_fault text (fault.Script line) h = tt
+start_fault text fault.Memory h = tt
+start_fault text (fault.Refused why) h = absurd h
+start_fault text fault.StepsFull h = absurd h
+start_fault text fault.Read h = absurd h
+start_fault text fault.Write h = absurd h
+start_fault text (fault.Torn at) h = absurd h
+start_fault text fault.Stalled h = absurd h
+start_fault text (fault.Differs at) h = absurd h
+start_fault text fault.Limit h = absurd h
+
+-- a script that has no line `begin`
+pub no_script : (text : List ℕ) (p : Program) (f : Fault) → IsScript text p → f ≡ fault.Script (length (lines_of text) + 1) → NoScript text f
+no_script text p f h e = subst (NoScript text) (sym e) (after_last p h)
+
+pub no_script_fault : (text : List ℕ) (f : Fault) → Parses text (Err f) → NoScript text f
+no_script_fault text (fault.Script line) h = at_line h
+no_script_fault text fault.Memory h = tt
+no_script_fault text (fault.Refused why) h = absurd h
+no_script_fault text fault.StepsFull h = absurd h
+no_script_fault text fault.Read h = absurd h
+no_script_fault text fault.Write h = absurd h
+no_script_fault text (fault.Torn at) h = absurd h
+no_script_fault text fault.Stalled h = absurd h
+no_script_fault text (fault.Differs at) h = absurd h
+no_script_fault text fault.Limit h = absurd h
+
+-- ---- every input asks for something
+-- where an input begins, if it does
+data Starts (input : List ℕ) : Type 0 where
+  begun : (script commands : List ℕ) → Begins input script commands → Starts input
+  never : NeverBegins input → Starts input
+
+feed_step : (part : List ℕ) (b : ℕ) → NoFeed part → (b == 10) ≡ false → NoFeed (part ++ b ∷ [])
+feed_step part b n e = grind (arith, elements, n)
+
+ends_here : (part : List ℕ) → NoFeed part → Starts part
+ends_here part n = at (bytes_eq part (codes "begin")) refl where
+  at : (x : Bool) → bytes_eq part (codes "begin") ≡ x → Starts part
+  at true e = subst Starts (sym ((bytes_eq-Decides part (codes "begin")).0 e)) (begun [] [] here_at_end)
+  at false e = never (last_line n (λ h. both_ways _ e ((bytes_eq-Decides part (codes "begin")).1 h)))
+
+line_starts : (part rest : List ℕ) → NoFeed part → part ≢ codes "begin" → Starts rest → Starts (part ++ 10 ∷ rest)
+line_starts part rest n other (begun script commands b) = begun (part ++ 10 ∷ script) commands (later n other b)
+line_starts part rest n other (never k) = never (one_line n other k)
+
+line_here : (part rest : List ℕ) → NoFeed part → Starts rest → Starts (part ++ 10 ∷ rest)
+line_here part rest n h = at (bytes_eq part (codes "begin")) refl where
+  at : (x : Bool) → bytes_eq part (codes "begin") ≡ x → Starts (part ++ 10 ∷ rest)
+  at true e = subst (λ (xs : List ℕ). Starts (xs ++ 10 ∷ rest)) (sym ((bytes_eq-Decides part (codes "begin")).0 e)) (begun [] rest here)
+  at false e = line_starts part rest n (λ k. both_ways _ e ((bytes_eq-Decides part (codes "begin")).1 k)) h
+
+starts_from : (part bytes : List ℕ) → NoFeed part → Starts (part ++ bytes)
+starts_from part [] n = subst Starts (sym (append-nil part)) (ends_here part n)
+starts_from part (b ∷ bs) n = at (b == 10) refl (λ more k. starts_from more bs k) where
+  at : (x : Bool) → (b == 10) ≡ x → ((more : List ℕ) → NoFeed more → Starts (more ++ bs)) → Starts (part ++ b ∷ bs)
+  at true e on = subst (λ (c : ℕ). Starts (part ++ c ∷ bs)) (sym ((Decides-eqb b 10).0 e)) (line_here part bs n (on [] (λ k d l. absurd (omega arith))))
+  at false e on = subst Starts (append_assoc part (b ∷ []) bs) (on (part ++ b ∷ []) (feed_step part b n e))
+
+starts : (input : List ℕ) → Starts input
+starts input = starts_from [] input (λ k d l. absurd (omega arith))
+
+abbrev pub EveryText : Type 0
+EveryText = (text : List ℕ) → HasReading text
+
+-- something is written for every input
+record SomeOut (input : List ℕ) : Type 0 where
+  text : List ℕ
+  end : End
+  is : Out input text end
+
+of_begun : EveryText → EveryLine → (input script commands : List ℕ) → Begins input script commands → SomeOut input
+of_begun texts lines input script commands b = at (texts script) where
+  at : HasReading script → SomeOut input
+  at (inl r) = let some = some_talk lines (lines_of commands) (started r.0) in record { text = some.text; end = Ends some.end; is = talks script commands r.0 b r.1 some.is }
+  at (inr r) = record { text = []; end = BadScript r.0; is = bad_line script commands b r.1 }
+
+of_never : EveryText → (input : List ℕ) → NeverBegins input → SomeOut input
+of_never texts input n = at (texts input) where
+  at : HasReading input → SomeOut input
+  at (inl r) = record { text = []; end = BadScript (length (lines_of input) + 1); is = no_begin r.0 n r.1 }
+  at (inr r) = record { text = []; end = BadScript r.0; is = bad_input n r.1 }
+
+some_out : EveryText → EveryLine → (input : List ℕ) → SomeOut input
+some_out texts lines input = at (starts input) where
+  at : Starts input → SomeOut input
+  at (begun script commands b) = of_begun texts lines input script commands b
+  at (never n) = of_never texts input n
+
+-- ---- the whole
+-- nothing was written yet
+pub cut_start : EveryText → EveryLine → (input old : List ℕ) → IsCut input old old
+cut_start texts lines input old = let some = some_out texts lines input in record {
+  text = some.text;
+  end = some.end;
+  is = some.is;
+  cut = record { part = []; rest = some.text; whole = refl; written = sym (append-nil old) };
+}
+
+pub no_start : EveryText → EveryLine → (input rest old : List ℕ) (f : Fault) → IsStartFault f → ReadsScript input (Err f) rest → Converses input (Err f) old old
+no_start texts lines input rest old (fault.Script line) s h = (h, refl)
+no_start texts lines input rest old fault.Memory s h = cut_start texts lines input old
+no_start texts lines input rest old fault.Read s h = cut_start texts lines input old
+no_start texts lines input rest old (fault.Refused why) s h = absurd s
+no_start texts lines input rest old fault.StepsFull s h = absurd s
+no_start texts lines input rest old fault.Write s h = absurd s
+no_start texts lines input rest old (fault.Torn at) s h = absurd s
+no_start texts lines input rest old fault.Stalled s h = absurd s
+no_start texts lines input rest old (fault.Differs at) s h = absurd s
+no_start texts lines input rest old fault.Limit s h = absurd s
+
+-- there is no memory for the machine
+pub no_machine : EveryText → EveryLine → (input old : List ℕ) (f : Fault) → f ≡ fault.Memory → Converses input (Err f) old old
+no_machine texts lines input old f e = subst (λ (x : Fault). Converses input (Err x) old old) (sym e) (cut_start texts lines input old)
+
+talk_cut : (input : List ℕ) (p : Program) (commands old new : List ℕ) → HasScript input p commands → TalksCut (lines_of commands) (started p) old new → IsCut input old new
+talk_cut input p commands old new h t = record { text = t.text; end = Ends t.end; is = talks h.script commands p h.begins h.is t.is; cut = t.cut }
+
+-- the commands were answered
+pub talked : (input : List ℕ) (p : Program) (commands : List ℕ) (s : Shown) (old new : List ℕ) (r : Result Ended Fault) → HasScript input p commands → s ≡ started p → IfErr r IsDeviceFault → TalksOn (lines_of commands) s r old new → Converses input r old new
+talked input p commands s old new r h e d t = at r d (subst (λ (x : Shown). TalksOn (lines_of commands) x r old new) e t) where
+  at : (r : Result Ended Fault) → IfErr r IsDeviceFault → TalksOn (lines_of commands) (started p) r old new → Converses input r old new
+  at (Ok end) d t = record { text = t.text; is = talks h.script commands p h.begins h.is t.is; written = t.written }
+  at (Err fault.Memory) d t = talk_cut input p commands old new h t
+  at (Err fault.Read) d t = talk_cut input p commands old new h t
+  at (Err fault.Write) d t = talk_cut input p commands old new h t
+  at (Err (fault.Script line)) d t = absurd d
+  at (Err (fault.Refused why)) d t = absurd d
+  at (Err fault.StepsFull) d t = absurd d
+  at (Err (fault.Torn place)) d t = absurd d
+  at (Err fault.Stalled) d t = absurd d
+  at (Err (fault.Differs place)) d t = absurd d
+  at (Err fault.Limit) d t = absurd d
+
+-- the session of a machine that has begun
+pub begun_session : (s : Shown) (p q : Program) → s.program ≡ q → q ≡ p → s.limit ≡ STEPS → s.standing ≡ [] → s.taken_back ≡ [] → s ≡ started p
+begun_session s p q a b l x y = same_shown s (started p) (a ∙ b) l x y
+
+-- before anything was read the whole input is left
+pub reads_whole : (b : Buffered) (input rest : List ℕ) (r : Result Program Fault) → pending b ≡ [] → ReadsScript (left b input) r rest → ReadsScript input r rest
+reads_whole b input rest r e h = subst (λ (xs : List ℕ). ReadsScript xs r rest) (ap (λ (xs : List ℕ). xs ++ input) e) h

@@ -10,8 +10,8 @@ use Rattle.uv_text.specs.Commands.{Asks}
 use Rattle.uv_text.specs.Reading.{asked_of}
 use Rattle.uv_script.specs.Lines.{lines_of}
 use Rattle.uv_engine.specs.Input.{TakesLine, NoFeed}
-use Rattle.uv_engine.specs.declared.converse.Ended.{Ended}
-use Rattle.uv_engine.specs.declared.converse.Ended.TheVariants as ended
+use Rattle.uv_engine.specs.declared.conversation.Ended.{Ended}
+use Rattle.uv_engine.specs.declared.conversation.Ended.TheVariants as ended
 use Rattle.std.proofs.lemmas.List.{append_cancel_left}
 use Rattle.uv_engine.specs.Sink.{CutShort}
 use Rattle.uv_engine.specs.Gather.{Grown, CutOff, Gathers, GathersOne}

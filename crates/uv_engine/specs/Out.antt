@@ -13,8 +13,8 @@ use Rattle.uv_text.specs.declared.command.Command.TheVariants.{Loop, Tick, Back,
 use Rattle.uv_text.specs.declared.command.Asked.{Asked}
 use Rattle.uv_text.specs.declared.command.Asked.TheVariants.{Nothing, Do, Bad}
 use Rattle.uv_text.specs.Commands.{Asks}
-use Rattle.uv_engine.specs.declared.converse.Ended.{Ended}
-use Rattle.uv_engine.specs.declared.converse.Ended.TheVariants as ended
+use Rattle.uv_engine.specs.declared.conversation.Ended.{Ended}
+use Rattle.uv_engine.specs.declared.conversation.Ended.TheVariants as ended
 use Rattle.uv_engine.specs.Input.{NoFeed}
 use Rattle.uv_engine.specs.Sink.{CutShort}
 use Rattle.uv_engine.specs.Reply.{reply, reply_text, reply_after, loop_text, loop_after, back_text, back_after, trace_text}

@@ -2,7 +2,7 @@
 use Rattle.std.specs.Prelude.{◌≡◌, ℕ, List, ◌++◌, Result, Ok, Err}
 use Rattle.uv_ids.specs.declared.fault.Fault.{Fault}
 use Rattle.uv_session.specs.Shown.{Shown}
-use Rattle.uv_engine.specs.declared.converse.Ended.{Ended}
+use Rattle.uv_engine.specs.declared.conversation.Ended.{Ended}
 use Rattle.uv_engine.specs.Sink.{CutShort}
 use Rattle.uv_engine.specs.Out.{Talks}
 

@@ -55,7 +55,8 @@ fn push_all(ahead: &mut VecDeque<u8>, bytes: &[u8]) -> Result<(), AllocError>
 impl Input {
     /// Nothing was read yet.
     pub fn new(alloc: Global) -> Input
-        ensures { pending result ≡ [] }
+        ensures empty { pending result ≡ [] }
+        ensures open { result.ended ≡ false }
     {
         Input {
             alloc,

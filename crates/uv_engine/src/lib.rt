@@ -2,12 +2,12 @@
 #![tactic(auto)]
 
 mod answer;
-mod converse;
+mod conversation;
 mod input;
 mod script;
 mod sink;
 mod source;
 
-pub use converse::Ended;
+pub use conversation::{Ended, converse};
 pub use sink::{Sink, WriteFailed};
 pub use source::{ReadFailed, Source};

@@ -1,5 +1,6 @@
 //! The script in front of a conversation.
-ghost use Rattle.std.specs.Prelude.{◌≡◌, ◌≢◌, ◌++◌, [], ◌∷◌, IfOk, IfErr, OnOk, true, false, codes};
+ghost use Rattle.std.specs.Prelude.{◌≡◌, ◌≢◌, ◌++◌, [], ◌∷◌, IfOk, IfErr, OnOk, true, false, codes, length, ◌+◌};
+ghost use Rattle.uv_script.specs.Lines.{lines_of};
 ghost use Rattle.uv_engine.specs.Input.{left, EndIsSeen};
 ghost use Rattle.uv_engine.specs.Start.{ReadsScript, NoScript, IsStartFault, with_line};
 
@@ -7,7 +8,7 @@ use crate::input::{Input, Line};
 use crate::source::Source;
 use std::alloc::{AllocError, Global};
 use uv_ids::Fault;
-use uv_script::{Lines, Script};
+use uv_script::{Script, line_count};
 
 /// Reads the script: the lines before the line `begin`.
 pub fn read_script<R: Source>(
@@ -29,8 +30,9 @@ pub fn read_script<R: Source>(
                 if is_begin(&line) {
                     return Script::parse(alloc, text.as_slice());
                 }
-                if push_line(&mut text, &line).is_err() {
-                    return Err(Fault::Memory);
+                match push_line(&mut text, &line) {
+                    Ok(()) => {}
+                    Err(AllocError) => return Err(Fault::Memory),
                 }
             }
         }
@@ -60,9 +62,16 @@ fn without_begin(alloc: Global, text: &[u8]) -> Fault
     ensures { NoScript text.now result }
 {
     match Script::parse(alloc, text) {
-        Ok(_) => Fault::Script {
-            line: Lines::of(text).count() + 1,
-        },
-        Err(fault) => fault,
+        Ok(_) => {}
+        Err(fault) => return fault,
+    }
+    after_last_line(text)
+}
+
+fn after_last_line(text: &[u8]) -> Fault
+    ensures { result ≡ Fault.Script (length (lines_of text.now) + 1) }
+{
+    Fault::Script {
+        line: line_count(text) + 1,
     }
 }

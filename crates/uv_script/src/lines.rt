@@ -1,5 +1,5 @@
 //! A text as lines, and a line as fields.
-ghost use Rattle.std.specs.Prelude.{◌≡◌, ◌==◌, ◌↔◌, false, All, IfNone, IfSome, IsTrue};
+ghost use Rattle.std.specs.Prelude.{◌≡◌, ◌==◌, ◌↔◌, false, All, IfNone, IfSome, IsTrue, length, ◌≤◌};
 ghost use Rattle.std.specs.Iterator.{YieldsFirstRef, item_count};
 ghost use Rattle.uv_script.specs.Lines.{lines_of, fields_of, IsLine, IsCut};
 ghost use Rattle.uv_script.specs.Checks.{is_printable, is_line};
@@ -64,6 +64,15 @@ impl<'a> Iterator for Lines<'a> {
             }
         }
     }
+}
+
+/// How many lines a text has.
+#[tactic(auto, using(crate::proofs::AfterLines::lines_few))]
+pub fn line_count(text: &[u8]) -> usize
+    ensures count { result ≡ length (lines_of text.now) }
+    ensures few { result ≤ length text.now }
+{
+    Lines::of(text).count()
 }
 
 fn is_printable(byte: u8) -> bool

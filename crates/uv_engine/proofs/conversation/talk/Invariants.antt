@@ -2,7 +2,7 @@ use Rattle.std.proofs.Common.{◌≡◌}
 use Rattle.uv_script.specs.Lines.{lines_of}
 use Rattle.uv_engine.specs.Input.{left, size, EndIsSeen}
 use Rattle.uv_engine.proofs.Talking.{CanTalkOn}
-use Rattle.uv_engine.proofs.converse.talk.Given as goal
+use Rattle.uv_engine.proofs.conversation.talk.Given as goal
 
 -- any answers to the lines that are left make answers to all
 abbrev pub invariant-lines : goal.invariant-lines

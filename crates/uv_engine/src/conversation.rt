@@ -3,16 +3,18 @@ ghost use Rattle.std.specs.Prelude.{◌≡◌, ◌++◌, [], IfOk, IfErr, ◌≢
 ghost use Rattle.uv_script.specs.Lines.{lines_of};
 ghost use Rattle.uv_engine.specs.Input.{left, EndIsSeen};
 ghost use Rattle.uv_engine.specs.Gather.{Gathers};
-ghost use Rattle.uv_engine.specs.Out.{IsDeviceFault};
+ghost use Rattle.uv_engine.specs.Out.{Converses, IsDeviceFault};
 ghost use Rattle.uv_engine.specs.Talk.{TalksOn, Finishes};
 
 use crate::answer::answer;
 use crate::input::Input;
+use crate::script::read_script;
 use crate::sink::{Sink, write_out};
 use crate::source::Source;
 use std::alloc::Global;
 use uv_ids::Fault;
 use uv_model::Machine;
+use uv_script::one_reading;
 use uv_session::Session;
 use uv_text::{Asked, Command, every_line_asks, read_command};
 
@@ -96,4 +98,32 @@ fn finish<W: Sink>(writer: &mut W, text: &mut Vec<u8>, ended: Ended) -> Result<E
         Ok(()) => Ok(ended),
         Err(fault) => Err(fault),
     }
+}
+
+/// Reads a script up to the line `begin`, and then answers the commands that follow it, a line at a time. The answers to the
+/// lines that were read are written before more is read.
+///
+/// `Script` names the first line outside the grammar of scripts, and nothing is written then. `Read` comes where the reader
+/// fails or the input is longer than 2^30 bytes, `Write` where the writer fails or takes no byte. What follows `quit` may
+/// have been read.
+pub fn converse<M: Machine, R: Source, W: Sink>(
+    alloc: Global,
+    reader: &mut R,
+    writer: &mut W,
+) -> Result<Ended, Fault>
+    ensures { R.Tells → W.Tells → Converses (R.remaining reader.old) result (W.written writer.old) (W.written writer.new) }
+{
+    one_reading();
+    every_line_asks();
+    let mut input = Input::new(alloc);
+    let script = match read_script(alloc, &mut input, reader) {
+        Ok(script) => script,
+        Err(fault) => return Err(fault),
+    };
+    let machine = match M::begin(alloc, script) {
+        Ok(machine) => machine,
+        Err(fault) => return Err(fault),
+    };
+    let mut session = Session::new(alloc, machine, STEPS);
+    talk(alloc, &mut session, &mut input, reader, writer)
 }

@@ -3,7 +3,7 @@ use Rattle.uv_script.specs.Lines.{lines_of}
 use Rattle.uv_text.specs.declared.command.Asked.{Asked}
 use Rattle.uv_text.specs.Commands.{Asks}
 use Rattle.uv_engine.proofs.Talking.{can_write, can_answer, can_next, cut_waiting, cut_writing, cut_answer, talk_ends, talk_quits}
-use Rattle.uv_engine.proofs.converse.talk.Goals as goal
+use Rattle.uv_engine.proofs.conversation.talk.Goals as goal
 
 pub returns-in-Err-clause-text : goal.returns-in-Err-clause-text
 returns-in-Err-clause-text g c = λ reads tells. cut_writing c.every_line_asks.ensures _ _ _ _ _ _ _ _ (c.lines.invariant.text reads tells) (c.in-Err.ensures.text tells)
