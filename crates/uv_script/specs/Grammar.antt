@@ -1,5 +1,5 @@
 -- The grammar of scripts: which lines make which script.
-use Rattle.std.specs.Prelude.{◌≡◌, ℕ, ◌+◌, ◌<◌, ◌≤◌, ◌^◌, List, [], ◌∷◌, ◌++◌, length, take, sum_by, Contains, Option, Some, None, Result, Ok, Err, slice_get, slice_set, codes}
+use Rattle.std.specs.Prelude.{◌≡◌, ℕ, ◌+◌, ◌<◌, ◌≤◌, ◌^◌, List, [], ◌∷◌, ◌++◌, length, Contains, Some, None, Result, Ok, Err, slice_set, codes}
 use Rattle.uv_ids.specs.declared.id.Var.{Var}
 use Rattle.uv_ids.specs.declared.phase.Kind.{Kind}
 use Rattle.uv_ids.specs.declared.phase.Mode.{Mode}
@@ -12,7 +12,7 @@ use Rattle.uv_script.specs.declared.op.MainOp.{MainOp}
 use Rattle.uv_script.specs.declared.op.MainOp.TheVariants as main
 use Rattle.uv_script.specs.declared.op.CallbackLine.{CallbackLine}
 use Rattle.uv_script.specs.Lines.{lines_of, fields_of, IsLine, IsSkipped}
-use Rattle.uv_script.specs.Program.{Program, on_lines}
+use Rattle.uv_script.specs.Program.{Program, on_lines, line_count}
 use Rattle.uv_script.specs.Words.{IsName, IsNumber, IsDeclared}
 
 -- what a line says
@@ -38,10 +38,6 @@ pub data Says (names : List (List ℕ)) (fields : List (List ℕ)) : Statement �
   in_callback : (name : List ℕ) (v : Var) (rest : List (List ℕ)) (op : Op) → fields ≡ codes "on" ∷ name ∷ rest → IsDeclared names name v → IsOp names rest op → Says names fields (InCallback v (record { call = None; op = op }))
   -- with `@k` the op is done in the k-th call only
   in_call : (name : List ℕ) (v : Var) (number : List ℕ) (k : ℕ) (rest : List (List ℕ)) (op : Op) → fields ≡ codes "on" ∷ name ∷ (64 ∷ number) ∷ rest → IsDeclared names name v → IsNumber number k → 1 ≤ k → k < 2 ^ 32 → IsOp names rest op → Says names fields (InCallback v (record { call = Some k; op = op }))
-
--- the lines that count: all but empty ones and comments
-abbrev pub line_count : Program → ℕ
-line_count p = length p.names + length p.main + sum_by length p.on
 
 -- there is room for one more line, and for one more name
 abbrev pub HasRoom : Program → Statement → Type 0

@@ -1,4 +1,11 @@
 pub mod Program
 pub mod Lines
+pub mod Fields
 pub mod Words
+pub mod Checks
+pub mod Names
 pub mod Grammar
+pub mod Laws
+pub mod Text
+pub mod Reading
+pub mod Said

@@ -1,5 +1,5 @@
 -- A script, as its parts.
-use Rattle.std.specs.Prelude.{ℕ, List, [], Option, Some, None, slice_get}
+use Rattle.std.specs.Prelude.{◌≡◌, ℕ, ◌+◌, ◌≤◌, List, [], Option, Some, None, slice_get, length, sum_by}
 use Rattle.uv_ids.specs.declared.id.Var.{Var}
 use Rattle.uv_script.specs.declared.op.MainOp.{MainOp}
 use Rattle.uv_script.specs.declared.op.CallbackLine.{CallbackLine}
@@ -19,3 +19,17 @@ lines_or_none None = []
 -- the lines of a name's handle callback
 abbrev pub on_lines : Program → Var → List CallbackLine
 on_lines p v = lines_or_none (slice_get p.on v.0)
+
+-- the lines that count: all but empty ones and comments
+abbrev pub line_count : Program → ℕ
+line_count p = length p.names + length p.main + sum_by length p.on
+
+-- what every script meets, beside what its names do: each name has a callback, and there are at most 65535 lines
+pub record IsWhole (p : Program) : Type 0 where
+  pub callbacks : length p.on ≡ length p.names
+  pub few : line_count p ≤ 65535
+
+-- the script is whole, and this many of its lines count
+pub record IsCounted (lines : ℕ) (p : Program) : Type 0 where
+  pub whole : IsWhole p
+  pub counted : lines ≡ line_count p

@@ -1,5 +1,5 @@
 -- The fields of a line: names and numbers.
-use Rattle.std.specs.Prelude.{◌≡◌, ℕ, ◌<◌, ◌≤◌, ◌^◌, ◌⊎◌, List, [], ◌∷◌, length, All, Some, slice_get, decimal}
+use Rattle.std.specs.Prelude.{◌≡◌, ℕ, ◌<◌, ◌≤◌, ◌^◌, ◌⊎◌, List, ◌∷◌, length, All, Some, slice_get, decimal}
 use Rattle.uv_ids.specs.declared.id.Var.{Var}
 
 -- a byte from `a` to `z`

@@ -1,10 +1,22 @@
 //! Scripts: what a person writes to say which handles there are, what the main program does, and what the callbacks do.
 #![tactic(auto)]
 
+mod lines;
 mod names;
 mod op;
+mod parse;
 mod script;
+mod statement;
+mod text;
+mod words;
 
+pub use lines::{Fields, Lines, is_line};
 pub use names::Names;
 pub use op::{CallbackLine, MainOp, Op};
+pub use parse::one_reading;
 pub use script::Script;
+pub use text::push_number;
+pub use words::{is_name, number};
+
+#[cfg(test)]
+mod tests;

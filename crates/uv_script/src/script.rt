@@ -1,9 +1,14 @@
 //! A script's parts.
-ghost use Rattle.std.specs.Prelude.{◌≡◌, slice_get, length};
-ghost use Rattle.uv_script.specs.Program.{on_lines};
+ghost use Rattle.std.specs.Prelude.{◌≡◌, slice_get, length, OnOk};
+ghost use Rattle.uv_script.specs.Grammar.{Declares, InMain, InCallback, HasRoom, with_statement, blank};
+ghost use Rattle.uv_script.specs.Reading.{has_room, IsSound};
+ghost use Rattle.uv_script.specs.Said.{said};
+ghost use Rattle.uv_script.specs.Program.{on_lines, IsWhole};
 
 use crate::names::Names;
 use crate::op::{CallbackLine, MainOp};
+use crate::statement::Statement;
+use std::alloc::{AllocError, Global};
 use std::marker::Model;
 use uv_ids::Var;
 
@@ -13,11 +18,17 @@ pub struct Script {
     names: Names,
     main: Vec<MainOp>,
     on: Vec<Vec<CallbackLine>>,
+    /// How many lines count: all but empty ones and comments.
+    lines: usize,
 }
+
+const MAX_LINES: usize = 65_535;
+
+const MAX_NAMES: usize = 4096;
 
 impl Model for Script {
     ghost use Rattle.std.specs.Prelude.{map};
-    ghost use Rattle.uv_script.specs.Program.{Program};
+    ghost use Rattle.uv_script.specs.Program.{Program, IsCounted};
 
     ghost Value = { Program };
 
@@ -26,12 +37,87 @@ impl Model for Script {
       main = script.main.items;
       on = map (λ lines. lines.items) script.on.items;
     } };
+
+    ghost invariant = { λ script. IsCounted script.lines (record {
+      names = script.names;
+      main = script.main.items;
+      on = map (λ lines. lines.items) script.on.items;
+    }) };
 }
 
 impl Script {
+    /// The script of no line.
+    pub(crate) fn blank(alloc: Global) -> Script
+        ensures { result ≡ blank }
+    {
+        Script {
+            names: Names::new(alloc),
+            main: Vec::new(alloc),
+            on: Vec::new(alloc),
+            lines: 0,
+        }
+    }
+
+    /// Whether there is room for one more line, and for one more name.
+    pub(crate) fn has_room(&self, statement: &Statement<'_>) -> bool
+        ensures { result ≡ has_room self.now (said statement.now) }
+    {
+        match statement {
+            Statement::Declares(_) => self.lines < MAX_LINES && self.names.len() < MAX_NAMES,
+            Statement::InMain(_) => self.lines < MAX_LINES,
+            Statement::InCallback(_, _) => self.lines < MAX_LINES,
+        }
+    }
+
+    /// Adds what one more line says.
+    pub(crate) fn add(&mut self, alloc: Global, statement: Statement<'_>) -> Result<(), AllocError>
+        requires room { HasRoom self.old (said statement) }
+        requires sound { IsSound self.old (said statement) }
+        ensures { OnOk result (self.new ≡ with_statement self.old (said statement.entry)) }
+    {
+        match statement {
+            Statement::Declares(name) => self.declare(alloc, name),
+            Statement::InMain(op) => self.push_main(op),
+            Statement::InCallback(name, line) => self.push_callback(name, line),
+        }
+    }
+
+    fn declare(&mut self, alloc: Global, name: &[u8]) -> Result<(), AllocError>
+        requires room { HasRoom self.old (Declares name.now) }
+        requires sound { IsSound self.old (Declares name.now) }
+        ensures { OnOk result (self.new ≡ with_statement self.old (Declares name.now)) }
+    {
+        self.on.reserve(1)?;
+        self.names.declare(alloc, name)?;
+        self.on.push_reserved(Vec::new(alloc));
+        self.lines += 1;
+        Ok(())
+    }
+
+    fn push_main(&mut self, op: MainOp) -> Result<(), AllocError>
+        requires { HasRoom self.old (InMain op) }
+        ensures { OnOk result (self.new ≡ with_statement self.old (InMain op)) }
+    {
+        self.main.push(op)?;
+        self.lines += 1;
+        Ok(())
+    }
+
+    fn push_callback(&mut self, name: Var, line: CallbackLine) -> Result<(), AllocError>
+        requires room { HasRoom self.old (InCallback name line) }
+        requires sound { IsSound self.old (InCallback name line) }
+        ensures { OnOk result (self.new ≡ with_statement self.old (InCallback name line)) }
+    {
+        let lines = &mut self.on[name.0 as usize];
+        lines.push(line)?;
+        self.lines += 1;
+        Ok(())
+    }
+
     /// The declared names.
     pub fn names(&self) -> &Names
-        ensures { result.now ≡ self.now.names }
+        ensures names { result.now ≡ self.now.names }
+        ensures whole { IsWhole self.now }
     {
         &self.names
     }

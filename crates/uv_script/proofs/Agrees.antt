@@ -1,0 +1,330 @@
+-- The reader's functions agree with the grammar.
+use Rattle.std.proofs.Common.{◌≡◌, ◌≢◌, inl, inr, ℕ, ◌<◌, ◌≤◌, ◌^◌, true, false, ◌&&◌, ◌==◌, cond, nat_le, nat_lt, List, [], ◌∷◌, Option, Some, None, slice_get, option_map, Contains, refl, ap, sym, subst, ◌∙◌}
+use Rattle.std.specs.Prelude.{codes, is_none, option_and_then}
+use Rattle.std.specs.List.{AllPairs}
+use Rattle.std.specs.Str.{bytes_eq}
+use Rattle.std.proofs.lemmas.Bool.{cases_order, and_parts, and_from, eqb-true, ltb-true, lt-ltb, leb-true, le-leb}
+use Rattle.std.proofs.lemmas.Option.{same_Some, cond_some, slice_get_within, get_or_from_slice_get}
+use Rattle.uv_ids.specs.declared.id.Var.{Var}
+use Rattle.uv_ids.specs.declared.phase.Mode.{Mode}
+use Rattle.uv_ids.specs.Words.{kind_word, mode_word}
+use Rattle.uv_script.specs.declared.op.Op.{Op}
+use Rattle.uv_script.specs.declared.op.MainOp.TheVariants as main
+use Rattle.uv_script.specs.Grammar.{Statement, Declares, InMain, InCallback, IsOp, init, start, stop, Says, declares, in_main, runs, in_callback, in_call}
+use Rattle.uv_script.specs.Reading.{first_of, none_left, place_of, kind_of, mode_of, init_of, start_of, stop_of, op_of, declaration_of, run_of, main_of, call_of, marked, in_calls_of, in_call_of, calls_of, callback_of, statement_of}
+use Rattle.uv_script.specs.Checks.{is_name, number_of}
+use Rattle.uv_script.specs.Words.{IsName, IsNumber, IsDeclared}
+use Rattle.uv_script.proofs.KindWords.{kind_of-some, kind_of-sound, mode_of-some, mode_of-sound, choice_cases}
+use Rattle.uv_script.proofs.Places.{place_of-sound, place_of-finds}
+use Rattle.uv_script.proofs.Checks.{is_name_decides, number_of-sound, number_of-complete}
+
+-- a step of a reader that went well
+pub bound : {A B : Type 0} (f : A → Option B) (o : Option A) (y : B) → option_and_then f o ≡ Some y → (x : A) × (o ≡ Some x) × (f x ≡ Some y)
+bound f None y e = cc
+bound f (Some x) y e = (x, refl, e)
+
+first_is : (fields : List (List ℕ)) (x : List ℕ × List (List ℕ)) → first_of fields ≡ Some x → fields ≡ x.0 ∷ x.1
+first_is [] x e = cc
+first_is (field ∷ fields) x e = let p = same_Some _ _ e in ap (λ (q : List ℕ × List (List ℕ)). q.0 ∷ q.1) p
+
+none_is : (fields : List (List ℕ)) (u : Unit {0}) → none_left fields ≡ Some u → fields ≡ []
+none_is [] u e = refl
+none_is (field ∷ fields) u e = cc
+
+mapped : {A B : Type 0} (f : A → B) (o : Option A) (y : B) → option_map f o ≡ Some y → (x : A) × (o ≡ Some x) × (f x ≡ y)
+mapped f None y e = cc
+mapped f (Some x) y e = (x, refl, same_Some _ _ e)
+
+init_sound : (names fields : List (List ℕ)) (o : Op) → init_of names fields ≡ Some o → IsOp names (codes "init" ∷ fields) o
+unfolding init_of
+init_sound names fields o e =
+    let name = bound _ (first_of fields) o e in
+    let v = bound _ (place_of names name.0.0) o name.2 in
+    let word = bound _ (first_of name.0.1) o v.2 in
+    let kind = bound _ (kind_of word.0.0) o word.2 in
+    let end = bound _ (none_left word.0.1) o kind.2 in
+    let a = first_is fields name.0 name.1 in
+    let b = first_is name.0.1 word.0 word.1 in
+    let k = kind_of-sound word.0.0 kind.0 kind.1 in
+    let z = none_is word.0.1 end.0 end.1 in
+    subst (IsOp names (codes "init" ∷ fields)) (same_Some _ _ end.2)
+    (init name.0.0 v.0 kind.0 (ap (λ r. codes "init" ∷ r) (a ∙ ap (λ r. name.0.0 ∷ r) (b ∙ ap (λ w. w ∷ word.0.1) k ∙ ap (λ r. kind_word kind.0 ∷ r) z)))
+    (place_of-sound names name.0.0 v.0 v.1))
+
+start_sound : (names fields : List (List ℕ)) (o : Op) → start_of names fields ≡ Some o → IsOp names (codes "start" ∷ fields) o
+unfolding start_of
+start_sound names fields o e =
+    let name = bound _ (first_of fields) o e in
+    let v = bound _ (place_of names name.0.0) o name.2 in
+    let timeout = bound _ (first_of name.0.1) o v.2 in
+    let t = bound _ (number_of timeout.0.0) o timeout.2 in
+    let repeat = bound _ (first_of timeout.0.1) o t.2 in
+    let r = bound _ (number_of repeat.0.0) o repeat.2 in
+    let end = bound _ (none_left repeat.0.1) o r.2 in
+    let a = first_is fields name.0 name.1 in
+    let b = first_is name.0.1 timeout.0 timeout.1 in
+    let d = first_is timeout.0.1 repeat.0 repeat.1 in
+    let z = none_is repeat.0.1 end.0 end.1 in
+    subst (IsOp names (codes "start" ∷ fields)) (same_Some _ _ end.2)
+    (start name.0.0 v.0 timeout.0.0 repeat.0.0 t.0 r.0
+    (ap (λ s. codes "start" ∷ s) (a ∙ ap (λ s. name.0.0 ∷ s) (b ∙ ap (λ s. timeout.0.0 ∷ s) (d ∙ ap (λ s. repeat.0.0 ∷ s) z))))
+    (place_of-sound names name.0.0 v.0 v.1) (number_of-sound timeout.0.0 t.0 t.1) (number_of-sound repeat.0.0 r.0 r.1))
+
+stop_sound : (names fields : List (List ℕ)) (o : Op) → stop_of names fields ≡ Some o → IsOp names (codes "stop" ∷ fields) o
+unfolding stop_of
+stop_sound names fields o e =
+    let name = bound _ (first_of fields) o e in
+    let v = bound _ (place_of names name.0.0) o name.2 in
+    let end = bound _ (none_left name.0.1) o v.2 in
+    let a = first_is fields name.0 name.1 in
+    let z = none_is name.0.1 end.0 end.1 in
+    subst (IsOp names (codes "stop" ∷ fields)) (same_Some _ _ end.2)
+    (stop name.0.0 v.0 (ap (λ s. codes "stop" ∷ s) (a ∙ ap (λ s. name.0.0 ∷ s) z)) (place_of-sound names name.0.0 v.0 v.1))
+
+-- the fact of an op, by its word
+op_word : (names : List (List ℕ)) (this word : List ℕ) (fields : List (List ℕ)) (o : Op) → word ≡ this → IsOp names (this ∷ fields) o → IsOp names (word ∷ fields) o
+op_word names this word fields o e is = subst (λ (w : List ℕ). IsOp names (w ∷ fields) o) (sym e) is
+
+op_sound : (names : List (List ℕ)) (word : List ℕ) (fields : List (List ℕ)) (o : Op) → op_of names word fields ≡ Some o → IsOp names (word ∷ fields) o
+unfolding op_of
+op_sound names word fields o e =
+    elim (choice_cases word (codes "init") _ _ (Some o) e) [
+      | inl a ↦ op_word names (codes "init") word fields o a.0 (init_sound names fields o a.1)
+      | inr e' ↦ elim (choice_cases word (codes "start") _ _ (Some o) e') [
+        | inl a ↦ op_word names (codes "start") word fields o a.0 (start_sound names fields o a.1)
+        | inr e'' ↦ elim (choice_cases word (codes "stop") _ _ (Some o) e'') [
+          | inl a ↦ op_word names (codes "stop") word fields o a.0 (stop_sound names fields o a.1)
+          | inr wrong ↦ cc
+        ]
+      ]
+    ]
+
+declaration_sound : (names fields : List (List ℕ)) (s : Statement) → declaration_of names fields ≡ Some s → Says names (codes "var" ∷ fields) s
+unfolding declaration_of
+declaration_sound names fields s e =
+    let name = bound _ (first_of fields) s e in
+    let end = bound _ (none_left name.0.1) s name.2 in
+    let a = first_is fields name.0 name.1 in
+    let z = none_is name.0.1 end.0 end.1 in
+    let is = cond_some (is_name name.0.0 && is_none (place_of names name.0.0)) (Declares name.0.0) s end.2 in
+    let tests = and_parts (is_name name.0.0) (is_none (place_of names name.0.0)) is.0 in
+    subst (Says names (codes "var" ∷ fields)) is.1
+    (declares name.0.0 (ap (λ r. codes "var" ∷ r) (a ∙ ap (λ r. name.0.0 ∷ r) z))
+    ((is_name_decides name.0.0).0 tests.0)
+    (place_of-finds names name.0.0 (no_place (place_of names name.0.0) tests.1)))
+  where
+    no_place : (o : Option Var) → is_none o ≡ true → o ≡ None
+    no_place None h = refl
+    no_place (Some v) h = cc
+
+run_sound : (names fields : List (List ℕ)) (s : Statement) → run_of fields ≡ Some s → Says names (codes "main" ∷ codes "run" ∷ fields) s
+unfolding run_of
+run_sound names fields s e =
+    let word = bound _ (first_of fields) s e in
+    let m = bound _ (mode_of word.0.0) s word.2 in
+    let end = bound _ (none_left word.0.1) s m.2 in
+    let a = first_is fields word.0 word.1 in
+    let z = none_is word.0.1 end.0 end.1 in
+    let w = mode_of-sound word.0.0 m.0 m.1 in
+    subst (Says names (codes "main" ∷ codes "run" ∷ fields)) (same_Some _ _ end.2)
+    (runs m.0 (ap (λ r. codes "main" ∷ codes "run" ∷ r) (a ∙ ap (λ r. word.0.0 ∷ r) z ∙ ap (λ v. v ∷ []) w)))
+
+main_sound : (names fields : List (List ℕ)) (s : Statement) → main_of names fields ≡ Some s → Says names (codes "main" ∷ fields) s
+unfolding main_of
+main_sound names fields s e =
+    let word = bound _ (first_of fields) s e in
+    let a = first_is fields word.0 word.1 in
+    subst (λ (r : List (List ℕ)). Says names (codes "main" ∷ r) s) (sym a)
+    (elim (choice_cases word.0.0 (codes "run") _ _ (Some s) word.2) [
+      | inl is ↦ subst (λ (w : List ℕ). Says names (codes "main" ∷ w ∷ word.0.1) s) (sym is.0) (run_sound names word.0.1 s is.1)
+      | inr e' ↦
+          let o = mapped (λ (o : Op). InMain (main.Op o)) (op_of names word.0.0 word.0.1) s e' in
+          subst (Says names (codes "main" ∷ word.0.0 ∷ word.0.1)) o.2
+          (in_main (word.0.0 ∷ word.0.1) o.0 refl (op_sound names word.0.0 word.0.1 o.0 o.1))
+    ])
+
+pub record IsCall (digits : List ℕ) (k : ℕ) : Type 0 where
+  pub number : IsNumber digits k
+  pub first : 1 ≤ k
+  pub last : k < 2 ^ 32
+
+call_sound : (digits : List ℕ) (k : ℕ) → call_of digits ≡ Some k → IsCall digits k
+unfolding call_of
+call_sound digits k e =
+    let n = bound _ (number_of digits) k e in
+    let is = cond_some (nat_le 1 n.0 && nat_lt n.0 4294967296) n.0 k n.2 in
+    let tests = and_parts (nat_le 1 n.0) (nat_lt n.0 4294967296) is.0 in
+    subst (IsCall digits) is.1 (record {
+      number = number_of-sound digits n.0 n.1;
+      first = leb-true 1 n.0 tests.0;
+      last = ltb-true n.0 4294967296 tests.1;
+    })
+
+marked_is : (field digits : List ℕ) → marked field ≡ Some digits → field ≡ 64 ∷ digits
+marked_is [] digits e = cc
+marked_is (b ∷ bs) digits e =
+    let is = cond_some (b == 64) bs digits e in
+    ap (λ c. c ∷ bs) (eqb-true b 64 is.0) ∙ ap (λ r. 64 ∷ r) is.1
+
+in_calls_sound : (names : List (List ℕ)) (name : List ℕ) (v : Var) (word : List ℕ) (fields : List (List ℕ)) (s : Statement) → IsDeclared names name v → in_calls_of names v None word fields ≡ Some s → Says names (codes "on" ∷ name ∷ word ∷ fields) s
+unfolding in_calls_of
+in_calls_sound names name v word fields s is e =
+    let o = mapped (λ (o : Op). InCallback v (record { call = None; op = o })) (op_of names word fields) s e in
+    subst (Says names (codes "on" ∷ name ∷ word ∷ fields)) o.2
+    (in_callback name v (word ∷ fields) o.0 refl is (op_sound names word fields o.0 o.1))
+
+in_call_sound : (names : List (List ℕ)) (name : List ℕ) (v : Var) (digits : List ℕ) (fields : List (List ℕ)) (s : Statement) → IsDeclared names name v → in_call_of names v digits fields ≡ Some s → Says names (codes "on" ∷ name ∷ (64 ∷ digits) ∷ fields) s
+unfolding in_call_of in_calls_of
+in_call_sound names name v digits fields s is e =
+    let k = bound _ (call_of digits) s e in
+    let word = bound _ (first_of fields) s k.2 in
+    let a = first_is fields word.0 word.1 in
+    let o = mapped (λ (o : Op). InCallback v (record { call = Some k.0; op = o })) (op_of names word.0.0 word.0.1) s word.2 in
+    let call = call_sound digits k.0 k.1 in
+    subst (λ (r : List (List ℕ)). Says names (codes "on" ∷ name ∷ (64 ∷ digits) ∷ r) s) (sym a)
+    (subst (Says names (codes "on" ∷ name ∷ (64 ∷ digits) ∷ word.0.0 ∷ word.0.1)) o.2
+    (in_call name v digits k.0 (word.0.0 ∷ word.0.1) o.0 refl is call.number call.first call.last
+    (op_sound names word.0.0 word.0.1 o.0 o.1)))
+
+calls_sound : (names : List (List ℕ)) (name : List ℕ) (v : Var) (word : List ℕ) (fields : List (List ℕ)) (s : Statement) (mark : Option (List ℕ)) → IsDeclared names name v → marked word ≡ mark → calls_of names v word fields mark ≡ Some s → Says names (codes "on" ∷ name ∷ word ∷ fields) s
+unfolding calls_of
+calls_sound names name v word fields s None is mark e = in_calls_sound names name v word fields s is e
+calls_sound names name v word fields s (Some digits) is mark e =
+    subst (λ (w : List ℕ). Says names (codes "on" ∷ name ∷ w ∷ fields) s) (sym (marked_is word digits mark))
+    (in_call_sound names name v digits fields s is e)
+
+callback_sound : (names fields : List (List ℕ)) (s : Statement) → callback_of names fields ≡ Some s → Says names (codes "on" ∷ fields) s
+unfolding callback_of
+callback_sound names fields s e =
+    let name = bound _ (first_of fields) s e in
+    let v = bound _ (place_of names name.0.0) s name.2 in
+    let word = bound _ (first_of name.0.1) s v.2 in
+    let a = first_is fields name.0 name.1 in
+    let b = first_is name.0.1 word.0 word.1 in
+    subst (λ (r : List (List ℕ)). Says names (codes "on" ∷ r) s) (sym (a ∙ ap (λ r. name.0.0 ∷ r) b))
+    (calls_sound names name.0.0 v.0 word.0.0 word.0.1 s (marked word.0.0) (place_of-sound names name.0.0 v.0 v.1) refl word.2)
+
+says_word : (names : List (List ℕ)) (this word : List ℕ) (fields : List (List ℕ)) (s : Statement) → word ≡ this → Says names (this ∷ fields) s → Says names (word ∷ fields) s
+says_word names this word fields s e is = subst (λ (w : List ℕ). Says names (w ∷ fields) s) (sym e) is
+
+pub statement_sound : (names fields : List (List ℕ)) (s : Statement) → statement_of names fields ≡ Some s → Says names fields s
+unfolding statement_of
+statement_sound names fields s e =
+    let word = bound _ (first_of fields) s e in
+    let a = first_is fields word.0 word.1 in
+    subst (λ (r : List (List ℕ)). Says names r s) (sym a)
+    (elim (choice_cases word.0.0 (codes "var") _ _ (Some s) word.2) [
+      | inl is ↦ says_word names (codes "var") word.0.0 word.0.1 s is.0 (declaration_sound names word.0.1 s is.1)
+      | inr e' ↦ elim (choice_cases word.0.0 (codes "main") _ _ (Some s) e') [
+        | inl is ↦ says_word names (codes "main") word.0.0 word.0.1 s is.0 (main_sound names word.0.1 s is.1)
+        | inr e'' ↦ elim (choice_cases word.0.0 (codes "on") _ _ (Some s) e'') [
+          | inl is ↦ says_word names (codes "on") word.0.0 word.0.1 s is.0 (callback_sound names word.0.1 s is.1)
+          | inr wrong ↦ cc
+        ]
+      ]
+    ])
+
+abbrev pub AreDistinct : List (List ℕ) → Type 0
+AreDistinct names = AllPairs (λ a b. a ≢ b) names
+
+-- one place has one name, and one name one place
+one_place : (names : List (List ℕ)) (name : List ℕ) (i j : ℕ) → AreDistinct names → slice_get names i ≡ Some name → slice_get names j ≡ Some name → i ≡ j
+one_place names name i j distinct a b =
+    elim (cases_order i j) [
+      | inl same ↦ same
+      | inr other ↦ elim other [
+        | inl less ↦ absurd (distinct i j name less (slice_get_within names j name b) (get_or_from_slice_get names i name name a ∙ sym (get_or_from_slice_get names j name name b)))
+        | inr more ↦ absurd (distinct j i name more (slice_get_within names i name a) (get_or_from_slice_get names j name name b ∙ sym (get_or_from_slice_get names i name name a)))
+      ]
+    ]
+
+declared_contains : (names : List (List ℕ)) (name : List ℕ) (v : Var) → IsDeclared names name v → Contains names name
+declared_contains names name v is = (v.0, slice_get_within names v.0 name is, get_or_from_slice_get names v.0 name name is)
+
+place_complete : (names : List (List ℕ)) (name : List ℕ) (v : Var) → AreDistinct names → IsDeclared names name v → place_of names name ≡ Some v
+place_complete names name v distinct is = by (place_of names name) refl
+  where
+    by : (o : Option Var) → place_of names name ≡ o → o ≡ Some v
+    by None e = absurd (place_of-finds names name e (declared_contains names name v is))
+    by (Some w) e = ap (λ (i : ℕ). Some (record { 0 = i })) (one_place names name w.0 v.0 distinct (place_of-sound names name w e) is)
+
+place_fresh : (names : List (List ℕ)) (name : List ℕ) → (Contains names name → ⊥) → place_of names name ≡ None
+place_fresh names name fresh = by (place_of names name) refl
+  where
+    by : (o : Option Var) → place_of names name ≡ o → o ≡ None
+    by None e = refl
+    by (Some v) e = absurd (fresh (declared_contains names name v (place_of-sound names name v e)))
+
+-- an op's word is no other word, and the op is read
+record OpParts (names fields : List (List ℕ)) (o : Op) : Type 0 where
+  word : List ℕ
+  rest : List (List ℕ)
+  parts : fields ≡ word ∷ rest
+  no_run : bytes_eq word (codes "run") ≡ false
+  no_mark : marked word ≡ None
+  reads : op_of names word rest ≡ Some o
+
+op_parts : (names fields : List (List ℕ)) (o : Op) → AreDistinct names → IsOp names fields o → OpParts names fields o
+unfolding op_of init_of start_of stop_of
+op_parts names fields o distinct (init name v kind e is) = record {
+  word = codes "init";
+  rest = name ∷ kind_word kind ∷ [];
+  parts = e;
+  no_run = refl;
+  no_mark = refl;
+  reads = rw (place_complete names name v distinct is, kind_of-some (kind_word kind) kind refl) refl;
+}
+op_parts names fields o distinct (start name v timeout repeat t r e is first second) = record {
+  word = codes "start";
+  rest = name ∷ timeout ∷ repeat ∷ [];
+  parts = e;
+  no_run = refl;
+  no_mark = refl;
+  reads = rw (place_complete names name v distinct is, number_of-complete timeout t first, number_of-complete repeat r second) refl;
+}
+op_parts names fields o distinct (stop name v e is) = record {
+  word = codes "stop";
+  rest = name ∷ [];
+  parts = e;
+  no_run = refl;
+  no_mark = refl;
+  reads = rw (place_complete names name v distinct is) refl;
+}
+
+declaration_complete : (names : List (List ℕ)) (name : List ℕ) → IsName name → (Contains names name → ⊥) → declaration_of names (name ∷ []) ≡ Some (Declares name)
+unfolding declaration_of
+declaration_complete names name is fresh =
+    ap (λ b. cond b (Some (Declares name)) None)
+    (and_from (is_name name) (is_none (place_of names name)) ((is_name_decides name).1 is) (ap is_none (place_fresh names name fresh)))
+
+main_complete : (names rest : List (List ℕ)) (o : Op) → OpParts names rest o → main_of names rest ≡ Some (InMain (main.Op o))
+unfolding main_of
+main_complete names rest o p = rw (p.parts, p.no_run, p.reads) refl
+
+run_complete : (m : Mode) → run_of (mode_word m ∷ []) ≡ Some (InMain (main.Run m))
+unfolding run_of
+run_complete m = rw (mode_of-some (mode_word m) m refl) refl
+
+call_complete : (digits : List ℕ) (k : ℕ) → IsNumber digits k → 1 ≤ k → k < 2 ^ 32 → call_of digits ≡ Some k
+unfolding call_of
+call_complete digits k is first last =
+    rw (number_of-complete digits k is)
+    (ap (λ b. cond b (Some k) None) (and_from (nat_le 1 k) (nat_lt k 4294967296) (le-leb 1 k first) (lt-ltb k 4294967296 last)))
+
+callback_complete : (names : List (List ℕ)) (name : List ℕ) (v : Var) (rest : List (List ℕ)) (o : Op) → AreDistinct names → IsDeclared names name v → OpParts names rest o → callback_of names (name ∷ rest) ≡ Some (InCallback v (record { call = None; op = o }))
+unfolding callback_of calls_of in_calls_of
+callback_complete names name v rest o distinct is p = rw (place_complete names name v distinct is, p.parts, p.no_mark, p.reads) refl
+
+in_call_complete : (names : List (List ℕ)) (name : List ℕ) (v : Var) (digits : List ℕ) (k : ℕ) (rest : List (List ℕ)) (o : Op) → AreDistinct names → IsDeclared names name v → call_of digits ≡ Some k → OpParts names rest o → callback_of names (name ∷ (64 ∷ digits) ∷ rest) ≡ Some (InCallback v (record { call = Some k; op = o }))
+unfolding callback_of calls_of in_call_of in_calls_of
+in_call_complete names name v digits k rest o distinct is call p = rw (place_complete names name v distinct is, call, p.parts, p.reads) refl
+
+pub statement_complete : (names fields : List (List ℕ)) (s : Statement) → AreDistinct names → Says names fields s → statement_of names fields ≡ Some s
+unfolding statement_of main_of
+statement_complete names fields s distinct (declares name e is fresh) = ap (statement_of names) e ∙ declaration_complete names name is fresh
+statement_complete names fields s distinct (in_main rest op e is) = ap (statement_of names) e ∙ main_complete names rest op (op_parts names rest op distinct is)
+statement_complete names fields s distinct (runs mode e) = ap (statement_of names) e ∙ run_complete mode
+statement_complete names fields s distinct (in_callback name v rest op e declared is) =
+    ap (statement_of names) e ∙ callback_complete names name v rest op distinct declared (op_parts names rest op distinct is)
+statement_complete names fields s distinct (in_call name v number k rest op e declared is first last op_is) =
+    ap (statement_of names) e ∙ in_call_complete names name v number k rest op distinct declared (call_complete number k is first last) (op_parts names rest op distinct op_is)

@@ -1,0 +1,147 @@
+-- The tests decide the rules.
+use Rattle.std.proofs.Common.{◌≡◌, ◌≢◌, ℕ, zero, suc, ◌<◌, ◌≤◌, ◌^◌, ◌⊎◌, inl, inr, true, false, not, ◌&&◌, cond, nat_le, List, [], ◌∷◌, length, get_or, Option, Some, None, Ok, Err, IfSome, IfNone, All, refl, ap, sym, ◌∙◌, subst, arith}
+use Rattle.std.specs.Bool.{Decides}
+use Rattle.std.specs.List.{list_all}
+use Rattle.std.specs.Str.{all_ascii_digits, IsUtf8, IsAscii}
+use Rattle.std.specs.Str.Parse.{digits_value, ParsesUnsigned}
+use Rattle.std.specs.Fmt.{decimal}
+use Rattle.std.proofs.lemmas.Bool.{and_parts, and_from, leb-true, le-leb, ltb-true, lt-ltb, eqb-false, ne_eqb, not-true, both_ways, cases_Bool}
+use Rattle.std.proofs.lemmas.Bool.Decides.{Decides-by_and, Decides-or, Decides-eqb}
+use Rattle.std.proofs.lemmas.Fmt.{decimal-digits_value, digits_decimal, digits_value-decimal, decimal_nonempty, decimal_digit, first_decimal, IsAscii-decimal, parse-decimal}
+use Rattle.std.proofs.lemmas.Option.{cond_some}
+use Rattle.std.proofs.lemmas.Str.{IsUtf8-from_ascii}
+use Rattle.std.proofs.lemmas.Str.Parse.{IsNumeralModel, numerals_by_value, tells_all_ascii_digits, parse_plain}
+use Rattle.uv_script.specs.Lines.{IsLine}
+use Rattle.uv_script.specs.Words.{IsLetter, IsDigit, IsName, IsNumber}
+use Rattle.uv_script.specs.Checks.{is_printable, is_line, is_name_byte, is_name, is_canonical, is_number, number_of}
+
+within : (low high b : ℕ) → Decides (nat_le low b && nat_le b high) ((low ≤ b) × (b ≤ high))
+within low high b = (
+  λ e. let p = and_parts _ _ e in (leb-true low b p.0, leb-true b high p.1),
+  λ h. and_from _ _ (le-leb low b h.0) (le-leb b high h.1),
+)
+
+pub is_line_decides : (line : List ℕ) → Decides (is_line line) (IsLine line)
+is_line_decides line =
+    let each = Decides-by_and is_printable (λ b. (32 ≤ b) × (b ≤ 126)) (list_all is_printable) (within 32 126) refl (λ _ _. refl) line in (
+      λ e. let p = and_parts _ _ e in record { short = leb-true (length line) 256 p.0; printable = each.0 p.1 },
+      λ h. and_from _ _ (le-leb (length line) 256 h.short) (each.1 h.printable),
+    )
+
+name_byte : (b : ℕ) → Decides (is_name_byte b) (IsLetter b ⊎ (IsDigit b ⊎ (b ≡ 95)))
+name_byte b = Decides-or _ _ (within 97 122 b) (Decides-or _ _ (within 48 57 b) (Decides-eqb b 95))
+
+no_name : IsName [] → ⊥
+no_name h = let e = h.is in cc
+
+name_parts : (b : ℕ) (bs : List ℕ) → IsName (b ∷ bs) → IsLetter b × (length bs ≤ 31) × All (λ c. IsLetter c ⊎ (IsDigit c ⊎ (c ≡ 95))) bs
+name_parts b bs h =
+    let e = h.is in
+    let first : h.first ≡ b = cc in
+    let rest : h.rest ≡ bs = cc in
+    (subst IsLetter first h.letter, subst (λ (s : List ℕ). length s ≤ 31) rest h.short, subst (All (λ c. IsLetter c ⊎ (IsDigit c ⊎ (c ≡ 95)))) rest h.others)
+
+pub is_name_decides : (name : List ℕ) → Decides (is_name name) (IsName name)
+is_name_decides [] = (λ e. absurd (both_ways false refl e), λ h. absurd (no_name h))
+is_name_decides (b ∷ bs) =
+    let each = Decides-by_and is_name_byte (λ c. IsLetter c ⊎ (IsDigit c ⊎ (c ≡ 95))) (list_all is_name_byte) name_byte refl (λ _ _. refl) bs in (
+      λ e.
+          let p = and_parts _ _ e in
+          let q = and_parts _ _ p.1 in
+          record { first = b; rest = bs; is = refl; letter = (within 97 122 b).0 p.0; others = each.0 q.1; short = leb-true (length bs) 31 q.0 },
+      λ h.
+          let p = name_parts b bs h in
+          and_from _ _ ((within 97 122 b).1 p.0) (and_from _ _ (le-leb (length bs) 31 p.1) (each.1 p.2)),
+    )
+
+own : IsNumeralModel (λ ds. all_ascii_digits ds ≡ true) (digits_value 10)
+own = numerals_by_value _ tells_all_ascii_digits
+
+-- what the test of the front says
+pub record HasPlainFront (text : List ℕ) : Type 0 where
+  pub no_plus : get_or text 0 0 ≢ 43
+  pub no_zero : get_or text 0 0 ≡ 48 → length text ≤ 1
+
+is_canonical_decides : (text : List ℕ) → Decides (is_canonical text) (HasPlainFront text)
+is_canonical_decides [] = (λ e. record { no_plus = λ h. absurd (omega arith); no_zero = λ h. omega arith }, λ h. refl)
+is_canonical_decides (a ∷ []) = (
+  λ e. record { no_plus = eqb-false a 43 (not-true _ e); no_zero = λ h. omega arith },
+  λ h. ap not (ne_eqb a 43 h.no_plus),
+)
+is_canonical_decides (a ∷ b ∷ bs) = (
+  λ e.
+      let p = and_parts _ _ e in
+      record { no_plus = eqb-false a 43 (not-true _ p.0); no_zero = λ h. absurd (eqb-false a 48 (not-true _ p.1) h) },
+  λ h. and_from _ _ (ap not (ne_eqb a 43 h.no_plus)) (ap not (ne_eqb a 48 (λ e. absurd (omega (arith, h.no_zero e))))),
+)
+
+decimal_front : (n : ℕ) → n < 2 ^ 64 → HasPlainFront (decimal n)
+decimal_front zero h = subst HasPlainFront (sym (decimal_digit 0 (omega arith))) (record { no_plus = λ e. absurd (omega arith); no_zero = λ e. omega arith })
+decimal_front (suc n) h =
+    let first = first_decimal (suc n) (omega arith) h in
+    record { no_plus = λ e. absurd (omega arith); no_zero = λ e. absurd (omega arith) }
+
+is_number-sound : (text : List ℕ) → is_number text ≡ true → IsNumber text (digits_value 10 text)
+is_number-sound text e =
+    let front = and_parts _ _ e in
+    let some = and_parts _ _ front.1 in
+    let digits = and_parts _ _ some.1 in
+    let plain = (is_canonical_decides text).0 front.0 in
+    let nonempty = ltb-true 0 (length text) some.0 in
+    let fits = ltb-true (digits_value 10 text) (2 ^ 64) digits.1 in
+    record {
+      is = sym (decimal-digits_value own text digits.0 nonempty (λ z. let short = plain.no_zero z in omega arith) fits);
+      fits = fits;
+    }
+
+is_number_decimal : (n : ℕ) → n < 2 ^ 64 → is_number (decimal n) ≡ true
+is_number_decimal n h =
+    let value : digits_value 10 (decimal n) ≡ n = digits_value-decimal own n h in
+    and_from _ _ ((is_canonical_decides (decimal n)).1 (decimal_front n h))
+    (and_from _ _ (lt-ltb 0 (length (decimal n)) (decimal_nonempty n h))
+    (and_from _ _ (digits_decimal own n h) (lt-ltb (digits_value 10 (decimal n)) (2 ^ 64) (rw value h))))
+
+is_number-complete : (text : List ℕ) (n : ℕ) → IsNumber text n → (is_number text ≡ true) × (digits_value 10 text ≡ n)
+is_number-complete text n h =
+    (ap is_number h.is ∙ is_number_decimal n h.fits, ap (digits_value 10) h.is ∙ digits_value-decimal own n h.fits)
+
+-- what is found for a text is its number
+pub number_of-exact : (text : List ℕ) (r : Option ℕ) → IfSome r (IsNumber text) → IfNone r ((n : ℕ) → IsNumber text n → ⊥) → r ≡ number_of text
+unfolding number_of
+number_of-exact text (Some n) some none =
+    let is = is_number-complete text n some in
+    sym (ap (λ b. cond b (Some (digits_value 10 text)) None) is.0 ∙ ap Some is.1)
+number_of-exact text None some none =
+    elim (cases_Bool (is_number text)) [
+      | inl is ↦ absurd (none (digits_value 10 text) (is_number-sound text is))
+      | inr not_one ↦ sym (ap (λ b. cond b (Some (digits_value 10 text)) None) not_one)
+    ]
+
+pub number_of-complete : (text : List ℕ) (n : ℕ) → IsNumber text n → number_of text ≡ Some n
+unfolding number_of
+number_of-complete text n h =
+    let is = is_number-complete text n h in
+    ap (λ b. cond b (Some (digits_value 10 text)) None) is.0 ∙ ap Some is.1
+
+pub number_of-sound : (text : List ℕ) (n : ℕ) → number_of text ≡ Some n → IsNumber text n
+unfolding number_of
+number_of-sound text n e =
+    let p = cond_some (is_number text) (digits_value 10 text) n e in
+    subst (IsNumber text) p.1 (is_number-sound text p.0)
+
+-- the ways in which a text is none
+pub no_number_front : (text : List ℕ) → is_canonical text ≡ false → (n : ℕ) → IsNumber text n → ⊥
+no_number_front text e n h = both_ways (is_canonical text) e (and_parts _ _ (is_number-complete text n h).0).0
+
+pub no_number_text : (text : List ℕ) → (IsUtf8 text → ⊥) → (n : ℕ) → IsNumber text n → ⊥
+no_number_text text bad n h = bad (IsUtf8-from_ascii text (subst IsAscii (sym h.is) (IsAscii-decimal n h.fits)))
+
+pub no_number_parse : {E : Type 0} (text : List ℕ) (e : E) → ParsesUnsigned 64 10 text (Err e) → (n : ℕ) → IsNumber text n → ⊥
+no_number_parse text e p n h = let wrong = parse-decimal 64 n text (Err e) h.fits h.fits h.is p in cc
+
+pub number_parse : (E : Type 0) (text : List ℕ) (n : ℕ) → is_canonical text ≡ true → ParsesUnsigned {E = E} 64 10 text (Ok n) → IsNumber text n
+number_parse E text n front p =
+    let plain = (is_canonical_decides text).0 front in
+    let q : (all_ascii_digits text ≡ true × (0 < length text) × (digits_value 10 text < 2 ^ 64)) × (n ≡ digits_value 10 text) = parse_plain own {E = E} 64 text (Ok n) p plain.no_plus in
+    let e : decimal (digits_value 10 text) ≡ text = decimal-digits_value own text q.0.0 q.0.1 (λ z. let short = plain.no_zero z in omega arith) q.0.2 in
+    subst (IsNumber text) (sym q.1) (record { is = sym e; fits = q.0.2 })

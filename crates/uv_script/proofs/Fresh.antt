@@ -1,0 +1,36 @@
+-- One more name.
+use Rattle.std.proofs.Common.{if◌then◌else◌, ◌≡◌, ◌≢◌, inl, inr, ℕ, suc, ◌<◌, false, ◌||◌, List, [], ◌∷◌, ◌++◌, length, map, Contains, refl, ap, sym, ◌∙◌, subst, arith, length-append}
+use Rattle.std.specs.List.{list_any}
+use Rattle.std.specs.Str.{bytes_eq}
+use Rattle.std.proofs.lemmas.Bool.{cases_Bool}
+use Rattle.std.proofs.lemmas.List.{map-append}
+use Rattle.std.proofs.lemmas.List.Elements.{All-push, Contains-get_or}
+use Rattle.std.proofs.lemmas.List.Quantifiers.{all_pairs_push}
+use Rattle.std.proofs.lemmas.Slice.Eq.{bytes_eq-Decides}
+use Rattle.indexmap.specs.IndexSet.{insert_key}
+use Rattle.uv_script.specs.Names.{AreNames}
+use Rattle.uv_script.specs.Words.{IsName}
+
+-- a name that isn't there is told from each that is
+none_equal : {A : Type 0} (f : A → List ℕ) (ks : List A) (name : List ℕ) → (Contains (map f ks) name → ⊥) → list_any (λ x. bytes_eq name (f x)) ks ≡ false
+none_equal f [] name fresh = refl
+none_equal f (x ∷ ks) name fresh =
+    elim (cases_Bool (bytes_eq name (f x))) [
+      | inl is ↦ absurd (fresh (0, omega arith, sym ((bytes_eq-Decides name (f x)).0 is)))
+      | inr other ↦ ap (λ b. b || list_any (λ y. bytes_eq name (f y)) ks) other
+          ∙ none_equal f ks name (λ h. fresh (suc h.0, omega (arith, h.1), h.2))
+    ]
+
+-- so it goes behind the others
+pub goes_last : {A : Type 0} (f : A → List ℕ) (ks : List A) (k : A) (name : List ℕ) → f k ≡ name → (Contains (map f ks) name → ⊥) → map f (insert_key (λ x y. bytes_eq (f x) (f y)) ks k) ≡ map f ks ++ name ∷ []
+goes_last f ks k name is fresh =
+    ap (λ b. map f (if b then ks else ks ++ k ∷ [])) (ap (λ n. list_any (λ y. bytes_eq n (f y)) ks) is ∙ none_equal f ks name fresh)
+    ∙ map-append f ks (k ∷ []) ∙ ap (λ n. map f ks ++ n ∷ []) is
+
+-- and they are still names
+pub AreNames-push : (names : List (List ℕ)) (name : List ℕ) → AreNames names → IsName name → (Contains names name → ⊥) → length names < 4096 → AreNames (names ++ name ∷ [])
+AreNames-push names name are is fresh room = record {
+  each = All-push IsName names name are.each is;
+  distinct = all_pairs_push (λ a b. a ≢ b) names name are.distinct (λ k d h e. fresh (subst (Contains names) e (Contains-get_or names k d h)));
+  few = simp length-append (omega arith);
+}

@@ -1,0 +1,68 @@
+-- Words of kinds and modes.
+use Rattle.std.proofs.Common.{◌≡◌, ◌⊎◌, inl, inr, ℕ, cond, List, Some, None, ap, sym, ◌∙◌}
+use Rattle.std.specs.Prelude.{codes}
+use Rattle.std.specs.Str.{bytes_eq}
+use Rattle.std.proofs.lemmas.Bool.{cases_Bool}
+use Rattle.std.proofs.lemmas.Option.{same_Some}
+use Rattle.std.proofs.lemmas.Slice.Eq.{bytes_eq-Decides}
+use Rattle.uv_ids.specs.declared.phase.Kind.{Kind}
+use Rattle.uv_ids.specs.declared.phase.Kind.TheVariants.{Timer}
+use Rattle.uv_ids.specs.declared.phase.Mode.{Mode}
+use Rattle.uv_ids.specs.declared.phase.Mode.TheVariants as mode
+use Rattle.uv_ids.specs.Words.{kind_word, IsNoKind, mode_word, IsNoMode}
+use Rattle.uv_script.specs.Reading.{kind_of, mode_of}
+
+-- a choice by a word
+pub choice_cases : {A : Type 0} (word this : List ℕ) (x y z : A) → cond (bytes_eq word this) x y ≡ z → ((word ≡ this) × (x ≡ z)) ⊎ (y ≡ z)
+choice_cases word this x y z e =
+    elim (cases_Bool (bytes_eq word this)) [
+      | inl is ↦ inl ((bytes_eq-Decides word this).0 is, sym (ap (λ b. cond b x y) is) ∙ e)
+      | inr other ↦ inr (sym (ap (λ b. cond b x y) other) ∙ e)
+    ]
+
+pub choice_other : {A : Type 0} (word this : List ℕ) (x y : A) → (word ≡ this → ⊥) → cond (bytes_eq word this) x y ≡ y
+choice_other word this x y other =
+    elim (cases_Bool (bytes_eq word this)) [
+      | inl is ↦ absurd (other ((bytes_eq-Decides word this).0 is))
+      | inr no_match ↦ ap (λ b. cond b x y) no_match
+    ]
+
+pub kind_of-some : (word : List ℕ) (k : Kind) → word ≡ kind_word k → kind_of word ≡ Some k
+unfolding kind_of
+kind_of-some word Timer e = ap (λ w. cond (bytes_eq w (codes "timer")) (Some Timer) None) e
+
+pub kind_of-none : (word : List ℕ) → IsNoKind word → kind_of word ≡ None
+unfolding kind_of
+kind_of-none word none = choice_other word (codes "timer") (Some Timer) None (none Timer)
+
+pub kind_of-sound : (word : List ℕ) (k : Kind) → kind_of word ≡ Some k → word ≡ kind_word k
+unfolding kind_of
+kind_of-sound word Timer e =
+    elim (choice_cases word (codes "timer") (Some Timer) None (Some Timer) e) [ inl is ↦ is.0 | inr wrong ↦ cc ]
+
+pub mode_of-some : (word : List ℕ) (m : Mode) → word ≡ mode_word m → mode_of word ≡ Some m
+unfolding mode_of
+mode_of-some word mode.Default e = ap mode_of e
+mode_of-some word mode.Once e = ap mode_of e
+mode_of-some word mode.Nowait e = ap mode_of e
+
+pub mode_of-none : (word : List ℕ) → IsNoMode word → mode_of word ≡ None
+unfolding mode_of
+mode_of-none word none =
+    choice_other word (codes "default") _ _ (none mode.Default)
+    ∙ choice_other word (codes "once") _ _ (none mode.Once)
+    ∙ choice_other word (codes "nowait") _ _ (none mode.Nowait)
+
+pub mode_of-sound : (word : List ℕ) (m : Mode) → mode_of word ≡ Some m → word ≡ mode_word m
+unfolding mode_of
+mode_of-sound word m e =
+    elim (choice_cases word (codes "default") _ _ (Some m) e) [
+      | inl is ↦ is.0 ∙ ap mode_word (same_Some _ _ is.1)
+      | inr e' ↦ elim (choice_cases word (codes "once") _ _ (Some m) e') [
+        | inl is ↦ is.0 ∙ ap mode_word (same_Some _ _ is.1)
+        | inr e'' ↦ elim (choice_cases word (codes "nowait") _ _ (Some m) e'') [
+          | inl is ↦ is.0 ∙ ap mode_word (same_Some _ _ is.1)
+          | inr wrong ↦ cc
+        ]
+      ]
+    ]

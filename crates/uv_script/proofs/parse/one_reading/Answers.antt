@@ -1,0 +1,11 @@
+use Rattle.uv_script.proofs.OneReading.{one_script, no_bad_line, one_bad_line}
+use Rattle.uv_script.proofs.parse.one_reading.Goals as goal
+
+pub returns-clause-script : goal.returns-clause-script
+returns-clause-script c = one_script
+
+pub returns-clause-apart : goal.returns-clause-apart
+returns-clause-apart c = no_bad_line
+
+pub returns-clause-bad_line : goal.returns-clause-bad_line
+returns-clause-bad_line c = one_bad_line

@@ -1,0 +1,37 @@
+use Rattle.std.proofs.Common.{◌+◌, [], ◌∷◌, refl, ap, sym, ◌∙◌, subst, arith, length-append}
+use Rattle.uv_script.specs.Grammar.{ReadsAll, none, blank}
+use Rattle.uv_script.specs.Program.{Program}
+use Rattle.uv_script.proofs.AfterLines.{line_number, lines_step, reads_step, line_fault}
+use Rattle.uv_script.proofs.script.Script.parse.Goals as goal
+
+pub loop-line-init : goal.loop-line-init
+loop-line-init c = record {
+  can = tt;
+  finite = tt;
+  read = subst (λ (p : Program). ReadsAll blank [] p) (sym c.blank-script.ensures) none;
+  counted = refl;
+  rest = c.into_iter-line-iterator.ensures.into_iter_gives ∙ c.of-line-items.ensures;
+}
+
+pub overflow_add-number : goal.overflow_add-number
+overflow_add-number c =
+    let loop = c.loop-line in
+    let n = line_number (λ line. line.now) c.args.text.now loop.yielded c.in-Some.line.now loop.line-iterator c.next.new.self loop.invariant.rest c.in-Some.ensures.steps in
+    omega (arith, loop.invariant.counted)
+
+pub loop-line-preserved : goal.loop-line-preserved
+loop-line-preserved c =
+    let loop = c.loop-line in
+    record {
+      can = tt;
+      finite = tt;
+      read = reads_step (λ line. line.now) loop.script c.read_line.new.self loop.yielded c.in-Some.line loop.invariant.read c.in-Ok.ensures;
+      counted = ap (λ n. n + 1) loop.invariant.counted ∙ sym (length-append loop.yielded (c.in-Some.line ∷ []));
+      rest = lines_step (λ line. line.now) _ loop.yielded c.in-Some.line loop.line-iterator c.next.new.self loop.invariant.rest c.in-Some.ensures.steps;
+    }
+
+pub returns-in-Err : goal.returns-in-Err
+returns-in-Err c =
+    let loop = c.loop-line in
+    line_fault (λ line. line.now) c.args.text.now (loop.number + 1) loop.script c.read_line.new.self loop.yielded c.in-Some.line loop.line-iterator c.next.new.self c.in-Err.fault
+    loop.invariant.read loop.invariant.rest c.in-Some.ensures.steps (ap (λ n. n + 1) loop.invariant.counted) c.in-Err.ensures

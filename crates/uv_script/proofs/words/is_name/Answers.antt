@@ -1,0 +1,12 @@
+use Rattle.std.proofs.Common.{◌↔◌, IsTrue, arith}
+use Rattle.std.proofs.lemmas.Grind.{common_steps}
+use Rattle.std.proofs.lemmas.Bool.Decides.{same_from_decides}
+use Rattle.uv_script.specs.Words.{IsName}
+use Rattle.uv_script.specs.Checks.{is_name}
+use Rattle.uv_script.proofs.Checks.{is_name_decides}
+use Rattle.uv_script.proofs.words.is_name.Goals as goal
+
+pub returns-then-rest-le31-clause-test : goal.returns-then-rest-le31-clause-test
+returns-then-rest-le31-clause-test c =
+    let rule : IsTrue c.all.result ↔ IsName c.args.field.now = grind (arith, common_steps) in
+    same_from_decides c.all.result (is_name c.args.field.now) rule (is_name_decides c.args.field.now)

@@ -1,0 +1,171 @@
+-- How the reader reads, as functions of lists. They serve private clauses; that they agree with the grammar is proved.
+use Rattle.std.specs.Prelude.{◌≡◌, ℕ, ◌&&◌, ◌==◌, ◌<◌, Bool, true, nat_le, nat_lt, List, [], ◌∷◌, length, Contains, Option, Some, None, Result, Ok, Err, option_and_then, option_map, is_none, codes, if◌then◌else◌}
+use Rattle.std.specs.List.{position}
+use Rattle.std.specs.Str.{bytes_eq}
+use Rattle.uv_ids.specs.declared.id.Var.{Var}
+use Rattle.uv_ids.specs.declared.phase.Kind.{Kind}
+use Rattle.uv_ids.specs.declared.phase.Kind.TheVariants.{Timer}
+use Rattle.uv_ids.specs.declared.phase.Mode.{Mode}
+use Rattle.uv_ids.specs.declared.phase.Mode.TheVariants as mode
+use Rattle.uv_ids.specs.declared.fault.Fault.{Fault}
+use Rattle.uv_ids.specs.declared.fault.Fault.TheVariants as fault
+use Rattle.uv_script.specs.declared.op.Op.{Op}
+use Rattle.uv_script.specs.declared.op.Op.TheVariants as op
+use Rattle.uv_script.specs.declared.op.MainOp.TheVariants as main
+use Rattle.uv_script.specs.Grammar.{Statement, Declares, InMain, InCallback, with_statement}
+use Rattle.uv_script.specs.Lines.{fields_of}
+use Rattle.uv_script.specs.Program.{Program, line_count}
+use Rattle.uv_script.specs.Checks.{is_line, is_name, number_of}
+use Rattle.uv_script.specs.Words.{IsName}
+
+infixl 10 ◌>>=◌
+abbrev pub ◌>>=◌ : {A B : Type 0} → Option A → (A → Option B) → Option B
+o >>= f = option_and_then f o
+
+-- the first field, and those after it
+abbrev pub first_of : List (List ℕ) → Option (List ℕ × List (List ℕ))
+first_of [] = None
+first_of (field ∷ fields) = Some (field, fields)
+
+-- nothing, where no field is left
+abbrev pub none_left : List (List ℕ) → Option (Unit {0})
+none_left [] = Some tt
+none_left (field ∷ fields) = None
+
+-- the number of a declared name
+unfoldable pub place_of : List (List ℕ) → List ℕ → Option Var
+place_of names name = option_map (λ n. record { 0 = n }) (position (bytes_eq name) names)
+
+unfoldable pub kind_of : List ℕ → Option Kind
+kind_of word = if bytes_eq word (codes "timer") then Some Timer else None
+
+unfoldable pub mode_of : List ℕ → Option Mode
+mode_of word = if bytes_eq word (codes "default") then Some mode.Default else if bytes_eq word (codes "once") then Some mode.Once else if bytes_eq word (codes "nowait") then Some mode.Nowait else None
+
+-- ops, behind their words
+unfoldable pub init_of : List (List ℕ) → List (List ℕ) → Option Op
+init_of names fields = do
+  name ← first_of fields
+  v ← place_of names name.0
+  kind ← first_of name.1
+  k ← kind_of kind.0
+  end ← none_left kind.1
+  Some (op.Init v k)
+
+unfoldable pub start_of : List (List ℕ) → List (List ℕ) → Option Op
+start_of names fields = do
+  name ← first_of fields
+  v ← place_of names name.0
+  timeout ← first_of name.1
+  t ← number_of timeout.0
+  repeat ← first_of timeout.1
+  r ← number_of repeat.0
+  end ← none_left repeat.1
+  Some (op.Start v t r)
+
+unfoldable pub stop_of : List (List ℕ) → List (List ℕ) → Option Op
+stop_of names fields = do
+  name ← first_of fields
+  v ← place_of names name.0
+  end ← none_left name.1
+  Some (op.Stop v)
+
+-- an op by its word
+unfoldable pub op_of : List (List ℕ) → List ℕ → List (List ℕ) → Option Op
+op_of names word fields = if bytes_eq word (codes "init") then init_of names fields else if bytes_eq word (codes "start") then start_of names fields else if bytes_eq word (codes "stop") then stop_of names fields else None
+
+-- what stands behind `var`
+unfoldable pub declaration_of : List (List ℕ) → List (List ℕ) → Option Statement
+declaration_of names fields = do
+  name ← first_of fields
+  end ← none_left name.1
+  if is_name name.0 && is_none (place_of names name.0) then Some (Declares name.0) else None
+
+-- what stands behind `main run`
+unfoldable pub run_of : List (List ℕ) → Option Statement
+run_of fields = do
+  word ← first_of fields
+  m ← mode_of word.0
+  end ← none_left word.1
+  Some (InMain (main.Run m))
+
+-- what stands behind `main`
+unfoldable pub main_of : List (List ℕ) → List (List ℕ) → Option Statement
+main_of names fields = do
+  word ← first_of fields
+  if bytes_eq word.0 (codes "run") then run_of word.1 else option_map (λ o. InMain (main.Op o)) (op_of names word.0 word.1)
+
+-- what stands behind `@`
+unfoldable pub call_of : List ℕ → Option ℕ
+call_of digits = do
+  k ← number_of digits
+  if nat_le 1 k && nat_lt k 4294967296 then Some k else None
+
+-- the digits of a field that begins with `@`
+abbrev pub marked : List ℕ → Option (List ℕ)
+marked [] = None
+marked (b ∷ bs) = if b == 64 then Some bs else None
+
+-- what stands behind `on NAME`, in every call or in one
+unfoldable pub in_calls_of : List (List ℕ) → Var → Option ℕ → List ℕ → List (List ℕ) → Option Statement
+in_calls_of names v call word fields = option_map (λ o. InCallback v (record { call = call; op = o })) (op_of names word fields)
+
+unfoldable pub in_call_of : List (List ℕ) → Var → List ℕ → List (List ℕ) → Option Statement
+in_call_of names v digits fields = do
+  k ← call_of digits
+  word ← first_of fields
+  in_calls_of names v (Some k) word.0 word.1
+
+unfoldable pub calls_of : List (List ℕ) → Var → List ℕ → List (List ℕ) → Option (List ℕ) → Option Statement
+calls_of names v word fields None = in_calls_of names v None word fields
+calls_of names v word fields (Some digits) = in_call_of names v digits fields
+
+-- what stands behind `on`
+unfoldable pub callback_of : List (List ℕ) → List (List ℕ) → Option Statement
+callback_of names fields = do
+  name ← first_of fields
+  v ← place_of names name.0
+  word ← first_of name.1
+  calls_of names v word.0 word.1 (marked word.0)
+
+-- what a line's fields say
+unfoldable pub statement_of : List (List ℕ) → List (List ℕ) → Option Statement
+statement_of names fields = do
+  word ← first_of fields
+  if bytes_eq word.0 (codes "var") then declaration_of names word.1 else if bytes_eq word.0 (codes "main") then main_of names word.1 else if bytes_eq word.0 (codes "on") then callback_of names word.1 else None
+
+-- whether there is room for one more line, and for one more name
+abbrev pub has_room : Program → Statement → Bool
+has_room p (Declares name) = nat_lt (line_count p) 65535 && nat_lt (length p.names) 4096
+has_room p (InMain op) = nat_lt (line_count p) 65535
+has_room p (InCallback v line) = nat_lt (line_count p) 65535
+
+-- what a statement needs beside room
+abbrev pub IsSound : Program → Statement → Type 0
+IsSound p (Declares name) = IsName name × (Contains p.names name → ⊥)
+IsSound p (InMain op) = Unit {0}
+IsSound p (InCallback v line) = v.0 < length p.names
+
+abbrev pub is_skipped : List ℕ → Bool
+is_skipped [] = true
+is_skipped (b ∷ bs) = b == 35
+
+-- the script after one more line
+unfoldable pub after_line : Program → List ℕ → Option Program
+after_line p line = if is_line line then (if is_skipped line then Some p else (do
+  s ← statement_of p.names (fields_of line)
+  if has_room p s then Some (with_statement p s) else None)) else None
+
+-- what reading a line of this number answers
+abbrev pub ReadsLine : Program → List ℕ → ℕ → Result (Unit {0}) Fault → Program → Type 0
+ReadsLine p line number (Ok done) q = after_line p line ≡ Some q
+ReadsLine p line number (Err (fault.Script bad)) q = (bad ≡ number) × (after_line p line ≡ None)
+ReadsLine p line number (Err fault.Memory) q = Unit {0}
+ReadsLine p line number (Err (fault.Refused why)) q = ⊥
+ReadsLine p line number (Err fault.StepsFull) q = ⊥
+ReadsLine p line number (Err fault.Read) q = ⊥
+ReadsLine p line number (Err fault.Write) q = ⊥
+ReadsLine p line number (Err (fault.Torn at)) q = ⊥
+ReadsLine p line number (Err fault.Stalled) q = ⊥
+ReadsLine p line number (Err (fault.Differs at)) q = ⊥
+ReadsLine p line number (Err fault.Limit) q = ⊥

@@ -1,0 +1,68 @@
+//! Reading a script's text.
+ghost use Rattle.std.specs.Prelude.{◌≡◌, ℕ, List};
+ghost use Rattle.uv_script.specs.Grammar.{Parses};
+ghost use Rattle.uv_script.specs.Laws.{HasOneScript, HasNoBadLine, HasOneBadLine};
+ghost use Rattle.uv_script.specs.Reading.{ReadsLine, is_skipped};
+
+use crate::lines::{Lines, is_line};
+use crate::script::Script;
+use crate::statement::statement_in;
+use std::alloc::Global;
+use uv_ids::Fault;
+
+/// Whether a line is empty or a comment.
+fn is_skipped(line: &[u8]) -> bool
+    ensures { result ≡ is_skipped line.now }
+{
+    matches!(line, [] | [b'#', ..])
+}
+
+/// A text has one script or one first bad line, and never both, so what `Script::parse` answers is settled by the text
+/// unless memory runs out.
+pub fn one_reading()
+    ensures script { (text : List ℕ) → HasOneScript text }
+    ensures apart { (text : List ℕ) → HasNoBadLine text }
+    ensures bad_line { (text : List ℕ) → HasOneBadLine text }
+{}
+
+impl Script {
+    /// The script of a text, which ends where the text does.
+    ///
+    /// A text outside the grammar is refused with its first bad line, counted from 1.
+    pub fn parse(alloc: Global, text: &[u8]) -> Result<Script, Fault>
+        ensures { Parses text.now result }
+    {
+        let mut script = Script::blank(alloc);
+        let mut number = 0;
+        for line in Lines::of(text) {
+            number += 1;
+            match script.read_line(alloc, number, line) {
+                Ok(()) => {}
+                Err(fault) => return Err(fault),
+            }
+        }
+        Ok(script)
+    }
+
+    #[tactic(auto, unfolding(crate::specs::Reading::after_line))]
+    fn read_line(&mut self, alloc: Global, number: usize, line: &[u8]) -> Result<(), Fault>
+        ensures { ReadsLine self.old line.now number result self.new }
+    {
+        if !is_line(line) {
+            return Err(Fault::Script { line: number });
+        }
+        if is_skipped(line) {
+            return Ok(());
+        }
+        let Some(statement) = statement_in(self.names(), line) else {
+            return Err(Fault::Script { line: number });
+        };
+        if !self.has_room(&statement) {
+            return Err(Fault::Script { line: number });
+        }
+        match self.add(alloc, statement) {
+            Ok(()) => Ok(()),
+            Err(_) => Err(Fault::Memory),
+        }
+    }
+}

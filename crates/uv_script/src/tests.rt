@@ -1,0 +1,188 @@
+use crate::{
+    CallbackLine, Fields, Lines, MainOp, Op, Script, is_line, is_name, number, push_number,
+};
+use std::alloc::{AllocError, Global};
+use std::test::Fail;
+use uv_ids::{Fault, Kind, Mode, Var};
+
+const GOOD: &[u8] = b"# two timers\n\nvar tick\nmain init tick timer\nvar a_1\n\
+    main start tick 5 18446744073709551615\non tick @4294967295 stop tick\non a_1 start tick 0 0\n\
+    on tick init a_1 timer\nmain run default\nmain run once\nmain run nowait\nmain stop a_1";
+
+#[test]
+fn reads_a_script(rt: HostRuntime) -> Result<(), Fail> {
+    let script = Script::parse(rt.alloc(), GOOD)?;
+    let (tick, a_1) = (Var(0), Var(1));
+    assert_eq!(rt; script.names().len(), 2);
+    assert!(rt; !script.names().is_empty());
+    assert_eq!(rt; script.names().get(tick), Some(b"tick".as_slice()));
+    assert_eq!(rt; script.names().get(Var(2)), None);
+    assert_eq!(rt; script.names().number(b"a_1"), Some(a_1));
+    assert_eq!(rt; script.names().number(b"a"), None);
+    let main = [
+        MainOp::Op(Op::Init(tick, Kind::Timer)),
+        MainOp::Op(Op::Start(tick, 5, u64::MAX)),
+        MainOp::Run(Mode::Default),
+        MainOp::Run(Mode::Once),
+        MainOp::Run(Mode::Nowait),
+        MainOp::Op(Op::Stop(a_1)),
+    ];
+    for (line, op) in main.iter().enumerate() {
+        assert_eq!(rt;
+            script.main_op(line),
+            Some(*op),
+            "line {line} of the main program"
+        );
+    }
+    assert_eq!(rt; script.main_op(6), None);
+    let last = CallbackLine {
+        call: Some(u32::MAX),
+        op: Op::Stop(tick),
+    };
+    let each = CallbackLine {
+        call: None,
+        op: Op::Init(a_1, Kind::Timer),
+    };
+    assert_eq!(rt; script.on_lines(tick), [last, each].as_slice());
+    assert_eq!(rt; script.on_lines(a_1).len(), 1);
+    assert_eq!(rt; script.on_lines(Var(2)).len(), 0);
+    Ok(())
+}
+
+#[test]
+fn refuses_with_the_first_bad_line(rt: HostRuntime) {
+    let bad: [(&[u8], usize); 38] = [
+        (b"\x1f", 1),
+        (b"#\x7f", 1),
+        (b"var a\r\n", 1),
+        (b"\n\n \n", 3),
+        (b"var a\nvars b\nbegin\n", 2),
+        (b"begin", 1),
+        (b"workers 4", 1),
+        (b"var a\nafter a stop a", 2),
+        (b"var", 1),
+        (b"var a b", 1),
+        (b"var  a", 1),
+        (b"var a ", 1),
+        (b" var a", 1),
+        (b"var A", 1),
+        (b"var 1", 1),
+        (b"var a-b", 1),
+        (b"var a\nvar b\nvar a", 3),
+        (b"var a\nmain start b 1 0", 2),
+        (b"main stop a\nvar a", 1),
+        (b"on a stop a\nvar a", 1),
+        (b"var a\nmain init a idle", 2),
+        (b"var a\nmain init a", 2),
+        (b"var a\nmain start a 1", 2),
+        (b"var a\nmain start a 1 0 0", 2),
+        (b"var a\nmain start a 01 0", 2),
+        (b"var a\nmain start a +1 0", 2),
+        (b"var a\nmain start a 1 18446744073709551616", 2),
+        (b"var a\nmain start a  0", 2),
+        (b"var a\nmain stop a ", 2),
+        (b"main run", 1),
+        (b"main run twice", 1),
+        (b"var a\non a run default", 2),
+        (b"var a\non a @0 stop a", 2),
+        (b"var a\non a @01 stop a", 2),
+        (b"var a\non a @4294967296 stop a", 2),
+        (b"var a\non a @ stop a", 2),
+        (b"var a\non a @1 @1 stop a", 2),
+        (b"var a\non a @1", 2),
+    ];
+    for (case, (text, line)) in bad.iter().enumerate() {
+        let answer = Script::parse(rt.alloc(), *text).err();
+        assert_eq!(rt; answer, Some(Fault::Script { line: *line }), "case {case}");
+    }
+}
+
+/// `front`, so many bytes `a`, and a line feed.
+fn long_line(alloc: Global, front: &[u8], length: usize) -> Result<Vec<u8>, AllocError> {
+    let mut line = Vec::from_slice(alloc, front)?;
+    for _ in 0..length {
+        line.push(b'a')?;
+    }
+    line.push(b'\n')?;
+    Ok(line)
+}
+
+#[test]
+fn lines_and_names_have_their_lengths(rt: HostRuntime) -> Result<(), Fail> {
+    for (front, length, line) in [
+        (b"#".as_slice(), 255, None),
+        (b"#", 256, Some(1)),
+        (b"var ", 32, None),
+        (b"var ", 33, Some(1)),
+    ] {
+        let text = long_line(rt.alloc(), front, length)?;
+        let answer = Script::parse(rt.alloc(), &text).err();
+        assert_eq!(rt;
+            answer,
+            line.map(|line| Fault::Script { line }),
+            "{length} bytes"
+        );
+    }
+    Ok(())
+}
+
+#[test]
+fn limits_names_and_lines(rt: HostRuntime) -> Result<(), Fail> {
+    let mut names = Vec::new(rt.alloc());
+    for name in 0..4097 {
+        names.extend_from_slice(b"var n")?;
+        push_number(&mut names, name)?;
+        names.push(b'\n')?;
+    }
+    assert_eq!(rt;
+        Script::parse(rt.alloc(), &names).err(),
+        Some(Fault::Script { line: 4097 })
+    );
+    let mut lines = Vec::new(rt.alloc());
+    for _ in 0..65_535 {
+        lines.extend_from_slice(b"main run once\n")?;
+    }
+    lines.extend_from_slice(b"\n# neither of these two counts\n")?;
+    assert!(rt; Script::parse(rt.alloc(), &lines).is_ok());
+    lines.extend_from_slice(b"main run once\n")?;
+    assert_eq!(rt;
+        Script::parse(rt.alloc(), &lines).err(),
+        Some(Fault::Script { line: 65_538 })
+    );
+    Ok(())
+}
+
+#[test]
+fn writes_ops(rt: HostRuntime) -> Result<(), Fail> {
+    let script = Script::parse(rt.alloc(), b"var a\nvar b")?;
+    let mut text = Vec::new(rt.alloc());
+    for op in [
+        Op::Init(Var(1), Kind::Timer),
+        Op::Start(Var(0), 0, u64::MAX),
+        Op::Stop(Var(1)),
+    ] {
+        op.push_text(&mut text, script.names())?;
+        text.push(b';')?;
+    }
+    script.names().push_name(&mut text, Var(0))?;
+    let want = b"init b timer;start a 0 18446744073709551615;stop b;a";
+    assert_eq!(rt; text.as_slice(), want.as_slice());
+    Ok(())
+}
+
+#[test]
+fn reads_the_parts_of_lines(rt: HostRuntime) {
+    assert_eq!(rt; Lines::of(b"a\n\nb").count(), 3);
+    assert_eq!(rt; Lines::of(b"a\n\nb\n").count(), 3);
+    assert_eq!(rt; Lines::of(b"").count(), 0);
+    let mut fields = Fields::of(b"loop  1");
+    assert_eq!(rt; fields.next(), Some(b"loop".as_slice()));
+    assert_eq!(rt; fields.next(), Some(b"".as_slice()));
+    assert_eq!(rt; fields.next(), Some(b"1".as_slice()));
+    assert_eq!(rt; fields.next(), None);
+    assert!(rt; is_line(b" ~") && !is_line(b"\n"));
+    assert!(rt; is_name(b"a_9z") && !is_name(b"_a"));
+    assert_eq!(rt; number(b"0"), Some(0));
+    assert_eq!(rt; number(b"00"), None);
+    assert_eq!(rt; number(b"-1"), None);
+}
