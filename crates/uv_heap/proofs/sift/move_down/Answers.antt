@@ -1,0 +1,33 @@
+use Rattle.std.proofs.Common.{◌≡◌, ◌<◌, ◌-◌, length, false, sym, ◌∙◌, ap, arith, refl}
+use Rattle.std.proofs.lemmas.Bool.{false≢true}
+use Rattle.std.proofs.lemmas.List.Edits.{length-swap}
+use Rattle.uv_heap.specs.Moves.{Moved, must_sink}
+use Rattle.uv_heap.proofs.MoveLemmas.{moved_down_more, moved_down_end, child_is, child_within, not_true}
+use Rattle.uv_heap.proofs.sift.move_down.Goals as goal
+
+pub loop-child-smaller : goal.loop-child-smaller
+loop-child-smaller c =
+    let below = (child_is c.loop-child.entries.array c.loop-child.place).1 in
+    let smaller : length c.swap.new.self.array - c.in-Some.child < length c.loop-child.entries.array - c.loop-child.place =
+    rw (c.swap.ensures.array, length-swap c.loop-child.entries.array c.loop-child.place c.in-Some.child) (omega (arith, c.in-Some.ensures.child, below, c.loop-child.invariant.within)) in
+    smaller
+
+pub loop-child-preserved : goal.loop-child-preserved
+loop-child-preserved c =
+    let greater = c.in-Some.ensures.greater.0 refl in
+    let within = child_within c.loop-child.entries.array c.loop-child.place greater in
+    record {
+      within = rw (c.swap.ensures.array, length-swap c.loop-child.entries.array c.loop-child.place c.in-Some.child, c.in-Some.ensures.child) within;
+      rest = rw (c.swap.ensures.array, c.in-Some.ensures.child) (sym (moved_down_more c.loop-child.entries.array c.loop-child.place greater) ∙ c.loop-child.invariant.rest);
+      room = c.swap.ensures.room ∙ c.loop-child.invariant.room;
+    }
+
+pub returns-clause-array : goal.returns-clause-array
+returns-clause-array c =
+    let stays : must_sink c.loop-child.entries.array c.loop-child.place ≡ false = not_true _ (λ e. false≢true (c.in_default.ensures.greater.1 e)) in
+    ap (λ (m : Moved). m.array) (sym (moved_down_end c.loop-child.entries.array c.loop-child.place stays) ∙ c.loop-child.invariant.rest)
+
+pub returns-clause-place : goal.returns-clause-place
+returns-clause-place c =
+    let stays : must_sink c.loop-child.entries.array c.loop-child.place ≡ false = not_true _ (λ e. false≢true (c.in_default.ensures.greater.1 e)) in
+    ap (λ (m : Moved). m.place) (sym (moved_down_end c.loop-child.entries.array c.loop-child.place stays) ∙ c.loop-child.invariant.rest)

@@ -1,0 +1,8 @@
+pub mod Lists
+pub mod Names
+pub mod SenderSteps
+pub mod LoopKeeps
+pub mod LoopSteps
+pub mod Pigeonhole
+pub mod Carries
+pub mod Forbidden

@@ -1,0 +1,146 @@
+-- What the table asks of each step of the loop's seat, and what its seat then is.
+use Rattle.std.proofs.Common.{◌≡◌, ℕ, zero, suc, ◌+◌, ◌*◌, ◌%◌, ◌^◌, ◌<◌, List, [], ◌∷◌, ◌++◌, length, replicate, get_or, set, sym, refl, ap, ◌∙◌, subst, inl, arith, Some, None}
+use Rattle.std.specs.List.{Contains}
+use Rattle.std.proofs.lemmas.List.{length-replicate, get_or-set_same, set-get_or, get_or-replicate}
+use mathlib.Core.Logic.{dite}
+use mathlib.Core.Option.{none, some, some-injective, some-ne-none}
+use native.Mathlib.Decide.{ℕ_discrete}
+use lib.ListN.{get_elem?}
+use Rattle.atomic_table.specs.Table.{State, Me, step, keeps, Allows, Splits, Joins, opening}
+use Rattle.atomic_table.specs.Seated.{TableId}
+use Rattle.atomic_table.proofs.Lists.{set_else, set_again}
+use Rattle.uv_ids.specs.declared.id.Var.{Var}
+use Rattle.uv_wake.specs.declared.tickets.Ticket.{Ticket}
+use Rattle.uv_wake.specs.declared.views.LoopView.{LoopView}
+use Rattle.uv_wake.specs.declared.views.SenderView.{SenderView}
+use Rattle.uv_wake.specs.declared.views.View.{View}
+use Rattle.uv_wake.specs.declared.views.View.TheVariants.{Loop, Sender, Joined}
+use Rattle.uv_wake.specs.Rule.{list_of, Has, NameKept, Kept, starting, at_first}
+use Rattle.uv_wake.specs.Steps.{loop_of, sender_of, Looked, looked, raised, absorbed, learned, NoneIsLeft, IsComplete, split_left, split_right, joined}
+use Rattle.uv_wake.specs.Passes.{IsLoops}
+use Rattle.uv_wake.proofs.Lists.{var_ext, set_there}
+use Rattle.uv_wake.proofs.LoopKeeps.{none_is_left, complete, look_finds, look_keeps, absorb_keeps, split_keeps, join_keeps}
+
+abbrev Knows : Me ℕ View → Type 0
+Knows me = me ≡ (Loop (loop_of me.0), [])
+
+is_loop : (names : ℕ) (s : State ℕ View) (kept : Kept names s) (v : View) → get_elem? s.views 0 ≡ some v → Loop kept.loop ≡ v
+is_loop names s kept v at = some-injective (Loop kept.loop) v (sym kept.first ∙ at)
+
+-- the words and the views as they were
+same_state : (names : ℕ) (s : State ℕ View) (i : ℕ) (v : View) → get_elem? s.views 0 ≡ some v → Kept names s → Kept names (record { words = set s.words i (get_or s.words i 0); homes = s.homes; views = set s.views 0 v })
+same_state names s i v at kept = subst (λ (x : List ℕ × List View). Kept names (record { words = x.0; homes = s.homes; views = x.1 }))
+    (λ j. (sym (set-get_or s.words i 0) j, sym (set_again s.views 0 v at) j)) kept
+
+pub looks : (names slots id : ℕ) (me : Me ℕ View) (v : Var) → id ≡ 0 → Knows me → v.0 < names → Allows (Kept names) slots id me (v.0 + 1) (λ n. n) (looked (step slots (v.0 + 1) 0 0 none) me)
+looks names slots id me v first knows small = subst (λ (k : ℕ). Allows (Kept names) slots k me (v.0 + 1) (λ n. n) (looked (step slots (v.0 + 1) 0 0 none) me)) (sym first) go
+  where
+    go : Allows (Kept names) slots 0 me (v.0 + 1) (λ n. n) (looked (step slots (v.0 + 1) 0 0 none) me)
+    go s kept deep at fits = let n : ℕ = get_or s.words (v.0 + 1) 0 in let is = is_loop names s kept me.0 at in let same : kept.loop ≡ loop_of me.0 = ap loop_of is in dite (ℕ_discrete (n % 2) 0)
+        (λ even. (
+          me.0,
+          keeps,
+          tt,
+          same_state names s (v.0 + 1) me.0 at kept,
+          λ u e. (knows, subst (λ (x : LoopView × Var). Looked x.0 (loop_of me.0) x.1 n) (λ i. (same i, var_ext v u (omega arith) i)) (look_finds names s kept (loop_of me.0) v small (λ odd. absurd (odd even)))),
+        ))
+        (λ odd. let marked_view : LoopView = record kept.loop { seen = Some v } in (
+          Loop marked_view,
+          keeps,
+          tt,
+          look_keeps names s kept v small odd,
+          λ u e. (
+            (λ i. (Loop (record (same i) { seen = Some v }), (knows i).1)),
+            subst (λ (x : LoopView × Var). Looked x.0 marked_view x.1 n) (λ i. (same i, var_ext v u (omega arith) i)) (look_finds names s kept marked_view v small (λ _. refl)),
+          ),
+        ))
+
+pub absorbs : (names slots id : ℕ) (me : Me ℕ View) (v : Var) → id ≡ 0 → Knows me → v.0 < names → (loop_of me.0).seen ≡ Some v → get_or (loop_of me.0).counts v.0 0 < 2 ^ 62
+    → Allows (Kept names) slots id me (v.0 + 1) (λ n. (n + 1) % 2 ^ 64) (absorbed (step slots (v.0 + 1) 1 0 none) me)
+absorbs names slots id me v first knows small seen room = subst (λ (k : ℕ). Allows (Kept names) slots k me (v.0 + 1) (λ n. (n + 1) % 2 ^ 64) (absorbed (step slots (v.0 + 1) 1 0 none) me)) (sym first) go
+  where
+    go : Allows (Kept names) slots 0 me (v.0 + 1) (λ n. (n + 1) % 2 ^ 64) (absorbed (step slots (v.0 + 1) 1 0 none) me)
+    go s kept deep at fits =
+        let n : ℕ = get_or s.words (v.0 + 1) 0 in
+        let same : kept.loop ≡ loop_of me.0 = ap loop_of (is_loop names s kept me.0 at) in
+        let count : get_or kept.loop.counts v.0 0 ≡ get_or (loop_of me.0).counts v.0 0 = ap (λ (l : LoopView). get_or l.counts v.0 0) same in
+        let odd : n ≡ 2 * get_or kept.loop.counts v.0 0 + 1 = (kept.each v small).is_seen (ap (λ (l : LoopView). l.seen) same ∙ seen) in
+        let plain : n + 1 ≡ (n + 1) % 18446744073709551616 = omega arith in
+        let wide = kept.wide in
+        let after : State ℕ View = record { words = set s.words (v.0 + 1) (n + 1); homes = s.homes; views = set s.views 0 (Loop (raised kept.loop v)) } in
+        let held : Kept names after = absorb_keeps names s kept v small odd in
+        let here_word : get_or (set s.words (v.0 + 1) (n + 1)) (v.0 + 1) 0 ≡ n + 1 = get_or-set_same s.words (v.0 + 1) (n + 1) 0 (omega arith) in
+        let even : get_or after.words (v.0 + 1) 0 % 2 ≡ 0 = omega arith in
+        let there : get_elem? after.views 0 ≡ some (Loop (raised kept.loop v)) = set_there s.views 0 (Loop (raised kept.loop v)) me.0 at in (
+          Loop (raised kept.loop v),
+          keeps,
+          tt,
+          subst (λ (w : ℕ). Kept names (record { words = set s.words (v.0 + 1) w; homes = s.homes; views = set s.views 0 (Loop (raised kept.loop v)) })) plain held,
+          λ u e. let told = subst (λ (x : LoopView × Var). NoneIsLeft (raised x.0 x.1) x.1 × IsComplete (raised x.0 x.1)) (λ i. (same i, var_ext v u (omega arith) i))
+              (subst (λ (l : LoopView). NoneIsLeft l v × IsComplete l) (ap loop_of (is_loop names after held (Loop (raised kept.loop v)) there)) (none_is_left names after held v small even, complete names after held)) in
+              ((λ i. (Loop (raised (same i) (var_ext v u (omega arith) i)), (knows i).1)), told.0, told.1),
+        )
+
+pub learns : (names slots id : ℕ) (me : Me ℕ View) → id ≡ 0 → Knows me → Allows (Kept names) slots id me 0 (λ n. n) (learned (step slots 0 0 0 none) me)
+learns names slots id me first knows = subst (λ (k : ℕ). Allows (Kept names) slots k me 0 (λ n. n) (learned (step slots 0 0 0 none) me)) (sym first) go
+  where
+    go : Allows (Kept names) slots 0 me 0 (λ n. n) (learned (step slots 0 0 0 none) me)
+    go s kept deep at fits = (me.0, keeps, tt, same_state names s 0 me.0 at kept, (knows, subst (λ (l : LoopView). IsComplete l) (ap loop_of (is_loop names s kept me.0 at)) (complete names s kept)))
+
+pub splits : (names id : ℕ) (v : View) → id ≡ 0 → Splits (Kept names) id v (split_left v) (split_right v)
+splits names id v first s kept at = let at_0 : get_elem? s.views 0 ≡ some v = (λ i. get_elem? s.views (sym first i)) ∙ at in
+    subst (λ (x : ℕ × View). Kept names (record { words = s.words; homes = s.homes; views = set s.views x.0 (split_left x.1) ++ split_right x.1 ∷ [] })) (λ i. (sym first i, is_loop names s kept v at_0 i)) (split_keeps names s kept)
+
+pub joins : (names id other : ℕ) (v w : View) → id ≡ 0 → w ≡ Sender (sender_of w) → Joins (Kept names) id v other w (joined v w) Joined
+joins names id other v w first sender s kept at apart there = let at_0 : get_elem? s.views 0 ≡ some v = (λ i. get_elem? s.views (sym first i)) ∙ at in
+    let at_other : get_elem? s.views other ≡ some (Sender (sender_of w)) = sym (set_else s.views id other (joined v w) apart) ∙ (there ∙ ap (λ (x : View). some x) sender) in
+    let whole = join_keeps names s kept other (sender_of w) (λ z. apart (z ∙ sym first)) at_other in
+    subst (λ (x : ℕ × View × View). Kept names (record { words = s.words; homes = s.homes; views = set (set s.views x.0 (joined x.1 x.2)) other Joined }))
+    (λ i. (sym first i, is_loop names s kept v at_0 i, sym sender i)) whole
+
+none_has : (views : List View) (l : LoopView) (t : Ticket) → l.tickets ≡ [] → views ≡ Loop l ∷ [] → Has views t → ⊥
+none_has views l t empty is h = go h.0 h.1 (sym (λ i. get_elem? (is i) h.0) ∙ h.2) h.3
+  where
+    go : (i : ℕ) (v : View) → get_elem? (Loop l ∷ []) i ≡ some v → Contains (list_of v) t → ⊥
+    go zero v e c = let same = some-injective (Loop l) v e in let k : Contains [] t = subst (λ (ts : List Ticket). Contains ts t) empty (subst (λ (x : View). Contains (list_of x) t) (sym same) c) in let h : k.0 < 0 = k.1 in omega arith
+    go (suc i) v e c = some-ne-none v (sym e)
+
+first_only : (l : LoopView) (seat : ℕ) (k : LoopView) → get_elem? (Loop l ∷ []) seat ≡ some (Loop k) → seat ≡ 0
+first_only l zero k e = refl
+first_only l (suc i) k e = absurd (some-ne-none (Loop k) (sym e))
+
+no_sender : (l : LoopView) (seat : ℕ) (k : SenderView) → get_elem? (Loop l ∷ []) seat ≡ some (Sender k) → ⊥
+no_sender l zero k e = let same = some-injective (Loop l) (Sender k) e in absurd (cc)
+no_sender l (suc i) k e = some-ne-none (Sender k) (sym e)
+
+pub opens : (names : ℕ) (words : List ℕ) → words ≡ replicate (names + 1) 0 → Kept names (opening {S = ℕ} words [] (at_first names))
+opens names words is = record {
+  loop = starting names;
+  first = refl;
+  alone = λ seat l e. first_only (starting names) seat l e;
+  wide = ap length is ∙ length-replicate (names + 1) 0;
+  further = (λ i. get_or (is i) 0 0) ∙ get_or-replicate (names + 1) 0 0 0 (omega arith);
+  counted = length-replicate names 0;
+  each = λ v small. subst (λ (x : ℕ × ℕ). NameKept (at_first names ∷ []) None v x.0 x.1)
+      (λ i. (sym (get_or-replicate names v.0 0 0 small) i, sym ((λ j. get_or (is j) (v.0 + 1) 0) ∙ get_or-replicate (names + 1) (v.0 + 1) 0 0 (omega arith)) i))
+      (record {
+        is_word = inl refl;
+        is_past = λ t _ h. absurd (none_has (at_first names ∷ []) (starting names) t refl refl h);
+        is_asked = λ e. absurd (omega arith);
+        was_asked = λ e lt. absurd (omega arith);
+        is_seen = λ e. absurd (cc);
+        is_ahead = λ seat k e. absurd (no_sender (starting names) seat k e);
+      });
+  senders = refl;
+}
+
+-- the loop's seat after a step that leaves it l
+pub settles : (board board' : TableId) (id id' : ℕ) (me me' : Me ℕ View) (counts counts' : List ℕ) (turns turns' : ℕ) (l : LoopView) → IsLoops board id me counts turns
+    → board' ≡ board → id' ≡ id → me' ≡ (Loop l, []) → l.counts ≡ counts' → l.splits ≡ turns' → length counts' ≡ length counts → IsLoops board' id' me' counts' turns'
+settles board board' id id' me me' counts counts' turns turns' l old t i m c k w = let is : loop_of me'.0 ≡ l = ap (λ (x : Me ℕ View). loop_of x.0) m in let wide = old.wide in record {
+  first = i ∙ old.first;
+  knows = m ∙ (λ j. (Loop (sym is j), []));
+  counts_are = ap (λ (x : LoopView). x.counts) is ∙ c;
+  splits_are = ap (λ (x : LoopView). x.splits) is ∙ k;
+  wide = ap (λ (x : TableId). x.words) t ∙ (wide ∙ ap (λ (x : ℕ). x + 1) (sym w));
+}
