@@ -7,7 +7,4 @@ pub mod Counts
 pub mod Agrees
 pub mod AfterLines
 pub mod OneReading
-<<<<<<< HEAD
 pub mod SomeReading
-=======
->>>>>>> main

@@ -1,9 +1,5 @@
 -- What a text's reading is free of: two scripts, a script beside a bad line, two first bad lines.
-<<<<<<< HEAD
 use Rattle.std.specs.Prelude.{◌≡◌, ◌⊎◌, ℕ, List}
-=======
-use Rattle.std.specs.Prelude.{◌≡◌, ℕ, List}
->>>>>>> main
 use Rattle.uv_script.specs.Grammar.{IsScript, IsBadLine}
 use Rattle.uv_script.specs.Program.{Program}
 
@@ -18,10 +14,7 @@ HasNoBadLine text = (p : Program) (number : ℕ) → IsScript text p → IsBadLi
 -- a text has at most one first bad line
 abbrev pub HasOneBadLine : List ℕ → Type 0
 HasOneBadLine text = (m n : ℕ) → IsBadLine text m → IsBadLine text n → m ≡ n
-<<<<<<< HEAD
 
 -- a text has a script, or a first bad line
 abbrev pub HasReading : List ℕ → Type 0
 HasReading text = ((p : Program) × IsScript text p) ⊎ ((number : ℕ) × IsBadLine text number)
-=======
->>>>>>> main

@@ -10,11 +10,7 @@ mod statement;
 mod text;
 mod words;
 
-<<<<<<< HEAD
 pub use lines::{Fields, Lines, is_line, line_count};
-=======
-pub use lines::{Fields, Lines, is_line};
->>>>>>> main
 pub use names::Names;
 pub use op::{CallbackLine, MainOp, Op};
 pub use parse::one_reading;

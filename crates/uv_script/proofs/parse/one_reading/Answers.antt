@@ -1,7 +1,4 @@
-<<<<<<< HEAD
 use Rattle.uv_script.proofs.SomeReading.{some_reading}
-=======
->>>>>>> main
 use Rattle.uv_script.proofs.OneReading.{one_script, no_bad_line, one_bad_line}
 use Rattle.uv_script.proofs.parse.one_reading.Goals as goal
 
@@ -13,9 +10,6 @@ returns-clause-apart c = no_bad_line
 
 pub returns-clause-bad_line : goal.returns-clause-bad_line
 returns-clause-bad_line c = one_bad_line
-<<<<<<< HEAD
 
 pub returns-clause-some : goal.returns-clause-some
 returns-clause-some c = some_reading
-=======
->>>>>>> main
