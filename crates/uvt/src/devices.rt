@@ -1,0 +1,88 @@
+//! Standard readers and writers, as a conversation's.
+ghost use Rattle.std.specs.Prelude.{[]};
+
+use std::io::{Read, Write};
+use uv_engine::{ReadFailed, Sink, Source, WriteFailed};
+
+/// A reader that doesn't tell its bytes.
+#[derive(Drop)]
+pub struct Reader<R> {
+    reader: R,
+    failures: u64,
+}
+
+impl<R: Read> Reader<R> {
+    pub fn new(reader: R) -> Reader<R> {
+        Reader {
+            reader,
+            failures: 0,
+        }
+    }
+}
+
+impl<R: Read> Source for Reader<R> {
+    ghost Tells = { ⊥ };
+
+    ghost remaining = { λ _. [] };
+
+    ghost failures = { λ reader. reader.failures };
+
+    fn read(&mut self, room: &mut [u8]) -> Result<usize, ReadFailed> {
+        match self.reader.read(room) {
+            Ok(n) => Ok(n),
+            Err(_) => {
+                self.failures = self.failures.saturating_add(1);
+                Err(ReadFailed)
+            }
+        }
+    }
+}
+
+/// A writer that doesn't tell its bytes.
+#[derive(Drop)]
+pub struct Writer<W> {
+    writer: W,
+    failures: u64,
+}
+
+impl<W: Write> Writer<W> {
+    pub fn new(writer: W) -> Writer<W> {
+        Writer {
+            writer,
+            failures: 0,
+        }
+    }
+}
+
+impl<W: Write> Sink for Writer<W> {
+    ghost Tells = { ⊥ };
+
+    ghost written = { λ _. [] };
+
+    ghost failures = { λ writer. writer.failures };
+
+    fn write(&mut self, bytes: &[u8]) -> Result<usize, WriteFailed> {
+        match self.writer.write(bytes) {
+            Ok(n) => {
+                if n == 0 && !bytes.is_empty() {
+                    self.failures = self.failures.saturating_add(1);
+                }
+                Ok(n)
+            }
+            Err(_) => {
+                self.failures = self.failures.saturating_add(1);
+                Err(WriteFailed)
+            }
+        }
+    }
+
+    fn flush(&mut self) -> Result<(), WriteFailed> {
+        match self.writer.flush() {
+            Ok(()) => Ok(()),
+            Err(_) => {
+                self.failures = self.failures.saturating_add(1);
+                Err(WriteFailed)
+            }
+        }
+    }
+}
