@@ -1,5 +1,5 @@
 -- Text that is gathered and written, a piece at a time.
-use Rattle.std.proofs.Common.{◌≡◌, ℕ, List, [], ◌∷◌, ◌++◌, Result, Ok, Err, refl, ap, sym, ◌∙◌, append_assoc, append-nil, suc, ◌<◌, length, drop, get_or, drop-cons}
+use Rattle.std.proofs.Common.{◌≡◌, ℕ, List, [], ◌++◌, Ok, Err, refl, ap, sym, ◌∙◌, append_assoc, append-nil, suc, ◌<◌, length, drop, get_or, drop-cons}
 use Rattle.std.specs.List.{flat_map}
 use Rattle.std.proofs.lemmas.List.{append_cancel_left}
 use Rattle.uv_ids.specs.declared.fault.Fault.{Fault}

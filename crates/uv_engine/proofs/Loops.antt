@@ -1,5 +1,5 @@
 -- The steps of a loop command, one after another.
-use Rattle.std.proofs.Common.{◌≡◌, ℕ, suc, ◌+◌, ◌-◌, ◌<◌, ◌≤◌, List, [], ◌∷◌, ◌++◌, true, false, refl, ap, sym, ◌∙◌, subst, append-nil, arith}
+use Rattle.std.proofs.Common.{◌≡◌, ℕ, suc, ◌+◌, ◌-◌, ◌<◌, ◌≤◌, List, [], ◌++◌, true, false, refl, ap, sym, ◌∙◌, arith}
 use Rattle.uv_ids.specs.declared.event.Event.TheVariants as event
 use Rattle.uv_session.specs.Shown.{Shown}
 use Rattle.uv_engine.specs.Reply.{Reply, Took, Refused, Full, reply, reply_text, on_text, on_after, loop_text, loop_after}

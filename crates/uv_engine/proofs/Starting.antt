@@ -1,5 +1,5 @@
 -- The lines of a script, one after another.
-use Rattle.std.proofs.Common.{◌≡◌, ◌≢◌, ◌⊎◌, inl, inr, ℕ, ◌+◌, List, [], ◌∷◌, ◌++◌, Bool, true, false, length, Result, Ok, Err, refl, ap, sym, ◌∙◌, subst, arith, ◌==◌, IfErr, append_assoc, append-nil, codes}
+use Rattle.std.proofs.Common.{◌≡◌, ◌≢◌, inl, inr, ℕ, ◌+◌, List, [], ◌∷◌, ◌++◌, Bool, true, false, length, Result, Ok, Err, refl, ap, sym, ◌∙◌, subst, arith, ◌==◌, IfErr, append_assoc, append-nil, codes}
 use Rattle.uv_ids.specs.declared.fault.Fault.{Fault}
 use Rattle.uv_ids.specs.declared.fault.Fault.TheVariants as fault
 use Rattle.uv_script.specs.Program.{Program}
@@ -35,8 +35,8 @@ can_start input = record { begins = λ script commands h. h; never = λ h. h; wh
 more_fed : (input text before line after : List ℕ) → CanBegin input text before → NoFeed line → before ≡ line ++ 10 ∷ after → line ≢ codes "begin" → CanBegin input (text ++ (line ++ 10 ∷ [])) after
 more_fed input text before line after h n e other = record {
   begins = λ script commands k.
-    let front : (text ++ (line ++ 10 ∷ [])) ++ script ≡ text ++ (line ++ 10 ∷ script) = append_assoc text (line ++ 10 ∷ []) script ∙ ap (λ (xs : List ℕ). text ++ xs) (append_assoc line (10 ∷ []) script) in
-    subst (λ (xs : List ℕ). Begins input xs commands) (sym front) (h.begins (line ++ 10 ∷ script) commands (subst (λ (xs : List ℕ). Begins xs (line ++ 10 ∷ script) commands) (sym e) (later n other k)));
+      let front : (text ++ (line ++ 10 ∷ [])) ++ script ≡ text ++ (line ++ 10 ∷ script) = append_assoc text (line ++ 10 ∷ []) script ∙ ap (λ (xs : List ℕ). text ++ xs) (append_assoc line (10 ∷ []) script) in
+      subst (λ (xs : List ℕ). Begins input xs commands) (sym front) (h.begins (line ++ 10 ∷ script) commands (subst (λ (xs : List ℕ). Begins xs (line ++ 10 ∷ script) commands) (sym e) (later n other k)));
   never = λ k. h.never (subst NeverBegins (sym e) (one_line n other k));
   whole = h.whole ∙ ap (λ (xs : List ℕ). text ++ xs) (e ∙ sym (append_assoc line (10 ∷ []) after)) ∙ sym (append_assoc text (line ++ 10 ∷ []) after);
 }

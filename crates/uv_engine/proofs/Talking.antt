@@ -2,7 +2,6 @@
 use Rattle.std.proofs.Common.{◌≡◌, ◌≢◌, ℕ, List, [], ◌∷◌, ◌++◌, Result, Ok, Err, suc, ◌==◌, arith, Bool, true, false, refl, ap, sym, ◌∙◌, subst, append_assoc, append-nil}
 use Rattle.uv_ids.specs.declared.fault.Fault.{Fault}
 use Rattle.uv_session.specs.Shown.{Shown}
-use Rattle.uv_text.specs.declared.command.Command.{Command}
 use Rattle.uv_text.specs.declared.command.Command.TheVariants.{Loop, Tick, Back, Trace, Quit}
 use Rattle.uv_text.specs.declared.command.Asked.{Asked}
 use Rattle.uv_text.specs.declared.command.Asked.TheVariants.{Nothing, Do, Bad}
@@ -13,10 +12,9 @@ use Rattle.uv_engine.specs.Input.{TakesLine, NoFeed}
 use Rattle.uv_engine.specs.declared.conversation.Ended.{Ended}
 use Rattle.uv_engine.specs.declared.conversation.Ended.TheVariants as ended
 use Rattle.std.proofs.lemmas.List.{append_cancel_left}
-use Rattle.uv_engine.specs.Sink.{CutShort}
 use Rattle.uv_engine.specs.Gather.{Grown, CutOff, Gathers, GathersOne}
 use Rattle.uv_engine.specs.Out.{Talks, input_ends, quits, goes_on, Answers, asked_after}
-use Rattle.uv_engine.specs.Talk.{TalksWhole, TalksCut, TalksOn, Finishes}
+use Rattle.uv_engine.specs.Talk.{TalksCut, TalksOn, Finishes}
 use Rattle.uv_engine.proofs.Gathers.{grown_none, grown_more}
 
 -- what was written and gathered goes on to the answers to all lines, by any answers to the lines that are left
@@ -112,14 +110,14 @@ pub cut_waiting : EveryLine → (all : List (List ℕ)) (s0 : Shown) (lines : Li
 cut_waiting every all s0 lines s old w t h =
     let some = some_talk every lines s in
     cut_talk all s0 old w (h.part ++ some.text) (t ++ some.text) some.end (h.onward some.text some.end some.is) h.grown
-      (sym (append_assoc w t some.text) ∙ ap (λ (xs : List ℕ). xs ++ some.text) h.said ∙ append_assoc old h.part some.text)
+    (sym (append_assoc w t some.text) ∙ ap (λ (xs : List ℕ). xs ++ some.text) h.said ∙ append_assoc old h.part some.text)
 
 -- a write failed
 pub cut_writing : EveryLine → (all : List (List ℕ)) (s0 : Shown) (lines : List (List ℕ)) (s : Shown) (old w t v : List ℕ) → CanTalkOn all s0 lines s old w t → CutOff w ((w ++ t) ++ []) v → TalksCut all s0 old v
 cut_writing every all s0 lines s old w t v h k =
     let some = some_talk every lines s in
     cut_talk all s0 old v (h.part ++ some.text) (k.rest ++ some.text) some.end (h.onward some.text some.end some.is) (grown_more old w v h.grown k.grown)
-      (sym (append_assoc v k.rest some.text) ∙ ap (λ (xs : List ℕ). xs ++ some.text) (k.whole ∙ append-nil (w ++ t) ∙ h.said) ∙ append_assoc old h.part some.text)
+    (sym (append_assoc v k.rest some.text) ∙ ap (λ (xs : List ℕ). xs ++ some.text) (k.whole ∙ append-nil (w ++ t) ∙ h.said) ∙ append_assoc old h.part some.text)
 
 -- an answer was cut off
 pub cut_answer : EveryLine → (all : List (List ℕ)) (s0 : Shown) (line : List ℕ) (lines : List (List ℕ)) (s : Shown) (asked : Asked) (f : Fault) (old w t v u : List ℕ) → CanTalkOn all s0 (line ∷ lines) s old w t → Asks line asked → asked ≢ Do Quit → GathersOne (Answers asked s) (Err f) w t v u → TalksCut all s0 old v
@@ -128,8 +126,8 @@ cut_answer every all s0 line lines s asked f old w t v u h a q k =
     let text = k.text ++ some.text in
     let cut = k.gathers in
     cut_talk all s0 old v (h.part ++ text) (cut.rest ++ some.text) some.end (h.onward text some.end (goes_on asked k.text some.text a q k.is some.is)) (grown_more old w v h.grown cut.grown)
-      (sym (append_assoc v cut.rest some.text) ∙ ap (λ (xs : List ℕ). xs ++ some.text) (cut.whole ∙ ap (λ (xs : List ℕ). xs ++ k.text) h.said ∙ append_assoc old h.part k.text)
-      ∙ append_assoc old (h.part ++ k.text) some.text ∙ ap (λ (xs : List ℕ). old ++ xs) (append_assoc h.part k.text some.text))
+    (sym (append_assoc v cut.rest some.text) ∙ ap (λ (xs : List ℕ). xs ++ some.text) (cut.whole ∙ ap (λ (xs : List ℕ). xs ++ k.text) h.said ∙ append_assoc old h.part k.text)
+    ∙ append_assoc old (h.part ++ k.text) some.text ∙ ap (λ (xs : List ℕ). old ++ xs) (append_assoc h.part k.text some.text))
 
 -- the last text is written, or a beginning of it
 finish_talk : EveryLine → (all : List (List ℕ)) (s0 : Shown) (lines : List (List ℕ)) (s : Shown) (old w t v : List ℕ) (end : Ended) (r : Result Ended Fault) → CanTalkOn all s0 lines s old w t → Talks lines s [] end → Finishes r end w t v → TalksOn all s0 r old v
@@ -140,8 +138,8 @@ finish_talk every all s0 lines s old w t v end (Ok ended) h talks k = record {
 }
 finish_talk every all s0 lines s old w t v end (Err fault) h talks k =
     cut_talk all s0 old v (h.part ++ []) (k.rest ++ []) end (h.onward [] end talks) (grown_more old w v h.grown (record { part = k.part; is = k.written }))
-      (ap (λ (xs : List ℕ). xs ++ (k.rest ++ [])) k.written ∙ append_assoc w k.part (k.rest ++ [])
-      ∙ ap (λ (xs : List ℕ). w ++ xs) (sym (append_assoc k.part k.rest []) ∙ append-nil (k.part ++ k.rest) ∙ k.whole) ∙ h.said ∙ ap (λ (xs : List ℕ). old ++ xs) (sym (append-nil h.part)))
+    (ap (λ (xs : List ℕ). xs ++ (k.rest ++ [])) k.written ∙ append_assoc w k.part (k.rest ++ [])
+    ∙ ap (λ (xs : List ℕ). w ++ xs) (sym (append_assoc k.part k.rest []) ∙ append-nil (k.part ++ k.rest) ∙ k.whole) ∙ h.said ∙ ap (λ (xs : List ℕ). old ++ xs) (sym (append-nil h.part)))
 
 -- the input is at its end
 pub talk_ends : EveryLine → (all : List (List ℕ)) (s0 : Shown) (lines : List (List ℕ)) (s : Shown) (old w t v : List ℕ) (r : Result Ended Fault) → CanTalkOn all s0 lines s old w t → lines ≡ [] → Finishes r ended.Input w t v → TalksOn all s0 r old v

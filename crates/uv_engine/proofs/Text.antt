@@ -1,5 +1,5 @@
 -- Texts that are written, whole or cut short.
-use Rattle.std.proofs.Common.{◌≡◌, ℕ, zero, suc, zero-add, add-zero, ◌+◌, ◌-◌, List, [], ◌∷◌, ◌++◌, length, take, drop, refl, ap, sym, ◌∙◌, arith, append_assoc, append-nil}
+use Rattle.std.proofs.Common.{◌≡◌, ℕ, zero, suc, zero-add, add-zero, ◌+◌, ◌-◌, List, [], ◌∷◌, ◌++◌, length, take, drop, refl, ap, sym, ◌∙◌, arith, append_assoc}
 use Rattle.std.proofs.lemmas.Grind.{common_steps}
 use Rattle.std.proofs.lemmas.List.{take-append-drop}
 use Rattle.uv_engine.specs.Sink.{CutShort}

@@ -1,5 +1,5 @@
 -- A reader's lines, one after another.
-use Rattle.std.specs.Prelude.{◌≡◌, ◌≢◌, ℕ, ◌+◌, ◌==◌, true, false, List, [], ◌∷◌, ◌++◌, Bool, All, Option, Some, None, length, if◌then◌else◌}
+use Rattle.std.specs.Prelude.{◌≡◌, ◌≢◌, ℕ, ◌+◌, ◌==◌, true, false, List, [], ◌∷◌, ◌++◌, Bool, All, length, if◌then◌else◌}
 
 -- what was read of an input and not yet taken
 pub record Buffered : Type 0 where

@@ -1,10 +1,10 @@
 -- What the calls of an input's buffer do.
-use Rattle.std.specs.Prelude.{◌≡◌, ℕ, List, [], ◌∷◌, ◌++◌, true, Option, Some, None, Vec}
+use Rattle.std.specs.Prelude.{◌≡◌, ℕ, List, [], true, Option, Some, None, Vec}
 use Rattle.std.specs.Global.{Global}
 use Rattle.uv_ids.specs.declared.fault.Fault.{Fault}
 use Rattle.uv_ids.specs.declared.fault.Fault.TheVariants as fault
 use Rattle.uv_engine.specs.declared.input.Line.{Line}
-use Rattle.uv_engine.specs.Input.{Buffered, pending, NoFeed, TakesLine}
+use Rattle.uv_engine.specs.Input.{Buffered, pending, TakesLine}
 
 -- the reader and the count are as before
 pub record SameReader (old new : Buffered) : Type 0 where

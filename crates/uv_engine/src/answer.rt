@@ -156,7 +156,11 @@ fn push_at(text: &mut Vec<u8>, length: usize) -> Result<(), AllocError>
 
 /// Takes steps back.
 #[tactic(auto, using(crate::proofs::Replies::backs))]
-fn go_back<M: Machine>(session: &mut Session<M>, text: &mut Vec<u8>, n: u32) -> Result<(), AllocError>
+fn go_back<M: Machine>(
+    session: &mut Session<M>,
+    text: &mut Vec<u8>,
+    n: u32,
+) -> Result<(), AllocError>
     ensures text { OnOk result (text.new.items ≡ text.old.items ++ back_text n session.old) }
     ensures session { OnOk result (session.new ≡ back_after n session.old) }
 {

@@ -31,11 +31,7 @@ pub enum Ended {
 }
 
 /// Writes the gathered text where the next line has to be waited for.
-fn write_if_waiting<W: Sink>(
-    input: &Input,
-    writer: &mut W,
-    text: &mut Vec<u8>,
-) -> Result<(), Fault>
+fn write_if_waiting<W: Sink>(input: &Input, writer: &mut W, text: &mut Vec<u8>) -> Result<(), Fault>
     ensures text { W.Tells → Gathers result (W.written writer.old) text.old.items [] (W.written writer.new) text.new.items }
     ensures err { IfErr result IsDeviceFault }
 {

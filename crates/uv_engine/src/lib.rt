@@ -3,11 +3,15 @@
 
 mod answer;
 mod conversation;
+mod devices;
 mod input;
 mod script;
 mod sink;
 mod source;
+#[cfg(test)]
+mod tests;
 
 pub use conversation::{Ended, converse};
+pub use devices::{Reader, Writer};
 pub use sink::{Sink, WriteFailed};
 pub use source::{ReadFailed, Source};

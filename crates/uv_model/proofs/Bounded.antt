@@ -1,5 +1,5 @@
 -- A state's numbers are no larger than the number of its steps, and its times no later than the clock's limit.
-use Rattle.std.proofs.Common.{◌≡◌, ℕ, suc, ◌+◌, ◌<◌, ◌≤◌, ◌^◌, List, [], ◌∷◌, ◌++◌, length, Bool, true, false, Option, Some, None, if◌then◌else◌, nat_lt, nat_le, ◌==◌, ◌&&◌, slice_get, slice_set, unwrap_or, All, refl, arith, ap, subst, replicate, add-zero, zero-add}
+use Rattle.std.proofs.Common.{◌≡◌, ℕ, suc, ◌+◌, ◌<◌, ◌≤◌, ◌^◌, List, [], ◌∷◌, ◌++◌, length, Bool, true, false, Option, Some, None, if◌then◌else◌, nat_le, ◌==◌, ◌&&◌, slice_get, slice_set, All, refl, arith, subst, replicate, add-zero, zero-add}
 use Rattle.std.proofs.lemmas.Grind.{elements}
 use Rattle.std.proofs.lemmas.Bool.Decides.{nat_tests}
 use Rattle.uv_ids.specs.declared.id.Id.{Id}
@@ -26,9 +26,9 @@ use Rattle.uv_model.specs.declared.place.Timing.TheVariants.{Collecting, Firing}
 use Rattle.uv_model.specs.declared.place.Place.{Place}
 use Rattle.uv_model.specs.declared.place.Place.TheVariants.{Main, Running}
 use Rattle.uv_model.specs.Handles.{new_handle, inactive}
-use Rattle.uv_model.specs.State.{State, fresh, named, unbound, handle_of, with_handle, with_named, with_new, unused_slot, live}
-use Rattle.uv_model.specs.Timers.{stopped, started, without_id, with_timer, without_timer, due_after}
-use Rattle.uv_model.specs.Timeout.{is_alive, has_passed}
+use Rattle.uv_model.specs.State.{State, fresh, named, handle_of, with_handle, with_named, with_new, unused_slot, live}
+use Rattle.uv_model.specs.Timers.{stopped, started, without_id, without_timer}
+use Rattle.uv_model.specs.Timeout.{has_passed}
 use Rattle.uv_model.specs.Ops as ops
 use Rattle.uv_model.specs.Ops.{do_op}
 use Rattle.uv_model.specs.Next.{Next, Moves, Refuses, next, loop_step, main_step, run_step, body_step, stage_step, tick, timers, collect, fire, leave_timers, enter, ends, call, restarted, made_ready, refreshed, is_default, timers_stage, body_from, goes}

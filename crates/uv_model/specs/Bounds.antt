@@ -1,5 +1,5 @@
 -- What keeps a state's numbers within their types, and the timers' keys apart.
-use Rattle.std.specs.Prelude.{◌≡◌, ℕ, ◌<◌, ◌^◌, List, All, true, Option, Some, None}
+use Rattle.std.specs.Prelude.{◌≡◌, ℕ, ◌<◌, ◌^◌, All, true, Option, Some, None}
 use Rattle.uv_model.specs.declared.handle.Handle.{Handle}
 use Rattle.uv_model.specs.declared.handle.Slot.{Slot}
 use Rattle.uv_model.specs.declared.handle.Named.{Named}

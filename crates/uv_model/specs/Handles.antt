@@ -1,5 +1,5 @@
 -- The records of handles.
-use Rattle.std.specs.Prelude.{ℕ, true, false}
+use Rattle.std.specs.Prelude.{false}
 use Rattle.uv_ids.specs.declared.id.Var.{Var}
 use Rattle.uv_ids.specs.declared.phase.Kind.{Kind}
 use Rattle.uv_ids.specs.declared.due.Due.{Due}

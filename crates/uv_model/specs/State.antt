@@ -1,10 +1,8 @@
 -- The state of a loop: plain lists, a map in the order of timers, and numbers.
-use Rattle.std.specs.Prelude.{ℕ, ◌==◌, ◌<◌, ◌+◌, List, [], ◌∷◌, ◌++◌, length, Bool, Option, Some, None, unwrap_or, option_and_then, nat_lt, replicate, slice_get, slice_set, if◌then◌else◌}
+use Rattle.std.specs.Prelude.{ℕ, ◌==◌, List, [], ◌∷◌, ◌++◌, length, Option, Some, None, unwrap_or, option_and_then, nat_lt, replicate, slice_get, slice_set, if◌then◌else◌}
 use Rattle.uv_ids.specs.declared.id.Id.{Id}
 use Rattle.uv_ids.specs.declared.id.Var.{Var}
 use Rattle.uv_ids.specs.declared.due.Due.{Due}
-use Rattle.uv_ids.specs.declared.seen.Seen.{Seen}
-use Rattle.uv_ids.specs.declared.fault.Why.{Why}
 use Rattle.uv_ids.specs.declared.phase.Kind.TheVariants.{Timer}
 use Rattle.uv_script.specs.Program.{Program}
 use Rattle.uv_model.specs.declared.handle.Handle.{Handle}

@@ -1,6 +1,6 @@
 -- Every text is read in some way.
-use Rattle.std.proofs.Common.{◌≡◌, ◌⊎◌, inl, inr, ℕ, ◌+◌, List, [], ◌∷◌, ◌++◌, length, Option, Some, None, refl, sym, ◌∙◌, subst, append_assoc, append-nil}
-use Rattle.uv_script.specs.Grammar.{ReadsAll, none, blank, IsScript, IsBadLine}
+use Rattle.std.proofs.Common.{◌≡◌, inl, inr, ℕ, ◌+◌, List, [], ◌∷◌, ◌++◌, length, Option, Some, None, refl, sym, ◌∙◌, subst, append_assoc, append-nil}
+use Rattle.uv_script.specs.Grammar.{ReadsAll, none, blank}
 use Rattle.uv_script.specs.Laws.{HasReading}
 use Rattle.uv_script.specs.Lines.{lines_of}
 use Rattle.uv_script.specs.Program.{Program}

@@ -4,4 +4,3 @@
 mod session;
 
 pub use session::Session;
-

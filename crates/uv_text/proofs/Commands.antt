@@ -1,19 +1,18 @@
 -- The tests of the code decide which commands there are.
-use Rattle.std.proofs.Common.{◌≡◌, ℕ, ◌≤◌, List, [], ◌∷◌, Bool, true, false, ◌&&◌, ◌==◌, nat_le, Option, Some, None, if◌then◌else◌, codes, refl, ap, sym, ◌∙◌, subst, arith}
+use Rattle.std.proofs.Common.{◌≡◌, ℕ, List, [], ◌∷◌, Bool, true, false, ◌&&◌, nat_le, Option, Some, None, if◌then◌else◌, codes, refl, ap, sym, ◌∙◌, arith}
 use Rattle.std.specs.Str.{bytes_eq}
 use Rattle.std.proofs.lemmas.Slice.Eq.{bytes_eq-Decides}
 use Rattle.std.proofs.lemmas.Bool.{and_parts, and_from, leb-true, le-leb, both_ways}
 use Rattle.std.proofs.lemmas.Bool.Decides.{Decides-eqb}
-use Rattle.uv_script.specs.Lines.{fields_of, IsLine, IsSkipped, empty, comment}
+use Rattle.uv_script.specs.Lines.{fields_of, IsSkipped, empty, comment}
 use Rattle.uv_script.specs.Words.{IsNumber}
 use Rattle.uv_script.specs.Checks.{is_line, number_of}
 use Rattle.uv_script.proofs.Checks.{is_line_decides, number_of-sound, number_of-complete}
 use Rattle.uv_text.specs.declared.command.Command.{Command}
-use Rattle.uv_text.specs.declared.command.Command.TheVariants.{Loop, Tick, Back, Trace, Quit}
+use Rattle.uv_text.specs.declared.command.Command.TheVariants.{Loop, Back}
 use Rattle.uv_text.specs.declared.command.Asked.{Asked}
-use Rattle.uv_text.specs.declared.command.Asked.TheVariants.{Nothing, Do, Bad}
 use Rattle.uv_text.specs.Commands.{IsCommand, IsNoCommand, one_step, steps, tick, back, trace, quit, Asks, nothing, command, bad, MOST}
-use Rattle.uv_text.specs.Reading.{command_alone, command_with, command_of, asked_for, asked_of, is_skipped, loops, goes_back}
+use Rattle.uv_text.specs.Reading.{command_alone, command_with, command_of, asked_for, asked_of, is_skipped}
 
 if_when : {A : Type 0} (P : A → Type 0) (b : Bool) (x y : A) → (b ≡ true → P x) → (b ≡ false → P y) → P (if b then x else y)
 if_when P true x y h k = h refl

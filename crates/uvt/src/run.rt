@@ -1,10 +1,9 @@
 //! The program over any reader and writers.
 
 use crate::command_line::{Job, NoJob, read_words};
-use crate::devices::{Reader, Writer};
 use std::alloc::Global;
 use std::io::{Read, Write};
-use uv_engine::converse;
+use uv_engine::{Reader, Writer, converse};
 use uv_ids::Fault;
 use uv_model::PlainLoop;
 
@@ -42,7 +41,7 @@ fn debug<R: Read + Drop, W: Write + Drop, E: Write>(
 }
 
 /// Says what went wrong, and gives the exit status.
-fn fail<E: Write>(fault: Fault, errors: &mut E) -> u8 {
+pub fn fail<E: Write>(fault: Fault, errors: &mut E) -> u8 {
     let _ = writeln!(errors, "uvt: {fault}");
     match fault {
         Fault::Script { .. } => 2,

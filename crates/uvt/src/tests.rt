@@ -1,7 +1,7 @@
 //! The program over memory: whole conversations, bad input, and devices that fail.
 
 use crate::run::run;
-use std::alloc::Global;
+use std::alloc::{AllocError, Global};
 use std::io;
 use std::io::{Read, Write};
 use std::test::Fail;
@@ -196,5 +196,305 @@ fn conversations(rt: HostRuntime) {
         );
         assert_eq!(rt; ran.errors.as_slice(), b"".as_slice(), "{}", one.what);
         assert_eq!(rt; ran.status, 0, "{}", one.what);
+    }
+}
+
+/// Input that is outside a rule: what is written, and the status and the fault's text.
+struct Outside {
+    what: &'static str,
+    input: &'static [u8],
+    output: &'static str,
+    status: u8,
+    errors: &'static str,
+}
+
+const OUTSIDE: [Outside; 13] = [
+    Outside {
+        what: "a name that is not declared",
+        input: b"var a\nmain start b 1 0\nbegin\n",
+        output: "",
+        status: 2,
+        errors: "uvt: bad script line 2\n",
+    },
+    Outside {
+        what: "an unknown word in the script",
+        input: b"var a\n# a comment\nmain jump a\nmain fly a\nbegin\n",
+        output: "",
+        status: 2,
+        errors: "uvt: bad script line 3\n",
+    },
+    Outside {
+        what: "a number out of range in the script",
+        input: b"var a\nmain start a 18446744073709551616 0\nbegin\n",
+        output: "",
+        status: 2,
+        errors: "uvt: bad script line 2\n",
+    },
+    Outside {
+        what: "no line `begin`",
+        input: b"var a\nmain init a timer\n",
+        output: "",
+        status: 2,
+        errors: "uvt: bad script line 3\n",
+    },
+    Outside {
+        what: "no input at all",
+        input: b"",
+        output: "",
+        status: 2,
+        errors: "uvt: bad script line 1\n",
+    },
+    Outside {
+        what: "a bad line comes before the line `begin` that is missing",
+        input: b"var a\nvar a\nvar a",
+        output: "",
+        status: 2,
+        errors: "uvt: bad script line 2\n",
+    },
+    Outside {
+        what: "an unknown command, and one with a space too many",
+        input: b"begin\njump\nloop \n loop\nloop  1\nquit now\n\n# nothing\nloop\n",
+        output: "bad command\nbad command\nbad command\nbad command\nbad command\nrefused ended\n",
+        status: 0,
+        errors: "",
+    },
+    Outside {
+        what: "a command's number out of range",
+        input: b"begin\nloop 0\nloop 16777217\nback 16777217\ntick 01\ntick 18446744073709551616\n",
+        output: "bad command\nbad command\nbad command\nbad command\nbad command\n",
+        status: 0,
+        errors: "",
+    },
+    Outside {
+        what: "a byte that no line holds",
+        input: b"begin\nloop\x1f\n# \x1f\nloop\r\n",
+        output: "bad command\nbad command\nbad command\n",
+        status: 0,
+        errors: "",
+    },
+    Outside {
+        what: "back past the start",
+        input: b"var t\nmain init t timer\nbegin\nloop\nback 2\ntrace\nback 1\ntrace\n",
+        output: "init t timer = 0.0\nrefused range\ninit t timer = 0.0\nat 0\n",
+        status: 0,
+        errors: "",
+    },
+    Outside {
+        what: "an event after the end",
+        input: b"begin\nloop\ntrace\nback 1\n",
+        output: "refused ended\nrefused range\n",
+        status: 0,
+        errors: "",
+    },
+    Outside {
+        what: "the clock past its end",
+        input: b"begin\ntick 4611686018427387905\ntick 4611686018427387904\ntick 1\ntick 0\n",
+        output: "refused range\nout tick 4611686018427387904\nrefused range\nout tick 0\n",
+        status: 0,
+        errors: "",
+    },
+    Outside {
+        what: "what follows quit",
+        input: b"begin\nquit\nloop\n",
+        output: "",
+        status: 0,
+        errors: "",
+    },
+];
+
+#[test]
+fn outside_the_rules(rt: HostRuntime) {
+    let alloc = rt.alloc();
+    for one in &OUTSIDE {
+        let ran = run_on(alloc, &["uvt", "debug"], one.input);
+        assert_eq!(rt;
+            ran.output.as_slice(),
+            one.output.as_bytes(),
+            "{}",
+            one.what
+        );
+        assert_eq!(rt;
+            ran.errors.as_slice(),
+            one.errors.as_bytes(),
+            "{}",
+            one.what
+        );
+        assert_eq!(rt; ran.status, one.status, "{}", one.what);
+    }
+}
+
+#[test]
+fn a_line_of_257_bytes(rt: HostRuntime) -> Result<(), Fail> {
+    let alloc = rt.alloc();
+    let mut input = Vec::from_slice(alloc, b"begin\n#")?;
+    for _ in 0..255 {
+        input.push(b'x')?;
+    }
+    input.extend_from_slice(b"\n#")?;
+    for _ in 0..256 {
+        input.push(b'x')?;
+    }
+    let ran = run_on(alloc, &["uvt", "debug"], input.as_slice());
+    assert_eq!(rt; ran.output.as_slice(), b"bad command\n".as_slice());
+    assert_eq!(rt; ran.status, 0);
+    Ok(())
+}
+
+#[test]
+fn bad_command_lines(rt: HostRuntime) {
+    let alloc = rt.alloc();
+    let words: [&[&str]; 8] = [
+        &["uvt"],
+        &["uvt", "run"],
+        &["uvt", "debug", "more"],
+        &["uvt", "--help"],
+        &["uvt", "-h"],
+        &["uvt", "help"],
+        &["uvt", "--version"],
+        &["uvt", "debug", "--help"],
+    ];
+    for one in &words {
+        let ran = run_on(alloc, one, b"begin\nloop\n");
+        assert_eq!(rt; ran.output.as_slice(), b"".as_slice());
+        assert_eq!(rt;
+            ran.errors.as_slice(),
+            b"uvt: bad command line\n".as_slice()
+        );
+        assert_eq!(rt; ran.status, 2);
+    }
+}
+
+/// A reader that gives a line at a time, and one that fails at a read.
+#[derive(Drop)]
+struct Lines<'a> {
+    rest: &'a [u8],
+    reads_left: u32,
+}
+
+impl Read for Lines<'_> {
+    fn read(&mut self, room: &mut [u8]) -> io::Result<usize> {
+        if self.reads_left == 0 {
+            return Err(io::ErrorKind::Other.into());
+        }
+        self.reads_left -= 1;
+        let end = match self.rest.iter().position(|byte| *byte == b'\n') {
+            Some(feed) => feed + 1,
+            None => self.rest.len(),
+        };
+        let n = end.min(room.len());
+        room[..n].copy_from_slice(&self.rest[..n]);
+        self.rest = &self.rest[n..];
+        Ok(n)
+    }
+}
+
+/// A writer that takes a few bytes at a time, notes each flush by a bar, and fails at a write.
+#[derive(Drop)]
+struct Page {
+    text: Vec<u8>,
+    writes_left: u32,
+}
+
+impl Write for Page {
+    fn write(&mut self, bytes: &[u8]) -> io::Result<usize> {
+        if self.writes_left == 0 {
+            return Err(io::ErrorKind::Other.into());
+        }
+        self.writes_left -= 1;
+        let n = bytes.len().min(7);
+        self.text.extend_from_slice(&bytes[..n])?;
+        Ok(n)
+    }
+
+    fn flush(&mut self) -> io::Result<()> {
+        self.text.push(b'|')?;
+        Ok(())
+    }
+}
+
+#[test]
+fn each_line_is_answered_before_the_next_is_read(rt: HostRuntime) {
+    let alloc = rt.alloc();
+    let input = b"var t\nmain init t timer\nbegin\nloop\nloop\ntick 3\nnone\ntrace\nback 2";
+    let reader = Lines {
+        rest: input,
+        reads_left: 100,
+    };
+    let mut page = Page {
+        text: Vec::new(alloc),
+        writes_left: 100,
+    };
+    let mut errors = Vec::new(alloc);
+    let status = run(alloc, &["uvt", "debug"], reader, &mut page, &mut errors);
+    let wanted =
+        "init t timer = 0.0\n|refused ended\n|out tick 3\n|bad command\n|init t timer = 0.0\nout tick 3\n|at 0\n|";
+    assert_eq!(rt; page.text.as_slice(), wanted.as_bytes());
+    assert_eq!(rt; status, 0);
+}
+
+/// A text without the bars.
+fn unbarred(alloc: Global, text: &[u8]) -> Result<Vec<u8>, AllocError> {
+    text.iter()
+        .copied()
+        .filter(|byte| *byte != b'|')
+        .collect(alloc)
+}
+
+#[test]
+fn devices_fail(rt: HostRuntime) -> Result<(), Fail> {
+    let alloc = rt.alloc();
+    for one in &CONVERSATIONS {
+        for k in 0..40u32 {
+            for reads in [true, false] {
+                let reader = Lines {
+                    rest: one.input.as_bytes(),
+                    reads_left: if reads { k } else { 1000 },
+                };
+                let mut page = Page {
+                    text: Vec::new(alloc),
+                    writes_left: if reads { 1000 } else { k },
+                };
+                let mut errors = Vec::new(alloc);
+                let status = run(alloc, &["uvt", "debug"], reader, &mut page, &mut errors);
+                let text = unbarred(alloc, page.text.as_slice())?;
+                assert!(rt;
+                    one.output.as_bytes().starts_with(text.as_slice()),
+                    "{} {k}",
+                    one.what
+                );
+                if status == 0 {
+                    assert_eq!(rt; text.as_slice(), one.output.as_bytes(), "{} {k}", one.what);
+                } else {
+                    let wanted = if reads {
+                        b"uvt: read failed\n".as_slice()
+                    } else {
+                        b"uvt: write failed\n".as_slice()
+                    };
+                    assert_eq!(rt; errors.as_slice(), wanted, "{} {k}", one.what);
+                    assert_eq!(rt; status, 4, "{} {k}", one.what);
+                }
+            }
+        }
+    }
+    Ok(())
+}
+
+/// Run with an allocation refused from outside, this shows that a conversation ends with that fault and a beginning of its
+/// output; with ample memory, that it ends with all of it.
+#[test]
+fn want_of_memory(rt: HostRuntime) {
+    let alloc = rt.alloc();
+    for one in &CONVERSATIONS {
+        let ran = run_on(alloc, &["uvt", "debug"], one.input.as_bytes());
+        assert!(rt;
+            one.output.as_bytes().starts_with(ran.output.as_slice()),
+            "{}",
+            one.what
+        );
+        assert!(rt;
+            ran.status == 4 || ran.output.len() == one.output.len(),
+            "{}",
+            one.what
+        );
     }
 }

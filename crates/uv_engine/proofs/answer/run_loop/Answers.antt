@@ -1,6 +1,4 @@
 use Rattle.std.proofs.Common.{◌∙◌, sym, []}
-use Rattle.uv_engine.specs.Gather.{Gathered}
-use Rattle.uv_engine.specs.Reply.{loop_text}
 use Rattle.uv_engine.proofs.Gathers.{gathered_more, gathered_by, gathered_all, cut_by}
 use Rattle.uv_engine.proofs.Loops.{turn_on, turn_after, turn_off, off_after, no_turn, no_turn_after}
 use Rattle.uv_engine.proofs.answer.run_loop.Goals as goal
@@ -10,8 +8,8 @@ loop-preserved g c =
     let on = rw c.in-Ok-true.field-0-test at c.in-Ok-true.ensures.on in
     record {
       text = λ tells.
-        let before = rw (turn_on c.args.n c.loop.counter c.loop.session c.tell.new.session c.loop-test.true on) at (c.loop.invariant.text tells) in
-        gathered_by _ _ _ _ [] _ _ _ (gathered_more _ _ _ _ _ _ _ before c.in-Ok-true.ensures.text) (c.in-Ok.ensures.text tells);
+          let before = rw (turn_on c.args.n c.loop.counter c.loop.session c.tell.new.session c.loop-test.true on) at (c.loop.invariant.text tells) in
+          gathered_by _ _ _ _ [] _ _ _ (gathered_more _ _ _ _ _ _ _ before c.in-Ok-true.ensures.text) (c.in-Ok.ensures.text tells);
       session = sym (turn_after c.args.n c.loop.counter c.loop.session c.tell.new.session c.loop-test.true on) ∙ c.loop.invariant.session;
     }
 

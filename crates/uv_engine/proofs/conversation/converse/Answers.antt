@@ -1,6 +1,5 @@
-use Rattle.std.proofs.Common.{List, ℕ, Ok, Err}
+use Rattle.std.proofs.Common.{Ok, Err}
 use Rattle.uv_engine.specs.Input.{left}
-use Rattle.uv_engine.specs.Start.{ReadsScript}
 use Rattle.uv_engine.proofs.Starting.{no_start, no_machine, talked, begun_session, reads_whole}
 use Rattle.uv_engine.proofs.conversation.converse.Goals as goal
 
@@ -9,7 +8,7 @@ returns-in-Err g c = λ reads tells.
     let input = g.R.Source.remaining c.args.reader.now in
     let rest = left c.read_script.new.input (g.R.Source.remaining c.read_script.new.reader) in
     no_start c.one_reading.ensures.some c.every_line_asks.ensures input rest _ c.in-Err.fault c.in-Err.ensures.err
-      (reads_whole c.new-input.result input rest (Err c.in-Err.fault) c.new-input.ensures.empty (c.in-Err.ensures.script reads))
+    (reads_whole c.new-input.result input rest (Err c.in-Err.fault) c.new-input.ensures.empty (c.in-Err.ensures.script reads))
 
 pub returns-in-Err-begin : goal.returns-in-Err-begin
 returns-in-Err-begin g c = λ reads tells. no_machine c.one_reading.ensures.some c.every_line_asks.ensures _ _ _ c.in-Err-begin.ensures.err

@@ -1,7 +1,5 @@
-use Rattle.std.proofs.Common.{List, ℕ, ap, subst, sym, ◌∙◌}
+use Rattle.std.proofs.Common.{ap}
 use Rattle.uv_script.specs.Lines.{lines_of}
-use Rattle.uv_text.specs.declared.command.Asked.{Asked}
-use Rattle.uv_text.specs.Commands.{Asks}
 use Rattle.uv_engine.proofs.Talking.{can_write, can_answer, can_next, cut_waiting, cut_writing, cut_answer, talk_ends, talk_quits}
 use Rattle.uv_engine.proofs.conversation.talk.Goals as goal
 
@@ -34,8 +32,8 @@ pub lines-preserved : goal.lines-preserved
 lines-preserved g c = record {
   end = c.in-Ok-Some.ensures.end;
   text = λ reads tells.
-    let taken = rw c.in-Ok-Some.field-0-is at (c.in-Ok-Some.ensures.line reads) in
-    let before = can_next _ _ _ _ _ _ _ _ _ _ taken (can_write _ _ _ _ _ _ _ _ _ (c.lines.invariant.text reads tells) (c.in-Ok.ensures.text tells)) in
-    let asks = rw (c.as_slice.ensures.value) at c.read_command-asked.ensures.rule in
-    can_answer _ _ _ _ _ _ _ _ _ _ _ _ before asks (c.is_quit.ensures.other c.if-is_quit.false) (c.in-Ok-answer.ensures.text tells) c.in-Ok-answer.ensures.session;
+      let taken = rw c.in-Ok-Some.field-0-is at (c.in-Ok-Some.ensures.line reads) in
+      let before = can_next _ _ _ _ _ _ _ _ _ _ taken (can_write _ _ _ _ _ _ _ _ _ (c.lines.invariant.text reads tells) (c.in-Ok.ensures.text tells)) in
+      let asks = rw (c.as_slice.ensures.value) at c.read_command-asked.ensures.rule in
+      can_answer _ _ _ _ _ _ _ _ _ _ _ _ before asks (c.is_quit.ensures.other c.if-is_quit.false) (c.in-Ok-answer.ensures.text tells) c.in-Ok-answer.ensures.session;
 }

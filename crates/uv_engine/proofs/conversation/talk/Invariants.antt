@@ -1,4 +1,3 @@
-use Rattle.std.proofs.Common.{◌≡◌}
 use Rattle.uv_script.specs.Lines.{lines_of}
 use Rattle.uv_engine.specs.Input.{left, size, EndIsSeen}
 use Rattle.uv_engine.proofs.Talking.{CanTalkOn}

@@ -15,6 +15,6 @@ pub lines-preserved : goal.lines-preserved
 lines-preserved g c = record {
   end = c.in-Ok-Some.ensures.end;
   text = λ reads.
-    let taken = rw c.in-Ok-Some.field-0-is at (c.in-Ok-Some.ensures.line reads) in
-    can_go_on _ _ _ _ _ _ _ (c.lines.invariant.text reads) taken (c.is_begin.ensures.other c.if-is_begin.false) c.in-Ok.ensures;
+      let taken = rw c.in-Ok-Some.field-0-is at (c.in-Ok-Some.ensures.line reads) in
+      can_go_on _ _ _ _ _ _ _ (c.lines.invariant.text reads) taken (c.is_begin.ensures.other c.if-is_begin.false) c.in-Ok.ensures;
 }

@@ -1,4 +1,3 @@
-use Rattle.std.proofs.Common.{◌≡◌}
 use Rattle.uv_engine.specs.Input.{left, size, EndIsSeen}
 use Rattle.uv_engine.proofs.Starting.{CanBegin}
 use Rattle.uv_engine.proofs.script.read_script.Given as goal

@@ -1,8 +1,9 @@
 //! Standard readers and writers, as a conversation's.
 ghost use Rattle.std.specs.Prelude.{[]};
 
+use crate::sink::{Sink, WriteFailed};
+use crate::source::{ReadFailed, Source};
 use std::io::{Read, Write};
-use uv_engine::{ReadFailed, Sink, Source, WriteFailed};
 
 /// A reader that doesn't tell its bytes.
 #[derive(Drop)]
