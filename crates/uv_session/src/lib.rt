@@ -2,5 +2,7 @@
 #![tactic(auto)]
 
 mod session;
+#[cfg(test)]
+mod tests;
 
 pub use session::Session;

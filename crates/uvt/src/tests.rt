@@ -444,7 +444,7 @@ fn unbarred(alloc: Global, text: &[u8]) -> Result<Vec<u8>, AllocError> {
 fn devices_fail(rt: HostRuntime) -> Result<(), Fail> {
     let alloc = rt.alloc();
     for one in &CONVERSATIONS {
-        for k in 0..40u32 {
+        for k in 0..80u32 {
             for reads in [true, false] {
                 let reader = Lines {
                     rest: one.input.as_bytes(),
