@@ -1,0 +1,45 @@
+// Loaded before the C library (LD_PRELOAD): refuses the allocation whose number stands in REFUSE, counting
+// from 1, and at the end writes how many were asked for to the file that ASKED names.
+#define _GNU_SOURCE
+#include <dlfcn.h>
+#include <fcntl.h>
+#include <stdio.h>
+#include <stdlib.h>
+#include <unistd.h>
+
+static long asked;
+
+static int is_refused(void) {
+    const char *number = getenv("REFUSE");
+    asked += 1;
+    return number != NULL && atol(number) == asked;
+}
+
+void *malloc(size_t size) {
+    static void *(*next)(size_t);
+    if (next == NULL) {
+        next = (void *(*)(size_t))dlsym(RTLD_NEXT, "malloc");
+    }
+    return is_refused() ? NULL : next(size);
+}
+
+void *realloc(void *old, size_t size) {
+    static void *(*next)(void *, size_t);
+    if (next == NULL) {
+        next = (void *(*)(void *, size_t))dlsym(RTLD_NEXT, "realloc");
+    }
+    return is_refused() ? NULL : next(old, size);
+}
+
+__attribute__((destructor)) static void report(void) {
+    const char *name = getenv("ASKED");
+    if (name != NULL) {
+        char text[32];
+        int length = snprintf(text, sizeof text, "%ld\n", asked);
+        int file = open(name, O_WRONLY | O_CREAT | O_TRUNC, 0600);
+        if (file < 0 || write(file, text, (size_t)length) != length) {
+            _exit(99);
+        }
+        close(file);
+    }
+}
