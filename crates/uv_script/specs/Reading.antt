@@ -4,7 +4,7 @@ use Rattle.std.specs.List.{position}
 use Rattle.std.specs.Str.{bytes_eq}
 use Rattle.uv_ids.specs.declared.id.Var.{Var}
 use Rattle.uv_ids.specs.declared.phase.Kind.{Kind}
-use Rattle.uv_ids.specs.declared.phase.Kind.TheVariants.{Timer}
+use Rattle.uv_ids.specs.declared.phase.Kind.TheVariants as kind
 use Rattle.uv_ids.specs.declared.phase.Mode.{Mode}
 use Rattle.uv_ids.specs.declared.phase.Mode.TheVariants as mode
 use Rattle.uv_ids.specs.declared.fault.Fault.{Fault}
@@ -37,7 +37,7 @@ unfoldable pub place_of : List (List ℕ) → List ℕ → Option Var
 place_of names name = option_map (λ n. record { 0 = n }) (position (bytes_eq name) names)
 
 unfoldable pub kind_of : List ℕ → Option Kind
-kind_of word = if bytes_eq word (codes "timer") then Some Timer else None
+kind_of word = if bytes_eq word (codes "timer") then Some kind.Timer else if bytes_eq word (codes "idle") then Some kind.Idle else if bytes_eq word (codes "prepare") then Some kind.Prepare else if bytes_eq word (codes "check") then Some kind.Check else None
 
 unfoldable pub mode_of : List ℕ → Option Mode
 mode_of word = if bytes_eq word (codes "default") then Some mode.Default else if bytes_eq word (codes "once") then Some mode.Once else if bytes_eq word (codes "nowait") then Some mode.Nowait else None

@@ -19,15 +19,19 @@ use Rattle.uv_script.specs.Text.{op_text, name_text}
 abbrev pub id_text : Id → List ℕ
 id_text id = decimal id.slot ++ codes "." ++ decimal id.generation
 
--- what an op answered: a code or an id
-abbrev pub answer_text : Answer → List ℕ
-answer_text (answer.Code code) = code_word code
-answer_text (answer.Id id) = id_text id
-
 -- a poll timeout in ms
 abbrev pub timeout_text : Option ℕ → List ℕ
 timeout_text (Some ms) = decimal ms
 timeout_text None = codes "infinite"
+
+-- what an op answered
+abbrev pub answer_text : Answer → List ℕ
+answer_text (answer.Code code) = code_word code
+answer_text (answer.Id id) = id_text id
+answer_text (answer.Number number) = decimal number
+answer_text (answer.Flag true) = codes "1"
+answer_text (answer.Flag false) = codes "0"
+answer_text (answer.Timeout timeout) = timeout_text timeout
 
 -- the op at a line of the main program, as the script has it
 abbrev pub main_text : Program → Option MainOp → List ℕ

@@ -85,6 +85,10 @@ fn push_answer(text: &mut Vec<u8>, answer: Answer) -> Result<(), AllocError>
     match answer {
         Answer::Code(code) => text.extend_from_slice(code.word().as_bytes()),
         Answer::Id(id) => push_id(text, id),
+        Answer::Number(number) => push_number(text, number),
+        Answer::Flag(true) => text.extend_from_slice(b"1"),
+        Answer::Flag(false) => text.extend_from_slice(b"0"),
+        Answer::Timeout(timeout) => push_timeout(text, timeout),
     }
 }
 
