@@ -1,4 +1,6 @@
+pub mod Ids
 pub mod Handles
+pub mod Watchers
 pub mod State
 pub mod Timers
 pub mod Timeout

@@ -10,6 +10,9 @@ pub struct Handle {
     /// The name that its `init` bound to it.
     pub name: Var,
     pub kind: Kind,
+    /// Whether it keeps the loop alive while it is active (uv_has_ref).
+    pub referenced: bool,
+    /// Whether it is started (uv_is_active).
     pub active: bool,
     /// Whether a timer was ever started.
     pub begun: bool,
@@ -27,6 +30,7 @@ impl Handle {
         Handle {
             name,
             kind,
+            referenced: true,
             active: false,
             begun: false,
             due: Due { at: 0, start: 0 },

@@ -7,8 +7,10 @@ mod machine;
 mod place;
 mod plain;
 mod state;
+mod watchers;
 
 pub use handle::{Handle, Named, Slot};
 pub use machine::{Machine, Outcome};
 pub use place::{Body, Place, Run, Stage, Timing};
 pub use plain::PlainLoop;
+pub use watchers::WatcherKind;
