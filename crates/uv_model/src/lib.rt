@@ -3,6 +3,7 @@
 #![tactic(auto)]
 
 mod handle;
+mod ids;
 mod machine;
 mod place;
 mod plain;
