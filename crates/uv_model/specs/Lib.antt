@@ -10,3 +10,5 @@ pub mod Steps
 pub mod After
 pub mod Bounds
 pub mod Trail
+pub mod Timed
+pub mod Documented

@@ -5,6 +5,7 @@
 mod handle;
 mod ids;
 mod machine;
+mod phase_order;
 mod place;
 mod plain;
 mod state;
@@ -12,6 +13,7 @@ mod watchers;
 
 pub use handle::{Handle, Named, Slot};
 pub use machine::{Machine, Outcome};
+pub use phase_order::documented_order;
 pub use place::{Body, Place, Run, Stage, Timing};
 pub use plain::PlainLoop;
 pub use watchers::WatcherKind;
