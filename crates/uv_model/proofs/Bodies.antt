@@ -4,9 +4,9 @@ use Rattle.uv_ids.specs.declared.id.Var.{Var}
 use Rattle.uv_ids.specs.declared.seen.Site.{Site}
 use Rattle.uv_ids.specs.declared.seen.Site.TheVariants as site
 use Rattle.uv_script.specs.declared.op.CallbackLine.{CallbackLine}
-use Rattle.uv_script.specs.Program.{Program, on_lines}
+use Rattle.uv_script.specs.Program.{Program, on_lines, is_for}
 use Rattle.uv_model.specs.declared.place.Body.{Body}
-use Rattle.uv_model.specs.Next.{next_line, body_from, body_at, is_for}
+use Rattle.uv_model.specs.Next.{next_line, body_from, body_at}
 use Rattle.uv_model.specs.Documented.{sites_from, body_of}
 
 -- the line of the next op, and the ops from it on

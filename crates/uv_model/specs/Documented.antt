@@ -20,13 +20,12 @@ use Rattle.uv_script.specs.declared.op.Op.TheVariants as op
 use Rattle.uv_script.specs.declared.op.MainOp.{MainOp}
 use Rattle.uv_script.specs.declared.op.MainOp.TheVariants as main
 use Rattle.uv_script.specs.declared.op.CallbackLine.{CallbackLine}
-use Rattle.uv_script.specs.Program.{Program, on_lines}
+use Rattle.uv_script.specs.Program.{Program, on_lines, is_for}
 use Rattle.uv_model.specs.declared.handle.Handle.{Handle}
 use Rattle.uv_model.specs.Ids.{same_id, has_some}
 use Rattle.uv_model.specs.State.{State, held, named}
 use Rattle.uv_model.specs.Timeout.{is_alive, poll_timeout, deadline_of, has_passed}
 use Rattle.uv_model.specs.Timed.{AreDue}
-use Rattle.uv_model.specs.Next.{is_for}
 use Rattle.uv_model.specs.After.{Line}
 
 -- ---- what lasts from line to line

@@ -17,7 +17,7 @@ use Rattle.uv_ids.specs.declared.fault.Why.TheVariants.{Blocked, Ended, Range}
 use Rattle.uv_script.specs.declared.op.MainOp.{MainOp}
 use Rattle.uv_script.specs.declared.op.MainOp.TheVariants as main
 use Rattle.uv_script.specs.declared.op.CallbackLine.{CallbackLine}
-use Rattle.uv_script.specs.Program.{Program, on_lines}
+use Rattle.uv_script.specs.Program.{Program, on_lines, is_for}
 use Rattle.uv_model.specs.declared.handle.Handle.{Handle}
 use Rattle.uv_model.specs.declared.place.Body.{Body}
 use Rattle.uv_model.specs.declared.place.Run.{Run}
@@ -43,11 +43,6 @@ pub data Next : Type 0 where
   Refuses : Why → Next
 
 -- ---- the callbacks' bodies
-
--- a line with no number is for every call, one with a number for that call
-abbrev pub is_for : ℕ → Option ℕ → Bool
-is_for call None = true
-is_for call (Some k) = k == call
 
 -- the first line for this call among these, the first of which has this number
 abbrev pub next_line : ℕ → ℕ → List CallbackLine → Option ℕ

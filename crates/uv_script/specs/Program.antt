@@ -1,5 +1,5 @@
 -- A script, as its parts.
-use Rattle.std.specs.Prelude.{◌≡◌, ℕ, ◌+◌, ◌≤◌, List, [], Option, Some, None, slice_get, length, sum_by}
+use Rattle.std.specs.Prelude.{◌≡◌, ℕ, ◌+◌, ◌≤◌, ◌==◌, Bool, true, List, [], Option, Some, None, slice_get, length, sum_by}
 use Rattle.uv_ids.specs.declared.id.Var.{Var}
 use Rattle.uv_script.specs.declared.op.MainOp.{MainOp}
 use Rattle.uv_script.specs.declared.op.CallbackLine.{CallbackLine}
@@ -19,6 +19,11 @@ lines_or_none None = []
 -- the lines of a name's handle callback
 abbrev pub on_lines : Program → Var → List CallbackLine
 on_lines p v = lines_or_none (slice_get p.on v.0)
+
+-- a line of a callback with no number is for every call, one with a number for that call
+abbrev pub is_for : ℕ → Option ℕ → Bool
+is_for call None = true
+is_for call (Some k) = k == call
 
 -- the lines that count: all but empty ones and comments
 abbrev pub line_count : Program → ℕ

@@ -1,12 +1,14 @@
 -- A session: the steps that stand, and those that were taken back. The state shown is the one after the standing steps.
-use Rattle.std.specs.Prelude.{◌≡◌, ℕ, ◌-◌, ◌<◌, ◌≤◌, List, [], ◌++◌, length, take, drop, Result, Ok, Err}
+use Rattle.std.specs.Prelude.{◌≡◌, ℕ, ◌-◌, ◌<◌, ◌≤◌, List, [], ◌++◌, length, map, take, drop, Result, Ok, Err}
 use Rattle.uv_ids.specs.declared.event.Event.{Event}
 use Rattle.uv_ids.specs.declared.fault.Fault.{Fault}
 use Rattle.uv_ids.specs.declared.fault.Fault.TheVariants.{Memory, Refused}
 use Rattle.uv_ids.specs.declared.fault.Why.TheVariants.{Range}
 use Rattle.uv_script.specs.Program.{Program}
 use Rattle.uv_model.specs.declared.machine.Outcome.{Outcome}
-use Rattle.uv_model.specs.After.{Answers}
+use Rattle.uv_ids.specs.declared.seen.Seen.{Seen}
+use Rattle.uv_model.specs.After.{Answers, Line, history}
+use Rattle.uv_model.specs.Documented.{Documented}
 
 pub record Shown : Type 0 where
   pub program : Program
@@ -39,3 +41,8 @@ MovesBack s n (Ok done) t = (n ≤ length s.standing) × (t ≡ moved_back n s)
 MovesBack s n (Err Memory) t = (k : ℕ) × ((k ≤ n) × (n ≤ length s.standing) × (t ≡ moved_back k s))
 MovesBack s n (Err (Refused Range)) t = (length s.standing < n) × (t ≡ s)
 MovesBack s n (Err _) t = ⊥
+
+-- these are all lines of the standing steps; with the states before and after each, they are in the documented order
+pub record IsDocumented (s : Shown) (trace : List Seen) : Type 0 where
+  pub lines : trace ≡ map (λ (l : Line). l.seen) (history s.program s.standing)
+  pub order : Documented s.program (history s.program s.standing)

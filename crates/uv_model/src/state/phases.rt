@@ -1,9 +1,9 @@
 //! The phases of a run, and one step.
 ghost use Rattle.std.specs.Prelude.{◌≡◌, ◌<◌, ◌+◌, ◌^◌, IfOk, OnErr, length, slice_get, drop, None, Some, OnOk};
-ghost use Rattle.uv_script.specs.Program.{on_lines};
+ghost use Rattle.uv_script.specs.Program.{on_lines, is_for};
 ghost use Rattle.uv_model.specs.State.{named};
 ghost use Rattle.uv_model.specs.Bounds.{IsSmall};
-ghost use Rattle.uv_model.specs.Next.{Moves, is_for, next_line, body_at, body_from, begins, new_iteration, ends, goes, enter, begin_poll, poll, begin_timers, timers_stage, leave_timers, call, fire, made_ready, collect, timers, stage_step, body_step, main_step, tick, next, LATEST};
+ghost use Rattle.uv_model.specs.Next.{Moves, next_line, body_at, body_from, begins, new_iteration, ends, goes, enter, begin_poll, poll, begin_timers, timers_stage, leave_timers, call, fire, made_ready, collect, timers, stage_step, body_step, main_step, tick, next, LATEST};
 ghost use Rattle.uv_model.specs.Steps.{Steps, Falls};
 
 use crate::handle::Named;
