@@ -2,21 +2,17 @@
 use Rattle.std.proofs.Common.{◌≡◌, ℕ, List, [], ◌∷◌, Bool, true, false, ◌&&◌, nat_le, Option, Some, None, if◌then◌else◌, codes, refl, ap, sym, ◌∙◌, arith}
 use Rattle.std.specs.Str.{bytes_eq}
 use Rattle.std.proofs.lemmas.Slice.Eq.{bytes_eq-Decides}
-use Rattle.std.proofs.lemmas.Bool.{and_parts, and_from, leb-true, le-leb, both_ways}
+use Rattle.std.proofs.lemmas.Bool.{and_parts, and_from, cond_both, leb-true, le-leb, both_ways}
 use Rattle.std.proofs.lemmas.Bool.Decides.{Decides-eqb}
-use Rattle.uv_script.specs.Lines.{fields_of, IsSkipped, empty, comment}
+use Rattle.uv_script.specs.Lines.{fields_of, IsSkipped}
 use Rattle.uv_script.specs.Words.{IsNumber}
-use Rattle.uv_script.specs.Checks.{is_line, number_of}
-use Rattle.uv_script.proofs.Checks.{is_line_decides, number_of-sound, number_of-complete}
+use Rattle.uv_script.specs.Checks.{is_line, is_skipped, number_of}
+use Rattle.uv_script.proofs.Checks.{is_line_decides, is_skipped_decides, number_of-sound, number_of-complete}
 use Rattle.uv_text.specs.declared.command.Command.{Command}
 use Rattle.uv_text.specs.declared.command.Command.TheVariants.{Loop, Back}
 use Rattle.uv_text.specs.declared.command.Asked.{Asked}
 use Rattle.uv_text.specs.Commands.{IsCommand, IsNoCommand, one_step, steps, tick, back, trace, quit, Asks, nothing, command, bad, MOST}
-use Rattle.uv_text.specs.Reading.{command_alone, command_with, command_of, asked_for, asked_of, is_skipped}
-
-if_when : {A : Type 0} (P : A → Type 0) (b : Bool) (x y : A) → (b ≡ true → P x) → (b ≡ false → P y) → P (if b then x else y)
-if_when P true x y h k = h refl
-if_when P false x y h k = k refl
+use Rattle.uv_text.specs.Reading.{command_alone, command_with, command_of, asked_for, asked_of}
 
 -- what was found for the fields is right
 abbrev Tells : List (List ℕ) → Option Command → Type 0
@@ -47,9 +43,9 @@ none_alone word a b d c (quit e) = other _ _ d (first e)
 alone_tells : (word : List ℕ) → Tells (word ∷ []) (command_alone word)
 alone_tells word =
     let P : Option Command → Type 0 = Tells (word ∷ []) in
-    if_when P (bytes_eq word (codes "loop")) _ _ (λ a. one_step (ap (λ (w : List ℕ). w ∷ []) (same _ _ a)))
-    (λ a. if_when P (bytes_eq word (codes "trace")) _ _ (λ b. trace (ap (λ (w : List ℕ). w ∷ []) (same _ _ b)))
-    (λ b. if_when P (bytes_eq word (codes "quit")) _ _ (λ d. quit (ap (λ (w : List ℕ). w ∷ []) (same _ _ d)))
+    cond_both (bytes_eq word (codes "loop")) _ _ P (λ a. one_step (ap (λ (w : List ℕ). w ∷ []) (same _ _ a)))
+    (λ a. cond_both (bytes_eq word (codes "trace")) _ _ P (λ b. trace (ap (λ (w : List ℕ). w ∷ []) (same _ _ b)))
+    (λ b. cond_both (bytes_eq word (codes "quit")) _ _ P (λ d. quit (ap (λ (w : List ℕ). w ∷ []) (same _ _ d)))
     (λ d. none_alone word a b d)))
 
 -- ---- a word with a number
@@ -99,13 +95,13 @@ with_tells word argument None z = none_without word argument z
 with_tells word argument (Some n) z =
     let P : Option Command → Type 0 = Tells (word ∷ argument ∷ []) in
     let k = number_of-sound argument n z in
-    if_when P (bytes_eq word (codes "loop")) _ _
-    (λ a. if_when P (nat_le 1 n && nat_le n MOST) (Some (Loop n)) None
+    cond_both (bytes_eq word (codes "loop")) _ _ P
+    (λ a. cond_both (nat_le 1 n && nat_le n MOST) (Some (Loop n)) None P
     (λ u. let parts = and_parts _ _ u in steps argument n (pair word argument _ (same _ _ a)) k (leb-true 1 n parts.0) (leb-true n MOST parts.1))
     (λ u. none_loops word argument n (same _ _ a) k u))
-    (λ a. if_when P (bytes_eq word (codes "tick")) _ _ (λ b. tick argument n (pair word argument _ (same _ _ b)) k)
-    (λ b. if_when P (bytes_eq word (codes "back")) _ _
-    (λ d. if_when P (nat_le n MOST) (Some (Back n)) None
+    (λ a. cond_both (bytes_eq word (codes "tick")) _ _ P (λ b. tick argument n (pair word argument _ (same _ _ b)) k)
+    (λ b. cond_both (bytes_eq word (codes "back")) _ _ P
+    (λ d. cond_both (nat_le n MOST) (Some (Back n)) None P
     (λ u. back argument n (pair word argument _ (same _ _ d)) k (leb-true n MOST u))
     (λ u. none_back word argument n (same _ _ d) k u))
     (λ d. none_with word argument a b d)))
@@ -134,23 +130,14 @@ fields_tell (word ∷ argument ∷ []) = with_tells word argument (number_of arg
 fields_tell (word ∷ argument ∷ more ∷ rest) = none_of_many word argument more rest
 
 -- ---- any line
-skips : (line : List ℕ) → is_skipped line ≡ true → IsSkipped line
-skips [] e = empty refl
-skips (b ∷ bs) e = comment bs (ap (λ (c : ℕ). c ∷ bs) ((Decides-eqb b 35).0 e))
-
-skips_not : (line : List ℕ) → is_skipped line ≡ false → IsSkipped line → ⊥
-skips_not [] e h = cc e
-skips_not (b ∷ bs) e (empty h) = cc h
-skips_not (b ∷ bs) e (comment text h) = both_ways _ e ((Decides-eqb b 35).1 (cc h))
-
 told : (line : List ℕ) → is_line line ≡ true → is_skipped line ≡ false → (r : Option Command) → Tells (fields_of line) r → Asks line (asked_for r)
 told line e s (Some c) h = command c ((is_line_decides line).0 e) h
-told line e s None h = bad (λ _ k. skips_not line s k) (λ _. h)
+told line e s None h = bad (λ _ k. both_ways _ s ((is_skipped_decides line).1 k)) (λ _. h)
 
 pub asks : (line : List ℕ) → Asks line (asked_of line)
-asks line = if_when (Asks line) (is_line line) _ _
-    (λ e. if_when (Asks line) (is_skipped line) _ _
-    (λ s. nothing ((is_line_decides line).0 e) (skips line s))
+asks line = cond_both (is_line line) _ _ (Asks line)
+    (λ e. cond_both (is_skipped line) _ _ (Asks line)
+    (λ s. nothing ((is_line_decides line).0 e) ((is_skipped_decides line).0 s))
     (λ s. told line e s (command_of (fields_of line)) (fields_tell (fields_of line))))
     (λ e. bad (λ l _. both_ways _ e ((is_line_decides line).1 l)) (λ l. absurd (both_ways _ e ((is_line_decides line).1 l))))
 

@@ -1,9 +1,9 @@
 //! The commands of a conversation.
 ghost use Rattle.std.specs.Prelude.{◌≡◌, ℕ, List};
 ghost use Rattle.uv_text.specs.Commands.{Asks, MOST};
-ghost use Rattle.uv_text.specs.Reading.{asked_of, is_skipped, command_of, command_alone, command_with, loops, goes_back};
+ghost use Rattle.uv_text.specs.Reading.{asked_of, command_of, command_alone, command_with, loops, goes_back};
 
-use uv_script::{Fields, is_line, number};
+use uv_script::{Fields, is_line, is_skipped, number};
 
 /// What a line of a conversation asks for.
 #[derive(Clone, Copy, Debug, PartialEq, Eq)]
@@ -54,16 +54,6 @@ fn read(line: &[u8]) -> Asked
     match read_fields(Fields::of(line)) {
         Some(command) => Asked::Do(command),
         None => Asked::Bad,
-    }
-}
-
-/// Whether a line is empty or a comment.
-fn is_skipped(line: &[u8]) -> bool
-    ensures { result ≡ is_skipped line.now }
-{
-    match line {
-        [] => true,
-        [first, ..] => *first == b'#',
     }
 }
 
