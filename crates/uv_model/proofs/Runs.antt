@@ -1,6 +1,7 @@
 -- A list of events with one more, and the first of a list.
-use Rattle.std.proofs.Common.{◌≡◌, ℕ, suc, ◌+◌, ◌<◌, zero, List, [], ◌∷◌, ◌++◌, length, take, map, option_to_list, Option, Some, None, refl, ap, ◌∙◌, get_or, subst, arith}
+use Rattle.std.proofs.Common.{◌≡◌, ℕ, suc, ◌+◌, ◌<◌, zero, List, [], ◌∷◌, ◌++◌, length, take, slice_get, map, option_to_list, Option, Some, None, refl, ap, ◌∙◌, get_or, subst, arith}
 use Rattle.std.proofs.lemmas.List.{take_more}
+use Rattle.std.proofs.lemmas.Option.{slice_get_read}
 use Rattle.std.specs.List.{flat_map}
 use Rattle.uv_ids.specs.declared.event.Event.{Event}
 use Rattle.uv_ids.specs.declared.seen.Seen.{Seen}
@@ -68,6 +69,12 @@ lines-history_from p s (e ∷ es) = line_of_next s (next p s e) _ _ (lines-histo
 pub lines-history : (p : Program) (es : List Event) → lines p es ≡ map (λ (l : Line). l.seen) (history p es)
 unfolding seen_by history
 lines-history p es = lines-history_from p (fresh p) es
+
+-- what a standing step appended, read from a list of what each of them appended
+pub seen_at : (p : Program) (es : List Event) (xs : List (Option Seen)) (k : ℕ) (x : Option Seen) → xs ≡ seen_by p es → k < length es → x ≡ get_or xs k x → slice_get (seen_by p es) k ≡ Some x
+seen_at p es xs k x same within is =
+    let long : length xs ≡ length es = ap length same ∙ length-seen_by p es in
+    rw (← same) (slice_get_read xs (length xs) k x refl (omega arith) is)
 
 -- an accepted event is one more step
 pub after-moves : (p : Program) (es : List Event) (e : Event) (t : State) (seen : Option Seen) → next p (after p es) e ≡ Moves t seen → after p (es ++ e ∷ []) ≡ t

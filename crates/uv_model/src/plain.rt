@@ -108,6 +108,7 @@ impl Machine for PlainLoop {
         self.steps.len()
     }
 
+    #[tactic(auto, using(crate::proofs::Runs::runs, crate::proofs::Runs::seen_at))]
     fn seen(&self, step: usize) -> Option<Seen> {
         self.seen[step - 1]
     }

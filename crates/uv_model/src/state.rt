@@ -25,8 +25,11 @@ const CAPACITY: usize = 1024;
 pub struct LoopState {
     place: Place,
     names: Vec<Named>,
+    /// The slots of the arena that were ever used, by number.
     slots: Vec<Slot>,
+    /// The active timers.
     timers: BTreeMap<Due, Id>,
+    /// The timers that a section collected and will call, front first.
     ready: Vec<Id>,
     idle: Watchers,
     prepare: Watchers,
@@ -35,8 +38,11 @@ pub struct LoopState {
     time: u64,
     /// The clock in ms.
     clock: u64,
+    /// The number that the next start of a timer draws.
     next_start: u64,
+    /// The run is to end before its next iteration (uv_stop).
     stop_flag: bool,
+    /// An idle handle was active as the iteration began.
     idled: bool,
 }
 

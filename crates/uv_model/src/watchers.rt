@@ -45,7 +45,7 @@ impl WatcherKind {
     }
 }
 
-/// The active handles of one of these kinds.
+/// The active handles of one of these kinds, and how a section of theirs walks its list. The order is own.
 #[derive(Drop)]
 pub struct Watchers {
     /// Front first, but for those yet to run.
@@ -80,7 +80,7 @@ impl Watchers {
         has_some(&self.list)
     }
 
-    /// Whether there is a handle.
+    /// Whether there is a handle, yet to run or not.
     pub fn any(&self) -> bool
         ensures { result ≡ (has_some self.now.list || has_some self.now.yet) }
     {

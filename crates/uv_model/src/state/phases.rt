@@ -84,7 +84,7 @@ impl LoopState {
         self.begin(run, Stage::Pending, Phase::Pending)
     }
 
-    /// Ends the run.
+    /// Ends the run, and clears the stop flag.
     fn end(&mut self, run: Run) -> Outcome
         requires { run.line < 2 ^ 63 }
         ensures { ends self.old run ≡ Moves self.new result.seen }
@@ -183,6 +183,7 @@ impl LoopState {
         self.fire_front(script, run, first)
     }
 
+    /// Calls the front of the ready list. A timer that repeats is started again first. Without memory nothing changes.
     #[tactic(auto, using(crate::proofs::Counts::small))]
     fn fire_front(&mut self, script: &Script, run: Run, first: bool) -> Result<Outcome, AllocError>
         requires small { IsSmall self.old }
@@ -233,6 +234,7 @@ impl LoopState {
         Ok(Outcome { seen: None })
     }
 
+    /// Goes on in a timers section.
     fn in_timers(
         &mut self,
         script: &Script,
@@ -308,6 +310,7 @@ impl LoopState {
         }
     }
 
+    /// Begins a run (uv_run). In default the time is refreshed first.
     fn begin_run(&mut self, mode: Mode, line: usize) -> Outcome
         ensures { main_step self.old line (Some (MainOp.Run mode)) ≡ Moves self.new result.seen }
     {
@@ -323,6 +326,7 @@ impl LoopState {
         seen(Seen::Run(mode))
     }
 
+    /// The clock goes on by so many ms, up to its limit.
     fn tick(&mut self, ms: u64) -> Result<Outcome, Why>
         ensures { Falls (tick self.old ms) self.old result self.new }
     {
