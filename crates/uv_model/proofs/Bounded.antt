@@ -1,6 +1,7 @@
 -- A state's numbers are no larger than the number of its steps, and its times no later than the clock's limit.
 use Rattle.std.proofs.Common.{◌≡◌, ℕ, suc, ◌+◌, ◌<◌, ◌≤◌, ◌^◌, List, [], ◌∷◌, ◌++◌, length, Bool, true, false, Option, Some, None, if◌then◌else◌, nat_le, ◌==◌, ◌&&◌, option_and_then, slice_get, slice_set, All, refl, arith, subst, replicate, add-zero, zero-add}
 use Rattle.std.proofs.lemmas.Grind.{elements}
+use Rattle.std.proofs.lemmas.Bool.{cond_both}
 use Rattle.std.proofs.lemmas.Bool.Decides.{nat_tests}
 use Rattle.uv_ids.specs.declared.id.Id.{Id}
 use Rattle.uv_ids.specs.declared.id.Var.{Var}
@@ -63,10 +64,6 @@ StaysBounded n (Refuses why) = Unit {0}
 if_keeps : {A : Type 0} (P : A → Type 0) (b : Bool) (x y : A) → P x → P y → P (if b then x else y)
 if_keeps P true x y h k = h
 if_keeps P false x y h k = k
-
-if_when : {A : Type 0} (P : A → Type 0) (b : Bool) (x y : A) → (b ≡ true → P x) → (b ≡ false → P y) → P (if b then x else y)
-if_when P true x y h k = h refl
-if_when P false x y h k = k refl
 
 -- ---- the parts
 
@@ -356,7 +353,7 @@ place_bounded p n s (Main line) h l = main_bounded n s line _ h l
 place_bounded p n s (Running run) h l = run_bounded p n s run run.body h l
 
 tick_bounded : (n : ℕ) (s : State) (ms : ℕ) → IsBounded n s → StaysBounded (suc n) (tick s ms)
-tick_bounded n s ms h = if_when (StaysBounded (suc n)) (nat_le (s.clock + ms) (2 ^ 62)) _ _
+tick_bounded n s ms h = cond_both (nat_le (s.clock + ms) (2 ^ 62)) _ _ (StaysBounded (suc n))
     (λ e. let m = more n s h in let small : s.clock + ms ≤ 2 ^ 62 = grind (arith, nat_tests, e) in record { counts = m.counts; starts = m.starts; drawn = m.drawn; time = m.time; clock = small; line = m.line })
     (λ e. tt)
 
