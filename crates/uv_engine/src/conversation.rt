@@ -16,13 +16,10 @@ use crate::sink::{Sink, write_out};
 use crate::source::Source;
 use std::alloc::Global;
 use uv_ids::Fault;
-use uv_model::Machine;
+use uv_model::{Machine, STEPS};
 use uv_script::one_reading;
 use uv_session::Session;
 use uv_text::{Asked, Command, every_line_asks, read_command};
-
-/// The most steps of a conversation (own).
-const STEPS: usize = 16_777_216;
 
 /// How a conversation ended.
 #[derive(Clone, Copy, Debug, PartialEq, Eq)]

@@ -235,31 +235,98 @@ MayEnd Nowait s = Unit {0}
 -- a line takes the trace from where it stands to where it stands then
 pub data Goes (p : Program) : Position → Line → Position → Type 0 where
   -- an op of the main program
-  main_line : {l : Line} {i : ℕ} (o : Op) (a : Answer) → op_at p (site.Main i) ≡ Some o → l.seen ≡ seen.Op (site.Main i) a → lasting l.after ≡ after_op o l.before → Goes p (Between i) l (Between (i + 1))
+  main_line : {l : Line} {i : ℕ} (o : Op) (a : Answer)
+      → op_at p (site.Main i) ≡ Some o
+      → l.seen ≡ seen.Op (site.Main i) a
+      → lasting l.after ≡ after_op o l.before
+      → Goes p (Between i) l (Between (i + 1))
   -- a run of the main program begins
-  run : {l : Line} {i : ℕ} (m : Mode) → slice_get p.main i ≡ Some (main.Run m) → l.seen ≡ seen.Run m → lasting l.after ≡ after_run m l.before → Goes p (Between i) l (Entered m i)
+  run : {l : Line} {i : ℕ} (m : Mode)
+      → slice_get p.main i ≡ Some (main.Run m)
+      → l.seen ≡ seen.Run m
+      → lasting l.after ≡ after_run m l.before
+      → Goes p (Between i) l (Entered m i)
   -- it ends at once
-  ends_at_once : {l : Line} {m : Mode} {i : ℕ} → (MayGoOn l.before → ⊥) → l.seen ≡ seen.End (is_alive l.before) → lasting l.after ≡ after_end l.before → Goes p (Entered m i) l (Between (i + 1))
+  ends_at_once : {l : Line} {m : Mode} {i : ℕ}
+      → (MayGoOn l.before → ⊥)
+      → l.seen ≡ seen.End (is_alive l.before)
+      → lasting l.after ≡ after_end l.before
+      → Goes p (Entered m i) l (Between (i + 1))
   -- a default run has a section of timers at its entry (own)
-  entry : {l : Line} {m : Mode} {i : ℕ} {w : Walk} → m ≡ Default → MayGoOn l.before → l.seen ≡ seen.Section phase.Timers → Opens phase.Timers l w → lasting l.after ≡ lasting l.before → Goes p (Entered m i) l (Within m i Entry w)
+  entry : {l : Line} {m : Mode} {i : ℕ} {w : Walk}
+      → m ≡ Default
+      → MayGoOn l.before
+      → l.seen ≡ seen.Section phase.Timers
+      → Opens phase.Timers l w
+      → lasting l.after ≡ lasting l.before
+      → Goes p (Entered m i) l (Within m i Entry w)
   -- another run begins its iteration
-  iteration : {l : Line} {m : Mode} {i : ℕ} {w : Walk} → IsSingle m → MayGoOn l.before → l.seen ≡ seen.Section phase.Pending → Opens phase.Pending l w → lasting l.after ≡ after_line phase.Pending l.before → Goes p (Entered m i) l (Within m i (In phase.Pending) w)
+  iteration : {l : Line} {m : Mode} {i : ℕ} {w : Walk}
+      → IsSingle m
+      → MayGoOn l.before
+      → l.seen ≡ seen.Section phase.Pending
+      → Opens phase.Pending l w
+      → lasting l.after ≡ after_line phase.Pending l.before
+      → Goes p (Entered m i) l (Within m i (In phase.Pending) w)
   -- after the timers a default run begins an iteration
-  next_iteration : {l : Line} {m : Mode} {i : ℕ} {part : Section} {w v : Walk} → m ≡ Default → word_of part ≡ phase.Timers → IsOver w → MayGoOn l.before → l.seen ≡ seen.Section phase.Pending → Opens phase.Pending l v → lasting l.after ≡ after_line phase.Pending l.before → Goes p (Within m i part w) l (Within m i (In phase.Pending) v)
+  next_iteration : {l : Line} {m : Mode} {i : ℕ} {part : Section} {w v : Walk}
+      → m ≡ Default
+      → word_of part ≡ phase.Timers
+      → IsOver w
+      → MayGoOn l.before
+      → l.seen ≡ seen.Section phase.Pending
+      → Opens phase.Pending l v
+      → lasting l.after ≡ after_line phase.Pending l.before
+      → Goes p (Within m i part w) l (Within m i (In phase.Pending) v)
   -- one section follows another
-  next_section : {l : Line} {m : Mode} {i : ℕ} {a b : Phase} {w v : Walk} → section_after a ≡ Some b → IsOver w → l.seen ≡ seen.Section b → Opens b l v → lasting l.after ≡ after_line b l.before → Goes p (Within m i (In a) w) l (Within m i (In b) v)
+  next_section : {l : Line} {m : Mode} {i : ℕ} {a b : Phase} {w v : Walk}
+      → section_after a ≡ Some b
+      → IsOver w
+      → l.seen ≡ seen.Section b
+      → Opens b l v
+      → lasting l.after ≡ after_line b l.before
+      → Goes p (Within m i (In a) w) l (Within m i (In b) v)
   -- after prepare comes the poll, with the timeout that the loop has then
-  poll : {l : Line} {m : Mode} {i : ℕ} {w : Walk} (timeout : Option ℕ) → IsOver w → timeout ≡ poll_timeout l.before m → l.seen ≡ seen.Poll timeout → lasting l.after ≡ lasting l.before → Goes p (Within m i (In phase.Prepare) w) l (Polling m i (deadline_of l.before timeout))
+  poll : {l : Line} {m : Mode} {i : ℕ} {w : Walk} (timeout : Option ℕ)
+      → IsOver w
+      → timeout ≡ poll_timeout l.before m
+      → l.seen ≡ seen.Poll timeout
+      → lasting l.after ≡ lasting l.before
+      → Goes p (Within m i (In phase.Prepare) w) l (Polling m i (deadline_of l.before timeout))
   -- it is left where the clock has reached its deadline
-  poll_over : {l : Line} {m : Mode} {i : ℕ} {deadline : Option ℕ} {w : Walk} → has_passed l.before.clock deadline ≡ true → l.seen ≡ seen.Section phase.Done → Opens phase.Done l w → lasting l.after ≡ after_line phase.Done l.before → Goes p (Polling m i deadline) l (Within m i (In phase.Done) w)
+  poll_over : {l : Line} {m : Mode} {i : ℕ} {deadline : Option ℕ} {w : Walk}
+      → has_passed l.before.clock deadline ≡ true
+      → l.seen ≡ seen.Section phase.Done
+      → Opens phase.Done l w
+      → lasting l.after ≡ after_line phase.Done l.before
+      → Goes p (Polling m i deadline) l (Within m i (In phase.Done) w)
   -- a callback of the section begins: one call more of its name
-  call : {l : Line} {m : Mode} {i : ℕ} {part : Section} {w : Walk} (v : Var) (id : Id) (behind : List Id) → CallsNext w id behind → IsOf l.before id v → l.seen ≡ seen.Call v id → lasting l.after ≡ lasting l.before → Goes p (Within m i part w) l (Within m i part (record w { ahead = behind; body = body_of p v ((named l.before v).calls + 1) }))
+  call : {l : Line} {m : Mode} {i : ℕ} {part : Section} {w : Walk} (v : Var) (id : Id) (behind : List Id)
+      → CallsNext w id behind
+      → IsOf l.before id v
+      → l.seen ≡ seen.Call v id
+      → lasting l.after ≡ lasting l.before
+      → Goes p (Within m i part w) l (Within m i part (record w { ahead = behind; body = body_of p v ((named l.before v).calls + 1) }))
   -- the next op of its body
-  body_op : {l : Line} {m : Mode} {i : ℕ} {part : Section} {w : Walk} (place : Site) (rest : List Site) (o : Op) (a : Answer) → w.body ≡ place ∷ rest → op_at p place ≡ Some o → l.seen ≡ seen.Op place a → lasting l.after ≡ after_op o l.before → Goes p (Within m i part w) l (Within m i part (record w { off = taken_off (word_of part) l.before o a ++ w.off; body = rest }))
+  body_op : {l : Line} {m : Mode} {i : ℕ} {part : Section} {w : Walk} (place : Site) (rest : List Site) (o : Op) (a : Answer)
+      → w.body ≡ place ∷ rest
+      → op_at p place ≡ Some o
+      → l.seen ≡ seen.Op place a
+      → lasting l.after ≡ after_op o l.before
+      → Goes p (Within m i part w) l (Within m i part (record w { off = taken_off (word_of part) l.before o a ++ w.off; body = rest }))
   -- after the timers the run ends
-  ends : {l : Line} {m : Mode} {i : ℕ} {part : Section} {w : Walk} → word_of part ≡ phase.Timers → IsOver w → MayEnd m l.before → l.seen ≡ seen.End (is_alive l.before) → lasting l.after ≡ after_end l.before → Goes p (Within m i part w) l (Between (i + 1))
+  ends : {l : Line} {m : Mode} {i : ℕ} {part : Section} {w : Walk}
+      → word_of part ≡ phase.Timers
+      → IsOver w
+      → MayEnd m l.before
+      → l.seen ≡ seen.End (is_alive l.before)
+      → lasting l.after ≡ after_end l.before
+      → Goes p (Within m i part w) l (Between (i + 1))
   -- a step from outside stands anywhere
-  outside : {l : Line} {at : Position} (ms : ℕ) → l.seen ≡ seen.Tick ms → lasting l.after ≡ after_tick ms l.before → Goes p at l at
+  outside : {l : Line} {at : Position} (ms : ℕ)
+      → l.seen ≡ seen.Tick ms
+      → lasting l.after ≡ after_tick ms l.before
+      → Goes p at l at
 
 -- the lines go on from where a trace stands
 pub data GoesOn (p : Program) : Position → Lasting → List Line → Type 0 where

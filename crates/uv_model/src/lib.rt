@@ -12,7 +12,7 @@ mod state;
 mod watchers;
 
 pub use handle::{Handle, Named, Slot};
-pub use machine::{Machine, Outcome};
+pub use machine::{Machine, Outcome, STEPS};
 pub use phase_order::documented_order;
 pub use place::{Body, Place, Run, Stage, Timing};
 pub use plain::PlainLoop;

@@ -7,10 +7,7 @@ ghost use Rattle.uv_session.specs.Shown.{TakesEvent, MovesBack, IsDocumented, mo
 use std::alloc::{AllocError, Global};
 use std::marker::Model;
 use uv_ids::{Event, Fault, Seen, Why};
-use uv_model::{Machine, Outcome};
-
-/// The most steps that a session has (own).
-const STEPS: usize = 16_777_216;
+use uv_model::{Machine, Outcome, STEPS};
 
 /// A machine and the list of its steps, of which the first ones stand and the others were taken back.
 #[derive(Drop)]

@@ -3,6 +3,7 @@ ghost use Rattle.std.specs.Prelude.{◌≡◌, ℕ, List};
 ghost use Rattle.uv_text.specs.Commands.{Asks, MOST};
 ghost use Rattle.uv_text.specs.Reading.{asked_of, command_of, command_alone, command_with, loops, goes_back};
 
+use uv_model::STEPS;
 use uv_script::{Fields, is_line, is_skipped, number};
 
 /// What a line of a conversation asks for.
@@ -30,8 +31,8 @@ pub enum Asked {
     Bad,
 }
 
-/// The most steps that one command names (own).
-const MOST: u64 = 16_777_216;
+/// The most steps that one command names (own): as many as there may be.
+const MOST: u64 = STEPS as u64;
 
 /// Reads a line, without its line feed.
 #[tactic(auto, using(crate::proofs::Commands::reading))]
