@@ -4,3 +4,4 @@ pub mod Gathers
 pub mod Loops
 pub mod Talking
 pub mod Starting
+pub mod Counts

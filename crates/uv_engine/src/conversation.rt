@@ -1,6 +1,9 @@
 //! The conversation.
-ghost use Rattle.std.specs.Prelude.{◌≡◌, ◌++◌, [], IfOk, IfErr, ◌≢◌, true, false};
+ghost use Rattle.std.specs.Prelude.{◌≡◌, ◌++◌, ◌<◌, ◌^◌, ◌==◌, [], length, IfOk, IfErr, OnOk, ◌≢◌, true, false};
+ghost use Rattle.std.specs.List.{list_any};
+ghost use Rattle.uv_ids.specs.declared.fault.Fault.TheVariants.{Write};
 ghost use Rattle.uv_script.specs.Lines.{lines_of};
+ghost use Rattle.uv_engine.specs.Devices.{ReaderCounts, WriterCounts};
 ghost use Rattle.uv_engine.specs.Input.{left, EndIsSeen};
 ghost use Rattle.uv_engine.specs.Gather.{Gathers};
 ghost use Rattle.uv_engine.specs.Out.{Converses, IsDeviceFault};
@@ -33,7 +36,9 @@ pub enum Ended {
 /// Writes the gathered text where the next line has to be waited for.
 fn write_if_waiting<W: Sink>(input: &Input, writer: &mut W, text: &mut Vec<u8>) -> Result<(), Fault>
     ensures text { W.Tells → Gathers result (W.written writer.old) text.old.items [] (W.written writer.new) text.new.items }
-    ensures err { IfErr result IsDeviceFault }
+    ensures waiting { OnOk result (list_any (λ b. b == 10) input.now.ahead ≡ false → text.new.items ≡ []) }
+    ensures err { IfErr result (λ fault. fault ≡ Write) }
+    ensures writer { WriterCounts result (W.failures writer.old) (W.failures writer.new) }
 {
     if input.has_line() {
         return Ok(());
@@ -53,6 +58,8 @@ fn talk<M: Machine, R: Source, W: Sink>(
     requires end { R.Tells → EndIsSeen input.old (R.remaining reader.old) }
     ensures text { R.Tells → W.Tells → TalksOn (lines_of (left input.old (R.remaining reader.old))) session.old result (W.written writer.old) (W.written writer.new) }
     ensures err { IfErr result IsDeviceFault }
+    ensures reader { ReaderCounts result (R.Tells → input.old.budget < length (R.remaining reader.old)) (R.failures reader.old) (R.failures reader.new) }
+    ensures writer { WriterCounts result (W.failures writer.old) (W.failures writer.new) }
 {
     every_line_asks();
     let mut text = Vec::new(alloc);
@@ -88,7 +95,8 @@ fn is_quit(asked: Asked) -> bool
 /// Writes what was gathered, at the end.
 fn finish<W: Sink>(writer: &mut W, text: &mut Vec<u8>, ended: Ended) -> Result<Ended, Fault>
     ensures text { W.Tells → Finishes result ended (W.written writer.old) text.old.items (W.written writer.new) }
-    ensures err { IfErr result IsDeviceFault }
+    ensures err { IfErr result (λ fault. fault ≡ Write) }
+    ensures writer { WriterCounts result (W.failures writer.old) (W.failures writer.new) }
 {
     match write_out(writer, text) {
         Ok(()) => Ok(ended),
@@ -100,14 +108,16 @@ fn finish<W: Sink>(writer: &mut W, text: &mut Vec<u8>, ended: Ended) -> Result<E
 /// lines that were read are written before more is read.
 ///
 /// `Script` names the first line outside the grammar of scripts, and nothing is written then. `Read` comes where the reader
-/// fails or the input is longer than 2^30 bytes, `Write` where the writer fails or takes no byte. What follows `quit` may
-/// have been read.
+/// fails, and else only where the input is longer than 2^30 bytes; `Write` where the writer fails or takes no byte, and only
+/// there. What follows `quit` may have been read.
 pub fn converse<M: Machine, R: Source, W: Sink>(
     alloc: Global,
     reader: &mut R,
     writer: &mut W,
 ) -> Result<Ended, Fault>
-    ensures { R.Tells → W.Tells → Converses (R.remaining reader.old) result (W.written writer.old) (W.written writer.new) }
+    ensures text { R.Tells → W.Tells → Converses (R.remaining reader.old) result (W.written writer.old) (W.written writer.new) }
+    ensures reader { ReaderCounts result (R.Tells → 2 ^ 30 < length (R.remaining reader.old)) (R.failures reader.old) (R.failures reader.new) }
+    ensures writer { WriterCounts result (W.failures writer.old) (W.failures writer.new) }
 {
     one_reading();
     every_line_asks();

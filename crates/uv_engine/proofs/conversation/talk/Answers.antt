@@ -1,5 +1,6 @@
-use Rattle.std.proofs.Common.{ap}
+use Rattle.std.proofs.Common.{ap, ◌∙◌}
 use Rattle.uv_script.specs.Lines.{lines_of}
+use Rattle.uv_engine.proofs.Counts.{spends_more}
 use Rattle.uv_engine.proofs.Talking.{can_write, can_answer, can_next, cut_waiting, cut_writing, cut_answer, talk_ends, talk_quits}
 use Rattle.uv_engine.proofs.conversation.talk.Goals as goal
 
@@ -36,4 +37,7 @@ lines-preserved g c = record {
       let before = can_next _ _ _ _ _ _ _ _ _ _ taken (can_write _ _ _ _ _ _ _ _ _ (c.lines.invariant.text reads tells) (c.in-Ok.ensures.text tells)) in
       let asks = rw (c.as_slice.ensures.value) at c.read_command-asked.ensures.rule in
       can_answer _ _ _ _ _ _ _ _ _ _ _ _ before asks (c.is_quit.ensures.other c.if-is_quit.false) (c.in-Ok-answer.ensures.text tells) c.in-Ok-answer.ensures.session;
+  budget = λ reads. spends_more _ _ _ _ _ _ (c.lines.invariant.budget reads) (c.in-Ok-Some.ensures.budget reads);
+  none_read_failed = c.in-Ok-Some.ensures.reader ∙ c.lines.invariant.none_read_failed;
+  none_write_failed = c.in-Ok-answer.ensures.writer ∙ c.in-Ok.ensures.writer ∙ c.lines.invariant.none_write_failed;
 }
