@@ -1,5 +1,5 @@
 //! The lines of a reader.
-ghost use Rattle.std.specs.Prelude.{◌≡◌, ◌<◌, ◌+◌, ◌^◌, ◌==◌, ◌++◌, [], IfOk, IfErr, OnOk, OnSome, length, false};
+ghost use Rattle.std.specs.Prelude.{◌≡◌, ◌<◌, ◌+◌, ◌^◌, ◌==◌, ◌++◌, [], IfOk, IfErr, OnOk, OnSome, length, true, false};
 ghost use Rattle.std.specs.List.{list_any};
 ghost use Rattle.uv_engine.specs.Devices.{ReaderCounts};
 ghost use Rattle.uv_engine.specs.Input.{Buffered, pending, left, EndIsSeen, size, turns_left};
@@ -136,6 +136,7 @@ impl Input {
         ensures line { IfOk result (λ line. R.Tells → TakesNext (left self.old (R.remaining reader.old)) line (left self.new (R.remaining reader.new))) }
         ensures size { IfOk result (λ line. OnSome line (size self.new < size self.old)) }
         ensures end { OnOk result (R.Tells → EndIsSeen self.new (R.remaining reader.new)) }
+        ensures ended { OnOk result (self.old.ended ≡ true → self.new.ended ≡ true) }
         ensures budget { OnOk result (R.Tells → SpendsBudget self.old (R.remaining reader.old) self.new (R.remaining reader.new)) }
         ensures err { IfErr result IsReadFault }
         ensures reader { ReaderCounts result (R.Tells → self.old.budget < length (R.remaining reader.old)) (R.failures reader.old) (R.failures reader.new) }

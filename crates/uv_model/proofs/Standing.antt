@@ -17,7 +17,7 @@ use Rattle.uv_ids.specs.declared.seen.Site.TheVariants as site
 use Rattle.uv_script.specs.declared.op.MainOp.{MainOp}
 use Rattle.uv_script.specs.declared.op.MainOp.TheVariants as main
 use Rattle.uv_script.specs.declared.op.CallbackLine.{CallbackLine}
-use Rattle.uv_script.specs.Program.{Program, on_lines}
+use Rattle.uv_script.specs.Program.{Program, on_lines, main_op, op_at}
 use Rattle.uv_model.specs.declared.handle.Handle.{Handle}
 use Rattle.uv_model.specs.declared.handle.Slot.{Slot}
 use Rattle.uv_model.specs.declared.place.Body.{Body}
@@ -37,7 +37,7 @@ use Rattle.uv_model.specs.Next.{Next, Moves, Refuses, next, loop_step, main_step
 use Rattle.uv_model.specs.After.{line_of_step, history_from, history, state_of}
 use Rattle.uv_model.specs.Timed.{IsTimer, InOrder, AreTimers, AreDue}
 use Rattle.uv_model.specs.Documented as doc
-use Rattle.uv_model.specs.Documented.{Lasting, lasting, at_first, Section, Entry as At_entry, In, word_of, Walk, Opens, IsOver, CallsNext, AreDistinct, Position, Between, Entered, Within, Polling, MayGoOn, IsSingle, MayEnd, Goes, GoesOn, cut, line, Documented, body_of, taken_off, op_at}
+use Rattle.uv_model.specs.Documented.{Lasting, lasting, at_first, Section, Entry as At_entry, In, word_of, Walk, Opens, IsOver, CallsNext, AreDistinct, Position, Between, Entered, Within, Polling, MayGoOn, IsSingle, MayEnd, Goes, GoesOn, cut, line, Documented, body_of, taken_off}
 use Rattle.uv_model.proofs.IdLists.{left_of, none_off, all_off, first_left, distinct_front, Each, each_back}
 use Rattle.uv_model.proofs.TimerKeys.{due_ids, none_due, distinct_due}
 use Rattle.uv_model.proofs.Holding.{Fits, Lists, IsActive, Times, its_handle}
@@ -443,7 +443,7 @@ main_follows p s i (Some (main.Run m)) e k r = record {
   begun Nowait = r
 main_follows p s i (Some (main.Op o)) e k r = record {
   to = Between (i + 1);
-  goes = doc.main_line o _ (ap doc.main_op e) refl (op_lasts s o);
+  goes = doc.main_line o _ (ap main_op e) refl (op_lasts s o);
   stands = between (op_none_ready s o k r);
 }
 

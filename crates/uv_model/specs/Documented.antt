@@ -20,7 +20,7 @@ use Rattle.uv_script.specs.declared.op.Op.TheVariants as op
 use Rattle.uv_script.specs.declared.op.MainOp.{MainOp}
 use Rattle.uv_script.specs.declared.op.MainOp.TheVariants as main
 use Rattle.uv_script.specs.declared.op.CallbackLine.{CallbackLine}
-use Rattle.uv_script.specs.Program.{Program, on_lines, is_for}
+use Rattle.uv_script.specs.Program.{Program, on_lines, is_for, op_at}
 use Rattle.uv_model.specs.declared.handle.Handle.{Handle}
 use Rattle.uv_model.specs.Ids.{same_id, has_some}
 use Rattle.uv_model.specs.State.{State, held, named}
@@ -80,17 +80,7 @@ after_end s = record (lasting s) { stop_flag = false }
 abbrev pub after_tick : ℕ → State → Lasting
 after_tick ms s = record (lasting s) { clock = s.clock + ms }
 
--- ---- ops and bodies
-
-abbrev pub main_op : Option MainOp → Option Op
-main_op (Some (main.Op o)) = Some o
-main_op (Some (main.Run mode)) = None
-main_op None = None
-
--- the op at a place of the script
-abbrev pub op_at : Program → Site → Option Op
-op_at p (site.Main line) = main_op (slice_get p.main line)
-op_at p (site.On v line) = option_map (λ (l : CallbackLine). l.op) (slice_get (on_lines p v) line)
+-- ---- bodies
 
 -- the places of those of these lines that are for this call, the first of the lines having this number
 abbrev pub sites_from : Var → ℕ → ℕ → List CallbackLine → List Site

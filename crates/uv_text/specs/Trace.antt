@@ -6,13 +6,10 @@ use Rattle.uv_ids.specs.declared.id.Var.{Var}
 use Rattle.uv_ids.specs.declared.code.Answer.{Answer}
 use Rattle.uv_ids.specs.declared.code.Answer.TheVariants as answer
 use Rattle.uv_ids.specs.declared.seen.Site.{Site}
-use Rattle.uv_ids.specs.declared.seen.Site.TheVariants as site
 use Rattle.uv_ids.specs.declared.seen.Seen.{Seen}
 use Rattle.uv_ids.specs.declared.seen.Seen.TheVariants as seen
-use Rattle.uv_script.specs.declared.op.MainOp.{MainOp}
-use Rattle.uv_script.specs.declared.op.MainOp.TheVariants as main
-use Rattle.uv_script.specs.declared.op.CallbackLine.{CallbackLine}
-use Rattle.uv_script.specs.Program.{Program, on_lines}
+use Rattle.uv_script.specs.declared.op.Op.{Op}
+use Rattle.uv_script.specs.Program.{Program, op_at}
 use Rattle.uv_script.specs.Text.{op_text, name_text}
 
 -- an id: `SLOT.GENERATION`
@@ -33,21 +30,14 @@ answer_text (answer.Flag true) = codes "1"
 answer_text (answer.Flag false) = codes "0"
 answer_text (answer.Timeout timeout) = timeout_text timeout
 
--- the op at a line of the main program, as the script has it
-abbrev pub main_text : Program → Option MainOp → List ℕ
-main_text p (Some (main.Op op)) = op_text p.names op
-main_text p (Some (main.Run mode)) = []
-main_text p None = []
-
--- the op at a line of a callback
-abbrev pub callback_text : Program → Option CallbackLine → List ℕ
-callback_text p (Some line) = op_text p.names line.op
-callback_text p None = []
+-- an op, as the script has it
+abbrev pub op_or_none : Program → Option Op → List ℕ
+op_or_none p (Some op) = op_text p.names op
+op_or_none p None = []
 
 -- the op at a place of the script
 abbrev pub site_text : Program → Site → List ℕ
-site_text p (site.Main line) = main_text p (slice_get p.main line)
-site_text p (site.On v line) = callback_text p (slice_get (on_lines p v) line)
+site_text p site = op_or_none p (op_at p site)
 
 -- `call NAME ID`
 abbrev pub call_text : Program → Var → Id → List ℕ
