@@ -17,7 +17,6 @@ use Rattle.uv_ids.specs.declared.seen.Site.{Site}
 use Rattle.uv_ids.specs.declared.seen.Site.TheVariants as site
 use Rattle.uv_script.specs.declared.op.Op.{Op}
 use Rattle.uv_script.specs.declared.op.Op.TheVariants as op
-use Rattle.uv_script.specs.declared.op.MainOp.{MainOp}
 use Rattle.uv_script.specs.declared.op.MainOp.TheVariants as main
 use Rattle.uv_script.specs.declared.op.CallbackLine.{CallbackLine}
 use Rattle.uv_script.specs.Program.{Program, on_lines, is_for, op_at}

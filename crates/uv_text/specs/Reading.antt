@@ -1,5 +1,5 @@
 -- How a line is read, as tests that the code computes; beside each clause that cites one stands the rule itself.
-use Rattle.std.specs.Prelude.{ℕ, List, [], ◌∷◌, Bool, true, ◌&&◌, ◌==◌, nat_le, Option, Some, None, if◌then◌else◌, codes}
+use Rattle.std.specs.Prelude.{ℕ, List, [], ◌∷◌, ◌&&◌, nat_le, Option, Some, None, if◌then◌else◌, codes}
 use Rattle.std.specs.Str.{bytes_eq}
 use Rattle.uv_script.specs.Lines.{fields_of}
 use Rattle.uv_script.specs.Checks.{is_line, is_skipped, number_of}

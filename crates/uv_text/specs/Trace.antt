@@ -1,5 +1,5 @@
 -- The text of a trace line.
-use Rattle.std.specs.Prelude.{ℕ, List, [], ◌++◌, true, false, Option, Some, None, slice_get, codes, decimal}
+use Rattle.std.specs.Prelude.{ℕ, List, [], ◌++◌, true, false, Option, Some, None, codes, decimal}
 use Rattle.uv_ids.specs.Words.{mode_word, phase_word, code_word}
 use Rattle.uv_ids.specs.declared.id.Id.{Id}
 use Rattle.uv_ids.specs.declared.id.Var.{Var}
