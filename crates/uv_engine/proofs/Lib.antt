@@ -5,3 +5,4 @@ pub mod Loops
 pub mod Talking
 pub mod Starting
 pub mod Counts
+mod OneAnswer

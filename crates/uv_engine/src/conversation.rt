@@ -1,12 +1,12 @@
 //! The conversation.
-ghost use Rattle.std.specs.Prelude.{◌≡◌, ◌++◌, ◌<◌, ◌^◌, ◌==◌, [], length, IfOk, IfErr, OnOk, ◌≢◌, true, false};
+ghost use Rattle.std.specs.Prelude.{◌≡◌, ℕ, List, ◌++◌, ◌<◌, ◌^◌, ◌==◌, [], length, IfOk, IfErr, OnOk, ◌≢◌, true, false};
 ghost use Rattle.std.specs.List.{list_any};
 ghost use Rattle.uv_ids.specs.declared.fault.Fault.TheVariants.{Write};
 ghost use Rattle.uv_script.specs.Lines.{lines_of};
 ghost use Rattle.uv_engine.specs.Devices.{ReaderCounts, WriterCounts};
 ghost use Rattle.uv_engine.specs.Input.{left, EndIsSeen};
 ghost use Rattle.uv_engine.specs.Gather.{Gathers};
-ghost use Rattle.uv_engine.specs.Out.{Converses, IsDeviceFault};
+ghost use Rattle.uv_engine.specs.Out.{Converses, HasAnswer, HasOneAnswer, IsDeviceFault};
 ghost use Rattle.uv_engine.specs.Talk.{TalksOn, Finishes};
 
 use crate::answer::answer;
@@ -100,6 +100,14 @@ fn finish<W: Sink>(writer: &mut W, text: &mut Vec<u8>, ended: Ended) -> Result<E
         Err(fault) => Err(fault),
     }
 }
+
+/// Every input has an answer, a text and an end, and one alone: so what `converse` writes is settled by the input. It does
+/// nothing, and is called for its clauses.
+#[tactic(auto, using(crate::proofs::OneAnswer::answers))]
+pub fn one_answer()
+    ensures some { (input : List ℕ) → HasAnswer input }
+    ensures one { (input : List ℕ) → HasOneAnswer input }
+{}
 
 /// Reads a script up to the line `begin`, and then answers the commands that follow it, a line at a time. The answers to the
 /// lines that were read are written before more is read.

@@ -41,7 +41,7 @@ onto_begins : (c b : ℕ) (word : List ℕ) (parts rest : List (List ℕ)) → o
 onto_begins c b word [] rest e = cc
 onto_begins c b word (part ∷ parts) rest e = cc
 
-line_begins : (line : List ℕ) (b : ℕ) (word : List ℕ) (rest : List (List ℕ)) → fields_of line ≡ (b ∷ word) ∷ rest → is_skipped line ≡ (b == 35)
+pub line_begins : (line : List ℕ) (b : ℕ) (word : List ℕ) (rest : List (List ℕ)) → fields_of line ≡ (b ∷ word) ∷ rest → is_skipped line ≡ (b == 35)
 line_begins [] b word rest e = absurd cc
 line_begins (c ∷ cs) b word rest e =
     elim (cases_Bool (c == 32)) [

@@ -1,15 +1,17 @@
 -- The tests of the code decide which commands there are.
-use Rattle.std.proofs.Common.{◌≡◌, ℕ, List, [], ◌∷◌, true, false, ◌&&◌, nat_le, Option, Some, None, codes, refl, ap, sym, ◌∙◌, arith}
+use Rattle.std.proofs.Common.{if◌then◌else◌, Bool, ◌≡◌, ℕ, List, [], ◌∷◌, true, false, ◌&&◌, nat_le, Option, Some, None, codes, refl, ap, sym, ◌∙◌, arith}
 use Rattle.std.specs.Str.{bytes_eq}
 use Rattle.std.proofs.lemmas.Slice.Eq.{bytes_eq-Decides}
 use Rattle.std.proofs.lemmas.Bool.{and_parts, and_from, cond_both, leb-true, le-leb, both_ways}
 use Rattle.uv_script.specs.Lines.{fields_of}
 use Rattle.uv_script.specs.Words.{IsNumber}
 use Rattle.uv_script.specs.Checks.{is_line, is_skipped, number_of}
+use Rattle.uv_script.proofs.AfterLines.{line_begins}
 use Rattle.uv_script.proofs.Checks.{is_line_decides, is_skipped_decides, number_of-sound, number_of-complete}
 use Rattle.uv_text.specs.declared.command.Command.{Command}
 use Rattle.uv_text.specs.declared.command.Command.TheVariants.{Loop, Back}
 use Rattle.uv_text.specs.declared.command.Asked.{Asked}
+use Rattle.uv_text.specs.declared.command.Asked.TheVariants.{Nothing, Bad}
 use Rattle.uv_text.specs.Commands.{IsCommand, IsNoCommand, one_step, steps, tick, back, trace, quit, Asks, nothing, command, bad, MOST}
 use Rattle.uv_text.specs.Reading.{command_alone, command_with, command_of, asked_for, asked_of}
 
@@ -140,7 +142,47 @@ asks line = cond_both (is_line line) _ _ (Asks line)
     (λ s. told line e s (command_of (fields_of line)) (fields_tell (fields_of line))))
     (λ e. bad (λ l _. both_ways _ e ((is_line_decides line).1 l)) (λ l. absurd (both_ways _ e ((is_line_decides line).1 l))))
 
+-- ---- one line asks for one thing
+
+reads_command : (fields : List (List ℕ)) (c : Command) → IsCommand fields c → command_of fields ≡ Some c
+reads_command fields c (one_step e) = ap command_of e
+reads_command fields c (steps number n e h l u) =
+    ap command_of e ∙ ap (command_with (codes "loop")) (number_of-complete number n h) ∙ rw (le-leb 1 n l, le-leb n MOST u) refl
+reads_command fields c (tick number ms e h) = ap command_of e ∙ ap (command_with (codes "tick")) (number_of-complete number ms h)
+reads_command fields c (back number n e h l) =
+    ap command_of e ∙ ap (command_with (codes "back")) (number_of-complete number n h) ∙ rw (le-leb n MOST l) refl
+reads_command fields c (trace e) = ap command_of e
+reads_command fields c (quit e) = ap command_of e
+
+-- a command isn't skipped
+says_something : (line : List ℕ) (c : Command) → IsCommand (fields_of line) c → is_skipped line ≡ false
+says_something line c (one_step e) = line_begins line _ _ _ e
+says_something line c (steps number n e h l u) = line_begins line _ _ _ e
+says_something line c (tick number ms e h) = line_begins line _ _ _ e
+says_something line c (back number n e h l) = line_begins line _ _ _ e
+says_something line c (trace e) = line_begins line _ _ _ e
+says_something line c (quit e) = line_begins line _ _ _ e
+
+no_command : (fields : List (List ℕ)) → IsNoCommand fields → command_of fields ≡ None
+no_command fields none = at (command_of fields) refl (fields_tell fields) where
+  at : (o : Option Command) → command_of fields ≡ o → Tells fields o → o ≡ None
+  at None e h = refl
+  at (Some c) e h = absurd (none c h)
+
+-- what a line asks for is what the code reads
+pub asks_only : (line : List ℕ) (asked : Asked) → Asks line asked → asked ≡ asked_of line
+asks_only line asked (nothing l s) = rw ((is_line_decides line).1 l, (is_skipped_decides line).1 s) refl
+asks_only line asked (command c l h) = rw ((is_line_decides line).1 l, says_something line c h, reads_command (fields_of line) c h) refl
+asks_only line asked (bad skip none) = at (is_line line) refl (is_skipped line) refl where
+  at : (a : Bool) → is_line line ≡ a → (b : Bool) → is_skipped line ≡ b → ◌≡◌ {A = Asked} Bad (if a then (if b then Nothing else asked_for (command_of (fields_of line))) else Bad)
+  at false e b f = refl
+  at true e true f = absurd (skip ((is_line_decides line).0 e) ((is_skipped_decides line).0 f))
+  at true e false f = rw (no_command (fields_of line) (none ((is_line_decides line).0 e))) refl
+
+pub asks_one : (line : List ℕ) (a b : Asked) → Asks line a → Asks line b → a ≡ b
+asks_one line a b h k = asks_only line a h ∙ sym (asks_only line b k)
+
 pub asks_read : (line : List ℕ) (asked : Asked) → asked ≡ asked_of line → Asks line asked
 asks_read line asked e = rw e (asks line)
 
-pub ruleset reading = (asks, asks_read)
+pub ruleset reading = (asks, asks_read, asks_one)

@@ -1,5 +1,6 @@
 //! The commands of a conversation.
 ghost use Rattle.std.specs.Prelude.{◌≡◌, ℕ, List};
+ghost use Rattle.uv_text.specs.declared.command.Asked.{Asked};
 ghost use Rattle.uv_text.specs.Commands.{Asks, MOST};
 ghost use Rattle.uv_text.specs.Reading.{asked_of, command_of, command_alone, command_with, loops, goes_back};
 
@@ -120,8 +121,9 @@ fn goes_back(n: u64) -> Option<Command>
     }
 }
 
-/// Every line asks for something.
+/// Every line asks for something, and for one thing alone.
 #[tactic(auto, using(crate::proofs::Commands::reading))]
 pub fn every_line_asks()
-    ensures { (line : List ℕ) → Asks line (asked_of line) }
+    ensures some { (line : List ℕ) → Asks line (asked_of line) }
+    ensures one { (line : List ℕ) (a b : Asked) → Asks line a → Asks line b → a ≡ b }
 {}

@@ -7,11 +7,11 @@ pub returns-in-Err-clause-text : goal.returns-in-Err-clause-text
 returns-in-Err-clause-text g c = λ reads tells.
     let input = g.R.Source.remaining c.args.reader.now in
     let rest = left c.read_script.new.input (g.R.Source.remaining c.read_script.new.reader) in
-    no_start c.one_reading.ensures.some c.every_line_asks.ensures input rest _ c.in-Err.fault c.in-Err.ensures.err
+    no_start c.one_reading.ensures.some c.every_line_asks.ensures.some input rest _ c.in-Err.fault c.in-Err.ensures.err
     (reads_whole c.new-input.result input rest (Err c.in-Err.fault) c.new-input.ensures.empty (c.in-Err.ensures.script reads))
 
 pub returns-in-Err-begin-clause-text : goal.returns-in-Err-begin-clause-text
-returns-in-Err-begin-clause-text g c = λ reads tells. no_machine c.one_reading.ensures.some c.every_line_asks.ensures _ _ _ c.in-Err-begin.ensures.err
+returns-in-Err-begin-clause-text g c = λ reads tells. no_machine c.one_reading.ensures.some c.every_line_asks.ensures.some _ _ _ c.in-Err-begin.ensures.err
 
 pub returns-clause-text : goal.returns-clause-text
 returns-clause-text g c = λ reads tells.
