@@ -35,10 +35,10 @@ pub record TakesEvent (s : Shown) (e : Event) (r : Result Outcome Fault) (t : Sh
   pub answer : Answers s.limit s.program s.standing e r t.standing
   pub taken_back : t.taken_back ≡ taken_after r s.taken_back
 
--- what may be answered to `back n`, and the session after it; after want of memory some of the steps may be taken back
+-- what may be answered to `back n`, and the session after it; after want of memory some of the steps, and not all, may be taken back
 abbrev pub MovesBack : Shown → ℕ → Result (Unit {0}) Fault → Shown → Type 0
 MovesBack s n (Ok done) t = (n ≤ length s.standing) × (t ≡ moved_back n s)
-MovesBack s n (Err Memory) t = (k : ℕ) × ((k ≤ n) × (n ≤ length s.standing) × (t ≡ moved_back k s))
+MovesBack s n (Err Memory) t = (k : ℕ) × ((k < n) × (n ≤ length s.standing) × (t ≡ moved_back k s))
 MovesBack s n (Err (Refused Range)) t = (length s.standing < n) × (t ≡ s)
 MovesBack s n (Err _) t = ⊥
 
