@@ -30,6 +30,7 @@ those_all p es i l = let m : length (seen_by p es) ≤ i = rw length-seen_by l i
 
 -- the lines of the standing steps are documented
 pub is_documented : (s : Shown) (trace : List Seen) → trace ≡ lines s.program s.standing → IsDocumented s trace
-is_documented s trace e = record { lines = e ∙ lines-history s.program s.standing; order = documented s.program s.standing }
+unfolding IsDocumented
+is_documented s trace e = (e ∙ lines-history s.program s.standing, documented s.program s.standing)
 
 pub ruleset traces = (those_more, length-seen_by)

@@ -43,6 +43,5 @@ MovesBack s n (Err (Refused Range)) t = (length s.standing < n) × (t ≡ s)
 MovesBack s n (Err _) t = ⊥
 
 -- these are all lines of the standing steps; with the states before and after each, they are in the documented order
-pub record IsDocumented (s : Shown) (trace : List Seen) : Type 0 where
-  pub lines : trace ≡ map (λ (l : Line). l.seen) (history s.program s.standing)
-  pub order : Documented s.program (history s.program s.standing)
+unfoldable pub IsDocumented : Shown → List Seen → Type 0
+IsDocumented s trace = (trace ≡ map (λ (l : Line). l.seen) (history s.program s.standing)) × Documented s.program (history s.program s.standing)
