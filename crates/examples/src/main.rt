@@ -5,7 +5,14 @@ use std::{fs, io};
 use uv_engine::{Reader, Writer, converse};
 use uv_model::PlainLoop;
 
-const EXAMPLES: [&str; 3] = ["two-timers", "falls-behind", "step-back"];
+const EXAMPLES: [&str; 6] = [
+    "two-timers",
+    "falls-behind",
+    "step-back",
+    "run-ends-early",
+    "watcher-waits",
+    "poll-does-not-block",
+];
 
 fn main(rt: HostRuntime) -> io::Result<()> {
     let alloc = rt.alloc();

@@ -4,3 +4,5 @@ pub mod Gathers
 pub mod Loops
 pub mod Talking
 pub mod Starting
+pub mod Counts
+mod OneAnswer

@@ -18,7 +18,7 @@ use Rattle.uv_engine.specs.Talk.{TalksCut, TalksOn}
 use Rattle.uv_engine.proofs.Talking.{EveryLine, some_talk}
 use Rattle.uv_engine.proofs.Replies.{same_shown}
 use Rattle.uv_engine.specs.Input.{TakesLine, NoFeed, Buffered, pending, left}
-use Rattle.uv_engine.specs.Out.{Out, Begins, NeverBegins, End, Ends, BadScript, IsCut, Converses, IsDeviceFault, started, talks, here, here_at_end, later, nothing, last_line, one_line, bad_line, no_begin, bad_input}
+use Rattle.uv_engine.specs.Out.{Out, Begins, NeverBegins, Ends, BadScript, IsCut, Converses, IsDeviceFault, started, talks, here, here_at_end, later, nothing, last_line, one_line, bad_line, no_begin, bad_input, HasAnswer}
 use Rattle.uv_engine.specs.Start.{HasScript, ReadsScript, MissesBegin, after_last, at_line, NoScript, IsStartFault, with_line}
 
 -- what was read goes on to the whole input: where the rest has a script its front is this text, and where the rest is
@@ -171,26 +171,21 @@ abbrev pub EveryText : Type 0
 EveryText = (text : List ℕ) → HasReading text
 
 -- something is written for every input
-record SomeOut (input : List ℕ) : Type 0 where
-  text : List ℕ
-  end : End
-  is : Out input text end
-
-of_begun : EveryText → EveryLine → (input script commands : List ℕ) → Begins input script commands → SomeOut input
+of_begun : EveryText → EveryLine → (input script commands : List ℕ) → Begins input script commands → HasAnswer input
 of_begun texts lines input script commands b = at (texts script) where
-  at : HasReading script → SomeOut input
+  at : HasReading script → HasAnswer input
   at (inl r) = let some = some_talk lines (lines_of commands) (started r.0) in record { text = some.text; end = Ends some.end; is = talks script commands r.0 b r.1 some.is }
   at (inr r) = record { text = []; end = BadScript r.0; is = bad_line script commands b r.1 }
 
-of_never : EveryText → (input : List ℕ) → NeverBegins input → SomeOut input
+of_never : EveryText → (input : List ℕ) → NeverBegins input → HasAnswer input
 of_never texts input n = at (texts input) where
-  at : HasReading input → SomeOut input
+  at : HasReading input → HasAnswer input
   at (inl r) = record { text = []; end = BadScript (length (lines_of input) + 1); is = no_begin r.0 n r.1 }
   at (inr r) = record { text = []; end = BadScript r.0; is = bad_input n r.1 }
 
-some_out : EveryText → EveryLine → (input : List ℕ) → SomeOut input
+pub some_out : EveryText → EveryLine → (input : List ℕ) → HasAnswer input
 some_out texts lines input = at (starts input) where
-  at : Starts input → SomeOut input
+  at : Starts input → HasAnswer input
   at (begun script commands b) = of_begun texts lines input script commands b
   at (never n) = of_never texts input n
 

@@ -1,5 +1,7 @@
 -- How devices count their failures.
-use Rattle.std.specs.Prelude.{◌≡◌, ℕ, ◌+◌, ◌<◌, ◌-◌, ◌^◌, List, length, Result, Ok, Err}
+use Rattle.std.specs.Prelude.{◌≡◌, ℕ, ◌+◌, ◌<◌, ◌-◌, ◌^◌, ◌⊎◌, List, length, Result, Ok, Err}
+use Rattle.uv_ids.specs.declared.fault.Fault.{Fault}
+use Rattle.uv_ids.specs.declared.fault.Fault.TheVariants.{Read, Write}
 use Rattle.uv_engine.specs.declared.sink.WriteFailed.{WriteFailed}
 
 -- one failure more; nothing is said at the greatest count
@@ -10,3 +12,15 @@ Counted old new = old < 2 ^ 64 - 1 → new ≡ old + 1
 abbrev pub WriteCount : Result ℕ WriteFailed → List ℕ → ℕ → ℕ → Type 0
 WriteCount (Err failed) bytes old new = Counted old new
 WriteCount (Ok n) bytes old new = (n ≡ 0 → 0 < length bytes → Counted old new) × (0 < n → new ≡ old)
+
+-- a call answers `Write` where the writer failed, and only there
+abbrev pub WriterCounts : {A : Type 0} → Result A Fault → ℕ → ℕ → Type 0
+WriterCounts (Err Write) old new = Counted old new
+WriterCounts (Err _) old new = new ≡ old
+WriterCounts (Ok _) old new = new ≡ old
+
+-- a call answers `Read` where the reader failed, and else only where the input is too long
+abbrev pub ReaderCounts : {A : Type 0} → Result A Fault → Type 0 → ℕ → ℕ → Type 0
+ReaderCounts (Err Read) TooLong old new = Counted old new ⊎ ((new ≡ old) × TooLong)
+ReaderCounts (Err _) TooLong old new = new ≡ old
+ReaderCounts (Ok _) TooLong old new = new ≡ old

@@ -1,6 +1,7 @@
 -- Text that is gathered before it is written.
 use Rattle.std.specs.Prelude.{◌≡◌, ℕ, List, ◌++◌, Bool, true, false, Result, Ok, Err}
 use Rattle.uv_ids.specs.declared.fault.Fault.{Fault}
+use Rattle.uv_ids.specs.declared.fault.Fault.TheVariants as fault
 use Rattle.uv_session.specs.Shown.{Shown}
 use Rattle.uv_engine.specs.Reply.{Reply, Took, Refused, Full}
 
@@ -36,3 +37,9 @@ abbrev pub GoesOn : Reply → Shown → Bool → Shown → Type 0
 GoesOn (Took u seen) s on t = (on ≡ true) × (t ≡ u)
 GoesOn (Refused why) s on t = (on ≡ false) × (t ≡ s)
 GoesOn Full s on t = (on ≡ false) × (t ≡ s)
+
+-- a growth was refused, or the writer failed
+abbrev pub IsWriteFault : Fault → Type 0
+IsWriteFault fault.Memory = Unit {0}
+IsWriteFault fault.Write = Unit {0}
+IsWriteFault _ = ⊥

@@ -80,6 +80,20 @@ pub data Out (input : List ℕ) : List ℕ → End → Type 0 where
   no_begin : (p : Program) → NeverBegins input → IsScript input p → Out input [] (BadScript (length (lines_of input) + 1))
   bad_input : {number : ℕ} → NeverBegins input → IsBadLine input number → Out input [] (BadScript number)
 
+-- an input has an answer: a text and an end
+pub record HasAnswer (input : List ℕ) : Type 0 where
+  pub text : List ℕ
+  pub end : End
+  pub is : Out input text end
+
+-- two answers to an input are the same
+pub record AreSame (a b : List ℕ) (x y : End) : Type 0 where
+  pub text : a ≡ b
+  pub end : x ≡ y
+
+abbrev pub HasOneAnswer : List ℕ → Type 0
+HasOneAnswer input = (a b : List ℕ) (x y : End) → Out input a x → Out input b y → AreSame a b x y
+
 -- a beginning of what is written for the input
 pub record IsCut (input old new : List ℕ) : Type 0 where
   pub text : List ℕ

@@ -12,12 +12,13 @@ abbrev pub with_line : List ℕ → Bool → List ℕ
 with_line line true = line ++ 10 ∷ []
 with_line line false = line
 
--- the script was read and the commands are left, or the input ends at a bad line
+-- the script is in front of the commands, and is this program
 pub record HasScript (input : List ℕ) (p : Program) (commands : List ℕ) : Type 0 where
   pub script : List ℕ
   pub begins : Begins input script commands
   pub is : IsScript script p
 
+-- the script was read and the commands are left, or the script is bad
 abbrev pub ReadsScript : List ℕ → Result Program Fault → List ℕ → Type 0
 ReadsScript input (Ok p) commands = HasScript input p commands
 ReadsScript input (Err (fault.Script line)) commands = Out input [] (BadScript line)

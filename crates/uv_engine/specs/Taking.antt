@@ -1,5 +1,5 @@
 -- What the calls of an input's buffer do.
-use Rattle.std.specs.Prelude.{◌≡◌, ℕ, List, [], true, Option, Some, None, Vec}
+use Rattle.std.specs.Prelude.{◌≡◌, ℕ, ◌+◌, List, [], true, length, Option, Some, None, Vec}
 use Rattle.std.specs.Global.{Global}
 use Rattle.uv_ids.specs.declared.fault.Fault.{Fault}
 use Rattle.uv_ids.specs.declared.fault.Fault.TheVariants as fault
@@ -11,6 +11,10 @@ pub record SameReader (old new : Buffered) : Type 0 where
   pub ended : new.ended ≡ old.ended
   pub budget : new.budget ≡ old.budget
 
+-- as many bytes fewer may be read as were taken from those that remained
+abbrev pub SpendsBudget : Buffered → List ℕ → Buffered → List ℕ → Type 0
+SpendsBudget old remaining new remaining' = new.budget + length remaining ≡ old.budget + length remaining'
+
 -- a line is taken that ends in what was read; with none, all that was read is part of the next line
 abbrev pub TakesAhead : Buffered → Option (Vec ℕ Global) → Buffered → Type 0
 TakesAhead old (Some text) new = TakesLine (pending old) text.items true (pending new)
@@ -21,8 +25,8 @@ abbrev pub TakesNext : List ℕ → Option Line → List ℕ → Type 0
 TakesNext old (Some line) new = TakesLine old line.text.items line.fed new
 TakesNext old None new = old ≡ []
 
--- a read failed, or there was no memory, or the input is too long
-abbrev pub ReadFault : Fault → Type 0
-ReadFault fault.Read = Unit {0}
-ReadFault fault.Memory = Unit {0}
-ReadFault _ = ⊥
+-- the reader failed, or gave more than 2^30 bytes in all (both answer `Read`), or there was no memory
+abbrev pub IsReadFault : Fault → Type 0
+IsReadFault fault.Read = Unit {0}
+IsReadFault fault.Memory = Unit {0}
+IsReadFault _ = ⊥

@@ -2,9 +2,10 @@
 ghost use Rattle.std.specs.Prelude.{◌≡◌, ◌++◌, [], IfOk, OnOk, IfErr, codes, decimal};
 ghost use Rattle.uv_ids.specs.declared.fault.Fault.TheVariants.{Memory, Write};
 ghost use Rattle.uv_text.specs.Trace.{seen_text};
-ghost use Rattle.uv_engine.specs.Gather.{Gathers, GathersOne, GoesOn};
+ghost use Rattle.uv_engine.specs.Devices.{WriterCounts};
+ghost use Rattle.uv_engine.specs.Gather.{Gathers, GathersOne, GoesOn, IsWriteFault};
 ghost use Rattle.uv_engine.specs.Reply.{reply, reply_text, reply_after, line_text, loop_text, loop_after, back_text, back_after, trace_text};
-ghost use Rattle.uv_engine.specs.Out.{Prints, command_after, Answers, asked_after, IsDeviceFault};
+ghost use Rattle.uv_engine.specs.Out.{Prints, command_after, Answers, asked_after};
 
 use crate::sink::{Sink, write_out};
 use std::alloc::{AllocError, Global};
@@ -20,7 +21,8 @@ const FULL: usize = 8192;
 /// Writes the gathered text if there is much of it.
 fn spill<W: Sink>(writer: &mut W, text: &mut Vec<u8>) -> Result<(), Fault>
     ensures text { W.Tells → Gathers result (W.written writer.old) text.old.items [] (W.written writer.new) text.new.items }
-    ensures err { IfErr result IsDeviceFault }
+    ensures err { IfErr result (λ fault. fault ≡ Write) }
+    ensures writer { WriterCounts result (W.failures writer.old) (W.failures writer.new) }
 {
     if text.len() < FULL {
         return Ok(());
@@ -91,7 +93,8 @@ fn run_loop<M: Machine, W: Sink>(
 ) -> Result<(), Fault>
     ensures text { W.Tells → Gathers result (W.written writer.old) text.old.items (loop_text n session.old) (W.written writer.new) text.new.items }
     ensures session { OnOk result (session.new ≡ loop_after n session.old) }
-    ensures err { IfErr result IsDeviceFault }
+    ensures err { IfErr result IsWriteFault }
+    ensures writer { WriterCounts result (W.failures writer.old) (W.failures writer.new) }
 {
     for _ in 0..n {
         match tell(alloc, session, text, Event::Loop) {
@@ -115,7 +118,8 @@ fn show_trace<M: Machine, W: Sink>(
     text: &mut Vec<u8>,
 ) -> Result<(), Fault>
     ensures text { W.Tells → Gathers result (W.written writer.old) text.old.items (trace_text session.now) (W.written writer.new) text.new.items }
-    ensures err { IfErr result IsDeviceFault }
+    ensures err { IfErr result IsWriteFault }
+    ensures writer { WriterCounts result (W.failures writer.old) (W.failures writer.new) }
 {
     let Ok(trace) = session.trace() else {
         return Err(Fault::Memory);
@@ -138,7 +142,8 @@ fn show_line<W: Sink>(
     text: &mut Vec<u8>,
 ) -> Result<(), Fault>
     ensures text { W.Tells → Gathers result (W.written writer.old) text.old.items (seen_text script.now seen) (W.written writer.new) text.new.items }
-    ensures err { IfErr result IsDeviceFault }
+    ensures err { IfErr result IsWriteFault }
+    ensures writer { WriterCounts result (W.failures writer.old) (W.failures writer.new) }
 {
     if push_seen(alloc, text, script, Some(seen)).is_err() {
         return Err(Fault::Memory);
@@ -181,7 +186,8 @@ fn perform<M: Machine, W: Sink>(
 ) -> Result<(), Fault>
     ensures text { W.Tells → GathersOne (Prints command session.old) result (W.written writer.old) text.old.items (W.written writer.new) text.new.items }
     ensures session { OnOk result (session.new ≡ command_after command session.old) }
-    ensures err { IfErr result IsDeviceFault }
+    ensures err { IfErr result IsWriteFault }
+    ensures writer { WriterCounts result (W.failures writer.old) (W.failures writer.new) }
 {
     match command {
         Command::Loop(n) => run_loop(alloc, session, writer, text, n),
@@ -208,7 +214,8 @@ pub fn answer<M: Machine, W: Sink>(
 ) -> Result<(), Fault>
     ensures text { W.Tells → GathersOne (Answers asked session.old) result (W.written writer.old) text.old.items (W.written writer.new) text.new.items }
     ensures session { OnOk result (session.new ≡ asked_after asked session.old) }
-    ensures err { IfErr result IsDeviceFault }
+    ensures err { IfErr result IsWriteFault }
+    ensures writer { WriterCounts result (W.failures writer.old) (W.failures writer.new) }
 {
     match asked {
         Asked::Nothing => Ok(()),

@@ -1,9 +1,12 @@
 //! The conversation.
-ghost use Rattle.std.specs.Prelude.{◌≡◌, ◌++◌, [], IfOk, IfErr, ◌≢◌, true, false};
+ghost use Rattle.std.specs.Prelude.{◌≡◌, ℕ, List, ◌++◌, ◌<◌, ◌^◌, ◌==◌, [], length, IfOk, IfErr, OnOk, ◌≢◌, true, false};
+ghost use Rattle.std.specs.List.{list_any};
+ghost use Rattle.uv_ids.specs.declared.fault.Fault.TheVariants.{Write};
 ghost use Rattle.uv_script.specs.Lines.{lines_of};
+ghost use Rattle.uv_engine.specs.Devices.{ReaderCounts, WriterCounts};
 ghost use Rattle.uv_engine.specs.Input.{left, EndIsSeen};
 ghost use Rattle.uv_engine.specs.Gather.{Gathers};
-ghost use Rattle.uv_engine.specs.Out.{Converses, IsDeviceFault};
+ghost use Rattle.uv_engine.specs.Out.{Converses, HasAnswer, HasOneAnswer, IsDeviceFault};
 ghost use Rattle.uv_engine.specs.Talk.{TalksOn, Finishes};
 
 use crate::answer::answer;
@@ -13,13 +16,10 @@ use crate::sink::{Sink, write_out};
 use crate::source::Source;
 use std::alloc::Global;
 use uv_ids::Fault;
-use uv_model::Machine;
+use uv_model::{Machine, STEPS};
 use uv_script::one_reading;
 use uv_session::Session;
 use uv_text::{Asked, Command, every_line_asks, read_command};
-
-/// The most steps of a conversation (own).
-const STEPS: usize = 16_777_216;
 
 /// How a conversation ended.
 #[derive(Clone, Copy, Debug, PartialEq, Eq)]
@@ -33,7 +33,9 @@ pub enum Ended {
 /// Writes the gathered text where the next line has to be waited for.
 fn write_if_waiting<W: Sink>(input: &Input, writer: &mut W, text: &mut Vec<u8>) -> Result<(), Fault>
     ensures text { W.Tells → Gathers result (W.written writer.old) text.old.items [] (W.written writer.new) text.new.items }
-    ensures err { IfErr result IsDeviceFault }
+    ensures waiting { OnOk result (list_any (λ b. b == 10) input.now.ahead ≡ false → text.new.items ≡ []) }
+    ensures err { IfErr result (λ fault. fault ≡ Write) }
+    ensures writer { WriterCounts result (W.failures writer.old) (W.failures writer.new) }
 {
     if input.has_line() {
         return Ok(());
@@ -53,6 +55,8 @@ fn talk<M: Machine, R: Source, W: Sink>(
     requires end { R.Tells → EndIsSeen input.old (R.remaining reader.old) }
     ensures text { R.Tells → W.Tells → TalksOn (lines_of (left input.old (R.remaining reader.old))) session.old result (W.written writer.old) (W.written writer.new) }
     ensures err { IfErr result IsDeviceFault }
+    ensures reader { ReaderCounts result (R.Tells → input.old.budget < length (R.remaining reader.old)) (R.failures reader.old) (R.failures reader.new) }
+    ensures writer { WriterCounts result (W.failures writer.old) (W.failures writer.new) }
 {
     every_line_asks();
     let mut text = Vec::new(alloc);
@@ -88,7 +92,8 @@ fn is_quit(asked: Asked) -> bool
 /// Writes what was gathered, at the end.
 fn finish<W: Sink>(writer: &mut W, text: &mut Vec<u8>, ended: Ended) -> Result<Ended, Fault>
     ensures text { W.Tells → Finishes result ended (W.written writer.old) text.old.items (W.written writer.new) }
-    ensures err { IfErr result IsDeviceFault }
+    ensures err { IfErr result (λ fault. fault ≡ Write) }
+    ensures writer { WriterCounts result (W.failures writer.old) (W.failures writer.new) }
 {
     match write_out(writer, text) {
         Ok(()) => Ok(ended),
@@ -96,18 +101,28 @@ fn finish<W: Sink>(writer: &mut W, text: &mut Vec<u8>, ended: Ended) -> Result<E
     }
 }
 
+/// Every input has an answer, a text and an end, and one alone: so what `converse` writes is settled by the input. It does
+/// nothing, and is called for its clauses.
+#[tactic(auto, using(crate::proofs::OneAnswer::answers))]
+pub fn one_answer()
+    ensures some { (input : List ℕ) → HasAnswer input }
+    ensures one { (input : List ℕ) → HasOneAnswer input }
+{}
+
 /// Reads a script up to the line `begin`, and then answers the commands that follow it, a line at a time. The answers to the
 /// lines that were read are written before more is read.
 ///
 /// `Script` names the first line outside the grammar of scripts, and nothing is written then. `Read` comes where the reader
-/// fails or the input is longer than 2^30 bytes, `Write` where the writer fails or takes no byte. What follows `quit` may
-/// have been read.
+/// fails, and else only where the input is longer than 2^30 bytes; `Write` where the writer fails or takes no byte, and only
+/// there. What follows `quit` may have been read.
 pub fn converse<M: Machine, R: Source, W: Sink>(
     alloc: Global,
     reader: &mut R,
     writer: &mut W,
 ) -> Result<Ended, Fault>
-    ensures { R.Tells → W.Tells → Converses (R.remaining reader.old) result (W.written writer.old) (W.written writer.new) }
+    ensures text { R.Tells → W.Tells → Converses (R.remaining reader.old) result (W.written writer.old) (W.written writer.new) }
+    ensures reader { ReaderCounts result (R.Tells → 2 ^ 30 < length (R.remaining reader.old)) (R.failures reader.old) (R.failures reader.new) }
+    ensures writer { WriterCounts result (W.failures writer.old) (W.failures writer.new) }
 {
     one_reading();
     every_line_asks();

@@ -1,9 +1,17 @@
 //! Standard readers and writers, as a conversation's.
 ghost use Rattle.std.specs.Prelude.{[]};
+ghost use Rattle.uv_engine.specs.Devices.{Counted};
 
 use crate::sink::{Sink, WriteFailed};
 use crate::source::{ReadFailed, Source};
 use std::io::{Read, Write};
+
+/// Counts a failure.
+fn count(failures: &mut u64)
+    ensures { Counted failures.old failures.new }
+{
+    *failures = failures.saturating_add(1);
+}
 
 /// A reader that doesn't tell its bytes.
 #[derive(Drop)]
@@ -32,7 +40,7 @@ impl<R: Read> Source for Reader<R> {
         match self.reader.read(room) {
             Ok(n) => Ok(n),
             Err(_) => {
-                self.failures = self.failures.saturating_add(1);
+                count(&mut self.failures);
                 Err(ReadFailed)
             }
         }
@@ -66,12 +74,12 @@ impl<W: Write> Sink for Writer<W> {
         match self.writer.write(bytes) {
             Ok(n) => {
                 if n == 0 && !bytes.is_empty() {
-                    self.failures = self.failures.saturating_add(1);
+                    count(&mut self.failures);
                 }
                 Ok(n)
             }
             Err(_) => {
-                self.failures = self.failures.saturating_add(1);
+                count(&mut self.failures);
                 Err(WriteFailed)
             }
         }
@@ -81,7 +89,7 @@ impl<W: Write> Sink for Writer<W> {
         match self.writer.flush() {
             Ok(()) => Ok(()),
             Err(_) => {
-                self.failures = self.failures.saturating_add(1);
+                count(&mut self.failures);
                 Err(WriteFailed)
             }
         }

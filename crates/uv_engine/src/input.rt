@@ -1,7 +1,9 @@
 //! The lines of a reader.
-ghost use Rattle.std.specs.Prelude.{◌≡◌, ◌<◌, ◌+◌, ◌++◌, [], IfOk, IfErr, OnOk, OnSome, length, false};
+ghost use Rattle.std.specs.Prelude.{◌≡◌, ◌<◌, ◌+◌, ◌^◌, ◌==◌, ◌++◌, [], IfOk, IfErr, OnOk, OnSome, length, true, false};
+ghost use Rattle.std.specs.List.{list_any};
+ghost use Rattle.uv_engine.specs.Devices.{ReaderCounts};
 ghost use Rattle.uv_engine.specs.Input.{Buffered, pending, left, EndIsSeen, size, turns_left};
-ghost use Rattle.uv_engine.specs.Taking.{TakesAhead, TakesNext, SameReader, ReadFault};
+ghost use Rattle.uv_engine.specs.Taking.{TakesAhead, TakesNext, SameReader, SpendsBudget, IsReadFault};
 
 use crate::source::Source;
 use std::alloc::{AllocError, Global};
@@ -57,6 +59,7 @@ impl Input {
     pub fn new(alloc: Global) -> Input
         ensures empty { pending result ≡ [] }
         ensures open { result.ended ≡ false }
+        ensures budget { result.budget ≡ 2 ^ 30 }
     {
         Input {
             alloc,
@@ -68,7 +71,9 @@ impl Input {
     }
 
     /// Whether the end of the next line was read already.
-    pub fn has_line(&self) -> bool {
+    pub fn has_line(&self) -> bool
+        ensures { result ≡ list_any (λ b. b == 10) self.now.ahead }
+    {
         self.ahead.contains(&b'\n')
     }
 
@@ -101,7 +106,9 @@ impl Input {
         ensures part { OnOk result (self.new.part ≡ self.old.part) }
         ensures turns { OnOk result (turns_left self.new < turns_left self.old) }
         ensures size { OnOk result (size self.new ≡ size self.old) }
-        ensures err { IfErr result (λ fault. ReadFault fault) }
+        ensures budget { OnOk result (R.Tells → SpendsBudget self.old (R.remaining reader.old) self.new (R.remaining reader.new)) }
+        ensures err { IfErr result IsReadFault }
+        ensures reader { ReaderCounts result (R.Tells → self.old.budget < length (R.remaining reader.old)) (R.failures reader.old) (R.failures reader.new) }
     {
         let mut room = [0; 4096];
         match reader.read(&mut room) {
@@ -129,7 +136,10 @@ impl Input {
         ensures line { IfOk result (λ line. R.Tells → TakesNext (left self.old (R.remaining reader.old)) line (left self.new (R.remaining reader.new))) }
         ensures size { IfOk result (λ line. OnSome line (size self.new < size self.old)) }
         ensures end { OnOk result (R.Tells → EndIsSeen self.new (R.remaining reader.new)) }
-        ensures err { IfErr result (λ fault. ReadFault fault) }
+        ensures ended { OnOk result (self.old.ended ≡ true → self.new.ended ≡ true) }
+        ensures budget { OnOk result (R.Tells → SpendsBudget self.old (R.remaining reader.old) self.new (R.remaining reader.new)) }
+        ensures err { IfErr result IsReadFault }
+        ensures reader { ReaderCounts result (R.Tells → self.old.budget < length (R.remaining reader.old)) (R.failures reader.old) (R.failures reader.new) }
     {
         loop {
             match self.take_ahead() {
@@ -149,6 +159,7 @@ impl Input {
         requires { self.old.ahead ≡ [] }
         ensures line { TakesNext (pending self.old) result (pending self.new) }
         ensures size { OnSome result (size self.new < size self.old) }
+        ensures reader { SameReader self.old self.new }
     {
         if self.part.is_empty() {
             return None;

@@ -11,7 +11,7 @@ mod source;
 #[cfg(test)]
 mod tests;
 
-pub use conversation::{Ended, converse};
+pub use conversation::{Ended, converse, one_answer};
 pub use devices::{Reader, Writer};
 pub use sink::{Sink, WriteFailed};
 pub use source::{ReadFailed, Source};

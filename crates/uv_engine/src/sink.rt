@@ -1,7 +1,7 @@
 //! Where text goes.
 ghost use Rattle.std.specs.Prelude.{◌≡◌, ◌<◌, ◌≤◌, ◌++◌, ℕ, List, [], IfOk, IfErr, OnOk, OnErr, length, take, drop};
 ghost use Rattle.uv_ids.specs.declared.fault.Fault.TheVariants.{Write};
-ghost use Rattle.uv_engine.specs.Devices.{Counted, WriteCount};
+ghost use Rattle.uv_engine.specs.Devices.{Counted, WriteCount, WriterCounts};
 ghost use Rattle.uv_engine.specs.Sink.{WritesText};
 ghost use Rattle.uv_engine.specs.Gather.{Gathers};
 
@@ -38,7 +38,8 @@ pub trait Sink {
 /// Writes a whole text, or a beginning of it.
 pub fn write_text<W: Sink>(writer: &mut W, text: &[u8]) -> Result<(), Fault>
     ensures text { W.Tells → WritesText result (W.written writer.old) text.now (W.written writer.new) }
-    ensures err { IfErr result (λ fault. (fault ≡ Write) × Counted (W.failures writer.old) (W.failures writer.new)) }
+    ensures err { IfErr result (λ fault. fault ≡ Write) }
+    ensures writer { WriterCounts result (W.failures writer.old) (W.failures writer.new) }
 {
     let mut at = 0;
     while at < text.len() {
@@ -56,6 +57,7 @@ pub fn write_out<W: Sink>(writer: &mut W, text: &mut Vec<u8>) -> Result<(), Faul
     ensures text { W.Tells → Gathers result (W.written writer.old) text.old.items [] (W.written writer.new) text.new.items }
     ensures empty { OnOk result (text.new.items ≡ []) }
     ensures err { IfErr result (λ fault. fault ≡ Write) }
+    ensures writer { WriterCounts result (W.failures writer.old) (W.failures writer.new) }
 {
     if text.is_empty() {
         return Ok(());

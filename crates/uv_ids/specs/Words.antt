@@ -1,7 +1,7 @@
 -- The words that scripts, traces, states and answers share, a byte a character.
 use Rattle.std.specs.Prelude.{◌≡◌, ℕ, List, codes}
 use Rattle.uv_ids.specs.declared.phase.Kind.{Kind}
-use Rattle.uv_ids.specs.declared.phase.Kind.TheVariants.{Timer}
+use Rattle.uv_ids.specs.declared.phase.Kind.TheVariants as kind
 use Rattle.uv_ids.specs.declared.phase.Mode.{Mode}
 use Rattle.uv_ids.specs.declared.phase.Mode.TheVariants as mode
 use Rattle.uv_ids.specs.declared.phase.Phase.{Phase}
@@ -13,11 +13,14 @@ use Rattle.uv_ids.specs.declared.fault.Why.TheVariants as why
 
 -- a kind of handle
 abbrev pub kind_word : Kind → List ℕ
-kind_word Timer = codes "timer"
+kind_word kind.Timer = codes "timer"
+kind_word kind.Idle = codes "idle"
+kind_word kind.Prepare = codes "prepare"
+kind_word kind.Check = codes "check"
 
 -- the word names no kind
 abbrev pub IsNoKind : List ℕ → Type 0
-IsNoKind word = (kind : Kind) → word ≡ kind_word kind → ⊥
+IsNoKind word = (k : Kind) → word ≡ kind_word k → ⊥
 
 -- a mode of a run
 abbrev pub mode_word : Mode → List ℕ

@@ -8,7 +8,7 @@ use crate::id::Id;
 #[derive(Clone, Copy, Debug, PartialEq, Eq)]
 pub enum Code {
     Ok,
-    /// UV_EINVAL: a closing handle, or a timer that was never started.
+    /// UV_EINVAL: a timer that was never started, or a closing handle (own).
     Einval,
     /// UV_EBUSY: work that doesn't wait for a worker, or a loop that still holds handles.
     Ebusy,
@@ -42,9 +42,15 @@ impl Code {
     }
 }
 
-/// What an op answers: a status, or the id of what it made.
+/// What an op answers: a status, the id of what it made, or what it was asked for.
 #[derive(Clone, Copy, Debug, PartialEq, Eq)]
 pub enum Answer {
     Code(Code),
     Id(Id),
+    /// A time in ms.
+    Number(u64),
+    /// Yes or no, written 1 or 0.
+    Flag(bool),
+    /// A poll timeout in ms; none is infinite.
+    Timeout(Option<u64>),
 }

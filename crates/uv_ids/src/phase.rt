@@ -5,7 +5,14 @@ ghost use Rattle.uv_ids.specs.Words.{kind_word, mode_word, phase_word, IsNoKind,
 /// The kind of a handle (uv_handle_type).
 #[derive(Clone, Copy, Debug, PartialEq, Eq)]
 pub enum Kind {
+    /// Called when its time has come (uv_timer_t).
     Timer,
+    /// Called once in each iteration, before the prepare handles (uv_idle_t).
+    Idle,
+    /// Called once in each iteration, right before the poll (uv_prepare_t).
+    Prepare,
+    /// Called once in each iteration, right after the poll (uv_check_t).
+    Check,
 }
 
 impl Kind {
@@ -15,6 +22,9 @@ impl Kind {
     {
         match self {
             Kind::Timer => "timer",
+            Kind::Idle => "idle",
+            Kind::Prepare => "prepare",
+            Kind::Check => "check",
         }
     }
 
@@ -25,6 +35,9 @@ impl Kind {
     {
         match word {
             b"timer" => Some(Kind::Timer),
+            b"idle" => Some(Kind::Idle),
+            b"prepare" => Some(Kind::Prepare),
+            b"check" => Some(Kind::Check),
             _ => None,
         }
     }

@@ -1,15 +1,18 @@
 -- A state's numbers are no larger than the number of its steps, and its times no later than the clock's limit.
-use Rattle.std.proofs.Common.{◌≡◌, ℕ, suc, ◌+◌, ◌<◌, ◌≤◌, ◌^◌, List, [], ◌∷◌, ◌++◌, length, Bool, true, false, Option, Some, None, if◌then◌else◌, nat_le, ◌==◌, ◌&&◌, slice_get, slice_set, All, refl, arith, subst, replicate, add-zero, zero-add}
+use Rattle.std.proofs.Common.{◌≡◌, ℕ, suc, ◌+◌, ◌<◌, ◌≤◌, ◌^◌, List, [], ◌∷◌, ◌++◌, length, Bool, true, false, Option, Some, None, if◌then◌else◌, nat_le, ◌==◌, ◌&&◌, option_and_then, slice_get, slice_set, All, refl, arith, subst, replicate, add-zero, zero-add}
 use Rattle.std.proofs.lemmas.Grind.{elements}
+use Rattle.std.proofs.lemmas.Bool.{cond_both}
 use Rattle.std.proofs.lemmas.Bool.Decides.{nat_tests}
 use Rattle.uv_ids.specs.declared.id.Id.{Id}
 use Rattle.uv_ids.specs.declared.id.Var.{Var}
 use Rattle.uv_ids.specs.declared.due.Due.{Due}
 use Rattle.uv_ids.specs.declared.phase.Kind.{Kind}
+use Rattle.uv_ids.specs.declared.phase.Kind.TheVariants as kind
+use Rattle.uv_ids.specs.declared.code.Code.TheVariants.{Ekind}
 use Rattle.uv_ids.specs.declared.event.Event.{Event}
 use Rattle.uv_ids.specs.declared.event.Event.TheVariants.{Loop, Tick}
 use Rattle.uv_script.specs.declared.op.Op.{Op}
-use Rattle.uv_script.specs.declared.op.Op.TheVariants.{Init, Start, Stop}
+use Rattle.uv_script.specs.declared.op.Op.TheVariants as op
 use Rattle.uv_script.specs.declared.op.MainOp.{MainOp}
 use Rattle.uv_script.specs.declared.op.MainOp.TheVariants as main
 use Rattle.uv_script.specs.declared.op.CallbackLine.{CallbackLine}
@@ -25,13 +28,17 @@ use Rattle.uv_model.specs.declared.place.Timing.{Timing}
 use Rattle.uv_model.specs.declared.place.Timing.TheVariants.{Collecting, Firing}
 use Rattle.uv_model.specs.declared.place.Place.{Place}
 use Rattle.uv_model.specs.declared.place.Place.TheVariants.{Main, Running}
-use Rattle.uv_model.specs.Handles.{new_handle, inactive}
-use Rattle.uv_model.specs.State.{State, fresh, named, handle_of, with_handle, with_named, with_new, unused_slot, live}
-use Rattle.uv_model.specs.Timers.{stopped, started, without_id, without_timer}
+use Rattle.uv_model.specs.declared.watchers.WatcherKind.{WatcherKind}
+use Rattle.uv_model.specs.declared.watchers.WatcherKind.TheVariants as watcher
+use Rattle.uv_model.specs.Ids.{without_id, has_some}
+use Rattle.uv_model.specs.Handles.{new_handle, inactive, is_timer}
+use Rattle.uv_model.specs.Watchers.{Watched, with_watcher, without_watcher, all_yet, moved_on, watcher_kind}
+use Rattle.uv_model.specs.State.{State, fresh, named, handle_of, with_handle, with_named, with_new, unused_slot, held, held_in, with_id, live_id, live, watched, with_watched, refreshed}
+use Rattle.uv_model.specs.Timers.{timer_stopped, started, restarted, without_timer}
 use Rattle.uv_model.specs.Timeout.{has_passed}
 use Rattle.uv_model.specs.Ops as ops
-use Rattle.uv_model.specs.Ops.{do_op}
-use Rattle.uv_model.specs.Next.{Next, Moves, Refuses, next, loop_step, main_step, run_step, body_step, stage_step, tick, timers, collect, fire, leave_timers, enter, ends, call, restarted, made_ready, refreshed, is_default, timers_stage, body_from, goes}
+use Rattle.uv_model.specs.Ops.{do_op, refuses}
+use Rattle.uv_model.specs.Next.{Next, Moves, Refuses, next, loop_step, main_step, run_step, body_step, stage_step, tick, timers, collect, fire, leave_timers, enter, ends, new_iteration, call, made_ready, is_default, timers_stage, body_from, goes, begin_walk, after_walk, walk, stage_of}
 use Rattle.uv_model.specs.After.{after, goes_on, state_of}
 use Rattle.uv_model.specs.Bounds.{line_of, HoldsBefore, StartsBefore, IsSmall}
 use Rattle.uv_model.proofs.Counts.{at_name}
@@ -58,10 +65,6 @@ if_keeps : {A : Type 0} (P : A → Type 0) (b : Bool) (x y : A) → P x → P y 
 if_keeps P true x y h k = h
 if_keeps P false x y h k = k
 
-if_when : {A : Type 0} (P : A → Type 0) (b : Bool) (x y : A) → (b ≡ true → P x) → (b ≡ false → P y) → P (if b then x else y)
-if_when P true x y h k = h refl
-if_when P false x y h k = k refl
-
 -- ---- the parts
 
 counts_more : (n : ℕ) (names : List Named) → Counts n names → Counts (suc n) names
@@ -72,7 +75,7 @@ counts_set n names i x h l = grind (arith, elements, h)
 
 holds_more : (m n : ℕ) (content : Option Handle) → m ≤ n → HoldsBefore m content → HoldsBefore n content
 holds_more m n None l h = tt
-holds_more m n (Some x) l h = λ a. omega (arith, h a)
+holds_more m n (Some x) l h = λ t a. omega (arith, h t a)
 
 drawn_more : (m n : ℕ) (slots : List Slot) → m ≤ n → Drawn m slots → Drawn n slots
 drawn_more m n slots l h = λ k d w. holds_more m n _ l (h k d w)
@@ -84,10 +87,40 @@ drawn_push : (n : ℕ) (slots : List Slot) (x : Slot) → Drawn n slots → Hold
 drawn_push n slots x h b = grind (arith, elements, h)
 
 never : (n : ℕ) (h : Handle) → h.active ≡ false → StartsBefore n h
-never n h e = λ a. cc (a, e)
+never n h e = λ t a. cc (a, e)
+
+never_timer : (k : Kind) (w : WatcherKind) → watcher_kind k ≡ Some w → is_timer k ≡ true → ⊥
+never_timer kind.Timer w e t = cc e
+never_timer kind.Idle w e t = cc t
+never_timer kind.Prepare w e t = cc t
+never_timer kind.Check w e t = cc t
 
 count_of : (n : ℕ) (s : State) (v : Var) → Counts n s.names → (named s v).calls ≤ n
 count_of n s v h = let l : (named s v).calls < suc n = at_name (suc n) s.names v.0 (slice_get s.names v.0) refl (λ k d w. omega (arith, h k d w)) (omega arith) in omega arith
+
+-- ---- a live handle
+
+abbrev LiveBefore : ℕ → Option (Id × Handle) → Type 0
+LiveBefore n None = Unit {0}
+LiveBefore n (Some t) = StartsBefore n t.1
+
+slot_before : (n : ℕ) (slots : List Slot) (i : ℕ) (slot : Slot) → slice_get slots i ≡ Some slot → Drawn n slots → HoldsBefore n slot.content
+slot_before n slots i slot e h = grind (arith, elements, h)
+
+found_before : (n : ℕ) (slots : List Slot) (id : Id) (x : Option Slot) → slice_get slots id.slot ≡ x → Drawn n slots → HoldsBefore n (option_and_then (held_in id) x)
+found_before n slots id None e h = tt
+found_before n slots id (Some slot) e h = if_keeps (HoldsBefore n) (slot.generation == id.generation) slot.content None (slot_before n slots id.slot slot e h) tt
+
+with_id_before : (n : ℕ) (id : Id) (x : Option Handle) → HoldsBefore n x → LiveBefore n (with_id id x)
+with_id_before n id None h = tt
+with_id_before n id (Some x) h = h
+
+live_id_before : (n : ℕ) (s : State) (id : Option Id) → Drawn n s.slots → LiveBefore n (live_id s id)
+live_id_before n s None h = tt
+live_id_before n s (Some id) h = with_id_before n id (held s id) (found_before n s.slots id (slice_get s.slots id.slot) refl h)
+
+live_before : (s : State) (v : Var) → Drawn s.next_start s.slots → LiveBefore s.next_start (live s v)
+live_before s v h = live_id_before s.next_start s (named s v).id h
 
 -- ---- the changes of a state
 
@@ -109,7 +142,20 @@ kept_in n s id x h b = record { counts = h.counts; starts = h.starts; drawn = dr
 at_clock : (n : ℕ) (s : State) → IsBounded n s → IsBounded n (refreshed s)
 at_clock n s h = record { counts = h.counts; starts = h.starts; drawn = h.drawn; time = h.clock; clock = h.clock; line = h.line }
 
-stopped_bounded : (n : ℕ) (s : State) (id : Id) (x : Handle) → IsBounded n s → IsBounded n (stopped s id x)
+flagged : (n : ℕ) (s : State) (stop_flag idled : Bool) → IsBounded n s → IsBounded n (record s { stop_flag = stop_flag; idled = idled })
+flagged n s stop_flag idled h = record { counts = h.counts; starts = h.starts; drawn = h.drawn; time = h.time; clock = h.clock; line = h.line }
+
+watched_bounded : (n : ℕ) (s : State) (kind : WatcherKind) (w : Watched) → IsBounded n s → IsBounded n (with_watched s kind w)
+watched_bounded n s watcher.Idle w h = record { counts = h.counts; starts = h.starts; drawn = h.drawn; time = h.time; clock = h.clock; line = h.line }
+watched_bounded n s watcher.Prepare w h = record { counts = h.counts; starts = h.starts; drawn = h.drawn; time = h.time; clock = h.clock; line = h.line }
+watched_bounded n s watcher.Check w h = record { counts = h.counts; starts = h.starts; drawn = h.drawn; time = h.time; clock = h.clock; line = h.line }
+
+watched_names : (n : ℕ) (s : State) (kind : WatcherKind) (w : Watched) → Counts n s.names → Counts n (with_watched s kind w).names
+watched_names n s watcher.Idle w h = h
+watched_names n s watcher.Prepare w h = h
+watched_names n s watcher.Check w h = h
+
+stopped_bounded : (n : ℕ) (s : State) (id : Id) (x : Handle) → IsBounded n s → IsBounded n (timer_stopped s id x)
 stopped_bounded n s id x h =
     let ts = if x.active then without_timer s.timers x.due else s.timers in
     let ready = without_id s.ready id in
@@ -119,7 +165,7 @@ started_bounded : (n : ℕ) (s : State) (id : Id) (x : Handle) (timeout repeat :
 started_bounded n s id x timeout repeat h = record {
   counts = counts_more n s.names h.counts;
   starts = omega arith;
-  drawn = drawn_set (s.next_start + 1) s.slots id.slot _ (drawn_more s.next_start (s.next_start + 1) s.slots (omega arith) h.drawn) (λ a. omega arith);
+  drawn = drawn_set (s.next_start + 1) s.slots id.slot _ (drawn_more s.next_start (s.next_start + 1) s.slots (omega arith) h.drawn) (λ t a. omega arith);
   time = h.time;
   clock = h.clock;
   line = omega arith;
@@ -138,18 +184,74 @@ init_bounded : (n : ℕ) (s : State) (v : Var) (kind : Kind) (t : Option (Id × 
 init_bounded n s v kind (Some t) h = more n s h
 init_bounded n s v kind None h = init_in_bounded n s v kind (unused_slot s) h
 
-start_bounded : (n : ℕ) (s : State) (timeout repeat : ℕ) (t : Option (Id × Handle)) → IsBounded n s → IsBounded (suc n) (ops.start s timeout repeat t).state
-start_bounded n s timeout repeat None h = more n s h
-start_bounded n s timeout repeat (Some t) h = started_bounded n (stopped s t.0 t.1) t.0 t.1 timeout repeat (stopped_bounded n s t.0 t.1 h)
+on_timer_bounded : (n : ℕ) (s : State) (t : Option (Id × Handle)) (f : Id → Handle → ops.Done) → IsBounded n s → LiveBefore s.next_start t →
+    ((id : Id) (x : Handle) → StartsBefore s.next_start x → IsBounded (suc n) (f id x).state) → IsBounded (suc n) (ops.on_timer s t f).state
+on_timer_bounded n s None f h l k = more n s h
+on_timer_bounded n s (Some t) f h l k = if_keeps (λ (d : ops.Done). IsBounded (suc n) d.state) (is_timer t.1.kind) (f t.0 t.1) (refuses s Ekind) (k t.0 t.1 l) (more n s h)
+
+start_bounded : (n : ℕ) (s : State) (timeout repeat : ℕ) (id : Id) (x : Handle) → IsBounded n s → IsBounded (suc n) (ops.start s timeout repeat id x).state
+start_bounded n s timeout repeat id x h = started_bounded n (timer_stopped s id x) id x timeout repeat (stopped_bounded n s id x h)
+
+restarted_bounded : (n : ℕ) (s : State) (id : Id) (x : Handle) → IsBounded n s → IsBounded (suc n) (restarted s id x)
+restarted_bounded n s id x h = if_keeps (IsBounded (suc n)) (x.repeat == 0) s (started s id x x.repeat x.repeat) (more n s h) (started_bounded n s id x x.repeat x.repeat h)
+
+again_bounded : (n : ℕ) (s : State) (id : Id) (x : Handle) → IsBounded n s → IsBounded (suc n) (ops.again s id x).state
+again_bounded n s id x h = if_keeps (λ (d : ops.Done). IsBounded (suc n) d.state) x.begun _ _ (restarted_bounded n (timer_stopped s id x) id x (stopped_bounded n s id x h)) (more n s h)
+
+set_repeat_bounded : (n : ℕ) (s : State) (repeat : ℕ) (id : Id) (x : Handle) → IsBounded n s → StartsBefore s.next_start x → IsBounded (suc n) (ops.set_repeat s repeat id x).state
+set_repeat_bounded n s repeat id x h b = let y : Handle = record x { repeat = repeat } in more n (with_handle s id y) (kept_in n s id y h b)
+
+start_as_bounded : (n : ℕ) (s : State) (id : Id) (x : Handle) (kind : Option WatcherKind) → watcher_kind x.kind ≡ kind → IsBounded n s → IsBounded (suc n) (ops.start_as s id x kind).state
+start_as_bounded n s id x None e h = more n s h
+start_as_bounded n s id x (Some kind) e h =
+    let t = with_watched s kind (with_watcher (watched s kind) id) in
+    let y : Handle = record x { active = true } in
+    if_keeps (IsBounded (suc n)) x.active s (with_handle t id y) (more n s h)
+    (more n (with_handle t id y) (kept_in n t id y (watched_bounded n s kind _ h) (λ u a. absurd (never_timer x.kind kind e u))))
+
+start_watcher_bounded : (n : ℕ) (s : State) (t : Option (Id × Handle)) → IsBounded n s → IsBounded (suc n) (ops.start_watcher s t).state
+start_watcher_bounded n s None h = more n s h
+start_watcher_bounded n s (Some t) h = start_as_bounded n s t.0 t.1 (watcher_kind t.1.kind) refl h
+
+stopped_as_bounded : (n : ℕ) (s : State) (id : Id) (x : Handle) (kind : Option WatcherKind) → IsBounded n s → IsBounded n (ops.stopped_as s id x kind)
+stopped_as_bounded n s id x None h = stopped_bounded n s id x h
+stopped_as_bounded n s id x (Some kind) h =
+    let t = with_watched s kind (without_watcher (watched s kind) id) in
+    kept_in n t id (inactive x) (watched_bounded n s kind _ h) (never t.next_start (inactive x) refl)
 
 stop_bounded : (n : ℕ) (s : State) (t : Option (Id × Handle)) → IsBounded n s → IsBounded (suc n) (ops.stop s t).state
 stop_bounded n s None h = more n s h
-stop_bounded n s (Some t) h = more n (stopped s t.0 t.1) (stopped_bounded n s t.0 t.1 h)
+stop_bounded n s (Some t) h = more n (ops.stopped_as s t.0 t.1 (watcher_kind t.1.kind)) (stopped_as_bounded n s t.0 t.1 (watcher_kind t.1.kind) h)
 
-op_bounded : (n : ℕ) (s : State) (op : Op) → IsBounded n s → IsBounded (suc n) (do_op s op).state
-op_bounded n s (Init v kind) h = init_bounded n s v kind (live s v) h
-op_bounded n s (Start v timeout repeat) h = start_bounded n s timeout repeat (live s v) h
-op_bounded n s (Stop v) h = stop_bounded n s (live s v) h
+set_referenced_bounded : (n : ℕ) (s : State) (flag : Bool) (t : Option (Id × Handle)) → IsBounded n s → LiveBefore s.next_start t → IsBounded (suc n) (ops.set_referenced s flag t).state
+set_referenced_bounded n s flag None h l = more n s h
+set_referenced_bounded n s flag (Some t) h l = let x : Handle = record t.1 { referenced = flag } in more n (with_handle s t.0 x) (kept_in n s t.0 x h l)
+
+has_ref_bounded : (n : ℕ) (s : State) (t : Option (Id × Handle)) → IsBounded n s → IsBounded (suc n) (ops.has_ref s t).state
+has_ref_bounded n s None h = more n s h
+has_ref_bounded n s (Some t) h = more n s h
+
+is_active_bounded : (n : ℕ) (s : State) (t : Option (Id × Handle)) → IsBounded n s → IsBounded (suc n) (ops.is_active s t).state
+is_active_bounded n s None h = more n s h
+is_active_bounded n s (Some t) h = more n s h
+
+op_bounded : (n : ℕ) (s : State) (x : Op) → IsBounded n s → IsBounded (suc n) (do_op s x).state
+op_bounded n s (op.Init v kind) h = init_bounded n s v kind (live s v) h
+op_bounded n s (op.Start v timeout repeat) h = on_timer_bounded n s (live s v) _ h (live_before s v h.drawn) (λ id x b. start_bounded n s timeout repeat id x h)
+op_bounded n s (op.StartWatcher v) h = start_watcher_bounded n s (live s v) h
+op_bounded n s (op.Stop v) h = stop_bounded n s (live s v) h
+op_bounded n s (op.Again v) h = on_timer_bounded n s (live s v) _ h (live_before s v h.drawn) (λ id x b. again_bounded n s id x h)
+op_bounded n s (op.SetRepeat v repeat) h = on_timer_bounded n s (live s v) _ h (live_before s v h.drawn) (λ id x b. set_repeat_bounded n s repeat id x h b)
+op_bounded n s (op.DueIn v) h = on_timer_bounded n s (live s v) _ h (live_before s v h.drawn) (λ id x b. more n s h)
+op_bounded n s (op.Ref v) h = set_referenced_bounded n s true (live s v) h (live_before s v h.drawn)
+op_bounded n s (op.Unref v) h = set_referenced_bounded n s false (live s v) h (live_before s v h.drawn)
+op_bounded n s (op.HasRef v) h = has_ref_bounded n s (live s v) h
+op_bounded n s (op.IsActive v) h = is_active_bounded n s (live s v) h
+op_bounded n s op.StopLoop h = more n _ (flagged n s true s.idled h)
+op_bounded n s op.UpdateTime h = more n (refreshed s) (at_clock n s h)
+op_bounded n s op.Now h = more n s h
+op_bounded n s op.IsAlive h = more n s h
+op_bounded n s op.Timeout h = more n s h
 
 -- ---- the rows
 
@@ -157,25 +259,27 @@ run_at : (n : ℕ) (s : State) (run : Run) → IsBounded n s → run.line ≤ n 
 run_at n s run h l = placed (suc n) s (Running run) (more n s h) (omega arith)
 
 ends_bounded : (n : ℕ) (s : State) (run : Run) → IsBounded n s → run.line ≤ n → StaysBounded (suc n) (ends s run)
-ends_bounded n s run h l = placed (suc n) s (Main (run.line + 1)) (more n s h) (omega arith)
+ends_bounded n s run h l = let t = record s { stop_flag = false } in placed (suc n) t (Main (run.line + 1)) (more n t (flagged n s false s.idled h)) (omega arith)
+
+iteration_bounded : (n : ℕ) (s : State) (run : Run) → IsBounded n s → run.line ≤ n → StaysBounded (suc n) (new_iteration s run)
+iteration_bounded n s run h l =
+    let idled = has_some s.idle.list in
+    run_at n (record s { idled = idled }) (record run { stage = Pending; body = None }) (flagged n s s.stop_flag idled h) l
 
 enter_bounded : (n : ℕ) (s : State) (run : Run) → IsBounded n s → run.line ≤ n → StaysBounded (suc n) (enter s run)
 enter_bounded n s run h l = if_keeps (StaysBounded (suc n)) (goes s) _ _
-    (if_keeps (StaysBounded (suc n)) (is_default run.mode) _ _ (run_at n s (record run { stage = First Collecting; body = None }) h l) (run_at n s (record run { stage = Pending; body = None }) h l))
+    (if_keeps (StaysBounded (suc n)) (is_default run.mode) _ _ (run_at n s (record run { stage = First Collecting; body = None }) h l) (iteration_bounded n s run h l))
     (ends_bounded n s run h l)
 
 leave_bounded : (n : ℕ) (s : State) (run : Run) (first : Bool) → IsBounded n s → run.line ≤ n → StaysBounded (suc n) (leave_timers s run first)
-leave_bounded n s run true h l = if_keeps (StaysBounded (suc n)) (goes s) _ _ (run_at n s (record run { stage = Pending; body = None }) h l) (ends_bounded n s run h l)
-leave_bounded n s run false h l = if_keeps (StaysBounded (suc n)) (is_default run.mode && goes s) _ _ (run_at n s (record run { stage = Pending; body = None }) h l) (ends_bounded n s run h l)
+leave_bounded n s run true h l = if_keeps (StaysBounded (suc n)) (goes s) _ _ (iteration_bounded n s run h l) (ends_bounded n s run h l)
+leave_bounded n s run false h l = if_keeps (StaysBounded (suc n)) (is_default run.mode && goes s) _ _ (iteration_bounded n s run h l) (ends_bounded n s run h l)
 
 call_bounded : (p : Program) (n : ℕ) (s : State) (run : Run) (id : Id) (v : Var) → IsBounded (suc n) s → Counts n s.names → run.line ≤ n → StaysBounded (suc n) (call p s run id v)
 call_bounded p n s run id v h counts l =
     let x : Named = record (named s v) { calls = (named s v).calls + 1 } in
     let t = with_named s v x in
     placed (suc n) t (Running (record run { body = body_from p v x.calls 0 })) (renamed (suc n) s v x h (omega (arith, count_of n s v counts))) (omega arith)
-
-restarted_bounded : (n : ℕ) (s : State) (id : Id) (x : Handle) → IsBounded n s → IsBounded (suc n) (restarted s id x)
-restarted_bounded n s id x h = if_keeps (IsBounded (suc n)) (x.repeat == 0) s (started s id x x.repeat x.repeat) (more n s h) (started_bounded n s id x x.repeat x.repeat h)
 
 restarted_names : (n : ℕ) (s : State) (id : Id) (x : Handle) → Counts n s.names → Counts n (restarted s id x).names
 restarted_names n s id x h = if_keeps (λ (t : State). Counts n t.names) (x.repeat == 0) s (started s id x x.repeat x.repeat) h h
@@ -201,16 +305,31 @@ timers_bounded : (p : Program) (n : ℕ) (s : State) (run : Run) (first : Bool) 
 timers_bounded p n s run first Collecting h l = collect_bounded p n s run first s.timers h l
 timers_bounded p n s run first Firing h l = fire_bounded p n s run first s.ready h l
 
+begin_walk_bounded : (n : ℕ) (s : State) (run : Run) (kind : WatcherKind) → IsBounded n s → run.line ≤ n → StaysBounded (suc n) (begin_walk s run kind)
+begin_walk_bounded n s run kind h l = let w = all_yet (watched s kind) in run_at n (with_watched s kind w) (record run { stage = stage_of kind; body = None }) (watched_bounded n s kind w h) l
+
+after_walk_bounded : (n : ℕ) (s : State) (run : Run) (kind : WatcherKind) → IsBounded n s → run.line ≤ n → StaysBounded (suc n) (after_walk s run kind)
+after_walk_bounded n s run watcher.Idle h l = begin_walk_bounded n s run watcher.Prepare h l
+after_walk_bounded n s run watcher.Prepare h l = run_at n s (record run { stage = _; body = None }) h l
+after_walk_bounded n s run watcher.Check h l = run_at n s (record run { stage = Closing; body = None }) h l
+
+walk_bounded : (p : Program) (n : ℕ) (s : State) (run : Run) (kind : WatcherKind) (ids : List Id) → IsBounded n s → run.line ≤ n → StaysBounded (suc n) (walk p s run kind ids)
+walk_bounded p n s run kind [] h l = after_walk_bounded n s run kind h l
+walk_bounded p n s run kind (id ∷ rest) h l =
+    let w = moved_on (watched s kind) id rest in
+    let t = with_watched s kind w in
+    call_bounded p n t run id (handle_of s id).name (more n t (watched_bounded n s kind w h)) (watched_names n s kind w h.counts) l
+
 stage_bounded : (p : Program) (n : ℕ) (s : State) (run : Run) (stage : Stage) → IsBounded n s → run.line ≤ n → StaysBounded (suc n) (stage_step p s run stage)
 stage_bounded p n s run Entry h l = enter_bounded n s run h l
 stage_bounded p n s run (First timing) h l = timers_bounded p n s run true timing h l
-stage_bounded p n s run Pending h l = run_at n s (record run { stage = Idle; body = None }) h l
-stage_bounded p n s run Idle h l = run_at n s (record run { stage = Prepare; body = None }) h l
-stage_bounded p n s run Prepare h l = run_at n s (record run { stage = _; body = None }) h l
+stage_bounded p n s run Pending h l = begin_walk_bounded n s run watcher.Idle h l
+stage_bounded p n s run Idle h l = walk_bounded p n s run watcher.Idle s.idle.yet h l
+stage_bounded p n s run Prepare h l = walk_bounded p n s run watcher.Prepare s.prepare.yet h l
 stage_bounded p n s run (Poll deadline) h l = if_keeps (StaysBounded (suc n)) (has_passed s.clock deadline) _ _ (run_at n (refreshed s) (record run { stage = Done; body = None }) (at_clock n s h) l) tt
 stage_bounded p n s run Done h l = run_at n s (record run { stage = Async; body = None }) h l
-stage_bounded p n s run Async h l = run_at n s (record run { stage = Check; body = None }) h l
-stage_bounded p n s run Check h l = run_at n s (record run { stage = Closing; body = None }) h l
+stage_bounded p n s run Async h l = begin_walk_bounded n s run watcher.Check h l
+stage_bounded p n s run Check h l = walk_bounded p n s run watcher.Check s.check.yet h l
 stage_bounded p n s run Closing h l = run_at n (refreshed s) (record run { stage = Timers Collecting; body = None }) (at_clock n s h) l
 stage_bounded p n s run (Timers timing) h l = timers_bounded p n s run false timing h l
 
@@ -234,7 +353,7 @@ place_bounded p n s (Main line) h l = main_bounded n s line _ h l
 place_bounded p n s (Running run) h l = run_bounded p n s run run.body h l
 
 tick_bounded : (n : ℕ) (s : State) (ms : ℕ) → IsBounded n s → StaysBounded (suc n) (tick s ms)
-tick_bounded n s ms h = if_when (StaysBounded (suc n)) (nat_le (s.clock + ms) (2 ^ 62)) _ _
+tick_bounded n s ms h = cond_both (nat_le (s.clock + ms) (2 ^ 62)) _ _ (StaysBounded (suc n))
     (λ e. let m = more n s h in let small : s.clock + ms ≤ 2 ^ 62 = grind (arith, nat_tests, e) in record { counts = m.counts; starts = m.starts; drawn = m.drawn; time = m.time; clock = small; line = m.line })
     (λ e. tt)
 

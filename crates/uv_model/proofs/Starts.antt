@@ -9,7 +9,9 @@ use Rattle.uv_ids.specs.declared.due.Due.{Due}
 use Rattle.uv_model.specs.declared.handle.Handle.{Handle}
 use Rattle.uv_model.specs.declared.handle.Slot.{Slot}
 use Rattle.uv_model.specs.State.{State, with_handle}
-use Rattle.uv_model.specs.Timers.{with_timer, without_timer, without_id, due_after, stopped, started}
+use Rattle.uv_model.specs.Ids.{without_id}
+use Rattle.uv_model.specs.Handles.{is_timer}
+use Rattle.uv_model.specs.Timers.{with_timer, without_timer, due_after, timer_stopped, started}
 use Rattle.uv_model.specs.Bounds.{StartsBefore}
 use Rattle.uv_model.proofs.Order.{without-with_timer, another}
 
@@ -18,7 +20,7 @@ swapped : (ts : List (Due × Id)) (active : Bool) (old new : Due) (id : Id) → 
 swapped ts true old new id s l = without-with_timer ts old new id s (another old new (l refl))
 swapped ts false old new id s l = refl
 
-pub started_again : (s : State) (id : Id) (h : Handle) (timeout repeat : ℕ) → IsStrictlySortedBy due_cmp (keys_of s.timers) → StartsBefore s.next_start h →
+pub started_again : (s : State) (id : Id) (h : Handle) (timeout repeat : ℕ) → IsStrictlySortedBy due_cmp (keys_of s.timers) → is_timer h.kind ≡ true → StartsBefore s.next_start h →
     with_handle
     (record s {
       timers = if h.active then without_timer (with_timer s.timers (due_after s timeout) id) h.due else with_timer s.timers (due_after s timeout) id;
@@ -27,8 +29,8 @@ pub started_again : (s : State) (id : Id) (h : Handle) (timeout repeat : ℕ) �
     })
     id
     (record h { active = true; begun = true; due = due_after s timeout; repeat = repeat })
-    ≡ started (stopped s id h) id h timeout repeat
-started_again s id h timeout repeat sorted before =
+    ≡ started (timer_stopped s id h) id h timeout repeat
+started_again s id h timeout repeat sorted timer before =
     ap₂ (λ (ts : List (Due × Id)) (slots : List Slot). record s { timers = ts; ready = without_id s.ready id; next_start = s.next_start + 1; slots = slots })
-    (swapped s.timers h.active h.due (due_after s timeout) id sorted before)
+    (swapped s.timers h.active h.due (due_after s timeout) id sorted (before timer))
     (refl ∙ sym (set-set s.slots id.slot _ _))

@@ -1,5 +1,5 @@
 -- A list of events, one step after another.
-use Rattle.std.specs.Prelude.{◌≡◌, ℕ, List, [], ◌∷◌, ◌++◌, ◌<◌, ◌≤◌, ◌-◌, length, take, Bool, true, false, Option, None, Result, Ok, Err, option_to_list}
+use Rattle.std.specs.Prelude.{◌≡◌, ℕ, List, [], ◌∷◌, ◌++◌, ◌<◌, ◌≤◌, ◌-◌, length, take, Bool, true, false, Option, Some, None, Result, Ok, Err, option_to_list}
 use Rattle.std.specs.List.{flat_map}
 use Rattle.uv_ids.specs.declared.event.Event.{Event}
 use Rattle.uv_ids.specs.declared.seen.Seen.{Seen}
@@ -41,6 +41,27 @@ seen_by p es = seen_from p (fresh p) es
 -- the trace: the lines that these events append, in order
 abbrev pub lines : Program → List Event → List Seen
 lines p es = flat_map option_to_list (seen_by p es)
+
+-- a line of the trace, with the states before and after the step that appended it
+pub record Line : Type 0 where
+  pub before : State
+  pub seen : Seen
+  pub after : State
+
+-- the line of a step, if it appends one
+abbrev pub line_of_step : State → Next → List Line
+line_of_step s (Moves t (Some seen)) = record { before = s; seen = seen; after = t } ∷ []
+line_of_step s (Moves t None) = []
+line_of_step s (Refuses why) = []
+
+-- the lines that these events append, with their states, from a state
+abbrev pub history_from : Program → State → List Event → List Line
+history_from p s [] = []
+history_from p s (e ∷ es) = line_of_step s (next p s e) ++ history_from p (state_of s (next p s e)) es
+
+-- the lines that these events append, with their states, from the beginning
+unfoldable pub history : Program → List Event → List Line
+history p es = history_from p (fresh p) es
 
 -- the step is taken
 abbrev pub IsMove : Next → Type 0

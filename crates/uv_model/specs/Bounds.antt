@@ -5,6 +5,7 @@ use Rattle.uv_model.specs.declared.handle.Slot.{Slot}
 use Rattle.uv_model.specs.declared.handle.Named.{Named}
 use Rattle.uv_model.specs.declared.place.Place.{Place}
 use Rattle.uv_model.specs.declared.place.Place.TheVariants.{Main, Running}
+use Rattle.uv_model.specs.Handles.{is_timer}
 use Rattle.uv_model.specs.State.{State}
 
 -- the main line at which a place stands
@@ -12,9 +13,9 @@ abbrev pub line_of : Place → ℕ
 line_of (Main line) = line
 line_of (Running run) = run.line
 
--- an active handle drew its start number before this one
+-- an active timer drew its start number before this one
 abbrev pub StartsBefore : ℕ → Handle → Type 0
-StartsBefore n h = h.active ≡ true → h.due.start < n
+StartsBefore n h = is_timer h.kind ≡ true → h.active ≡ true → h.due.start < n
 
 abbrev pub HoldsBefore : ℕ → Option Handle → Type 0
 HoldsBefore n None = Unit {0}

@@ -1,4 +1,6 @@
+pub mod Ids
 pub mod Handles
+pub mod Watchers
 pub mod State
 pub mod Timers
 pub mod Timeout
@@ -8,3 +10,5 @@ pub mod Steps
 pub mod After
 pub mod Bounds
 pub mod Trail
+pub mod Timed
+pub mod Documented

@@ -1,5 +1,5 @@
 -- One step of the loop: a place and what holds there give the line and the next place (design overview, the order of 1.45).
-use Rattle.std.specs.Prelude.{ℕ, ◌+◌, ◌^◌, List, [], ◌∷◌, ◌++◌, Bool, true, false, ◌&&◌, ◌==◌, drop, Option, Some, None, slice_get, nat_le, if◌then◌else◌}
+use Rattle.std.specs.Prelude.{ℕ, ◌+◌, ◌^◌, List, [], ◌∷◌, ◌++◌, Bool, true, false, ◌&&◌, not, drop, Option, Some, None, slice_get, nat_le, if◌then◌else◌}
 use Rattle.uv_ids.specs.declared.id.Id.{Id}
 use Rattle.uv_ids.specs.declared.id.Var.{Var}
 use Rattle.uv_ids.specs.declared.due.Due.{Due}
@@ -17,8 +17,7 @@ use Rattle.uv_ids.specs.declared.fault.Why.TheVariants.{Blocked, Ended, Range}
 use Rattle.uv_script.specs.declared.op.MainOp.{MainOp}
 use Rattle.uv_script.specs.declared.op.MainOp.TheVariants as main
 use Rattle.uv_script.specs.declared.op.CallbackLine.{CallbackLine}
-use Rattle.uv_script.specs.Program.{Program, on_lines}
-use Rattle.uv_model.specs.declared.handle.Handle.{Handle}
+use Rattle.uv_script.specs.Program.{Program, on_lines, is_for}
 use Rattle.uv_model.specs.declared.place.Body.{Body}
 use Rattle.uv_model.specs.declared.place.Run.{Run}
 use Rattle.uv_model.specs.declared.place.Stage.{Stage}
@@ -27,9 +26,13 @@ use Rattle.uv_model.specs.declared.place.Timing.{Timing}
 use Rattle.uv_model.specs.declared.place.Timing.TheVariants.{Collecting, Firing}
 use Rattle.uv_model.specs.declared.place.Place.{Place}
 use Rattle.uv_model.specs.declared.place.Place.TheVariants.{Main, Running}
+use Rattle.uv_model.specs.declared.watchers.WatcherKind.{WatcherKind}
+use Rattle.uv_model.specs.declared.watchers.WatcherKind.TheVariants as watcher
+use Rattle.uv_model.specs.Ids.{has_some}
 use Rattle.uv_model.specs.Handles.{inactive}
-use Rattle.uv_model.specs.State.{State, handle_of, with_handle, named, with_named}
-use Rattle.uv_model.specs.Timers.{started}
+use Rattle.uv_model.specs.Watchers.{all_yet, moved_on, phase_of}
+use Rattle.uv_model.specs.State.{State, handle_of, with_handle, named, with_named, watched, with_watched, refreshed}
+use Rattle.uv_model.specs.Timers.{restarted}
 use Rattle.uv_model.specs.Timeout.{is_alive, poll_timeout, deadline_of, has_passed}
 use Rattle.uv_model.specs.Ops.{do_op}
 
@@ -39,11 +42,6 @@ pub data Next : Type 0 where
   Refuses : Why → Next
 
 -- ---- the callbacks' bodies
-
--- a line with no number is for every call, one with a number for that call
-abbrev pub is_for : ℕ → Option ℕ → Bool
-is_for call None = true
-is_for call (Some k) = k == call
 
 -- the first line for this call among these, the first of which has this number
 abbrev pub next_line : ℕ → ℕ → List CallbackLine → Option ℕ
@@ -67,25 +65,22 @@ at s run stage = record s { place = Running (record run { stage = stage; body = 
 abbrev pub begins : State → Run → Stage → Phase → Next
 begins s run stage phase = Moves (at s run stage) (Some (seen.Section phase))
 
+-- an iteration begins, and keeps whether an idle handle is active
 abbrev pub new_iteration : State → Run → Next
-new_iteration s run = begins s run Pending phase.Pending
+new_iteration s run = begins (record s { idled = has_some s.idle.list }) run Pending phase.Pending
 
--- the run ends, and says whether the loop is alive
+-- the run ends, and says whether the loop is alive; the stop flag is cleared
 abbrev pub ends : State → Run → Next
-ends s run = Moves (record s { place = Main (run.line + 1) }) (Some (seen.End (is_alive s)))
+ends s run = Moves (record s { place = Main (run.line + 1); stop_flag = false }) (Some (seen.End (is_alive s)))
 
 abbrev pub is_default : Mode → Bool
 is_default Default = true
 is_default Once = false
 is_default Nowait = false
 
--- the loop goes on: it is alive
+-- the loop goes on: it is alive, and the stop flag is clear
 abbrev pub goes : State → Bool
-goes s = is_alive s
-
--- the loop's time is set to the clock
-abbrev pub refreshed : State → State
-refreshed s = record s { time = s.clock }
+goes s = is_alive s && not s.stop_flag
 
 -- ---- the rows
 
@@ -128,10 +123,6 @@ call p s run id v =
     (record (with_named s v (record (named s v) { calls = count })) { place = Running (record run { body = body_from p v count 0 }) })
     (Some (seen.Call v id))
 
--- a timer that repeats is started again with its repeat as timeout
-abbrev pub restarted : State → Id → Handle → State
-restarted s id h = if h.repeat == 0 then s else started s id h h.repeat h.repeat
-
 -- the front of the ready list is called; with none the section is over
 abbrev pub fire : Program → State → Run → Bool → List Id → Next
 fire p s run first [] = leave_timers s run first
@@ -155,17 +146,38 @@ abbrev pub timers : Program → State → Run → Bool → Timing → Next
 timers p s run first Collecting = collect p s run first s.timers
 timers p s run first Firing = fire p s run first s.ready
 
+-- the place of a section of watchers
+abbrev pub stage_of : WatcherKind → Stage
+stage_of watcher.Idle = Idle
+stage_of watcher.Prepare = Prepare
+stage_of watcher.Check = Check
+
+-- a section of watchers begins: its whole list is yet to run
+abbrev pub begin_walk : State → Run → WatcherKind → Next
+begin_walk s run kind = begins (with_watched s kind (all_yet (watched s kind))) run (stage_of kind) (phase_of kind)
+
+-- after a section of watchers
+abbrev pub after_walk : State → Run → WatcherKind → Next
+after_walk s run watcher.Idle = begin_walk s run watcher.Prepare
+after_walk s run watcher.Prepare = begin_poll s run
+after_walk s run watcher.Check = begins s run Closing phase.Closing
+
+-- the front of those yet to run goes to the end of the list and is called; with none the section is over
+abbrev pub walk : Program → State → Run → WatcherKind → List Id → Next
+walk p s run kind [] = after_walk s run kind
+walk p s run kind (id ∷ rest) = call p (with_watched s kind (moved_on (watched s kind) id rest)) run id (handle_of s id).name
+
 -- what a run does next where no body is under way
 abbrev pub stage_step : Program → State → Run → Stage → Next
 stage_step p s run Entry = enter s run
 stage_step p s run (First timing) = timers p s run true timing
-stage_step p s run Pending = begins s run Idle phase.Idle
-stage_step p s run Idle = begins s run Prepare phase.Prepare
-stage_step p s run Prepare = begin_poll s run
+stage_step p s run Pending = begin_walk s run watcher.Idle
+stage_step p s run Idle = walk p s run watcher.Idle s.idle.yet
+stage_step p s run Prepare = walk p s run watcher.Prepare s.prepare.yet
 stage_step p s run (Poll deadline) = poll s run deadline
 stage_step p s run Done = begins s run Async phase.Async
-stage_step p s run Async = begins s run Check phase.Check
-stage_step p s run Check = begins s run Closing phase.Closing
+stage_step p s run Async = begin_walk s run watcher.Check
+stage_step p s run Check = walk p s run watcher.Check s.check.yet
 stage_step p s run Closing = begin_timers s run
 stage_step p s run (Timers timing) = timers p s run false timing
 

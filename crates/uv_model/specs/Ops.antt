@@ -1,53 +1,127 @@
 -- What each op answers and changes. Of several answers the first that holds is given; a refusal changes nothing.
-use Rattle.std.specs.Prelude.{ℕ, Option, Some, None}
+use Rattle.std.specs.Prelude.{ℕ, Bool, true, false, Option, Some, None, if◌then◌else◌}
 use Rattle.uv_ids.specs.declared.id.Id.{Id}
 use Rattle.uv_ids.specs.declared.id.Var.{Var}
 use Rattle.uv_ids.specs.declared.phase.Kind.{Kind}
 use Rattle.uv_ids.specs.declared.code.Code.{Code}
-use Rattle.uv_ids.specs.declared.code.Code.TheVariants.{Ok as Success, Ebound, Efull, Estale}
+use Rattle.uv_ids.specs.declared.code.Code.TheVariants.{Ok as Success, Ebound, Efull, Estale, Ekind, Einval}
 use Rattle.uv_ids.specs.declared.code.Answer.{Answer}
-use Rattle.uv_ids.specs.declared.code.Answer.TheVariants.{Code as Says, Id as Gives}
+use Rattle.uv_ids.specs.declared.code.Answer.TheVariants as answer
 use Rattle.uv_script.specs.declared.op.Op.{Op}
-use Rattle.uv_script.specs.declared.op.Op.TheVariants.{Init, Start, Stop}
+use Rattle.uv_script.specs.declared.op.Op.TheVariants as op
 use Rattle.uv_model.specs.declared.handle.Handle.{Handle}
-use Rattle.uv_model.specs.Handles.{new_handle}
-use Rattle.uv_model.specs.State.{State, live, named, unused_slot, with_new, with_named}
-use Rattle.uv_model.specs.Timers.{stopped, started}
+use Rattle.uv_model.specs.declared.watchers.WatcherKind.{WatcherKind}
+use Rattle.uv_model.specs.Handles.{new_handle, inactive, is_timer}
+use Rattle.uv_model.specs.Watchers.{with_watcher, without_watcher, watcher_kind}
+use Rattle.uv_model.specs.State.{State, live, named, unused_slot, with_new, with_named, with_handle, watched, with_watched, refreshed}
+use Rattle.uv_model.specs.Timers.{timer_stopped, started, restarted, due_in}
+use Rattle.uv_model.specs.Timeout.{is_alive, backend_timeout}
 
 -- the state after an op, and its answer
 pub record Done : Type 0 where
   pub state : State
   pub answer : Answer
 
+-- an op that changes nothing
+abbrev pub says : State → Answer → Done
+says s a = record { state = s; answer = a }
+
 abbrev pub refuses : State → Code → Done
-refuses s code = record { state = s; answer = Says code }
+refuses s code = says s (answer.Code code)
 
 abbrev pub succeeds : State → Done
-succeeds s = record { state = s; answer = Says Success }
+succeeds s = says s (answer.Code Success)
+
+-- ---- handles
 
 -- `init v KIND`: EBOUND if v is live; EFULL if no slot is left; else v is bound to a new handle, whose id is the answer
 abbrev pub init_in : State → Var → Kind → Option Id → Done
 init_in s v kind None = refuses s Efull
 init_in s v kind (Some id) = record {
   state = with_named (with_new s (new_handle v kind)) v (record (named s v) { id = Some id });
-  answer = Gives id;
+  answer = answer.Id id;
 }
 
 abbrev pub init : State → Var → Kind → Option (Id × Handle) → Done
 init s v kind (Some bound) = refuses s Ebound
 init s v kind None = init_in s v kind (unused_slot s)
 
--- `start v T R`: ESTALE if v isn't live; else stopped, and then started
-abbrev pub start : State → ℕ → ℕ → Option (Id × Handle) → Done
-start s timeout repeat None = refuses s Estale
-start s timeout repeat (Some t) = succeeds (started (stopped s t.0 t.1) t.0 t.1 timeout repeat)
+-- a watcher that is started: active, and at the front of its list
+abbrev pub watcher_started : State → WatcherKind → Id → Handle → State
+watcher_started s kind id h = with_handle (with_watched s kind (with_watcher (watched s kind) id)) id (record h { active = true })
+
+-- a watcher that is stopped: off its lists, and inactive
+abbrev pub watcher_stopped : State → WatcherKind → Id → Handle → State
+watcher_stopped s kind id h = with_handle (with_watched s kind (without_watcher (watched s kind) id)) id (inactive h)
+
+-- `start v`: ESTALE if v isn't live; EKIND if it is a timer; else started, if it isn't active
+abbrev pub start_as : State → Id → Handle → Option WatcherKind → Done
+start_as s id h None = refuses s Ekind
+start_as s id h (Some kind) = succeeds (if h.active then s else watcher_started s kind id h)
+
+abbrev pub start_watcher : State → Option (Id × Handle) → Done
+start_watcher s None = refuses s Estale
+start_watcher s (Some t) = start_as s t.0 t.1 (watcher_kind t.1.kind)
 
 -- `stop v`: ESTALE if v isn't live; else stopped
+abbrev pub stopped_as : State → Id → Handle → Option WatcherKind → State
+stopped_as s id h None = timer_stopped s id h
+stopped_as s id h (Some kind) = watcher_stopped s kind id h
+
 abbrev pub stop : State → Option (Id × Handle) → Done
 stop s None = refuses s Estale
-stop s (Some t) = succeeds (stopped s t.0 t.1)
+stop s (Some t) = succeeds (stopped_as s t.0 t.1 (watcher_kind t.1.kind))
+
+-- `ref v`, `unref v`: ESTALE if v isn't live; else the handle is referenced or not
+abbrev pub set_referenced : State → Bool → Option (Id × Handle) → Done
+set_referenced s flag None = refuses s Estale
+set_referenced s flag (Some t) = succeeds (with_handle s t.0 (record t.1 { referenced = flag }))
+
+-- `hasref v`: ESTALE if v isn't live; else whether it is referenced
+abbrev pub has_ref : State → Option (Id × Handle) → Done
+has_ref s None = refuses s Estale
+has_ref s (Some t) = says s (answer.Flag t.1.referenced)
+
+-- `active v`: ESTALE if v isn't live; else whether it is active
+abbrev pub is_active : State → Option (Id × Handle) → Done
+is_active s None = refuses s Estale
+is_active s (Some t) = says s (answer.Flag t.1.active)
+
+-- ---- timers
+
+-- an op on a timer: ESTALE if v isn't live; EKIND if it isn't a timer
+abbrev pub on_timer : State → Option (Id × Handle) → (Id → Handle → Done) → Done
+on_timer s None f = refuses s Estale
+on_timer s (Some t) f = if is_timer t.1.kind then f t.0 t.1 else refuses s Ekind
+
+-- `start v T R`: stopped, and then started
+abbrev pub start : State → ℕ → ℕ → Id → Handle → Done
+start s timeout repeat id h = succeeds (started (timer_stopped s id h) id h timeout repeat)
+
+-- `again v`: EINVAL if it was never started; else stopped, and started again if it repeats
+abbrev pub again : State → Id → Handle → Done
+again s id h = if h.begun then succeeds (restarted (timer_stopped s id h) id h) else refuses s Einval
+
+-- `repeat v n`: its repeat is n from now on; when it is due stays
+abbrev pub set_repeat : State → ℕ → Id → Handle → Done
+set_repeat s n id h = succeeds (with_handle s id (record h { repeat = n }))
+
+-- ---- any op
 
 abbrev pub do_op : State → Op → Done
-do_op s (Init v kind) = init s v kind (live s v)
-do_op s (Start v timeout repeat) = start s timeout repeat (live s v)
-do_op s (Stop v) = stop s (live s v)
+do_op s (op.Init v kind) = init s v kind (live s v)
+do_op s (op.Start v timeout repeat) = on_timer s (live s v) (start s timeout repeat)
+do_op s (op.StartWatcher v) = start_watcher s (live s v)
+do_op s (op.Stop v) = stop s (live s v)
+do_op s (op.Again v) = on_timer s (live s v) (again s)
+do_op s (op.SetRepeat v n) = on_timer s (live s v) (set_repeat s n)
+do_op s (op.DueIn v) = on_timer s (live s v) (λ id h. says s (answer.Number (due_in s h)))
+do_op s (op.Ref v) = set_referenced s true (live s v)
+do_op s (op.Unref v) = set_referenced s false (live s v)
+do_op s (op.HasRef v) = has_ref s (live s v)
+do_op s (op.IsActive v) = is_active s (live s v)
+do_op s op.StopLoop = succeeds (record s { stop_flag = true })
+do_op s op.UpdateTime = succeeds (refreshed s)
+do_op s op.Now = says s (answer.Number s.time)
+do_op s op.IsAlive = says s (answer.Flag (is_alive s))
+do_op s op.Timeout = says s (answer.Timeout (backend_timeout s))

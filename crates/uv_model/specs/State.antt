@@ -1,5 +1,5 @@
 -- The state of a loop: plain lists, a map in the order of timers, and numbers.
-use Rattle.std.specs.Prelude.{ℕ, ◌==◌, List, [], ◌∷◌, ◌++◌, length, Option, Some, None, unwrap_or, option_and_then, nat_lt, replicate, slice_get, slice_set, if◌then◌else◌}
+use Rattle.std.specs.Prelude.{ℕ, ◌==◌, Bool, false, List, [], ◌∷◌, ◌++◌, length, Option, Some, None, unwrap_or, option_and_then, nat_lt, replicate, slice_get, slice_set, if◌then◌else◌}
 use Rattle.uv_ids.specs.declared.id.Id.{Id}
 use Rattle.uv_ids.specs.declared.id.Var.{Var}
 use Rattle.uv_ids.specs.declared.due.Due.{Due}
@@ -10,7 +10,10 @@ use Rattle.uv_model.specs.declared.handle.Slot.{Slot}
 use Rattle.uv_model.specs.declared.handle.Named.{Named}
 use Rattle.uv_model.specs.declared.place.Place.{Place}
 use Rattle.uv_model.specs.declared.place.Place.TheVariants.{Main}
+use Rattle.uv_model.specs.declared.watchers.WatcherKind.{WatcherKind}
+use Rattle.uv_model.specs.declared.watchers.WatcherKind.TheVariants as watcher
 use Rattle.uv_model.specs.Handles.{new_handle}
+use Rattle.uv_model.specs.Watchers.{Watched, none_watched}
 
 pub record State : Type 0 where
   -- where the loop stands
@@ -23,24 +26,41 @@ pub record State : Type 0 where
   pub timers : List (Due × Id)
   -- the timers that a section collected and will call, front first
   pub ready : List Id
+  -- the active idle, prepare and check handles
+  pub idle : Watched
+  pub prepare : Watched
+  pub check : Watched
   -- the loop's cached time in ms (uv_now)
   pub time : ℕ
   -- the clock in ms
   pub clock : ℕ
   -- the number that the next start of a timer draws
   pub next_start : ℕ
+  -- the run is to end before its next iteration (uv_stop)
+  pub stop_flag : Bool
+  -- an idle handle was active as the iteration began
+  pub idled : Bool
+
+-- a name that is bound to nothing and was never called
+abbrev pub unbound : Named
+unbound = record { id = None; calls = 0 }
 
 -- the state in which every script begins
 abbrev pub fresh : Program → State
 fresh p = record {
   place = Main 0;
-  names = replicate (length p.names) (record { id = None; calls = 0 });
+  names = replicate (length p.names) unbound;
   slots = [];
   timers = [];
   ready = [];
+  idle = none_watched;
+  prepare = none_watched;
+  check = none_watched;
   time = 0;
   clock = 0;
   next_start = 0;
+  stop_flag = false;
+  idled = false;
 }
 
 -- how many slots the arena has
@@ -71,10 +91,6 @@ handle_of s id = unwrap_or (held s id) (new_handle (record { 0 = 0 }) Timer)
 abbrev pub with_handle : State → Id → Handle → State
 with_handle s id h = record s { slots = slice_set s.slots id.slot (record { generation = id.generation; content = Some h }) }
 
--- a name that is bound to nothing and was never called
-abbrev pub unbound : Named
-unbound = record { id = None; calls = 0 }
-
 -- what a name is bound to, and its count
 abbrev pub named : State → Var → Named
 named s v = unwrap_or (slice_get s.names v.0) unbound
@@ -94,3 +110,18 @@ live_id s (Some id) = with_id id (held s id)
 
 abbrev pub live : State → Var → Option (Id × Handle)
 live s v = live_id s (named s v).id
+
+-- the active handles of a kind of watcher
+abbrev pub watched : State → WatcherKind → Watched
+watched s watcher.Idle = s.idle
+watched s watcher.Prepare = s.prepare
+watched s watcher.Check = s.check
+
+abbrev pub with_watched : State → WatcherKind → Watched → State
+with_watched s watcher.Idle w = record s { idle = w }
+with_watched s watcher.Prepare w = record s { prepare = w }
+with_watched s watcher.Check w = record s { check = w }
+
+-- the loop's time is set to the clock (uv_update_time)
+abbrev pub refreshed : State → State
+refreshed s = record s { time = s.clock }

@@ -1,14 +1,27 @@
 -- Whether the loop is alive, and how long its poll may wait.
-use Rattle.std.specs.Prelude.{ℕ, ◌+◌, ◌-◌, List, [], ◌∷◌, length, Bool, false, Option, Some, None, min, nat_lt, nat_le, if◌then◌else◌}
+use Rattle.std.specs.Prelude.{ℕ, ◌+◌, ◌-◌, List, [], ◌∷◌, Bool, false, ◌||◌, not, Option, Some, None, min, nat_le, if◌then◌else◌}
+use Rattle.std.specs.List.{list_any}
 use Rattle.uv_ids.specs.declared.id.Id.{Id}
 use Rattle.uv_ids.specs.declared.due.Due.{Due}
 use Rattle.uv_ids.specs.declared.phase.Mode.{Mode}
 use Rattle.uv_ids.specs.declared.phase.Mode.TheVariants.{Default, Once, Nowait}
+use Rattle.uv_model.specs.declared.handle.Handle.{Handle}
+use Rattle.uv_model.specs.declared.handle.Slot.{Slot}
+use Rattle.uv_model.specs.Handles.{keeps_alive}
+use Rattle.uv_model.specs.Ids.{has_some}
 use Rattle.uv_model.specs.State.{State}
 
--- a handle is active (uv_loop_alive); every handle is referenced, and no request is open
+abbrev pub content_keeps : Option Handle → Bool
+content_keeps None = false
+content_keeps (Some h) = keeps_alive h
+
+-- the loop is alive: some handle is active and referenced (uv_loop_alive)
 abbrev pub is_alive : State → Bool
-is_alive s = nat_lt 0 (length s.timers)
+is_alive s = list_any (λ (slot : Slot). content_keeps slot.content) s.slots
+
+-- an idle handle is active
+abbrev pub has_idle : State → Bool
+has_idle s = has_some s.idle.list || has_some s.idle.yet
 
 -- the longest poll in ms (own)
 abbrev pub LONGEST_POLL : ℕ
@@ -19,12 +32,21 @@ abbrev pub until_first : ℕ → List (Due × Id) → Option ℕ
 until_first time [] = None
 until_first time (t ∷ ts) = Some (min (t.0.at - time) LONGEST_POLL)
 
--- how long the poll may wait (design overview): not at all in nowait, nor where nothing is alive, else until the nearest
--- timer; none is infinite
+-- how long a poll might wait (uv_backend_timeout): not at all with the stop flag set, with nothing alive, or with an active
+-- idle handle; else until the nearest active timer, referenced or not; none is infinite
+abbrev pub backend_timeout : State → Option ℕ
+backend_timeout s =
+    if s.stop_flag then Some 0
+    else (if not (is_alive s) then Some 0
+    else (if has_idle s then Some 0
+    else until_first s.time s.timers))
+
+-- how long the poll of a run may wait (design overview): not at all in nowait, nor in once where an idle handle was active as
+-- the iteration began (own)
 abbrev pub poll_timeout : State → Mode → Option ℕ
 poll_timeout s Nowait = Some 0
-poll_timeout s Default = if is_alive s then until_first s.time s.timers else Some 0
-poll_timeout s Once = if is_alive s then until_first s.time s.timers else Some 0
+poll_timeout s Once = if s.idled then Some 0 else backend_timeout s
+poll_timeout s Default = backend_timeout s
 
 -- when the poll is over, at the latest
 abbrev pub deadline_of : State → Option ℕ → Option ℕ

@@ -1,11 +1,12 @@
 -- The timers of a state: a map in the order of due times and start numbers.
-use Rattle.std.specs.Prelude.{ℕ, ◌+◌, ◌^◌, ◌-◌, ◌==◌, ◌&&◌, List, Bool, true, filter, min, not, if◌then◌else◌}
+use Rattle.std.specs.Prelude.{ℕ, ◌+◌, ◌^◌, ◌-◌, ◌==◌, List, true, min, if◌then◌else◌}
 use Rattle.std.specs.Map.{remove_entry}
 use Rattle.std.specs.BTreeMap.{insert_entry, is_at}
 use Rattle.uv_ids.specs.Due.{due_cmp}
 use Rattle.uv_ids.specs.declared.id.Id.{Id}
 use Rattle.uv_ids.specs.declared.due.Due.{Due}
 use Rattle.uv_model.specs.declared.handle.Handle.{Handle}
+use Rattle.uv_model.specs.Ids.{without_id}
 use Rattle.uv_model.specs.Handles.{inactive}
 use Rattle.uv_model.specs.State.{State, with_handle}
 
@@ -17,16 +18,9 @@ with_timer timers due id = insert_entry due_cmp timers due id
 abbrev pub without_timer : List (Due × Id) → Due → List (Due × Id)
 without_timer timers due = remove_entry (is_at (due_cmp due)) timers
 
-abbrev pub same_id : Id → Id → Bool
-same_id a b = (a.slot == b.slot) && (a.generation == b.generation)
-
--- a list of ids without one of them
-abbrev pub without_id : List Id → Id → List Id
-without_id ids id = filter (λ x. not (same_id x id)) ids
-
 -- a timer that is stopped: off the order of timers and the ready list, and inactive
-abbrev pub stopped : State → Id → Handle → State
-stopped s id h = with_handle
+abbrev pub timer_stopped : State → Id → Handle → State
+timer_stopped s id h = with_handle
     (record s {
       timers = if h.active then without_timer s.timers h.due else s.timers;
       ready = without_id s.ready id;
@@ -47,3 +41,11 @@ started s id h timeout repeat = with_handle
     })
     id
     (record h { active = true; begun = true; due = due_after s timeout; repeat = repeat })
+
+-- a stopped timer that repeats is started again with its repeat as timeout
+abbrev pub restarted : State → Id → Handle → State
+restarted s id h = if h.repeat == 0 then s else started s id h h.repeat h.repeat
+
+-- in how many ms a timer is due (uv_timer_get_due_in): 0 where it is due already, and where it isn't active
+abbrev pub due_in : State → Handle → ℕ
+due_in s h = if h.active then h.due.at - s.time else 0

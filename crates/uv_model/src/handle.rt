@@ -1,6 +1,7 @@
 //! What the arena's slots and the script's names hold.
 ghost use Rattle.std.specs.Prelude.{◌≡◌};
-ghost use Rattle.uv_model.specs.Handles.{new_handle, inactive};
+ghost use Rattle.uv_model.specs.Handles.{new_handle, inactive, keeps_alive, is_timer};
+ghost use Rattle.uv_model.specs.Timeout.{content_keeps};
 
 use uv_ids::{Due, Id, Kind, Var};
 
@@ -10,6 +11,9 @@ pub struct Handle {
     /// The name that its `init` bound to it.
     pub name: Var,
     pub kind: Kind,
+    /// Whether it keeps the loop alive while it is active (uv_has_ref).
+    pub referenced: bool,
+    /// Whether it is started (uv_is_active).
     pub active: bool,
     /// Whether a timer was ever started.
     pub begun: bool,
@@ -27,6 +31,7 @@ impl Handle {
         Handle {
             name,
             kind,
+            referenced: true,
             active: false,
             begun: false,
             due: Due { at: 0, start: 0 },
@@ -44,6 +49,20 @@ impl Handle {
             ..self
         }
     }
+
+    /// Whether it keeps the loop alive: it is active and referenced (uv_loop_alive).
+    pub fn keeps_alive(self) -> bool
+        ensures { result ≡ keeps_alive self }
+    {
+        self.active && self.referenced
+    }
+
+    /// Whether it is a timer.
+    pub fn is_timer(self) -> bool
+        ensures { result ≡ is_timer self.kind }
+    {
+        matches!(self.kind, Kind::Timer)
+    }
 }
 
 /// A slot of the arena that was used.
@@ -52,6 +71,18 @@ pub struct Slot {
     /// How often the slot was freed (own).
     pub generation: u32,
     pub content: Option<Handle>,
+}
+
+impl Slot {
+    /// Whether the slot holds a handle that keeps the loop alive.
+    pub fn keeps_alive(&self) -> bool
+        ensures { result ≡ content_keeps self.now.content }
+    {
+        match self.content {
+            None => false,
+            Some(handle) => handle.keeps_alive(),
+        }
+    }
 }
 
 /// What a name is bound to, and how often its callback was called.

@@ -8,6 +8,9 @@ use std::alloc::Global;
 use uv_ids::{Event, Fault, Seen};
 use uv_script::Script;
 
+/// The most steps that a machine takes (own).
+pub const STEPS: usize = 16_777_216;
+
 /// What an accepted step did.
 #[derive(Clone, Copy, Debug, PartialEq, Eq)]
 pub struct Outcome {

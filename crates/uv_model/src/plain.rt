@@ -4,15 +4,12 @@ ghost use Rattle.uv_model.specs.After.{after, state_of, STEPS};
 ghost use Rattle.uv_model.specs.Next.{next};
 ghost use Rattle.uv_model.specs.Bounds.{IsSmall};
 
-use crate::machine::{Machine, Outcome};
+use crate::machine::{Machine, Outcome, STEPS};
 use crate::state::LoopState;
 use std::alloc::{AllocError, Global};
 use std::marker::Model;
 use uv_ids::{Event, Fault, Seen};
 use uv_script::Script;
-
-/// The most steps that a machine takes (own).
-const STEPS: usize = 16_777_216;
 
 /// A machine whose every step is the model's own.
 #[derive(Drop)]
@@ -108,6 +105,7 @@ impl Machine for PlainLoop {
         self.steps.len()
     }
 
+    #[tactic(auto, using(crate::proofs::Runs::runs, crate::proofs::Runs::seen_at))]
     fn seen(&self, step: usize) -> Option<Seen> {
         self.seen[step - 1]
     }

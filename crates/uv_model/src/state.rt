@@ -1,10 +1,10 @@
 //! The plain loop's state: lists, and the timers in an ordered map.
 ghost use Rattle.std.specs.Prelude.{◌≡◌, ◌<◌, ◌+◌, ◌++◌, ◌∷◌, [], ◌^◌, IfOk, OnOk, OnErr, length, None, Some, true};
-ghost use Rattle.uv_model.specs.State.{fresh, unused_slot, with_new, held, handle_of, with_handle, named, with_named, live, CAPACITY};
-ghost use Rattle.uv_model.specs.Timers.{without_id, stopped, started, due_after};
+ghost use Rattle.uv_model.specs.State.{fresh, unused_slot, held, handle_of, with_handle, named, with_named, live, refreshed, CAPACITY};
 
 use crate::handle::{Handle, Named, Slot};
 use crate::place::Place;
+use crate::watchers::Watchers;
 use std::alloc::{AllocError, Global};
 use std::collections::BTreeMap;
 use std::marker::Model;
@@ -13,7 +13,9 @@ use uv_script::Script;
 
 mod ops;
 mod phases;
+mod timeout;
 mod timers;
+mod walks;
 
 /// How many slots the arena has (own).
 const CAPACITY: usize = 1024;
@@ -23,12 +25,25 @@ const CAPACITY: usize = 1024;
 pub struct LoopState {
     place: Place,
     names: Vec<Named>,
+    /// The slots of the arena that were ever used, by number.
     slots: Vec<Slot>,
+    /// The active timers.
     timers: BTreeMap<Due, Id>,
+    /// The timers that a section collected and will call, front first.
     ready: Vec<Id>,
+    idle: Watchers,
+    prepare: Watchers,
+    check: Watchers,
+    /// The loop's cached time in ms (uv_now).
     time: u64,
+    /// The clock in ms.
     clock: u64,
+    /// The number that the next start of a timer draws.
     next_start: u64,
+    /// The run is to end before its next iteration (uv_stop).
+    stop_flag: bool,
+    /// An idle handle was active as the iteration began.
+    idled: bool,
 }
 
 impl Model for LoopState {
@@ -42,9 +57,14 @@ impl Model for LoopState {
       slots = a.slots.items;
       timers = a.timers.entries;
       ready = a.ready.items;
+      idle = a.idle;
+      prepare = a.prepare;
+      check = a.check;
       time = a.time;
       clock = a.clock;
       next_start = a.next_start;
+      stop_flag = a.stop_flag;
+      idled = a.idled;
     } };
 }
 
@@ -61,9 +81,14 @@ impl LoopState {
             slots: Vec::new(alloc),
             timers: BTreeMap::new(alloc),
             ready: Vec::new(alloc),
+            idle: Watchers::new(alloc),
+            prepare: Watchers::new(alloc),
+            check: Watchers::new(alloc),
             time: 0,
             clock: 0,
             next_start: 0,
+            stop_flag: false,
+            idled: false,
         })
     }
 
@@ -134,5 +159,12 @@ impl LoopState {
         let id = self.named(name).id?;
         let handle = self.held(id)?;
         Some((id, handle))
+    }
+
+    /// Sets the loop's time to the clock (uv_update_time).
+    fn refresh(&mut self)
+        ensures { self.new ≡ refreshed self.old }
+    {
+        self.time = self.clock;
     }
 }

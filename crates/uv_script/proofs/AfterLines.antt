@@ -1,7 +1,7 @@
 -- One more line, and all lines.
 use Rattle.std.proofs.Common.{◌≡◌, ◌≢◌, ◌⊎◌, inl, inr, ℕ, ◌+◌, ◌<◌, ◌≤◌, Bool, true, false, ◌==◌, cond, nat_lt, List, [], ◌∷◌, ◌++◌, length, map, Option, Some, None, Err, Contains, refl, ap, sym, subst, ◌∙◌, arith, append_assoc, length-append}
 use Rattle.std.specs.List.{onto_first}
-use Rattle.std.proofs.lemmas.Bool.{cases_Bool, cond_both, and_parts, and_from, eqb-true, ltb-true, lt-ltb}
+use Rattle.std.proofs.lemmas.Bool.{cases_Bool, cond_both, and_parts, and_from, ltb-true, lt-ltb}
 use Rattle.std.proofs.lemmas.List.{map-append, length-map}
 use Rattle.std.proofs.lemmas.List.Quantifiers.{all_pairs_push}
 use Rattle.std.proofs.lemmas.List.Elements.{Contains-get_or}
@@ -9,12 +9,12 @@ use Rattle.std.proofs.lemmas.Option.{same_Some, cond_some, none-some, slice_get_
 use Rattle.uv_ids.specs.declared.fault.Fault.{Fault}
 use Rattle.uv_ids.specs.declared.fault.Fault.TheVariants as fault
 use Rattle.uv_script.specs.Grammar.{Statement, Declares, InMain, InCallback, Says, declares, in_main, runs, in_callback, in_call, HasRoom, with_statement, Reads, skips, says, ReadsAll, none, one, blank, IsBadLine, Parses}
-use Rattle.uv_script.specs.Lines.{lines_of, fields_of, IsSkipped, empty, comment}
+use Rattle.uv_script.specs.Lines.{lines_of, fields_of}
 use Rattle.uv_script.specs.Program.{Program, line_count}
-use Rattle.uv_script.specs.Reading.{statement_of, has_room, IsSound, is_skipped, after_line, ReadsLine}
-use Rattle.uv_script.specs.Checks.{is_line}
+use Rattle.uv_script.specs.Reading.{statement_of, has_room, IsSound, after_line, ReadsLine}
+use Rattle.uv_script.specs.Checks.{is_line, is_skipped}
 use Rattle.uv_script.proofs.Agrees.{AreDistinct, bound, statement_sound, statement_complete}
-use Rattle.uv_script.proofs.Checks.{is_line_decides}
+use Rattle.uv_script.proofs.Checks.{is_line_decides, is_skipped_decides}
 
 pub room_sound : (p : Program) (s : Statement) → has_room p s ≡ true → HasRoom p s
 room_sound p (Declares name) e =
@@ -36,20 +36,12 @@ says_sound p fields s (runs mode e) = tt
 says_sound p fields s (in_callback name v rest op e declared is) = slice_get_within p.names v.0 name declared
 says_sound p fields s (in_call name v number k rest op e declared is first last op_is) = slice_get_within p.names v.0 name declared
 
-skipped_sound : (line : List ℕ) → is_skipped line ≡ true → IsSkipped line
-skipped_sound [] e = empty refl
-skipped_sound (b ∷ bs) e = comment bs (ap (λ c. c ∷ bs) (eqb-true b 35 e))
-
-skipped_complete : (line : List ℕ) → IsSkipped line → is_skipped line ≡ true
-skipped_complete line (empty e) = ap is_skipped e
-skipped_complete line (comment text e) = ap is_skipped e
-
 -- a line begins as its first field does
 onto_begins : (c b : ℕ) (word : List ℕ) (parts rest : List (List ℕ)) → onto_first c parts ≡ (b ∷ word) ∷ rest → c ≡ b
 onto_begins c b word [] rest e = cc
 onto_begins c b word (part ∷ parts) rest e = cc
 
-line_begins : (line : List ℕ) (b : ℕ) (word : List ℕ) (rest : List (List ℕ)) → fields_of line ≡ (b ∷ word) ∷ rest → is_skipped line ≡ (b == 35)
+pub line_begins : (line : List ℕ) (b : ℕ) (word : List ℕ) (rest : List (List ℕ)) → fields_of line ≡ (b ∷ word) ∷ rest → is_skipped line ≡ (b == 35)
 line_begins [] b word rest e = absurd cc
 line_begins (c ∷ cs) b word rest e =
     elim (cases_Bool (c == 32)) [
@@ -83,7 +75,7 @@ after_sound p q line e =
     let is = chosen (is_line line) _ q e in
     let rule = (is_line_decides line).0 is.0 in
     elim (or_else (is_skipped line) (Some p) _ q is.1) [
-      | inl skip ↦ subst (Reads p line) (same_Some _ _ skip.1) (skips rule (skipped_sound line skip.0))
+      | inl skip ↦ subst (Reads p line) (same_Some _ _ skip.1) (skips rule ((is_skipped_decides line).0 skip.0))
       | inr said ↦
           let s = bound _ (statement_of p.names (fields_of line)) q said.1 in
           let room = cond_some (has_room p s.0) (with_statement p s.0) q s.2 in
@@ -92,7 +84,7 @@ after_sound p q line e =
 
 pub after_complete : (p q : Program) (line : List ℕ) → AreDistinct p.names → Reads p line q → after_line p line ≡ Some q
 unfolding after_line
-after_complete p q line distinct (skips is skipped) = rw ((is_line_decides line).1 is, skipped_complete line skipped) refl
+after_complete p q line distinct (skips is skipped) = rw ((is_line_decides line).1 is, (is_skipped_decides line).1 skipped) refl
 after_complete p q line distinct (says s is said room) =
     rw ((is_line_decides line).1 is, says_no_skip p.names line s said, statement_complete p.names (fields_of line) s distinct said, room_complete p s room) refl
 
@@ -176,11 +168,4 @@ pub line_fault : {A : Type 0} (f : A → List ℕ) (text : List ℕ) (number : �
 line_fault f text number p q before x left after (fault.Script bad) read rest step count h =
     subst (IsBadLine text) (sym h.0) (bad_line f text number p before x left after read rest step count h.1)
 line_fault f text number p q before x left after fault.Memory read rest step count h = tt
-line_fault f text number p q before x left after (fault.Refused why) read rest step count h = h
-line_fault f text number p q before x left after fault.StepsFull read rest step count h = h
-line_fault f text number p q before x left after fault.Read read rest step count h = h
-line_fault f text number p q before x left after fault.Write read rest step count h = h
-line_fault f text number p q before x left after (fault.Torn at) read rest step count h = h
-line_fault f text number p q before x left after fault.Stalled read rest step count h = h
-line_fault f text number p q before x left after (fault.Differs at) read rest step count h = h
-line_fault f text number p q before x left after fault.Limit read rest step count h = h
+line_fault f text number p q before x left after _ read rest step count h = h

@@ -4,16 +4,18 @@ use Rattle.std.specs.Prelude.{codes, is_none, option_and_then}
 use Rattle.std.specs.List.{AllPairs}
 use Rattle.std.specs.Str.{bytes_eq}
 use Rattle.std.proofs.lemmas.Bool.{cases_order, and_parts, and_from, eqb-true, ltb-true, lt-ltb, leb-true, le-leb}
-use Rattle.std.proofs.lemmas.Option.{same_Some, cond_some, slice_get_within, get_or_from_slice_get}
+use Rattle.std.proofs.lemmas.Option.{same_Some, none-some, cond_some, slice_get_within, get_or_from_slice_get}
 use Rattle.uv_ids.specs.declared.id.Var.{Var}
 use Rattle.uv_ids.specs.declared.phase.Mode.{Mode}
 use Rattle.uv_ids.specs.Words.{kind_word, mode_word}
 use Rattle.uv_script.specs.declared.op.Op.{Op}
+use Rattle.uv_script.specs.declared.op.Op.TheVariants as op
 use Rattle.uv_script.specs.declared.op.MainOp.TheVariants as main
-use Rattle.uv_script.specs.Grammar.{Statement, Declares, InMain, InCallback, IsOp, init, start, stop, Says, declares, in_main, runs, in_callback, in_call}
-use Rattle.uv_script.specs.Reading.{first_of, none_left, place_of, kind_of, mode_of, init_of, start_of, stop_of, op_of, declaration_of, run_of, main_of, call_of, marked, in_calls_of, in_call_of, calls_of, callback_of, statement_of}
+use Rattle.uv_script.specs.Grammar.{Statement, Declares, InMain, InCallback, named_word, bare_word, IsOp, init, start, repeat, on_name, bare, Says, declares, in_main, runs, in_callback, in_call}
+use Rattle.uv_script.specs.Reading.{first_of, none_left, place_of, kind_of, mode_of, init_of, timer_start_of, start_by, start_of, repeat_of, bare_op, named_op, name_alone, short_op_of, op_of, declaration_of, run_of, main_of, call_of, marked, in_calls_of, in_call_of, calls_of, callback_of, statement_of}
 use Rattle.uv_script.specs.Checks.{is_name, number_of}
 use Rattle.uv_script.specs.Words.{IsName, IsNumber, IsDeclared}
+use Rattle.uv_script.proofs.OpWords.{named_op-sound, bare_op-sound}
 use Rattle.uv_script.proofs.KindWords.{kind_of-some, kind_of-sound, mode_of-some, mode_of-sound, choice_cases}
 use Rattle.uv_script.proofs.Places.{place_of-sound, place_of-finds}
 use Rattle.uv_script.proofs.Checks.{is_name_decides, number_of-sound, number_of-complete}
@@ -51,35 +53,78 @@ init_sound names fields o e =
     (init name.0.0 v.0 kind.0 (ap (λ r. codes "init" ∷ r) (a ∙ ap (λ r. name.0.0 ∷ r) (b ∙ ap (λ w. w ∷ word.0.1) k ∙ ap (λ r. kind_word kind.0 ∷ r) z)))
     (place_of-sound names name.0.0 v.0 v.1))
 
+timer_start_sound : (names : List (List ℕ)) (name : List ℕ) (v : Var) (timeout : List ℕ) (fields : List (List ℕ)) (o : Op) → IsDeclared names name v → timer_start_of v timeout fields ≡ Some o → IsOp names (codes "start" ∷ name ∷ timeout ∷ fields) o
+unfolding timer_start_of
+timer_start_sound names name v timeout fields o is e =
+    let t = bound _ (number_of timeout) o e in
+    let last = bound _ (first_of fields) o t.2 in
+    let r = bound _ (number_of last.0.0) o last.2 in
+    let end = bound _ (none_left last.0.1) o r.2 in
+    let a = first_is fields last.0 last.1 in
+    let z = none_is last.0.1 end.0 end.1 in
+    subst (IsOp names (codes "start" ∷ name ∷ timeout ∷ fields)) (same_Some _ _ end.2)
+    (start name v timeout last.0.0 t.0 r.0 (ap (λ s. codes "start" ∷ name ∷ timeout ∷ s) (a ∙ ap (λ s. last.0.0 ∷ s) z))
+    is (number_of-sound timeout t.0 t.1) (number_of-sound last.0.0 r.0 r.1))
+
+start_by_sound : (names : List (List ℕ)) (name : List ℕ) (v : Var) (fields : List (List ℕ)) (o : Op) → IsDeclared names name v → start_by v fields ≡ Some o → IsOp names (codes "start" ∷ name ∷ fields) o
+start_by_sound names name v [] o is e =
+    subst (IsOp names (codes "start" ∷ name ∷ [])) (same_Some _ _ e) (on_name (op.StartWatcher v) (codes "start") name v refl refl is)
+start_by_sound names name v (timeout ∷ fields) o is e = timer_start_sound names name v timeout fields o is e
+
 start_sound : (names fields : List (List ℕ)) (o : Op) → start_of names fields ≡ Some o → IsOp names (codes "start" ∷ fields) o
 unfolding start_of
 start_sound names fields o e =
     let name = bound _ (first_of fields) o e in
     let v = bound _ (place_of names name.0.0) o name.2 in
-    let timeout = bound _ (first_of name.0.1) o v.2 in
-    let t = bound _ (number_of timeout.0.0) o timeout.2 in
-    let repeat = bound _ (first_of timeout.0.1) o t.2 in
-    let r = bound _ (number_of repeat.0.0) o repeat.2 in
-    let end = bound _ (none_left repeat.0.1) o r.2 in
     let a = first_is fields name.0 name.1 in
-    let b = first_is name.0.1 timeout.0 timeout.1 in
-    let d = first_is timeout.0.1 repeat.0 repeat.1 in
-    let z = none_is repeat.0.1 end.0 end.1 in
-    subst (IsOp names (codes "start" ∷ fields)) (same_Some _ _ end.2)
-    (start name.0.0 v.0 timeout.0.0 repeat.0.0 t.0 r.0
-    (ap (λ s. codes "start" ∷ s) (a ∙ ap (λ s. name.0.0 ∷ s) (b ∙ ap (λ s. timeout.0.0 ∷ s) (d ∙ ap (λ s. repeat.0.0 ∷ s) z))))
-    (place_of-sound names name.0.0 v.0 v.1) (number_of-sound timeout.0.0 t.0 t.1) (number_of-sound repeat.0.0 r.0 r.1))
+    subst (λ (r : List (List ℕ)). IsOp names (codes "start" ∷ r) o) (sym a)
+    (start_by_sound names name.0.0 v.0 name.0.1 o (place_of-sound names name.0.0 v.0 v.1) v.2)
 
-stop_sound : (names fields : List (List ℕ)) (o : Op) → stop_of names fields ≡ Some o → IsOp names (codes "stop" ∷ fields) o
-unfolding stop_of
-stop_sound names fields o e =
+repeat_sound : (names fields : List (List ℕ)) (o : Op) → repeat_of names fields ≡ Some o → IsOp names (codes "repeat" ∷ fields) o
+unfolding repeat_of
+repeat_sound names fields o e =
     let name = bound _ (first_of fields) o e in
     let v = bound _ (place_of names name.0.0) o name.2 in
-    let end = bound _ (none_left name.0.1) o v.2 in
+    let number = bound _ (first_of name.0.1) o v.2 in
+    let n = bound _ (number_of number.0.0) o number.2 in
+    let end = bound _ (none_left number.0.1) o n.2 in
+    let a = first_is fields name.0 name.1 in
+    let b = first_is name.0.1 number.0 number.1 in
+    let z = none_is number.0.1 end.0 end.1 in
+    subst (IsOp names (codes "repeat" ∷ fields)) (same_Some _ _ end.2)
+    (repeat name.0.0 v.0 number.0.0 n.0
+    (ap (λ s. codes "repeat" ∷ s) (a ∙ ap (λ s. name.0.0 ∷ s) (b ∙ ap (λ s. number.0.0 ∷ s) z)))
+    (place_of-sound names name.0.0 v.0 v.1) (number_of-sound number.0.0 n.0 n.1))
+
+-- the fields are a declared name
+record IsNameAlone (names fields : List (List ℕ)) (v : Var) : Type 0 where
+  name : List ℕ
+  alone : fields ≡ name ∷ []
+  declared : IsDeclared names name v
+
+name_alone_sound : (names fields : List (List ℕ)) (v : Var) → name_alone names fields ≡ Some v → IsNameAlone names fields v
+unfolding name_alone
+name_alone_sound names fields v e =
+    let name = bound _ (first_of fields) v e in
+    let w = bound _ (place_of names name.0.0) v name.2 in
+    let end = bound _ (none_left name.0.1) v w.2 in
     let a = first_is fields name.0 name.1 in
     let z = none_is name.0.1 end.0 end.1 in
-    subst (IsOp names (codes "stop" ∷ fields)) (same_Some _ _ end.2)
-    (stop name.0.0 v.0 (ap (λ s. codes "stop" ∷ s) (a ∙ ap (λ s. name.0.0 ∷ s) z)) (place_of-sound names name.0.0 v.0 v.1))
+    record {
+      name = name.0.0;
+      alone = a ∙ ap (λ s. name.0.0 ∷ s) z;
+      declared = place_of-sound names name.0.0 v (w.1 ∙ end.2);
+    }
+
+short_op_sound : (names fields : List (List ℕ)) (word : List ℕ) (this : Option Op) (o : Op) → bare_op word ≡ this → short_op_of names fields word this ≡ Some o → IsOp names (word ∷ fields) o
+unfolding short_op_of
+short_op_sound names fields word (Some x) o is e =
+    let end = bound _ (none_left fields) o e in
+    bare o word (bare_op-sound word o (is ∙ end.2)) (ap (λ s. word ∷ s) (none_is fields end.0 end.1))
+short_op_sound names fields word None o is e =
+    let v = bound _ (name_alone names fields) o e in
+    let name = name_alone_sound names fields v.0 v.1 in
+    on_name o word name.name v.0 (named_op-sound word v.0 o v.2) (ap (λ s. word ∷ s) name.alone) name.declared
 
 -- the fact of an op, by its word
 op_word : (names : List (List ℕ)) (this word : List ℕ) (fields : List (List ℕ)) (o : Op) → word ≡ this → IsOp names (this ∷ fields) o → IsOp names (word ∷ fields) o
@@ -92,9 +137,9 @@ op_sound names word fields o e =
       | inl a ↦ op_word names (codes "init") word fields o a.0 (init_sound names fields o a.1)
       | inr e' ↦ elim (choice_cases word (codes "start") _ _ (Some o) e') [
         | inl a ↦ op_word names (codes "start") word fields o a.0 (start_sound names fields o a.1)
-        | inr e'' ↦ elim (choice_cases word (codes "stop") _ _ (Some o) e'') [
-          | inl a ↦ op_word names (codes "stop") word fields o a.0 (stop_sound names fields o a.1)
-          | inr wrong ↦ cc
+        | inr e'' ↦ elim (choice_cases word (codes "repeat") _ _ (Some o) e'') [
+          | inl a ↦ op_word names (codes "repeat") word fields o a.0 (repeat_sound names fields o a.1)
+          | inr short ↦ short_op_sound names fields word (bare_op word) o refl short
         ]
       ]
     ]
@@ -264,8 +309,55 @@ record OpParts (names fields : List (List ℕ)) (o : Op) : Type 0 where
   no_mark : marked word ≡ None
   reads : op_of names word rest ≡ Some o
 
+-- an op of a word and a name
+named_parts : (names : List (List ℕ)) (o : Op) (word name : List ℕ) (v : Var) → place_of names name ≡ Some v → named_word o ≡ Some (word, v) → OpParts names (word ∷ name ∷ []) o
+unfolding op_of start_of short_op_of bare_op named_op name_alone
+named_parts names o word name v place e = at o e
+  where
+    by : (x : Op) (this : List ℕ) (w : Var) → ◌≡◌ {A = Option (List ℕ × Var)} (Some (this, w)) (Some (word, v)) → bytes_eq this (codes "run") ≡ false → marked this ≡ None → (place_of names name ≡ Some w → op_of names this (name ∷ []) ≡ Some x) → OpParts names (word ∷ name ∷ []) x
+    by x this w said no_run no_mark reads =
+        let same = same_Some _ _ said in
+        subst (λ (p : List ℕ). OpParts names (p ∷ name ∷ []) x) (ap (λ (p : List ℕ × Var). p.0) same)
+        (record {
+          word = this;
+          rest = name ∷ [];
+          parts = refl;
+          no_run = no_run;
+          no_mark = no_mark;
+          reads = reads (place ∙ ap (λ (p : List ℕ × Var). Some p.1) (sym same));
+        })
+
+    at : (x : Op) → named_word x ≡ Some (word, v) → OpParts names (word ∷ name ∷ []) x
+    at (op.StartWatcher w) is = by (op.StartWatcher w) (codes "start") w is refl refl (λ found. rw found refl)
+    at (op.Stop w) is = by (op.Stop w) (codes "stop") w is refl refl (λ found. rw found refl)
+    at (op.Again w) is = by (op.Again w) (codes "again") w is refl refl (λ found. rw found refl)
+    at (op.DueIn w) is = by (op.DueIn w) (codes "due") w is refl refl (λ found. rw found refl)
+    at (op.Ref w) is = by (op.Ref w) (codes "ref") w is refl refl (λ found. rw found refl)
+    at (op.Unref w) is = by (op.Unref w) (codes "unref") w is refl refl (λ found. rw found refl)
+    at (op.HasRef w) is = by (op.HasRef w) (codes "hasref") w is refl refl (λ found. rw found refl)
+    at (op.IsActive w) is = by (op.IsActive w) (codes "active") w is refl refl (λ found. rw found refl)
+    at _ is = absurd (none-some _ is)
+
+-- an op of one word
+bare_parts : (names : List (List ℕ)) (o : Op) (word : List ℕ) → bare_word o ≡ Some word → OpParts names (word ∷ []) o
+unfolding op_of short_op_of bare_op
+bare_parts names o word e = at o e
+  where
+    by : (x : Op) (this : List ℕ) → Some this ≡ Some word → bytes_eq this (codes "run") ≡ false → marked this ≡ None → op_of names this [] ≡ Some x → OpParts names (word ∷ []) x
+    by x this said no_run no_mark reads =
+        subst (λ (w : List ℕ). OpParts names (w ∷ []) x) (same_Some _ _ said)
+        (record { word = this; rest = []; parts = refl; no_run = no_run; no_mark = no_mark; reads = reads })
+
+    at : (x : Op) → bare_word x ≡ Some word → OpParts names (word ∷ []) x
+    at op.StopLoop is = by op.StopLoop (codes "stoploop") is refl refl refl
+    at op.UpdateTime is = by op.UpdateTime (codes "updatetime") is refl refl refl
+    at op.Now is = by op.Now (codes "now") is refl refl refl
+    at op.IsAlive is = by op.IsAlive (codes "alive") is refl refl refl
+    at op.Timeout is = by op.Timeout (codes "timeout") is refl refl refl
+    at _ is = absurd (none-some _ is)
+
 op_parts : (names fields : List (List ℕ)) (o : Op) → AreDistinct names → IsOp names fields o → OpParts names fields o
-unfolding op_of init_of start_of stop_of
+unfolding op_of init_of start_of timer_start_of repeat_of
 op_parts names fields o distinct (init name v kind e is) = record {
   word = codes "init";
   rest = name ∷ kind_word kind ∷ [];
@@ -274,22 +366,26 @@ op_parts names fields o distinct (init name v kind e is) = record {
   no_mark = refl;
   reads = rw (place_complete names name v distinct is, kind_of-some (kind_word kind) kind refl) refl;
 }
-op_parts names fields o distinct (start name v timeout repeat t r e is first second) = record {
+op_parts names fields o distinct (start name v timeout period t r e is first second) = record {
   word = codes "start";
-  rest = name ∷ timeout ∷ repeat ∷ [];
+  rest = name ∷ timeout ∷ period ∷ [];
   parts = e;
   no_run = refl;
   no_mark = refl;
-  reads = rw (place_complete names name v distinct is, number_of-complete timeout t first, number_of-complete repeat r second) refl;
+  reads = rw (place_complete names name v distinct is, number_of-complete timeout t first, number_of-complete period r second) refl;
 }
-op_parts names fields o distinct (stop name v e is) = record {
-  word = codes "stop";
-  rest = name ∷ [];
+op_parts names fields o distinct (repeat name v number n e is value) = record {
+  word = codes "repeat";
+  rest = name ∷ number ∷ [];
   parts = e;
   no_run = refl;
   no_mark = refl;
-  reads = rw (place_complete names name v distinct is) refl;
+  reads = rw (place_complete names name v distinct is, number_of-complete number n value) refl;
 }
+op_parts names fields o distinct (on_name x word name v said e is) =
+    subst (λ (r : List (List ℕ)). OpParts names r o) (sym e) (named_parts names o word name v (place_complete names name v distinct is) said)
+op_parts names fields o distinct (bare x word said e) =
+    subst (λ (r : List (List ℕ)). OpParts names r o) (sym e) (bare_parts names o word said)
 
 declaration_complete : (names : List (List ℕ)) (name : List ℕ) → IsName name → (Contains names name → ⊥) → declaration_of names (name ∷ []) ≡ Some (Declares name)
 unfolding declaration_of

@@ -1,19 +1,19 @@
 -- The tests decide the rules.
-use Rattle.std.proofs.Common.{◌≡◌, ◌≢◌, ℕ, zero, suc, ◌<◌, ◌≤◌, ◌^◌, ◌⊎◌, inl, inr, true, false, not, ◌&&◌, cond, nat_le, List, [], ◌∷◌, length, get_or, Option, Some, None, Ok, Err, IfSome, IfNone, All, refl, ap, sym, ◌∙◌, subst, arith}
+use Rattle.std.proofs.Common.{◌≡◌, ◌≢◌, ℕ, zero, suc, ◌<◌, ◌≤◌, ◌^◌, ◌⊎◌, inl, inr, true, false, not, ◌&&◌, ◌==◌, cond, nat_le, List, [], ◌∷◌, length, get_or, Option, Some, None, Ok, Err, IfSome, IfNone, All, refl, ap, sym, ◌∙◌, subst, arith}
 use Rattle.std.specs.Bool.{Decides}
 use Rattle.std.specs.List.{list_all}
 use Rattle.std.specs.Str.{all_ascii_digits, IsUtf8, IsAscii}
 use Rattle.std.specs.Str.Parse.{digits_value, ParsesUnsigned}
 use Rattle.std.specs.Fmt.{decimal}
-use Rattle.std.proofs.lemmas.Bool.{and_parts, and_from, leb-true, le-leb, ltb-true, lt-ltb, eqb-false, ne_eqb, not-true, both_ways, cases_Bool}
+use Rattle.std.proofs.lemmas.Bool.{and_parts, and_from, leb-true, le-leb, ltb-true, lt-ltb, eqb-true, eqb-false, ne_eqb, not-true, both_ways, cases_Bool}
 use Rattle.std.proofs.lemmas.Bool.Decides.{Decides-by_and, Decides-or, Decides-eqb}
 use Rattle.std.proofs.lemmas.Fmt.{decimal-digits_value, digits_decimal, digits_value-decimal, decimal_nonempty, decimal_digit, first_decimal, IsAscii-decimal, parse-decimal}
 use Rattle.std.proofs.lemmas.Option.{cond_some}
 use Rattle.std.proofs.lemmas.Str.{IsUtf8-from_ascii}
 use Rattle.std.proofs.lemmas.Str.Parse.{IsNumeralModel, numerals_by_value, tells_all_ascii_digits, parse_plain}
-use Rattle.uv_script.specs.Lines.{IsLine}
+use Rattle.uv_script.specs.Lines.{IsLine, IsSkipped, empty, comment}
 use Rattle.uv_script.specs.Words.{IsLetter, IsDigit, IsName, IsNumber}
-use Rattle.uv_script.specs.Checks.{is_printable, is_line, is_name_byte, is_name, is_canonical, is_number, number_of}
+use Rattle.uv_script.specs.Checks.{is_printable, is_line, is_skipped, is_name_byte, is_name, is_canonical, is_number, number_of}
 
 within : (low high b : ℕ) → Decides (nat_le low b && nat_le b high) ((low ≤ b) × (b ≤ high))
 within low high b = (
@@ -27,6 +27,13 @@ is_line_decides line =
       λ e. let p = and_parts _ _ e in record { short = leb-true (length line) 256 p.0; printable = each.0 p.1 },
       λ h. and_from _ _ (le-leb (length line) 256 h.short) (each.1 h.printable),
     )
+
+pub is_skipped_decides : (line : List ℕ) → Decides (is_skipped line) (IsSkipped line)
+is_skipped_decides [] = (λ e. empty refl, λ h. refl)
+is_skipped_decides (b ∷ bs) = (λ e. comment bs (ap (λ c. c ∷ bs) (eqb-true b 35 e)), λ h. begins h) where
+  begins : IsSkipped (b ∷ bs) → (b == 35) ≡ true
+  begins (empty e) = cc
+  begins (comment text e) = ap is_skipped e
 
 name_byte : (b : ℕ) → Decides (is_name_byte b) (IsLetter b ⊎ (IsDigit b ⊎ (b ≡ 95)))
 name_byte b = Decides-or _ _ (within 97 122 b) (Decides-or _ _ (within 48 57 b) (Decides-eqb b 95))

@@ -6,7 +6,7 @@ use Rattle.std.proofs.lemmas.Bool.{cases_Bool}
 use Rattle.std.proofs.lemmas.Option.{same_Some}
 use Rattle.std.proofs.lemmas.Slice.Eq.{bytes_eq-Decides}
 use Rattle.uv_ids.specs.declared.phase.Kind.{Kind}
-use Rattle.uv_ids.specs.declared.phase.Kind.TheVariants.{Timer}
+use Rattle.uv_ids.specs.declared.phase.Kind.TheVariants as kind
 use Rattle.uv_ids.specs.declared.phase.Mode.{Mode}
 use Rattle.uv_ids.specs.declared.phase.Mode.TheVariants as mode
 use Rattle.uv_ids.specs.Words.{kind_word, IsNoKind, mode_word, IsNoMode}
@@ -29,16 +29,35 @@ choice_other word this x y other =
 
 pub kind_of-some : (word : List ℕ) (k : Kind) → word ≡ kind_word k → kind_of word ≡ Some k
 unfolding kind_of
-kind_of-some word Timer e = ap (λ w. cond (bytes_eq w (codes "timer")) (Some Timer) None) e
+kind_of-some word kind.Timer e = ap kind_of e
+kind_of-some word kind.Idle e = ap kind_of e
+kind_of-some word kind.Prepare e = ap kind_of e
+kind_of-some word kind.Check e = ap kind_of e
 
 pub kind_of-none : (word : List ℕ) → IsNoKind word → kind_of word ≡ None
 unfolding kind_of
-kind_of-none word none = choice_other word (codes "timer") (Some Timer) None (none Timer)
+kind_of-none word none =
+    choice_other word (codes "timer") _ _ (none kind.Timer)
+    ∙ choice_other word (codes "idle") _ _ (none kind.Idle)
+    ∙ choice_other word (codes "prepare") _ _ (none kind.Prepare)
+    ∙ choice_other word (codes "check") _ _ (none kind.Check)
 
 pub kind_of-sound : (word : List ℕ) (k : Kind) → kind_of word ≡ Some k → word ≡ kind_word k
 unfolding kind_of
-kind_of-sound word Timer e =
-    elim (choice_cases word (codes "timer") (Some Timer) None (Some Timer) e) [ inl is ↦ is.0 | inr wrong ↦ cc ]
+kind_of-sound word k e =
+    elim (choice_cases word (codes "timer") _ _ (Some k) e) [
+      | inl is ↦ is.0 ∙ ap kind_word (same_Some _ _ is.1)
+      | inr e' ↦ elim (choice_cases word (codes "idle") _ _ (Some k) e') [
+        | inl is ↦ is.0 ∙ ap kind_word (same_Some _ _ is.1)
+        | inr e'' ↦ elim (choice_cases word (codes "prepare") _ _ (Some k) e'') [
+          | inl is ↦ is.0 ∙ ap kind_word (same_Some _ _ is.1)
+          | inr e''' ↦ elim (choice_cases word (codes "check") _ _ (Some k) e''') [
+            | inl is ↦ is.0 ∙ ap kind_word (same_Some _ _ is.1)
+            | inr wrong ↦ cc
+          ]
+        ]
+      ]
+    ]
 
 pub mode_of-some : (word : List ℕ) (m : Mode) → word ≡ mode_word m → mode_of word ≡ Some m
 unfolding mode_of

@@ -4,6 +4,8 @@ pub mod Cuts
 pub mod KindWords
 pub mod Fresh
 pub mod Counts
+pub mod Spelled
+pub mod OpWords
 pub mod Agrees
 pub mod AfterLines
 pub mod OneReading

@@ -12,6 +12,11 @@ is_printable b = nat_le 32 b && nat_le b 126
 abbrev pub is_line : List ℕ → Bool
 is_line line = nat_le (length line) 256 && list_all is_printable line
 
+-- an empty line, or one that begins with `#`
+abbrev pub is_skipped : List ℕ → Bool
+is_skipped [] = true
+is_skipped (b ∷ bs) = b == 35
+
 -- a byte from `a` to `z`
 abbrev pub is_letter : ℕ → Bool
 is_letter b = nat_le 97 b && nat_le b 122

@@ -1,5 +1,5 @@
 -- The grammar of scripts: which lines make which script.
-use Rattle.std.specs.Prelude.{◌≡◌, ℕ, ◌+◌, ◌<◌, ◌≤◌, ◌^◌, List, [], ◌∷◌, ◌++◌, length, Contains, Some, None, Result, Ok, Err, slice_set, codes}
+use Rattle.std.specs.Prelude.{◌≡◌, ℕ, ◌+◌, ◌<◌, ◌≤◌, ◌^◌, List, [], ◌∷◌, ◌++◌, length, Contains, Option, Some, None, Result, Ok, Err, slice_set, codes}
 use Rattle.uv_ids.specs.declared.id.Var.{Var}
 use Rattle.uv_ids.specs.declared.phase.Kind.{Kind}
 use Rattle.uv_ids.specs.declared.phase.Mode.{Mode}
@@ -24,11 +24,34 @@ pub data Statement : Type 0 where
   -- `on NAME [@k] OP`
   InCallback : Var → CallbackLine → Statement
 
+-- the word of an op that says no more than a name, and the name's number
+abbrev pub named_word : Op → Option (List ℕ × Var)
+named_word (op.StartWatcher v) = Some (codes "start", v)
+named_word (op.Stop v) = Some (codes "stop", v)
+named_word (op.Again v) = Some (codes "again", v)
+named_word (op.DueIn v) = Some (codes "due", v)
+named_word (op.Ref v) = Some (codes "ref", v)
+named_word (op.Unref v) = Some (codes "unref", v)
+named_word (op.HasRef v) = Some (codes "hasref", v)
+named_word (op.IsActive v) = Some (codes "active", v)
+named_word _ = None
+
+-- the word of an op that says nothing more
+abbrev pub bare_word : Op → Option (List ℕ)
+bare_word op.StopLoop = Some (codes "stoploop")
+bare_word op.UpdateTime = Some (codes "updatetime")
+bare_word op.Now = Some (codes "now")
+bare_word op.IsAlive = Some (codes "alive")
+bare_word op.Timeout = Some (codes "timeout")
+bare_word _ = None
+
 -- the fields of an op, where these names are declared
 pub data IsOp (names : List (List ℕ)) (fields : List (List ℕ)) : Op → Type 0 where
   init : (name : List ℕ) (v : Var) (kind : Kind) → fields ≡ codes "init" ∷ name ∷ kind_word kind ∷ [] → IsDeclared names name v → IsOp names fields (op.Init v kind)
   start : (name : List ℕ) (v : Var) (timeout repeat : List ℕ) (t r : ℕ) → fields ≡ codes "start" ∷ name ∷ timeout ∷ repeat ∷ [] → IsDeclared names name v → IsNumber timeout t → IsNumber repeat r → IsOp names fields (op.Start v t r)
-  stop : (name : List ℕ) (v : Var) → fields ≡ codes "stop" ∷ name ∷ [] → IsDeclared names name v → IsOp names fields (op.Stop v)
+  repeat : (name : List ℕ) (v : Var) (number : List ℕ) (n : ℕ) → fields ≡ codes "repeat" ∷ name ∷ number ∷ [] → IsDeclared names name v → IsNumber number n → IsOp names fields (op.SetRepeat v n)
+  on_name : (o : Op) (word name : List ℕ) (v : Var) → named_word o ≡ Some (word, v) → fields ≡ word ∷ name ∷ [] → IsDeclared names name v → IsOp names fields o
+  bare : (o : Op) (word : List ℕ) → bare_word o ≡ Some word → fields ≡ word ∷ [] → IsOp names fields o
 
 -- the fields of a line, and what it says
 pub data Says (names : List (List ℕ)) (fields : List (List ℕ)) : Statement → Type 0 where
@@ -80,16 +103,9 @@ pub record IsBadLine (text : List ℕ) (number : ℕ) : Type 0 where
   pub read : ReadsAll blank before script
   pub refused : (q : Program) → Reads script line q → ⊥
 
--- what may be answered to a text; no text needs memory that a growth must have
+-- what may be answered to a text: its script, or its first bad line; or want of memory
 abbrev pub Parses : List ℕ → Result Program Fault → Type 0
 Parses text (Ok p) = IsScript text p
 Parses text (Err (fault.Script line)) = IsBadLine text line
 Parses text (Err fault.Memory) = Unit {0}
-Parses text (Err (fault.Refused why)) = ⊥
-Parses text (Err fault.StepsFull) = ⊥
-Parses text (Err fault.Read) = ⊥
-Parses text (Err fault.Write) = ⊥
-Parses text (Err (fault.Torn at)) = ⊥
-Parses text (Err fault.Stalled) = ⊥
-Parses text (Err (fault.Differs at)) = ⊥
-Parses text (Err fault.Limit) = ⊥
+Parses text (Err _) = ⊥

@@ -1,10 +1,10 @@
 -- How the reader reads, as functions of lists. They serve private clauses; that they agree with the grammar is proved.
-use Rattle.std.specs.Prelude.{◌≡◌, ℕ, ◌&&◌, ◌==◌, ◌<◌, Bool, true, nat_le, nat_lt, List, [], ◌∷◌, length, Contains, Option, Some, None, Result, Ok, Err, option_and_then, option_map, is_none, codes, if◌then◌else◌}
+use Rattle.std.specs.Prelude.{◌≡◌, ℕ, ◌&&◌, ◌==◌, ◌<◌, Bool, nat_le, nat_lt, List, [], ◌∷◌, length, Contains, Option, Some, None, Result, Ok, Err, option_and_then, option_map, is_none, codes, if◌then◌else◌}
 use Rattle.std.specs.List.{position}
 use Rattle.std.specs.Str.{bytes_eq}
 use Rattle.uv_ids.specs.declared.id.Var.{Var}
 use Rattle.uv_ids.specs.declared.phase.Kind.{Kind}
-use Rattle.uv_ids.specs.declared.phase.Kind.TheVariants.{Timer}
+use Rattle.uv_ids.specs.declared.phase.Kind.TheVariants as kind
 use Rattle.uv_ids.specs.declared.phase.Mode.{Mode}
 use Rattle.uv_ids.specs.declared.phase.Mode.TheVariants as mode
 use Rattle.uv_ids.specs.declared.fault.Fault.{Fault}
@@ -15,7 +15,7 @@ use Rattle.uv_script.specs.declared.op.MainOp.TheVariants as main
 use Rattle.uv_script.specs.Grammar.{Statement, Declares, InMain, InCallback, with_statement}
 use Rattle.uv_script.specs.Lines.{fields_of}
 use Rattle.uv_script.specs.Program.{Program, line_count}
-use Rattle.uv_script.specs.Checks.{is_line, is_name, number_of}
+use Rattle.uv_script.specs.Checks.{is_line, is_skipped, is_name, number_of}
 use Rattle.uv_script.specs.Words.{IsName}
 
 infixl 10 ◌>>=◌
@@ -37,7 +37,7 @@ unfoldable pub place_of : List (List ℕ) → List ℕ → Option Var
 place_of names name = option_map (λ n. record { 0 = n }) (position (bytes_eq name) names)
 
 unfoldable pub kind_of : List ℕ → Option Kind
-kind_of word = if bytes_eq word (codes "timer") then Some Timer else None
+kind_of word = if bytes_eq word (codes "timer") then Some kind.Timer else if bytes_eq word (codes "idle") then Some kind.Idle else if bytes_eq word (codes "prepare") then Some kind.Prepare else if bytes_eq word (codes "check") then Some kind.Check else None
 
 unfoldable pub mode_of : List ℕ → Option Mode
 mode_of word = if bytes_eq word (codes "default") then Some mode.Default else if bytes_eq word (codes "once") then Some mode.Once else if bytes_eq word (codes "nowait") then Some mode.Nowait else None
@@ -52,27 +52,63 @@ init_of names fields = do
   end ← none_left kind.1
   Some (op.Init v k)
 
-unfoldable pub start_of : List (List ℕ) → List (List ℕ) → Option Op
-start_of names fields = do
-  name ← first_of fields
-  v ← place_of names name.0
-  timeout ← first_of name.1
-  t ← number_of timeout.0
-  repeat ← first_of timeout.1
+-- a timer's start, from its timeout on
+unfoldable pub timer_start_of : Var → List ℕ → List (List ℕ) → Option Op
+timer_start_of v timeout fields = do
+  t ← number_of timeout
+  repeat ← first_of fields
   r ← number_of repeat.0
   end ← none_left repeat.1
   Some (op.Start v t r)
 
-unfoldable pub stop_of : List (List ℕ) → List (List ℕ) → Option Op
-stop_of names fields = do
+-- a start is a timer's where more than the name is left
+abbrev pub start_by : Var → List (List ℕ) → Option Op
+start_by v [] = Some (op.StartWatcher v)
+start_by v (timeout ∷ fields) = timer_start_of v timeout fields
+
+unfoldable pub start_of : List (List ℕ) → List (List ℕ) → Option Op
+start_of names fields = do
+  name ← first_of fields
+  v ← place_of names name.0
+  start_by v name.1
+
+unfoldable pub repeat_of : List (List ℕ) → List (List ℕ) → Option Op
+repeat_of names fields = do
+  name ← first_of fields
+  v ← place_of names name.0
+  repeat ← first_of name.1
+  r ← number_of repeat.0
+  end ← none_left repeat.1
+  Some (op.SetRepeat v r)
+
+-- an op of a word alone
+unfoldable pub bare_op : List ℕ → Option Op
+bare_op word = if bytes_eq word (codes "stoploop") then Some op.StopLoop else if bytes_eq word (codes "updatetime") then Some op.UpdateTime else if bytes_eq word (codes "now") then Some op.Now else if bytes_eq word (codes "alive") then Some op.IsAlive else if bytes_eq word (codes "timeout") then Some op.Timeout else None
+
+-- an op of a word and a name; a start is read apart
+unfoldable pub named_op : List ℕ → Var → Option Op
+named_op word v = if bytes_eq word (codes "stop") then Some (op.Stop v) else if bytes_eq word (codes "again") then Some (op.Again v) else if bytes_eq word (codes "due") then Some (op.DueIn v) else if bytes_eq word (codes "ref") then Some (op.Ref v) else if bytes_eq word (codes "unref") then Some (op.Unref v) else if bytes_eq word (codes "hasref") then Some (op.HasRef v) else if bytes_eq word (codes "active") then Some (op.IsActive v) else None
+
+-- a name and nothing more
+unfoldable pub name_alone : List (List ℕ) → List (List ℕ) → Option Var
+name_alone names fields = do
   name ← first_of fields
   v ← place_of names name.0
   end ← none_left name.1
-  Some (op.Stop v)
+  Some v
+
+-- whichever of both, by whether the word alone is an op
+unfoldable pub short_op_of : List (List ℕ) → List (List ℕ) → List ℕ → Option Op → Option Op
+short_op_of names fields word (Some o) = do
+  end ← none_left fields
+  Some o
+short_op_of names fields word None = do
+  v ← name_alone names fields
+  named_op word v
 
 -- an op by its word
 unfoldable pub op_of : List (List ℕ) → List ℕ → List (List ℕ) → Option Op
-op_of names word fields = if bytes_eq word (codes "init") then init_of names fields else if bytes_eq word (codes "start") then start_of names fields else if bytes_eq word (codes "stop") then stop_of names fields else None
+op_of names word fields = if bytes_eq word (codes "init") then init_of names fields else if bytes_eq word (codes "start") then start_of names fields else if bytes_eq word (codes "repeat") then repeat_of names fields else short_op_of names fields word (bare_op word)
 
 -- what stands behind `var`
 unfoldable pub declaration_of : List (List ℕ) → List (List ℕ) → Option Statement
@@ -146,10 +182,6 @@ IsSound p (Declares name) = IsName name × (Contains p.names name → ⊥)
 IsSound p (InMain op) = Unit {0}
 IsSound p (InCallback v line) = v.0 < length p.names
 
-abbrev pub is_skipped : List ℕ → Bool
-is_skipped [] = true
-is_skipped (b ∷ bs) = b == 35
-
 -- the script after one more line
 unfoldable pub after_line : Program → List ℕ → Option Program
 after_line p line = if is_line line then (if is_skipped line then Some p else (do
@@ -161,11 +193,4 @@ abbrev pub ReadsLine : Program → List ℕ → ℕ → Result (Unit {0}) Fault 
 ReadsLine p line number (Ok done) q = after_line p line ≡ Some q
 ReadsLine p line number (Err (fault.Script bad)) q = (bad ≡ number) × (after_line p line ≡ None)
 ReadsLine p line number (Err fault.Memory) q = Unit {0}
-ReadsLine p line number (Err (fault.Refused why)) q = ⊥
-ReadsLine p line number (Err fault.StepsFull) q = ⊥
-ReadsLine p line number (Err fault.Read) q = ⊥
-ReadsLine p line number (Err fault.Write) q = ⊥
-ReadsLine p line number (Err (fault.Torn at)) q = ⊥
-ReadsLine p line number (Err fault.Stalled) q = ⊥
-ReadsLine p line number (Err (fault.Differs at)) q = ⊥
-ReadsLine p line number (Err fault.Limit) q = ⊥
+ReadsLine p line number (Err _) q = ⊥

@@ -10,7 +10,7 @@ mod statement;
 mod text;
 mod words;
 
-pub use lines::{Fields, Lines, is_line, line_count};
+pub use lines::{Fields, Lines, is_line, is_skipped, line_count};
 pub use names::Names;
 pub use op::{CallbackLine, MainOp, Op};
 pub use parse::one_reading;

@@ -1,8 +1,8 @@
 //! A text as lines, and a line as fields.
 ghost use Rattle.std.specs.Prelude.{◌≡◌, ◌==◌, ◌↔◌, false, All, IfNone, IfSome, IsTrue, length, ◌≤◌};
 ghost use Rattle.std.specs.Iterator.{YieldsFirstRef, item_count};
-ghost use Rattle.uv_script.specs.Lines.{lines_of, fields_of, IsLine, IsCut};
-ghost use Rattle.uv_script.specs.Checks.{is_printable, is_line};
+ghost use Rattle.uv_script.specs.Lines.{lines_of, fields_of, IsLine, IsSkipped, IsCut};
+ghost use Rattle.uv_script.specs.Checks.{is_printable, is_line, is_skipped};
 
 use std::marker::Model;
 
@@ -88,6 +88,15 @@ pub fn is_line(line: &[u8]) -> bool
     ensures test { result ≡ is_line line.now }
 {
     line.len() <= 256 && line.iter().all(|byte| is_printable(*byte))
+}
+
+/// Whether a line says nothing: an empty one, or one that begins with `#`.
+pub fn is_skipped(line: &[u8]) -> bool
+    ensures rule { IsTrue result ↔ IsSkipped line.now }
+    // The same, as the readers of lines compute it.
+    ensures test { result ≡ is_skipped line.now }
+{
+    matches!(line, [] | [b'#', ..])
 }
 
 /// The fields of a line, cut at each space.

@@ -2,20 +2,13 @@
 ghost use Rattle.std.specs.Prelude.{◌≡◌, ℕ, List};
 ghost use Rattle.uv_script.specs.Grammar.{Parses};
 ghost use Rattle.uv_script.specs.Laws.{HasReading, HasOneScript, HasNoBadLine, HasOneBadLine};
-ghost use Rattle.uv_script.specs.Reading.{ReadsLine, is_skipped};
+ghost use Rattle.uv_script.specs.Reading.{ReadsLine};
 
-use crate::lines::{Lines, is_line};
+use crate::lines::{Lines, is_line, is_skipped};
 use crate::script::Script;
 use crate::statement::statement_in;
 use std::alloc::Global;
 use uv_ids::Fault;
-
-/// Whether a line is empty or a comment.
-fn is_skipped(line: &[u8]) -> bool
-    ensures { result ≡ is_skipped line.now }
-{
-    matches!(line, [] | [b'#', ..])
-}
 
 /// A text has one script or one first bad line, and never both, so what `Script::parse` answers is settled by the text
 /// unless memory runs out.

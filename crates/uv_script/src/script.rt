@@ -3,14 +3,14 @@ ghost use Rattle.std.specs.Prelude.{◌≡◌, slice_get, length, OnOk};
 ghost use Rattle.uv_script.specs.Grammar.{Declares, InMain, InCallback, HasRoom, with_statement, blank};
 ghost use Rattle.uv_script.specs.Reading.{has_room, IsSound};
 ghost use Rattle.uv_script.specs.Said.{said};
-ghost use Rattle.uv_script.specs.Program.{on_lines, IsWhole};
+ghost use Rattle.uv_script.specs.Program.{on_lines, op_at, IsWhole};
 
 use crate::names::Names;
-use crate::op::{CallbackLine, MainOp};
+use crate::op::{CallbackLine, MainOp, Op};
 use crate::statement::Statement;
 use std::alloc::{AllocError, Global};
 use std::marker::Model;
-use uv_ids::Var;
+use uv_ids::{Site, Var};
 
 /// A script that was read.
 #[derive(Drop)]
@@ -127,6 +127,19 @@ impl Script {
         ensures { result ≡ slice_get self.now.main line }
     {
         self.main.get(line).copied()
+    }
+
+    /// The op at a place of the script; a run of the main program is none.
+    pub fn op_at(&self, site: Site) -> Option<Op>
+        ensures { result ≡ op_at self.now site }
+    {
+        match site {
+            Site::Main(line) => match self.main_op(line)? {
+                MainOp::Op(op) => Some(op),
+                MainOp::Run(_) => None,
+            },
+            Site::On(name, line) => Some(self.on_lines(name).get(line)?.op),
+        }
     }
 
     /// The lines of a name's handle callback.

@@ -1,7 +1,7 @@
 //! What the lines of a script say, one at a time.
 ghost use Rattle.std.specs.Prelude.{◌≡◌, Some, option_map};
 ghost use Rattle.uv_script.specs.Lines.{fields_of};
-ghost use Rattle.uv_script.specs.Reading.{none_left, kind_of, mode_of, init_of, start_of, stop_of, op_of, declaration_of, run_of, main_of, call_of, marked, in_calls_of, in_call_of, callback_of, statement_of};
+ghost use Rattle.uv_script.specs.Reading.{none_left, kind_of, mode_of, init_of, timer_start_of, start_of, repeat_of, bare_op, named_op, name_alone, short_op_of, op_of, declaration_of, run_of, main_of, call_of, marked, in_calls_of, in_call_of, callback_of, statement_of};
 ghost use Rattle.uv_script.specs.Said.{said};
 
 use crate::lines::Fields;
@@ -41,24 +41,96 @@ fn init(names: &Names, mut fields: Fields<'_>) -> Option<Op>
     Some(Op::Init(name, kind))
 }
 
-#[tactic(auto, unfolding(crate::specs::Reading::start_of))]
-fn start(names: &Names, mut fields: Fields<'_>) -> Option<Op>
-    ensures { result ≡ start_of names.now fields.entry }
+/// A timer's start, from its timeout on.
+#[tactic(auto, unfolding(crate::specs::Reading::timer_start_of))]
+fn timer_start(name: Var, timeout: &[u8], mut fields: Fields<'_>) -> Option<Op>
+    ensures { result ≡ timer_start_of name timeout.now fields.entry }
 {
-    let name = names.number(fields.next()?)?;
-    let timeout = number(fields.next()?)?;
+    let timeout = number(timeout)?;
     let repeat = number(fields.next()?)?;
     none_left(fields)?;
     Some(Op::Start(name, timeout, repeat))
 }
 
-#[tactic(auto, unfolding(crate::specs::Reading::stop_of))]
-fn stop(names: &Names, mut fields: Fields<'_>) -> Option<Op>
-    ensures { result ≡ stop_of names.now fields.entry }
+/// A start, which is a timer's where more than the name is left, and else a watcher's.
+#[tactic(auto, unfolding(crate::specs::Reading::start_of))]
+fn start(names: &Names, mut fields: Fields<'_>) -> Option<Op>
+    ensures { result ≡ start_of names.now fields.entry }
+{
+    let name = names.number(fields.next()?)?;
+    match fields.next() {
+        Some(timeout) => timer_start(name, timeout, fields),
+        None => Some(Op::StartWatcher(name)),
+    }
+}
+
+#[tactic(auto, unfolding(crate::specs::Reading::repeat_of))]
+fn set_repeat(names: &Names, mut fields: Fields<'_>) -> Option<Op>
+    ensures { result ≡ repeat_of names.now fields.entry }
+{
+    let name = names.number(fields.next()?)?;
+    let repeat = number(fields.next()?)?;
+    none_left(fields)?;
+    Some(Op::SetRepeat(name, repeat))
+}
+
+/// The op of a word alone.
+#[tactic(auto, unfolding(crate::specs::Reading::bare_op))]
+fn bare_op(word: &[u8]) -> Option<Op>
+    ensures { result ≡ bare_op word.now }
+{
+    match word {
+        b"stoploop" => Some(Op::StopLoop),
+        b"updatetime" => Some(Op::UpdateTime),
+        b"now" => Some(Op::Now),
+        b"alive" => Some(Op::IsAlive),
+        b"timeout" => Some(Op::Timeout),
+        _ => None,
+    }
+}
+
+/// The op of a word and a name; a start is read apart.
+#[tactic(auto, unfolding(crate::specs::Reading::named_op))]
+fn named_op(word: &[u8], name: Var) -> Option<Op>
+    ensures { result ≡ named_op word.now name }
+{
+    match word {
+        b"stop" => Some(Op::Stop(name)),
+        b"again" => Some(Op::Again(name)),
+        b"due" => Some(Op::DueIn(name)),
+        b"ref" => Some(Op::Ref(name)),
+        b"unref" => Some(Op::Unref(name)),
+        b"hasref" => Some(Op::HasRef(name)),
+        b"active" => Some(Op::IsActive(name)),
+        _ => None,
+    }
+}
+
+/// The number of a name, behind which nothing stands.
+#[tactic(auto, unfolding(crate::specs::Reading::name_alone))]
+fn name_alone(names: &Names, mut fields: Fields<'_>) -> Option<Var>
+    ensures { result ≡ name_alone names.now fields.entry }
 {
     let name = names.number(fields.next()?)?;
     none_left(fields)?;
-    Some(Op::Stop(name))
+    Some(name)
+}
+
+/// An op of one word, or of a word and a name.
+#[tactic(auto, unfolding(crate::specs::Reading::short_op_of))]
+fn short_op(names: &Names, word: &[u8], fields: Fields<'_>) -> Option<Op>
+    ensures { result ≡ short_op_of names.now fields.entry word.now (bare_op word.now) }
+{
+    match bare_op(word) {
+        Some(op) => {
+            none_left(fields)?;
+            Some(op)
+        }
+        None => {
+            let name = name_alone(names, fields)?;
+            named_op(word, name)
+        }
+    }
 }
 
 #[tactic(auto, unfolding(crate::specs::Reading::op_of))]
@@ -68,8 +140,8 @@ fn op_by_word(names: &Names, word: &[u8], fields: Fields<'_>) -> Option<Op>
     match word {
         b"init" => init(names, fields),
         b"start" => start(names, fields),
-        b"stop" => stop(names, fields),
-        _ => None,
+        b"repeat" => set_repeat(names, fields),
+        _ => short_op(names, word, fields),
     }
 }
 

@@ -1,5 +1,6 @@
 use crate::{
-    CallbackLine, Fields, Lines, MainOp, Op, Script, is_line, is_name, number, push_number,
+    CallbackLine, Fields, Lines, MainOp, Op, Script, is_line, is_name, is_skipped, number,
+    push_number,
 };
 use std::alloc::{AllocError, Global};
 use std::test::Fail;
@@ -8,6 +9,17 @@ use uv_ids::{Fault, Kind, Mode, Var};
 const GOOD: &[u8] = b"# two timers\n\nvar tick\nmain init tick timer\nvar a_1\n\
     main start tick 5 18446744073709551615\non tick @4294967295 stop tick\non a_1 start tick 0 0\n\
     on tick init a_1 timer\nmain run default\nmain run once\nmain run nowait\nmain stop a_1";
+
+/// The ops of watchers, of references and of the loop, in the main program.
+const MAIN_OPS: &[u8] = b"var i\nvar t\nmain init i idle\nmain start i\nmain again t\n\
+    main repeat t 18446744073709551615\nmain due t\nmain ref i\nmain unref i\nmain hasref i\nmain active i\n\
+    main stoploop\nmain updatetime\nmain now\nmain alive\nmain timeout";
+
+/// The same in a callback, some in one call only.
+const CALLBACK_OPS: &[u8] =
+    b"var i\nvar t\non i init t prepare\non i init t check\non i @7 start i\n\
+    on i @1 again t\non i repeat t 0\non i @2 due t\non i ref t\non i unref t\non i hasref t\non i active t\n\
+    on i stoploop\non i @3 updatetime\non i now\non i @4 alive\non i timeout\non i @5 stop i";
 
 #[test]
 fn reads_a_script(rt: HostRuntime) -> Result<(), Fail> {
@@ -50,48 +62,128 @@ fn reads_a_script(rt: HostRuntime) -> Result<(), Fail> {
 }
 
 #[test]
-fn refuses_with_the_first_bad_line(rt: HostRuntime) {
-    let bad: [(&[u8], usize); 38] = [
-        (b"\x1f", 1),
-        (b"#\x7f", 1),
-        (b"var a\r\n", 1),
-        (b"\n\n \n", 3),
-        (b"var a\nvars b\nbegin\n", 2),
-        (b"begin", 1),
-        (b"workers 4", 1),
-        (b"var a\nafter a stop a", 2),
-        (b"var", 1),
-        (b"var a b", 1),
-        (b"var  a", 1),
-        (b"var a ", 1),
-        (b" var a", 1),
-        (b"var A", 1),
-        (b"var 1", 1),
-        (b"var a-b", 1),
-        (b"var a\nvar b\nvar a", 3),
-        (b"var a\nmain start b 1 0", 2),
-        (b"main stop a\nvar a", 1),
-        (b"on a stop a\nvar a", 1),
-        (b"var a\nmain init a idle", 2),
-        (b"var a\nmain init a", 2),
-        (b"var a\nmain start a 1", 2),
-        (b"var a\nmain start a 1 0 0", 2),
-        (b"var a\nmain start a 01 0", 2),
-        (b"var a\nmain start a +1 0", 2),
-        (b"var a\nmain start a 1 18446744073709551616", 2),
-        (b"var a\nmain start a  0", 2),
-        (b"var a\nmain stop a ", 2),
-        (b"main run", 1),
-        (b"main run twice", 1),
-        (b"var a\non a run default", 2),
-        (b"var a\non a @0 stop a", 2),
-        (b"var a\non a @01 stop a", 2),
-        (b"var a\non a @4294967296 stop a", 2),
-        (b"var a\non a @ stop a", 2),
-        (b"var a\non a @1 @1 stop a", 2),
-        (b"var a\non a @1", 2),
+fn reads_each_op_of_the_main_program(rt: HostRuntime) -> Result<(), Fail> {
+    let script = Script::parse(rt.alloc(), MAIN_OPS)?;
+    let (idle, timer) = (Var(0), Var(1));
+    let main = [
+        Op::Init(idle, Kind::Idle),
+        Op::StartWatcher(idle),
+        Op::Again(timer),
+        Op::SetRepeat(timer, u64::MAX),
+        Op::DueIn(timer),
+        Op::Ref(idle),
+        Op::Unref(idle),
+        Op::HasRef(idle),
+        Op::IsActive(idle),
+        Op::StopLoop,
+        Op::UpdateTime,
+        Op::Now,
+        Op::IsAlive,
+        Op::Timeout,
     ];
-    for (case, (text, line)) in bad.iter().enumerate() {
+    for (line, op) in main.iter().enumerate() {
+        assert_eq!(rt;
+            script.main_op(line),
+            Some(MainOp::Op(*op)),
+            "line {line} of the main program"
+        );
+    }
+    assert_eq!(rt; script.main_op(main.len()), None);
+    Ok(())
+}
+
+#[test]
+fn reads_each_op_of_a_callback(rt: HostRuntime) -> Result<(), Fail> {
+    let script = Script::parse(rt.alloc(), CALLBACK_OPS)?;
+    let (idle, timer) = (Var(0), Var(1));
+    let on_idle = [
+        (None, Op::Init(timer, Kind::Prepare)),
+        (None, Op::Init(timer, Kind::Check)),
+        (Some(7), Op::StartWatcher(idle)),
+        (Some(1), Op::Again(timer)),
+        (None, Op::SetRepeat(timer, 0)),
+        (Some(2), Op::DueIn(timer)),
+        (None, Op::Ref(timer)),
+        (None, Op::Unref(timer)),
+        (None, Op::HasRef(timer)),
+        (None, Op::IsActive(timer)),
+        (None, Op::StopLoop),
+        (Some(3), Op::UpdateTime),
+        (None, Op::Now),
+        (Some(4), Op::IsAlive),
+        (None, Op::Timeout),
+        (Some(5), Op::Stop(idle)),
+    ];
+    let lines = script.on_lines(idle);
+    assert_eq!(rt; lines.len(), on_idle.len());
+    for (line, want) in lines.iter().zip(on_idle.iter()) {
+        assert_eq!(rt; (line.call, line.op), *want);
+    }
+    Ok(())
+}
+
+/// Texts, and the first bad line of each.
+const BAD: [(&[u8], usize); 55] = [
+    (b"\x1f", 1),
+    (b"#\x7f", 1),
+    (b"var a\r\n", 1),
+    (b"\n\n \n", 3),
+    (b"var a\nvars b\nbegin\n", 2),
+    (b"begin", 1),
+    (b"workers 4", 1),
+    (b"var a\nafter a stop a", 2),
+    (b"var", 1),
+    (b"var a b", 1),
+    (b"var  a", 1),
+    (b"var a ", 1),
+    (b" var a", 1),
+    (b"var A", 1),
+    (b"var 1", 1),
+    (b"var a-b", 1),
+    (b"var a\nvar b\nvar a", 3),
+    (b"var a\nmain start b 1 0", 2),
+    (b"main stop a\nvar a", 1),
+    (b"on a stop a\nvar a", 1),
+    (b"var a\nmain init a signal", 2),
+    (b"var a\nmain init a", 2),
+    (b"var a\nmain start a 1", 2),
+    (b"var a\nmain start a 1 0 0", 2),
+    (b"var a\nmain start a 01 0", 2),
+    (b"var a\nmain start a +1 0", 2),
+    (b"var a\nmain start a 1 18446744073709551616", 2),
+    (b"var a\nmain start a  0", 2),
+    (b"var a\nmain stop a ", 2),
+    (b"main run", 1),
+    (b"main run twice", 1),
+    (b"var a\non a run default", 2),
+    (b"var a\non a @0 stop a", 2),
+    (b"var a\non a @01 stop a", 2),
+    (b"var a\non a @4294967296 stop a", 2),
+    (b"var a\non a @ stop a", 2),
+    (b"var a\non a @1 @1 stop a", 2),
+    (b"var a\non a @1", 2),
+    (b"var a\nmain start a ", 2),
+    (b"var a\nmain start", 2),
+    (b"var a\non a start a 1", 2),
+    (b"var a\nmain repeat a", 2),
+    (b"var a\nmain repeat a 1 2", 2),
+    (b"var a\nmain repeat a 01", 2),
+    (b"var a\nmain again", 2),
+    (b"var a\nmain again a b", 2),
+    (b"var a\nmain due b", 2),
+    (b"var a\nmain ref", 2),
+    (b"var a\nmain hasref a 1", 2),
+    (b"var a\nmain stoploop a", 2),
+    (b"var a\nmain now 1", 2),
+    (b"var a\non a timeout ", 2),
+    (b"var a\non a Alive", 2),
+    (b"var a\nmain noww", 2),
+    (b"var a\non a", 2),
+];
+
+#[test]
+fn refuses_with_the_first_bad_line(rt: HostRuntime) {
+    for (case, (text, line)) in BAD.iter().enumerate() {
         let answer = Script::parse(rt.alloc(), *text).err();
         assert_eq!(rt; answer, Some(Fault::Script { line: *line }), "case {case}");
     }
@@ -159,13 +251,28 @@ fn writes_ops(rt: HostRuntime) -> Result<(), Fail> {
     for op in [
         Op::Init(Var(1), Kind::Timer),
         Op::Start(Var(0), 0, u64::MAX),
+        Op::StartWatcher(Var(1)),
         Op::Stop(Var(1)),
+        Op::Again(Var(0)),
+        Op::SetRepeat(Var(0), 10),
+        Op::DueIn(Var(0)),
+        Op::Ref(Var(0)),
+        Op::Unref(Var(0)),
+        Op::HasRef(Var(1)),
+        Op::IsActive(Var(1)),
+        Op::StopLoop,
+        Op::UpdateTime,
+        Op::Now,
+        Op::IsAlive,
+        Op::Timeout,
     ] {
         op.push_text(&mut text, script.names())?;
         text.push(b';')?;
     }
     script.names().push_name(&mut text, Var(0))?;
-    let want = b"init b timer;start a 0 18446744073709551615;stop b;a";
+    let want =
+        b"init b timer;start a 0 18446744073709551615;start b;stop b;again a;repeat a 10;due a;ref a;unref a;\
+        hasref b;active b;stoploop;updatetime;now;alive;timeout;a";
     assert_eq!(rt; text.as_slice(), want.as_slice());
     Ok(())
 }
@@ -181,6 +288,7 @@ fn reads_the_parts_of_lines(rt: HostRuntime) {
     assert_eq!(rt; fields.next(), Some(b"1".as_slice()));
     assert_eq!(rt; fields.next(), None);
     assert!(rt; is_line(b" ~") && !is_line(b"\n"));
+    assert!(rt; is_skipped(b"") && is_skipped(b"# a") && !is_skipped(b" #") && !is_skipped(b"a"));
     assert!(rt; is_name(b"a_9z") && !is_name(b"_a"));
     assert_eq!(rt; number(b"0"), Some(0));
     assert_eq!(rt; number(b"00"), None);

@@ -26,6 +26,14 @@ impl Names {
             None => Ok(()),
         }
     }
+
+    /// Writes a word with the space behind it, and a name.
+    fn push_named(&self, text: &mut Vec<u8>, word: &[u8], name: Var) -> Result<(), AllocError>
+        ensures { OnOk result (text.new.items ≡ text.old.items ++ word.now ++ name_text self.now name) }
+    {
+        text.extend_from_slice(word)?;
+        self.push_name(text, name)
+    }
 }
 
 impl Op {
@@ -35,23 +43,35 @@ impl Op {
     {
         match self {
             Op::Init(name, kind) => {
-                text.extend_from_slice(b"init ")?;
-                names.push_name(text, name)?;
+                names.push_named(text, b"init ", name)?;
                 text.extend_from_slice(b" ")?;
                 text.extend_from_slice(kind.word().as_bytes())
             }
             Op::Start(name, timeout, repeat) => {
-                text.extend_from_slice(b"start ")?;
-                names.push_name(text, name)?;
+                names.push_named(text, b"start ", name)?;
                 text.extend_from_slice(b" ")?;
                 push_number(text, timeout)?;
                 text.extend_from_slice(b" ")?;
                 push_number(text, repeat)
             }
-            Op::Stop(name) => {
-                text.extend_from_slice(b"stop ")?;
-                names.push_name(text, name)
+            Op::SetRepeat(name, repeat) => {
+                names.push_named(text, b"repeat ", name)?;
+                text.extend_from_slice(b" ")?;
+                push_number(text, repeat)
             }
+            Op::StartWatcher(name) => names.push_named(text, b"start ", name),
+            Op::Stop(name) => names.push_named(text, b"stop ", name),
+            Op::Again(name) => names.push_named(text, b"again ", name),
+            Op::DueIn(name) => names.push_named(text, b"due ", name),
+            Op::Ref(name) => names.push_named(text, b"ref ", name),
+            Op::Unref(name) => names.push_named(text, b"unref ", name),
+            Op::HasRef(name) => names.push_named(text, b"hasref ", name),
+            Op::IsActive(name) => names.push_named(text, b"active ", name),
+            Op::StopLoop => text.extend_from_slice(b"stoploop"),
+            Op::UpdateTime => text.extend_from_slice(b"updatetime"),
+            Op::Now => text.extend_from_slice(b"now"),
+            Op::IsAlive => text.extend_from_slice(b"alive"),
+            Op::Timeout => text.extend_from_slice(b"timeout"),
         }
     }
 }

@@ -8,7 +8,9 @@ use Rattle.uv_ids.specs.declared.event.Event.{Event}
 use Rattle.uv_ids.specs.declared.seen.Seen.{Seen}
 use Rattle.uv_script.specs.Program.{Program}
 use Rattle.uv_model.specs.After.{seen_by, lines}
-use Rattle.uv_model.proofs.Runs.{length-seen_by}
+use Rattle.uv_model.proofs.Runs.{length-seen_by, lines-history}
+use Rattle.uv_model.proofs.Standing.{documented}
+use Rattle.uv_session.specs.Shown.{Shown, IsDocumented}
 
 -- the lines that are there
 abbrev pub those : List (Option Seen) → List Seen
@@ -25,5 +27,10 @@ those_more xs i x h l = rw (take_more xs i x l, get_or_from_slice_get xs i x x h
 -- all of them
 pub those_all : (p : Program) (es : List Event) (i : ℕ) → length es ≤ i → those (take i (seen_by p es)) ≡ lines p es
 those_all p es i l = let m : length (seen_by p es) ≤ i = rw length-seen_by l in rw (take_all i (seen_by p es) m) refl
+
+-- the lines of the standing steps are documented
+pub is_documented : (s : Shown) (trace : List Seen) → trace ≡ lines s.program s.standing → IsDocumented s trace
+unfolding IsDocumented
+is_documented s trace e = (e ∙ lines-history s.program s.standing, documented s.program s.standing)
 
 pub ruleset traces = (those_more, length-seen_by)

@@ -1,12 +1,14 @@
 -- A session: the steps that stand, and those that were taken back. The state shown is the one after the standing steps.
-use Rattle.std.specs.Prelude.{◌≡◌, ℕ, ◌-◌, ◌<◌, ◌≤◌, List, [], ◌++◌, length, take, drop, Result, Ok, Err}
+use Rattle.std.specs.Prelude.{◌≡◌, ℕ, ◌-◌, ◌<◌, ◌≤◌, List, [], ◌++◌, length, map, take, drop, Result, Ok, Err}
 use Rattle.uv_ids.specs.declared.event.Event.{Event}
 use Rattle.uv_ids.specs.declared.fault.Fault.{Fault}
 use Rattle.uv_ids.specs.declared.fault.Fault.TheVariants.{Memory, Refused}
 use Rattle.uv_ids.specs.declared.fault.Why.TheVariants.{Range}
 use Rattle.uv_script.specs.Program.{Program}
 use Rattle.uv_model.specs.declared.machine.Outcome.{Outcome}
-use Rattle.uv_model.specs.After.{Answers}
+use Rattle.uv_ids.specs.declared.seen.Seen.{Seen}
+use Rattle.uv_model.specs.After.{Answers, Line, history}
+use Rattle.uv_model.specs.Documented.{Documented}
 
 pub record Shown : Type 0 where
   pub program : Program
@@ -33,9 +35,13 @@ pub record TakesEvent (s : Shown) (e : Event) (r : Result Outcome Fault) (t : Sh
   pub answer : Answers s.limit s.program s.standing e r t.standing
   pub taken_back : t.taken_back ≡ taken_after r s.taken_back
 
--- what may be answered to `back n`, and the session after it; after want of memory some of the steps may be taken back
+-- what may be answered to `back n`, and the session after it; after want of memory some of the steps, and not all, may be taken back
 abbrev pub MovesBack : Shown → ℕ → Result (Unit {0}) Fault → Shown → Type 0
 MovesBack s n (Ok done) t = (n ≤ length s.standing) × (t ≡ moved_back n s)
-MovesBack s n (Err Memory) t = (k : ℕ) × ((k ≤ n) × (n ≤ length s.standing) × (t ≡ moved_back k s))
+MovesBack s n (Err Memory) t = (k : ℕ) × ((k < n) × (n ≤ length s.standing) × (t ≡ moved_back k s))
 MovesBack s n (Err (Refused Range)) t = (length s.standing < n) × (t ≡ s)
 MovesBack s n (Err _) t = ⊥
+
+-- these are all lines of the standing steps; with the states before and after each, they are in the documented order
+unfoldable pub IsDocumented : Shown → List Seen → Type 0
+IsDocumented s trace = (trace ≡ map (λ (l : Line). l.seen) (history s.program s.standing)) × Documented s.program (history s.program s.standing)

@@ -2,15 +2,12 @@
 ghost use Rattle.std.specs.Prelude.{◌≡◌, ◌≤◌, ◌<◌, ◌-◌, [], IfOk, IfErr, OnOk, length, ◌++◌, min, option_to_list};
 ghost use Rattle.uv_ids.specs.declared.fault.Fault.TheVariants.{Memory};
 ghost use Rattle.uv_model.specs.After.{STEPS, lines};
-ghost use Rattle.uv_session.specs.Shown.{TakesEvent, MovesBack, moved_back};
+ghost use Rattle.uv_session.specs.Shown.{TakesEvent, MovesBack, IsDocumented, moved_back};
 
 use std::alloc::{AllocError, Global};
 use std::marker::Model;
 use uv_ids::{Event, Fault, Seen, Why};
-use uv_model::{Machine, Outcome};
-
-/// The most steps that a session has (own).
-const STEPS: usize = 16_777_216;
+use uv_model::{Machine, Outcome, STEPS};
 
 /// A machine and the list of its steps, of which the first ones stand and the others were taken back.
 #[derive(Drop)]
@@ -101,10 +98,11 @@ impl<M: Machine> Session<M> {
         Ok(())
     }
 
-    /// The lines of the standing steps.
+    /// The lines of the standing steps, which are in the documented order of phases.
     #[tactic(auto, using(crate::proofs::Traces::traces))]
     pub fn trace(&self) -> Result<Vec<Seen>, Fault>
         ensures lines { IfOk result (λ trace. trace.items ≡ lines self.now.program self.now.standing) }
+        ensures documented { IfOk result (λ trace. IsDocumented self.now trace.items) }
         ensures err { IfErr result (λ fault. fault ≡ Memory) }
     {
         let mut trace = Vec::new(self.alloc);

@@ -1,5 +1,4 @@
 //! A session over the plain loop: each call once, and what is taken back.
-ghost use Rattle.std.specs.Prelude.{◌≡◌, [], IfOk};
 
 use crate::session::Session;
 use std::alloc::Global;
@@ -8,38 +7,65 @@ use uv_ids::{Answer, Event, Fault, Id, Seen, Site, Why};
 use uv_model::{Machine, PlainLoop};
 use uv_script::Script;
 
-fn machine(alloc: Global) -> Result<PlainLoop, Fault>
-    ensures { IfOk result (λ machine. machine.standing ≡ []) }
-{
+/// A session of one timer, of two steps at the most.
+fn opened(alloc: Global) -> Result<Session<PlainLoop>, Fault> {
     let script = Script::parse(alloc, b"var t\nmain init t timer\n")?;
-    PlainLoop::begin(alloc, script)
+    let machine = PlainLoop::begin(alloc, script)?;
+    Ok(Session::new(alloc, machine, 2))
 }
+
+/// Does one step, and gives the line that it appended.
+fn step(session: &mut Session<PlainLoop>, event: Event) -> Result<Option<Seen>, Fault> {
+    Ok(session.do_event(event)?.seen)
+}
+
+/// Takes so many steps back.
+fn go_back(session: &mut Session<PlainLoop>, n: usize) -> Result<(), Fault> {
+    session.back(n)
+}
+
+/// Whether these steps stand, and those were taken back.
+fn has_steps(session: &Session<PlainLoop>, standing: &[Event], taken_back: &[Event]) -> bool {
+    session.steps() == standing
+        && session.taken_back() == taken_back
+        && session.machine().len() == standing.len()
+}
+
+/// Whether these are the lines of the standing steps.
+fn has_lines(session: &Session<PlainLoop>, lines: &[Seen]) -> Result<bool, Fault> {
+    Ok(session.trace()?.as_slice() == lines)
+}
+
+const MADE: Seen = Seen::Op(
+    Site::Main(0),
+    Answer::Id(Id {
+        slot: 0,
+        generation: 0,
+    }),
+);
 
 #[test]
 fn a_refused_event_keeps_what_was_taken_back(rt: HostRuntime) -> Result<(), Fail> {
-    let alloc = rt.alloc();
-    let mut session = Session::new(alloc, machine(alloc)?, 2);
-    let made = Seen::Op(
-        Site::Main(0),
-        Answer::Id(Id {
-            slot: 0,
-            generation: 0,
-        }),
-    );
-    assert_eq!(rt; session.do_event(Event::Loop)?.seen, Some(made));
-    assert_eq!(rt; session.do_event(Event::Tick(5))?.seen, Some(Seen::Tick(5)));
-    assert_eq!(rt; session.do_event(Event::Tick(5)), Err(Fault::StepsFull));
-    session.back(1)?;
-    assert_eq!(rt;
-        session.do_event(Event::Loop),
-        Err(Fault::Refused(Why::Ended))
-    );
-    assert_eq!(rt; session.steps(), [Event::Loop].as_slice());
-    assert_eq!(rt; session.taken_back(), [Event::Tick(5)].as_slice());
-    assert_eq!(rt; session.machine().len(), 1);
-    assert_eq!(rt; session.trace()?.as_slice(), [made].as_slice());
-    assert_eq!(rt; session.back(2), Err(Fault::Refused(Why::Range)));
-    let _ = session.do_event(Event::Tick(1))?;
-    assert!(rt; session.taken_back().is_empty());
+    let mut session = opened(rt.alloc())?;
+    assert_eq!(rt; step(&mut session, Event::Loop), Ok(Some(MADE)));
+    assert_eq!(rt; step(&mut session, Event::Tick(5)), Ok(Some(Seen::Tick(5))));
+    assert_eq!(rt; go_back(&mut session, 1), Ok(()));
+    let ended = Err(Fault::Refused(Why::Ended));
+    assert_eq!(rt; step(&mut session, Event::Loop), ended);
+    assert!(rt; has_steps(&session, &[Event::Loop], &[Event::Tick(5)]));
+    assert!(rt; has_lines(&session, &[MADE])?);
+    assert_eq!(rt; step(&mut session, Event::Tick(1)), Ok(Some(Seen::Tick(1))));
+    assert!(rt; has_steps(&session, &[Event::Loop, Event::Tick(1)], &[]));
+    Ok(())
+}
+
+#[test]
+fn a_session_has_its_limits(rt: HostRuntime) -> Result<(), Fail> {
+    let mut session = opened(rt.alloc())?;
+    assert_eq!(rt; step(&mut session, Event::Loop), Ok(Some(MADE)));
+    assert_eq!(rt; step(&mut session, Event::Tick(5)), Ok(Some(Seen::Tick(5))));
+    assert_eq!(rt; step(&mut session, Event::Tick(5)), Err(Fault::StepsFull));
+    assert_eq!(rt; go_back(&mut session, 3), Err(Fault::Refused(Why::Range)));
+    assert!(rt; has_steps(&session, &[Event::Loop, Event::Tick(5)], &[]));
     Ok(())
 }

@@ -2,14 +2,15 @@
 use Rattle.std.specs.Prelude.{◌≡◌, ℕ, ◌≤◌, List, [], ◌∷◌, codes}
 use Rattle.uv_script.specs.Lines.{fields_of, IsLine, IsSkipped}
 use Rattle.uv_script.specs.Words.{IsNumber}
+use Rattle.uv_model.specs.After.{STEPS}
 use Rattle.uv_text.specs.declared.command.Command.{Command}
 use Rattle.uv_text.specs.declared.command.Command.TheVariants.{Loop, Tick, Back, Trace, Quit}
 use Rattle.uv_text.specs.declared.command.Asked.{Asked}
 use Rattle.uv_text.specs.declared.command.Asked.TheVariants.{Nothing, Do, Bad}
 
--- the most steps that one command names (own)
+-- the most steps that one command names (own): as many as there may be
 abbrev pub MOST : ℕ
-MOST = 16777216
+MOST = STEPS
 
 -- the fields of a line, and the command that they are
 pub data IsCommand (fields : List (List ℕ)) : Command → Type 0 where

@@ -1,8 +1,8 @@
 -- How a line is read, as tests that the code computes; beside each clause that cites one stands the rule itself.
-use Rattle.std.specs.Prelude.{ℕ, List, [], ◌∷◌, Bool, true, ◌&&◌, ◌==◌, nat_le, Option, Some, None, if◌then◌else◌, codes}
+use Rattle.std.specs.Prelude.{ℕ, List, [], ◌∷◌, ◌&&◌, nat_le, Option, Some, None, if◌then◌else◌, codes}
 use Rattle.std.specs.Str.{bytes_eq}
 use Rattle.uv_script.specs.Lines.{fields_of}
-use Rattle.uv_script.specs.Checks.{is_line, number_of}
+use Rattle.uv_script.specs.Checks.{is_line, is_skipped, number_of}
 use Rattle.uv_text.specs.declared.command.Command.{Command}
 use Rattle.uv_text.specs.declared.command.Command.TheVariants.{Loop, Tick, Back, Trace, Quit}
 use Rattle.uv_text.specs.declared.command.Asked.{Asked}
@@ -40,10 +40,6 @@ command_of (word ∷ argument ∷ more ∷ rest) = None
 abbrev pub asked_for : Option Command → Asked
 asked_for (Some command) = Do command
 asked_for None = Bad
-
-abbrev pub is_skipped : List ℕ → Bool
-is_skipped [] = true
-is_skipped (b ∷ bs) = b == 35
 
 -- a line
 abbrev pub asked_of : List ℕ → Asked

@@ -1,49 +1,43 @@
 -- The text of a trace line.
-use Rattle.std.specs.Prelude.{ℕ, List, [], ◌++◌, true, false, Option, Some, None, slice_get, codes, decimal}
+use Rattle.std.specs.Prelude.{ℕ, List, [], ◌++◌, true, false, Option, Some, None, codes, decimal}
 use Rattle.uv_ids.specs.Words.{mode_word, phase_word, code_word}
 use Rattle.uv_ids.specs.declared.id.Id.{Id}
 use Rattle.uv_ids.specs.declared.id.Var.{Var}
 use Rattle.uv_ids.specs.declared.code.Answer.{Answer}
 use Rattle.uv_ids.specs.declared.code.Answer.TheVariants as answer
 use Rattle.uv_ids.specs.declared.seen.Site.{Site}
-use Rattle.uv_ids.specs.declared.seen.Site.TheVariants as site
 use Rattle.uv_ids.specs.declared.seen.Seen.{Seen}
 use Rattle.uv_ids.specs.declared.seen.Seen.TheVariants as seen
-use Rattle.uv_script.specs.declared.op.MainOp.{MainOp}
-use Rattle.uv_script.specs.declared.op.MainOp.TheVariants as main
-use Rattle.uv_script.specs.declared.op.CallbackLine.{CallbackLine}
-use Rattle.uv_script.specs.Program.{Program, on_lines}
+use Rattle.uv_script.specs.declared.op.Op.{Op}
+use Rattle.uv_script.specs.Program.{Program, op_at}
 use Rattle.uv_script.specs.Text.{op_text, name_text}
 
 -- an id: `SLOT.GENERATION`
 abbrev pub id_text : Id → List ℕ
 id_text id = decimal id.slot ++ codes "." ++ decimal id.generation
 
--- what an op answered: a code or an id
-abbrev pub answer_text : Answer → List ℕ
-answer_text (answer.Code code) = code_word code
-answer_text (answer.Id id) = id_text id
-
 -- a poll timeout in ms
 abbrev pub timeout_text : Option ℕ → List ℕ
 timeout_text (Some ms) = decimal ms
 timeout_text None = codes "infinite"
 
--- the op at a line of the main program, as the script has it
-abbrev pub main_text : Program → Option MainOp → List ℕ
-main_text p (Some (main.Op op)) = op_text p.names op
-main_text p (Some (main.Run mode)) = []
-main_text p None = []
+-- what an op answered
+abbrev pub answer_text : Answer → List ℕ
+answer_text (answer.Code code) = code_word code
+answer_text (answer.Id id) = id_text id
+answer_text (answer.Number number) = decimal number
+answer_text (answer.Flag true) = codes "1"
+answer_text (answer.Flag false) = codes "0"
+answer_text (answer.Timeout timeout) = timeout_text timeout
 
--- the op at a line of a callback
-abbrev pub callback_text : Program → Option CallbackLine → List ℕ
-callback_text p (Some line) = op_text p.names line.op
-callback_text p None = []
+-- an op, as the script has it
+abbrev pub op_or_none : Program → Option Op → List ℕ
+op_or_none p (Some op) = op_text p.names op
+op_or_none p None = []
 
 -- the op at a place of the script
 abbrev pub site_text : Program → Site → List ℕ
-site_text p (site.Main line) = main_text p (slice_get p.main line)
-site_text p (site.On v line) = callback_text p (slice_get (on_lines p v) line)
+site_text p site = op_or_none p (op_at p site)
 
 -- `call NAME ID`
 abbrev pub call_text : Program → Var → Id → List ℕ

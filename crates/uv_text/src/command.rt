@@ -1,9 +1,11 @@
 //! The commands of a conversation.
 ghost use Rattle.std.specs.Prelude.{◌≡◌, ℕ, List};
+ghost use Rattle.uv_text.specs.declared.command.Asked.{Asked};
 ghost use Rattle.uv_text.specs.Commands.{Asks, MOST};
-ghost use Rattle.uv_text.specs.Reading.{asked_of, is_skipped, command_of, command_alone, command_with, loops, goes_back};
+ghost use Rattle.uv_text.specs.Reading.{asked_of, command_of, command_alone, command_with, loops, goes_back};
 
-use uv_script::{Fields, is_line, number};
+use uv_model::STEPS;
+use uv_script::{Fields, is_line, is_skipped, number};
 
 /// What a line of a conversation asks for.
 #[derive(Clone, Copy, Debug, PartialEq, Eq)]
@@ -30,8 +32,8 @@ pub enum Asked {
     Bad,
 }
 
-/// The most steps that one command names (own).
-const MOST: u64 = 16_777_216;
+/// The most steps that one command names (own): as many as there may be.
+const MOST: u64 = STEPS as u64;
 
 /// Reads a line, without its line feed.
 #[tactic(auto, using(crate::proofs::Commands::reading))]
@@ -54,16 +56,6 @@ fn read(line: &[u8]) -> Asked
     match read_fields(Fields::of(line)) {
         Some(command) => Asked::Do(command),
         None => Asked::Bad,
-    }
-}
-
-/// Whether a line is empty or a comment.
-fn is_skipped(line: &[u8]) -> bool
-    ensures { result ≡ is_skipped line.now }
-{
-    match line {
-        [] => true,
-        [first, ..] => *first == b'#',
     }
 }
 
@@ -129,8 +121,9 @@ fn goes_back(n: u64) -> Option<Command>
     }
 }
 
-/// Every line asks for something.
+/// Every line asks for something, and for one thing alone.
 #[tactic(auto, using(crate::proofs::Commands::reading))]
 pub fn every_line_asks()
-    ensures { (line : List ℕ) → Asks line (asked_of line) }
+    ensures some { (line : List ℕ) → Asks line (asked_of line) }
+    ensures one { (line : List ℕ) (a b : Asked) → Asks line a → Asks line b → a ≡ b }
 {}

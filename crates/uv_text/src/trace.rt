@@ -5,7 +5,7 @@ ghost use Rattle.uv_text.specs.Trace.{id_text, call_text, timeout_text, answer_t
 
 use std::alloc::{AllocError, Global};
 use uv_ids::{Answer, Fault, Id, Seen, Site, Var};
-use uv_script::{MainOp, Script, push_number};
+use uv_script::{Script, push_number};
 
 /// A trace line with its line feed.
 pub fn seen_text(alloc: Global, script: &Script, seen: Seen) -> Result<Vec<u8>, Fault>
@@ -67,15 +67,9 @@ fn push_call(text: &mut Vec<u8>, script: &Script, name: Var, id: Id) -> Result<(
 fn push_site(text: &mut Vec<u8>, script: &Script, site: Site) -> Result<(), AllocError>
     ensures { OnOk result (text.new.items ≡ text.old.items ++ site_text script.now site) }
 {
-    match site {
-        Site::Main(line) => match script.main_op(line) {
-            Some(MainOp::Op(op)) => op.push_text(text, script.names()),
-            Some(MainOp::Run(_)) | None => Ok(()),
-        },
-        Site::On(name, line) => match script.on_lines(name).get(line).copied() {
-            Some(line) => line.op.push_text(text, script.names()),
-            None => Ok(()),
-        },
+    match script.op_at(site) {
+        Some(op) => op.push_text(text, script.names()),
+        None => Ok(()),
     }
 }
 
@@ -85,6 +79,10 @@ fn push_answer(text: &mut Vec<u8>, answer: Answer) -> Result<(), AllocError>
     match answer {
         Answer::Code(code) => text.extend_from_slice(code.word().as_bytes()),
         Answer::Id(id) => push_id(text, id),
+        Answer::Number(number) => push_number(text, number),
+        Answer::Flag(true) => text.extend_from_slice(b"1"),
+        Answer::Flag(false) => text.extend_from_slice(b"0"),
+        Answer::Timeout(timeout) => push_timeout(text, timeout),
     }
 }
 

@@ -1,22 +1,19 @@
 //! The phases of a run, and one step.
 ghost use Rattle.std.specs.Prelude.{◌≡◌, ◌<◌, ◌+◌, ◌^◌, IfOk, OnErr, length, slice_get, drop, None, Some, OnOk};
-ghost use Rattle.uv_script.specs.Program.{on_lines};
+ghost use Rattle.uv_script.specs.Program.{on_lines, is_for};
 ghost use Rattle.uv_model.specs.State.{named};
 ghost use Rattle.uv_model.specs.Bounds.{IsSmall};
-ghost use Rattle.uv_model.specs.Timeout.{is_alive, poll_timeout, deadline_of, has_passed};
-ghost use Rattle.uv_model.specs.Next.{Moves, is_for, next_line, body_at, body_from, begins, new_iteration, ends, enter, begin_poll, poll, begin_timers, timers_stage, leave_timers, call, fire, made_ready, collect, timers, stage_step, body_step, main_step, tick, next, is_default, LATEST};
+ghost use Rattle.uv_model.specs.Next.{Moves, next_line, body_at, body_from, begins, new_iteration, ends, goes, enter, begin_poll, poll, begin_timers, timers_stage, leave_timers, call, fire, made_ready, collect, timers, stage_step, body_step, main_step, tick, next, LATEST};
 ghost use Rattle.uv_model.specs.Steps.{Steps, Falls};
 
 use crate::handle::Named;
 use crate::machine::Outcome;
 use crate::place::{Body, Place, Run, Stage, Timing};
 use crate::state::LoopState;
+use crate::watchers::WatcherKind;
 use std::alloc::AllocError;
 use uv_ids::{Event, Fault, Id, Mode, Phase, Seen, Site, Var, Why};
 use uv_script::{CallbackLine, MainOp, Script};
-
-/// The longest poll in ms (own).
-const LONGEST_POLL: u64 = 2_147_483_647;
 
 /// The latest time that the clock may show, in ms.
 const LATEST: u64 = 1 << 62;
@@ -60,28 +57,8 @@ fn timers_stage(first: bool, timing: Timing) -> Stage
 }
 
 impl LoopState {
-    /// Whether the loop is alive (uv_loop_alive).
-    fn is_alive(&self) -> bool
-        ensures { result ≡ is_alive self.now }
-    {
-        !self.timers.is_empty()
-    }
-
-    /// How long the poll may wait, in ms; none is infinite (uv_backend_timeout).
-    fn poll_timeout(&self, mode: Mode) -> Option<u64>
-        ensures { result ≡ poll_timeout self.now mode }
-    {
-        match mode {
-            Mode::Nowait => Some(0),
-            Mode::Default | Mode::Once => match self.timers.first_key_value() {
-                None => Some(0),
-                Some((due, _)) => Some(due.at.saturating_sub(self.time).min(LONGEST_POLL)),
-            },
-        }
-    }
-
     /// Goes to a section of the run under way.
-    fn begin(&mut self, run: Run, stage: Stage, phase: Phase) -> Outcome
+    pub(super) fn begin(&mut self, run: Run, stage: Stage, phase: Phase) -> Outcome
         ensures { begins self.old run stage phase ≡ Moves self.new result.seen }
     {
         self.place = Place::Running(Run {
@@ -92,26 +69,38 @@ impl LoopState {
         seen(Seen::Section(phase))
     }
 
+    /// Whether the loop goes on.
+    fn goes(&self) -> bool
+        ensures { result ≡ goes self.now }
+    {
+        self.is_alive() && !self.stop_flag
+    }
+
+    /// Begins an iteration, and keeps whether an idle handle is active.
     fn new_iteration(&mut self, run: Run) -> Outcome
         ensures { new_iteration self.old run ≡ Moves self.new result.seen }
     {
+        self.idled = self.idle.any_listed();
         self.begin(run, Stage::Pending, Phase::Pending)
     }
 
+    /// Ends the run, and clears the stop flag.
     fn end(&mut self, run: Run) -> Outcome
         requires { run.line < 2 ^ 63 }
         ensures { ends self.old run ≡ Moves self.new result.seen }
     {
         let alive = self.is_alive();
         self.place = Place::Main(run.line + 1);
+        self.stop_flag = false;
         seen(Seen::End(alive))
     }
 
+    /// From the entry of a run: a default run goes to the timers that are due.
     fn enter(&mut self, run: Run) -> Outcome
         requires { run.line < 2 ^ 63 }
         ensures { enter self.old run ≡ Moves self.new result.seen }
     {
-        if !self.is_alive() {
+        if !self.goes() {
             self.end(run)
         } else if matches!(run.mode, Mode::Default) {
             self.begin(run, Stage::First(Timing::Collecting), Phase::Timers)
@@ -120,12 +109,13 @@ impl LoopState {
         }
     }
 
-    fn begin_poll(&mut self, run: Run) -> Outcome
+    /// Begins the poll.
+    pub(super) fn begin_poll(&mut self, run: Run) -> Outcome
         requires { self.old.time < 2 ^ 63 }
         ensures { begin_poll self.old run ≡ Moves self.new result.seen }
     {
         let timeout = self.poll_timeout(run.mode);
-        let deadline = timeout.map(|t| self.time + t);
+        let deadline = self.deadline_of(timeout);
         self.place = Place::Running(Run {
             stage: Stage::Poll(deadline),
             body: None,
@@ -134,30 +124,33 @@ impl LoopState {
         seen(Seen::Poll(timeout))
     }
 
+    /// Leaves the poll once its deadline has passed.
     fn poll(&mut self, run: Run, deadline: Option<u64>) -> Result<Outcome, Why>
         ensures { Falls (poll self.old run deadline) self.old result self.new }
     {
         match deadline {
             Some(deadline) if deadline <= self.clock => {
-                self.time = self.clock;
+                self.refresh();
                 Ok(self.begin(run, Stage::Done, Phase::Done))
             }
             _ => Err(Why::Blocked),
         }
     }
 
+    /// Begins the timers of an iteration.
     fn begin_timers(&mut self, run: Run) -> Outcome
         ensures { begin_timers self.old run ≡ Moves self.new result.seen }
     {
-        self.time = self.clock;
+        self.refresh();
         self.begin(run, Stage::Timers(Timing::Collecting), Phase::Timers)
     }
 
+    /// From the timers to the next iteration, or to the end of the run.
     fn leave_timers(&mut self, run: Run, first: bool) -> Outcome
         requires { run.line < 2 ^ 63 }
         ensures { leave_timers self.old run first ≡ Moves self.new result.seen }
     {
-        if self.is_alive() && (first || matches!(run.mode, Mode::Default)) {
+        if self.goes() && (first || matches!(run.mode, Mode::Default)) {
             self.new_iteration(run)
         } else {
             self.end(run)
@@ -165,7 +158,7 @@ impl LoopState {
     }
 
     /// Begins the callback of a handle.
-    fn call(&mut self, script: &Script, run: Run, id: Id, name: Var) -> Outcome
+    pub(super) fn call(&mut self, script: &Script, run: Run, id: Id, name: Var) -> Outcome
         requires { (named self.old name).calls < 2 ^ 31 }
         ensures { call script.now self.old run id name ≡ Moves self.new result.seen }
     {
@@ -190,6 +183,7 @@ impl LoopState {
         self.fire_front(script, run, first)
     }
 
+    /// Calls the front of the ready list. A timer that repeats is started again first. Without memory nothing changes.
     #[tactic(auto, using(crate::proofs::Counts::small))]
     fn fire_front(&mut self, script: &Script, run: Run, first: bool) -> Result<Outcome, AllocError>
         requires small { IsSmall self.old }
@@ -240,6 +234,7 @@ impl LoopState {
         Ok(Outcome { seen: None })
     }
 
+    /// Goes on in a timers section.
     fn in_timers(
         &mut self,
         script: &Script,
@@ -267,13 +262,13 @@ impl LoopState {
         match run.stage {
             Stage::Entry => Ok(self.enter(run)),
             Stage::First(timing) => self.in_timers(script, run, true, timing),
-            Stage::Pending => Ok(self.begin(run, Stage::Idle, Phase::Idle)),
-            Stage::Idle => Ok(self.begin(run, Stage::Prepare, Phase::Prepare)),
-            Stage::Prepare => Ok(self.begin_poll(run)),
+            Stage::Pending => Ok(self.begin_walk(run, WatcherKind::Idle)),
+            Stage::Idle => self.in_walk(script, run, WatcherKind::Idle),
+            Stage::Prepare => self.in_walk(script, run, WatcherKind::Prepare),
             Stage::Poll(deadline) => self.poll(run, deadline).map_err(Fault::Refused),
             Stage::Done => Ok(self.begin(run, Stage::Async, Phase::Async)),
-            Stage::Async => Ok(self.begin(run, Stage::Check, Phase::Check)),
-            Stage::Check => Ok(self.begin(run, Stage::Closing, Phase::Closing)),
+            Stage::Async => Ok(self.begin_walk(run, WatcherKind::Check)),
+            Stage::Check => self.in_walk(script, run, WatcherKind::Check),
             Stage::Closing => Ok(self.begin_timers(run)),
             Stage::Timers(timing) => self.in_timers(script, run, false, timing),
         }
@@ -315,11 +310,12 @@ impl LoopState {
         }
     }
 
+    /// Begins a run (uv_run). In default the time is refreshed first.
     fn begin_run(&mut self, mode: Mode, line: usize) -> Outcome
         ensures { main_step self.old line (Some (MainOp.Run mode)) ≡ Moves self.new result.seen }
     {
         if matches!(mode, Mode::Default) {
-            self.time = self.clock;
+            self.refresh();
         }
         self.place = Place::Running(Run {
             mode,
@@ -330,6 +326,7 @@ impl LoopState {
         seen(Seen::Run(mode))
     }
 
+    /// The clock goes on by so many ms, up to its limit.
     fn tick(&mut self, ms: u64) -> Result<Outcome, Why>
         ensures { Falls (tick self.old ms) self.old result self.new }
     {

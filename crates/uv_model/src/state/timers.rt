@@ -1,20 +1,15 @@
 //! The timers: the ordered map of those that are active, and the ready list.
-ghost use Rattle.std.specs.Prelude.{◌≡◌, ◌<◌, ◌+◌, ◌^◌, OnOk, OnErr, if◌then◌else◌};
-ghost use Rattle.uv_model.specs.Timers.{without_id, without_timer, stopped, started, due_after};
+ghost use Rattle.std.specs.Prelude.{◌≡◌, ◌<◌, ◌+◌, ◌^◌, OnOk, OnErr, true, if◌then◌else◌};
+ghost use Rattle.uv_model.specs.Handles.{is_timer};
+ghost use Rattle.uv_model.specs.Timers.{without_timer, timer_stopped, started, restarted, due_after, due_in};
 ghost use Rattle.uv_model.specs.Bounds.{StartsBefore};
 
 use crate::handle::Handle;
+use crate::ids::remove_id;
 use crate::state::LoopState;
 use std::alloc::AllocError;
 use std::collections::BTreeMap;
 use uv_ids::{Due, Id};
-
-/// Takes an id off a list.
-fn remove_id(ids: &mut Vec<Id>, id: Id)
-    ensures { ids.new.items ≡ without_id ids.old.items id }
-{
-    ids.retain(|x| *x != id);
-}
 
 /// Takes a timer off the order, if it is active.
 fn remove_timer(timers: &mut BTreeMap<Due, Id>, handle: Handle)
@@ -26,7 +21,7 @@ fn remove_timer(timers: &mut BTreeMap<Due, Id>, handle: Handle)
 }
 
 impl LoopState {
-    /// When a timer is due that is started now.
+    /// When a timer is due that is started now (uv_timer_start).
     fn due_after(&self, timeout: u64) -> Due
         ensures { result ≡ due_after self.now timeout }
     {
@@ -36,9 +31,20 @@ impl LoopState {
         }
     }
 
+    /// In how many ms a timer is due (uv_timer_get_due_in).
+    pub(super) fn due_in(&self, handle: Handle) -> u64
+        ensures { result ≡ due_in self.now handle }
+    {
+        if handle.active {
+            handle.due.at.saturating_sub(self.time)
+        } else {
+            0
+        }
+    }
+
     /// Takes a timer off the order of timers and the ready list.
     pub(super) fn stop_timer(&mut self, id: Id, handle: Handle)
-        ensures { self.new ≡ stopped self.old id handle }
+        ensures { self.new ≡ timer_stopped self.old id handle }
     {
         remove_timer(&mut self.timers, handle);
         remove_id(&mut self.ready, id);
@@ -84,8 +90,9 @@ impl LoopState {
         repeat: u64,
     ) -> Result<(), AllocError>
         requires starts { self.old.next_start < 2 ^ 63 }
+        requires kind { is_timer handle.kind ≡ true }
         requires drawn { StartsBefore self.old.next_start handle }
-        ensures ok { OnOk result (self.new ≡ started (stopped self.old id handle) id handle timeout repeat) }
+        ensures ok { OnOk result (self.new ≡ started (timer_stopped self.old id handle) id handle timeout repeat) }
         ensures err { OnErr result (self.new ≡ self.old) }
     {
         let due = self.due_after(timeout);
@@ -104,5 +111,21 @@ impl LoopState {
             },
         );
         Ok(())
+    }
+
+    /// Stops a timer, and starts it again with its repeat as timeout if it repeats (uv_timer_again). Without memory nothing
+    /// changes.
+    pub(super) fn restart_timer(&mut self, id: Id, handle: Handle) -> Result<(), AllocError>
+        requires starts { self.old.next_start < 2 ^ 63 }
+        requires kind { is_timer handle.kind ≡ true }
+        requires drawn { StartsBefore self.old.next_start handle }
+        ensures ok { OnOk result (self.new ≡ restarted (timer_stopped self.old id handle) id handle) }
+        ensures err { OnErr result (self.new ≡ self.old) }
+    {
+        if handle.repeat == 0 {
+            self.stop_timer(id, handle);
+            return Ok(());
+        }
+        self.start_timer(id, handle, handle.repeat, handle.repeat)
     }
 }

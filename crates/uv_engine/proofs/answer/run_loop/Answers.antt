@@ -11,6 +11,7 @@ loop-preserved g c =
           let before = rw (turn_on c.args.n c.loop.counter c.loop.session c.tell.new.session c.loop-test.true on) at (c.loop.invariant.text tells) in
           gathered_by _ _ _ _ [] _ _ _ (gathered_more _ _ _ _ _ _ _ before c.in-Ok-true.ensures.text) (c.in-Ok.ensures.text tells);
       session = sym (turn_after c.args.n c.loop.counter c.loop.session c.tell.new.session c.loop-test.true on) ∙ c.loop.invariant.session;
+      none_failed = c.in-Ok.ensures.writer ∙ c.loop.invariant.none_failed;
     }
 
 pub returns-in-Ok-false-clause-text : goal.returns-in-Ok-false-clause-text

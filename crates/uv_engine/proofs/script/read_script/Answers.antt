@@ -1,3 +1,5 @@
+use Rattle.std.proofs.Common.{◌∙◌}
+use Rattle.uv_engine.proofs.Counts.{spends_more}
 use Rattle.uv_engine.proofs.Starting.{can_go_on, script_read, script_missing}
 use Rattle.uv_engine.proofs.script.read_script.Goals as goal
 
@@ -17,4 +19,6 @@ lines-preserved g c = record {
   text = λ reads.
       let taken = rw c.in-Ok-Some.field-0-is at (c.in-Ok-Some.ensures.line reads) in
       can_go_on _ _ _ _ _ _ _ (c.lines.invariant.text reads) taken (c.is_begin.ensures.other c.if-is_begin.false) c.in-Ok.ensures;
+  budget = λ reads. spends_more _ _ _ _ _ _ (c.lines.invariant.budget reads) (c.in-Ok-Some.ensures.budget reads);
+  none_failed = c.in-Ok-Some.ensures.reader ∙ c.lines.invariant.none_failed;
 }

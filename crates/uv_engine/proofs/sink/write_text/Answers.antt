@@ -1,4 +1,4 @@
-use Rattle.std.proofs.Common.{arith, ◌∙◌, subst, refl, ℕ}
+use Rattle.std.proofs.Common.{arith, ◌∙◌, subst, ℕ}
 use Rattle.std.proofs.lemmas.Grind.{common_steps}
 use Rattle.uv_engine.specs.Devices.{Counted}
 use Rattle.uv_engine.proofs.Text.{wrote_more, beginning}
@@ -17,9 +17,9 @@ returns-in-Err-clause-text g c = λ t. beginning _ _ _ c.loop-at.at (c.in-Err.en
 pub returns-in-Ok-eq0-clause-text : goal.returns-in-Ok-eq0-clause-text
 returns-in-Ok-eq0-clause-text g c = λ t. beginning _ _ _ _ (wrote_more _ _ _ c.args.text.now _ _ (c.loop-at.invariant.so_far t) (c.in-Ok-eq0.ensures.written t))
 
-pub returns-in-Err-clause-err : goal.returns-in-Err-clause-err
-returns-in-Err-clause-err g c = (refl, subst (λ (n : ℕ). Counted n (g.W.Sink.failures c.write.new.self)) c.loop-at.invariant.none_failed c.in-Err.ensures.count)
+pub returns-in-Err-clause-writer : goal.returns-in-Err-clause-writer
+returns-in-Err-clause-writer g c = subst (λ (n : ℕ). Counted n (g.W.Sink.failures c.write.new.self)) c.loop-at.invariant.none_failed c.in-Err.ensures.count
 
-pub returns-in-Ok-eq0-clause-err : goal.returns-in-Ok-eq0-clause-err
-returns-in-Ok-eq0-clause-err g c =
-    (refl, subst (λ (n : ℕ). Counted n (g.W.Sink.failures c.write.new.self)) c.loop-at.invariant.none_failed (c.in-Ok-eq0.ensures.count.0 (omega arith) (grind (arith, common_steps))))
+pub returns-in-Ok-eq0-clause-writer : goal.returns-in-Ok-eq0-clause-writer
+returns-in-Ok-eq0-clause-writer g c =
+    subst (λ (n : ℕ). Counted n (g.W.Sink.failures c.write.new.self)) c.loop-at.invariant.none_failed (c.in-Ok-eq0.ensures.count.0 (omega arith) (grind (arith, common_steps)))

@@ -1,5 +1,6 @@
-use Rattle.std.proofs.Common.{◌≡◌}
+use Rattle.std.proofs.Common.{◌≡◌, true}
 use Rattle.uv_engine.specs.Input.{left, size, turns_left, EndIsSeen}
+use Rattle.uv_engine.specs.Taking.{SpendsBudget}
 use Rattle.uv_engine.proofs.input.Input.next_line.Given as goal
 
 -- what is left stays
@@ -8,6 +9,9 @@ invariant-loop-text g l = record {
   left_is : g.R.Source.Tells → left l.self (g.R.Source.remaining l.reader) ≡ left l.initial.self (g.R.Source.remaining l.initial.reader);
   end : g.R.Source.Tells → EndIsSeen l.self (g.R.Source.remaining l.reader);
   size_is : size l.self ≡ size l.initial.self;
+  budget : g.R.Source.Tells → SpendsBudget l.initial.self (g.R.Source.remaining l.initial.reader) l.self (g.R.Source.remaining l.reader);
+  ended : l.initial.self.ended ≡ true → l.self.ended ≡ true;
+  none_failed : g.R.Source.failures l.reader ≡ g.R.Source.failures l.initial.reader;
 }
 
 abbrev pub decreases-loop-text : goal.decreases-loop-text

@@ -1,9 +1,12 @@
 use Rattle.std.proofs.Common.{◌≤◌, ◌-◌, length, arith, ◌∙◌}
 use Rattle.std.proofs.lemmas.Grind.{common_steps}
-use Rattle.uv_session.proofs.Traces.{those_all}
+use Rattle.uv_session.proofs.Traces.{those_all, is_documented}
 use Rattle.uv_session.proofs.session.Session.trace.Goals as goal
 
 pub returns-clause-lines : goal.returns-clause-lines
 returns-clause-lines g c =
     let ended : length c.args.self.now.standing ≤ c.loop-step.step - 1 = grind (arith, common_steps, c.self.view_is) in
     c.loop-step.invariant ∙ those_all c.args.self.now.program c.args.self.now.standing (c.loop-step.step - 1) ended
+
+pub returns-clause-documented : goal.returns-clause-documented
+returns-clause-documented g c = is_documented c.args.self.now c.loop-step.trace.items (returns-clause-lines g c)

@@ -1,0 +1,154 @@
+-- An input has one answer.
+use Rattle.std.proofs.Common.{◌≡◌, ℕ, ◌==◌, List, [], ◌∷◌, ◌++◌, false, refl, ap, sym, subst, ◌∙◌}
+use Rattle.std.specs.Prelude.{codes}
+use Rattle.std.proofs.lemmas.List.Elements.{All-head, All-tail, All-from_recursion}
+use Rattle.uv_script.specs.Lines.{lines_of}
+use Rattle.uv_script.specs.Grammar.{IsScript, IsBadLine}
+use Rattle.uv_script.specs.Program.{Program}
+use Rattle.uv_script.proofs.SomeReading.{some_reading}
+use Rattle.uv_script.proofs.OneReading.{one_script, no_bad_line, one_bad_line}
+use Rattle.uv_session.specs.Shown.{Shown}
+use Rattle.uv_text.specs.declared.command.Command.{Command}
+use Rattle.uv_text.specs.declared.command.Command.TheVariants.{Loop, Tick, Back, Trace, Quit}
+use Rattle.uv_text.specs.declared.command.Asked.{Asked}
+use Rattle.uv_text.specs.declared.command.Asked.TheVariants.{Nothing, Do, Bad}
+use Rattle.uv_text.proofs.Commands.{asks, asks_one}
+use Rattle.uv_engine.specs.declared.conversation.Ended.{Ended}
+use Rattle.uv_engine.specs.Input.{NoFeed}
+use Rattle.uv_engine.specs.Out.{Answers, asked_after, Talks, input_ends, quits, goes_on, Begins, here, here_at_end, later, NeverBegins, nothing, last_line, one_line, started, Ends, BadScript, talks, bad_line, no_begin, bad_input, HasAnswer, HasOneAnswer}
+use Rattle.uv_engine.proofs.Starting.{some_out}
+
+-- ---- the commands
+
+prints_one : (c : Command) (s : Shown) (a b : List ℕ) → Answers (Do c) s a → Answers (Do c) s b → a ≡ b
+prints_one (Loop n) s a b h k = h ∙ sym k
+prints_one (Tick ms) s a b h k = h ∙ sym k
+prints_one (Back n) s a b h k = h ∙ sym k
+prints_one Trace s a b h k = h ∙ sym k
+prints_one Quit s a b h k = h ∙ sym k
+
+answers_one : (asked : Asked) (s : Shown) (a b : List ℕ) → Answers asked s a → Answers asked s b → a ≡ b
+answers_one Nothing s a b h k = h ∙ sym k
+answers_one (Do c) s a b h k = prints_one c s a b h k
+answers_one Bad s a b h k = h ∙ sym k
+
+-- one text and one end
+record Same (a b : List ℕ) (x y : Ended) : Type 0 where
+  text : a ≡ b
+  end : x ≡ y
+
+talks_one : (lines : List (List ℕ)) (s : Shown) (a b : List ℕ) (x y : Ended) → Talks lines s a x → Talks lines s b y → Same a b x y
+talks_one [] s a b x y input_ends input_ends = record { text = refl; end = refl }
+talks_one (line ∷ lines) s a b x y (quits q) (quits r) = record { text = refl; end = refl }
+talks_one (line ∷ lines) s a b x y (quits q) (goes_on asked text rest r other h k) = absurd (other (asks_one line asked (Do Quit) r q))
+talks_one (line ∷ lines) s a b x y (goes_on asked text rest r other h k) (quits q) = absurd (other (asks_one line asked (Do Quit) r q))
+talks_one (line ∷ lines) s a b x y (goes_on asked text rest r other h k) (goes_on asked' text' rest' r' other' h' k') =
+    let same = asks_one line asked' asked r' r in
+    let more = talks_one lines (asked_after asked s) rest rest' x y k (subst (λ (z : Asked). Talks lines (asked_after z s) rest' y) same k') in
+    let first = answers_one asked s text text' h (subst (λ (z : Asked). Answers z s text') same h') in
+    record { text = ap (λ (t : List ℕ). t ++ rest) first ∙ ap (λ (t : List ℕ). text' ++ t) more.text; end = more.end }
+
+-- ---- where the commands begin
+
+feed_free : (line rest : List ℕ) (other : List ℕ) → NoFeed other → other ≡ line ++ 10 ∷ rest → ⊥
+feed_free [] rest other h e = let free = All-head (λ b. (b == 10) ≡ false) 10 rest (subst NoFeed e h) in cc free
+feed_free (b ∷ line) rest [] h e = cc e
+feed_free (b ∷ line) rest (c ∷ other) h e = let same : other ≡ line ++ 10 ∷ rest = cc e in feed_free line rest other (All-tail (λ b. (b == 10) ≡ false) c other h) same
+
+-- a text is cut in one way at its first line feed
+record OneCut (a b x y : List ℕ) : Type 0 where
+  line : a ≡ b
+  rest : x ≡ y
+
+cut_one : (a b x y : List ℕ) → NoFeed a → NoFeed b → a ++ 10 ∷ x ≡ b ++ 10 ∷ y → OneCut a b x y
+cut_one [] [] x y h k e = let same : x ≡ y = cc e in record { line = refl; rest = same }
+cut_one [] (c ∷ b) x y h k e = let head : 10 ≡ c = cc e in absurd (fed c (All-head (λ z. (z == 10) ≡ false) c b k) head) where
+  fed : (c : ℕ) → (c == 10) ≡ false → 10 ≡ c → ⊥
+  fed c f g = let free : (10 == 10) ≡ false = subst (λ (z : ℕ). (z == 10) ≡ false) (sym g) f in cc free
+cut_one (c ∷ a) [] x y h k e = let head : c ≡ 10 = cc e in absurd (fed c (All-head (λ z. (z == 10) ≡ false) c a h) head) where
+  fed : (c : ℕ) → (c == 10) ≡ false → c ≡ 10 → ⊥
+  fed c f g = let free : (10 == 10) ≡ false = subst (λ (z : ℕ). (z == 10) ≡ false) g f in cc free
+cut_one (c ∷ a) (d ∷ b) x y h k e =
+    let head : c ≡ d = cc e in
+    let tail : a ++ 10 ∷ x ≡ b ++ 10 ∷ y = cc e in
+    let more = cut_one a b x y (All-tail (λ z. (z == 10) ≡ false) c a h) (All-tail (λ z. (z == 10) ≡ false) d b k) tail in
+    record { line = ap (λ (z : ℕ). z ∷ a) head ∙ ap (λ (z : List ℕ). d ∷ z) more.line; rest = more.rest }
+
+-- the script and the commands of a text are settled by it
+record OneBegin (a b x y : List ℕ) : Type 0 where
+  script : a ≡ b
+  commands : x ≡ y
+
+begin_free : NoFeed (codes "begin")
+begin_free = All-from_recursion (λ b. (b == 10) ≡ false) (codes "begin") (refl, (refl, (refl, (refl, (refl, tt)))))
+
+begins_one : (i j a b x y : List ℕ) → i ≡ j → Begins i a x → Begins j b y → OneBegin a b x y
+begins_one i j a b x y e (here {commands = c}) (here {commands = d}) = let same : c ≡ d = cc e in record { script = refl; commands = same }
+begins_one i j a b x y e (here {commands = c}) here_at_end = absurd (too_long e) where
+  too_long : codes "begin\n" ++ c ≡ codes "begin" → ⊥
+  too_long f = cc f
+begins_one i j a b x y e here_at_end (here {commands = d}) = absurd (too_long e) where
+  too_long : codes "begin" ≡ codes "begin\n" ++ d → ⊥
+  too_long f = cc f
+begins_one i j a b x y e here_at_end here_at_end = record { script = refl; commands = refl }
+begins_one i j a b x y e (here {commands = c}) (later {line = l} {rest = r} free other more) = let cut = cut_one (codes "begin") l c r begin_free free e in absurd (other (sym cut.line))
+begins_one i j a b x y e (later {line = l} {rest = r} free other more) (here {commands = d}) = let cut = cut_one l (codes "begin") r d free begin_free e in absurd (other cut.line)
+begins_one i j a b x y e here_at_end (later {line = l} {rest = r} free other more) = absurd (feed_free l r (codes "begin") begin_free e)
+begins_one i j a b x y e (later {line = l} {rest = r} free other more) here_at_end = absurd (feed_free l r (codes "begin") begin_free (sym e))
+begins_one i j a b x y e (later {line = l} {rest = r} {script = s} free other more) (later {line = m} {rest = t} {script = u} free' other' more') =
+    let cut = cut_one l m r t free free' e in
+    let one = begins_one r t s u x y cut.rest more more' in
+    record { script = ap (λ (z : List ℕ). z ++ 10 ∷ s) cut.line ∙ ap (λ (z : List ℕ). m ++ 10 ∷ z) one.script; commands = one.commands }
+
+never_begins : (i j a x : List ℕ) → i ≡ j → Begins i a x → NeverBegins j → ⊥
+never_begins i j a x e (here {commands = c}) nothing = cc e
+never_begins i j a x e (here {commands = c}) (last_line free other) = feed_free (codes "begin") c j free (sym e)
+never_begins i j a x e (here {commands = c}) (one_line {line = l} {rest = r} free other more) = let cut = cut_one (codes "begin") l c r begin_free free e in other (sym cut.line)
+never_begins i j a x e here_at_end nothing = cc e
+never_begins i j a x e here_at_end (last_line free other) = other (sym e)
+never_begins i j a x e here_at_end (one_line {line = l} {rest = r} free other more) = feed_free l r (codes "begin") begin_free e
+never_begins i j a x e (later {line = l} {rest = r} free other more) nothing = empty l r e where
+  empty : (l r : List ℕ) → l ++ 10 ∷ r ≡ [] → ⊥
+  empty [] r f = cc f
+  empty (c ∷ l) r f = cc f
+never_begins i j a x e (later {line = l} {rest = r} free other more) (last_line free' other') = feed_free l r j free' (sym e)
+never_begins i j a x e (later {line = l} {rest = r} {script = s} free other more) (one_line {line = m} {rest = t} free' other' more') = let cut = cut_one l m r t free free' e in never_begins r t s x cut.rest more more'
+
+-- ---- all of it
+
+end_of : (n : ℕ) (m : ℕ) → n ≡ m → BadScript n ≡ BadScript m
+end_of n m e = ap BadScript e
+
+pub one_answer : (input : List ℕ) → HasOneAnswer input
+one_answer input a b x y (talks {end = f} script commands p begins is talk) (talks {end = g} script' commands' p' begins' is' talk') =
+    let one = begins_one input input script script' commands commands' refl begins begins' in
+    let same = one_script script p p' is (subst (λ (z : List ℕ). IsScript z p') (sym one.script) is') in
+    let there = subst (λ (z : Program). Talks (lines_of commands) (started z) b g) (sym same) (subst (λ (z : List ℕ). Talks (lines_of z) (started p') b g) (sym one.commands) talk') in
+    let more = talks_one (lines_of commands) (started p) a b f g talk there in
+    record { text = more.text; end = ap Ends more.end }
+one_answer input a b x y (talks script commands p begins is talk) (bad_line {number = m} script' commands' begins' bad) =
+    let one = begins_one input input script script' commands commands' refl begins begins' in
+    absurd (no_bad_line script p m is (subst (λ (z : List ℕ). IsBadLine z m) (sym one.script) bad))
+one_answer input a b x y (talks script commands p begins is talk) (no_begin p' never is') = absurd (never_begins input input script commands refl begins never)
+one_answer input a b x y (talks script commands p begins is talk) (bad_input never bad) = absurd (never_begins input input script commands refl begins never)
+one_answer input a b x y (bad_line script commands begins bad) (talks script' commands' p' begins' is' talk') =
+    let one = begins_one input input script script' commands commands' refl begins begins' in
+    absurd (no_bad_line script p' _ (subst (λ (z : List ℕ). IsScript z p') (sym one.script) is') bad)
+one_answer input a b x y (bad_line {number = n} script commands begins bad) (bad_line {number = m} script' commands' begins' bad') =
+    let one = begins_one input input script script' commands commands' refl begins begins' in
+    record { text = refl; end = end_of n m (one_bad_line script n m bad (subst (λ (z : List ℕ). IsBadLine z m) (sym one.script) bad')) }
+one_answer input a b x y (bad_line script commands begins bad) (no_begin p' never is') = absurd (never_begins input input script commands refl begins never)
+one_answer input a b x y (bad_line script commands begins bad) (bad_input never bad') = absurd (never_begins input input script commands refl begins never)
+one_answer input a b x y (no_begin p never is) (talks script commands p' begins is' talk) = absurd (never_begins input input script commands refl begins never)
+one_answer input a b x y (no_begin p never is) (bad_line script commands begins bad) = absurd (never_begins input input script commands refl begins never)
+one_answer input a b x y (no_begin p never is) (no_begin p' never' is') = record { text = refl; end = refl }
+one_answer input a b x y (no_begin p never is) (bad_input never' bad) = absurd (no_bad_line input p _ is bad)
+one_answer input a b x y (bad_input never bad) (talks script commands p' begins is' talk) = absurd (never_begins input input script commands refl begins never)
+one_answer input a b x y (bad_input never bad) (bad_line script commands begins bad') = absurd (never_begins input input script commands refl begins never)
+one_answer input a b x y (bad_input never bad) (no_begin p' never' is') = absurd (no_bad_line input p' _ is' bad)
+one_answer input a b x y (bad_input {number = n} never bad) (bad_input {number = m} never' bad') = record { text = refl; end = end_of n m (one_bad_line input n m bad bad') }
+
+pub some_answer : (input : List ℕ) → HasAnswer input
+some_answer input = some_out some_reading asks input
+
+pub ruleset answers = (some_answer, one_answer)

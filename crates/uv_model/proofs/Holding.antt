@@ -1,0 +1,260 @@
+-- What the slots hold, and the lists of ids of handles.
+use Rattle.std.proofs.Common.{◌≡◌, ◌⊎◌, inl, inr, ℕ, zero, suc, ◌<◌, ◌==◌, List, [], ◌∷◌, ◌++◌, Bool, true, false, cond, Option, Some, None, slice_get, slice_set, refl, ap, sym, subst, ◌∙◌, arith}
+use Rattle.std.specs.Prelude.{option_and_then}
+use Rattle.std.proofs.lemmas.Bool.{eq-eqb, eqb-true}
+use Rattle.std.proofs.lemmas.Option.{same_Some}
+use Rattle.uv_ids.specs.declared.id.Id.{Id}
+use Rattle.uv_ids.specs.declared.due.Due.{Due}
+use Rattle.uv_ids.specs.declared.phase.Kind.TheVariants as kind
+use Rattle.uv_model.specs.declared.handle.Handle.{Handle}
+use Rattle.uv_model.specs.declared.handle.Slot.{Slot}
+use Rattle.uv_model.specs.Ids.{same_id, without_id}
+use Rattle.uv_model.specs.State.{held_in}
+use Rattle.uv_model.specs.Timers.{with_timer, without_timer}
+use Rattle.uv_model.specs.Timed.{Has, InOrder}
+use Rattle.uv_model.specs.Documented.{has_id, AreDistinct}
+use Rattle.uv_model.proofs.IdLists.{same, other, Each, each_mapped, each_without, absent, distinct_without}
+use Rattle.uv_model.proofs.TimerKeys.{one_id, not_before_itself, before_each, still_has, had, in_order_without, IsNew, has_new, has_old, new_or_old, in_order_with, is_new}
+
+-- ---- slots
+
+abbrev pub held_at : List Slot → Id → Option Handle
+held_at slots id = option_and_then (held_in id) (slice_get slots id.slot)
+
+abbrev pub slot_of : Id → Handle → Slot
+slot_of id h = record { generation = id.generation; content = Some h }
+
+-- the handle of an id is put in its slot
+abbrev pub put : List Slot → Id → Handle → List Slot
+put slots id h = slice_set slots id.slot (slot_of id h)
+
+get_set_same : (slots : List Slot) (i : ℕ) (x y : Slot) → slice_get slots i ≡ Some y → slice_get (slice_set slots i x) i ≡ Some x
+get_set_same [] i x y e = cc e
+get_set_same (s ∷ slots) zero x y e = refl
+get_set_same (s ∷ slots) (suc i) x y e = get_set_same slots i x y e
+
+get_set_other : (slots : List Slot) (i j : ℕ) (x : Slot) → (j ≡ i → ⊥) → slice_get (slice_set slots i x) j ≡ slice_get slots j
+get_set_other [] i j x d = refl
+get_set_other (s ∷ slots) zero zero x d = absurd (d refl)
+get_set_other (s ∷ slots) zero (suc j) x d = refl
+get_set_other (s ∷ slots) (suc i) zero x d = refl
+get_set_other (s ∷ slots) (suc i) (suc j) x d = get_set_other slots i j x (λ e. d (ap suc e))
+
+-- a held id's slot is there, with its generation
+pub record Holds (slots : List Slot) (id : Id) (h : Handle) : Type 0 where
+  pub slot : Slot
+  pub there : slice_get slots id.slot ≡ Some slot
+  pub generation : slot.generation ≡ id.generation
+  pub content : slot.content ≡ Some h
+
+holds_in : (slots : List Slot) (id : Id) (h : Handle) (o : Option Slot) → slice_get slots id.slot ≡ o → option_and_then (held_in id) o ≡ Some h → Holds slots id h
+holds_in slots id h None e k = cc k
+holds_in slots id h (Some slot) e k = at (slot.generation == id.generation) refl k where
+  at : (b : Bool) → (slot.generation == id.generation) ≡ b → ◌≡◌ {A = Option Handle} (cond b slot.content None) (Some h) → Holds slots id h
+  at true f l = record { slot = slot; there = e; generation = eqb-true slot.generation id.generation f; content = l }
+  at false f l = cc l
+
+holds : (slots : List Slot) (id : Id) (h : Handle) → held_at slots id ≡ Some h → Holds slots id h
+holds slots id h e = holds_in slots id h (slice_get slots id.slot) refl e
+
+in_slot : (id : Id) (slot : Slot) → slot.generation ≡ id.generation → held_in id slot ≡ slot.content
+in_slot id slot e = rw (eq-eqb slot.generation id.generation e) refl
+
+pub put_same : (slots : List Slot) (id : Id) (h x : Handle) → held_at slots id ≡ Some h → held_at (put slots id x) id ≡ Some x
+put_same slots id h x e =
+    let k = holds slots id h e in
+    rw (get_set_same slots id.slot (slot_of id x) k.slot k.there) (in_slot id (slot_of id x) refl)
+
+ids_alike : (a b : Id) → a.slot ≡ b.slot → a.generation ≡ b.generation → same_id a b ≡ true
+ids_alike a b e f = rw (eq-eqb a.slot b.slot e, eq-eqb a.generation b.generation f) refl
+
+other_generation : (i : Id) (slot : Slot) → (slot.generation ≡ i.generation → ⊥) → held_in i slot ≡ None
+other_generation i slot d = at (slot.generation == i.generation) refl where
+  at : (b : Bool) → (slot.generation == i.generation) ≡ b → ◌≡◌ {A = Option Handle} (cond b slot.content None) None
+  at true f = absurd (d (eqb-true slot.generation i.generation f))
+  at false f = refl
+
+pub put_other : (slots : List Slot) (id i : Id) (h x : Handle) → held_at slots id ≡ Some h → (i ≡ id → ⊥) → held_at (put slots id x) i ≡ held_at slots i
+put_other slots id i h x e d = at (i.slot == id.slot) refl where
+  at : (b : Bool) → (i.slot == id.slot) ≡ b → held_at (put slots id x) i ≡ held_at slots i
+  at false f = ap (option_and_then (held_in i)) (get_set_other slots id.slot i.slot (slot_of id x) (λ g. not_same f (eq-eqb i.slot id.slot g))) where
+    not_same : (i.slot == id.slot) ≡ false → (i.slot == id.slot) ≡ true → ⊥
+    not_same a b = cc (a, b)
+  at true f =
+      let k = holds slots id h e in
+      let here : i.slot ≡ id.slot = eqb-true i.slot id.slot f in
+      let apart : id.generation ≡ i.generation → ⊥ = λ g. d (same i id (ids_alike i id here (sym g))) in
+      let after : slice_get (put slots id x) i.slot ≡ Some (slot_of id x) = rw here (get_set_same slots id.slot (slot_of id x) k.slot k.there) in
+      let before : slice_get slots i.slot ≡ Some k.slot = rw here k.there in
+      ap (option_and_then (held_in i)) after ∙ other_generation i (slot_of id x) apart
+      ∙ sym (ap (option_and_then (held_in i)) before ∙ other_generation i k.slot (λ g. apart (sym k.generation ∙ g)))
+
+get_push : (slots : List Slot) (x y : Slot) (i : ℕ) → slice_get slots i ≡ Some y → slice_get (slots ++ x ∷ []) i ≡ Some y
+get_push [] x y i e = cc e
+get_push (s ∷ slots) x y zero e = e
+get_push (s ∷ slots) x y (suc i) e = get_push slots x y i e
+
+got_push : (slots : List Slot) (x y : Slot) (i : ℕ) → slice_get (slots ++ x ∷ []) i ≡ Some y → (slice_get slots i ≡ Some y) ⊎ (x ≡ y)
+got_push [] x y zero e = inr (same_Some x y e)
+got_push [] x y (suc i) e = cc e
+got_push (s ∷ slots) x y zero e = inl e
+got_push (s ∷ slots) x y (suc i) e = got_push slots x y i e
+
+from_slot : (slots : List Slot) (id : Id) (h : Handle) → Holds slots id h → held_at slots id ≡ Some h
+from_slot slots id h k = ap (option_and_then (held_in id)) k.there ∙ in_slot id k.slot k.generation ∙ k.content
+
+pub held_push : (slots : List Slot) (x : Slot) (id : Id) (h : Handle) → held_at slots id ≡ Some h → held_at (slots ++ x ∷ []) id ≡ Some h
+held_push slots x id h e = let k = holds slots id h e in from_slot (slots ++ x ∷ []) id h (record { slot = k.slot; there = get_push slots x k.slot id.slot k.there; generation = k.generation; content = k.content })
+
+pub was_held : (slots : List Slot) (x : Slot) (id : Id) (h : Handle) → held_at (slots ++ x ∷ []) id ≡ Some h → (held_at slots id ≡ Some h) ⊎ (x.content ≡ Some h)
+was_held slots x id h e =
+    let k = holds (slots ++ x ∷ []) id h e in
+    elim (got_push slots x k.slot id.slot k.there) [
+      | inl there ↦ inl (from_slot slots id h (record { slot = k.slot; there = there; generation = k.generation; content = k.content }))
+      | inr new ↦ inr (ap (λ (s : Slot). s.content) new ∙ k.content)
+    ]
+
+-- ---- ids of handles of which something holds
+
+pub record Fits (slots : List Slot) (P : Handle → Type 0) (id : Id) : Type 0 where
+  pub handle : Handle
+  pub holds : held_at slots id ≡ Some handle
+  pub fits : P handle
+
+pub its_handle : (slots : List Slot) (P : Handle → Type 0) (id : Id) (h : Handle) → held_at slots id ≡ Some h → Fits slots P id → P h
+its_handle slots P id h e f = subst P (same_Some _ _ (sym f.holds ∙ e)) f.fits
+
+-- another handle is changed, or this one in a way that lets it fit
+pub fits_put : (slots : List Slot) (P : Handle → Type 0) (id : Id) (h x : Handle) → held_at slots id ≡ Some h → (P h → P x) → (i : Id) → Fits slots P i → Fits (put slots id x) P i
+fits_put slots P id h x e f i k = at (same_id i id) refl where
+  at : (b : Bool) → same_id i id ≡ b → Fits (put slots id x) P i
+  at true s = let is = same i id s in record { handle = x; holds = ap (held_at (put slots id x)) is ∙ put_same slots id h x e; fits = f (its_handle slots P id h e (subst (Fits slots P) is k)) }
+  at false s = record { handle = k.handle; holds = put_other slots id i h x e (other i id s) ∙ k.holds; fits = k.fits }
+
+pub fits_other : (slots : List Slot) (P : Handle → Type 0) (id : Id) (h x : Handle) → held_at slots id ≡ Some h → (i : Id) → (i ≡ id → ⊥) → Fits slots P i → Fits (put slots id x) P i
+fits_other slots P id h x e i d k = record { handle = k.handle; holds = put_other slots id i h x e d ∙ k.holds; fits = k.fits }
+
+-- it fitted before, unless it is the one that was changed
+pub fitted : (slots : List Slot) (P : Handle → Type 0) (id : Id) (h x : Handle) → held_at slots id ≡ Some h → (i : Id) → (i ≡ id → ⊥) → Fits (put slots id x) P i → Fits slots P i
+fitted slots P id h x e i d k = record { handle = k.handle; holds = sym (put_other slots id i h x e d) ∙ k.holds; fits = k.fits }
+
+pub fits_push : (slots : List Slot) (P : Handle → Type 0) (x : Slot) (i : Id) → Fits slots P i → Fits (slots ++ x ∷ []) P i
+fits_push slots P x i k = record { handle = k.handle; holds = held_push slots x i k.handle k.holds; fits = k.fits }
+
+-- ---- lists of such ids, on which none stands twice
+
+pub record Lists (slots : List Slot) (P : Handle → Type 0) (ids : List Id) : Type 0 where
+  pub each : Each (Fits slots P) ids
+  pub distinct : AreDistinct ids
+
+pub lists_none : (slots : List Slot) (P : Handle → Type 0) → Lists slots P []
+lists_none slots P = record { each = tt; distinct = tt }
+
+pub lists_put : (slots : List Slot) (P : Handle → Type 0) (id : Id) (h x : Handle) (ids : List Id) → held_at slots id ≡ Some h → (P h → P x) → Lists slots P ids → Lists (put slots id x) P ids
+lists_put slots P id h x ids e f k = record { each = each_mapped (Fits slots P) (Fits (put slots id x) P) (fits_put slots P id h x e f) ids k.each; distinct = k.distinct }
+
+pub lists_without : (slots : List Slot) (P : Handle → Type 0) (id : Id) (h x : Handle) (ids : List Id) → held_at slots id ≡ Some h → Lists slots P ids → Lists (put slots id x) P (without_id ids id)
+lists_without slots P id h x ids e k = record { each = each_without (Fits slots P) (Fits (put slots id x) P) id (λ i d f. fits_other slots P id h x e i d f) ids k.each; distinct = distinct_without ids id k.distinct }
+
+pub lists_push : (slots : List Slot) (P : Handle → Type 0) (x : Slot) (ids : List Id) → Lists slots P ids → Lists (slots ++ x ∷ []) P ids
+lists_push slots P x ids k = record { each = each_mapped (Fits slots P) (Fits (slots ++ x ∷ []) P) (fits_push slots P x) ids k.each; distinct = k.distinct }
+
+-- a handle that doesn't fit is on no such list
+pub not_listed : (slots : List Slot) (P : Handle → Type 0) (id : Id) (h : Handle) (ids : List Id) → held_at slots id ≡ Some h → (P h → ⊥) → Lists slots P ids → has_id ids id ≡ false
+not_listed slots P id h ids e f k = absent (Fits slots P) id (λ g. f (its_handle slots P id h e g)) ids k.each
+
+-- ---- the timers
+
+pub record IsActive (key : Due) (h : Handle) : Type 0 where
+  pub kind : h.kind ≡ kind.Timer
+  pub active : h.active ≡ true
+  pub due : h.due ≡ key
+
+-- the order of timers has just the active ones, and their start numbers are drawn
+pub record Times (slots : List Slot) (drawn : ℕ) (ts : List (Due × Id)) : Type 0 where
+  pub each : (key : Due) (id : Id) → Has ts key id → Fits slots (IsActive key) id × (key.start < drawn)
+  pub all : (key : Due) (id : Id) → Fits slots (IsActive key) id → Has ts key id
+  pub sorted : InOrder ts
+
+-- a handle is changed that is no active timer, before or after
+pub times_put : (slots : List Slot) (drawn : ℕ) (ts : List (Due × Id)) (id : Id) (h x : Handle) → held_at slots id ≡ Some h → ((key : Due) → IsActive key h → IsActive key x) → ((key : Due) → IsActive key x → IsActive key h) → Times slots drawn ts → Times (put slots id x) drawn ts
+times_put slots drawn ts id h x e f g k = record {
+  each = λ key i l. let m = k.each key i l in (fits_put slots (IsActive key) id h x e (f key) i m.0, m.1);
+  all = λ key i l. k.all key i (back key i l);
+  sorted = k.sorted;
+} where
+  back : (key : Due) (i : Id) → Fits (put slots id x) (IsActive key) i → Fits slots (IsActive key) i
+  back key i l = at (same_id i id) refl where
+    at : (b : Bool) → same_id i id ≡ b → Fits slots (IsActive key) i
+    at true s =
+        let is = same i id s in
+        record { handle = h; holds = ap (held_at slots) is ∙ e; fits = g key (its_handle (put slots id x) (IsActive key) id x (put_same slots id h x e) (subst (Fits (put slots id x) (IsActive key)) is l)) }
+    at false s = fitted slots (IsActive key) id h x e i (other i id s) l
+
+-- an active timer becomes inactive
+pub times_without : (slots : List Slot) (drawn : ℕ) (ts : List (Due × Id)) (key : Due) (id : Id) (h x : Handle) → held_at slots id ≡ Some h → IsActive key h → x.active ≡ false → Times slots drawn ts → Times (put slots id x) drawn (without_timer ts key)
+times_without slots drawn ts key id h x e a off k = record {
+  each = λ other_key i l.
+      let m = had ts key other_key i k.sorted l in
+      let n = k.each other_key i m.0 in
+      (fits_other slots (IsActive other_key) id h x e i (λ is. m.1 (sym (its_handle slots (IsActive other_key) id h e (subst (Fits slots (IsActive other_key)) is n.0)).due ∙ a.due)) n.0, n.1);
+  all = λ other_key i l. let d = not_it other_key i l in still_has ts key other_key i (k.all other_key i (fitted slots (IsActive other_key) id h x e i d l)) (λ same_key. d (one_id ts key i id k.sorted (subst (λ (q : Due). Has ts q i) same_key (k.all other_key i (fitted slots (IsActive other_key) id h x e i d l))) (k.all key id (record { handle = h; holds = e; fits = a }))));
+  sorted = in_order_without ts key k.sorted;
+} where
+  not_it : (other_key : Due) (i : Id) → Fits (put slots id x) (IsActive other_key) i → i ≡ id → ⊥
+  not_it other_key i l is = let on = (its_handle (put slots id x) (IsActive other_key) id x (put_same slots id h x e) (subst (Fits (put slots id x) (IsActive other_key)) is l)).active in cc (on, off)
+
+-- the first one becomes inactive
+pub times_rest : (slots : List Slot) (drawn : ℕ) (t : Due × Id) (ts : List (Due × Id)) (h x : Handle) → held_at slots t.1 ≡ Some h → x.active ≡ false → Times slots drawn (t ∷ ts) → Times (put slots t.1 x) drawn ts
+times_rest slots drawn t ts h x e off k = record {
+  each = λ key i l. let n = k.each key i (inr l) in (fits_other slots (IsActive key) t.1 h x e i (λ is. not_before_itself t.0 key (same_key key i is n.0) (before_each ts t.0 key i k.sorted.0 l)) n.0, n.1);
+  all = λ key i l. behind key i (not_it key i l) (k.all key i (fitted slots (IsActive key) t.1 h x e i (not_it key i l) l));
+  sorted = k.sorted.1;
+} where
+  first : Fits slots (IsActive t.0) t.1
+  first = (k.each t.0 t.1 (inl (refl, refl))).0
+
+  same_key : (key : Due) (i : Id) → i ≡ t.1 → Fits slots (IsActive key) i → t.0 ≡ key
+  same_key key i is f = sym (its_handle slots (IsActive t.0) t.1 h e first).due ∙ (its_handle slots (IsActive key) t.1 h e (subst (Fits slots (IsActive key)) is f)).due
+
+  not_it : (key : Due) (i : Id) → Fits (put slots t.1 x) (IsActive key) i → i ≡ t.1 → ⊥
+  not_it key i l is = let on = (its_handle (put slots t.1 x) (IsActive key) t.1 x (put_same slots t.1 h x e) (subst (Fits (put slots t.1 x) (IsActive key)) is l)).active in cc (on, off)
+
+  behind : (key : Due) (i : Id) → (i ≡ t.1 → ⊥) → Has (t ∷ ts) key i → Has ts key i
+  behind key i d (inl is) = absurd (d (sym is.1))
+  behind key i d (inr rest) = rest
+
+-- an inactive one becomes active, with a start number that is drawn now
+pub times_with : (slots : List Slot) (drawn more : ℕ) (ts : List (Due × Id)) (key : Due) (id : Id) (h x : Handle) → held_at slots id ≡ Some h → h.active ≡ false → IsActive key x → key.start ≡ drawn → drawn < more → Times slots drawn ts → Times (put slots id x) more (with_timer ts key id)
+times_with slots drawn more ts key id h x e off a number less k = record {
+  each = λ other_key i l. elim (new_or_old ts key other_key id i fresh l) [
+    | inl new ↦ (subst (Fits (put slots id x) (IsActive other_key)) new.1 (record { handle = x; holds = put_same slots id h x e; fits = subst (λ (q : Due). IsActive q x) new.0 a }), subst (λ (q : Due). q.start < more) new.0 (rw number less))
+    | inr old ↦ let m = k.each other_key i old in (fits_put slots (IsActive other_key) id h x e (λ b. absurd (on_and_off h b.active off)) i m.0, omega (arith, m.1, less))
+  ];
+  all = λ other_key i l. at other_key i l (same_id i id) refl;
+  sorted = in_order_with ts key id k.sorted;
+} where
+  on_and_off : (y : Handle) → y.active ≡ true → y.active ≡ false → ⊥
+  on_and_off y on off' = cc (on, off')
+
+  fresh : IsNew key ts
+  fresh = is_new ts key (λ other_key i l. rw number (k.each other_key i l).1)
+
+  at : (other_key : Due) (i : Id) → Fits (put slots id x) (IsActive other_key) i → (b : Bool) → same_id i id ≡ b → Has (with_timer ts key id) other_key i
+  at other_key i l true s =
+      let is = same i id s in
+      let due : x.due ≡ other_key = (its_handle (put slots id x) (IsActive other_key) id x (put_same slots id h x e) (subst (Fits (put slots id x) (IsActive other_key)) is l)).due in
+      subst (λ (q : Due). Has (with_timer ts key id) q i) (sym a.due ∙ due) (subst (Has (with_timer ts key id) key) (sym is) (has_new ts key id fresh))
+  at other_key i l false s = has_old ts key other_key id i fresh (k.all other_key i (fitted slots (IsActive other_key) id h x e i (other i id s) l))
+
+pub times_push : (slots : List Slot) (drawn : ℕ) (ts : List (Due × Id)) (x : Slot) → ((h : Handle) → x.content ≡ Some h → h.active ≡ false) → Times slots drawn ts → Times (slots ++ x ∷ []) drawn ts
+times_push slots drawn ts x off k = record {
+  each = λ key i l. let m = k.each key i l in (fits_push slots (IsActive key) x i m.0, m.1);
+  all = λ key i l. elim (was_held slots x i l.handle l.holds) [
+    | inl old ↦ k.all key i (record { handle = l.handle; holds = old; fits = l.fits })
+    | inr new ↦ absurd (clash l.handle l.fits.active (off l.handle new))
+  ];
+  sorted = k.sorted;
+} where
+  clash : (y : Handle) → y.active ≡ true → y.active ≡ false → ⊥
+  clash y on off' = cc (on, off')

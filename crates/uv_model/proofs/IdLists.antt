@@ -1,0 +1,165 @@
+-- Lists of ids, and what was taken off them.
+use Rattle.std.proofs.Common.{◌≡◌, ℕ, ◌==◌, List, [], ◌∷◌, ◌++◌, Bool, true, false, refl, ap, ap₂, sym, subst, ◌∙◌, if◌then◌else◌}
+use Rattle.std.specs.Prelude.{filter, not, ◌||◌}
+use Rattle.std.proofs.lemmas.Bool.{eqb-true, eq-eqb, and_parts, or_parts, both_ways}
+use Rattle.uv_ids.specs.declared.id.Id.{Id}
+use Rattle.uv_model.specs.Ids.{same_id, without_id}
+use Rattle.uv_model.specs.Documented.{has_id, AreDistinct, AllOff}
+
+-- ---- one id and another
+
+abbrev id_of : ℕ → ℕ → Id
+id_of slot generation = record { slot = slot; generation = generation }
+
+same_parts : (a b : Id) → a.slot ≡ b.slot → a.generation ≡ b.generation → a ≡ b
+same_parts a b e f = ap₂ id_of e f
+
+pub same : (a b : Id) → same_id a b ≡ true → a ≡ b
+same a b e = let parts = and_parts (a.slot == b.slot) (a.generation == b.generation) e in same_parts a b (eqb-true a.slot b.slot parts.0) (eqb-true a.generation b.generation parts.1)
+
+pub itself : (a b : Id) → a ≡ b → same_id a b ≡ true
+itself a b e = rw (eq-eqb a.slot b.slot (ap (λ (i : Id). i.slot) e), eq-eqb a.generation b.generation (ap (λ (i : Id). i.generation) e)) refl
+
+pub other : (a b : Id) → same_id a b ≡ false → a ≡ b → ⊥
+other a b e h = both_ways (same_id a b) e (itself a b h)
+
+pub turned : (a b : Id) → same_id a b ≡ same_id b a
+turned a b = at (same_id a b) refl (same_id b a) refl where
+  at : (x : Bool) → same_id a b ≡ x → (y : Bool) → same_id b a ≡ y → x ≡ y
+  at true e true f = refl
+  at false e false f = refl
+  at true e false f = absurd (other b a f (sym (same a b e)))
+  at false e true f = absurd (other a b e (sym (same b a f)))
+
+-- ---- members
+
+-- what holds of each id on a list
+abbrev pub Each : (Id → Type 0) → List Id → Type 0
+Each P [] = Unit {0}
+Each P (id ∷ ids) = P id × Each P ids
+
+pub each_mapped : (P Q : Id → Type 0) → ((id : Id) → P id → Q id) → (ids : List Id) → Each P ids → Each Q ids
+each_mapped P Q f [] h = tt
+each_mapped P Q f (id ∷ ids) h = (f id h.0, each_mapped P Q f ids h.1)
+
+pub each_front : (P : Id → Type 0) (xs ys : List Id) → Each P (xs ++ ys) → Each P xs
+each_front P [] ys h = tt
+each_front P (x ∷ xs) ys h = (h.0, each_front P xs ys h.1)
+
+pub each_back : (P : Id → Type 0) (xs ys : List Id) → Each P (xs ++ ys) → Each P ys
+each_back P [] ys h = h
+each_back P (x ∷ xs) ys h = each_back P xs ys h.1
+
+pub each_push : (P : Id → Type 0) (xs : List Id) (y : Id) → Each P xs → P y → Each P (xs ++ y ∷ [])
+each_push P [] y h k = (k, tt)
+each_push P (x ∷ xs) y h k = (h.0, each_push P xs y h.1 k)
+
+-- whoever stays is another one
+pub each_without : (P Q : Id → Type 0) (x : Id) → ((id : Id) → (id ≡ x → ⊥) → P id → Q id) → (ids : List Id) → Each P ids → Each Q (without_id ids x)
+each_without P Q x f [] h = tt
+each_without P Q x f (id ∷ ids) h = at (same_id id x) refl (each_without P Q x f ids h.1) where
+  at : (b : Bool) → same_id id x ≡ b → Each Q (without_id ids x) → Each Q (if not b then id ∷ without_id ids x else without_id ids x)
+  at true e rest = rest
+  at false e rest = (f id (other id x e) h.0, rest)
+
+-- an id of which that doesn't hold isn't there
+pub absent : (P : Id → Type 0) (x : Id) → (P x → ⊥) → (ids : List Id) → Each P ids → has_id ids x ≡ false
+absent P x f [] h = refl
+absent P x f (id ∷ ids) h = at (same_id id x) refl (absent P x f ids h.1) where
+  at : (b : Bool) → same_id id x ≡ b → has_id ids x ≡ false → (b || has_id ids x) ≡ false
+  at true e rest = absurd (f (subst P (same id x e) h.0))
+  at false e rest = rest
+
+pub without_itself : (ids : List Id) (x : Id) → has_id (without_id ids x) x ≡ false
+without_itself [] x = refl
+without_itself (id ∷ ids) x = at (same_id id x) refl (without_itself ids x) where
+  at : (b : Bool) → same_id id x ≡ b → has_id (without_id ids x) x ≡ false → has_id (if not b then id ∷ without_id ids x else without_id ids x) x ≡ false
+  at true e rest = rest
+  at false e rest = rw (e, rest) refl
+
+pub still_absent : (ids : List Id) (x i : Id) → has_id ids i ≡ false → has_id (without_id ids x) i ≡ false
+still_absent [] x i h = refl
+still_absent (id ∷ ids) x i h = at (same_id id x) refl (still_absent ids x i (or_parts (same_id id i) (has_id ids i) h).1) where
+  at : (b : Bool) → same_id id x ≡ b → has_id (without_id ids x) i ≡ false → has_id (if not b then id ∷ without_id ids x else without_id ids x) i ≡ false
+  at true e rest = rest
+  at false e rest = rw ((or_parts (same_id id i) (has_id ids i) h).0, rest) refl
+
+pub without_absent : (ids : List Id) (x : Id) → has_id ids x ≡ false → without_id ids x ≡ ids
+without_absent [] x h = refl
+without_absent (id ∷ ids) x h = let parts = or_parts (same_id id x) (has_id ids x) h in rw parts.0 (ap (λ (rest : List Id). id ∷ rest) (without_absent ids x parts.1))
+
+pub has_push : (ids : List Id) (x i : Id) → has_id ids i ≡ false → same_id x i ≡ false → has_id (ids ++ x ∷ []) i ≡ false
+has_push [] x i h k = rw k refl
+has_push (id ∷ ids) x i h k = let parts = or_parts (same_id id i) (has_id ids i) h in rw (parts.0, has_push ids x i parts.1 k) refl
+
+pub has_front : (xs ys : List Id) (i : Id) → has_id (xs ++ ys) i ≡ false → has_id xs i ≡ false
+has_front [] ys i h = refl
+has_front (x ∷ xs) ys i h = let parts = or_parts (same_id x i) (has_id (xs ++ ys) i) h in rw (parts.0, has_front xs ys i parts.1) refl
+
+pub has_back : (xs ys : List Id) (i : Id) → has_id (xs ++ ys) i ≡ false → has_id ys i ≡ false
+has_back [] ys i h = h
+has_back (x ∷ xs) ys i h = has_back xs ys i (or_parts (same_id x i) (has_id (xs ++ ys) i) h).1
+
+-- ---- no id twice
+
+pub distinct_front : (xs ys : List Id) → AreDistinct (xs ++ ys) → AreDistinct xs
+distinct_front [] ys h = tt
+distinct_front (x ∷ xs) ys h = (has_front xs ys x h.0, distinct_front xs ys h.1)
+
+pub distinct_without : (ids : List Id) (x : Id) → AreDistinct ids → AreDistinct (without_id ids x)
+distinct_without [] x h = tt
+distinct_without (id ∷ ids) x h = at (same_id id x) (distinct_without ids x h.1) where
+  at : (b : Bool) → AreDistinct (without_id ids x) → AreDistinct (if not b then id ∷ without_id ids x else without_id ids x)
+  at true rest = rest
+  at false rest = (still_absent ids x id h.0, rest)
+
+pub distinct_push : (ids : List Id) (x : Id) → AreDistinct ids → has_id ids x ≡ false → AreDistinct (ids ++ x ∷ [])
+distinct_push [] x h k = (refl, tt)
+distinct_push (id ∷ ids) x h k = let parts = or_parts (same_id id x) (has_id ids x) k in (has_push ids x id h.0 (turned x id ∙ parts.0), distinct_push ids x h.1 parts.1)
+
+-- ---- those that were not taken off
+
+abbrev pub left_of : List Id → List Id → List Id
+left_of ids off = filter (λ i. not (has_id off i)) ids
+
+pub none_off : (ids : List Id) → left_of ids [] ≡ ids
+none_off [] = refl
+none_off (id ∷ ids) = ap (λ (rest : List Id). id ∷ rest) (none_off ids)
+
+-- one more is taken off
+pub one_off : (ids off : List Id) (x : Id) → left_of ids (x ∷ off) ≡ without_id (left_of ids off) x
+one_off [] off x = refl
+one_off (id ∷ ids) off x = at (same_id x id) refl (has_id off id) (one_off ids off x) where
+  at : (a : Bool) → same_id x id ≡ a → (b : Bool) → left_of ids (x ∷ off) ≡ without_id (left_of ids off) x → (if not (a || b) then id ∷ left_of ids (x ∷ off) else left_of ids (x ∷ off)) ≡ without_id (if not b then id ∷ left_of ids off else left_of ids off) x
+  at true e true rest = rest
+  at true e false rest = rw (turned id x, e) rest
+  at false e true rest = rest
+  at false e false rest = rw (turned id x, e) (ap (λ (more : List Id). id ∷ more) rest)
+
+pub all_off : (ids off : List Id) → left_of ids off ≡ [] → AllOff off ids
+all_off [] off h = tt
+all_off (id ∷ ids) off h = at (has_id off id) refl h (all_off ids off) where
+  at : (b : Bool) → has_id off id ≡ b → ◌≡◌ {A = List Id} (if not b then id ∷ left_of ids off else left_of ids off) [] → (left_of ids off ≡ [] → AllOff off ids) → AllOff off (id ∷ ids)
+  at true e none rest = (e, rest none)
+  at false e none rest = cc none
+
+-- the first that is left
+pub record FirstLeft (ids away : List Id) (first : Id) (more : List Id) : Type 0 where
+  pub passed : List Id
+  pub behind : List Id
+  pub list : ids ≡ passed ++ first ∷ behind
+  pub off : AllOff away passed
+  pub on : has_id away first ≡ false
+  pub rest : more ≡ left_of behind away
+
+pub first_left : (ids off : List Id) (first : Id) (more : List Id) → left_of ids off ≡ first ∷ more → FirstLeft ids off first more
+first_left [] off first more h = cc h
+first_left (id ∷ ids) off first more h = at (has_id off id) refl h (first_left ids off first more) where
+  at : (b : Bool) → has_id off id ≡ b → ◌≡◌ {A = List Id} (if not b then id ∷ left_of ids off else left_of ids off) (first ∷ more) → (left_of ids off ≡ first ∷ more → FirstLeft ids off first more) → FirstLeft (id ∷ ids) off first more
+  at true e rest later =
+      let f = later rest in
+      record { passed = id ∷ f.passed; behind = f.behind; list = ap (λ (is : List Id). id ∷ is) f.list; off = (e, f.off); on = f.on; rest = f.rest }
+  at false e rest later =
+      let one : id ≡ first = cc rest in
+      let others : left_of ids off ≡ more = cc rest in
+      record { passed = []; behind = ids; list = ap (λ (i : Id). i ∷ ids) one; off = tt; on = ap (λ (i : Id). has_id off i) (sym one) ∙ e; rest = sym others }

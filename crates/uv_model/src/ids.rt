@@ -1,0 +1,19 @@
+//! Lists of ids.
+ghost use Rattle.std.specs.Prelude.{◌≡◌};
+ghost use Rattle.uv_model.specs.Ids.{without_id, has_some};
+
+use uv_ids::Id;
+
+/// Takes an id off a list.
+pub fn remove_id(ids: &mut Vec<Id>, id: Id)
+    ensures { ids.new.items ≡ without_id ids.old.items id }
+{
+    ids.retain(|x| *x != id);
+}
+
+/// Whether there is an id on a list.
+pub fn has_some(ids: &[Id]) -> bool
+    ensures { result ≡ has_some ids.now }
+{
+    !ids.is_empty()
+}

@@ -1,0 +1,63 @@
+//! Whether the loop is alive, and how long its poll may wait.
+ghost use Rattle.std.specs.Prelude.{◌≡◌, ◌<◌, ◌≤◌, ◌^◌, IfSome};
+ghost use Rattle.uv_model.specs.Timeout.{is_alive, has_idle, until_first, backend_timeout, poll_timeout, deadline_of, LONGEST_POLL};
+
+use crate::state::LoopState;
+use uv_ids::Mode;
+
+/// The longest poll in ms (own).
+const LONGEST_POLL: u64 = 2_147_483_647;
+
+impl LoopState {
+    /// Whether the loop is alive: some handle is active and referenced (uv_loop_alive).
+    pub(super) fn is_alive(&self) -> bool
+        ensures { result ≡ is_alive self.now }
+    {
+        self.slots.iter().any(|slot| slot.keeps_alive())
+    }
+
+    /// In how many ms the first timer is due; none is infinite.
+    fn until_first(&self) -> Option<u64>
+        ensures timeout { result ≡ until_first self.now.time self.now.timers }
+        ensures short { IfSome result (λ ms. ms ≤ LONGEST_POLL) }
+    {
+        let (due, _) = self.timers.first_key_value()?;
+        Some(due.at.saturating_sub(self.time).min(LONGEST_POLL))
+    }
+
+    /// How long a poll might wait, in ms; none is infinite (uv_backend_timeout).
+    pub(super) fn backend_timeout(&self) -> Option<u64>
+        ensures timeout { result ≡ backend_timeout self.now }
+        ensures short { IfSome result (λ ms. ms ≤ LONGEST_POLL) }
+    {
+        if self.stop_flag || !self.is_alive() || self.idle.any() {
+            return Some(0);
+        }
+        self.until_first()
+    }
+
+    /// How long the poll of a run may wait, in ms; none is infinite. In once it doesn't wait where an idle handle was active
+    /// as the iteration began (own).
+    pub(super) fn poll_timeout(&self, mode: Mode) -> Option<u64>
+        ensures timeout { result ≡ poll_timeout self.now mode }
+        ensures short { IfSome result (λ ms. ms ≤ LONGEST_POLL) }
+    {
+        match mode {
+            Mode::Nowait => Some(0),
+            Mode::Once if self.idled => Some(0),
+            Mode::Default | Mode::Once => self.backend_timeout(),
+        }
+    }
+
+    /// When a poll that begins now is over at the latest, in ms; none is never.
+    pub(super) fn deadline_of(&self, timeout: Option<u64>) -> Option<u64>
+        requires time { self.now.time < 2 ^ 63 }
+        requires short { IfSome timeout (λ ms. ms ≤ LONGEST_POLL) }
+        ensures { result ≡ deadline_of self.now timeout }
+    {
+        match timeout {
+            None => None,
+            Some(timeout) => Some(self.time + timeout),
+        }
+    }
+}
