@@ -118,10 +118,6 @@ bound_to s (Some id) t e = at (held s id) e where
 one_taken : (s : State) (v : Var) (t : Id × Handle) → live s v ≡ Some t → ids_of s (Some v) ≡ t.0 ∷ []
 one_taken s v t e = rw (bound_to s (named s v).id t e) refl
 
--- those that are left stay, where nobody is taken off
-abbrev Stays : Phase → State → Op → List Id → List Id → ops.Done → (State → List Id) → Type 0
-Stays word s o ids off d list = list d.state ≡ left_of ids (taken_off word s o d.answer ++ off)
-
 unchanged : (word : Phase) (s : State) (o : Op) (ids off now : List Id) (a : Answer) → off_by word o ≡ None → now ≡ left_of ids off → now ≡ left_of ids (taken_off word s o a ++ off)
 unchanged word s o ids off now a e h = rw (none_taken word s o a e) h
 
@@ -130,9 +126,6 @@ one_less : (s : State) (v : Var) (t : Id × Handle) (ids off was now : List Id) 
 one_less s v t ids off was now e h k = rw (one_taken s v t e) (k ∙ ap (λ (is : List Id). without_id is t.0) h ∙ sym (one_off ids off t.0))
 
 -- ---- the ready list
-
-ready_of : State → List Id
-ready_of s = s.ready
 
 not_ready : (s : State) (id : Id) (h : Handle) (q : WatcherKind) → held s id ≡ Some h → h.kind ≡ kind_as q → Kept s → has_id s.ready id ≡ false
 not_ready s id h q e t k = not_listed s.slots Rests id h s.ready e (λ r. apart q (sym t ∙ r.kind)) k.ready where
@@ -246,9 +239,6 @@ stop_yet s v w ids off None e k h = h
 stop_yet s v watcher.Idle ids off (Some t) e k h = one_less s v t ids off s.idle.yet _ e h (stopped_yet s t.0 t.1 watcher.Idle (watcher_kind t.1.kind) (live_held s v t e) refl k)
 stop_yet s v watcher.Prepare ids off (Some t) e k h = one_less s v t ids off s.prepare.yet _ e h (stopped_yet s t.0 t.1 watcher.Prepare (watcher_kind t.1.kind) (live_held s v t e) refl k)
 stop_yet s v watcher.Check ids off (Some t) e k h = one_less s v t ids off s.check.yet _ e h (stopped_yet s t.0 t.1 watcher.Check (watcher_kind t.1.kind) (live_held s v t e) refl k)
-
-yet_is : State → WatcherKind → List Id
-yet_is s w = (watched s w).yet
 
 on_timer_yet : (s : State) (w : WatcherKind) (f : Id → Handle → ops.Done) → ((id : Id) (h : Handle) → (watched (f id h).state w).yet ≡ (watched s w).yet) → (t : Option (Id × Handle)) → (watched (ops.on_timer s t f).state w).yet ≡ (watched s w).yet
 on_timer_yet s w f g None = refl

@@ -138,9 +138,6 @@ are_timers s k = record {
   sorted = k.timers.sorted;
 }
 
-are_due : (s : State) → Kept s → AreDue s (due_now s)
-are_due s k = record { timers = s.timers; are = are_timers s k; due = refl }
-
 due_distinct : (s : State) → Kept s → AreDistinct (due_now s)
 due_distinct s k = distinct_due s.time s.timers k.timers.sorted (λ a b id h l. one_due a b id (k.timers.each a id h).0 (k.timers.each b id l).0) where
   one_due : (a b : Due) (id : Id) → Fits s.slots (IsActive a) id → Fits s.slots (IsActive b) id → a ≡ b
@@ -264,11 +261,6 @@ collect_follows p s run first ids (t ∷ ts) d k e h = cond_both (nat_le t.0.at 
     sorted f = (subst (Times s.slots s.next_start) f k.timers).sorted
 
 -- ---- sections of watchers
-
-watchers_stand : (p : Program) (ready due idle prepare check : List Id) (m : Mode) (i : ℕ) (q : WatcherKind) (w : Walk) (body : Option Body) (yet : List Id) → ready ≡ [] → (q ≡ watcher.Idle → idle ≡ yet) → (q ≡ watcher.Prepare → prepare ≡ yet) → (q ≡ watcher.Check → check ≡ yet) → yet ≡ left_of w.ahead w.off → IsBody p body w.body → StandsIn p ready due idle prepare check m i body (stage_of q) (Within m i (In (phase_of q)) w)
-watchers_stand p ready due idle prepare check m i watcher.Idle w body yet r a b c e f = idles r (a refl ∙ e) f
-watchers_stand p ready due idle prepare check m i watcher.Prepare w body yet r a b c e f = prepares r (b refl ∙ e) f
-watchers_stand p ready due idle prepare check m i watcher.Check w body yet r a b c e f = checks r (c refl ∙ e) f
 
 -- a section of watchers begins
 opens_idle : (s t : State) → Kept s → Opens phase.Idle (record { before = s; seen = seen.Section phase.Idle; after = t }) (record { ahead = s.idle.list; off = []; body = [] })

@@ -190,9 +190,6 @@ is_new (t ∷ ts) key h = (turned_other (due_cmp t.0 key) (another t.0 key (h t.
 
 -- ---- those that are due
 
-abbrev pub is_due : ℕ → Due × Id → Bool
-is_due time t = nat_le t.0.at time
-
 -- their ids, in order
 abbrev pub due_ids : ℕ → List (Due × Id) → List Id
 due_ids time ts = map (λ (t : Due × Id). t.1) (filter (λ (t : Due × Id). nat_le t.0.at time) ts)
