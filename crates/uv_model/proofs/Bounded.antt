@@ -1,5 +1,5 @@
 -- A state's numbers are no larger than the number of its steps, and its times no later than the clock's limit.
-use Rattle.std.proofs.Common.{◌≡◌, ℕ, suc, ◌+◌, ◌<◌, ◌≤◌, ◌^◌, List, [], ◌∷◌, ◌++◌, length, Bool, true, false, Option, Some, None, if◌then◌else◌, nat_le, ◌==◌, ◌&&◌, option_and_then, slice_get, slice_set, All, refl, arith, subst, replicate, add-zero, zero-add}
+use Rattle.std.proofs.Common.{◌≡◌, ℕ, suc, ◌+◌, ◌<◌, ◌≤◌, ◌^◌, List, [], ◌∷◌, ◌++◌, length, drop, Bool, true, false, Option, Some, None, if◌then◌else◌, nat_le, ◌==◌, ◌&&◌, option_and_then, slice_get, slice_set, All, refl, arith, subst, replicate, add-zero, zero-add}
 use Rattle.std.proofs.lemmas.Grind.{elements}
 use Rattle.std.proofs.lemmas.Bool.{cond_both}
 use Rattle.std.proofs.lemmas.Bool.Decides.{nat_tests}
@@ -23,31 +23,35 @@ use Rattle.uv_model.specs.declared.handle.Named.{Named}
 use Rattle.uv_model.specs.declared.place.Body.{Body}
 use Rattle.uv_model.specs.declared.place.Run.{Run}
 use Rattle.uv_model.specs.declared.place.Stage.{Stage}
-use Rattle.uv_model.specs.declared.place.Stage.TheVariants.{Entry, First, Pending, Idle, Prepare, Poll, Done, Async, Check, Closing, Timers}
+use Rattle.uv_model.specs.declared.place.Stage.TheVariants.{Entry, Pending, Idle, Prepare, Poll, Done, Async, Check, Closing, Timers}
+use Rattle.uv_model.specs.declared.place.TimersOf.{TimersOf}
+use Rattle.uv_model.specs.declared.place.TimersOf.TheVariants as timers_of
 use Rattle.uv_model.specs.declared.place.Timing.{Timing}
 use Rattle.uv_model.specs.declared.place.Timing.TheVariants.{Collecting, Firing}
 use Rattle.uv_model.specs.declared.place.Place.{Place}
 use Rattle.uv_model.specs.declared.place.Place.TheVariants.{Main, Running}
 use Rattle.uv_model.specs.declared.watchers.WatcherKind.{WatcherKind}
 use Rattle.uv_model.specs.declared.watchers.WatcherKind.TheVariants as watcher
-use Rattle.uv_model.specs.Ids.{without_id, has_some}
-use Rattle.uv_model.specs.Handles.{new_handle, inactive, is_timer}
-use Rattle.uv_model.specs.Watchers.{Watched, with_watcher, without_watcher, all_yet, moved_on, watcher_kind}
-use Rattle.uv_model.specs.State.{State, fresh, named, handle_of, with_handle, with_named, with_new, unused_slot, held, held_in, with_id, live_id, live, watched, with_watched, refreshed}
-use Rattle.uv_model.specs.Timers.{timer_stopped, started, restarted, without_timer}
+use Rattle.uv_model.specs.Ids.{has_some}
+use Rattle.uv_model.specs.Found.{found_or}
+use Rattle.uv_model.specs.Handles.{new_handle, inactive, is_timer, handle_in}
+use Rattle.uv_model.specs.Watchers.{Watched, with_watcher, all_yet, moved_on, watcher_kind}
+use Rattle.uv_model.specs.State.{State, fresh, named, with_handle, with_named, with_new, unused_slot, held, held_in, with_id, live_id, live, front, watched, with_watched, refreshed}
+use Rattle.uv_model.specs.Timers.{taken_off, stopped, started, restarted}
 use Rattle.uv_model.specs.Timeout.{has_passed}
 use Rattle.uv_model.specs.Ops as ops
 use Rattle.uv_model.specs.Ops.{do_op, refuses}
-use Rattle.uv_model.specs.Next.{Next, Moves, Refuses, next, loop_step, main_step, run_step, body_step, stage_step, tick, timers, collect, fire, leave_timers, enter, ends, new_iteration, call, made_ready, is_default, timers_stage, body_from, goes, begin_walk, after_walk, walk, stage_of}
+use Rattle.uv_model.specs.Next.{Next, Moves, Refuses, next, loop_step, main_step, run_step, body_step, stage_step, tick, timers, collect, collected, first_due, fire, leave_timers, enter, ends, new_iteration, call, is_default, body_from, goes, begin_walk, after_walk, walk, stage_of}
 use Rattle.uv_model.specs.After.{after, goes_on, state_of}
-use Rattle.uv_model.specs.Bounds.{line_of, HoldsBefore, StartsBefore, IsSmall}
+use Rattle.uv_model.specs.Bounds.{line_of, HoldsBefore, StartsBefore, CanStep}
 use Rattle.uv_model.proofs.Counts.{at_name}
+use Rattle.uv_model.proofs.Found.{found_both}
 
 abbrev pub Counts : ℕ → List Named → Type 0
 Counts n names = All (λ (x : Named). x.calls ≤ n) names
 
 abbrev pub Drawn : ℕ → List Slot → Type 0
-Drawn n slots = All (λ (x : Slot). HoldsBefore n x.content) slots
+Drawn n slots = All (λ (x : Slot). HoldsBefore n (handle_in x.content)) slots
 
 pub record IsBounded (n : ℕ) (s : State) : Type 0 where
   pub counts : Counts n s.names
@@ -80,10 +84,10 @@ holds_more m n (Some x) l h = λ t a. omega (arith, h t a)
 drawn_more : (m n : ℕ) (slots : List Slot) → m ≤ n → Drawn m slots → Drawn n slots
 drawn_more m n slots l h = λ k d w. holds_more m n _ l (h k d w)
 
-drawn_set : (n : ℕ) (slots : List Slot) (i : ℕ) (x : Slot) → Drawn n slots → HoldsBefore n x.content → Drawn n (slice_set slots i x)
+drawn_set : (n : ℕ) (slots : List Slot) (i : ℕ) (x : Slot) → Drawn n slots → HoldsBefore n (handle_in x.content) → Drawn n (slice_set slots i x)
 drawn_set n slots i x h b = grind (arith, elements, h)
 
-drawn_push : (n : ℕ) (slots : List Slot) (x : Slot) → Drawn n slots → HoldsBefore n x.content → Drawn n (slots ++ x ∷ [])
+drawn_push : (n : ℕ) (slots : List Slot) (x : Slot) → Drawn n slots → HoldsBefore n (handle_in x.content) → Drawn n (slots ++ x ∷ [])
 drawn_push n slots x h b = grind (arith, elements, h)
 
 never : (n : ℕ) (h : Handle) → h.active ≡ false → StartsBefore n h
@@ -104,12 +108,12 @@ abbrev LiveBefore : ℕ → Option (Id × Handle) → Type 0
 LiveBefore n None = Unit {0}
 LiveBefore n (Some t) = StartsBefore n t.1
 
-slot_before : (n : ℕ) (slots : List Slot) (i : ℕ) (slot : Slot) → slice_get slots i ≡ Some slot → Drawn n slots → HoldsBefore n slot.content
+slot_before : (n : ℕ) (slots : List Slot) (i : ℕ) (slot : Slot) → slice_get slots i ≡ Some slot → Drawn n slots → HoldsBefore n (handle_in slot.content)
 slot_before n slots i slot e h = grind (arith, elements, h)
 
 found_before : (n : ℕ) (slots : List Slot) (id : Id) (x : Option Slot) → slice_get slots id.slot ≡ x → Drawn n slots → HoldsBefore n (option_and_then (held_in id) x)
 found_before n slots id None e h = tt
-found_before n slots id (Some slot) e h = if_keeps (HoldsBefore n) (slot.generation == id.generation) slot.content None (slot_before n slots id.slot slot e h) tt
+found_before n slots id (Some slot) e h = if_keeps (HoldsBefore n) (slot.generation == id.generation) (handle_in slot.content) None (slot_before n slots id.slot slot e h) tt
 
 with_id_before : (n : ℕ) (id : Id) (x : Option Handle) → HoldsBefore n x → LiveBefore n (with_id id x)
 with_id_before n id None h = tt
@@ -136,6 +140,9 @@ renamed n s v x h l = record { counts = counts_set n s.names v.0 x h.counts l; s
 listed : (n : ℕ) (s : State) (ts : List (Due × Id)) (ready : List Id) → IsBounded n s → IsBounded n (record s { timers = ts; ready = ready })
 listed n s ts ready h = record { counts = h.counts; starts = h.starts; drawn = h.drawn; time = h.time; clock = h.clock; line = h.line }
 
+off_bounded : (n : ℕ) (s : State) (id : Id) (x : Handle) → IsBounded n s → IsBounded n (taken_off s id x)
+off_bounded n s id x h = record { counts = h.counts; starts = h.starts; drawn = h.drawn; time = h.time; clock = h.clock; line = h.line }
+
 kept_in : (n : ℕ) (s : State) (id : Id) (x : Handle) → IsBounded n s → StartsBefore s.next_start x → IsBounded n (with_handle s id x)
 kept_in n s id x h b = record { counts = h.counts; starts = h.starts; drawn = drawn_set s.next_start s.slots id.slot _ h.drawn b; time = h.time; clock = h.clock; line = h.line }
 
@@ -155,11 +162,8 @@ watched_names n s watcher.Idle w h = h
 watched_names n s watcher.Prepare w h = h
 watched_names n s watcher.Check w h = h
 
-stopped_bounded : (n : ℕ) (s : State) (id : Id) (x : Handle) → IsBounded n s → IsBounded n (timer_stopped s id x)
-stopped_bounded n s id x h =
-    let ts = if x.active then without_timer s.timers x.due else s.timers in
-    let ready = without_id s.ready id in
-    kept_in n (record s { timers = ts; ready = ready }) id (inactive x) (listed n s ts ready h) (never s.next_start (inactive x) refl)
+stopped_bounded : (n : ℕ) (s : State) (id : Id) (x : Handle) → IsBounded n s → IsBounded n (stopped s id x)
+stopped_bounded n s id x h = kept_in n (taken_off s id x) id (inactive x) (off_bounded n s id x h) (never s.next_start (inactive x) refl)
 
 started_bounded : (n : ℕ) (s : State) (id : Id) (x : Handle) (timeout repeat : ℕ) → IsBounded n s → IsBounded (suc n) (started s id x timeout repeat)
 started_bounded n s id x timeout repeat h = record {
@@ -184,69 +188,57 @@ init_bounded : (n : ℕ) (s : State) (v : Var) (kind : Kind) (t : Option (Id × 
 init_bounded n s v kind (Some t) h = more n s h
 init_bounded n s v kind None h = init_in_bounded n s v kind (unused_slot s) h
 
-on_timer_bounded : (n : ℕ) (s : State) (t : Option (Id × Handle)) (f : Id → Handle → ops.Done) → IsBounded n s → LiveBefore s.next_start t →
-    ((id : Id) (x : Handle) → StartsBefore s.next_start x → IsBounded (suc n) (f id x).state) → IsBounded (suc n) (ops.on_timer s t f).state
-on_timer_bounded n s None f h l k = more n s h
-on_timer_bounded n s (Some t) f h l k = if_keeps (λ (d : ops.Done). IsBounded (suc n) d.state) (is_timer t.1.kind) (f t.0 t.1) (refuses s Ekind) (k t.0 t.1 l) (more n s h)
+on_handle_bounded : (n : ℕ) (s : State) (v : Var) (f : Id → Handle → ops.Done) → IsBounded n s →
+    ((id : Id) (x : Handle) → StartsBefore s.next_start x → IsBounded (suc n) (f id x).state) → IsBounded (suc n) (ops.on_handle s (live s v) f).state
+on_handle_bounded n s v f h k = at (live s v) (live_before s v h.drawn) where
+  at : (t : Option (Id × Handle)) → LiveBefore s.next_start t → IsBounded (suc n) (ops.on_handle s t f).state
+  at None l = more n s h
+  at (Some t) l = k t.0 t.1 l
+
+on_timer_bounded : (n : ℕ) (s : State) (v : Var) (f : Id → Handle → ops.Done) → IsBounded n s →
+    ((id : Id) (x : Handle) → StartsBefore s.next_start x → IsBounded (suc n) (f id x).state) → IsBounded (suc n) (ops.on_timer s (live s v) f).state
+on_timer_bounded n s v f h k = on_handle_bounded n s v _ h
+    (λ id x b. if_keeps (λ (d : ops.Done). IsBounded (suc n) d.state) (is_timer x.kind) (f id x) (refuses s Ekind) (k id x b) (more n s h))
+
+on_watcher_bounded : (n : ℕ) (s : State) (v : Var) (f : WatcherKind → Id → Handle → ops.Done) → IsBounded n s →
+    ((kind : WatcherKind) (id : Id) (x : Handle) → watcher_kind x.kind ≡ Some kind → IsBounded (suc n) (f kind id x).state) → IsBounded (suc n) (ops.on_watcher s (live s v) f).state
+on_watcher_bounded n s v f h k = on_handle_bounded n s v _ h
+    (λ id x b. found_both (watcher_kind x.kind) _ _ (λ (d : ops.Done). IsBounded (suc n) d.state) (λ kind e. k kind id x e) (λ e. more n s h))
 
 start_bounded : (n : ℕ) (s : State) (timeout repeat : ℕ) (id : Id) (x : Handle) → IsBounded n s → IsBounded (suc n) (ops.start s timeout repeat id x).state
-start_bounded n s timeout repeat id x h = started_bounded n (timer_stopped s id x) id x timeout repeat (stopped_bounded n s id x h)
+start_bounded n s timeout repeat id x h = started_bounded n (stopped s id x) id x timeout repeat (stopped_bounded n s id x h)
 
 restarted_bounded : (n : ℕ) (s : State) (id : Id) (x : Handle) → IsBounded n s → IsBounded (suc n) (restarted s id x)
 restarted_bounded n s id x h = if_keeps (IsBounded (suc n)) (x.repeat == 0) s (started s id x x.repeat x.repeat) (more n s h) (started_bounded n s id x x.repeat x.repeat h)
 
 again_bounded : (n : ℕ) (s : State) (id : Id) (x : Handle) → IsBounded n s → IsBounded (suc n) (ops.again s id x).state
-again_bounded n s id x h = if_keeps (λ (d : ops.Done). IsBounded (suc n) d.state) x.begun _ _ (restarted_bounded n (timer_stopped s id x) id x (stopped_bounded n s id x h)) (more n s h)
+again_bounded n s id x h = if_keeps (λ (d : ops.Done). IsBounded (suc n) d.state) x.begun _ _ (restarted_bounded n (stopped s id x) id x (stopped_bounded n s id x h)) (more n s h)
 
 set_repeat_bounded : (n : ℕ) (s : State) (repeat : ℕ) (id : Id) (x : Handle) → IsBounded n s → StartsBefore s.next_start x → IsBounded (suc n) (ops.set_repeat s repeat id x).state
 set_repeat_bounded n s repeat id x h b = let y : Handle = record x { repeat = repeat } in more n (with_handle s id y) (kept_in n s id y h b)
 
-start_as_bounded : (n : ℕ) (s : State) (id : Id) (x : Handle) (kind : Option WatcherKind) → watcher_kind x.kind ≡ kind → IsBounded n s → IsBounded (suc n) (ops.start_as s id x kind).state
-start_as_bounded n s id x None e h = more n s h
-start_as_bounded n s id x (Some kind) e h =
+start_watcher_bounded : (n : ℕ) (s : State) (kind : WatcherKind) (id : Id) (x : Handle) → watcher_kind x.kind ≡ Some kind → IsBounded n s → IsBounded (suc n) (ops.start_watcher s kind id x).state
+start_watcher_bounded n s kind id x e h =
     let t = with_watched s kind (with_watcher (watched s kind) id) in
     let y : Handle = record x { active = true } in
     if_keeps (IsBounded (suc n)) x.active s (with_handle t id y) (more n s h)
     (more n (with_handle t id y) (kept_in n t id y (watched_bounded n s kind _ h) (λ u a. absurd (never_timer x.kind kind e u))))
 
-start_watcher_bounded : (n : ℕ) (s : State) (t : Option (Id × Handle)) → IsBounded n s → IsBounded (suc n) (ops.start_watcher s t).state
-start_watcher_bounded n s None h = more n s h
-start_watcher_bounded n s (Some t) h = start_as_bounded n s t.0 t.1 (watcher_kind t.1.kind) refl h
-
-stopped_as_bounded : (n : ℕ) (s : State) (id : Id) (x : Handle) (kind : Option WatcherKind) → IsBounded n s → IsBounded n (ops.stopped_as s id x kind)
-stopped_as_bounded n s id x None h = stopped_bounded n s id x h
-stopped_as_bounded n s id x (Some kind) h =
-    let t = with_watched s kind (without_watcher (watched s kind) id) in
-    kept_in n t id (inactive x) (watched_bounded n s kind _ h) (never t.next_start (inactive x) refl)
-
-stop_bounded : (n : ℕ) (s : State) (t : Option (Id × Handle)) → IsBounded n s → IsBounded (suc n) (ops.stop s t).state
-stop_bounded n s None h = more n s h
-stop_bounded n s (Some t) h = more n (ops.stopped_as s t.0 t.1 (watcher_kind t.1.kind)) (stopped_as_bounded n s t.0 t.1 (watcher_kind t.1.kind) h)
-
-set_referenced_bounded : (n : ℕ) (s : State) (flag : Bool) (t : Option (Id × Handle)) → IsBounded n s → LiveBefore s.next_start t → IsBounded (suc n) (ops.set_referenced s flag t).state
-set_referenced_bounded n s flag None h l = more n s h
-set_referenced_bounded n s flag (Some t) h l = let x : Handle = record t.1 { referenced = flag } in more n (with_handle s t.0 x) (kept_in n s t.0 x h l)
-
-has_ref_bounded : (n : ℕ) (s : State) (t : Option (Id × Handle)) → IsBounded n s → IsBounded (suc n) (ops.has_ref s t).state
-has_ref_bounded n s None h = more n s h
-has_ref_bounded n s (Some t) h = more n s h
-
-is_active_bounded : (n : ℕ) (s : State) (t : Option (Id × Handle)) → IsBounded n s → IsBounded (suc n) (ops.is_active s t).state
-is_active_bounded n s None h = more n s h
-is_active_bounded n s (Some t) h = more n s h
+set_referenced_bounded : (n : ℕ) (s : State) (flag : Bool) (id : Id) (x : Handle) → IsBounded n s → StartsBefore s.next_start x → IsBounded (suc n) (ops.set_referenced s flag id x).state
+set_referenced_bounded n s flag id x h b = let y : Handle = record x { referenced = flag } in more n (with_handle s id y) (kept_in n s id y h b)
 
 op_bounded : (n : ℕ) (s : State) (x : Op) → IsBounded n s → IsBounded (suc n) (do_op s x).state
 op_bounded n s (op.Init v kind) h = init_bounded n s v kind (live s v) h
-op_bounded n s (op.Start v timeout repeat) h = on_timer_bounded n s (live s v) _ h (live_before s v h.drawn) (λ id x b. start_bounded n s timeout repeat id x h)
-op_bounded n s (op.StartWatcher v) h = start_watcher_bounded n s (live s v) h
-op_bounded n s (op.Stop v) h = stop_bounded n s (live s v) h
-op_bounded n s (op.Again v) h = on_timer_bounded n s (live s v) _ h (live_before s v h.drawn) (λ id x b. again_bounded n s id x h)
-op_bounded n s (op.SetRepeat v repeat) h = on_timer_bounded n s (live s v) _ h (live_before s v h.drawn) (λ id x b. set_repeat_bounded n s repeat id x h b)
-op_bounded n s (op.DueIn v) h = on_timer_bounded n s (live s v) _ h (live_before s v h.drawn) (λ id x b. more n s h)
-op_bounded n s (op.Ref v) h = set_referenced_bounded n s true (live s v) h (live_before s v h.drawn)
-op_bounded n s (op.Unref v) h = set_referenced_bounded n s false (live s v) h (live_before s v h.drawn)
-op_bounded n s (op.HasRef v) h = has_ref_bounded n s (live s v) h
-op_bounded n s (op.IsActive v) h = is_active_bounded n s (live s v) h
+op_bounded n s (op.Start v timeout repeat) h = on_timer_bounded n s v _ h (λ id x b. start_bounded n s timeout repeat id x h)
+op_bounded n s (op.StartWatcher v) h = on_watcher_bounded n s v _ h (λ kind id x e. start_watcher_bounded n s kind id x e h)
+op_bounded n s (op.Stop v) h = on_handle_bounded n s v _ h (λ id x b. more n (stopped s id x) (stopped_bounded n s id x h))
+op_bounded n s (op.Again v) h = on_timer_bounded n s v _ h (λ id x b. again_bounded n s id x h)
+op_bounded n s (op.SetRepeat v repeat) h = on_timer_bounded n s v _ h (λ id x b. set_repeat_bounded n s repeat id x h b)
+op_bounded n s (op.DueIn v) h = on_timer_bounded n s v _ h (λ id x b. more n s h)
+op_bounded n s (op.Ref v) h = on_handle_bounded n s v _ h (λ id x b. set_referenced_bounded n s true id x h b)
+op_bounded n s (op.Unref v) h = on_handle_bounded n s v _ h (λ id x b. set_referenced_bounded n s false id x h b)
+op_bounded n s (op.HasRef v) h = on_handle_bounded n s v _ h (λ id x b. more n s h)
+op_bounded n s (op.IsActive v) h = on_handle_bounded n s v _ h (λ id x b. more n s h)
 op_bounded n s op.StopLoop h = more n _ (flagged n s true s.idled h)
 op_bounded n s op.UpdateTime h = more n (refreshed s) (at_clock n s h)
 op_bounded n s op.Now h = more n s h
@@ -268,12 +260,12 @@ iteration_bounded n s run h l =
 
 enter_bounded : (n : ℕ) (s : State) (run : Run) → IsBounded n s → run.line ≤ n → StaysBounded (suc n) (enter s run)
 enter_bounded n s run h l = if_keeps (StaysBounded (suc n)) (goes s) _ _
-    (if_keeps (StaysBounded (suc n)) (is_default run.mode) _ _ (run_at n s (record run { stage = First Collecting; body = None }) h l) (iteration_bounded n s run h l))
+    (if_keeps (StaysBounded (suc n)) (is_default run.mode) _ _ (run_at n s (record run { stage = Timers timers_of.Entry Collecting; body = None }) h l) (iteration_bounded n s run h l))
     (ends_bounded n s run h l)
 
-leave_bounded : (n : ℕ) (s : State) (run : Run) (first : Bool) → IsBounded n s → run.line ≤ n → StaysBounded (suc n) (leave_timers s run first)
-leave_bounded n s run true h l = if_keeps (StaysBounded (suc n)) (goes s) _ _ (iteration_bounded n s run h l) (ends_bounded n s run h l)
-leave_bounded n s run false h l = if_keeps (StaysBounded (suc n)) (is_default run.mode && goes s) _ _ (iteration_bounded n s run h l) (ends_bounded n s run h l)
+leave_bounded : (n : ℕ) (s : State) (run : Run) (part : TimersOf) → IsBounded n s → run.line ≤ n → StaysBounded (suc n) (leave_timers s run part)
+leave_bounded n s run timers_of.Entry h l = if_keeps (StaysBounded (suc n)) (goes s) _ _ (iteration_bounded n s run h l) (ends_bounded n s run h l)
+leave_bounded n s run timers_of.Iteration h l = if_keeps (StaysBounded (suc n)) (is_default run.mode && goes s) _ _ (iteration_bounded n s run h l) (ends_bounded n s run h l)
 
 call_bounded : (p : Program) (n : ℕ) (s : State) (run : Run) (id : Id) (v : Var) → IsBounded (suc n) s → Counts n s.names → run.line ≤ n → StaysBounded (suc n) (call p s run id v)
 call_bounded p n s run id v h counts l =
@@ -284,26 +276,24 @@ call_bounded p n s run id v h counts l =
 restarted_names : (n : ℕ) (s : State) (id : Id) (x : Handle) → Counts n s.names → Counts n (restarted s id x).names
 restarted_names n s id x h = if_keeps (λ (t : State). Counts n t.names) (x.repeat == 0) s (started s id x x.repeat x.repeat) h h
 
-fire_bounded : (p : Program) (n : ℕ) (s : State) (run : Run) (first : Bool) (ids : List Id) → IsBounded n s → run.line ≤ n → StaysBounded (suc n) (fire p s run first ids)
-fire_bounded p n s run first [] h l = leave_bounded n s run first h l
-fire_bounded p n s run first (id ∷ rest) h l =
-    let t = record s { ready = rest } in
-    let x = handle_of s id in
-    let b = listed n s s.timers rest h in
-    call_bounded p n (restarted t id x) (record run { stage = timers_stage first Firing }) id x.name (restarted_bounded n t id x b) (restarted_names n t id x h.counts) l
+fire_bounded : (p : Program) (n : ℕ) (s : State) (run : Run) (part : TimersOf) → IsBounded n s → run.line ≤ n → StaysBounded (suc n) (fire p s run part)
+fire_bounded p n s run part h l = found_both (front s s.ready) _ _ (StaysBounded (suc n))
+    (λ t e. let u = record s { ready = drop 1 s.ready } in
+      call_bounded p n (restarted u t.0 t.1) (record run { stage = Timers part Firing }) t.0 t.1.name
+      (restarted_bounded n u t.0 t.1 (listed n s s.timers (drop 1 s.ready) h)) (restarted_names n u t.0 t.1 h.counts) l)
+    (λ e. leave_bounded n s run part h l)
 
-collect_bounded : (p : Program) (n : ℕ) (s : State) (run : Run) (first : Bool) (ts : List (Due × Id)) → IsBounded n s → run.line ≤ n → StaysBounded (suc n) (collect p s run first ts)
-collect_bounded p n s run first [] h l = fire_bounded p n s run first s.ready h l
-collect_bounded p n s run first (t ∷ rest) h l = if_keeps (StaysBounded (suc n)) (nat_le t.0.at s.time) _ _
-    (let ready = s.ready ++ t.1 ∷ [] in
-    let x = inactive (handle_of s t.1) in
-    let u = record (made_ready s t.1) { timers = rest } in
-    run_at n u (record run { stage = timers_stage first Collecting; body = None }) (kept_in n (record s { timers = rest; ready = ready }) t.1 x (listed n s rest ready h) (never s.next_start x refl)) l)
-    (fire_bounded p n s run first s.ready h l)
+collected_bounded : (n : ℕ) (s : State) (id : Id) (x : Handle) → IsBounded n s → IsBounded n (collected s id x)
+collected_bounded n s id x h =
+    let ready = s.ready ++ id ∷ [] in
+    let ts = drop 1 s.timers in
+    kept_in n (record s { timers = ts; ready = ready }) id (inactive x) (listed n s ts ready h) (never s.next_start (inactive x) refl)
 
-timers_bounded : (p : Program) (n : ℕ) (s : State) (run : Run) (first : Bool) (timing : Timing) → IsBounded n s → run.line ≤ n → StaysBounded (suc n) (timers p s run first timing)
-timers_bounded p n s run first Collecting h l = collect_bounded p n s run first s.timers h l
-timers_bounded p n s run first Firing h l = fire_bounded p n s run first s.ready h l
+timers_bounded : (p : Program) (n : ℕ) (s : State) (run : Run) (part : TimersOf) (timing : Timing) → IsBounded n s → run.line ≤ n → StaysBounded (suc n) (timers p s run part timing)
+timers_bounded p n s run part Collecting h l = found_both (first_due s s.timers) _ _ (StaysBounded (suc n))
+    (λ t e. run_at n (collected s t.0 t.1) (record run { stage = Timers part Collecting; body = None }) (collected_bounded n s t.0 t.1 h) l)
+    (λ e. fire_bounded p n s run part h l)
+timers_bounded p n s run part Firing h l = fire_bounded p n s run part h l
 
 begin_walk_bounded : (n : ℕ) (s : State) (run : Run) (kind : WatcherKind) → IsBounded n s → run.line ≤ n → StaysBounded (suc n) (begin_walk s run kind)
 begin_walk_bounded n s run kind h l = let w = all_yet (watched s kind) in run_at n (with_watched s kind w) (record run { stage = stage_of kind; body = None }) (watched_bounded n s kind w h) l
@@ -313,28 +303,27 @@ after_walk_bounded n s run watcher.Idle h l = begin_walk_bounded n s run watcher
 after_walk_bounded n s run watcher.Prepare h l = run_at n s (record run { stage = _; body = None }) h l
 after_walk_bounded n s run watcher.Check h l = run_at n s (record run { stage = Closing; body = None }) h l
 
-walk_bounded : (p : Program) (n : ℕ) (s : State) (run : Run) (kind : WatcherKind) (ids : List Id) → IsBounded n s → run.line ≤ n → StaysBounded (suc n) (walk p s run kind ids)
-walk_bounded p n s run kind [] h l = after_walk_bounded n s run kind h l
-walk_bounded p n s run kind (id ∷ rest) h l =
-    let w = moved_on (watched s kind) id rest in
-    let t = with_watched s kind w in
-    call_bounded p n t run id (handle_of s id).name (more n t (watched_bounded n s kind w h)) (watched_names n s kind w h.counts) l
+walk_bounded : (p : Program) (n : ℕ) (s : State) (run : Run) (kind : WatcherKind) → IsBounded n s → run.line ≤ n → StaysBounded (suc n) (walk p s run kind)
+walk_bounded p n s run kind h l = found_both (front s (watched s kind).yet) _ _ (StaysBounded (suc n))
+    (λ t e. let w = moved_on (watched s kind) t.0 in
+      let u = with_watched s kind w in
+      call_bounded p n u run t.0 t.1.name (more n u (watched_bounded n s kind w h)) (watched_names n s kind w h.counts) l)
+    (λ e. after_walk_bounded n s run kind h l)
 
 stage_bounded : (p : Program) (n : ℕ) (s : State) (run : Run) (stage : Stage) → IsBounded n s → run.line ≤ n → StaysBounded (suc n) (stage_step p s run stage)
 stage_bounded p n s run Entry h l = enter_bounded n s run h l
-stage_bounded p n s run (First timing) h l = timers_bounded p n s run true timing h l
 stage_bounded p n s run Pending h l = begin_walk_bounded n s run watcher.Idle h l
-stage_bounded p n s run Idle h l = walk_bounded p n s run watcher.Idle s.idle.yet h l
-stage_bounded p n s run Prepare h l = walk_bounded p n s run watcher.Prepare s.prepare.yet h l
+stage_bounded p n s run Idle h l = walk_bounded p n s run watcher.Idle h l
+stage_bounded p n s run Prepare h l = walk_bounded p n s run watcher.Prepare h l
 stage_bounded p n s run (Poll deadline) h l = if_keeps (StaysBounded (suc n)) (has_passed s.clock deadline) _ _ (run_at n (refreshed s) (record run { stage = Done; body = None }) (at_clock n s h) l) tt
 stage_bounded p n s run Done h l = run_at n s (record run { stage = Async; body = None }) h l
 stage_bounded p n s run Async h l = begin_walk_bounded n s run watcher.Check h l
-stage_bounded p n s run Check h l = walk_bounded p n s run watcher.Check s.check.yet h l
-stage_bounded p n s run Closing h l = run_at n (refreshed s) (record run { stage = Timers Collecting; body = None }) (at_clock n s h) l
-stage_bounded p n s run (Timers timing) h l = timers_bounded p n s run false timing h l
+stage_bounded p n s run Check h l = walk_bounded p n s run watcher.Check h l
+stage_bounded p n s run Closing h l = run_at n (refreshed s) (record run { stage = Timers timers_of.Iteration Collecting; body = None }) (at_clock n s h) l
+stage_bounded p n s run (Timers part timing) h l = timers_bounded p n s run part timing h l
 
 body_bounded : (p : Program) (n : ℕ) (s : State) (run : Run) (body : Body) (line : Option CallbackLine) → IsBounded n s → run.line ≤ n → StaysBounded (suc n) (body_step p s run body line)
-body_bounded p n s run body None h l = stage_bounded p n s run run.stage h l
+body_bounded p n s run body None h l = run_at n s (record run { body = None }) h l
 body_bounded p n s run body (Some line) h l = placed (suc n) (do_op s line.op).state (Running (record run { body = body_from p body.name body.call (body.next + 1) })) (op_bounded n s line.op h) (omega arith)
 
 main_bounded : (n : ℕ) (s : State) (line : ℕ) (x : Option MainOp) → IsBounded n s → line ≤ n → StaysBounded (suc n) (main_step s line x)
@@ -382,8 +371,10 @@ fresh_names n = grind (arith, elements)
 
 after_bounded : (p : Program) (es : List Event) → IsBounded (length es) (after p es)
 unfolding after
-after_bounded p es = rw (← zero-add (length es)) (goes_on_bounded p 0 (fresh p) es (record { counts = fresh_names (length p.names); starts = omega arith; drawn = λ k d l. absurd (omega arith); time = omega arith; clock = omega arith; line = omega arith }))
+after_bounded p es = rw (← zero-add (length es)) (goes_on_bounded p 0 (fresh p) es (record { counts = fresh_names (length p.on); starts = omega arith; drawn = λ k d l. absurd (omega arith); time = omega arith; clock = omega arith; line = omega arith }))
 
--- after few steps the numbers fit
-pub after_small : (p : Program) (es : List Event) → length es ≤ 2 ^ 24 → IsSmall (after p es)
-after_small p es l = let h = after_bounded p es in record { counts = λ k d i. omega (arith, h.counts k d i); starts = omega arith; drawn = h.drawn; time = omega arith; line = omega arith }
+-- after few steps the numbers fit, and the timers' keys are apart
+pub after_able : (p : Program) (es : List Event) → length es ≤ 2 ^ 24 → CanStep (after p es)
+after_able p es l =
+    let h = after_bounded p es in
+    record { small = record { counts = λ k d i. omega (arith, h.counts k d i); starts = omega arith; time = omega arith; line = omega arith }; drawn = h.drawn }

@@ -1,14 +1,13 @@
 -- A list of events with one more, and the first of a list.
-use Rattle.std.proofs.Common.{◌≡◌, ℕ, suc, ◌+◌, ◌<◌, zero, List, [], ◌∷◌, ◌++◌, length, take, slice_get, map, option_to_list, Option, Some, None, refl, ap, ◌∙◌, get_or, subst, arith}
+use Rattle.std.proofs.Common.{◌≡◌, ℕ, suc, ◌+◌, ◌<◌, zero, List, [], ◌∷◌, ◌++◌, length, take, slice_get, Option, Some, None, refl, ap, ◌∙◌, get_or, subst, arith}
 use Rattle.std.proofs.lemmas.List.{take_more}
 use Rattle.std.proofs.lemmas.Option.{slice_get_read}
-use Rattle.std.specs.List.{flat_map}
 use Rattle.uv_ids.specs.declared.event.Event.{Event}
 use Rattle.uv_ids.specs.declared.seen.Seen.{Seen}
 use Rattle.uv_script.specs.Program.{Program}
 use Rattle.uv_model.specs.State.{State, fresh}
 use Rattle.uv_model.specs.Next.{Next, Moves, Refuses, next}
-use Rattle.uv_model.specs.After.{after, seen_by, goes_on, seen_from, state_of, seen_of, lines, Line, line_of_step, history_from, history, IsMove, AcceptsFrom, Accepts, Answers}
+use Rattle.uv_model.specs.After.{after, seen_by, goes_on, seen_from, state_of, seen_of, IsMove, AcceptsFrom, Accepts, Answers}
 use Rattle.uv_ids.specs.declared.fault.Fault.{Fault}
 use Rattle.uv_ids.specs.declared.fault.Fault.TheVariants as fault
 use Rattle.std.specs.Prelude.{Err}
@@ -54,21 +53,6 @@ seen_from-take p s (suc k) (x ∷ es) = ap (λ (ls : List (Option Seen)). seen_o
 pub seen_by-take : (p : Program) (k : ℕ) (es : List Event) → seen_by p (take k es) ≡ take k (seen_by p es)
 unfolding seen_by
 seen_by-take p k es = seen_from-take p (fresh p) k es
-
-line_of_next : (s : State) (n : Next) (ls : List Seen) (hs : List Line) → ls ≡ map (λ (l : Line). l.seen) hs →
-    option_to_list (seen_of n) ++ ls ≡ map (λ (l : Line). l.seen) (line_of_step s n ++ hs)
-line_of_next s (Moves t (Some seen)) ls hs h = ap (λ (xs : List Seen). seen ∷ xs) h
-line_of_next s (Moves t None) ls hs h = h
-line_of_next s (Refuses why) ls hs h = h
-
-lines-history_from : (p : Program) (s : State) (es : List Event) → flat_map option_to_list (seen_from p s es) ≡ map (λ (l : Line). l.seen) (history_from p s es)
-lines-history_from p s [] = refl
-lines-history_from p s (e ∷ es) = line_of_next s (next p s e) _ _ (lines-history_from p (state_of s (next p s e)) es)
-
--- the trace is the history's lines
-pub lines-history : (p : Program) (es : List Event) → lines p es ≡ map (λ (l : Line). l.seen) (history p es)
-unfolding seen_by history
-lines-history p es = lines-history_from p (fresh p) es
 
 -- what a standing step appended, read from a list of what each of them appended
 pub seen_at : (p : Program) (es : List Event) (xs : List (Option Seen)) (k : ℕ) (x : Option Seen) → xs ≡ seen_by p es → k < length es → x ≡ get_or xs k x → slice_get (seen_by p es) k ≡ Some x

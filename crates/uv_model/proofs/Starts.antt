@@ -1,5 +1,5 @@
 -- A timer that is started again.
-use Rattle.std.proofs.Common.{◌≡◌, ℕ, ◌+◌, ◌<◌, List, Bool, true, false, if◌then◌else◌, refl, sym, ◌∙◌, ap₂}
+use Rattle.std.proofs.Common.{◌≡◌, ℕ, ◌+◌, ◌<◌, ◌&&◌, List, Bool, true, false, if◌then◌else◌, refl, sym, ap₂}
 use Rattle.std.proofs.lemmas.List.{set-set}
 use Rattle.std.specs.List.Sorted.{IsStrictlySortedBy}
 use Rattle.std.specs.Map.{keys_of}
@@ -9,28 +9,33 @@ use Rattle.uv_ids.specs.declared.due.Due.{Due}
 use Rattle.uv_model.specs.declared.handle.Handle.{Handle}
 use Rattle.uv_model.specs.declared.handle.Slot.{Slot}
 use Rattle.uv_model.specs.State.{State, with_handle}
-use Rattle.uv_model.specs.Ids.{without_id}
 use Rattle.uv_model.specs.Handles.{is_timer}
-use Rattle.uv_model.specs.Timers.{with_timer, without_timer, due_after, timer_stopped, started}
+use Rattle.uv_model.specs.Timers.{with_timer, without_timer, due_after, taken_off, stopped, started}
 use Rattle.uv_model.specs.Bounds.{StartsBefore}
 use Rattle.uv_model.proofs.Order.{without-with_timer, another}
 
 -- the new key may be put in before the old one is taken out
-swapped : (ts : List (Due × Id)) (active : Bool) (old new : Due) (id : Id) → IsStrictlySortedBy due_cmp (keys_of ts) → (active ≡ true → old.start < new.start) → (if active then without_timer (with_timer ts new id) old else with_timer ts new id) ≡ with_timer (if active then without_timer ts old else ts) new id
+swapped : (ts : List (Due × Id)) (active : Bool) (old new : Due) (id : Id) → IsStrictlySortedBy due_cmp (keys_of ts) → (active ≡ true → old.start < new.start) →
+    (if active then without_timer (with_timer ts new id) old else with_timer ts new id) ≡ with_timer (if active then without_timer ts old else ts) new id
 swapped ts true old new id s l = without-with_timer ts old new id s (another old new (l refl))
 swapped ts false old new id s l = refl
 
+both_true : (a b : Bool) → a ≡ true → (a && b) ≡ b
+both_true a b e = rw e refl
+
+-- a state whose next start number is drawn
+abbrev pub drawn_one : State → State
+drawn_one s = record s { next_start = s.next_start + 1 }
+
 pub started_again : (s : State) (id : Id) (h : Handle) (timeout repeat : ℕ) → IsStrictlySortedBy due_cmp (keys_of s.timers) → is_timer h.kind ≡ true → StartsBefore s.next_start h →
     with_handle
-    (record s {
-      timers = if h.active then without_timer (with_timer s.timers (due_after s timeout) id) h.due else with_timer s.timers (due_after s timeout) id;
-      ready = without_id s.ready id;
-      next_start = s.next_start + 1;
-    })
+    (drawn_one (taken_off (record s { timers = with_timer s.timers (due_after s timeout) id }) id h))
     id
     (record h { active = true; begun = true; due = due_after s timeout; repeat = repeat })
-    ≡ started (timer_stopped s id h) id h timeout repeat
+    ≡ started (stopped s id h) id h timeout repeat
 started_again s id h timeout repeat sorted timer before =
-    ap₂ (λ (ts : List (Due × Id)) (slots : List Slot). record s { timers = ts; ready = without_id s.ready id; next_start = s.next_start + 1; slots = slots })
+    let u = taken_off s id h in
+    rw (both_true (is_timer h.kind) h.active timer) (
+    ap₂ (λ (ts : List (Due × Id)) (slots : List Slot). record u { timers = ts; next_start = s.next_start + 1; slots = slots })
     (swapped s.timers h.active h.due (due_after s timeout) id sorted (before timer))
-    (refl ∙ sym (set-set s.slots id.slot _ _))
+    (sym (set-set s.slots id.slot _ _)))

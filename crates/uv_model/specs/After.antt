@@ -5,6 +5,7 @@ use Rattle.uv_ids.specs.declared.event.Event.{Event}
 use Rattle.uv_ids.specs.declared.seen.Seen.{Seen}
 use Rattle.uv_ids.specs.declared.fault.Fault.{Fault}
 use Rattle.uv_ids.specs.declared.fault.Fault.TheVariants as fault
+use Rattle.uv_ids.specs.declared.fault.Why.{Why}
 use Rattle.uv_script.specs.Program.{Program}
 use Rattle.uv_model.specs.declared.machine.Outcome.{Outcome}
 use Rattle.uv_model.specs.State.{State, fresh}
@@ -42,27 +43,6 @@ seen_by p es = seen_from p (fresh p) es
 abbrev pub lines : Program → List Event → List Seen
 lines p es = flat_map option_to_list (seen_by p es)
 
--- a line of the trace, with the states before and after the step that appended it
-pub record Line : Type 0 where
-  pub before : State
-  pub seen : Seen
-  pub after : State
-
--- the line of a step, if it appends one
-abbrev pub line_of_step : State → Next → List Line
-line_of_step s (Moves t (Some seen)) = record { before = s; seen = seen; after = t } ∷ []
-line_of_step s (Moves t None) = []
-line_of_step s (Refuses why) = []
-
--- the lines that these events append, with their states, from a state
-abbrev pub history_from : Program → State → List Event → List Line
-history_from p s [] = []
-history_from p s (e ∷ es) = line_of_step s (next p s e) ++ history_from p (state_of s (next p s e)) es
-
--- the lines that these events append, with their states, from the beginning
-unfoldable pub history : Program → List Event → List Line
-history p es = history_from p (fresh p) es
-
 -- the step is taken
 abbrev pub IsMove : Next → Type 0
 IsMove (Moves t seen) = Unit {0}
@@ -81,11 +61,17 @@ Accepts p es = AcceptsFrom p (fresh p) es
 abbrev pub STEPS : ℕ
 STEPS = 16777216
 
--- what may be answered to an event after these steps, of which there may be so many, and the steps that stand then:
--- an accepted event is one more step and says what it appended, a refused one is none
+-- why a step is refused, if it is
+abbrev pub refusal_of : Next → Option Why
+refusal_of (Moves t seen) = None
+refusal_of (Refuses why) = Some why
+
+-- what may be answered to an event after these steps, of which there may be so many, and the steps that stand then: an accepted
+-- event is one more step and says what it appended, a refused one is none. A step that is to be refused is refused, whether there
+-- is memory or not
 abbrev pub Answers : ℕ → Program → List Event → Event → Result Outcome Fault → List Event → Type 0
 Answers limit p es e (Ok outcome) fs = (length es < limit) × (fs ≡ es ++ e ∷ []) × (next p (after p es) e ≡ Moves (after p fs) outcome.seen)
-Answers limit p es e (Err fault.Memory) fs = (length es < limit) × (fs ≡ es)
+Answers limit p es e (Err fault.Memory) fs = (length es < limit) × (fs ≡ es) × IsMove (next p (after p es) e)
 Answers limit p es e (Err (fault.Refused why)) fs = (length es < limit) × (fs ≡ es) × (next p (after p es) e ≡ Refuses why)
 Answers limit p es e (Err fault.StepsFull) fs = (limit ≤ length es) × (fs ≡ es)
 Answers limit p es e (Err _) fs = ⊥
@@ -94,5 +80,5 @@ Answers limit p es e (Err _) fs = ⊥
 abbrev pub GoesBack : List Event → Result Bool Fault → List Event → Type 0
 GoesBack es (Ok true) fs = (0 < length es) × (fs ≡ take (length es - 1) es)
 GoesBack es (Ok false) fs = (es ≡ []) × (fs ≡ es)
-GoesBack es (Err fault.Memory) fs = fs ≡ es
+GoesBack es (Err fault.Memory) fs = (0 < length es) × (fs ≡ es)
 GoesBack es (Err _) fs = ⊥

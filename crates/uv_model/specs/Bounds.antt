@@ -1,11 +1,11 @@
--- What keeps a state's numbers within their types, and the timers' keys apart.
+-- What a step needs of a state: its numbers fit their types, and the timers' keys are apart.
 use Rattle.std.specs.Prelude.{◌≡◌, ℕ, ◌<◌, ◌^◌, All, true, Option, Some, None}
 use Rattle.uv_model.specs.declared.handle.Handle.{Handle}
 use Rattle.uv_model.specs.declared.handle.Slot.{Slot}
 use Rattle.uv_model.specs.declared.handle.Named.{Named}
 use Rattle.uv_model.specs.declared.place.Place.{Place}
 use Rattle.uv_model.specs.declared.place.Place.TheVariants.{Main, Running}
-use Rattle.uv_model.specs.Handles.{is_timer}
+use Rattle.uv_model.specs.Handles.{is_timer, handle_in}
 use Rattle.uv_model.specs.State.{State}
 
 -- the main line at which a place stands
@@ -21,9 +21,18 @@ abbrev pub HoldsBefore : ℕ → Option Handle → Type 0
 HoldsBefore n None = Unit {0}
 HoldsBefore n (Some h) = StartsBefore n h
 
+-- the timers' keys are apart: each active timer drew its start number before the next one
+abbrev pub AreDrawn : State → Type 0
+AreDrawn s = All (λ (slot : Slot). HoldsBefore s.next_start (handle_in slot.content)) s.slots
+
+-- the numbers fit their types
 pub record IsSmall (s : State) : Type 0 where
   pub counts : All (λ (n : Named). n.calls < 2 ^ 31) s.names
   pub starts : s.next_start < 2 ^ 63
-  pub drawn : All (λ (slot : Slot). HoldsBefore s.next_start slot.content) s.slots
   pub time : s.time < 2 ^ 63
   pub line : line_of s.place < 2 ^ 63
+
+-- what a step needs of the state
+pub record CanStep (s : State) : Type 0 where
+  pub small : IsSmall s
+  pub drawn : AreDrawn s

@@ -1,3 +1,4 @@
+pub mod Found
 pub mod Ids
 pub mod Handles
 pub mod Watchers
@@ -10,5 +11,3 @@ pub mod Steps
 pub mod After
 pub mod Bounds
 pub mod Trail
-pub mod Timed
-pub mod Documented

@@ -21,17 +21,21 @@ use Rattle.uv_script.specs.Program.{Program, on_lines, is_for}
 use Rattle.uv_model.specs.declared.place.Body.{Body}
 use Rattle.uv_model.specs.declared.place.Run.{Run}
 use Rattle.uv_model.specs.declared.place.Stage.{Stage}
-use Rattle.uv_model.specs.declared.place.Stage.TheVariants.{Entry, First, Pending, Idle, Prepare, Poll, Done, Async, Check, Closing, Timers}
+use Rattle.uv_model.specs.declared.place.Stage.TheVariants.{Entry, Pending, Idle, Prepare, Poll, Done, Async, Check, Closing, Timers}
+use Rattle.uv_model.specs.declared.place.TimersOf.{TimersOf}
+use Rattle.uv_model.specs.declared.place.TimersOf.TheVariants as timers_of
 use Rattle.uv_model.specs.declared.place.Timing.{Timing}
 use Rattle.uv_model.specs.declared.place.Timing.TheVariants.{Collecting, Firing}
 use Rattle.uv_model.specs.declared.place.Place.{Place}
 use Rattle.uv_model.specs.declared.place.Place.TheVariants.{Main, Running}
 use Rattle.uv_model.specs.declared.watchers.WatcherKind.{WatcherKind}
 use Rattle.uv_model.specs.declared.watchers.WatcherKind.TheVariants as watcher
+use Rattle.uv_model.specs.declared.handle.Handle.{Handle}
+use Rattle.uv_model.specs.Found.{found_or}
 use Rattle.uv_model.specs.Ids.{has_some}
 use Rattle.uv_model.specs.Handles.{inactive}
 use Rattle.uv_model.specs.Watchers.{all_yet, moved_on, phase_of}
-use Rattle.uv_model.specs.State.{State, handle_of, with_handle, named, with_named, watched, with_watched, refreshed}
+use Rattle.uv_model.specs.State.{State, held, with_id, with_handle, named, with_named, front, watched, with_watched, refreshed}
 use Rattle.uv_model.specs.Timers.{restarted}
 use Rattle.uv_model.specs.Timeout.{is_alive, poll_timeout, deadline_of, has_passed}
 use Rattle.uv_model.specs.Ops.{do_op}
@@ -88,7 +92,7 @@ goes s = is_alive s && not s.stop_flag
 abbrev pub enter : State → Run → Next
 enter s run =
     if goes s
-    then (if is_default run.mode then begins s run (First Collecting) phase.Timers else new_iteration s run)
+    then (if is_default run.mode then begins s run (Timers timers_of.Entry Collecting) phase.Timers else new_iteration s run)
     else ends s run
 
 -- the poll begins, with its timeout
@@ -103,17 +107,12 @@ poll s run deadline = if has_passed s.clock deadline then begins (refreshed s) r
 
 -- the timers of an iteration begin with the time refreshed
 abbrev pub begin_timers : State → Run → Next
-begin_timers s run = begins (refreshed s) run (Timers Collecting) phase.Timers
-
--- the timers section of the entry, or that of an iteration
-abbrev pub timers_stage : Bool → Timing → Stage
-timers_stage true timing = First timing
-timers_stage false timing = Timers timing
+begin_timers s run = begins (refreshed s) run (Timers timers_of.Iteration Collecting) phase.Timers
 
 -- after the timers: from the entry the first iteration, and in default one iteration after another
-abbrev pub leave_timers : State → Run → Bool → Next
-leave_timers s run true = if goes s then new_iteration s run else ends s run
-leave_timers s run false = if is_default run.mode && goes s then new_iteration s run else ends s run
+abbrev pub leave_timers : State → Run → TimersOf → Next
+leave_timers s run timers_of.Entry = if goes s then new_iteration s run else ends s run
+leave_timers s run timers_of.Iteration = if is_default run.mode && goes s then new_iteration s run else ends s run
 
 -- the callback of a handle begins: one call more of its name
 abbrev pub call : Program → State → Run → Id → Var → Next
@@ -123,28 +122,30 @@ call p s run id v =
     (record (with_named s v (record (named s v) { calls = count })) { place = Running (record run { body = body_from p v count 0 }) })
     (Some (seen.Call v id))
 
--- the front of the ready list is called; with none the section is over
-abbrev pub fire : Program → State → Run → Bool → List Id → Next
-fire p s run first [] = leave_timers s run first
-fire p s run first (id ∷ rest) =
-    let h = handle_of s id in
-    call p (restarted (record s { ready = rest }) id h) (record run { stage = timers_stage first Firing }) id h.name
+-- the front of the ready list is called, started again where it repeats; with none the section is over
+abbrev pub fire : Program → State → Run → TimersOf → Next
+fire p s run part = found_or (front s s.ready)
+    (λ t. call p (restarted (record s { ready = drop 1 s.ready }) t.0 t.1) (record run { stage = Timers part Firing }) t.0 t.1.name)
+    (leave_timers s run part)
 
--- a timer goes to the end of the ready list, inactive
-abbrev pub made_ready : State → Id → State
-made_ready s id = with_handle (record s { ready = s.ready ++ id ∷ [] }) id (inactive (handle_of s id))
+-- the first timer, if it is due
+abbrev pub first_due : State → List (Due × Id) → Option (Id × Handle)
+first_due s [] = None
+first_due s (t ∷ ts) = if nat_le t.0.at s.time then with_id t.1 (held s t.1) else None
 
--- all due timers leave the order of timers for the ready list, one a step and without a line, before the first is called
-abbrev pub collect : Program → State → Run → Bool → List (Due × Id) → Next
-collect p s run first [] = fire p s run first s.ready
-collect p s run first (t ∷ rest) =
-    if nat_le t.0.at s.time
-    then Moves (at (record (made_ready s t.1) { timers = rest }) run (timers_stage first Collecting)) None
-    else fire p s run first s.ready
+-- the first timer leaves the order of timers for the end of the ready list, inactive
+abbrev pub collected : State → Id → Handle → State
+collected s id h = with_handle (record s { timers = drop 1 s.timers; ready = s.ready ++ id ∷ [] }) id (inactive h)
 
-abbrev pub timers : Program → State → Run → Bool → Timing → Next
-timers p s run first Collecting = collect p s run first s.timers
-timers p s run first Firing = fire p s run first s.ready
+-- all due timers are collected, one a step and without a line, before the first is called
+abbrev pub collect : Program → State → Run → TimersOf → Next
+collect p s run part = found_or (first_due s s.timers)
+    (λ t. Moves (at (collected s t.0 t.1) run (Timers part Collecting)) None)
+    (fire p s run part)
+
+abbrev pub timers : Program → State → Run → TimersOf → Timing → Next
+timers p s run part Collecting = collect p s run part
+timers p s run part Firing = fire p s run part
 
 -- the place of a section of watchers
 abbrev pub stage_of : WatcherKind → Stage
@@ -163,27 +164,27 @@ after_walk s run watcher.Prepare = begin_poll s run
 after_walk s run watcher.Check = begins s run Closing phase.Closing
 
 -- the front of those yet to run goes to the end of the list and is called; with none the section is over
-abbrev pub walk : Program → State → Run → WatcherKind → List Id → Next
-walk p s run kind [] = after_walk s run kind
-walk p s run kind (id ∷ rest) = call p (with_watched s kind (moved_on (watched s kind) id rest)) run id (handle_of s id).name
+abbrev pub walk : Program → State → Run → WatcherKind → Next
+walk p s run kind = found_or (front s (watched s kind).yet)
+    (λ t. call p (with_watched s kind (moved_on (watched s kind) t.0)) run t.0 t.1.name)
+    (after_walk s run kind)
 
 -- what a run does next where no body is under way
 abbrev pub stage_step : Program → State → Run → Stage → Next
 stage_step p s run Entry = enter s run
-stage_step p s run (First timing) = timers p s run true timing
 stage_step p s run Pending = begin_walk s run watcher.Idle
-stage_step p s run Idle = walk p s run watcher.Idle s.idle.yet
-stage_step p s run Prepare = walk p s run watcher.Prepare s.prepare.yet
+stage_step p s run Idle = walk p s run watcher.Idle
+stage_step p s run Prepare = walk p s run watcher.Prepare
 stage_step p s run (Poll deadline) = poll s run deadline
 stage_step p s run Done = begins s run Async phase.Async
 stage_step p s run Async = begin_walk s run watcher.Check
-stage_step p s run Check = walk p s run watcher.Check s.check.yet
+stage_step p s run Check = walk p s run watcher.Check
 stage_step p s run Closing = begin_timers s run
-stage_step p s run (Timers timing) = timers p s run false timing
+stage_step p s run (Timers part timing) = timers p s run part timing
 
--- a body under way does its next op; with none it is over
+-- a body under way does its next op
 abbrev pub body_step : Program → State → Run → Body → Option CallbackLine → Next
-body_step p s run body None = stage_step p s run run.stage
+body_step p s run body None = Moves (record s { place = Running (record run { body = None }) }) None
 body_step p s run body (Some line) =
     let done = do_op s line.op in
     Moves

@@ -11,10 +11,11 @@ use Rattle.uv_script.specs.declared.op.Op.{Op}
 use Rattle.uv_script.specs.declared.op.Op.TheVariants as op
 use Rattle.uv_model.specs.declared.handle.Handle.{Handle}
 use Rattle.uv_model.specs.declared.watchers.WatcherKind.{WatcherKind}
-use Rattle.uv_model.specs.Handles.{new_handle, inactive, is_timer}
-use Rattle.uv_model.specs.Watchers.{with_watcher, without_watcher, watcher_kind}
+use Rattle.uv_model.specs.Found.{found_or}
+use Rattle.uv_model.specs.Handles.{new_handle, is_timer}
+use Rattle.uv_model.specs.Watchers.{with_watcher, watcher_kind}
 use Rattle.uv_model.specs.State.{State, live, named, unused_slot, with_new, with_named, with_handle, watched, with_watched, refreshed}
-use Rattle.uv_model.specs.Timers.{timer_stopped, started, restarted, due_in}
+use Rattle.uv_model.specs.Timers.{stopped, started, restarted, due_in}
 use Rattle.uv_model.specs.Timeout.{is_alive, backend_timeout}
 
 -- the state after an op, and its answer
@@ -46,61 +47,46 @@ abbrev pub init : State → Var → Kind → Option (Id × Handle) → Done
 init s v kind (Some bound) = refuses s Ebound
 init s v kind None = init_in s v kind (unused_slot s)
 
+-- an op on a handle: ESTALE if v isn't live
+abbrev pub on_handle : State → Option (Id × Handle) → (Id → Handle → Done) → Done
+on_handle s None f = refuses s Estale
+on_handle s (Some t) f = f t.0 t.1
+
+-- `stop v`: stopped
+abbrev pub stop : State → Id → Handle → Done
+stop s id h = succeeds (stopped s id h)
+
+-- `ref v`, `unref v`: the handle is referenced or not
+abbrev pub set_referenced : State → Bool → Id → Handle → Done
+set_referenced s flag id h = succeeds (with_handle s id (record h { referenced = flag }))
+
+-- ---- watchers
+
+-- an op on a watcher: ESTALE if v isn't live; EKIND if it is a timer
+abbrev pub on_watcher : State → Option (Id × Handle) → (WatcherKind → Id → Handle → Done) → Done
+on_watcher s t f = on_handle s t (λ id h. found_or (watcher_kind h.kind) (λ kind. f kind id h) (refuses s Ekind))
+
 -- a watcher that is started: active, and at the front of its list
 abbrev pub watcher_started : State → WatcherKind → Id → Handle → State
 watcher_started s kind id h = with_handle (with_watched s kind (with_watcher (watched s kind) id)) id (record h { active = true })
 
--- a watcher that is stopped: off its lists, and inactive
-abbrev pub watcher_stopped : State → WatcherKind → Id → Handle → State
-watcher_stopped s kind id h = with_handle (with_watched s kind (without_watcher (watched s kind) id)) id (inactive h)
-
--- `start v`: ESTALE if v isn't live; EKIND if it is a timer; else started, if it isn't active
-abbrev pub start_as : State → Id → Handle → Option WatcherKind → Done
-start_as s id h None = refuses s Ekind
-start_as s id h (Some kind) = succeeds (if h.active then s else watcher_started s kind id h)
-
-abbrev pub start_watcher : State → Option (Id × Handle) → Done
-start_watcher s None = refuses s Estale
-start_watcher s (Some t) = start_as s t.0 t.1 (watcher_kind t.1.kind)
-
--- `stop v`: ESTALE if v isn't live; else stopped
-abbrev pub stopped_as : State → Id → Handle → Option WatcherKind → State
-stopped_as s id h None = timer_stopped s id h
-stopped_as s id h (Some kind) = watcher_stopped s kind id h
-
-abbrev pub stop : State → Option (Id × Handle) → Done
-stop s None = refuses s Estale
-stop s (Some t) = succeeds (stopped_as s t.0 t.1 (watcher_kind t.1.kind))
-
--- `ref v`, `unref v`: ESTALE if v isn't live; else the handle is referenced or not
-abbrev pub set_referenced : State → Bool → Option (Id × Handle) → Done
-set_referenced s flag None = refuses s Estale
-set_referenced s flag (Some t) = succeeds (with_handle s t.0 (record t.1 { referenced = flag }))
-
--- `hasref v`: ESTALE if v isn't live; else whether it is referenced
-abbrev pub has_ref : State → Option (Id × Handle) → Done
-has_ref s None = refuses s Estale
-has_ref s (Some t) = says s (answer.Flag t.1.referenced)
-
--- `active v`: ESTALE if v isn't live; else whether it is active
-abbrev pub is_active : State → Option (Id × Handle) → Done
-is_active s None = refuses s Estale
-is_active s (Some t) = says s (answer.Flag t.1.active)
+-- `start v`: started, if it isn't active
+abbrev pub start_watcher : State → WatcherKind → Id → Handle → Done
+start_watcher s kind id h = succeeds (if h.active then s else watcher_started s kind id h)
 
 -- ---- timers
 
 -- an op on a timer: ESTALE if v isn't live; EKIND if it isn't a timer
 abbrev pub on_timer : State → Option (Id × Handle) → (Id → Handle → Done) → Done
-on_timer s None f = refuses s Estale
-on_timer s (Some t) f = if is_timer t.1.kind then f t.0 t.1 else refuses s Ekind
+on_timer s t f = on_handle s t (λ id h. if is_timer h.kind then f id h else refuses s Ekind)
 
 -- `start v T R`: stopped, and then started
 abbrev pub start : State → ℕ → ℕ → Id → Handle → Done
-start s timeout repeat id h = succeeds (started (timer_stopped s id h) id h timeout repeat)
+start s timeout repeat id h = succeeds (started (stopped s id h) id h timeout repeat)
 
 -- `again v`: EINVAL if it was never started; else stopped, and started again if it repeats
 abbrev pub again : State → Id → Handle → Done
-again s id h = if h.begun then succeeds (restarted (timer_stopped s id h) id h) else refuses s Einval
+again s id h = if h.begun then succeeds (restarted (stopped s id h) id h) else refuses s Einval
 
 -- `repeat v n`: its repeat is n from now on; when it is due stays
 abbrev pub set_repeat : State → ℕ → Id → Handle → Done
@@ -111,15 +97,15 @@ set_repeat s n id h = succeeds (with_handle s id (record h { repeat = n }))
 abbrev pub do_op : State → Op → Done
 do_op s (op.Init v kind) = init s v kind (live s v)
 do_op s (op.Start v timeout repeat) = on_timer s (live s v) (start s timeout repeat)
-do_op s (op.StartWatcher v) = start_watcher s (live s v)
-do_op s (op.Stop v) = stop s (live s v)
+do_op s (op.StartWatcher v) = on_watcher s (live s v) (start_watcher s)
+do_op s (op.Stop v) = on_handle s (live s v) (stop s)
 do_op s (op.Again v) = on_timer s (live s v) (again s)
 do_op s (op.SetRepeat v n) = on_timer s (live s v) (set_repeat s n)
 do_op s (op.DueIn v) = on_timer s (live s v) (λ id h. says s (answer.Number (due_in s h)))
-do_op s (op.Ref v) = set_referenced s true (live s v)
-do_op s (op.Unref v) = set_referenced s false (live s v)
-do_op s (op.HasRef v) = has_ref s (live s v)
-do_op s (op.IsActive v) = is_active s (live s v)
+do_op s (op.Ref v) = on_handle s (live s v) (set_referenced s true)
+do_op s (op.Unref v) = on_handle s (live s v) (set_referenced s false)
+do_op s (op.HasRef v) = on_handle s (live s v) (λ id h. says s (answer.Flag h.referenced))
+do_op s (op.IsActive v) = on_handle s (live s v) (λ id h. says s (answer.Flag h.active))
 do_op s op.StopLoop = succeeds (record s { stop_flag = true })
 do_op s op.UpdateTime = succeeds (refreshed s)
 do_op s op.Now = says s (answer.Number s.time)

@@ -3,16 +3,16 @@ use Rattle.std.specs.Prelude.{ℕ, ◌==◌, Bool, false, List, [], ◌∷◌, �
 use Rattle.uv_ids.specs.declared.id.Id.{Id}
 use Rattle.uv_ids.specs.declared.id.Var.{Var}
 use Rattle.uv_ids.specs.declared.due.Due.{Due}
-use Rattle.uv_ids.specs.declared.phase.Kind.TheVariants.{Timer}
 use Rattle.uv_script.specs.Program.{Program}
 use Rattle.uv_model.specs.declared.handle.Handle.{Handle}
+use Rattle.uv_model.specs.declared.handle.Content.TheVariants as content
 use Rattle.uv_model.specs.declared.handle.Slot.{Slot}
 use Rattle.uv_model.specs.declared.handle.Named.{Named}
 use Rattle.uv_model.specs.declared.place.Place.{Place}
 use Rattle.uv_model.specs.declared.place.Place.TheVariants.{Main}
 use Rattle.uv_model.specs.declared.watchers.WatcherKind.{WatcherKind}
 use Rattle.uv_model.specs.declared.watchers.WatcherKind.TheVariants as watcher
-use Rattle.uv_model.specs.Handles.{new_handle}
+use Rattle.uv_model.specs.Handles.{handle_in}
 use Rattle.uv_model.specs.Watchers.{Watched, none_watched}
 
 pub record State : Type 0 where
@@ -49,7 +49,7 @@ unbound = record { id = None; calls = 0 }
 abbrev pub fresh : Program → State
 fresh p = record {
   place = Main 0;
-  names = replicate (length p.names) unbound;
+  names = replicate (length p.on) unbound;
   slots = [];
   timers = [];
   ready = [];
@@ -73,23 +73,19 @@ unused_slot s = if nat_lt (length s.slots) CAPACITY then Some (record { slot = l
 
 -- the state with a handle in a slot that was never used
 abbrev pub with_new : State → Handle → State
-with_new s h = record s { slots = s.slots ++ record { generation = 0; content = Some h } ∷ [] }
+with_new s h = record s { slots = s.slots ++ record { generation = 0; content = Some (content.Handle h) } ∷ [] }
 
 -- the handle in a slot, if the slot still has the generation of the id
 abbrev pub held_in : Id → Slot → Option Handle
-held_in id slot = if slot.generation == id.generation then slot.content else None
+held_in id slot = if slot.generation == id.generation then handle_in slot.content else None
 
 -- the handle of an id whose slot still holds it
 abbrev pub held : State → Id → Option Handle
 held s id = option_and_then (held_in id) (slice_get s.slots id.slot)
 
--- the handle of an id on one of the lists, whose slot holds it
-abbrev pub handle_of : State → Id → Handle
-handle_of s id = unwrap_or (held s id) (new_handle (record { 0 = 0 }) Timer)
-
 -- the state with this record in the slot of an id
 abbrev pub with_handle : State → Id → Handle → State
-with_handle s id h = record s { slots = slice_set s.slots id.slot (record { generation = id.generation; content = Some h }) }
+with_handle s id h = record s { slots = slice_set s.slots id.slot (record { generation = id.generation; content = Some (content.Handle h) }) }
 
 -- what a name is bound to, and its count
 abbrev pub named : State → Var → Named
@@ -110,6 +106,11 @@ live_id s (Some id) = with_id id (held s id)
 
 abbrev pub live : State → Var → Option (Id × Handle)
 live s v = live_id s (named s v).id
+
+-- the front of a list of handles
+abbrev pub front : State → List Id → Option (Id × Handle)
+front s [] = None
+front s (id ∷ ids) = with_id id (held s id)
 
 -- the active handles of a kind of watcher
 abbrev pub watched : State → WatcherKind → Watched

@@ -5,15 +5,10 @@ use Rattle.uv_ids.specs.declared.id.Id.{Id}
 use Rattle.uv_ids.specs.declared.due.Due.{Due}
 use Rattle.uv_ids.specs.declared.phase.Mode.{Mode}
 use Rattle.uv_ids.specs.declared.phase.Mode.TheVariants.{Default, Once, Nowait}
-use Rattle.uv_model.specs.declared.handle.Handle.{Handle}
 use Rattle.uv_model.specs.declared.handle.Slot.{Slot}
-use Rattle.uv_model.specs.Handles.{keeps_alive}
+use Rattle.uv_model.specs.Handles.{content_keeps}
 use Rattle.uv_model.specs.Ids.{has_some}
 use Rattle.uv_model.specs.State.{State}
-
-abbrev pub content_keeps : Option Handle → Bool
-content_keeps None = false
-content_keeps (Some h) = keeps_alive h
 
 -- the loop is alive: some handle is active and referenced (uv_loop_alive)
 abbrev pub is_alive : State → Bool
@@ -32,21 +27,28 @@ abbrev pub until_first : ℕ → List (Due × Id) → Option ℕ
 until_first time [] = None
 until_first time (t ∷ ts) = Some (min (t.0.at - time) LONGEST_POLL)
 
--- how long a poll might wait (uv_backend_timeout): not at all with the stop flag set, with nothing alive, or with an active
--- idle handle; else until the nearest active timer, referenced or not; none is infinite
-abbrev pub backend_timeout : State → Option ℕ
-backend_timeout s =
+-- how long a poll might wait where these are the active timers (uv_backend_timeout): not at all with the stop flag set, with
+-- nothing alive, or with an active idle handle; else until the nearest active timer, referenced or not; none is infinite
+abbrev pub backend_timeout_by : State → List (Due × Id) → Option ℕ
+backend_timeout_by s timers =
     if s.stop_flag then Some 0
     else (if not (is_alive s) then Some 0
     else (if has_idle s then Some 0
-    else until_first s.time s.timers))
+    else until_first s.time timers))
 
 -- how long the poll of a run may wait (design overview): not at all in nowait, nor in once where an idle handle was active as
 -- the iteration began (own)
+abbrev pub poll_timeout_by : State → List (Due × Id) → Mode → Option ℕ
+poll_timeout_by s timers Nowait = Some 0
+poll_timeout_by s timers Once = if s.idled then Some 0 else backend_timeout_by s timers
+poll_timeout_by s timers Default = backend_timeout_by s timers
+
+-- the same by the state's own order of timers
+abbrev pub backend_timeout : State → Option ℕ
+backend_timeout s = backend_timeout_by s s.timers
+
 abbrev pub poll_timeout : State → Mode → Option ℕ
-poll_timeout s Nowait = Some 0
-poll_timeout s Once = if s.idled then Some 0 else backend_timeout s
-poll_timeout s Default = backend_timeout s
+poll_timeout s mode = poll_timeout_by s s.timers mode
 
 -- when the poll is over, at the latest
 abbrev pub deadline_of : State → Option ℕ → Option ℕ

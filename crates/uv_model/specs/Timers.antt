@@ -1,5 +1,5 @@
--- The timers of a state: a map in the order of due times and start numbers.
-use Rattle.std.specs.Prelude.{ℕ, ◌+◌, ◌^◌, ◌-◌, ◌==◌, List, true, min, if◌then◌else◌}
+-- The timers of a state, a map in the order of due times and start numbers; and what stopping any handle does.
+use Rattle.std.specs.Prelude.{ℕ, ◌+◌, ◌^◌, ◌-◌, ◌==◌, ◌&&◌, List, true, min, if◌then◌else◌}
 use Rattle.std.specs.Map.{remove_entry}
 use Rattle.std.specs.BTreeMap.{insert_entry, is_at}
 use Rattle.uv_ids.specs.Due.{due_cmp}
@@ -7,7 +7,8 @@ use Rattle.uv_ids.specs.declared.id.Id.{Id}
 use Rattle.uv_ids.specs.declared.due.Due.{Due}
 use Rattle.uv_model.specs.declared.handle.Handle.{Handle}
 use Rattle.uv_model.specs.Ids.{without_id}
-use Rattle.uv_model.specs.Handles.{inactive}
+use Rattle.uv_model.specs.Handles.{inactive, is_timer}
+use Rattle.uv_model.specs.Watchers.{without_watcher}
 use Rattle.uv_model.specs.State.{State, with_handle}
 
 -- the timers with one more, at its place in the order
@@ -18,15 +19,19 @@ with_timer timers due id = insert_entry due_cmp timers due id
 abbrev pub without_timer : List (Due × Id) → Due → List (Due × Id)
 without_timer timers due = remove_entry (is_at (due_cmp due)) timers
 
--- a timer that is stopped: off the order of timers and the ready list, and inactive
-abbrev pub timer_stopped : State → Id → Handle → State
-timer_stopped s id h = with_handle
-    (record s {
-      timers = if h.active then without_timer s.timers h.due else s.timers;
-      ready = without_id s.ready id;
-    })
-    id
-    (inactive h)
+-- a handle off the order of timers, the ready list and the lists of watchers
+abbrev pub taken_off : State → Id → Handle → State
+taken_off s id h = record s {
+  timers = if is_timer h.kind && h.active then without_timer s.timers h.due else s.timers;
+  ready = without_id s.ready id;
+  idle = without_watcher s.idle id;
+  prepare = without_watcher s.prepare id;
+  check = without_watcher s.check id;
+}
+
+-- a handle that is stopped: off each of these, and inactive
+abbrev pub stopped : State → Id → Handle → State
+stopped s id h = with_handle (taken_off s id h) id (inactive h)
 
 -- when a timer is due that is started now: no later than the largest time (uv_timer_start)
 abbrev pub due_after : State → ℕ → Due

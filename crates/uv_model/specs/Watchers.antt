@@ -1,5 +1,5 @@
 -- The idle, prepare and check handles, and how a section of theirs walks its list (design overview; the order is own).
-use Rattle.std.specs.Prelude.{List, [], ◌∷◌, ◌++◌, Option, Some, None}
+use Rattle.std.specs.Prelude.{List, [], ◌∷◌, ◌++◌, drop, Option, Some, None}
 use Rattle.uv_ids.specs.declared.id.Id.{Id}
 use Rattle.uv_ids.specs.declared.phase.Kind.{Kind}
 use Rattle.uv_ids.specs.declared.phase.Kind.TheVariants as kind
@@ -32,8 +32,8 @@ abbrev pub all_yet : Watched → Watched
 all_yet w = record { list = []; yet = w.list }
 
 -- the front of those yet to run, which is called now, goes to the end of the list
-abbrev pub moved_on : Watched → Id → List Id → Watched
-moved_on w id rest = record { list = w.list ++ id ∷ []; yet = rest }
+abbrev pub moved_on : Watched → Id → Watched
+moved_on w id = record { list = w.list ++ id ∷ []; yet = drop 1 w.yet }
 
 -- the kind as one of these, unless it is a timer
 abbrev pub watcher_kind : Kind → Option WatcherKind

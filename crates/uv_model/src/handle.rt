@@ -1,7 +1,6 @@
 //! What the arena's slots and the script's names hold.
 ghost use Rattle.std.specs.Prelude.{◌≡◌};
-ghost use Rattle.uv_model.specs.Handles.{new_handle, inactive, keeps_alive, is_timer};
-ghost use Rattle.uv_model.specs.Timeout.{content_keeps};
+ghost use Rattle.uv_model.specs.Handles.{new_handle, inactive, keeps_alive, is_timer, handle_in, content_keeps};
 
 use uv_ids::{Due, Id, Kind, Var};
 
@@ -65,22 +64,38 @@ impl Handle {
     }
 }
 
+/// What a slot holds.
+#[derive(Clone, Copy, Debug, PartialEq, Eq)]
+pub enum Content {
+    Handle(Handle),
+}
+
 /// A slot of the arena that was used.
 #[derive(Clone, Copy, Debug, PartialEq, Eq)]
 pub struct Slot {
     /// How often the slot was freed (own).
     pub generation: u32,
-    pub content: Option<Handle>,
+    pub content: Option<Content>,
 }
 
 impl Slot {
-    /// Whether the slot holds a handle that keeps the loop alive.
+    /// The handle that the slot holds, if it holds one.
+    pub fn handle(&self) -> Option<Handle>
+        ensures { result ≡ handle_in self.now.content }
+    {
+        match self.content {
+            None => None,
+            Some(Content::Handle(handle)) => Some(handle),
+        }
+    }
+
+    /// Whether what the slot holds keeps the loop alive.
     pub fn keeps_alive(&self) -> bool
         ensures { result ≡ content_keeps self.now.content }
     {
         match self.content {
             None => false,
-            Some(handle) => handle.keeps_alive(),
+            Some(Content::Handle(handle)) => handle.keeps_alive(),
         }
     }
 }

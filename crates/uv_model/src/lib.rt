@@ -5,15 +5,13 @@
 mod handle;
 mod ids;
 mod machine;
-mod phase_order;
 mod place;
 mod plain;
 mod state;
 mod watchers;
 
-pub use handle::{Handle, Named, Slot};
+pub use handle::{Content, Handle, Named, Slot};
 pub use machine::{Machine, Outcome, STEPS};
-pub use phase_order::documented_order;
-pub use place::{Body, Place, Run, Stage, Timing};
+pub use place::{Body, Place, Run, Stage, TimersOf, Timing};
 pub use plain::PlainLoop;
 pub use watchers::WatcherKind;

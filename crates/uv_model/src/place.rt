@@ -27,8 +27,6 @@ pub struct Run {
 pub enum Stage {
     /// After the run's line.
     Entry,
-    /// In the timers section at the entry of a default run.
-    First(Timing),
     Pending,
     Idle,
     Prepare,
@@ -38,8 +36,17 @@ pub enum Stage {
     Async,
     Check,
     Closing,
-    /// In the timers section of an iteration.
-    Timers(Timing),
+    /// In a timers section.
+    Timers(TimersOf, Timing),
+}
+
+/// Which timers section it is.
+#[derive(Clone, Copy, Debug, PartialEq, Eq)]
+pub enum TimersOf {
+    /// The one at the entry of a default run (own).
+    Entry,
+    /// The one at the end of an iteration.
+    Iteration,
 }
 
 /// How far a timers section is.

@@ -2,7 +2,7 @@
 ghost use Rattle.std.specs.Prelude.{◌≡◌, ◌≤◌, IfOk, OnOk, length};
 ghost use Rattle.uv_model.specs.After.{after, state_of, STEPS};
 ghost use Rattle.uv_model.specs.Next.{next};
-ghost use Rattle.uv_model.specs.Bounds.{IsSmall};
+ghost use Rattle.uv_model.specs.Bounds.{CanStep};
 
 use crate::machine::{Machine, Outcome, STEPS};
 use crate::state::LoopState;
@@ -33,7 +33,7 @@ impl Model for PlainLoop {
 
 /// Does one step of a list; a refused one changes nothing.
 fn follow(state: &mut LoopState, script: &Script, event: Event) -> Result<(), AllocError>
-    requires { IsSmall state.old }
+    requires { CanStep state.old }
     ensures { OnOk result (state.new ≡ state_of state.old (next script.now state.old event)) }
 {
     match state.step(script, event) {
@@ -43,7 +43,7 @@ fn follow(state: &mut LoopState, script: &Script, event: Event) -> Result<(), Al
 }
 
 /// The state after a list of steps, from the beginning.
-#[tactic(auto, using(crate::proofs::Runs::runs, crate::proofs::Bounded::after_small))]
+#[tactic(auto, using(crate::proofs::Runs::runs, crate::proofs::Bounded::after_able))]
 fn replay(alloc: Global, script: &Script, steps: &[Event]) -> Result<LoopState, AllocError>
     requires { length steps.now ≤ STEPS }
     ensures { IfOk result (λ state. state ≡ after script.now steps.now) }
@@ -55,7 +55,7 @@ fn replay(alloc: Global, script: &Script, steps: &[Event]) -> Result<LoopState, 
     Ok(state)
 }
 
-#[tactic(auto, using(crate::proofs::Runs::runs, crate::proofs::Bounded::after_small))]
+#[tactic(auto, using(crate::proofs::Runs::runs, crate::proofs::Bounded::after_able))]
 impl Machine for PlainLoop {
     ghost program = { λ machine. machine.program };
 
@@ -77,6 +77,10 @@ impl Machine for PlainLoop {
     fn step(&mut self, event: Event) -> Result<Outcome, Fault> {
         if self.steps.len() >= STEPS {
             return Err(Fault::StepsFull);
+        }
+        match self.state.refusal(&self.script, event) {
+            Some(why) => return Err(Fault::Refused(why)),
+            None => {}
         }
         if self.steps.reserve(1).is_err() || self.seen.reserve(1).is_err() {
             return Err(Fault::Memory);

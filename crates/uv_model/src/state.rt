@@ -1,18 +1,19 @@
 //! The plain loop's state: lists, and the timers in an ordered map.
 ghost use Rattle.std.specs.Prelude.{◌≡◌, ◌<◌, ◌+◌, ◌++◌, ◌∷◌, [], ◌^◌, IfOk, OnOk, OnErr, length, None, Some, true};
-ghost use Rattle.uv_model.specs.State.{fresh, unused_slot, held, handle_of, with_handle, named, with_named, live, refreshed, CAPACITY};
+ghost use Rattle.uv_model.specs.State.{fresh, unused_slot, held, with_handle, named, with_named, live, front, refreshed, CAPACITY};
 
-use crate::handle::{Handle, Named, Slot};
+use crate::handle::{Content, Handle, Named, Slot};
 use crate::place::Place;
 use crate::watchers::Watchers;
 use std::alloc::{AllocError, Global};
 use std::collections::BTreeMap;
 use std::marker::Model;
-use uv_ids::{Due, Id, Kind, Var};
+use uv_ids::{Due, Id, Var};
 use uv_script::Script;
 
 mod ops;
 mod phases;
+mod refusals;
 mod timeout;
 mod timers;
 mod walks;
@@ -112,17 +113,10 @@ impl LoopState {
     {
         let slot = self.slots.get(id.slot as usize)?;
         if slot.generation == id.generation {
-            slot.content
+            slot.handle()
         } else {
             None
         }
-    }
-
-    /// The handle of an id that is on a list.
-    fn handle_of(&self, id: Id) -> Handle
-        ensures { result ≡ handle_of self.now id }
-    {
-        self.held(id).unwrap_or(Handle::new(Var(0), Kind::Timer))
     }
 
     fn set_handle(&mut self, id: Id, handle: Handle)
@@ -131,7 +125,7 @@ impl LoopState {
         if let Some(slot) = self.slots.get_mut(id.slot as usize) {
             *slot = Slot {
                 generation: id.generation,
-                content: Some(handle),
+                content: Some(Content::Handle(handle)),
             };
         }
     }
@@ -157,6 +151,15 @@ impl LoopState {
         ensures { result ≡ live self.now name }
     {
         let id = self.named(name).id?;
+        let handle = self.held(id)?;
+        Some((id, handle))
+    }
+
+    /// The front of a list of handles.
+    fn front(&self, ids: &[Id]) -> Option<(Id, Handle)>
+        ensures { result ≡ front self.now ids.now }
+    {
+        let id = *ids.first()?;
         let handle = self.held(id)?;
         Some((id, handle))
     }

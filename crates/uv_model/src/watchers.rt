@@ -1,5 +1,5 @@
 //! The watchers of the loop: idle, prepare and check handles.
-ghost use Rattle.std.specs.Prelude.{◌≡◌, ◌||◌, OnOk, OnErr, slice_get, drop, Some};
+ghost use Rattle.std.specs.Prelude.{◌≡◌, ◌<◌, ◌||◌, OnOk, OnErr, length};
 ghost use Rattle.uv_model.specs.Ids.{has_some};
 ghost use Rattle.uv_model.specs.Watchers.{none_watched, with_watcher, without_watcher, all_yet, moved_on, watcher_kind, phase_of};
 
@@ -112,17 +112,17 @@ impl Watchers {
         self.list.clear();
     }
 
-    /// The front of those yet to run.
-    pub fn front(&self) -> Option<Id>
-        ensures { result ≡ slice_get self.now.yet 0 }
+    /// Those yet to run, front first.
+    pub fn yet(&self) -> &[Id]
+        ensures { result.now ≡ self.now.yet }
     {
-        self.yet.first().copied()
+        &self.yet
     }
 
     /// Moves the front of those yet to run to the end of the list. Without memory nothing changes.
     pub fn move_on(&mut self, front: Id) -> Result<(), AllocError>
-        requires { slice_get self.old.yet 0 ≡ Some front }
-        ensures ok { OnOk result (self.new ≡ moved_on self.old front (drop 1 self.old.yet)) }
+        requires { 0 < length self.old.yet }
+        ensures ok { OnOk result (self.new ≡ moved_on self.old front) }
         ensures err { OnErr result (self.new ≡ self.old) }
     {
         self.list.push(front)?;

@@ -1,14 +1,17 @@
 -- A session: the steps that stand, and those that were taken back. The state shown is the one after the standing steps.
-use Rattle.std.specs.Prelude.{◌≡◌, ℕ, ◌-◌, ◌<◌, ◌≤◌, List, [], ◌++◌, length, map, take, drop, Result, Ok, Err}
+use Rattle.std.specs.Prelude.{◌≡◌, ℕ, ◌-◌, ◌<◌, ◌≤◌, List, [], ◌∷◌, ◌++◌, length, map, take, drop, Result, Ok, Err}
 use Rattle.uv_ids.specs.declared.event.Event.{Event}
 use Rattle.uv_ids.specs.declared.fault.Fault.{Fault}
-use Rattle.uv_ids.specs.declared.fault.Fault.TheVariants.{Memory, Refused}
+use Rattle.uv_ids.specs.declared.fault.Fault.TheVariants.{Memory, Refused, StepsFull}
 use Rattle.uv_ids.specs.declared.fault.Why.TheVariants.{Range}
 use Rattle.uv_script.specs.Program.{Program}
 use Rattle.uv_model.specs.declared.machine.Outcome.{Outcome}
 use Rattle.uv_ids.specs.declared.seen.Seen.{Seen}
-use Rattle.uv_model.specs.After.{Answers, Line, history}
-use Rattle.uv_model.specs.Documented.{Documented}
+use Rattle.uv_model.specs.Next.{next, Moves, Refuses}
+use Rattle.uv_model.specs.After.{after}
+use Rattle.uv_order.specs.Line.{Line}
+use Rattle.uv_order.specs.History.{history}
+use Rattle.uv_order.specs.Documented.{Documented}
 
 pub record Shown : Type 0 where
   pub program : Program
@@ -28,11 +31,20 @@ abbrev pub taken_after : Result Outcome Fault → List Event → List Event
 taken_after (Ok outcome) taken = []
 taken_after (Err fault) taken = taken
 
+-- what may be answered to an event, and the steps that stand then: an accepted event is one more step and says what it appended, a
+-- refused one is none. The session makes room in its own list before it asks the machine, so want of memory may come first
+abbrev pub Responds : ℕ → Program → List Event → Event → Result Outcome Fault → List Event → Type 0
+Responds limit p es e (Ok outcome) fs = (length es < limit) × (fs ≡ es ++ e ∷ []) × (next p (after p es) e ≡ Moves (after p fs) outcome.seen)
+Responds limit p es e (Err Memory) fs = (length es < limit) × (fs ≡ es)
+Responds limit p es e (Err (Refused why)) fs = (length es < limit) × (fs ≡ es) × (next p (after p es) e ≡ Refuses why)
+Responds limit p es e (Err StepsFull) fs = (limit ≤ length es) × (fs ≡ es)
+Responds limit p es e (Err _) fs = ⊥
+
 -- what may be answered to an event, and the session after it
 pub record TakesEvent (s : Shown) (e : Event) (r : Result Outcome Fault) (t : Shown) : Type 0 where
   pub same_program : t.program ≡ s.program
   pub same_limit : t.limit ≡ s.limit
-  pub answer : Answers s.limit s.program s.standing e r t.standing
+  pub answer : Responds s.limit s.program s.standing e r t.standing
   pub taken_back : t.taken_back ≡ taken_after r s.taken_back
 
 -- what may be answered to `back n`, and the session after it; after want of memory some of the steps, and not all, may be taken back

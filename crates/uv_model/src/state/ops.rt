@@ -4,10 +4,10 @@ ghost use Rattle.uv_ids.specs.declared.id.Id.{Id};
 ghost use Rattle.uv_model.specs.declared.handle.Handle.{Handle};
 ghost use Rattle.uv_model.specs.Handles.{is_timer};
 ghost use Rattle.uv_model.specs.State.{live};
-ghost use Rattle.uv_model.specs.Ops.{Done, do_op, on_timer, refuses, start_as, stopped_as, set_referenced};
-ghost use Rattle.uv_model.specs.Bounds.{IsSmall};
+ghost use Rattle.uv_model.specs.Ops.{Done, do_op, on_handle, on_timer, refuses, set_referenced};
+ghost use Rattle.uv_model.specs.Bounds.{CanStep};
 
-use crate::handle::{Handle, Named, Slot};
+use crate::handle::{Content, Handle, Named, Slot};
 use crate::state::LoopState;
 use crate::watchers::WatcherKind;
 use std::alloc::AllocError;
@@ -17,7 +17,7 @@ use uv_script::Op;
 impl LoopState {
     /// Does an op. Without memory nothing changes.
     pub(super) fn do_op(&mut self, op: Op) -> Result<Answer, AllocError>
-        requires { IsSmall self.old }
+        requires { CanStep self.old }
         ensures ok { IfOk result (λ answer. do_op self.old op ≡ record { state = self.new; answer = answer }) }
         ensures err { OnErr result (self.new ≡ self.old) }
     {
@@ -53,7 +53,7 @@ impl LoopState {
         };
         self.slots.push(Slot {
             generation: 0,
-            content: Some(Handle::new(name, kind)),
+            content: Some(Content::Handle(Handle::new(name, kind))),
         })?;
         let calls = self.named(name).calls;
         self.set_named(
@@ -80,7 +80,7 @@ impl LoopState {
 
     /// Starts a timer; both times in ms (uv_timer_start).
     fn start(&mut self, name: Var, timeout: u64, repeat: u64) -> Result<Answer, AllocError>
-        requires { IsSmall self.old }
+        requires { CanStep self.old }
         ensures ok { IfOk result (λ answer. do_op self.old (Op.Start name timeout repeat) ≡ record { state = self.new; answer = answer }) }
         ensures err { OnErr result (self.new ≡ self.old) }
     {
@@ -92,39 +92,19 @@ impl LoopState {
         Ok(Answer::Code(Code::Ok))
     }
 
-    /// Starts a watcher (uv_idle_start and the like).
+    /// Starts a watcher, if it isn't active (uv_idle_start and the like).
     fn start_watcher(&mut self, name: Var) -> Result<Answer, AllocError>
         ensures ok { IfOk result (λ answer. do_op self.old (Op.StartWatcher name) ≡ record { state = self.new; answer = answer }) }
         ensures err { OnErr result (self.new ≡ self.old) }
     {
-        match self.live(name) {
-            None => Ok(Answer::Code(Code::Estale)),
-            Some((id, handle)) => self.start_as(id, handle, WatcherKind::from_kind(handle.kind)),
-        }
-    }
-
-    /// Starts a handle as a watcher of a kind, if it is one and isn't active. Without memory nothing changes.
-    fn start_as(
-        &mut self,
-        id: Id,
-        handle: Handle,
-        kind: Option<WatcherKind>,
-    ) -> Result<Answer, AllocError>
-        ensures ok { IfOk result (λ answer. start_as self.old id handle kind ≡ record { state = self.new; answer = answer }) }
-        ensures err { OnErr result (self.new ≡ self.old) }
-    {
-        let Some(kind) = kind else {
+        let Some((id, handle)) = self.live(name) else {
+            return Ok(Answer::Code(Code::Estale));
+        };
+        let Some(kind) = WatcherKind::from_kind(handle.kind) else {
             return Ok(Answer::Code(Code::Ekind));
         };
         if !handle.active {
-            self.start_watching(kind, id)?;
-            self.set_handle(
-                id,
-                Handle {
-                    active: true,
-                    ..handle
-                },
-            );
+            self.start_watching(kind, id, handle)?;
         }
         Ok(Answer::Code(Code::Ok))
     }
@@ -136,24 +116,13 @@ impl LoopState {
         let Some((id, handle)) = self.live(name) else {
             return Answer::Code(Code::Estale);
         };
-        self.stop_as(id, handle, WatcherKind::from_kind(handle.kind));
+        self.stop_handle(id, handle);
         Answer::Code(Code::Ok)
-    }
-
-    /// Stops a handle as a watcher of a kind, or as a timer.
-    fn stop_as(&mut self, id: Id, handle: Handle, kind: Option<WatcherKind>)
-        ensures { self.new ≡ stopped_as self.old id handle kind }
-    {
-        let Some(kind) = kind else {
-            return self.stop_timer(id, handle);
-        };
-        self.stop_watching(kind, id);
-        self.set_handle(id, handle.inactive());
     }
 
     /// Stops a timer, and starts it again if it repeats (uv_timer_again).
     fn again(&mut self, name: Var) -> Result<Answer, AllocError>
-        requires { IsSmall self.old }
+        requires { CanStep self.old }
         ensures ok { IfOk result (λ answer. do_op self.old (Op.Again name) ≡ record { state = self.new; answer = answer }) }
         ensures err { OnErr result (self.new ≡ self.old) }
     {
@@ -193,7 +162,7 @@ impl LoopState {
 
     /// References a handle, or doesn't (uv_ref, uv_unref).
     fn set_referenced(&mut self, name: Var, referenced: bool) -> Answer
-        ensures { set_referenced self.old referenced (live self.old name) ≡ record { state = self.new; answer = result } }
+        ensures { on_handle self.old (live self.old name) (set_referenced self.old referenced) ≡ record { state = self.new; answer = result } }
     {
         let Some((id, handle)) = self.live(name) else {
             return Answer::Code(Code::Estale);

@@ -1,22 +1,19 @@
 //! The phases of a run, and one step.
-ghost use Rattle.std.specs.Prelude.{◌≡◌, ◌<◌, ◌+◌, ◌^◌, IfOk, OnErr, length, slice_get, drop, None, Some, OnOk};
+ghost use Rattle.std.specs.Prelude.{◌≡◌, ◌<◌, ◌+◌, ◌^◌, IfOk, IfSome, OnErr, length, slice_get, drop, None, Some};
 ghost use Rattle.uv_script.specs.Program.{on_lines, is_for};
 ghost use Rattle.uv_model.specs.State.{named};
-ghost use Rattle.uv_model.specs.Bounds.{IsSmall};
-ghost use Rattle.uv_model.specs.Next.{Moves, next_line, body_at, body_from, begins, new_iteration, ends, goes, enter, begin_poll, poll, begin_timers, timers_stage, leave_timers, call, fire, made_ready, collect, timers, stage_step, body_step, main_step, tick, next, LATEST};
+ghost use Rattle.uv_model.specs.Bounds.{CanStep};
+ghost use Rattle.uv_model.specs.Next.{Moves, next_line, body_at, body_from, begins, new_iteration, ends, goes, enter, begin_poll, poll, begin_timers, leave_timers, call, fire, first_due, collect, timers, stage_step, body_step, main_step, tick, next, LATEST};
 ghost use Rattle.uv_model.specs.Steps.{Steps, Falls};
 
-use crate::handle::Named;
+use crate::handle::{Handle, Named};
 use crate::machine::Outcome;
-use crate::place::{Body, Place, Run, Stage, Timing};
+use crate::place::{Body, Place, Run, Stage, TimersOf, Timing};
 use crate::state::LoopState;
 use crate::watchers::WatcherKind;
 use std::alloc::AllocError;
 use uv_ids::{Event, Fault, Id, Mode, Phase, Seen, Site, Var, Why};
 use uv_script::{CallbackLine, MainOp, Script};
-
-/// The latest time that the clock may show, in ms.
-const LATEST: u64 = 1 << 62;
 
 /// A step that appended a line.
 fn seen(seen: Seen) -> Outcome
@@ -44,16 +41,6 @@ fn body_from(script: &Script, name: Var, call: u32, from: usize) -> Option<Body>
         }
     }
     None
-}
-
-fn timers_stage(first: bool, timing: Timing) -> Stage
-    ensures { result ≡ timers_stage first timing }
-{
-    if first {
-        Stage::First(timing)
-    } else {
-        Stage::Timers(timing)
-    }
 }
 
 impl LoopState {
@@ -103,7 +90,7 @@ impl LoopState {
         if !self.goes() {
             self.end(run)
         } else if matches!(run.mode, Mode::Default) {
-            self.begin(run, Stage::First(Timing::Collecting), Phase::Timers)
+            self.begin(run, Stage::Timers(TimersOf::Entry, Timing::Collecting), Phase::Timers)
         } else {
             self.new_iteration(run)
         }
@@ -128,13 +115,11 @@ impl LoopState {
     fn poll(&mut self, run: Run, deadline: Option<u64>) -> Result<Outcome, Why>
         ensures { Falls (poll self.old run deadline) self.old result self.new }
     {
-        match deadline {
-            Some(deadline) if deadline <= self.clock => {
-                self.refresh();
-                Ok(self.begin(run, Stage::Done, Phase::Done))
-            }
-            _ => Err(Why::Blocked),
+        if !self.has_passed(deadline) {
+            return Err(Why::Blocked);
         }
+        self.refresh();
+        Ok(self.begin(run, Stage::Done, Phase::Done))
     }
 
     /// Begins the timers of an iteration.
@@ -142,15 +127,19 @@ impl LoopState {
         ensures { begin_timers self.old run ≡ Moves self.new result.seen }
     {
         self.refresh();
-        self.begin(run, Stage::Timers(Timing::Collecting), Phase::Timers)
+        self.begin(run, Stage::Timers(TimersOf::Iteration, Timing::Collecting), Phase::Timers)
     }
 
     /// From the timers to the next iteration, or to the end of the run.
-    fn leave_timers(&mut self, run: Run, first: bool) -> Outcome
+    fn leave_timers(&mut self, run: Run, part: TimersOf) -> Outcome
         requires { run.line < 2 ^ 63 }
-        ensures { leave_timers self.old run first ≡ Moves self.new result.seen }
+        ensures { leave_timers self.old run part ≡ Moves self.new result.seen }
     {
-        if self.goes() && (first || matches!(run.mode, Mode::Default)) {
+        let iterates = match part {
+            TimersOf::Entry => true,
+            TimersOf::Iteration => matches!(run.mode, Mode::Default),
+        };
+        if iterates && self.goes() {
             self.new_iteration(run)
         } else {
             self.end(run)
@@ -170,64 +159,54 @@ impl LoopState {
         seen(Seen::Call(name, id))
     }
 
-    /// Calls the front of the ready list, or leaves the section.
-    fn fire(&mut self, script: &Script, run: Run, first: bool) -> Result<Outcome, AllocError>
-        requires small { IsSmall self.old }
+    /// Calls the front of the ready list, or leaves the section. A timer that repeats is started again first. Without memory
+    /// nothing changes.
+    #[tactic(auto, using(crate::proofs::Fires::fires))]
+    fn fire(&mut self, script: &Script, run: Run, part: TimersOf) -> Result<Outcome, AllocError>
+        requires able { CanStep self.old }
         requires line { run.line < 2 ^ 63 }
-        ensures ok { IfOk result (λ outcome. fire script.now self.old run first self.old.ready ≡ Moves self.new outcome.seen) }
+        ensures ok { IfOk result (λ outcome. fire script.now self.old run part ≡ Moves self.new outcome.seen) }
         ensures err { OnErr result (self.new ≡ self.old) }
     {
-        if self.ready.is_empty() {
-            return Ok(self.leave_timers(run, first));
-        }
-        self.fire_front(script, run, first)
-    }
-
-    /// Calls the front of the ready list. A timer that repeats is started again first. Without memory nothing changes.
-    #[tactic(auto, using(crate::proofs::Counts::small))]
-    fn fire_front(&mut self, script: &Script, run: Run, first: bool) -> Result<Outcome, AllocError>
-        requires small { IsSmall self.old }
-        requires ready { 0 < length self.old.ready }
-        ensures ok { IfOk result (λ outcome. fire script.now self.old run first self.old.ready ≡ Moves self.new outcome.seen) }
-        ensures err { OnErr result (self.new ≡ self.old) }
-    {
-        let id = self.ready[0];
-        let handle = self.handle_of(id);
+        let Some((id, handle)) = self.front(&self.ready) else {
+            return Ok(self.leave_timers(run, part));
+        };
         if handle.repeat != 0 {
             self.start_stopped(id, handle, handle.repeat, handle.repeat)?;
         }
         self.ready.remove(0);
-        let stage = timers_stage(first, Timing::Firing);
+        let stage = Stage::Timers(part, Timing::Firing);
         Ok(self.call(script, Run { stage, ..run }, id, handle.name))
     }
 
-    /// Puts a timer that is due at the end of the ready list, inactive. Without memory nothing changes.
-    fn make_ready(&mut self, id: Id) -> Result<(), AllocError>
-        ensures ok { OnOk result (self.new ≡ made_ready self.old id) }
-        ensures err { OnErr result (self.new ≡ self.old) }
+    /// The first timer, if it is due.
+    fn first_due(&self) -> Option<(Id, Handle)>
+        ensures due { result ≡ first_due self.now self.now.timers }
+        ensures some { IfSome result (λ t. 0 < length self.now.timers) }
     {
-        self.ready.push(id)?;
-        let handle = self.handle_of(id);
-        self.set_handle(id, handle.inactive());
-        Ok(())
+        let (due, id) = self.timers.first_key_value()?;
+        if due.at > self.time {
+            return None;
+        }
+        let handle = self.held(*id)?;
+        Some((*id, handle))
     }
 
-    /// Collects the first timer if it is due.
-    fn collect(&mut self, script: &Script, run: Run, first: bool) -> Result<Outcome, AllocError>
-        requires small { IsSmall self.old }
+    /// Collects the first timer if it is due. Without memory nothing changes.
+    fn collect(&mut self, script: &Script, run: Run, part: TimersOf) -> Result<Outcome, AllocError>
+        requires able { CanStep self.old }
         requires line { run.line < 2 ^ 63 }
-        ensures ok { IfOk result (λ outcome. collect script.now self.old run first self.old.timers ≡ Moves self.new outcome.seen) }
+        ensures ok { IfOk result (λ outcome. collect script.now self.old run part ≡ Moves self.new outcome.seen) }
         ensures err { OnErr result (self.new ≡ self.old) }
     {
-        let id = match self.timers.first_key_value() {
-            Some((due, id)) if due.at <= self.time => *id,
-            _ => return self.fire(script, run, first),
+        let Some((id, handle)) = self.first_due() else {
+            return self.fire(script, run, part);
         };
-        self.make_ready(id)?;
+        self.ready.push(id)?;
         self.timers.pop_first();
-        let stage = timers_stage(first, Timing::Collecting);
+        self.set_handle(id, handle.inactive());
         self.place = Place::Running(Run {
-            stage,
+            stage: Stage::Timers(part, Timing::Collecting),
             body: None,
             ..run
         });
@@ -239,29 +218,28 @@ impl LoopState {
         &mut self,
         script: &Script,
         run: Run,
-        first: bool,
+        part: TimersOf,
         timing: Timing,
     ) -> Result<Outcome, Fault>
-        requires small { IsSmall self.old }
+        requires able { CanStep self.old }
         requires line { run.line < 2 ^ 63 }
-        ensures { Steps (timers script.now self.old run first timing) self.old result self.new }
+        ensures { Steps (timers script.now self.old run part timing) self.old result self.new }
     {
         let outcome = match timing {
-            Timing::Collecting => self.collect(script, run, first),
-            Timing::Firing => self.fire(script, run, first),
+            Timing::Collecting => self.collect(script, run, part),
+            Timing::Firing => self.fire(script, run, part),
         };
         outcome.map_err(|_| Fault::Memory)
     }
 
     /// What the run does next where no body is under way.
     fn at_stage(&mut self, script: &Script, run: Run) -> Result<Outcome, Fault>
-        requires small { IsSmall self.old }
+        requires able { CanStep self.old }
         requires line { run.line < 2 ^ 63 }
         ensures { Steps (stage_step script.now self.old run run.stage) self.old result self.new }
     {
         match run.stage {
             Stage::Entry => Ok(self.enter(run)),
-            Stage::First(timing) => self.in_timers(script, run, true, timing),
             Stage::Pending => Ok(self.begin_walk(run, WatcherKind::Idle)),
             Stage::Idle => self.in_walk(script, run, WatcherKind::Idle),
             Stage::Prepare => self.in_walk(script, run, WatcherKind::Prepare),
@@ -270,18 +248,19 @@ impl LoopState {
             Stage::Async => Ok(self.begin_walk(run, WatcherKind::Check)),
             Stage::Check => self.in_walk(script, run, WatcherKind::Check),
             Stage::Closing => Ok(self.begin_timers(run)),
-            Stage::Timers(timing) => self.in_timers(script, run, false, timing),
+            Stage::Timers(part, timing) => self.in_timers(script, run, part, timing),
         }
     }
 
     /// The next op of the body under way.
     fn in_body(&mut self, script: &Script, run: Run, body: Body) -> Result<Outcome, Fault>
-        requires small { IsSmall self.old }
+        requires able { CanStep self.old }
         requires line { run.line < 2 ^ 63 }
         ensures { Steps (body_step script.now self.old run body (slice_get (on_lines script.now body.name) body.next)) self.old result self.new }
     {
         let Some(line) = script.on_lines(body.name).get(body.next).copied() else {
-            return self.at_stage(script, run);
+            self.place = Place::Running(Run { body: None, ..run });
+            return Ok(Outcome { seen: None });
         };
         let Ok(answer) = self.do_op(line.op) else {
             return Err(Fault::Memory);
@@ -293,7 +272,7 @@ impl LoopState {
 
     /// The next line of the main program.
     fn in_main(&mut self, script: &Script, line: usize) -> Result<Outcome, Fault>
-        requires small { IsSmall self.old }
+        requires able { CanStep self.old }
         requires line { line < 2 ^ 63 }
         ensures { Steps (main_step self.old line (slice_get script.now.main line)) self.old result self.new }
     {
@@ -330,19 +309,15 @@ impl LoopState {
     fn tick(&mut self, ms: u64) -> Result<Outcome, Why>
         ensures { Falls (tick self.old ms) self.old result self.new }
     {
-        match self.clock.checked_add(ms) {
-            Some(clock) if clock <= LATEST => {
-                self.clock = clock;
-                Ok(seen(Seen::Tick(ms)))
-            }
-            _ => Err(Why::Range),
-        }
+        let clock = self.later(ms).ok_or(Why::Range)?;
+        self.clock = clock;
+        Ok(seen(Seen::Tick(ms)))
     }
 
     /// Does one step. After an error the state is as before.
     #[tactic(auto, unfolding(crate::specs::Next::next))]
     pub fn step(&mut self, script: &Script, event: Event) -> Result<Outcome, Fault>
-        requires { IsSmall self.old }
+        requires { CanStep self.old }
         ensures { Steps (next script.now self.old event) self.old result self.new }
     {
         match event {

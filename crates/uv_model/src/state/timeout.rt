@@ -1,6 +1,6 @@
 //! Whether the loop is alive, and how long its poll may wait.
 ghost use Rattle.std.specs.Prelude.{◌≡◌, ◌<◌, ◌≤◌, ◌^◌, IfSome};
-ghost use Rattle.uv_model.specs.Timeout.{is_alive, has_idle, until_first, backend_timeout, poll_timeout, deadline_of, LONGEST_POLL};
+ghost use Rattle.uv_model.specs.Timeout.{is_alive, has_idle, until_first, backend_timeout, poll_timeout, deadline_of, has_passed, LONGEST_POLL};
 
 use crate::state::LoopState;
 use uv_ids::Mode;
@@ -59,5 +59,12 @@ impl LoopState {
             None => None,
             Some(timeout) => Some(self.time + timeout),
         }
+    }
+
+    /// Whether the clock has reached a deadline.
+    pub(super) fn has_passed(&self, deadline: Option<u64>) -> bool
+        ensures { result ≡ has_passed self.now.clock deadline }
+    {
+        deadline.is_some_and(|deadline| deadline <= self.clock)
     }
 }

@@ -1,7 +1,7 @@
 //! The timers: the ordered map of those that are active, and the ready list.
-ghost use Rattle.std.specs.Prelude.{◌≡◌, ◌<◌, ◌+◌, ◌^◌, OnOk, OnErr, true, if◌then◌else◌};
+ghost use Rattle.std.specs.Prelude.{◌≡◌, ◌<◌, ◌+◌, ◌&&◌, ◌^◌, OnOk, OnErr, true, if◌then◌else◌};
 ghost use Rattle.uv_model.specs.Handles.{is_timer};
-ghost use Rattle.uv_model.specs.Timers.{without_timer, timer_stopped, started, restarted, due_after, due_in};
+ghost use Rattle.uv_model.specs.Timers.{without_timer, taken_off, stopped, started, restarted, due_after, due_in};
 ghost use Rattle.uv_model.specs.Bounds.{StartsBefore};
 
 use crate::handle::Handle;
@@ -13,9 +13,9 @@ use uv_ids::{Due, Id};
 
 /// Takes a timer off the order, if it is active.
 fn remove_timer(timers: &mut BTreeMap<Due, Id>, handle: Handle)
-    ensures { timers.new.entries ≡ (if handle.active then without_timer timers.old.entries handle.due else timers.old.entries) }
+    ensures { timers.new.entries ≡ (if is_timer handle.kind && handle.active then without_timer timers.old.entries handle.due else timers.old.entries) }
 {
-    if handle.active {
+    if handle.is_timer() && handle.active {
         timers.remove(&handle.due);
     }
 }
@@ -42,12 +42,22 @@ impl LoopState {
         }
     }
 
-    /// Takes a timer off the order of timers and the ready list.
-    pub(super) fn stop_timer(&mut self, id: Id, handle: Handle)
-        ensures { self.new ≡ timer_stopped self.old id handle }
+    /// Takes a handle off the order of timers, and off each list.
+    fn take_off(&mut self, id: Id, handle: Handle)
+        ensures { self.new ≡ taken_off self.old id handle }
     {
         remove_timer(&mut self.timers, handle);
         remove_id(&mut self.ready, id);
+        self.idle.stop(id);
+        self.prepare.stop(id);
+        self.check.stop(id);
+    }
+
+    /// Stops a handle (uv_timer_stop and the like).
+    pub(super) fn stop_handle(&mut self, id: Id, handle: Handle)
+        ensures { self.new ≡ stopped self.old id handle }
+    {
+        self.take_off(id, handle);
         self.set_handle(id, handle.inactive());
     }
 
@@ -92,13 +102,12 @@ impl LoopState {
         requires starts { self.old.next_start < 2 ^ 63 }
         requires kind { is_timer handle.kind ≡ true }
         requires drawn { StartsBefore self.old.next_start handle }
-        ensures ok { OnOk result (self.new ≡ started (timer_stopped self.old id handle) id handle timeout repeat) }
+        ensures ok { OnOk result (self.new ≡ started (stopped self.old id handle) id handle timeout repeat) }
         ensures err { OnErr result (self.new ≡ self.old) }
     {
         let due = self.due_after(timeout);
         self.timers.insert(due, id)?;
-        remove_timer(&mut self.timers, handle);
-        remove_id(&mut self.ready, id);
+        self.take_off(id, handle);
         self.next_start += 1;
         self.set_handle(
             id,
@@ -119,11 +128,11 @@ impl LoopState {
         requires starts { self.old.next_start < 2 ^ 63 }
         requires kind { is_timer handle.kind ≡ true }
         requires drawn { StartsBefore self.old.next_start handle }
-        ensures ok { OnOk result (self.new ≡ restarted (timer_stopped self.old id handle) id handle) }
+        ensures ok { OnOk result (self.new ≡ restarted (stopped self.old id handle) id handle) }
         ensures err { OnErr result (self.new ≡ self.old) }
     {
         if handle.repeat == 0 {
-            self.stop_timer(id, handle);
+            self.stop_handle(id, handle);
             return Ok(());
         }
         self.start_timer(id, handle, handle.repeat, handle.repeat)

@@ -1,11 +1,13 @@
 //! The watchers of each kind, and the sections that call them.
-ghost use Rattle.std.specs.Prelude.{◌≡◌, ◌<◌, ◌^◌, IfOk, OnOk, OnErr, slice_get, drop, Some};
+ghost use Rattle.std.specs.Prelude.{◌≡◌, ◌<◌, ◌^◌, IfOk, OnOk, OnErr, length};
 ghost use Rattle.uv_model.specs.State.{watched, with_watched};
-ghost use Rattle.uv_model.specs.Watchers.{with_watcher, without_watcher, all_yet, moved_on};
-ghost use Rattle.uv_model.specs.Bounds.{IsSmall};
+ghost use Rattle.uv_model.specs.Watchers.{with_watcher, all_yet, moved_on};
+ghost use Rattle.uv_model.specs.Ops.{watcher_started};
+ghost use Rattle.uv_model.specs.Bounds.{CanStep};
 ghost use Rattle.uv_model.specs.Next.{Moves, stage_of, begin_walk, after_walk, walk};
 ghost use Rattle.uv_model.specs.Steps.{Steps};
 
+use crate::handle::Handle;
 use crate::machine::Outcome;
 use crate::place::{Run, Stage};
 use crate::state::LoopState;
@@ -37,8 +39,8 @@ impl LoopState {
         }
     }
 
-    /// Puts a handle that is started at the front of its list. Without memory nothing changes.
-    pub(super) fn start_watching(&mut self, kind: WatcherKind, id: Id) -> Result<(), AllocError>
+    /// Puts a handle at the front of its list. Without memory nothing changes.
+    fn list_watcher(&mut self, kind: WatcherKind, id: Id) -> Result<(), AllocError>
         ensures ok { OnOk result (self.new ≡ with_watched self.old kind (with_watcher (watched self.old kind) id)) }
         ensures err { OnErr result (self.new ≡ self.old) }
     {
@@ -49,15 +51,25 @@ impl LoopState {
         }
     }
 
-    /// Takes a handle off its lists.
-    pub(super) fn stop_watching(&mut self, kind: WatcherKind, id: Id)
-        ensures { self.new ≡ with_watched self.old kind (without_watcher (watched self.old kind) id) }
+    /// Starts a watcher: it is active, and at the front of its list. Without memory nothing changes.
+    pub(super) fn start_watching(
+        &mut self,
+        kind: WatcherKind,
+        id: Id,
+        handle: Handle,
+    ) -> Result<(), AllocError>
+        ensures ok { OnOk result (self.new ≡ watcher_started self.old kind id handle) }
+        ensures err { OnErr result (self.new ≡ self.old) }
     {
-        match kind {
-            WatcherKind::Idle => self.idle.stop(id),
-            WatcherKind::Prepare => self.prepare.stop(id),
-            WatcherKind::Check => self.check.stop(id),
-        }
+        self.list_watcher(kind, id)?;
+        self.set_handle(
+            id,
+            Handle {
+                active: true,
+                ..handle
+            },
+        );
+        Ok(())
     }
 
     /// Has the whole list yet to run.
@@ -73,8 +85,8 @@ impl LoopState {
 
     /// Moves the front of those yet to run to the end of the list. Without memory nothing changes.
     fn move_on(&mut self, kind: WatcherKind, front: Id) -> Result<(), AllocError>
-        requires { slice_get (watched self.old kind).yet 0 ≡ Some front }
-        ensures ok { OnOk result (self.new ≡ with_watched self.old kind (moved_on (watched self.old kind) front (drop 1 (watched self.old kind).yet))) }
+        requires { 0 < length (watched self.old kind).yet }
+        ensures ok { OnOk result (self.new ≡ with_watched self.old kind (moved_on (watched self.old kind) front)) }
         ensures err { OnErr result (self.new ≡ self.old) }
     {
         match kind {
@@ -107,16 +119,15 @@ impl LoopState {
     /// Calls the front of those yet to run, or leaves the section. Without memory nothing changes.
     #[tactic(auto, using(crate::proofs::Walks::walks))]
     fn walk(&mut self, script: &Script, run: Run, kind: WatcherKind) -> Result<Outcome, AllocError>
-        requires { IsSmall self.old }
-        ensures ok { IfOk result (λ outcome. walk script.now self.old run kind (watched self.old kind).yet ≡ Moves self.new outcome.seen) }
+        requires { CanStep self.old }
+        ensures ok { IfOk result (λ outcome. walk script.now self.old run kind ≡ Moves self.new outcome.seen) }
         ensures err { OnErr result (self.new ≡ self.old) }
     {
-        let Some(id) = self.watchers(kind).front() else {
+        let Some((id, handle)) = self.front(self.watchers(kind).yet()) else {
             return Ok(self.after_walk(run, kind));
         };
-        let name = self.handle_of(id).name;
         self.move_on(kind, id)?;
-        Ok(self.call(script, run, id, name))
+        Ok(self.call(script, run, id, handle.name))
     }
 
     /// Goes on in a section of watchers.
@@ -126,8 +137,8 @@ impl LoopState {
         run: Run,
         kind: WatcherKind,
     ) -> Result<Outcome, Fault>
-        requires { IsSmall self.old }
-        ensures { Steps (walk script.now self.old run kind (watched self.old kind).yet) self.old result self.new }
+        requires { CanStep self.old }
+        ensures { Steps (walk script.now self.old run kind) self.old result self.new }
     {
         self.walk(script, run, kind).map_err(|_| Fault::Memory)
     }

@@ -1,11 +1,11 @@
 use Rattle.std.proofs.Common.{arith, length-take}
 use Rattle.std.proofs.lemmas.Grind.{common_steps}
-use Rattle.uv_model.proofs.Bounded.{after_small}
+use Rattle.uv_model.proofs.Bounded.{after_able}
 use Rattle.uv_model.proofs.Runs.{after-take}
 use Rattle.uv_model.proofs.plain.replay.Goals as goal
 
 pub follow-requires : goal.follow-requires
-follow-requires c = rw c.loop-event.invariant (after_small _ _ (simp length-take (omega arith)))
+follow-requires c = rw c.loop-event.invariant (after_able _ _ (simp length-take (omega arith)))
 
 pub loop-event-preserved : goal.loop-event-preserved
 loop-event-preserved c = grind (arith, common_steps, after-take, c.in_ok-follow.ensures)

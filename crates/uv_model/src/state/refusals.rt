@@ -1,0 +1,69 @@
+//! Why a step is to be refused. It is found before anything is changed, and before memory is asked for.
+ghost use Rattle.std.specs.Prelude.{◌≡◌, ◌+◌, ◌≤◌, IfSome, IfNone, slice_get, None};
+ghost use Rattle.uv_model.specs.Next.{main_step, run_step, tick, next, LATEST};
+ghost use Rattle.uv_model.specs.After.{refusal_of};
+
+use crate::place::{Place, Run, Stage};
+use crate::state::LoopState;
+use uv_ids::{Event, Why};
+use uv_script::Script;
+
+/// The latest time that the clock may show, in ms.
+const LATEST: u64 = 1 << 62;
+
+impl LoopState {
+    /// What the clock shows so many ms later; none past its limit.
+    pub(super) fn later(&self, ms: u64) -> Option<u64>
+        ensures some { IfSome result (λ clock. (clock ≡ self.now.clock + ms) × (clock ≤ LATEST)) }
+        ensures none { IfNone result (LATEST + 1 ≤ self.now.clock + ms) }
+    {
+        let clock = self.clock.checked_add(ms)?;
+        (clock <= LATEST).then_some(clock)
+    }
+
+    /// The clock doesn't go past its limit.
+    fn tick_refusal(&self, ms: u64) -> Option<Why>
+        ensures { result ≡ refusal_of (tick self.now ms) }
+    {
+        match self.later(ms) {
+            Some(_) => None,
+            None => Some(Why::Range),
+        }
+    }
+
+    /// The main program has an end.
+    #[tactic(auto, using(crate::proofs::Refusals::main_moves))]
+    fn main_refusal(&self, script: &Script, line: usize) -> Option<Why>
+        ensures { result ≡ refusal_of (main_step self.now line (slice_get script.now.main line)) }
+    {
+        match script.main_op(line) {
+            None => Some(Why::Ended),
+            Some(_) => None,
+        }
+    }
+
+    /// The poll isn't left before its deadline, unless a callback's body is under way.
+    #[tactic(auto, using(crate::proofs::Refusals::run_moves))]
+    fn run_refusal(&self, script: &Script, run: Run) -> Option<Why>
+        ensures { result ≡ refusal_of (run_step script.now self.now run run.body) }
+    {
+        match (run.body, run.stage) {
+            (None, Stage::Poll(deadline)) if !self.has_passed(deadline) => Some(Why::Blocked),
+            _ => None,
+        }
+    }
+
+    /// Why the next step is to be refused, if it is.
+    #[tactic(auto, unfolding(crate::specs::Next::next))]
+    pub fn refusal(&self, script: &Script, event: Event) -> Option<Why>
+        ensures { result ≡ refusal_of (next script.now self.now event) }
+    {
+        match event {
+            Event::Tick(ms) => self.tick_refusal(ms),
+            Event::Loop => match self.place {
+                Place::Main(line) => self.main_refusal(script, line),
+                Place::Running(run) => self.run_refusal(script, run),
+            },
+        }
+    }
+}
