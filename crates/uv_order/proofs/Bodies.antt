@@ -7,7 +7,7 @@ use Rattle.uv_script.specs.declared.op.CallbackLine.{CallbackLine}
 use Rattle.uv_script.specs.Program.{Program, on_lines, is_for}
 use Rattle.uv_model.specs.declared.place.Body.{Body}
 use Rattle.uv_model.specs.Next.{next_line, body_from, body_at}
-use Rattle.uv_model.specs.Documented.{sites_from, body_of}
+use Rattle.uv_order.specs.Documented.{sites_from, body_of}
 
 -- the line of the next op, and the ops from it on
 pub record IsAt (lines : List CallbackLine) (v : Var) (call next : ℕ) (sites : List Site) : Type 0 where

@@ -7,14 +7,16 @@ use Rattle.uv_ids.specs.declared.id.Id.{Id}
 use Rattle.uv_ids.specs.declared.due.Due.{Due}
 use Rattle.uv_ids.specs.declared.phase.Kind.TheVariants as kind
 use Rattle.uv_model.specs.declared.handle.Handle.{Handle}
+use Rattle.uv_model.specs.declared.handle.Content.TheVariants as content
 use Rattle.uv_model.specs.declared.handle.Slot.{Slot}
+use Rattle.uv_model.specs.Handles.{handle_in}
 use Rattle.uv_model.specs.Ids.{same_id, without_id}
 use Rattle.uv_model.specs.State.{held_in}
 use Rattle.uv_model.specs.Timers.{with_timer, without_timer}
-use Rattle.uv_model.specs.Timed.{Has, InOrder}
-use Rattle.uv_model.specs.Documented.{has_id, AreDistinct}
-use Rattle.uv_model.proofs.IdLists.{same, other, Each, each_mapped, each_without, absent, distinct_without}
-use Rattle.uv_model.proofs.TimerKeys.{one_id, not_before_itself, before_each, still_has, had, in_order_without, IsNew, has_new, has_old, new_or_old, in_order_with, is_new}
+use Rattle.uv_order.specs.Active.{Has, InOrder}
+use Rattle.uv_order.specs.Active.{has_id, AreDistinct}
+use Rattle.uv_order.proofs.IdLists.{same, other, turned, Each, each_mapped, each_without, absent, distinct_without, still_there, without_absent}
+use Rattle.uv_order.proofs.TimerKeys.{one_id, not_before_itself, before_each, still_has, had, in_order_without, IsNew, has_new, has_old, new_or_old, in_order_with, is_new}
 
 -- ---- slots
 
@@ -22,7 +24,7 @@ abbrev pub held_at : List Slot → Id → Option Handle
 held_at slots id = option_and_then (held_in id) (slice_get slots id.slot)
 
 abbrev pub slot_of : Id → Handle → Slot
-slot_of id h = record { generation = id.generation; content = Some h }
+slot_of id h = record { generation = id.generation; content = Some (content.Handle h) }
 
 -- the handle of an id is put in its slot
 abbrev pub put : List Slot → Id → Handle → List Slot
@@ -45,19 +47,19 @@ pub record Holds (slots : List Slot) (id : Id) (h : Handle) : Type 0 where
   pub slot : Slot
   pub there : slice_get slots id.slot ≡ Some slot
   pub generation : slot.generation ≡ id.generation
-  pub content : slot.content ≡ Some h
+  pub content : handle_in slot.content ≡ Some h
 
 holds_in : (slots : List Slot) (id : Id) (h : Handle) (o : Option Slot) → slice_get slots id.slot ≡ o → option_and_then (held_in id) o ≡ Some h → Holds slots id h
 holds_in slots id h None e k = cc k
 holds_in slots id h (Some slot) e k = at (slot.generation == id.generation) refl k where
-  at : (b : Bool) → (slot.generation == id.generation) ≡ b → ◌≡◌ {A = Option Handle} (cond b slot.content None) (Some h) → Holds slots id h
+  at : (b : Bool) → (slot.generation == id.generation) ≡ b → ◌≡◌ {A = Option Handle} (cond b (handle_in slot.content) None) (Some h) → Holds slots id h
   at true f l = record { slot = slot; there = e; generation = eqb-true slot.generation id.generation f; content = l }
   at false f l = cc l
 
 holds : (slots : List Slot) (id : Id) (h : Handle) → held_at slots id ≡ Some h → Holds slots id h
 holds slots id h e = holds_in slots id h (slice_get slots id.slot) refl e
 
-in_slot : (id : Id) (slot : Slot) → slot.generation ≡ id.generation → held_in id slot ≡ slot.content
+in_slot : (id : Id) (slot : Slot) → slot.generation ≡ id.generation → held_in id slot ≡ handle_in slot.content
 in_slot id slot e = rw (eq-eqb slot.generation id.generation e) refl
 
 pub put_same : (slots : List Slot) (id : Id) (h x : Handle) → held_at slots id ≡ Some h → held_at (put slots id x) id ≡ Some x
@@ -70,7 +72,7 @@ ids_alike a b e f = rw (eq-eqb a.slot b.slot e, eq-eqb a.generation b.generation
 
 other_generation : (i : Id) (slot : Slot) → (slot.generation ≡ i.generation → ⊥) → held_in i slot ≡ None
 other_generation i slot d = at (slot.generation == i.generation) refl where
-  at : (b : Bool) → (slot.generation == i.generation) ≡ b → ◌≡◌ {A = Option Handle} (cond b slot.content None) None
+  at : (b : Bool) → (slot.generation == i.generation) ≡ b → ◌≡◌ {A = Option Handle} (cond b (handle_in slot.content) None) None
   at true f = absurd (d (eqb-true slot.generation i.generation f))
   at false f = refl
 
@@ -106,12 +108,12 @@ from_slot slots id h k = ap (option_and_then (held_in id)) k.there ∙ in_slot i
 pub held_push : (slots : List Slot) (x : Slot) (id : Id) (h : Handle) → held_at slots id ≡ Some h → held_at (slots ++ x ∷ []) id ≡ Some h
 held_push slots x id h e = let k = holds slots id h e in from_slot (slots ++ x ∷ []) id h (record { slot = k.slot; there = get_push slots x k.slot id.slot k.there; generation = k.generation; content = k.content })
 
-pub was_held : (slots : List Slot) (x : Slot) (id : Id) (h : Handle) → held_at (slots ++ x ∷ []) id ≡ Some h → (held_at slots id ≡ Some h) ⊎ (x.content ≡ Some h)
+pub was_held : (slots : List Slot) (x : Slot) (id : Id) (h : Handle) → held_at (slots ++ x ∷ []) id ≡ Some h → (held_at slots id ≡ Some h) ⊎ (handle_in x.content ≡ Some h)
 was_held slots x id h e =
     let k = holds (slots ++ x ∷ []) id h e in
     elim (got_push slots x k.slot id.slot k.there) [
       | inl there ↦ inl (from_slot slots id h (record { slot = k.slot; there = there; generation = k.generation; content = k.content }))
-      | inr new ↦ inr (ap (λ (s : Slot). s.content) new ∙ k.content)
+      | inr new ↦ inr (ap (λ (s : Slot). handle_in s.content) new ∙ k.content)
     ]
 
 -- ---- ids of handles of which something holds
@@ -138,6 +140,15 @@ fits_other slots P id h x e i d k = record { handle = k.handle; holds = put_othe
 pub fitted : (slots : List Slot) (P : Handle → Type 0) (id : Id) (h x : Handle) → held_at slots id ≡ Some h → (i : Id) → (i ≡ id → ⊥) → Fits (put slots id x) P i → Fits slots P i
 fitted slots P id h x e i d k = record { handle = k.handle; holds = sym (put_other slots id i h x e d) ∙ k.holds; fits = k.fits }
 
+-- it fitted before, where the changed one did if it does now
+pub fits_back : (slots : List Slot) (P : Handle → Type 0) (id : Id) (h x : Handle) → held_at slots id ≡ Some h → (P x → P h) → (i : Id) → Fits (put slots id x) P i → Fits slots P i
+fits_back slots P id h x e g i l = at (same_id i id) refl where
+  at : (b : Bool) → same_id i id ≡ b → Fits slots P i
+  at true s =
+      let is = same i id s in
+      record { handle = h; holds = ap (held_at slots) is ∙ e; fits = g (its_handle (put slots id x) P id x (put_same slots id h x e) (subst (Fits (put slots id x) P) is l)) }
+  at false s = fitted slots P id h x e i (other i id s) l
+
 pub fits_push : (slots : List Slot) (P : Handle → Type 0) (x : Slot) (i : Id) → Fits slots P i → Fits (slots ++ x ∷ []) P i
 fits_push slots P x i k = record { handle = k.handle; holds = held_push slots x i k.handle k.holds; fits = k.fits }
 
@@ -163,73 +174,110 @@ lists_push slots P x ids k = record { each = each_mapped (Fits slots P) (Fits (s
 pub not_listed : (slots : List Slot) (P : Handle → Type 0) (id : Id) (h : Handle) (ids : List Id) → held_at slots id ≡ Some h → (P h → ⊥) → Lists slots P ids → has_id ids id ≡ false
 not_listed slots P id h ids e f k = absent (Fits slots P) id (λ g. f (its_handle slots P id h e g)) ids k.each
 
+-- ---- all handles of which something holds
+
+pub record Everyone (slots : List Slot) (P : Handle → Type 0) (ids : List Id) : Type 0 where
+  pub lists : Lists slots P ids
+  pub all : (id : Id) → Fits slots P id → has_id ids id ≡ true
+
+-- a handle is changed that fits before and after, or doesn't
+pub everyone_put : (slots : List Slot) (P : Handle → Type 0) (id : Id) (h x : Handle) (ids : List Id) → held_at slots id ≡ Some h →
+    (P h → P x) → (P x → P h) → Everyone slots P ids → Everyone (put slots id x) P ids
+everyone_put slots P id h x ids e f g k = record { lists = lists_put slots P id h x ids e f k.lists; all = λ i l. k.all i (fits_back slots P id h x e g i l) }
+
+-- one that doesn't fit any more is taken off
+pub everyone_without : (slots : List Slot) (P : Handle → Type 0) (id : Id) (h x : Handle) (ids : List Id) → held_at slots id ≡ Some h →
+    (P x → ⊥) → Everyone slots P ids → Everyone (put slots id x) P (without_id ids id)
+everyone_without slots P id h x ids e g k = record { lists = lists_without slots P id h x ids e k.lists; all = λ i l. at i l (same_id i id) refl } where
+  at : (i : Id) → Fits (put slots id x) P i → (b : Bool) → same_id i id ≡ b → has_id (without_id ids id) i ≡ true
+  at i l true s = absurd (g (its_handle (put slots id x) P id x (put_same slots id h x e) (subst (Fits (put slots id x) P) (same i id s) l)))
+  at i l false s = still_there ids id i s (k.all i (fitted slots P id h x e i (other i id s) l))
+
+-- one that fits from now on is put in front
+pub everyone_front : (slots : List Slot) (P : Handle → Type 0) (id : Id) (h x : Handle) (ids : List Id) → held_at slots id ≡ Some h →
+    (P h → ⊥) → P x → Everyone slots P ids → Everyone (put slots id x) P (id ∷ ids)
+everyone_front slots P id h x ids e f g k =
+    let away : has_id ids id ≡ false = not_listed slots P id h ids e f k.lists in
+    let rest : Lists (put slots id x) P ids = subst (Lists (put slots id x) P) (without_absent ids id away) (lists_without slots P id h x ids e k.lists) in
+    record {
+      lists = record { each = (record { handle = x; holds = put_same slots id h x e; fits = g }, rest.each); distinct = (away, rest.distinct) };
+      all = λ i l. at i l (same_id i id) refl;
+    } where
+  at : (i : Id) → Fits (put slots id x) P i → (b : Bool) → same_id i id ≡ b → has_id (id ∷ ids) i ≡ true
+  at i l true s = rw (turned id i, s) refl
+  at i l false s = rw (turned id i, s) (k.all i (fitted slots P id h x e i (other i id s) l))
+
+pub everyone_push : (slots : List Slot) (P : Handle → Type 0) (x : Slot) (ids : List Id) → ((h : Handle) → handle_in x.content ≡ Some h → P h → ⊥) →
+    Everyone slots P ids → Everyone (slots ++ x ∷ []) P ids
+everyone_push slots P x ids d k = record {
+  lists = lists_push slots P x ids k.lists;
+  all = λ i l. elim (was_held slots x i l.handle l.holds) [
+    | inl old ↦ k.all i (record { handle = l.handle; holds = old; fits = l.fits })
+    | inr new ↦ absurd (d l.handle new l.fits)
+  ];
+}
+
 -- ---- the timers
 
-pub record IsActive (key : Due) (h : Handle) : Type 0 where
+pub record IsSet (key : Due) (h : Handle) : Type 0 where
   pub kind : h.kind ≡ kind.Timer
   pub active : h.active ≡ true
   pub due : h.due ≡ key
 
 -- the order of timers has just the active ones, and their start numbers are drawn
 pub record Times (slots : List Slot) (drawn : ℕ) (ts : List (Due × Id)) : Type 0 where
-  pub each : (key : Due) (id : Id) → Has ts key id → Fits slots (IsActive key) id × (key.start < drawn)
-  pub all : (key : Due) (id : Id) → Fits slots (IsActive key) id → Has ts key id
+  pub each : (key : Due) (id : Id) → Has ts key id → Fits slots (IsSet key) id × (key.start < drawn)
+  pub all : (key : Due) (id : Id) → Fits slots (IsSet key) id → Has ts key id
   pub sorted : InOrder ts
 
 -- a handle is changed that is no active timer, before or after
-pub times_put : (slots : List Slot) (drawn : ℕ) (ts : List (Due × Id)) (id : Id) (h x : Handle) → held_at slots id ≡ Some h → ((key : Due) → IsActive key h → IsActive key x) → ((key : Due) → IsActive key x → IsActive key h) → Times slots drawn ts → Times (put slots id x) drawn ts
+pub times_put : (slots : List Slot) (drawn : ℕ) (ts : List (Due × Id)) (id : Id) (h x : Handle) → held_at slots id ≡ Some h →
+    ((key : Due) → IsSet key h → IsSet key x) → ((key : Due) → IsSet key x → IsSet key h) → Times slots drawn ts → Times (put slots id x) drawn ts
 times_put slots drawn ts id h x e f g k = record {
-  each = λ key i l. let m = k.each key i l in (fits_put slots (IsActive key) id h x e (f key) i m.0, m.1);
-  all = λ key i l. k.all key i (back key i l);
+  each = λ key i l. let m = k.each key i l in (fits_put slots (IsSet key) id h x e (f key) i m.0, m.1);
+  all = λ key i l. k.all key i (fits_back slots (IsSet key) id h x e (g key) i l);
   sorted = k.sorted;
-} where
-  back : (key : Due) (i : Id) → Fits (put slots id x) (IsActive key) i → Fits slots (IsActive key) i
-  back key i l = at (same_id i id) refl where
-    at : (b : Bool) → same_id i id ≡ b → Fits slots (IsActive key) i
-    at true s =
-        let is = same i id s in
-        record { handle = h; holds = ap (held_at slots) is ∙ e; fits = g key (its_handle (put slots id x) (IsActive key) id x (put_same slots id h x e) (subst (Fits (put slots id x) (IsActive key)) is l)) }
-    at false s = fitted slots (IsActive key) id h x e i (other i id s) l
+}
 
 -- an active timer becomes inactive
-pub times_without : (slots : List Slot) (drawn : ℕ) (ts : List (Due × Id)) (key : Due) (id : Id) (h x : Handle) → held_at slots id ≡ Some h → IsActive key h → x.active ≡ false → Times slots drawn ts → Times (put slots id x) drawn (without_timer ts key)
+pub times_without : (slots : List Slot) (drawn : ℕ) (ts : List (Due × Id)) (key : Due) (id : Id) (h x : Handle) → held_at slots id ≡ Some h → IsSet key h → x.active ≡ false → Times slots drawn ts → Times (put slots id x) drawn (without_timer ts key)
 times_without slots drawn ts key id h x e a off k = record {
   each = λ other_key i l.
       let m = had ts key other_key i k.sorted l in
       let n = k.each other_key i m.0 in
-      (fits_other slots (IsActive other_key) id h x e i (λ is. m.1 (sym (its_handle slots (IsActive other_key) id h e (subst (Fits slots (IsActive other_key)) is n.0)).due ∙ a.due)) n.0, n.1);
-  all = λ other_key i l. let d = not_it other_key i l in still_has ts key other_key i (k.all other_key i (fitted slots (IsActive other_key) id h x e i d l)) (λ same_key. d (one_id ts key i id k.sorted (subst (λ (q : Due). Has ts q i) same_key (k.all other_key i (fitted slots (IsActive other_key) id h x e i d l))) (k.all key id (record { handle = h; holds = e; fits = a }))));
+      (fits_other slots (IsSet other_key) id h x e i (λ is. m.1 (sym (its_handle slots (IsSet other_key) id h e (subst (Fits slots (IsSet other_key)) is n.0)).due ∙ a.due)) n.0, n.1);
+  all = λ other_key i l. let d = not_it other_key i l in still_has ts key other_key i (k.all other_key i (fitted slots (IsSet other_key) id h x e i d l)) (λ same_key. d (one_id ts key i id k.sorted (subst (λ (q : Due). Has ts q i) same_key (k.all other_key i (fitted slots (IsSet other_key) id h x e i d l))) (k.all key id (record { handle = h; holds = e; fits = a }))));
   sorted = in_order_without ts key k.sorted;
 } where
-  not_it : (other_key : Due) (i : Id) → Fits (put slots id x) (IsActive other_key) i → i ≡ id → ⊥
-  not_it other_key i l is = let on = (its_handle (put slots id x) (IsActive other_key) id x (put_same slots id h x e) (subst (Fits (put slots id x) (IsActive other_key)) is l)).active in cc (on, off)
+  not_it : (other_key : Due) (i : Id) → Fits (put slots id x) (IsSet other_key) i → i ≡ id → ⊥
+  not_it other_key i l is = let on = (its_handle (put slots id x) (IsSet other_key) id x (put_same slots id h x e) (subst (Fits (put slots id x) (IsSet other_key)) is l)).active in cc (on, off)
 
 -- the first one becomes inactive
 pub times_rest : (slots : List Slot) (drawn : ℕ) (t : Due × Id) (ts : List (Due × Id)) (h x : Handle) → held_at slots t.1 ≡ Some h → x.active ≡ false → Times slots drawn (t ∷ ts) → Times (put slots t.1 x) drawn ts
 times_rest slots drawn t ts h x e off k = record {
-  each = λ key i l. let n = k.each key i (inr l) in (fits_other slots (IsActive key) t.1 h x e i (λ is. not_before_itself t.0 key (same_key key i is n.0) (before_each ts t.0 key i k.sorted.0 l)) n.0, n.1);
-  all = λ key i l. behind key i (not_it key i l) (k.all key i (fitted slots (IsActive key) t.1 h x e i (not_it key i l) l));
+  each = λ key i l. let n = k.each key i (inr l) in (fits_other slots (IsSet key) t.1 h x e i (λ is. not_before_itself t.0 key (same_key key i is n.0) (before_each ts t.0 key i k.sorted.0 l)) n.0, n.1);
+  all = λ key i l. behind key i (not_it key i l) (k.all key i (fitted slots (IsSet key) t.1 h x e i (not_it key i l) l));
   sorted = k.sorted.1;
 } where
-  first : Fits slots (IsActive t.0) t.1
+  first : Fits slots (IsSet t.0) t.1
   first = (k.each t.0 t.1 (inl (refl, refl))).0
 
-  same_key : (key : Due) (i : Id) → i ≡ t.1 → Fits slots (IsActive key) i → t.0 ≡ key
-  same_key key i is f = sym (its_handle slots (IsActive t.0) t.1 h e first).due ∙ (its_handle slots (IsActive key) t.1 h e (subst (Fits slots (IsActive key)) is f)).due
+  same_key : (key : Due) (i : Id) → i ≡ t.1 → Fits slots (IsSet key) i → t.0 ≡ key
+  same_key key i is f = sym (its_handle slots (IsSet t.0) t.1 h e first).due ∙ (its_handle slots (IsSet key) t.1 h e (subst (Fits slots (IsSet key)) is f)).due
 
-  not_it : (key : Due) (i : Id) → Fits (put slots t.1 x) (IsActive key) i → i ≡ t.1 → ⊥
-  not_it key i l is = let on = (its_handle (put slots t.1 x) (IsActive key) t.1 x (put_same slots t.1 h x e) (subst (Fits (put slots t.1 x) (IsActive key)) is l)).active in cc (on, off)
+  not_it : (key : Due) (i : Id) → Fits (put slots t.1 x) (IsSet key) i → i ≡ t.1 → ⊥
+  not_it key i l is = let on = (its_handle (put slots t.1 x) (IsSet key) t.1 x (put_same slots t.1 h x e) (subst (Fits (put slots t.1 x) (IsSet key)) is l)).active in cc (on, off)
 
   behind : (key : Due) (i : Id) → (i ≡ t.1 → ⊥) → Has (t ∷ ts) key i → Has ts key i
   behind key i d (inl is) = absurd (d (sym is.1))
   behind key i d (inr rest) = rest
 
 -- an inactive one becomes active, with a start number that is drawn now
-pub times_with : (slots : List Slot) (drawn more : ℕ) (ts : List (Due × Id)) (key : Due) (id : Id) (h x : Handle) → held_at slots id ≡ Some h → h.active ≡ false → IsActive key x → key.start ≡ drawn → drawn < more → Times slots drawn ts → Times (put slots id x) more (with_timer ts key id)
+pub times_with : (slots : List Slot) (drawn more : ℕ) (ts : List (Due × Id)) (key : Due) (id : Id) (h x : Handle) → held_at slots id ≡ Some h → h.active ≡ false → IsSet key x → key.start ≡ drawn → drawn < more → Times slots drawn ts → Times (put slots id x) more (with_timer ts key id)
 times_with slots drawn more ts key id h x e off a number less k = record {
   each = λ other_key i l. elim (new_or_old ts key other_key id i fresh l) [
-    | inl new ↦ (subst (Fits (put slots id x) (IsActive other_key)) new.1 (record { handle = x; holds = put_same slots id h x e; fits = subst (λ (q : Due). IsActive q x) new.0 a }), subst (λ (q : Due). q.start < more) new.0 (rw number less))
-    | inr old ↦ let m = k.each other_key i old in (fits_put slots (IsActive other_key) id h x e (λ b. absurd (on_and_off h b.active off)) i m.0, omega (arith, m.1, less))
+    | inl new ↦ (subst (Fits (put slots id x) (IsSet other_key)) new.1 (record { handle = x; holds = put_same slots id h x e; fits = subst (λ (q : Due). IsSet q x) new.0 a }), subst (λ (q : Due). q.start < more) new.0 (rw number less))
+    | inr old ↦ let m = k.each other_key i old in (fits_put slots (IsSet other_key) id h x e (λ b. absurd (on_and_off h b.active off)) i m.0, omega (arith, m.1, less))
   ];
   all = λ other_key i l. at other_key i l (same_id i id) refl;
   sorted = in_order_with ts key id k.sorted;
@@ -240,16 +288,16 @@ times_with slots drawn more ts key id h x e off a number less k = record {
   fresh : IsNew key ts
   fresh = is_new ts key (λ other_key i l. rw number (k.each other_key i l).1)
 
-  at : (other_key : Due) (i : Id) → Fits (put slots id x) (IsActive other_key) i → (b : Bool) → same_id i id ≡ b → Has (with_timer ts key id) other_key i
+  at : (other_key : Due) (i : Id) → Fits (put slots id x) (IsSet other_key) i → (b : Bool) → same_id i id ≡ b → Has (with_timer ts key id) other_key i
   at other_key i l true s =
       let is = same i id s in
-      let due : x.due ≡ other_key = (its_handle (put slots id x) (IsActive other_key) id x (put_same slots id h x e) (subst (Fits (put slots id x) (IsActive other_key)) is l)).due in
+      let due : x.due ≡ other_key = (its_handle (put slots id x) (IsSet other_key) id x (put_same slots id h x e) (subst (Fits (put slots id x) (IsSet other_key)) is l)).due in
       subst (λ (q : Due). Has (with_timer ts key id) q i) (sym a.due ∙ due) (subst (Has (with_timer ts key id) key) (sym is) (has_new ts key id fresh))
-  at other_key i l false s = has_old ts key other_key id i fresh (k.all other_key i (fitted slots (IsActive other_key) id h x e i (other i id s) l))
+  at other_key i l false s = has_old ts key other_key id i fresh (k.all other_key i (fitted slots (IsSet other_key) id h x e i (other i id s) l))
 
-pub times_push : (slots : List Slot) (drawn : ℕ) (ts : List (Due × Id)) (x : Slot) → ((h : Handle) → x.content ≡ Some h → h.active ≡ false) → Times slots drawn ts → Times (slots ++ x ∷ []) drawn ts
+pub times_push : (slots : List Slot) (drawn : ℕ) (ts : List (Due × Id)) (x : Slot) → ((h : Handle) → handle_in x.content ≡ Some h → h.active ≡ false) → Times slots drawn ts → Times (slots ++ x ∷ []) drawn ts
 times_push slots drawn ts x off k = record {
-  each = λ key i l. let m = k.each key i l in (fits_push slots (IsActive key) x i m.0, m.1);
+  each = λ key i l. let m = k.each key i l in (fits_push slots (IsSet key) x i m.0, m.1);
   all = λ key i l. elim (was_held slots x i l.handle l.holds) [
     | inl old ↦ k.all key i (record { handle = l.handle; holds = old; fits = l.fits })
     | inr new ↦ absurd (clash l.handle l.fits.active (off l.handle new))

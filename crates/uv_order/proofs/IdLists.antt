@@ -4,7 +4,8 @@ use Rattle.std.specs.Prelude.{filter, not, ◌||◌}
 use Rattle.std.proofs.lemmas.Bool.{eqb-true, eq-eqb, and_parts, or_parts, both_ways}
 use Rattle.uv_ids.specs.declared.id.Id.{Id}
 use Rattle.uv_model.specs.Ids.{same_id, without_id}
-use Rattle.uv_model.specs.Documented.{has_id, AreDistinct, AllOff}
+use Rattle.uv_order.specs.Active.{has_id, AreDistinct}
+use Rattle.uv_order.specs.Documented.{AllOff}
 
 -- ---- one id and another
 
@@ -84,6 +85,24 @@ still_absent (id ∷ ids) x i h = at (same_id id x) refl (still_absent ids x i (
   at true e rest = rest
   at false e rest = rw ((or_parts (same_id id i) (has_id ids i) h).0, rest) refl
 
+pub still_there : (ids : List Id) (x i : Id) → same_id i x ≡ false → has_id ids i ≡ true → has_id (without_id ids x) i ≡ true
+still_there [] x i d h = h
+still_there (id ∷ ids) x i d h = at (same_id id x) refl (same_id id i) refl h (still_there ids x i d) where
+  at : (b : Bool) → same_id id x ≡ b → (c : Bool) → same_id id i ≡ c → (c || has_id ids i) ≡ true → (has_id ids i ≡ true → has_id (without_id ids x) i ≡ true) →
+      has_id (if not b then id ∷ without_id ids x else without_id ids x) i ≡ true
+  at true e true f k rest = absurd (both_ways (same_id i x) d (itself i x (sym (same id i f) ∙ same id x e)))
+  at true e false f k rest = rest k
+  at false e true f k rest = rw f refl
+  at false e false f k rest = rw f (rest k)
+
+-- what holds of each member holds of this one
+pub member : (P : Id → Type 0) (ids : List Id) → Each P ids → (id : Id) → has_id ids id ≡ true → P id
+member P [] h id e = cc e
+member P (x ∷ ids) h id e = at (same_id x id) refl e (member P ids h.1 id) where
+  at : (b : Bool) → same_id x id ≡ b → (b || has_id ids id) ≡ true → (has_id ids id ≡ true → P id) → P id
+  at true f k rest = subst P (same x id f) h.0
+  at false f k rest = rest k
+
 pub without_absent : (ids : List Id) (x : Id) → has_id ids x ≡ false → without_id ids x ≡ ids
 without_absent [] x h = refl
 without_absent (id ∷ ids) x h = let parts = or_parts (same_id id x) (has_id ids x) h in rw parts.0 (ap (λ (rest : List Id). id ∷ rest) (without_absent ids x parts.1))
@@ -135,6 +154,11 @@ one_off (id ∷ ids) off x = at (same_id x id) refl (has_id off id) (one_off ids
   at true e false rest = rw (turned id x, e) rest
   at false e true rest = rest
   at false e false rest = rw (turned id x, e) (ap (λ (more : List Id). id ∷ more) rest)
+
+-- some were taken off, and then others
+pub more_off : (ids off others : List Id) → left_of (left_of ids off) others ≡ left_of ids (others ++ off)
+more_off ids off [] = none_off (left_of ids off)
+more_off ids off (x ∷ others) = one_off (left_of ids off) others x ∙ ap (λ (is : List Id). without_id is x) (more_off ids off others) ∙ sym (one_off ids (others ++ off) x)
 
 pub all_off : (ids off : List Id) → left_of ids off ≡ [] → AllOff off ids
 all_off [] off h = tt

@@ -1,211 +1,320 @@
 -- Where a state stands in the documented order, and that a step goes on from there.
-use Rattle.std.proofs.Common.{◌≡◌, ℕ, ◌+◌, ◌==◌, ◌&&◌, List, [], ◌∷◌, ◌++◌, Bool, true, false, Option, Some, None, slice_get, nat_le, refl, ap, sym, subst, ◌∙◌, append_assoc, append-nil, if◌then◌else◌}
-use Rattle.std.specs.Prelude.{not, option_map}
-use Rattle.std.proofs.lemmas.Bool.{cond_both, and_parts}
+use Rattle.std.proofs.Common.{◌≡◌, inl, ℕ, ◌+◌, ◌==◌, ◌&&◌, List, [], ◌∷◌, ◌++◌, Bool, true, false, drop, Option, Some, None, slice_get, nat_le, refl, ap, sym, subst, ◌∙◌, append_assoc, append-nil, if◌then◌else◌}
+use Rattle.std.specs.Prelude.{option_map}
+use Rattle.std.proofs.lemmas.Bool.{cond_both}
 use Rattle.uv_ids.specs.declared.id.Id.{Id}
 use Rattle.uv_ids.specs.declared.id.Var.{Var}
 use Rattle.uv_ids.specs.declared.due.Due.{Due}
 use Rattle.uv_ids.specs.declared.event.Event.{Event}
 use Rattle.uv_ids.specs.declared.event.Event.TheVariants.{Loop, Tick}
+use Rattle.uv_ids.specs.declared.phase.Kind.{Kind}
 use Rattle.uv_ids.specs.declared.phase.Kind.TheVariants as kind
 use Rattle.uv_ids.specs.declared.phase.Mode.{Mode}
 use Rattle.uv_ids.specs.declared.phase.Mode.TheVariants.{Default, Once, Nowait}
+use Rattle.uv_ids.specs.declared.phase.Phase.{Phase}
 use Rattle.uv_ids.specs.declared.phase.Phase.TheVariants as phase
 use Rattle.uv_ids.specs.declared.seen.Seen.{Seen}
 use Rattle.uv_ids.specs.declared.seen.Seen.TheVariants as seen
+use Rattle.uv_ids.specs.declared.seen.Site.{Site}
 use Rattle.uv_ids.specs.declared.seen.Site.TheVariants as site
+use Rattle.uv_script.specs.declared.op.Op.{Op}
 use Rattle.uv_script.specs.declared.op.MainOp.{MainOp}
 use Rattle.uv_script.specs.declared.op.MainOp.TheVariants as main
 use Rattle.uv_script.specs.declared.op.CallbackLine.{CallbackLine}
 use Rattle.uv_script.specs.Program.{Program, on_lines, main_op}
 use Rattle.uv_model.specs.declared.handle.Handle.{Handle}
-use Rattle.uv_model.specs.declared.handle.Slot.{Slot}
+use Rattle.uv_model.specs.declared.handle.Named.{Named}
 use Rattle.uv_model.specs.declared.place.Body.{Body}
 use Rattle.uv_model.specs.declared.place.Run.{Run}
 use Rattle.uv_model.specs.declared.place.Stage.{Stage}
-use Rattle.uv_model.specs.declared.place.Stage.TheVariants.{Entry, First, Pending, Idle, Prepare, Poll, Done, Async, Check, Closing, Timers}
+use Rattle.uv_model.specs.declared.place.Stage.TheVariants as stage
+use Rattle.uv_model.specs.declared.place.TimersOf.{TimersOf}
+use Rattle.uv_model.specs.declared.place.TimersOf.TheVariants as timers_of
+use Rattle.uv_model.specs.declared.place.Timing.{Timing}
 use Rattle.uv_model.specs.declared.place.Timing.TheVariants.{Collecting, Firing}
 use Rattle.uv_model.specs.declared.place.Place.{Place}
-use Rattle.uv_model.specs.declared.place.Place.TheVariants.{Main, Running}
+use Rattle.uv_model.specs.declared.place.Place.TheVariants as place
 use Rattle.uv_model.specs.declared.watchers.WatcherKind.{WatcherKind}
 use Rattle.uv_model.specs.declared.watchers.WatcherKind.TheVariants as watcher
 use Rattle.uv_model.specs.Watchers.{Watched, moved_on, phase_of}
-use Rattle.uv_model.specs.State.{State, fresh, held, handle_of, named, watched, with_watched, refreshed}
-use Rattle.uv_model.specs.Timers.{started}
-use Rattle.uv_model.specs.Timeout.{is_alive, has_passed}
-use Rattle.uv_model.specs.Next.{Next, Moves, Refuses, next, loop_step, main_step, run_step, body_step, body_from, stage_step, tick, timers, collect, fire, leave_timers, enter, ends, call, is_default, timers_stage, stage_of, walk, after_walk, begin_walk, begins, goes, new_iteration}
-use Rattle.uv_model.specs.After.{line_of_step, history_from, history, state_of}
-use Rattle.uv_model.specs.Timed.{IsTimer, InOrder, AreTimers, AreDue}
-use Rattle.uv_model.specs.Documented as doc
-use Rattle.uv_model.specs.Documented.{Lasting, lasting, at_first, Section, Entry as At_entry, In, word_of, Walk, Opens, IsOver, CallsNext, AreDistinct, Position, Between, Entered, Within, Polling, MayGoOn, IsSingle, MayEnd, Goes, GoesOn, cut, line, Documented, body_of, taken_off}
-use Rattle.uv_model.proofs.IdLists.{left_of, none_off, all_off, first_left, distinct_front, Each, each_back}
-use Rattle.uv_model.proofs.TimerKeys.{due_ids, none_due, distinct_due}
-use Rattle.uv_model.proofs.Holding.{Fits, Lists, IsActive, Times, its_handle}
-use Rattle.uv_model.proofs.Keeping.{Kept, StaysKept, next_kept, fresh_kept, Rests, Watches, kind_as, members, its}
-use Rattle.uv_model.proofs.Bodies.{IsBody, is_body, whole_body}
-use Rattle.uv_model.proofs.OpEffects.{op_lasts, op_ready, op_none_ready, op_yet}
+use Rattle.uv_model.specs.State.{State, fresh, held, with_id, front, named, with_named, watched, with_watched, refreshed}
+use Rattle.uv_model.specs.Timers.{started, restarted}
+use Rattle.uv_model.specs.Timeout.{poll_timeout, has_passed, deadline_of}
+use Rattle.uv_model.specs.Ops.{do_op}
+use Rattle.uv_model.specs.Next as step
+use Rattle.uv_model.specs.Next.{Next, Moves, Refuses, next, goes, is_default, call, first_due, collected, body_from}
+use Rattle.uv_model.specs.After.{state_of}
+use Rattle.uv_order.specs.Line.{Line}
+use Rattle.uv_order.specs.History.{line_of_step, history_from, history}
+use Rattle.uv_order.specs.Active.{IsTimer, InOrder, AreTimers, AreDue, AreDistinct, IsActive, AreActive, has_id}
+use Rattle.uv_order.specs.Documented as doc
+use Rattle.uv_order.specs.Documented.{Told, nothing_told, told_with, Lasting, lasting, at_first, Section, Entry, In, word_of, part_after, part_of, Walk, Opens, IsOver, CallsNext, Standing, Begun, Within, Polling, MayLeave, PollsFor, Position, Between, Running, Goes, GoesOn, cut, line, Documented, body_of, next_call, taken_off}
+use Rattle.uv_model.proofs.Found.{found_both}
+use Rattle.uv_order.proofs.IdLists.{left_of, none_off, more_off, all_off, first_left, each_back, member}
+use Rattle.uv_order.proofs.TimerKeys.{due_ids, none_due, distinct_due}
+use Rattle.uv_order.proofs.Holding.{Fits, its_handle, Lists, Everyone, IsSet, Times}
+use Rattle.uv_order.proofs.OpCases.{kind_as}
+use Rattle.uv_order.proofs.Keeping.{Kept, StaysKept, next_kept, fresh_kept, Rests, Watches, members, IsRestedAt, IsRestedIn, FrontOf, front_of, no_front, FirstOf, first_of}
+use Rattle.uv_order.proofs.Bodies.{IsBody, is_body}
+use Rattle.uv_order.proofs.OpEffects.{SameCalls, same_calls, Effect, op_effect}
+use Rattle.uv_order.proofs.Counted.{Counted, counted_kept, counted_fresh, counted_call, next_body}
 
 -- ---- where a state stands
 
--- a section without callbacks
+-- a section in which nothing is called
 abbrev bare : Walk
 bare = record { ahead = []; off = []; body = [] }
 
--- by what is ready, due and yet to run, the run's mode and line, and its body and stage
-pub data StandsIn (p : Program) (ready due idle prepare check : List Id) (m : Mode) (i : ℕ) : Option Body → Stage → Position → Type 0 where
-  entry : ready ≡ [] → StandsIn p ready due idle prepare check m i None Entry (Entered m i)
-  pending : ready ≡ [] → StandsIn p ready due idle prepare check m i None Pending (Within m i (In phase.Pending) bare)
-  idles : {w : Walk} {body : Option Body} → ready ≡ [] → idle ≡ left_of w.ahead w.off → IsBody p body w.body → StandsIn p ready due idle prepare check m i body Idle (Within m i (In phase.Idle) w)
-  prepares : {w : Walk} {body : Option Body} → ready ≡ [] → prepare ≡ left_of w.ahead w.off → IsBody p body w.body → StandsIn p ready due idle prepare check m i body Prepare (Within m i (In phase.Prepare) w)
-  polls : {deadline : Option ℕ} → ready ≡ [] → StandsIn p ready due idle prepare check m i None (Poll deadline) (Polling m i deadline)
-  done : ready ≡ [] → StandsIn p ready due idle prepare check m i None Done (Within m i (In phase.Done) bare)
-  async : ready ≡ [] → StandsIn p ready due idle prepare check m i None Async (Within m i (In phase.Async) bare)
-  checks : {w : Walk} {body : Option Body} → ready ≡ [] → check ≡ left_of w.ahead w.off → IsBody p body w.body → StandsIn p ready due idle prepare check m i body Check (Within m i (In phase.Check) w)
-  closing : ready ≡ [] → StandsIn p ready due idle prepare check m i None Closing (Within m i (In phase.Closing) bare)
-  collects_first : {ids : List Id} → m ≡ Default → ready ++ due ≡ ids → StandsIn p ready due idle prepare check m i None (First Collecting) (Within m i At_entry (record { ahead = ids; off = []; body = [] }))
-  collects : {ids : List Id} → ready ++ due ≡ ids → StandsIn p ready due idle prepare check m i None (Timers Collecting) (Within m i (In phase.Timers) (record { ahead = ids; off = []; body = [] }))
-  fires_first : {w : Walk} {body : Option Body} → m ≡ Default → ready ≡ left_of w.ahead w.off → IsBody p body w.body → StandsIn p ready due idle prepare check m i body (First Firing) (Within m i At_entry w)
-  fires : {w : Walk} {body : Option Body} → ready ≡ left_of w.ahead w.off → IsBody p body w.body → StandsIn p ready due idle prepare check m i body (Timers Firing) (Within m i (In phase.Timers) w)
+-- a section that begins with this list
+abbrev begun_with : List Id → Walk
+begun_with ids = record { ahead = ids; off = []; body = [] }
+
+abbrev section_of : TimersOf → Section
+section_of timers_of.Entry = Entry
+section_of timers_of.Iteration = In phase.Timers
+
+-- by the body and the stage of a run
+pub data StandsIn (p : Program) : Option Body → Stage → Standing → Type 0 where
+  begun : StandsIn p None stage.Entry Begun
+  pending : StandsIn p None stage.Pending (Within (In phase.Pending) bare)
+  idle : {w : Walk} {body : Option Body} → IsBody p body w.body → StandsIn p body stage.Idle (Within (In phase.Idle) w)
+  prepare : {w : Walk} {body : Option Body} → IsBody p body w.body → StandsIn p body stage.Prepare (Within (In phase.Prepare) w)
+  polls : {deadline : Option ℕ} → StandsIn p None (stage.Poll deadline) (Polling deadline)
+  done : StandsIn p None stage.Done (Within (In phase.Done) bare)
+  async : StandsIn p None stage.Async (Within (In phase.Async) bare)
+  check : {w : Walk} {body : Option Body} → IsBody p body w.body → StandsIn p body stage.Check (Within (In phase.Check) w)
+  closing : StandsIn p None stage.Closing (Within (In phase.Closing) bare)
+  collects : {part : TimersOf} {w : Walk} → w.body ≡ [] → StandsIn p None (stage.Timers part Collecting) (Within (section_of part) w)
+  fires : {part : TimersOf} {w : Walk} {body : Option Body} → IsBody p body w.body → StandsIn p body (stage.Timers part Firing) (Within (section_of part) w)
+
+-- the timers that a section has yet to call: while it collects, those that are due too
+abbrev waiting : Stage → List Id → List Id → List Id
+waiting (stage.Timers part Collecting) ready due = ready ++ due
+waiting x ready due = ready
+
+-- who is left of the list of a section with this word, in a section with that word
+abbrev rest_in : Phase → Phase → Walk → List Id
+rest_in phase.Idle phase.Idle w = left_of w.ahead w.off
+rest_in phase.Prepare phase.Prepare w = left_of w.ahead w.off
+rest_in phase.Check phase.Check w = left_of w.ahead w.off
+rest_in phase.Timers phase.Timers w = left_of w.ahead w.off
+rest_in x y w = []
+
+abbrev rest_of : Phase → Standing → List Id
+rest_of x Begun = []
+rest_of x (Within part w) = rest_in x (word_of part) w
+rest_of x (Polling deadline) = []
+
+-- the lists that a section walks have who is left, and the others nobody
+pub record Leaves (ready idlers preparers checkers : List Id) (at : Standing) : Type 0 where
+  pub timers : ready ≡ rest_of phase.Timers at
+  pub idle : idlers ≡ rest_of phase.Idle at
+  pub prepare : preparers ≡ rest_of phase.Prepare at
+  pub check : checkers ≡ rest_of phase.Check at
 
 pub data StandsAt (p : Program) (ready due idle prepare check : List Id) : Place → Position → Type 0 where
-  between : {i : ℕ} → ready ≡ [] → StandsAt p ready due idle prepare check (Main i) (Between i)
-  running : {run : Run} {at : Position} → StandsIn p ready due idle prepare check run.mode run.line run.body run.stage at → StandsAt p ready due idle prepare check (Running run) at
+  between : {i : ℕ} → Leaves ready idle prepare check Begun → StandsAt p ready due idle prepare check (place.Main i) (Between i)
+  running : {run : Run} {at : Standing} → StandsIn p run.body run.stage at → Leaves (waiting run.stage ready due) idle prepare check at →
+      StandsAt p ready due idle prepare check (place.Running run) (Running run.mode run.line at)
 
 abbrev pub due_now : State → List Id
 due_now s = due_ids s.time s.timers
 
-abbrev pub Stands : Program → State → Position → Type 0
-Stands p s at = StandsAt p s.ready (due_now s) s.idle.yet s.prepare.yet s.check.yet s.place at
+pub record Stands (p : Program) (told : Told) (s : State) (at : Position) : Type 0 where
+  pub stands : StandsAt p s.ready (due_now s) s.idle.yet s.prepare.yet s.check.yet s.place at
+  pub counted : Counted p s.names told
 
 -- ---- what a step has to do
 
-pub record FollowsLine (p : Program) (from : Position) (s : State) (what : Seen) (t : State) : Type 0 where
+pub record FollowsLine (p : Program) (told : Told) (from : Position) (s : State) (what : Seen) (t : State) : Type 0 where
   pub to : Position
-  pub goes : Goes p from (record { before = s; seen = what; after = t }) to
-  pub stands : Stands p t to
+  pub goes : Goes p told from (record { before = s; seen = what; after = t }) to
+  pub stands : Stands p (told_with told what) t to
 
-abbrev pub Follows : Program → Position → State → Next → Type 0
-Follows p at s (Moves t (Some what)) = FollowsLine p at s what t
-Follows p at s (Moves t None) = Stands p t at × (lasting t ≡ lasting s)
-Follows p at s (Refuses why) = Unit {0}
+abbrev pub Follows : Program → Told → Position → State → Next → Type 0
+Follows p told at s (Moves t (Some what)) = FollowsLine p told at s what t
+Follows p told at s (Moves t None) = Stands p told t at × (lasting t ≡ lasting s)
+Follows p told at s (Refuses why) = Unit {0}
 
--- ---- whether a run goes on
+-- ---- the order of the parts
 
-may : (s : State) → goes s ≡ true → MayGoOn s
-may s e = let parts = and_parts (is_alive s) (not s.stop_flag) e in (parts.0, clear s.stop_flag parts.1) where
-  clear : (b : Bool) → not b ≡ true → b ≡ false
-  clear true f = cc f
-  clear false f = refl
+abbrev Default_goes : Mode → State → Type 0
+Default_goes m s = (is_default m && goes s) ≡ true
 
-may_not : (s : State) → goes s ≡ false → MayGoOn s → ⊥
-may_not s e m = clash (rw (m.0, m.1) refl) where
-  clash : goes s ≡ true → ⊥
-  clash f = cc (e, f)
+start_default : (m : Mode) (go : Bool) → go ≡ true → is_default m ≡ true → part_after m go doc.Start ≡ doc.Of Entry
+start_default Default go g d = rw g refl
+start_default Once go g d = cc d
+start_default Nowait go g d = cc d
 
-may_end : (m : Mode) (s : State) → goes s ≡ false → MayEnd m s
-may_end Default s e = may_not s e
-may_end Once s e = tt
-may_end Nowait s e = tt
+start_other : (m : Mode) (go : Bool) → go ≡ true → is_default m ≡ false → part_after m go doc.Start ≡ doc.Of (In phase.Pending)
+start_other Default go g d = cc d
+start_other Once go g d = rw g refl
+start_other Nowait go g d = rw g refl
 
-ends_by : (m : Mode) (s : State) → (is_default m && goes s) ≡ false → MayEnd m s
-ends_by Default s e = may_not s e
-ends_by Once s e = tt
-ends_by Nowait s e = tt
+start_end : (m : Mode) (go : Bool) → go ≡ false → part_after m go doc.Start ≡ doc.End
+start_end Default go g = rw g refl
+start_end Once go g = rw g refl
+start_end Nowait go g = rw g refl
 
-is_the_default : (m : Mode) → is_default m ≡ true → m ≡ Default
-is_the_default Default e = refl
-is_the_default Once e = cc e
-is_the_default Nowait e = cc e
+entry_next : (m : Mode) (go : Bool) → go ≡ true → part_after m go (doc.Of Entry) ≡ doc.Of (In phase.Pending)
+entry_next Default go g = rw g refl
+entry_next Once go g = rw g refl
+entry_next Nowait go g = rw g refl
 
-is_single : (m : Mode) → is_default m ≡ false → IsSingle m
-is_single Default e = cc e
-is_single Once e = tt
-is_single Nowait e = tt
+entry_end : (m : Mode) (go : Bool) → go ≡ false → part_after m go (doc.Of Entry) ≡ doc.End
+entry_end Default go g = rw g refl
+entry_end Once go g = rw g refl
+entry_end Nowait go g = rw g refl
+
+timers_next : (m : Mode) (go : Bool) → (is_default m && go) ≡ true → part_after m go (doc.Of (In phase.Timers)) ≡ doc.Of (In phase.Pending)
+timers_next Default go g = rw g refl
+timers_next Once go g = cc g
+timers_next Nowait go g = cc g
+
+timers_end : (m : Mode) (go : Bool) → (is_default m && go) ≡ false → part_after m go (doc.Of (In phase.Timers)) ≡ doc.End
+timers_end Default go g = rw g refl
+timers_end Once go g = refl
+timers_end Nowait go g = refl
+
+-- a part that one part follows, whether the loop goes on or not
+abbrev IsNext : doc.Part → doc.Part → Type 0
+IsNext a b = (m : Mode) (go : Bool) → part_after m go a ≡ b
+
+by_mode : (a b : doc.Part) → part_after Default true a ≡ b → part_after Default false a ≡ b → part_after Once true a ≡ b → part_after Once false a ≡ b →
+    part_after Nowait true a ≡ b → part_after Nowait false a ≡ b → IsNext a b
+by_mode a b c d e f g h Default true = c
+by_mode a b c d e f g h Default false = d
+by_mode a b c d e f g h Once true = e
+by_mode a b c d e f g h Once false = f
+by_mode a b c d e f g h Nowait true = g
+by_mode a b c d e f g h Nowait false = h
+
+-- a section of an iteration
+abbrev section_at : Phase → doc.Part
+section_at word = doc.Of (In word)
+
+idle_next : IsNext (section_at phase.Pending) (section_at phase.Idle)
+idle_next = by_mode (section_at phase.Pending) (section_at phase.Idle) refl refl refl refl refl refl
+
+prepare_next : IsNext (section_at phase.Idle) (section_at phase.Prepare)
+prepare_next = by_mode (section_at phase.Idle) (section_at phase.Prepare) refl refl refl refl refl refl
+
+poll_next : IsNext (section_at phase.Prepare) doc.Poll
+poll_next = by_mode (section_at phase.Prepare) doc.Poll refl refl refl refl refl refl
+
+done_next : IsNext doc.Poll (section_at phase.Done)
+done_next = by_mode doc.Poll (section_at phase.Done) refl refl refl refl refl refl
+
+async_next : IsNext (section_at phase.Done) (section_at phase.Async)
+async_next = by_mode (section_at phase.Done) (section_at phase.Async) refl refl refl refl refl refl
+
+check_next : IsNext (section_at phase.Async) (section_at phase.Check)
+check_next = by_mode (section_at phase.Async) (section_at phase.Check) refl refl refl refl refl refl
+
+closing_next : IsNext (section_at phase.Check) (section_at phase.Closing)
+closing_next = by_mode (section_at phase.Check) (section_at phase.Closing) refl refl refl refl refl refl
+
+timers_after : IsNext (section_at phase.Closing) (section_at phase.Timers)
+timers_after = by_mode (section_at phase.Closing) (section_at phase.Timers) refl refl refl refl refl refl
 
 -- ---- lists of sections
 
-held_timer : (s : State) (key : Due) (id : Id) → Fits s.slots (IsActive key) id → IsTimer s key id
+held_timer : (s : State) (key : Due) (id : Id) → Fits s.slots (IsSet key) id → IsTimer s key id
 held_timer s key id f = record { handle = f.handle; holds = f.holds; kind = f.fits.kind; active = f.fits.active; due = f.fits.due }
 
-timer_held : (s : State) (key : Due) (id : Id) → IsTimer s key id → Fits s.slots (IsActive key) id
+timer_held : (s : State) (key : Due) (id : Id) → IsTimer s key id → Fits s.slots (IsSet key) id
 timer_held s key id t = record { handle = t.handle; holds = t.holds; fits = record { kind = t.kind; active = t.active; due = t.due } }
 
 -- the order of timers is that of all active ones
-are_timers : (s : State) → Kept s → AreTimers s s.timers
-are_timers s k = record {
-  each = λ key id h. held_timer s key id (k.timers.each key id h).0;
-  all = λ key id t. k.timers.all key id (timer_held s key id t);
-  sorted = k.timers.sorted;
+are_timers : (s : State) (ts : List (Due × Id)) (drawn : ℕ) → Times s.slots drawn ts → AreTimers s ts
+are_timers s ts drawn k = record {
+  each = λ key id h. held_timer s key id (k.each key id h).0;
+  all = λ key id t. k.all key id (timer_held s key id t);
+  sorted = k.sorted;
 }
 
-due_distinct : (s : State) → Kept s → AreDistinct (due_now s)
-due_distinct s k = distinct_due s.time s.timers k.timers.sorted (λ a b id h l. one_due a b id (k.timers.each a id h).0 (k.timers.each b id l).0) where
-  one_due : (a b : Due) (id : Id) → Fits s.slots (IsActive a) id → Fits s.slots (IsActive b) id → a ≡ b
-  one_due a b id f g = sym f.fits.due ∙ (its_handle s.slots (IsActive b) id f.handle f.holds g).due
+due_distinct : (s : State) (time : ℕ) → Kept s → AreDistinct (due_ids time s.timers)
+due_distinct s time k = distinct_due time s.timers k.timers.sorted (λ a b id h l. one_due a b id (k.timers.each a id h).0 (k.timers.each b id l).0) where
+  one_due : (a b : Due) (id : Id) → Fits s.slots (IsSet a) id → Fits s.slots (IsSet b) id → a ≡ b
+  one_due a b id f g = sym f.fits.due ∙ (its_handle s.slots (IsSet b) id f.handle f.holds g).due
 
-list_distinct : (s : State) (w : Watched) (P : Handle → Type 0) → Lists s.slots P (members w) → AreDistinct w.list
-list_distinct s w P l = distinct_front w.list w.yet l.distinct
+-- where nobody is yet to run, the list has all active handles of its kind
+are_active : (s : State) (q : Kind) (w : Watched) → w.yet ≡ [] → Everyone s.slots (Watches q) (members w) → AreActive s q w.list
+are_active s q w e k = record { each = λ id h. active id (member (Fits s.slots (Watches q)) w.list all.lists.each id h); all = λ id a. all.all id (fits id a); distinct = all.lists.distinct } where
+  all : Everyone s.slots (Watches q) w.list
+  all = subst (Everyone s.slots (Watches q)) (ap (λ (ids : List Id). w.list ++ ids) e ∙ append-nil w.list) k
 
--- nothing was collected yet
-none_yet : (ready due : List Id) → ready ≡ [] → ready ++ due ≡ due
-none_yet ready due e = ap (λ (ids : List Id). ids ++ due) e
+  active : (id : Id) → Fits s.slots (Watches q) id → IsActive s q id
+  active id f = record { handle = f.handle; holds = f.holds; kind = f.fits.kind; active = f.fits.active }
+
+  fits : (id : Id) → IsActive s q id → Fits s.slots (Watches q) id
+  fits id a = record { handle = a.handle; holds = a.holds; fits = record { kind = a.kind; active = a.active } }
 
 bare_over : IsOver bare
-bare_over = record { done = refl; off = tt }
+bare_over = record { done = refl; may_pass = tt }
 
--- ---- the entry, and the end of timers
+opens_bare : (word : Phase) (l : Line) → doc.HasList word l [] → Opens word l bare
+opens_bare word l h = record { list = h; off = refl; body = refl }
 
-enter_follows : (p : Program) (s : State) (run : Run) → Kept s → s.ready ≡ [] → Follows p (Entered run.mode run.line) s (enter s run)
-enter_follows p s run k e = cond_both (goes s) _ _ (Follows p (Entered run.mode run.line) s)
-    (λ g. cond_both (is_default run.mode) _ _ (Follows p (Entered run.mode run.line) s)
+-- ---- the timers of the entry, and the end of timers
+
+enter_follows : (p : Program) (told : Told) (s : State) (run : Run) → Kept s → Counted p s.names told → Leaves s.ready s.idle.yet s.prepare.yet s.check.yet Begun →
+    Follows p told (Running run.mode run.line Begun) s (step.enter s run)
+enter_follows p told s run k c e = cond_both (goes s) _ _ (Follows p told (Running run.mode run.line Begun) s)
+    (λ g. cond_both (is_default run.mode) _ _ (Follows p told (Running run.mode run.line Begun) s)
     (λ d. record {
-      to = Within run.mode run.line At_entry (record { ahead = due_now s; off = []; body = [] });
-      goes = doc.entry (is_the_default run.mode d) (may s g) refl (record { list = record { timers = s.timers; are = entry_timers; due = refl }; distinct = due_distinct s k; off = refl; body = refl }) refl;
-      stands = running (collects_first (is_the_default run.mode d) (none_yet s.ready (due_now s) e));
+      to = Running run.mode run.line (Within Entry (begun_with (due_now s)));
+      goes = doc.section Entry tt (start_default run.mode (goes s) g d) refl
+          (record { list = record { timers = s.timers; are = are_timers _ s.timers s.next_start k.timers; due = refl; distinct = due_distinct s s.time k }; off = refl; body = refl }) refl;
+      stands = record {
+        stands = running (collects refl) (record { timers = ap (λ (ids : List Id). ids ++ due_now s) e.timers ∙ sym (none_off (due_now s)); idle = e.idle; prepare = e.prepare; check = e.check });
+        counted = c;
+      };
     })
     (λ d. record {
-      to = Within run.mode run.line (In phase.Pending) bare;
-      goes = doc.iteration (is_single run.mode d) (may s g) refl (record { list = refl; distinct = tt; off = refl; body = refl }) refl;
-      stands = running (pending e);
+      to = Running run.mode run.line (Within (In phase.Pending) bare);
+      goes = doc.section (In phase.Pending) tt (start_other run.mode (goes s) g d) refl (opens_bare phase.Pending _ refl) refl;
+      stands = record { stands = running pending (record { timers = e.timers; idle = e.idle; prepare = e.prepare; check = e.check }); counted = c };
     }))
-    (λ g. record { to = Between (run.line + 1); goes = doc.ends_at_once (may_not s g) refl refl; stands = between e })
-  where
-    entry_timers : AreTimers (record s { place = Running (record run { stage = First Collecting; body = None }) }) s.timers
-    entry_timers = record {
-      each = λ key id h. held_timer _ key id (k.timers.each key id h).0;
-      all = λ key id t. k.timers.all key id (timer_held _ key id t);
-      sorted = k.timers.sorted;
-    }
+    (λ g. record {
+      to = Between (run.line + 1);
+      goes = doc.ends tt (start_end run.mode (goes s) g) refl refl;
+      stands = record { stands = between e; counted = c };
+    })
 
--- the timers of the entry, or of an iteration
-abbrev part_of : Bool → Section
-part_of true = At_entry
-part_of false = In phase.Timers
+-- a timers section of which nobody is left
+abbrev NoneLeft : State → Type 0
+NoneLeft s = Leaves s.ready s.idle.yet s.prepare.yet s.check.yet Begun
 
-part_word : (first : Bool) → word_of (part_of first) ≡ phase.Timers
-part_word true = refl
-part_word false = refl
-
-goes_iteration : (p : Program) (s : State) (run : Run) (first : Bool) (w : Walk) → run.mode ≡ Default → IsOver w → s.ready ≡ [] → goes s ≡ true → Follows p (Within run.mode run.line (part_of first) w) s (new_iteration s run)
-goes_iteration p s run first w d over e g = record {
-  to = Within run.mode run.line (In phase.Pending) bare;
-  goes = doc.next_iteration d (part_word first) over (may s g) refl (record { list = refl; distinct = tt; off = refl; body = refl }) refl;
-  stands = running (pending e);
+goes_iteration : (p : Program) (told : Told) (s : State) (run : Run) (part : TimersOf) (w : Walk) → part_after run.mode (goes s) (doc.Of (section_of part)) ≡ doc.Of (In phase.Pending) →
+    IsOver w → Counted p s.names told → NoneLeft s → Follows p told (Running run.mode run.line (Within (section_of part) w)) s (step.new_iteration s run)
+goes_iteration p told s run part w d over c e = record {
+  to = Running run.mode run.line (Within (In phase.Pending) bare);
+  goes = doc.section (In phase.Pending) over d refl (opens_bare phase.Pending _ refl) refl;
+  stands = record { stands = running pending (record { timers = e.timers; idle = e.idle; prepare = e.prepare; check = e.check }); counted = c };
 }
 
-goes_end : (p : Program) (s : State) (run : Run) (first : Bool) (w : Walk) → MayEnd run.mode s → IsOver w → s.ready ≡ [] → Follows p (Within run.mode run.line (part_of first) w) s (ends s run)
-goes_end p s run first w m over e = record { to = Between (run.line + 1); goes = doc.ends (part_word first) over m refl refl; stands = between e }
+goes_end : (p : Program) (told : Told) (s : State) (run : Run) (part : TimersOf) (w : Walk) → part_after run.mode (goes s) (doc.Of (section_of part)) ≡ doc.End →
+    IsOver w → Counted p s.names told → NoneLeft s → Follows p told (Running run.mode run.line (Within (section_of part) w)) s (step.ends s run)
+goes_end p told s run part w d over c e = record {
+  to = Between (run.line + 1);
+  goes = doc.ends over d refl refl;
+  stands = record { stands = between e; counted = c };
+}
 
-leave_follows : (p : Program) (s : State) (run : Run) (first : Bool) (w : Walk) → (first ≡ true → run.mode ≡ Default) → IsOver w → s.ready ≡ [] → Follows p (Within run.mode run.line (part_of first) w) s (leave_timers s run first)
-leave_follows p s run true w d over e = cond_both (goes s) _ _ (Follows p (Within run.mode run.line At_entry w) s) (λ g. goes_iteration p s run true w (d refl) over e g) (λ g. goes_end p s run true w (may_end run.mode s g) over e)
-leave_follows p s run false w d over e = cond_both (is_default run.mode && goes s) _ _ (Follows p (Within run.mode run.line (In phase.Timers) w) s)
-    (λ g. let parts = and_parts (is_default run.mode) (goes s) g in goes_iteration p s run false w (is_the_default run.mode parts.0) over e parts.1)
-    (λ g. goes_end p s run false w (ends_by run.mode s g) over e)
+leave_follows : (p : Program) (told : Told) (s : State) (run : Run) (part : TimersOf) (w : Walk) → IsOver w → Counted p s.names told → NoneLeft s →
+    Follows p told (Running run.mode run.line (Within (section_of part) w)) s (step.leave_timers s run part)
+leave_follows p told s run timers_of.Entry w over c e = cond_both (goes s) _ _ (Follows p told (Running run.mode run.line (Within Entry w)) s)
+    (λ g. goes_iteration p told s run timers_of.Entry w (entry_next run.mode (goes s) g) over c e)
+    (λ g. goes_end p told s run timers_of.Entry w (entry_end run.mode (goes s) g) over c e)
+leave_follows p told s run timers_of.Iteration w over c e = cond_both (is_default run.mode && goes s) _ _ (Follows p told (Running run.mode run.line (Within (In phase.Timers) w)) s)
+    (λ g. goes_iteration p told s run timers_of.Iteration w (timers_next run.mode (goes s) g) over c e)
+    (λ g. goes_end p told s run timers_of.Iteration w (timers_end run.mode (goes s) g) over c e)
 
 -- ---- callbacks
 
-named_of : (s : State) (P : Handle → Type 0) (id : Id) → Fits s.slots P id → option_map (λ (h : Handle). h.name) (held s id) ≡ Some (handle_of s id).name
-named_of s P id f = ap (option_map (λ (h : Handle). h.name)) f.holds ∙ ap (λ (h : Handle). Some h.name) (sym (its s P id f))
+named_of : (s : State) (t : Id × Handle) → held s t.0 ≡ Some t.1 → option_map (λ (h : Handle). h.name) (held s t.0) ≡ Some t.1.name
+named_of s t e = ap (option_map (λ (h : Handle). h.name)) e
 
 -- the walk with the first that is left called
 record NextCall (w : Walk) (id : Id) (rest : List Id) : Type 0 where
@@ -214,206 +323,373 @@ record NextCall (w : Walk) (id : Id) (rest : List Id) : Type 0 where
   left : rest ≡ left_of behind w.off
 
 calls_next : (w : Walk) (id : Id) (rest : List Id) → w.body ≡ [] → left_of w.ahead w.off ≡ id ∷ rest → NextCall w id rest
-calls_next w id rest b e = let f = first_left w.ahead w.off id rest e in record { behind = f.behind; is = record { done = b; passed = f.passed; list = f.list; off = f.off; on = f.on }; left = f.rest }
+calls_next w id rest b e =
+    let f = first_left w.ahead w.off id rest e in
+    record { behind = f.behind; is = record { done = b; passed = f.passed; list = f.list; may_pass = f.off; may_call = f.on }; left = f.rest }
 
-firing : (p : Program) (ready due idle prepare check : List Id) (m : Mode) (i : ℕ) (first : Bool) (w : Walk) (body : Option Body) → (first ≡ true → m ≡ Default) → ready ≡ left_of w.ahead w.off → IsBody p body w.body → StandsIn p ready due idle prepare check m i body (timers_stage first Firing) (Within m i (part_of first) w)
-firing p ready due idle prepare check m i true w body d e b = fires_first (d refl) e b
-firing p ready due idle prepare check m i false w body d e b = fires e b
+-- the names after a call
+abbrev called_names : State → Var → List Named
+called_names s v = (with_named s v (record (named s v) { calls = (named s v).calls + 1 })).names
 
-call_in_timers : (p : Program) (s u : State) (run : Run) (first : Bool) (w : Walk) (id : Id) (rest : List Id) (v : Var) → (first ≡ true → run.mode ≡ Default) → option_map (λ (h : Handle). h.name) (held s id) ≡ Some v → u.names ≡ s.names → lasting u ≡ lasting s → u.ready ≡ rest → w.body ≡ [] → left_of w.ahead w.off ≡ id ∷ rest → Follows p (Within run.mode run.line (part_of first) w) s (call p u (record run { stage = timers_stage first Firing }) id v)
-call_in_timers p s u run first w id rest v d is names lasts ready b e =
-    let next = calls_next w id rest b e in
-    let same : named u v ≡ named s v = ap (λ (ns : List _). named (record u { names = ns }) v) names in
-    let to : Walk = record w { ahead = next.behind; body = body_of p v ((named s v).calls + 1) } in
+call_counted : (p : Program) (told : Told) (s : State) (v : Var) → Counted p s.names told → Counted p (called_names s v) (record { called = v ∷ told.called })
+call_counted p told s v c = counted_call p s.names told v (record (named s v) { calls = (named s v).calls + 1 }) refl c
+
+its_body : (p : Program) (told : Told) (s : State) (v : Var) → Counted p s.names told → IsBody p (body_from p v ((named s v).calls + 1) 0) (body_of p v (next_call told v))
+its_body p told s v c = next_body p s.names told v ((named s v).calls + 1) refl c
+
+-- the walk with a member called
+abbrev called : Program → Told → Walk → List Id → Var → Walk
+called p told w behind v = record w { ahead = behind; body = body_of p v (next_call told v) }
+
+timers_left : (part : TimersOf) (ready idlers preparers checkers : List Id) (w : Walk) → ready ≡ left_of w.ahead w.off → idlers ≡ [] → preparers ≡ [] → checkers ≡ [] →
+    Leaves ready idlers preparers checkers (Within (section_of part) w)
+timers_left timers_of.Entry ready idlers preparers checkers w a b c d = record { timers = a; idle = b; prepare = c; check = d }
+timers_left timers_of.Iteration ready idlers preparers checkers w a b c d = record { timers = a; idle = b; prepare = c; check = d }
+
+left_timers : (part : TimersOf) (ready idlers preparers checkers : List Id) (w : Walk) → Leaves ready idlers preparers checkers (Within (section_of part) w) →
+    (ready ≡ left_of w.ahead w.off) × (idlers ≡ []) × (preparers ≡ []) × (checkers ≡ [])
+left_timers timers_of.Entry ready idlers preparers checkers w l = (l.timers, l.idle, l.prepare, l.check)
+left_timers timers_of.Iteration ready idlers preparers checkers w l = (l.timers, l.idle, l.prepare, l.check)
+
+-- a timer is called from the ready list, in a state that may have started it again
+call_timer : (p : Program) (told : Told) (s u : State) (run : Run) (part : TimersOf) (w : Walk) (t : Id × Handle) (rest : List Id) → held s t.0 ≡ Some t.1 →
+    u.names ≡ s.names → lasting u ≡ lasting s → u.ready ≡ rest → u.idle.yet ≡ [] → u.prepare.yet ≡ [] → u.check.yet ≡ [] → w.body ≡ [] → left_of w.ahead w.off ≡ t.0 ∷ rest →
+    Counted p s.names told →
+    Follows p told (Running run.mode run.line (Within (section_of part) w)) s (call p u (record run { stage = stage.Timers part Firing }) t.0 t.1.name)
+call_timer p told s u run part w t rest h names lasts ready idlers preparers checkers b e c =
+    let v = t.1.name in
+    let next = calls_next w t.0 rest b e in
+    let cu : Counted p u.names told = rw names c in
     record {
-      to = Within run.mode run.line (part_of first) to;
-      goes = doc.call v id next.behind next.is is refl lasts;
-      stands = running (firing p u.ready _ _ _ _ run.mode run.line first to _ d (ready ∙ next.left) (subst (λ (n : ℕ). IsBody p (body_from p v n 0) (body_of p v ((named s v).calls + 1))) (ap (λ (x : _). x.calls + 1) (sym same)) (whole_body p v ((named s v).calls + 1))));
+      to = Running run.mode run.line (Within (section_of part) (called p told w next.behind v));
+      goes = doc.call v t.0 next.behind next.is (named_of s t h) refl lasts;
+      stands = record {
+        stands = running (fires (its_body p told u v cu)) (timers_left part u.ready u.idle.yet u.prepare.yet u.check.yet (called p told w next.behind v) (ready ∙ next.left) idlers preparers checkers);
+        counted = call_counted p told u v cu;
+      };
     }
 
-fire_follows : (p : Program) (s : State) (run : Run) (first : Bool) (w : Walk) (ids : List Id) → (first ≡ true → run.mode ≡ Default) → Kept s → s.ready ≡ ids → s.ready ≡ left_of w.ahead w.off → w.body ≡ [] → Follows p (Within run.mode run.line (part_of first) w) s (fire p s run first ids)
-fire_follows p s run first w [] d k e l b = leave_follows p s run first w d (record { done = b; off = all_off w.ahead w.off (sym l ∙ e) }) e
-fire_follows p s run first w (id ∷ rest) d k e l b =
-    let t : State = record s { ready = rest } in
-    let h = handle_of s id in
-    let f = (subst (Lists s.slots Rests) e k.ready).each.0 in
-    cond_both (h.repeat == 0) t (started t id h h.repeat h.repeat) (λ (u : State). Follows p (Within run.mode run.line (part_of first) w) s (call p u (record run { stage = timers_stage first Firing }) id h.name))
-    (λ z. call_in_timers p s t run first w id rest h.name d (named_of s Rests id f) refl refl refl b (sym l ∙ e))
-    (λ z. call_in_timers p s (started t id h h.repeat h.repeat) run first w id rest h.name d (named_of s Rests id f) refl refl refl b (sym l ∙ e))
-
-collecting : (p : Program) (ready due idle prepare check : List Id) (m : Mode) (i : ℕ) (first : Bool) (ids : List Id) → (first ≡ true → m ≡ Default) → ready ++ due ≡ ids → StandsIn p ready due idle prepare check m i None (timers_stage first Collecting) (Within m i (part_of first) (record { ahead = ids; off = []; body = [] }))
-collecting p ready due idle prepare check m i true ids d e = collects_first (d refl) e
-collecting p ready due idle prepare check m i false ids d e = collects e
+fire_follows : (p : Program) (told : Told) (s : State) (run : Run) (part : TimersOf) (w : Walk) → Kept s → Counted p s.names told →
+    Leaves s.ready s.idle.yet s.prepare.yet s.check.yet (Within (section_of part) w) → w.body ≡ [] →
+    Follows p told (Running run.mode run.line (Within (section_of part) w)) s (step.fire p s run part)
+fire_follows p told s run part w k c l b =
+    let left = left_timers part s.ready s.idle.yet s.prepare.yet s.check.yet w l in
+    found_both (front s s.ready) _ _ (Follows p told (Running run.mode run.line (Within (section_of part) w)) s)
+    (λ t e. fired left t (front_of s s.ready t e))
+    (λ e. let none : s.ready ≡ [] = no_front s Rests s.ready k.ready.each e in
+      leave_follows p told s run part w (record { done = b; may_pass = all_off w.ahead w.off (sym left.0 ∙ none) }) c
+      (record { timers = none; idle = left.1; prepare = left.2; check = left.3 }))
+  where
+    fired : (s.ready ≡ left_of w.ahead w.off) × (s.idle.yet ≡ []) × (s.prepare.yet ≡ []) × (s.check.yet ≡ []) → (t : Id × Handle) → FrontOf s s.ready t →
+        Follows p told (Running run.mode run.line (Within (section_of part) w)) s
+        (call p (restarted (record s { ready = drop 1 s.ready }) t.0 t.1) (record run { stage = stage.Timers part Firing }) t.0 t.1.name)
+    fired left t f =
+        let u : State = record s { ready = drop 1 s.ready } in
+        let e : left_of w.ahead w.off ≡ t.0 ∷ f.rest = sym left.0 ∙ f.are in
+        cond_both (t.1.repeat == 0) u (started u t.0 t.1 t.1.repeat t.1.repeat)
+        (λ (x : State). Follows p told (Running run.mode run.line (Within (section_of part) w)) s (call p x (record run { stage = stage.Timers part Firing }) t.0 t.1.name))
+        (λ z. call_timer p told s u run part w t f.rest f.holds refl refl f.behind left.1 left.2 left.3 b e c)
+        (λ z. call_timer p told s (started u t.0 t.1 t.1.repeat t.1.repeat) run part w t f.rest f.holds refl refl f.behind left.1 left.2 left.3 b e c)
 
 one_more : (time : ℕ) (t : Due × Id) (ts : List (Due × Id)) → nat_le t.0.at time ≡ true → due_ids time (t ∷ ts) ≡ t.1 ∷ due_ids time ts
 one_more time t ts e = rw e refl
 
-all_ready : (ready due ids : List Id) → due ≡ [] → ready ++ due ≡ ids → ready ≡ left_of ids []
-all_ready ready due ids e h = sym (append-nil ready) ∙ ap (λ (is : List Id). ready ++ is) (sym e) ∙ h ∙ sym (none_off ids)
+-- with no first timer due, none is
+late_due : (s : State) (ts : List (Due × Id)) (drawn : ℕ) → Times s.slots drawn ts → first_due s ts ≡ None → due_ids s.time ts ≡ []
+late_due s [] drawn k e = refl
+late_due s (t ∷ ts) drawn k e = at (nat_le t.0.at s.time) refl e where
+  is_held : Fits s.slots (IsSet t.0) t.1
+  is_held = (k.each t.0 t.1 (inl (refl, refl))).0
 
-collect_follows : (p : Program) (s : State) (run : Run) (first : Bool) (ids : List Id) (ts : List (Due × Id)) → (first ≡ true → run.mode ≡ Default) → Kept s → s.timers ≡ ts → s.ready ++ due_ids s.time ts ≡ ids → Follows p (Within run.mode run.line (part_of first) (record { ahead = ids; off = []; body = [] })) s (collect p s run first ts)
-collect_follows p s run first ids [] d k e h = fire_follows p s run first _ s.ready d k refl (all_ready s.ready [] ids refl h) refl
-collect_follows p s run first ids (t ∷ ts) d k e h = cond_both (nat_le t.0.at s.time) _ _ (Follows p (Within run.mode run.line (part_of first) (record { ahead = ids; off = []; body = [] })) s)
-    (λ due. (running (collecting p _ _ _ _ _ run.mode run.line first ids d (append_assoc s.ready (t.1 ∷ []) (due_ids s.time ts) ∙ ap (λ (is : List Id). s.ready ++ is) (sym (one_more s.time t ts due)) ∙ h)), refl))
-    (λ late. fire_follows p s run first _ s.ready d k refl (all_ready s.ready (due_ids s.time (t ∷ ts)) ids (none_due s.time t ts (sorted e) late) h) refl)
+  at : (b : Bool) → nat_le t.0.at s.time ≡ b → ◌≡◌ {A = Option (Id × Handle)} (if b then with_id t.1 (held s t.1) else None) None → due_ids s.time (t ∷ ts) ≡ []
+  at true due f = cc (ap (with_id t.1) (sym is_held.holds) ∙ f)
+  at false late f = none_due s.time t ts k.sorted late
+
+collect_follows : (p : Program) (told : Told) (s : State) (run : Run) (part : TimersOf) (w : Walk) → Kept s → Counted p s.names told →
+    Leaves (s.ready ++ due_now s) s.idle.yet s.prepare.yet s.check.yet (Within (section_of part) w) → w.body ≡ [] →
+    Follows p told (Running run.mode run.line (Within (section_of part) w)) s (step.collect p s run part)
+collect_follows p told s run part w k c l b =
+    let left = left_timers part (s.ready ++ due_now s) s.idle.yet s.prepare.yet s.check.yet w l in
+    found_both (first_due s s.timers) _ _ (Follows p told (Running run.mode run.line (Within (section_of part) w)) s)
+    (λ t e. moved left t (first_of s s.timers t e))
+    (λ e. fire_follows p told s run part w k c
+      (timers_left part s.ready s.idle.yet s.prepare.yet s.check.yet w
+      (sym (append-nil s.ready) ∙ ap (λ (ids : List Id). s.ready ++ ids) (sym (late_due s s.timers s.next_start k.timers e)) ∙ left.0) left.1 left.2 left.3) b)
   where
-    sorted : s.timers ≡ t ∷ ts → InOrder (t ∷ ts)
-    sorted f = (subst (Times s.slots s.next_start) f k.timers).sorted
+    moved : ((s.ready ++ due_now s) ≡ left_of w.ahead w.off) × (s.idle.yet ≡ []) × (s.prepare.yet ≡ []) × (s.check.yet ≡ []) → (t : Id × Handle) → FirstOf s s.timers t →
+        Follows p told (Running run.mode run.line (Within (section_of part) w)) s (Moves (step.at (collected s t.0 t.1) run (stage.Timers part Collecting)) None)
+    moved left t f =
+        let all : due_now s ≡ t.0 ∷ due_ids s.time (drop 1 s.timers) = ap (due_ids s.time) f.are ∙ one_more s.time (f.key, t.0) f.rest f.due ∙ ap (λ (ts : List (Due × Id)). t.0 ∷ due_ids s.time ts) (sym f.behind) in
+        let same : (s.ready ++ t.0 ∷ []) ++ due_ids s.time (drop 1 s.timers) ≡ left_of w.ahead w.off =
+            append_assoc s.ready (t.0 ∷ []) (due_ids s.time (drop 1 s.timers)) ∙ ap (λ (ids : List Id). s.ready ++ ids) (sym all) ∙ left.0 in
+        (record { stands = running (collects b) (timers_left part _ s.idle.yet s.prepare.yet s.check.yet w same left.1 left.2 left.3); counted = c }, refl)
 
 -- ---- sections of watchers
 
--- a section of watchers begins
-opens_idle : (s t : State) → Kept s → Opens phase.Idle (record { before = s; seen = seen.Section phase.Idle; after = t }) (record { ahead = s.idle.list; off = []; body = [] })
-opens_idle s t k = record { list = refl; distinct = list_distinct s s.idle (Watches kind.Idle) k.idle; off = refl; body = refl }
+opens_idle : (s t : State) → Kept s → s.idle.yet ≡ [] → Opens phase.Idle (record { before = s; seen = seen.Section phase.Idle; after = t }) (begun_with s.idle.list)
+opens_idle s t k e = record { list = (refl, are_active s kind.Idle s.idle e k.idle); off = refl; body = refl }
 
-opens_prepare : (s t : State) → Kept s → Opens phase.Prepare (record { before = s; seen = seen.Section phase.Prepare; after = t }) (record { ahead = s.prepare.list; off = []; body = [] })
-opens_prepare s t k = record { list = refl; distinct = list_distinct s s.prepare (Watches kind.Prepare) k.prepare; off = refl; body = refl }
+opens_prepare : (s t : State) → Kept s → s.prepare.yet ≡ [] → Opens phase.Prepare (record { before = s; seen = seen.Section phase.Prepare; after = t }) (begun_with s.prepare.list)
+opens_prepare s t k e = record { list = (refl, are_active s kind.Prepare s.prepare e k.prepare); off = refl; body = refl }
 
-opens_check : (s t : State) → Kept s → Opens phase.Check (record { before = s; seen = seen.Section phase.Check; after = t }) (record { ahead = s.check.list; off = []; body = [] })
-opens_check s t k = record { list = refl; distinct = list_distinct s s.check (Watches kind.Check) k.check; off = refl; body = refl }
+opens_check : (s t : State) → Kept s → s.check.yet ≡ [] → Opens phase.Check (record { before = s; seen = seen.Section phase.Check; after = t }) (begun_with s.check.list)
+opens_check s t k e = record { list = (refl, are_active s kind.Check s.check e k.check); off = refl; body = refl }
 
-begin_idle : (p : Program) (s : State) (run : Run) → Kept s → s.ready ≡ [] → Follows p (Within run.mode run.line (In phase.Pending) bare) s (begin_walk s run watcher.Idle)
-begin_idle p s run k e = record {
-  to = Within run.mode run.line (In phase.Idle) (record { ahead = s.idle.list; off = []; body = [] });
-  goes = doc.next_section refl bare_over refl (opens_idle s _ k) refl;
-  stands = running (idles e (sym (none_off s.idle.list)) refl);
+-- a section of watchers begins behind a part that may be left
+begin_follows : (p : Program) (told : Told) (s : State) (run : Run) (q : WatcherKind) (at : Standing) → MayLeave s at → IsNext (part_of at) (doc.Of (In (phase_of q))) →
+    Kept s → Counted p s.names told → NoneLeft s → Follows p told (Running run.mode run.line at) s (step.begin_walk s run q)
+begin_follows p told s run watcher.Idle at over next k c e = record {
+  to = Running run.mode run.line (Within (In phase.Idle) (begun_with s.idle.list));
+  goes = doc.section (In phase.Idle) over (next run.mode (goes s)) refl (opens_idle s _ k e.idle) refl;
+  stands = record { stands = running (idle refl) (record { timers = e.timers; idle = sym (none_off s.idle.list); prepare = e.prepare; check = e.check }); counted = c };
+}
+begin_follows p told s run watcher.Prepare at over next k c e = record {
+  to = Running run.mode run.line (Within (In phase.Prepare) (begun_with s.prepare.list));
+  goes = doc.section (In phase.Prepare) over (next run.mode (goes s)) refl (opens_prepare s _ k e.prepare) refl;
+  stands = record { stands = running (prepare refl) (record { timers = e.timers; idle = e.idle; prepare = sym (none_off s.prepare.list); check = e.check }); counted = c };
+}
+begin_follows p told s run watcher.Check at over next k c e = record {
+  to = Running run.mode run.line (Within (In phase.Check) (begun_with s.check.list));
+  goes = doc.section (In phase.Check) over (next run.mode (goes s)) refl (opens_check s _ k e.check) refl;
+  stands = record { stands = running (check refl) (record { timers = e.timers; idle = e.idle; prepare = e.prepare; check = sym (none_off s.check.list) }); counted = c };
 }
 
-begin_prepare : (p : Program) (s : State) (run : Run) (w : Walk) → IsOver w → Kept s → s.ready ≡ [] → Follows p (Within run.mode run.line (In phase.Idle) w) s (begin_walk s run watcher.Prepare)
-begin_prepare p s run w over k e = record {
-  to = Within run.mode run.line (In phase.Prepare) (record { ahead = s.prepare.list; off = []; body = [] });
-  goes = doc.next_section refl over refl (opens_prepare s _ k) refl;
-  stands = running (prepares e (sym (none_off s.prepare.list)) refl);
+-- a section without callbacks begins behind a part that may be left
+bare_follows : (p : Program) (told : Told) (s t : State) (run : Run) (x : Stage) (word : Phase) (at : Standing) → MayLeave s at → IsNext (part_of at) (doc.Of (In word)) →
+    Opens word (record { before = s; seen = seen.Section word; after = step.at t run x }) bare → lasting t ≡ doc.after_line word s →
+    StandsIn p None x (Within (In word) bare) → Leaves (waiting x t.ready (due_now t)) t.idle.yet t.prepare.yet t.check.yet (Within (In word) bare) → Counted p t.names told →
+    Follows p told (Running run.mode run.line at) s (step.begins t run x word)
+bare_follows p told s t run x word at over next opens lasts stands left c = record {
+  to = Running run.mode run.line (Within (In word) bare);
+  goes = doc.section (In word) over (next run.mode (goes s)) refl opens lasts;
+  stands = record { stands = running stands left; counted = c };
 }
 
-begin_check : (p : Program) (s : State) (run : Run) → Kept s → s.ready ≡ [] → Follows p (Within run.mode run.line (In phase.Async) bare) s (begin_walk s run watcher.Check)
-begin_check p s run k e = record {
-  to = Within run.mode run.line (In phase.Check) (record { ahead = s.check.list; off = []; body = [] });
-  goes = doc.next_section refl bare_over refl (opens_check s _ k) refl;
-  stands = running (checks e (sym (none_off s.check.list)) refl);
+-- the poll begins
+poll_follows : (p : Program) (told : Told) (s : State) (run : Run) (w : Walk) → IsOver w → Kept s → Counted p s.names told → NoneLeft s →
+    Follows p told (Running run.mode run.line (Within (In phase.Prepare) w)) s (step.begin_poll s run)
+poll_follows p told s run w over k c e = record {
+  to = Running run.mode run.line (Polling (deadline_of s (poll_timeout s run.mode)));
+  goes = doc.poll (poll_timeout s run.mode) over (poll_next run.mode (goes s))
+      (record { timers = s.timers; are = are_timers s s.timers s.next_start k.timers; is = refl }) refl refl;
+  stands = record { stands = running polls (record { timers = e.timers; idle = e.idle; prepare = e.prepare; check = e.check }); counted = c };
 }
 
-after_follows : (p : Program) (s : State) (run : Run) (q : WatcherKind) (w : Walk) → IsOver w → Kept s → s.ready ≡ [] → Follows p (Within run.mode run.line (In (phase_of q)) w) s (after_walk s run q)
-after_follows p s run watcher.Idle w over k e = begin_prepare p s run w over k e
-after_follows p s run watcher.Prepare w over k e = record { to = _; goes = doc.poll _ over refl refl refl; stands = running (polls e) }
-after_follows p s run watcher.Check w over k e = record {
-  to = Within run.mode run.line (In phase.Closing) bare;
-  goes = doc.next_section refl over refl (record { list = refl; distinct = tt; off = refl; body = refl }) refl;
-  stands = running (closing e);
-}
+after_follows : (p : Program) (told : Told) (s : State) (run : Run) (q : WatcherKind) (w : Walk) → IsOver w → Kept s → Counted p s.names told → NoneLeft s →
+    Follows p told (Running run.mode run.line (Within (In (phase_of q)) w)) s (step.after_walk s run q)
+after_follows p told s run watcher.Idle w over k c e = begin_follows p told s run watcher.Prepare (Within (In phase.Idle) w) over prepare_next k c e
+after_follows p told s run watcher.Prepare w over k c e = poll_follows p told s run w over k c e
+after_follows p told s run watcher.Check w over k c e =
+    bare_follows p told s s run stage.Closing phase.Closing (Within (In phase.Check) w) over closing_next (opens_bare phase.Closing _ refl) refl closing
+    (record { timers = e.timers; idle = e.idle; prepare = e.prepare; check = e.check }) c
 
 -- the next watcher is called
-call_watcher : (p : Program) (s : State) (run : Run) (q : WatcherKind) (w : Walk) (id : Id) (rest : List Id) → run.stage ≡ stage_of q → Fits s.slots (Watches (kind_as q)) id → s.ready ≡ [] → w.body ≡ [] → left_of w.ahead w.off ≡ id ∷ rest → Follows p (Within run.mode run.line (In (phase_of q)) w) s (call p (with_watched s q (moved_on (watched s q) id rest)) run id (handle_of s id).name)
-call_watcher p s run watcher.Idle w id rest st f r b e =
-    let v = (handle_of s id).name in
-    let next = calls_next w id rest b e in
+call_watcher : (p : Program) (told : Told) (s : State) (run : Run) (q : WatcherKind) (w : Walk) (t : Id × Handle) → run.stage ≡ step.stage_of q →
+    FrontOf s (watched s q).yet t → Leaves s.ready s.idle.yet s.prepare.yet s.check.yet (Within (In (phase_of q)) w) → w.body ≡ [] → Counted p s.names told →
+    Follows p told (Running run.mode run.line (Within (In (phase_of q)) w)) s (call p (with_watched s q (moved_on (watched s q) t.0)) run t.0 t.1.name)
+call_watcher p told s run watcher.Idle w t st f l b c =
+    let v = t.1.name in
+    let next = calls_next w t.0 f.rest b (sym l.idle ∙ f.are) in
     record {
-      to = Within run.mode run.line (In phase.Idle) (record w { ahead = next.behind; body = body_of p v ((named s v).calls + 1) });
-      goes = doc.call v id next.behind next.is (named_of s (Watches kind.Idle) id f) refl refl;
-      stands = running (rw st (idles r next.left (whole_body p v ((named s v).calls + 1))));
+      to = Running run.mode run.line (Within (In phase.Idle) (called p told w next.behind v));
+      goes = doc.call v t.0 next.behind next.is (named_of s t f.holds) refl refl;
+      stands = record {
+        stands = rw st (running (idle (its_body p told s v c)) (record { timers = l.timers; idle = f.behind ∙ next.left; prepare = l.prepare; check = l.check }));
+        counted = call_counted p told s v c;
+      };
     }
-call_watcher p s run watcher.Prepare w id rest st f r b e =
-    let v = (handle_of s id).name in
-    let next = calls_next w id rest b e in
+call_watcher p told s run watcher.Prepare w t st f l b c =
+    let v = t.1.name in
+    let next = calls_next w t.0 f.rest b (sym l.prepare ∙ f.are) in
     record {
-      to = Within run.mode run.line (In phase.Prepare) (record w { ahead = next.behind; body = body_of p v ((named s v).calls + 1) });
-      goes = doc.call v id next.behind next.is (named_of s (Watches kind.Prepare) id f) refl refl;
-      stands = running (rw st (prepares r next.left (whole_body p v ((named s v).calls + 1))));
+      to = Running run.mode run.line (Within (In phase.Prepare) (called p told w next.behind v));
+      goes = doc.call v t.0 next.behind next.is (named_of s t f.holds) refl refl;
+      stands = record {
+        stands = rw st (running (prepare (its_body p told s v c)) (record { timers = l.timers; idle = l.idle; prepare = f.behind ∙ next.left; check = l.check }));
+        counted = call_counted p told s v c;
+      };
     }
-call_watcher p s run watcher.Check w id rest st f r b e =
-    let v = (handle_of s id).name in
-    let next = calls_next w id rest b e in
+call_watcher p told s run watcher.Check w t st f l b c =
+    let v = t.1.name in
+    let next = calls_next w t.0 f.rest b (sym l.check ∙ f.are) in
     record {
-      to = Within run.mode run.line (In phase.Check) (record w { ahead = next.behind; body = body_of p v ((named s v).calls + 1) });
-      goes = doc.call v id next.behind next.is (named_of s (Watches kind.Check) id f) refl refl;
-      stands = running (rw st (checks r next.left (whole_body p v ((named s v).calls + 1))));
+      to = Running run.mode run.line (Within (In phase.Check) (called p told w next.behind v));
+      goes = doc.call v t.0 next.behind next.is (named_of s t f.holds) refl refl;
+      stands = record {
+        stands = rw st (running (check (its_body p told s v c)) (record { timers = l.timers; idle = l.idle; prepare = l.prepare; check = f.behind ∙ next.left }));
+        counted = call_counted p told s v c;
+      };
     }
 
-fits_behind : (slots : List Slot) (P : Handle → Type 0) (xs ys : List Id) (id : Id) (rest : List Id) → ys ≡ id ∷ rest → Each (Fits slots P) (xs ++ ys) → Fits slots P id
-fits_behind slots P xs ys id rest e h = (subst (Each (Fits slots P)) e (each_back (Fits slots P) xs ys h)).0
+-- the list of a kind is the one that its section walks
+own_list : (s : State) (q : WatcherKind) (w : Walk) → Leaves s.ready s.idle.yet s.prepare.yet s.check.yet (Within (In (phase_of q)) w) → (watched s q).yet ≡ left_of w.ahead w.off
+own_list s watcher.Idle w l = l.idle
+own_list s watcher.Prepare w l = l.prepare
+own_list s watcher.Check w l = l.check
 
--- the next one that is yet to run is an active handle of that kind
-next_fits : (s : State) (q : WatcherKind) (id : Id) (rest : List Id) → Kept s → (watched s q).yet ≡ id ∷ rest → Fits s.slots (Watches (kind_as q)) id
-next_fits s watcher.Idle id rest k e = fits_behind s.slots (Watches kind.Idle) s.idle.list s.idle.yet id rest e k.idle.each
-next_fits s watcher.Prepare id rest k e = fits_behind s.slots (Watches kind.Prepare) s.prepare.list s.prepare.yet id rest e k.prepare.each
-next_fits s watcher.Check id rest k e = fits_behind s.slots (Watches kind.Check) s.check.list s.check.yet id rest e k.check.each
+-- with none of its own left, none is left
+none_own : (s : State) (q : WatcherKind) (w : Walk) → (watched s q).yet ≡ [] → Leaves s.ready s.idle.yet s.prepare.yet s.check.yet (Within (In (phase_of q)) w) → NoneLeft s
+none_own s watcher.Idle w e l = record { timers = l.timers; idle = e; prepare = l.prepare; check = l.check }
+none_own s watcher.Prepare w e l = record { timers = l.timers; idle = l.idle; prepare = e; check = l.check }
+none_own s watcher.Check w e l = record { timers = l.timers; idle = l.idle; prepare = l.prepare; check = e }
 
-walk_follows : (p : Program) (s : State) (run : Run) (q : WatcherKind) (w : Walk) (ids : List Id) → run.stage ≡ stage_of q → Kept s → s.ready ≡ [] → (watched s q).yet ≡ ids → (watched s q).yet ≡ left_of w.ahead w.off → w.body ≡ [] → Follows p (Within run.mode run.line (In (phase_of q)) w) s (walk p s run q ids)
-walk_follows p s run q w [] st k r e l b = after_follows p s run q w (record { done = b; off = all_off w.ahead w.off (sym l ∙ e) }) k r
-walk_follows p s run q w (id ∷ rest) st k r e l b = call_watcher p s run q w id rest st (next_fits s q id rest k e) r b (sym l ∙ e)
+everyone : (s : State) (q : WatcherKind) → Kept s → Everyone s.slots (Watches (kind_as q)) (members (watched s q))
+everyone s watcher.Idle k = k.idle
+everyone s watcher.Prepare k = k.prepare
+everyone s watcher.Check k = k.check
 
-nothing_there : {A : Type 0} {o : Option A} {x : A} → o ≡ None → o ≡ Some x → ⊥
-nothing_there e f = cc (e, f)
+walk_follows : (p : Program) (told : Told) (s : State) (run : Run) (q : WatcherKind) (w : Walk) → run.stage ≡ step.stage_of q → Kept s → Counted p s.names told →
+    Leaves s.ready s.idle.yet s.prepare.yet s.check.yet (Within (In (phase_of q)) w) → w.body ≡ [] →
+    Follows p told (Running run.mode run.line (Within (In (phase_of q)) w)) s (step.walk p s run q)
+walk_follows p told s run q w st k c l b = found_both (front s (watched s q).yet) _ _ (Follows p told (Running run.mode run.line (Within (In (phase_of q)) w)) s)
+    (λ t e. call_watcher p told s run q w t st (front_of s (watched s q).yet t e) l b c)
+    (λ e. let each = each_back (Fits s.slots (Watches (kind_as q))) (watched s q).list (watched s q).yet (everyone s q k).lists.each in
+      let none : (watched s q).yet ≡ [] = no_front s (Watches (kind_as q)) (watched s q).yet each e in
+      after_follows p told s run q w (record { done = b; may_pass = all_off w.ahead w.off (sym (own_list s q w l) ∙ none) }) k c (none_own s q w none l))
 
 -- ---- a stage
 
 -- the timers of an iteration begin
-closing_follows : (p : Program) (s : State) (run : Run) → Kept s → s.ready ≡ [] → Follows p (Within run.mode run.line (In phase.Closing) bare) s (begins (refreshed s) run (Timers Collecting) phase.Timers)
-closing_follows p s run k e = record {
-  to = Within run.mode run.line (In phase.Timers) (record { ahead = due_ids s.clock s.timers; off = []; body = [] });
-  goes = doc.next_section refl bare_over refl (record { list = record { timers = s.timers; are = timers_are; due = refl }; distinct = due_distinct (refreshed s) k; off = refl; body = refl }) refl;
-  stands = running (collects (none_yet s.ready (due_ids s.clock s.timers) e));
-} where
-  timers_are : AreTimers (record (refreshed s) { place = Running (record run { stage = Timers Collecting; body = None }) }) s.timers
-  timers_are = record {
-    each = λ key id h. held_timer _ key id (k.timers.each key id h).0;
-    all = λ key id t. k.timers.all key id (timer_held _ key id t);
-    sorted = k.timers.sorted;
-  }
+closing_follows : (p : Program) (told : Told) (s : State) (run : Run) → Kept s → Counted p s.names told → NoneLeft s →
+    Follows p told (Running run.mode run.line (Within (In phase.Closing) bare)) s (step.begin_timers s run)
+closing_follows p told s run k c e = record {
+  to = Running run.mode run.line (Within (In phase.Timers) (begun_with (due_ids s.clock s.timers)));
+  goes = doc.section (In phase.Timers) bare_over (timers_after run.mode (goes s)) refl
+      (record { list = record { timers = s.timers; are = are_timers _ s.timers s.next_start k.timers; due = refl; distinct = due_distinct s s.clock k }; off = refl; body = refl }) refl;
+  stands = record {
+    stands = running (collects refl)
+        (record { timers = ap (λ (ids : List Id). ids ++ due_ids s.clock s.timers) e.timers ∙ sym (none_off (due_ids s.clock s.timers)); idle = e.idle; prepare = e.prepare; check = e.check });
+    counted = c;
+  };
+}
 
-timers_follows : (p : Program) (s : State) (run : Run) (first : Bool) (ids : List Id) → (first ≡ true → run.mode ≡ Default) → Kept s → s.ready ++ due_now s ≡ ids → Follows p (Within run.mode run.line (part_of first) (record { ahead = ids; off = []; body = [] })) s (timers p s run first Collecting)
-timers_follows p s run first ids d k h = collect_follows p s run first ids s.timers d k refl h
-
-stage_follows : (p : Program) (s : State) (run : Run) (stage : Stage) (at : Position) → run.stage ≡ stage → Kept s → StandsIn p s.ready (due_now s) s.idle.yet s.prepare.yet s.check.yet run.mode run.line None stage at → Follows p at s (stage_step p s run stage)
-stage_follows p s run Entry at st k (entry e) = enter_follows p s run k e
-stage_follows p s run Pending at st k (pending e) = begin_idle p s run k e
-stage_follows p s run Idle at st k (idles e l b) = walk_follows p s run watcher.Idle _ s.idle.yet st k e refl l b
-stage_follows p s run Prepare at st k (prepares e l b) = walk_follows p s run watcher.Prepare _ s.prepare.yet st k e refl l b
-stage_follows p s run (Poll deadline) at st k (polls e) = cond_both (has_passed s.clock deadline) _ _ (Follows p (Polling run.mode run.line deadline) s)
-    (λ h. record { to = Within run.mode run.line (In phase.Done) bare; goes = doc.poll_over h refl (record { list = refl; distinct = tt; off = refl; body = refl }) refl; stands = running (done e) })
+-- the poll is left where the clock has reached its deadline
+left_poll : (p : Program) (told : Told) (s : State) (run : Run) (deadline : Option ℕ) → Counted p s.names told → NoneLeft s →
+    Follows p told (Running run.mode run.line (Polling deadline)) s (step.poll s run deadline)
+left_poll p told s run deadline c e = cond_both (has_passed s.clock deadline) _ _ (Follows p told (Running run.mode run.line (Polling deadline)) s)
+    (λ h. bare_follows p told s (refreshed s) run stage.Done phase.Done (Polling deadline) h done_next (opens_bare phase.Done _ refl) refl done
+      (record { timers = e.timers; idle = e.idle; prepare = e.prepare; check = e.check }) c)
     (λ h. tt)
-stage_follows p s run Done at st k (done e) = record { to = Within run.mode run.line (In phase.Async) bare; goes = doc.next_section refl bare_over refl (record { list = refl; distinct = tt; off = refl; body = refl }) refl; stands = running (async e) }
-stage_follows p s run Async at st k (async e) = begin_check p s run k e
-stage_follows p s run Check at st k (checks e l b) = walk_follows p s run watcher.Check _ s.check.yet st k e refl l b
-stage_follows p s run Closing at st k (closing e) = closing_follows p s run k e
-stage_follows p s run (First Collecting) at st k (collects_first d h) = timers_follows p s run true _ (λ t. d) k h
-stage_follows p s run (First Firing) at st k (fires_first d l b) = fire_follows p s run true _ s.ready (λ t. d) k refl l b
-stage_follows p s run (Timers Collecting) at st k (collects h) = timers_follows p s run false _ (λ t. cc t) k h
-stage_follows p s run (Timers Firing) at st k (fires l b) = fire_follows p s run false _ s.ready (λ t. cc t) k refl l b
+
+stage_follows : (p : Program) (told : Told) (s : State) (run : Run) (x : Stage) (at : Standing) → run.stage ≡ x → Kept s → Counted p s.names told →
+    StandsIn p None x at → Leaves (waiting x s.ready (due_now s)) s.idle.yet s.prepare.yet s.check.yet at →
+    Follows p told (Running run.mode run.line at) s (step.stage_step p s run x)
+stage_follows p told s run stage.Entry at st k c begun l = enter_follows p told s run k c l
+stage_follows p told s run stage.Pending at st k c pending l =
+    begin_follows p told s run watcher.Idle (Within (In phase.Pending) bare) bare_over idle_next k c
+    (record { timers = l.timers; idle = l.idle; prepare = l.prepare; check = l.check })
+stage_follows p told s run stage.Idle at st k c (idle b) l = walk_follows p told s run watcher.Idle _ st k c l b
+stage_follows p told s run stage.Prepare at st k c (prepare b) l = walk_follows p told s run watcher.Prepare _ st k c l b
+stage_follows p told s run (stage.Poll deadline) at st k c polls l =
+    left_poll p told s run deadline c (record { timers = l.timers; idle = l.idle; prepare = l.prepare; check = l.check })
+stage_follows p told s run stage.Done at st k c done l =
+    bare_follows p told s s run stage.Async phase.Async (Within (In phase.Done) bare) bare_over async_next (opens_bare phase.Async _ refl) refl async
+    (record { timers = l.timers; idle = l.idle; prepare = l.prepare; check = l.check }) c
+stage_follows p told s run stage.Async at st k c async l =
+    begin_follows p told s run watcher.Check (Within (In phase.Async) bare) bare_over check_next k c
+    (record { timers = l.timers; idle = l.idle; prepare = l.prepare; check = l.check })
+stage_follows p told s run stage.Check at st k c (check b) l = walk_follows p told s run watcher.Check _ st k c l b
+stage_follows p told s run stage.Closing at st k c closing l =
+    closing_follows p told s run k c (record { timers = l.timers; idle = l.idle; prepare = l.prepare; check = l.check })
+stage_follows p told s run (stage.Timers part Collecting) at st k c (collects b) l = collect_follows p told s run part _ k c l b
+stage_follows p told s run (stage.Timers part Firing) at st k c (fires b) l = fire_follows p told s run part _ k c l b
 
 -- ---- a body
 
-body_follows : (p : Program) (s : State) (run : Run) (body : Body) (stage : Stage) (at : Position) (x : Option CallbackLine) → run.stage ≡ stage → slice_get (on_lines p body.name) body.next ≡ x → Kept s → StandsIn p s.ready (due_now s) s.idle.yet s.prepare.yet s.check.yet run.mode run.line (Some body) stage at → Follows p at s (body_step p s run body x)
-body_follows p s run body stage at None st e k (idles r l b) = absurd (nothing_there e b.there)
-body_follows p s run body stage at None st e k (prepares r l b) = absurd (nothing_there e b.there)
-body_follows p s run body stage at None st e k (checks r l b) = absurd (nothing_there e b.there)
-body_follows p s run body stage at None st e k (fires_first d l b) = absurd (nothing_there e b.there)
-body_follows p s run body stage at None st e k (fires l b) = absurd (nothing_there e b.there)
-body_follows p s run body stage at (Some x) st e k (idles {w = w} r l b) = record {
+-- what an op leaves of a list, where that was left
+more_left : (ids off now was taken : List Id) → now ≡ left_of was taken → was ≡ left_of ids off → now ≡ left_of ids (taken ++ off)
+more_left ids off now was taken e h = e ∙ ap (λ (is : List Id). left_of is taken) h ∙ more_off ids off taken
+
+-- nobody, where nobody was
+still_none : (now was taken : List Id) → now ≡ left_of was taken → was ≡ [] → now ≡ []
+still_none now was taken e h = e ∙ ap (λ (is : List Id). left_of is taken) h
+
+-- the walk with the first op of the body done
+abbrev done_one : State → Op → Section → Walk → List Site → Walk
+done_one s o part w rest = record w { off = taken_off (word_of part) s o (do_op s o).answer ++ w.off; body = rest }
+
+none_left : (s : State) (o : Op) → Kept s → NoneLeft s → NoneLeft (do_op s o).state
+none_left s o k l =
+    let f = op_effect s o k in
+    record {
+      timers = still_none _ s.ready _ f.ready l.timers;
+      idle = still_none _ s.idle.yet _ f.idle l.idle;
+      prepare = still_none _ s.prepare.yet _ f.prepare l.prepare;
+      check = still_none _ s.check.yet _ f.check l.check;
+    }
+
+-- who is left after an op in a section of watchers
+watchers_left : (s : State) (o : Op) (q : WatcherKind) (w : Walk) (rest : List Site) → Kept s → Leaves s.ready s.idle.yet s.prepare.yet s.check.yet (Within (In (phase_of q)) w) →
+    Leaves (do_op s o).state.ready (do_op s o).state.idle.yet (do_op s o).state.prepare.yet (do_op s o).state.check.yet (Within (In (phase_of q)) (done_one s o (In (phase_of q)) w rest))
+watchers_left s o watcher.Idle w rest k l =
+    let f = op_effect s o k in
+    record {
+      timers = still_none _ s.ready _ f.ready l.timers;
+      idle = more_left w.ahead w.off _ s.idle.yet _ f.idle l.idle;
+      prepare = still_none _ s.prepare.yet _ f.prepare l.prepare;
+      check = still_none _ s.check.yet _ f.check l.check;
+    }
+watchers_left s o watcher.Prepare w rest k l =
+    let f = op_effect s o k in
+    record {
+      timers = still_none _ s.ready _ f.ready l.timers;
+      idle = still_none _ s.idle.yet _ f.idle l.idle;
+      prepare = more_left w.ahead w.off _ s.prepare.yet _ f.prepare l.prepare;
+      check = still_none _ s.check.yet _ f.check l.check;
+    }
+watchers_left s o watcher.Check w rest k l =
+    let f = op_effect s o k in
+    record {
+      timers = still_none _ s.ready _ f.ready l.timers;
+      idle = still_none _ s.idle.yet _ f.idle l.idle;
+      prepare = still_none _ s.prepare.yet _ f.prepare l.prepare;
+      check = more_left w.ahead w.off _ s.check.yet _ f.check l.check;
+    }
+
+-- and in a section of timers
+timers_left_by : (s : State) (o : Op) (part : TimersOf) (w : Walk) (rest : List Site) → Kept s → Leaves s.ready s.idle.yet s.prepare.yet s.check.yet (Within (section_of part) w) →
+    Leaves (do_op s o).state.ready (do_op s o).state.idle.yet (do_op s o).state.prepare.yet (do_op s o).state.check.yet (Within (section_of part) (done_one s o (section_of part) w rest))
+timers_left_by s o part w rest k l =
+    let f = op_effect s o k in
+    let left = left_timers part s.ready s.idle.yet s.prepare.yet s.check.yet w l in
+    timers_left part _ _ _ _ (done_one s o (section_of part) w rest) (ready part f left.0)
+    (still_none _ s.idle.yet _ f.idle left.1) (still_none _ s.prepare.yet _ f.prepare left.2) (still_none _ s.check.yet _ f.check left.3)
+  where
+    ready : (x : TimersOf) → Effect s o (do_op s o) → s.ready ≡ left_of w.ahead w.off → (do_op s o).state.ready ≡ left_of w.ahead (done_one s o (section_of x) w rest).off
+    ready timers_of.Entry f e = more_left w.ahead w.off _ s.ready _ f.ready e
+    ready timers_of.Iteration f e = more_left w.ahead w.off _ s.ready _ f.ready e
+
+nothing_there : {A : Type 0} {o : Option A} {x : A} → o ≡ None → o ≡ Some x → ⊥
+nothing_there e f = cc (e, f)
+
+-- the next op of a body, in any section
+op_follows : (p : Program) (told : Told) (s : State) (run : Run) (body : Body) (part : Section) (w : Walk) (x : CallbackLine) → slice_get (on_lines p body.name) body.next ≡ Some x →
+    Kept s → Counted p s.names told → (b : IsBody p (Some body) w.body) → let t = record (do_op s x.op).state { place = place.Running (record run { body = body_from p body.name body.call (body.next + 1) }) } in
+    ((rest : List Site) → IsBody p (body_from p body.name body.call (body.next + 1)) rest →
+      StandsAt p t.ready (due_now t) t.idle.yet t.prepare.yet t.check.yet t.place (Running run.mode run.line (Within part (done_one s x.op part w rest)))) →
+    Follows p told (Running run.mode run.line (Within part w)) s (step.body_step p s run body (Some x))
+op_follows p told s run body part w x e k c b stands = record {
   to = _;
-  goes = doc.body_op (site.On body.name body.next) _ x.op _ b.are (ap (option_map (λ (c : CallbackLine). c.op)) e) refl (op_lasts s x.op);
-  stands = running (rw st (idles (op_none_ready s x.op k r) (op_yet s x.op watcher.Idle w.ahead w.off k l) (is_body p body.name body.call (body.next + 1))));
+  goes = doc.body_op (site.On body.name body.next) _ x.op _ b.are (ap (option_map (λ (l : CallbackLine). l.op)) e) refl (op_effect s x.op k).lasts;
+  stands = record { stands = stands _ (is_body p body.name body.call (body.next + 1)); counted = counted_kept p _ s.names told (op_effect s x.op k).calls c };
 }
-body_follows p s run body stage at (Some x) st e k (prepares {w = w} r l b) = record {
-  to = _;
-  goes = doc.body_op (site.On body.name body.next) _ x.op _ b.are (ap (option_map (λ (c : CallbackLine). c.op)) e) refl (op_lasts s x.op);
-  stands = running (rw st (prepares (op_none_ready s x.op k r) (op_yet s x.op watcher.Prepare w.ahead w.off k l) (is_body p body.name body.call (body.next + 1))));
-}
-body_follows p s run body stage at (Some x) st e k (checks {w = w} r l b) = record {
-  to = _;
-  goes = doc.body_op (site.On body.name body.next) _ x.op _ b.are (ap (option_map (λ (c : CallbackLine). c.op)) e) refl (op_lasts s x.op);
-  stands = running (rw st (checks (op_none_ready s x.op k r) (op_yet s x.op watcher.Check w.ahead w.off k l) (is_body p body.name body.call (body.next + 1))));
-}
-body_follows p s run body stage at (Some x) st e k (fires_first {w = w} d l b) = record {
-  to = _;
-  goes = doc.body_op (site.On body.name body.next) _ x.op _ b.are (ap (option_map (λ (c : CallbackLine). c.op)) e) refl (op_lasts s x.op);
-  stands = running (rw st (fires_first d (op_ready s x.op w.ahead w.off k l) (is_body p body.name body.call (body.next + 1))));
-}
-body_follows p s run body stage at (Some x) st e k (fires {w = w} l b) = record {
-  to = _;
-  goes = doc.body_op (site.On body.name body.next) _ x.op _ b.are (ap (option_map (λ (c : CallbackLine). c.op)) e) refl (op_lasts s x.op);
-  stands = running (rw st (fires (op_ready s x.op w.ahead w.off k l) (is_body p body.name body.call (body.next + 1))));
-}
+
+body_follows : (p : Program) (told : Told) (s : State) (run : Run) (body : Body) (x : Stage) (at : Standing) (l : Option CallbackLine) → run.stage ≡ x →
+    slice_get (on_lines p body.name) body.next ≡ l → Kept s → Counted p s.names told →
+    StandsIn p (Some body) x at → Leaves (waiting x s.ready (due_now s)) s.idle.yet s.prepare.yet s.check.yet at →
+    Follows p told (Running run.mode run.line at) s (step.body_step p s run body l)
+body_follows p told s run body x at None st e k c (idle b) l = absurd (nothing_there e b.there)
+body_follows p told s run body x at None st e k c (prepare b) l = absurd (nothing_there e b.there)
+body_follows p told s run body x at None st e k c (check b) l = absurd (nothing_there e b.there)
+body_follows p told s run body x at None st e k c (fires b) l = absurd (nothing_there e b.there)
+body_follows p told s run body x at (Some y) st e k c (idle {w = w} b) l =
+    op_follows p told s run body (In phase.Idle) w y e k c b (λ rest is. rw st (running (idle is) (watchers_left s y.op watcher.Idle w rest k l)))
+body_follows p told s run body x at (Some y) st e k c (prepare {w = w} b) l =
+    op_follows p told s run body (In phase.Prepare) w y e k c b (λ rest is. rw st (running (prepare is) (watchers_left s y.op watcher.Prepare w rest k l)))
+body_follows p told s run body x at (Some y) st e k c (check {w = w} b) l =
+    op_follows p told s run body (In phase.Check) w y e k c b (λ rest is. rw st (running (check is) (watchers_left s y.op watcher.Check w rest k l)))
+body_follows p told s run body x at (Some y) st e k c (fires {part = part} {w = w} b) l =
+    op_follows p told s run body (section_of part) w y e k c b (λ rest is. rw st (running (fires is) (timers_left_by s y.op part w rest k l)))
 
 -- ---- the main program, and a whole step
 
@@ -422,51 +698,79 @@ run_lasts Default s = refl
 run_lasts Once s = refl
 run_lasts Nowait s = refl
 
-main_follows : (p : Program) (s : State) (i : ℕ) (x : Option MainOp) → slice_get p.main i ≡ x → Kept s → s.ready ≡ [] → Follows p (Between i) s (main_step s i x)
-main_follows p s i None e k r = tt
-main_follows p s i (Some (main.Run m)) e k r = record {
-  to = Entered m i;
+main_follows : (p : Program) (told : Told) (s : State) (i : ℕ) (x : Option MainOp) → slice_get p.main i ≡ x → Kept s → Counted p s.names told → NoneLeft s →
+    Follows p told (Between i) s (step.main_step s i x)
+main_follows p told s i None e k c l = tt
+main_follows p told s i (Some (main.Run m)) e k c l = record {
+  to = Running m i Begun;
   goes = doc.run m e refl (run_lasts m s);
-  stands = running (entry (begun m));
+  stands = begun_run m;
 } where
-  begun : (m : Mode) → (if is_default m then refreshed s else s).ready ≡ []
-  begun Default = r
-  begun Once = r
-  begun Nowait = r
-main_follows p s i (Some (main.Op o)) e k r = record {
+  begun_run : (x : Mode) → Stands p told (record (if is_default x then refreshed s else s) { place = place.Running (record { mode = m; line = i; stage = stage.Entry; body = None }) }) (Running m i Begun)
+  begun_run Default = record { stands = running begun l; counted = c }
+  begun_run Once = record { stands = running begun l; counted = c }
+  begun_run Nowait = record { stands = running begun l; counted = c }
+main_follows p told s i (Some (main.Op o)) e k c l = record {
   to = Between (i + 1);
-  goes = doc.main_line o _ (ap main_op e) refl (op_lasts s o);
-  stands = between (op_none_ready s o k r);
+  goes = doc.main_line o _ (ap main_op e) refl (op_effect s o k).lasts;
+  stands = record { stands = between (none_left s o k l); counted = counted_kept p _ s.names told (op_effect s o k).calls c };
 }
 
-run_follows : (p : Program) (s : State) (run : Run) (body : Option Body) (at : Position) → Kept s → StandsIn p s.ready (due_now s) s.idle.yet s.prepare.yet s.check.yet run.mode run.line body run.stage at → Follows p at s (run_step p s run body)
-run_follows p s run None at k h = stage_follows p s run run.stage at refl k h
-run_follows p s run (Some body) at k h = body_follows p s run body run.stage at (slice_get (on_lines p body.name) body.next) refl refl k h
+run_follows : (p : Program) (told : Told) (s : State) (run : Run) (body : Option Body) (at : Standing) → Kept s → Counted p s.names told →
+    StandsIn p body run.stage at → Leaves (waiting run.stage s.ready (due_now s)) s.idle.yet s.prepare.yet s.check.yet at →
+    Follows p told (Running run.mode run.line at) s (step.run_step p s run body)
+run_follows p told s run None at k c h l = stage_follows p told s run run.stage at refl k c h l
+run_follows p told s run (Some body) at k c h l = body_follows p told s run body run.stage at (slice_get (on_lines p body.name) body.next) refl refl k c h l
 
-place_follows : (p : Program) (s : State) (place : Place) (at : Position) → Kept s → StandsAt p s.ready (due_now s) s.idle.yet s.prepare.yet s.check.yet place at → Follows p at s (loop_step p s place)
-place_follows p s (Main i) at k (between e) = main_follows p s i (slice_get p.main i) refl k e
-place_follows p s (Running run) at k (running h) = run_follows p s run run.body at k h
+place_follows : (p : Program) (told : Told) (s : State) (x : Place) (at : Position) → Kept s → Counted p s.names told →
+    StandsAt p s.ready (due_now s) s.idle.yet s.prepare.yet s.check.yet x at → Follows p told at s (step.loop_step p s x)
+place_follows p told s (place.Main i) at k c (between e) = main_follows p told s i (slice_get p.main i) refl k c e
+place_follows p told s (place.Running run) at k c (running h l) = run_follows p told s run run.body _ k c h l
 
-tick_follows : (p : Program) (s : State) (at : Position) (ms : ℕ) → Stands p s at → Follows p at s (tick s ms)
-tick_follows p s at ms h = cond_both (nat_le (s.clock + ms) 4611686018427387904) _ _ (Follows p at s) (λ e. record { to = at; goes = doc.outside ms refl refl; stands = h }) (λ e. tt)
+tick_follows : (p : Program) (told : Told) (s : State) (at : Position) (ms : ℕ) → Stands p told s at → Follows p told at s (step.tick s ms)
+tick_follows p told s at ms h = cond_both (nat_le (s.clock + ms) 4611686018427387904) _ _ (Follows p told at s)
+    (λ e. record { to = at; goes = doc.outside ms refl refl; stands = record { stands = h.stands; counted = h.counted } }) (λ e. tt)
 
-pub follows : (p : Program) (s : State) (at : Position) (e : Event) → Kept s → Stands p s at → Follows p at s (next p s e)
+pub follows : (p : Program) (told : Told) (s : State) (at : Position) (e : Event) → Kept s → Stands p told s at → Follows p told at s (next p s e)
 unfolding next
-follows p s at Loop k h = place_follows p s s.place at k h
-follows p s at (Tick ms) k h = tick_follows p s at ms h
+follows p told s at Loop k h = place_follows p told s s.place at k h.counted h.stands
+follows p told s at (Tick ms) k h = tick_follows p told s at ms h
 
 -- ---- all steps
 
-one_step : (p : Program) (s : State) (at : Position) (es : List Event) (n : Next) (was : Lasting) → lasting s ≡ was → Kept s → StaysKept n → Stands p s at → Follows p at s n → ((t : State) (to : Position) (now : Lasting) → lasting t ≡ now → Kept t → Stands p t to → GoesOn p to now (history_from p t es)) → GoesOn p at was (line_of_step s n ++ history_from p (state_of s n) es)
-one_step p s at es (Moves t (Some what)) was l k j h f rest = line l f.goes (rest t f.to (lasting t) refl j f.stands)
-one_step p s at es (Moves t None) was l k j h f rest = rest t at was (f.1 ∙ l) j f.0
-one_step p s at es (Refuses why) was l k j h f rest = rest s at was l k h
+-- a section of watchers begins only where none of them is yet to run
+rested_in : (p : Program) (s : State) (body : Option Body) (x : Stage) (at : Standing) → StandsIn p body x at → Leaves (waiting x s.ready (due_now s)) s.idle.yet s.prepare.yet s.check.yet at →
+    IsRestedIn body x s
+rested_in p s (Some body) x at h l = tt
+rested_in p s None stage.Entry at h l = tt
+rested_in p s None stage.Pending at pending l = l.idle
+rested_in p s None stage.Idle at (idle b) l = l.prepare
+rested_in p s None stage.Prepare at h l = tt
+rested_in p s None (stage.Poll deadline) at h l = tt
+rested_in p s None stage.Done at h l = tt
+rested_in p s None stage.Async at async l = l.check
+rested_in p s None stage.Check at h l = tt
+rested_in p s None stage.Closing at h l = tt
+rested_in p s None (stage.Timers part timing) at h l = tt
 
-goes_on : (p : Program) (es : List Event) (s : State) (at : Position) (was : Lasting) → lasting s ≡ was → Kept s → Stands p s at → GoesOn p at was (history_from p s es)
-goes_on p [] s at was l k h = cut
-goes_on p (e ∷ es) s at was l k h = one_step p s at es (next p s e) was l k (next_kept p s e k) h (follows p s at e k h) (goes_on p es)
+rested_at : (p : Program) (s : State) (x : Place) (at : Position) → StandsAt p s.ready (due_now s) s.idle.yet s.prepare.yet s.check.yet x at → IsRestedAt x s
+rested_at p s (place.Main i) at h = tt
+rested_at p s (place.Running run) at (running h l) = rested_in p s run.body run.stage _ h l
+
+one_step : (p : Program) (told : Told) (s : State) (at : Position) (es : List Event) (n : Next) (was : Lasting) → lasting s ≡ was → Kept s → StaysKept n → Stands p told s at →
+    Follows p told at s n → ((told' : Told) (t : State) (to : Position) (now : Lasting) → lasting t ≡ now → Kept t → Stands p told' t to → GoesOn p to told' now (history_from p t es)) →
+    GoesOn p at told was (line_of_step s n ++ history_from p (state_of s n) es)
+one_step p told s at es (Moves t (Some what)) was l k j h f rest = line l f.goes (rest (told_with told what) t f.to (lasting t) refl j f.stands)
+one_step p told s at es (Moves t None) was l k j h f rest = rest told t at was (f.1 ∙ l) j f.0
+one_step p told s at es (Refuses why) was l k j h f rest = rest told s at was l k h
+
+goes_on : (p : Program) (es : List Event) (told : Told) (s : State) (at : Position) (was : Lasting) → lasting s ≡ was → Kept s → Stands p told s at → GoesOn p at told was (history_from p s es)
+goes_on p [] told s at was l k h = cut
+goes_on p (e ∷ es) told s at was l k h =
+    one_step p told s at es (next p s e) was l k (next_kept p s e (rested_at p s s.place at h.stands) k) h (follows p told s at e k h) (goes_on p es)
 
 -- the lines of any events are in the documented order
 pub documented : (p : Program) (es : List Event) → Documented p (history p es)
 unfolding history
-documented p es = goes_on p es (fresh p) (Between 0) at_first refl (fresh_kept p) (between refl)
+documented p es = goes_on p es nothing_told (fresh p) (Between 0) at_first refl (fresh_kept p)
+    (record { stands = between (record { timers = refl; idle = refl; prepare = refl; check = refl }); counted = counted_fresh p })

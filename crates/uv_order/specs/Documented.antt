@@ -2,16 +2,19 @@
 -- over the lines of a trace, with the states before and after each. A trace is the lines of the main program and its runs; a run
 -- is the timers of its entry, iterations, and its end; an iteration is its sections in their order; a section calls the members
 -- of its list, and each callback does the ops of its body. It says nothing of how a step is done.
-use Rattle.std.specs.Prelude.{◌≡◌, ℕ, ◌+◌, List, [], ◌∷◌, ◌++◌, Bool, true, false, ◌||◌, Option, Some, None, slice_get, option_map, if◌then◌else◌}
+use Rattle.std.specs.Prelude.{◌≡◌, ◌==◌, ◌&&◌, ℕ, zero, suc, ◌+◌, List, [], ◌∷◌, ◌++◌, Bool, true, false, not, Option, Some, None, slice_get, option_map, if◌then◌else◌}
 use Rattle.uv_ids.specs.declared.id.Id.{Id}
 use Rattle.uv_ids.specs.declared.id.Var.{Var}
+use Rattle.uv_ids.specs.declared.due.Due.{Due}
 use Rattle.uv_ids.specs.declared.code.Code.TheVariants.{Ok as Success}
 use Rattle.uv_ids.specs.declared.code.Answer.{Answer}
 use Rattle.uv_ids.specs.declared.code.Answer.TheVariants.{Code as Says}
+use Rattle.uv_ids.specs.declared.phase.Kind.TheVariants as kind
 use Rattle.uv_ids.specs.declared.phase.Mode.{Mode}
 use Rattle.uv_ids.specs.declared.phase.Mode.TheVariants.{Default, Once, Nowait}
 use Rattle.uv_ids.specs.declared.phase.Phase.{Phase}
 use Rattle.uv_ids.specs.declared.phase.Phase.TheVariants as phase
+use Rattle.uv_ids.specs.declared.seen.Seen.{Seen}
 use Rattle.uv_ids.specs.declared.seen.Seen.TheVariants as seen
 use Rattle.uv_ids.specs.declared.seen.Site.{Site}
 use Rattle.uv_ids.specs.declared.seen.Site.TheVariants as site
@@ -21,11 +24,11 @@ use Rattle.uv_script.specs.declared.op.MainOp.TheVariants as main
 use Rattle.uv_script.specs.declared.op.CallbackLine.{CallbackLine}
 use Rattle.uv_script.specs.Program.{Program, on_lines, is_for, op_at}
 use Rattle.uv_model.specs.declared.handle.Handle.{Handle}
-use Rattle.uv_model.specs.Ids.{same_id, has_some}
+use Rattle.uv_model.specs.Ids.{has_some}
 use Rattle.uv_model.specs.State.{State, held, named}
-use Rattle.uv_model.specs.Timeout.{is_alive, poll_timeout, deadline_of, has_passed}
-use Rattle.uv_model.specs.Timed.{AreDue}
-use Rattle.uv_model.specs.After.{Line}
+use Rattle.uv_model.specs.Timeout.{is_alive, poll_timeout_by, deadline_of, has_passed}
+use Rattle.uv_order.specs.Line.{Line}
+use Rattle.uv_order.specs.Active.{has_id, AreDistinct, AreActive, AreTimers, AreDue}
 
 -- ---- what lasts from line to line
 
@@ -79,6 +82,34 @@ after_end s = record (lasting s) { stop_flag = false }
 abbrev pub after_tick : ℕ → State → Lasting
 after_tick ms s = record (lasting s) { clock = s.clock + ms }
 
+-- ---- what the lines have told
+
+pub record Told : Type 0 where
+  -- the names that were called, the last one first
+  pub called : List Var
+
+abbrev pub nothing_told : Told
+nothing_told = record { called = [] }
+
+-- how often a name is among these
+abbrev pub times : List Var → Var → ℕ
+times [] v = zero
+times (x ∷ xs) v = if x.0 == v.0 then suc (times xs v) else times xs v
+
+-- the number of a name's next call
+abbrev pub next_call : Told → Var → ℕ
+next_call told v = times told.called v + 1
+
+-- with one line more: a call is one more of its name
+abbrev pub told_with : Told → Seen → Told
+told_with told (seen.Call v id) = record { called = v ∷ told.called }
+told_with told (seen.Op place a) = told
+told_with told (seen.Run m) = told
+told_with told (seen.Section word) = told
+told_with told (seen.Poll timeout) = told
+told_with told (seen.End alive) = told
+told_with told (seen.Tick ms) = told
+
 -- ---- bodies
 
 -- the places of those of these lines that are for this call, the first of the lines having this number
@@ -91,7 +122,7 @@ sites_from v call number (line ∷ lines) =
 abbrev pub body_of : Program → Var → ℕ → List Site
 body_of p v call = sites_from v call 0 (on_lines p v)
 
--- ---- sections
+-- ---- the parts of a run
 
 -- the parts of a run that have a line and may have callbacks: the timers of its entry, and the sections of an iteration
 pub data Section : Type 0 where
@@ -103,32 +134,56 @@ abbrev pub word_of : Section → Phase
 word_of Entry = phase.Timers
 word_of (In word) = word
 
--- the sections of an iteration in their order; between prepare and done stands the poll
-abbrev pub section_after : Phase → Option Phase
-section_after phase.Pending = Some phase.Idle
-section_after phase.Idle = Some phase.Prepare
-section_after phase.Prepare = None
-section_after phase.Done = Some phase.Async
-section_after phase.Async = Some phase.Check
-section_after phase.Check = Some phase.Closing
-section_after phase.Closing = Some phase.Timers
-section_after phase.Timers = None
+pub data Part : Type 0 where
+  -- the line of the run
+  Start : Part
+  -- a section
+  Of : Section → Part
+  -- the poll
+  Poll : Part
+  -- the line of the run's end
+  End : Part
 
-abbrev pub has_id : List Id → Id → Bool
-has_id [] id = false
-has_id (x ∷ xs) id = same_id x id || has_id xs id
+-- what follows a part of a run, where the loop goes on or doesn't: the order of 1.45. Once and nowait have one iteration at most, and
+-- no timers at their entry
+abbrev pub part_after : Mode → Bool → Part → Part
+part_after Default true Start = Of Entry
+part_after Once true Start = Of (In phase.Pending)
+part_after Nowait true Start = Of (In phase.Pending)
+part_after m false Start = End
+part_after m true (Of Entry) = Of (In phase.Pending)
+part_after m false (Of Entry) = End
+part_after m go (Of (In phase.Pending)) = Of (In phase.Idle)
+part_after m go (Of (In phase.Idle)) = Of (In phase.Prepare)
+part_after m go (Of (In phase.Prepare)) = Poll
+part_after m go Poll = Of (In phase.Done)
+part_after m go (Of (In phase.Done)) = Of (In phase.Async)
+part_after m go (Of (In phase.Async)) = Of (In phase.Check)
+part_after m go (Of (In phase.Check)) = Of (In phase.Closing)
+part_after m go (Of (In phase.Closing)) = Of (In phase.Timers)
+part_after Default true (Of (In phase.Timers)) = Of (In phase.Pending)
+part_after Default false (Of (In phase.Timers)) = End
+part_after Once go (Of (In phase.Timers)) = End
+part_after Nowait go (Of (In phase.Timers)) = End
+part_after m go End = End
 
--- no id stands twice
-abbrev pub AreDistinct : List Id → Type 0
-AreDistinct [] = Unit {0}
-AreDistinct (id ∷ ids) = (has_id ids id ≡ false) × AreDistinct ids
+-- the loop goes on: it is alive, and the stop flag is clear
+abbrev pub goes_on : State → Bool
+goes_on s = is_alive s && not s.stop_flag
 
--- the list of a section, by its line: for idle, prepare and check the list of that word before it; for timers all active timers that
--- are due after it, in their order. The others have no list yet: nothing is called in them.
+-- what the line of a section sets: the timers of the entry nothing, and each section of an iteration what its word says
+abbrev pub after_section : Section → State → Lasting
+after_section Entry s = lasting s
+after_section (In word) s = after_line word s
+
+-- ---- sections
+
+-- the list of a section, by its line: for idle, prepare and check the list of that word before it, which has all active handles of the
+-- kind; for timers all active timers that are due after it, in their order. Nothing is called in the others yet.
 abbrev pub HasList : Phase → Line → List Id → Type 0
-HasList phase.Idle l ids = ids ≡ l.before.idle.list
-HasList phase.Prepare l ids = ids ≡ l.before.prepare.list
-HasList phase.Check l ids = ids ≡ l.before.check.list
+HasList phase.Idle l ids = (ids ≡ l.before.idle.list) × AreActive l.before kind.Idle ids
+HasList phase.Prepare l ids = (ids ≡ l.before.prepare.list) × AreActive l.before kind.Prepare ids
+HasList phase.Check l ids = (ids ≡ l.before.check.list) × AreActive l.before kind.Check ids
 HasList phase.Timers l ids = AreDue l.after ids
 HasList phase.Pending l ids = ids ≡ []
 HasList phase.Done l ids = ids ≡ []
@@ -162,10 +217,9 @@ pub record Walk : Type 0 where
   -- the ops of the callback under way that are still to be done
   pub body : List Site
 
--- a section as it begins: nobody was called, and nobody taken off; no member of its list stands there twice
+-- a section as it begins: nobody was called, and nobody taken off
 pub record Opens (word : Phase) (l : Line) (w : Walk) : Type 0 where
   pub list : HasList word l w.ahead
-  pub distinct : AreDistinct w.ahead
   pub off : w.off ≡ []
   pub body : w.body ≡ []
 
@@ -174,19 +228,26 @@ abbrev pub AllOff : List Id → List Id → Type 0
 AllOff off [] = Unit {0}
 AllOff off (id ∷ ids) = (has_id off id ≡ true) × AllOff off ids
 
--- a callback may begin: the ops of the last one are done; the next one called is the first member that wasn't taken off, and
--- these are behind it
+-- who may be passed by: whoever was taken off
+abbrev pub MayPass : Walk → List Id → Type 0
+MayPass w ids = AllOff w.off ids
+
+-- who must not be called: whoever was taken off
+abbrev pub MayCall : Walk → Id → Type 0
+MayCall w id = has_id w.off id ≡ false
+
+-- a callback may begin: the ops of the last one are done; those before the member called may be passed by, and these are behind it
 pub record CallsNext (w : Walk) (id : Id) (behind : List Id) : Type 0 where
   pub done : w.body ≡ []
   pub passed : List Id
   pub list : w.ahead ≡ passed ++ id ∷ behind
-  pub off : AllOff w.off passed
-  pub on : has_id w.off id ≡ false
+  pub may_pass : MayPass w passed
+  pub may_call : MayCall w id
 
--- a section may be left: the ops of the last callback are done, and whoever wasn't called was taken off
+-- a section may be left: the ops of the last callback are done, and whoever wasn't called may be passed by
 pub record IsOver (w : Walk) : Type 0 where
   pub done : w.body ≡ []
-  pub off : AllOff w.off w.ahead
+  pub may_pass : MayPass w w.ahead
 
 -- the id is that of a handle of this name
 abbrev pub IsOf : State → Id → Var → Type 0
@@ -194,135 +255,107 @@ IsOf s id v = option_map (λ (h : Handle). h.name) (held s id) ≡ Some v
 
 -- ---- runs
 
+-- where a run stands
+pub data Standing : Type 0 where
+  -- behind its line
+  Begun : Standing
+  -- in a section
+  Within : Section → Walk → Standing
+  -- in the poll, with its deadline
+  Polling : Option ℕ → Standing
+
+abbrev pub part_of : Standing → Part
+part_of Begun = Start
+part_of (Within part w) = Of part
+part_of (Polling deadline) = Poll
+
+-- it may go on to its next part: a section that is over, and a poll whose deadline the clock has reached
+abbrev pub MayLeave : State → Standing → Type 0
+MayLeave s Begun = Unit {0}
+MayLeave s (Within part w) = IsOver w
+MayLeave s (Polling deadline) = has_passed s.clock deadline ≡ true
+
+-- the poll may wait so long, by the active timers as the handles say
+pub record PollsFor (s : State) (m : Mode) (timeout : Option ℕ) : Type 0 where
+  pub timers : List (Due × Id)
+  pub are : AreTimers s timers
+  pub is : timeout ≡ poll_timeout_by s timers m
+
 -- where a trace stands
 pub data Position : Type 0 where
   -- between the lines of the main program, at this one
   Between : ℕ → Position
-  -- behind the line of a run
-  Entered : Mode → ℕ → Position
-  -- in a section
-  Within : Mode → ℕ → Section → Walk → Position
-  -- in the poll, with its deadline
-  Polling : Mode → ℕ → Option ℕ → Position
+  -- in a run, which began at this line
+  Running : Mode → ℕ → Standing → Position
 
--- an entry section or an iteration may begin: the loop is alive and the stop flag is clear
-abbrev pub MayGoOn : State → Type 0
-MayGoOn s = (is_alive s ≡ true) × (s.stop_flag ≡ false)
-
--- once and nowait have one iteration at most, and no entry section
-abbrev pub IsSingle : Mode → Type 0
-IsSingle Default = ⊥
-IsSingle Once = Unit {0}
-IsSingle Nowait = Unit {0}
-
--- a run may end after its timers: a default one only where it may not go on
-abbrev pub MayEnd : Mode → State → Type 0
-MayEnd Default s = MayGoOn s → ⊥
-MayEnd Once s = Unit {0}
-MayEnd Nowait s = Unit {0}
-
--- a line takes the trace from where it stands to where it stands then
-pub data Goes (p : Program) : Position → Line → Position → Type 0 where
+-- a line takes the trace from where it stands to where it stands then; so much was told before it
+pub data Goes (p : Program) (told : Told) : Position → Line → Position → Type 0 where
   -- an op of the main program
   main_line : {l : Line} {i : ℕ} (o : Op) (a : Answer)
       → op_at p (site.Main i) ≡ Some o
       → l.seen ≡ seen.Op (site.Main i) a
       → lasting l.after ≡ after_op o l.before
-      → Goes p (Between i) l (Between (i + 1))
+      → Goes p told (Between i) l (Between (i + 1))
   -- a run of the main program begins
   run : {l : Line} {i : ℕ} (m : Mode)
       → slice_get p.main i ≡ Some (main.Run m)
       → l.seen ≡ seen.Run m
       → lasting l.after ≡ after_run m l.before
-      → Goes p (Between i) l (Entered m i)
-  -- it ends at once
-  ends_at_once : {l : Line} {m : Mode} {i : ℕ}
-      → (MayGoOn l.before → ⊥)
-      → l.seen ≡ seen.End (is_alive l.before)
-      → lasting l.after ≡ after_end l.before
-      → Goes p (Entered m i) l (Between (i + 1))
-  -- a default run has a section of timers at its entry (own)
-  entry : {l : Line} {m : Mode} {i : ℕ} {w : Walk}
-      → m ≡ Default
-      → MayGoOn l.before
-      → l.seen ≡ seen.Section phase.Timers
-      → Opens phase.Timers l w
-      → lasting l.after ≡ lasting l.before
-      → Goes p (Entered m i) l (Within m i Entry w)
-  -- another run begins its iteration
-  iteration : {l : Line} {m : Mode} {i : ℕ} {w : Walk}
-      → IsSingle m
-      → MayGoOn l.before
-      → l.seen ≡ seen.Section phase.Pending
-      → Opens phase.Pending l w
-      → lasting l.after ≡ after_line phase.Pending l.before
-      → Goes p (Entered m i) l (Within m i (In phase.Pending) w)
-  -- after the timers a default run begins an iteration
-  next_iteration : {l : Line} {m : Mode} {i : ℕ} {part : Section} {w v : Walk}
-      → m ≡ Default
-      → word_of part ≡ phase.Timers
-      → IsOver w
-      → MayGoOn l.before
-      → l.seen ≡ seen.Section phase.Pending
-      → Opens phase.Pending l v
-      → lasting l.after ≡ after_line phase.Pending l.before
-      → Goes p (Within m i part w) l (Within m i (In phase.Pending) v)
-  -- one section follows another
-  next_section : {l : Line} {m : Mode} {i : ℕ} {a b : Phase} {w v : Walk}
-      → section_after a ≡ Some b
-      → IsOver w
-      → l.seen ≡ seen.Section b
-      → Opens b l v
-      → lasting l.after ≡ after_line b l.before
-      → Goes p (Within m i (In a) w) l (Within m i (In b) v)
-  -- after prepare comes the poll, with the timeout that the loop has then
-  poll : {l : Line} {m : Mode} {i : ℕ} {w : Walk} (timeout : Option ℕ)
-      → IsOver w
-      → timeout ≡ poll_timeout l.before m
+      → Goes p told (Between i) l (Running m i Begun)
+  -- the next section begins
+  section : {l : Line} {m : Mode} {i : ℕ} {at : Standing} {w : Walk} (next : Section)
+      → MayLeave l.before at
+      → part_after m (goes_on l.before) (part_of at) ≡ Of next
+      → l.seen ≡ seen.Section (word_of next)
+      → Opens (word_of next) l w
+      → lasting l.after ≡ after_section next l.before
+      → Goes p told (Running m i at) l (Running m i (Within next w))
+  -- the poll begins, with the timeout that the loop has then
+  poll : {l : Line} {m : Mode} {i : ℕ} {at : Standing} (timeout : Option ℕ)
+      → MayLeave l.before at
+      → part_after m (goes_on l.before) (part_of at) ≡ Poll
+      → PollsFor l.before m timeout
       → l.seen ≡ seen.Poll timeout
       → lasting l.after ≡ lasting l.before
-      → Goes p (Within m i (In phase.Prepare) w) l (Polling m i (deadline_of l.before timeout))
-  -- it is left where the clock has reached its deadline
-  poll_over : {l : Line} {m : Mode} {i : ℕ} {deadline : Option ℕ} {w : Walk}
-      → has_passed l.before.clock deadline ≡ true
-      → l.seen ≡ seen.Section phase.Done
-      → Opens phase.Done l w
-      → lasting l.after ≡ after_line phase.Done l.before
-      → Goes p (Polling m i deadline) l (Within m i (In phase.Done) w)
-  -- a callback of the section begins: one call more of its name
+      → Goes p told (Running m i at) l (Running m i (Polling (deadline_of l.before timeout)))
+  -- the run ends, and says whether the loop is alive
+  ends : {l : Line} {m : Mode} {i : ℕ} {at : Standing}
+      → MayLeave l.before at
+      → part_after m (goes_on l.before) (part_of at) ≡ End
+      → l.seen ≡ seen.End (is_alive l.before)
+      → lasting l.after ≡ after_end l.before
+      → Goes p told (Running m i at) l (Between (i + 1))
+  -- a callback of the section begins
   call : {l : Line} {m : Mode} {i : ℕ} {part : Section} {w : Walk} (v : Var) (id : Id) (behind : List Id)
       → CallsNext w id behind
       → IsOf l.before id v
       → l.seen ≡ seen.Call v id
       → lasting l.after ≡ lasting l.before
-      → Goes p (Within m i part w) l (Within m i part (record w { ahead = behind; body = body_of p v ((named l.before v).calls + 1) }))
+      → Goes p told (Running m i (Within part w)) l (Running m i (Within part (record w { ahead = behind; body = body_of p v (next_call told v) })))
   -- the next op of its body
   body_op : {l : Line} {m : Mode} {i : ℕ} {part : Section} {w : Walk} (place : Site) (rest : List Site) (o : Op) (a : Answer)
       → w.body ≡ place ∷ rest
       → op_at p place ≡ Some o
       → l.seen ≡ seen.Op place a
       → lasting l.after ≡ after_op o l.before
-      → Goes p (Within m i part w) l (Within m i part (record w { off = taken_off (word_of part) l.before o a ++ w.off; body = rest }))
-  -- after the timers the run ends
-  ends : {l : Line} {m : Mode} {i : ℕ} {part : Section} {w : Walk}
-      → word_of part ≡ phase.Timers
-      → IsOver w
-      → MayEnd m l.before
-      → l.seen ≡ seen.End (is_alive l.before)
-      → lasting l.after ≡ after_end l.before
-      → Goes p (Within m i part w) l (Between (i + 1))
+      → Goes p told (Running m i (Within part w)) l
+          (Running m i (Within part (record w { off = taken_off (word_of part) l.before o a ++ w.off; body = rest })))
   -- a step from outside stands anywhere
   outside : {l : Line} {at : Position} (ms : ℕ)
       → l.seen ≡ seen.Tick ms
       → lasting l.after ≡ after_tick ms l.before
-      → Goes p at l at
+      → Goes p told at l at
 
 -- the lines go on from where a trace stands
-pub data GoesOn (p : Program) : Position → Lasting → List Line → Type 0 where
+pub data GoesOn (p : Program) : Position → Told → Lasting → List Line → Type 0 where
   -- it may be cut behind any line
-  cut : {at : Position} {was : Lasting} → GoesOn p at was []
-  line : {at to : Position} {was : Lasting} {l : Line} {ls : List Line} → lasting l.before ≡ was → Goes p at l to → GoesOn p to (lasting l.after) ls → GoesOn p at was (l ∷ ls)
+  cut : {at : Position} {told : Told} {was : Lasting} → GoesOn p at told was []
+  line : {at to : Position} {told : Told} {was : Lasting} {l : Line} {ls : List Line}
+      → lasting l.before ≡ was
+      → Goes p told at l to
+      → GoesOn p to (told_with told l.seen) (lasting l.after) ls
+      → GoesOn p at told was (l ∷ ls)
 
 -- the lines of a trace are in the documented order
 abbrev pub Documented : Program → List Line → Type 0
-Documented p ls = GoesOn p (Between 0) at_first ls
+Documented p ls = GoesOn p (Between 0) nothing_told at_first ls

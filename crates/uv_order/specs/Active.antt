@@ -1,12 +1,42 @@
--- Which timers are active, in their order, and which of them are due (uv_timer_t).
-use Rattle.std.specs.Prelude.{◌≡◌, ◌⊎◌, true, List, [], ◌∷◌, Some, filter, map, nat_le}
+-- Which handles are active, as the handles say: the timers in their order, those of them that are due, and the watchers of a kind.
+use Rattle.std.specs.Prelude.{◌≡◌, ◌⊎◌, ◌||◌, Bool, true, false, List, [], ◌∷◌, Some, filter, map, nat_le}
 use Rattle.std.specs.declared.cmp.Ordering.TheVariants.{Less}
 use Rattle.uv_ids.specs.Due.{due_cmp}
 use Rattle.uv_ids.specs.declared.id.Id.{Id}
 use Rattle.uv_ids.specs.declared.due.Due.{Due}
+use Rattle.uv_ids.specs.declared.phase.Kind.{Kind}
 use Rattle.uv_ids.specs.declared.phase.Kind.TheVariants as kind
 use Rattle.uv_model.specs.declared.handle.Handle.{Handle}
+use Rattle.uv_model.specs.Ids.{same_id}
 use Rattle.uv_model.specs.State.{State, held}
+
+-- ---- ids
+
+abbrev pub has_id : List Id → Id → Bool
+has_id [] id = false
+has_id (x ∷ xs) id = same_id x id || has_id xs id
+
+-- no id stands twice
+abbrev pub AreDistinct : List Id → Type 0
+AreDistinct [] = Unit {0}
+AreDistinct (id ∷ ids) = (has_id ids id ≡ false) × AreDistinct ids
+
+-- ---- watchers
+
+-- the id is that of an active handle of this kind
+pub record IsActive (s : State) (k : Kind) (id : Id) : Type 0 where
+  pub handle : Handle
+  pub holds : held s id ≡ Some handle
+  pub kind : handle.kind ≡ k
+  pub active : handle.active ≡ true
+
+-- these are the active handles of this kind, all of them and no others, and none twice
+pub record AreActive (s : State) (k : Kind) (ids : List Id) : Type 0 where
+  pub each : (id : Id) → has_id ids id ≡ true → IsActive s k id
+  pub all : (id : Id) → IsActive s k id → has_id ids id ≡ true
+  pub distinct : AreDistinct ids
+
+-- ---- timers
 
 -- the id is that of an active timer, which is due then
 pub record IsTimer (s : State) (key : Due) (id : Id) : Type 0 where
@@ -37,8 +67,9 @@ pub record AreTimers (s : State) (timers : List (Due × Id)) : Type 0 where
   pub all : (due : Due) (id : Id) → IsTimer s due id → Has timers due id
   pub sorted : InOrder timers
 
--- these are all active timers that are due, in their order
+-- these are all active timers that are due, in their order; no id stands twice
 pub record AreDue (s : State) (ids : List Id) : Type 0 where
   pub timers : List (Due × Id)
   pub are : AreTimers s timers
   pub due : ids ≡ map (λ (t : Due × Id). t.1) (filter (λ (t : Due × Id). nat_le t.0.at s.time) timers)
+  pub distinct : AreDistinct ids
