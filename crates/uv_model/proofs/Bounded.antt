@@ -100,7 +100,8 @@ never_timer kind.Prepare w e t = cc t
 never_timer kind.Check w e t = cc t
 
 count_of : (n : ℕ) (s : State) (v : Var) → Counts n s.names → (named s v).calls ≤ n
-count_of n s v h = let l : (named s v).calls < suc n = at_name (suc n) s.names v.0 (slice_get s.names v.0) refl (λ k d w. omega (arith, h k d w)) (omega arith) in omega arith
+count_of n s v h = let l : (named s v).calls < suc n = at_name (suc n) s.names v.0 (slice_get s.names v.0) refl (λ k d w. omega (arith, h k d w))
+    (omega arith) in omega arith
 
 -- ---- a live handle
 
@@ -108,12 +109,15 @@ abbrev LiveBefore : ℕ → Option (Id × Handle) → Type 0
 LiveBefore n None = Unit {0}
 LiveBefore n (Some t) = StartsBefore n t.1
 
-slot_before : (n : ℕ) (slots : List Slot) (i : ℕ) (slot : Slot) → slice_get slots i ≡ Some slot → Drawn n slots → HoldsBefore n (handle_in slot.content)
+slot_before : (n : ℕ) (slots : List Slot) (i : ℕ) (slot : Slot) → slice_get slots i ≡ Some slot → Drawn n slots →
+    HoldsBefore n (handle_in slot.content)
 slot_before n slots i slot e h = grind (arith, elements, h)
 
-found_before : (n : ℕ) (slots : List Slot) (id : Id) (x : Option Slot) → slice_get slots id.slot ≡ x → Drawn n slots → HoldsBefore n (option_and_then (held_in id) x)
+found_before : (n : ℕ) (slots : List Slot) (id : Id) (x : Option Slot) → slice_get slots id.slot ≡ x → Drawn n slots →
+    HoldsBefore n (option_and_then (held_in id) x)
 found_before n slots id None e h = tt
-found_before n slots id (Some slot) e h = if_keeps (HoldsBefore n) (slot.generation == id.generation) (handle_in slot.content) None (slot_before n slots id.slot slot e h) tt
+found_before n slots id (Some slot) e h = if_keeps (HoldsBefore n) (slot.generation == id.generation) (handle_in slot.content) None
+    (slot_before n slots id.slot slot e h) tt
 
 with_id_before : (n : ℕ) (id : Id) (x : Option Handle) → HoldsBefore n x → LiveBefore n (with_id id x)
 with_id_before n id None h = tt
@@ -129,13 +133,15 @@ live_before s v h = live_id_before s.next_start s (named s v).id h
 -- ---- the changes of a state
 
 more : (n : ℕ) (s : State) → IsBounded n s → IsBounded (suc n) s
-more n s h = record { counts = counts_more n s.names h.counts; starts = omega arith; drawn = h.drawn; time = h.time; clock = h.clock; line = omega arith }
+more n s h = record { counts = counts_more n s.names h.counts; starts = omega arith; drawn = h.drawn; time = h.time; clock = h.clock;
+    line = omega arith }
 
 placed : (n : ℕ) (s : State) (place : Place) → IsBounded n s → line_of place ≤ n → IsBounded n (record s { place = place })
 placed n s place h l = record { counts = h.counts; starts = h.starts; drawn = h.drawn; time = h.time; clock = h.clock; line = l }
 
 renamed : (n : ℕ) (s : State) (v : Var) (x : Named) → IsBounded n s → x.calls ≤ n → IsBounded n (with_named s v x)
-renamed n s v x h l = record { counts = counts_set n s.names v.0 x h.counts l; starts = h.starts; drawn = h.drawn; time = h.time; clock = h.clock; line = h.line }
+renamed n s v x h l = record { counts = counts_set n s.names v.0 x h.counts l; starts = h.starts; drawn = h.drawn; time = h.time; clock = h.clock;
+    line = h.line }
 
 listed : (n : ℕ) (s : State) (ts : List (Due × Id)) (ready : List Id) → IsBounded n s → IsBounded n (record s { timers = ts; ready = ready })
 listed n s ts ready h = record { counts = h.counts; starts = h.starts; drawn = h.drawn; time = h.time; clock = h.clock; line = h.line }
@@ -144,7 +150,8 @@ off_bounded : (n : ℕ) (s : State) (id : Id) (x : Handle) → IsBounded n s →
 off_bounded n s id x h = record { counts = h.counts; starts = h.starts; drawn = h.drawn; time = h.time; clock = h.clock; line = h.line }
 
 kept_in : (n : ℕ) (s : State) (id : Id) (x : Handle) → IsBounded n s → StartsBefore s.next_start x → IsBounded n (with_handle s id x)
-kept_in n s id x h b = record { counts = h.counts; starts = h.starts; drawn = drawn_set s.next_start s.slots id.slot _ h.drawn b; time = h.time; clock = h.clock; line = h.line }
+kept_in n s id x h b = record { counts = h.counts; starts = h.starts; drawn = drawn_set s.next_start s.slots id.slot _ h.drawn b; time = h.time;
+    clock = h.clock; line = h.line }
 
 at_clock : (n : ℕ) (s : State) → IsBounded n s → IsBounded n (refreshed s)
 at_clock n s h = record { counts = h.counts; starts = h.starts; drawn = h.drawn; time = h.clock; clock = h.clock; line = h.line }
@@ -154,8 +161,10 @@ flagged n s stop_flag idled h = record { counts = h.counts; starts = h.starts; d
 
 watched_bounded : (n : ℕ) (s : State) (kind : WatcherKind) (w : Watched) → IsBounded n s → IsBounded n (with_watched s kind w)
 watched_bounded n s watcher.Idle w h = record { counts = h.counts; starts = h.starts; drawn = h.drawn; time = h.time; clock = h.clock; line = h.line }
-watched_bounded n s watcher.Prepare w h = record { counts = h.counts; starts = h.starts; drawn = h.drawn; time = h.time; clock = h.clock; line = h.line }
-watched_bounded n s watcher.Check w h = record { counts = h.counts; starts = h.starts; drawn = h.drawn; time = h.time; clock = h.clock; line = h.line }
+watched_bounded n s watcher.Prepare w h = record { counts = h.counts; starts = h.starts; drawn = h.drawn; time = h.time; clock = h.clock;
+    line = h.line }
+watched_bounded n s watcher.Check w h = record { counts = h.counts; starts = h.starts; drawn = h.drawn; time = h.time; clock = h.clock;
+    line = h.line }
 
 watched_names : (n : ℕ) (s : State) (kind : WatcherKind) (w : Watched) → Counts n s.names → Counts n (with_watched s kind w).names
 watched_names n s watcher.Idle w h = h
@@ -169,7 +178,8 @@ started_bounded : (n : ℕ) (s : State) (id : Id) (x : Handle) (timeout repeat :
 started_bounded n s id x timeout repeat h = record {
   counts = counts_more n s.names h.counts;
   starts = omega arith;
-  drawn = drawn_set (s.next_start + 1) s.slots id.slot _ (drawn_more s.next_start (s.next_start + 1) s.slots (omega arith) h.drawn) (λ t a. omega arith);
+  drawn = drawn_set (s.next_start + 1) s.slots id.slot _ (drawn_more s.next_start (s.next_start + 1) s.slots (omega arith) h.drawn)
+      (λ t a. omega arith);
   time = h.time;
   clock = h.clock;
   line = omega arith;
@@ -181,7 +191,9 @@ init_in_bounded : (n : ℕ) (s : State) (v : Var) (kind : Kind) (id : Option Id)
 init_in_bounded n s v kind None h = more n s h
 init_in_bounded n s v kind (Some id) h =
     let m = more n s h in
-    let wide : IsBounded (suc n) (with_new s (new_handle v kind)) = record { counts = m.counts; starts = m.starts; drawn = drawn_push s.next_start s.slots _ h.drawn (never s.next_start (new_handle v kind) refl); time = h.time; clock = h.clock; line = m.line } in
+    let wide : IsBounded (suc n) (with_new s
+        (new_handle v kind)) = record { counts = m.counts; starts = m.starts; drawn = drawn_push s.next_start s.slots _ h.drawn
+        (never s.next_start (new_handle v kind) refl); time = h.time; clock = h.clock; line = m.line } in
     renamed (suc n) (with_new s (new_handle v kind)) v (record (named s v) { id = Some id }) wide (omega (arith, count_of n s v h.counts))
 
 init_bounded : (n : ℕ) (s : State) (v : Var) (kind : Kind) (t : Option (Id × Handle)) → IsBounded n s → IsBounded (suc n) (ops.init s v kind t).state
@@ -201,30 +213,37 @@ on_timer_bounded n s v f h k = on_handle_bounded n s v _ h
     (λ id x b. if_keeps (λ (d : ops.Done). IsBounded (suc n) d.state) (is_timer x.kind) (f id x) (refuses s Ekind) (k id x b) (more n s h))
 
 on_watcher_bounded : (n : ℕ) (s : State) (v : Var) (f : WatcherKind → Id → Handle → ops.Done) → IsBounded n s →
-    ((kind : WatcherKind) (id : Id) (x : Handle) → watcher_kind x.kind ≡ Some kind → IsBounded (suc n) (f kind id x).state) → IsBounded (suc n) (ops.on_watcher s (live s v) f).state
+    ((kind : WatcherKind) (id : Id) (x : Handle) → watcher_kind x.kind ≡ Some kind → IsBounded (suc n) (f kind id x).state) →
+        IsBounded (suc n) (ops.on_watcher s (live s v) f).state
 on_watcher_bounded n s v f h k = on_handle_bounded n s v _ h
     (λ id x b. found_both (watcher_kind x.kind) _ _ (λ (d : ops.Done). IsBounded (suc n) d.state) (λ kind e. k kind id x e) (λ e. more n s h))
 
-start_bounded : (n : ℕ) (s : State) (timeout repeat : ℕ) (id : Id) (x : Handle) → IsBounded n s → IsBounded (suc n) (ops.start s timeout repeat id x).state
+start_bounded : (n : ℕ) (s : State) (timeout repeat : ℕ) (id : Id) (x : Handle) → IsBounded n s →
+    IsBounded (suc n) (ops.start s timeout repeat id x).state
 start_bounded n s timeout repeat id x h = started_bounded n (stopped s id x) id x timeout repeat (stopped_bounded n s id x h)
 
 restarted_bounded : (n : ℕ) (s : State) (id : Id) (x : Handle) → IsBounded n s → IsBounded (suc n) (restarted s id x)
-restarted_bounded n s id x h = if_keeps (IsBounded (suc n)) (x.repeat == 0) s (started s id x x.repeat x.repeat) (more n s h) (started_bounded n s id x x.repeat x.repeat h)
+restarted_bounded n s id x h = if_keeps (IsBounded (suc n)) (x.repeat == 0) s (started s id x x.repeat x.repeat) (more n s h)
+    (started_bounded n s id x x.repeat x.repeat h)
 
 again_bounded : (n : ℕ) (s : State) (id : Id) (x : Handle) → IsBounded n s → IsBounded (suc n) (ops.again s id x).state
-again_bounded n s id x h = if_keeps (λ (d : ops.Done). IsBounded (suc n) d.state) x.begun _ _ (restarted_bounded n (stopped s id x) id x (stopped_bounded n s id x h)) (more n s h)
+again_bounded n s id x h = if_keeps (λ (d : ops.Done). IsBounded (suc n) d.state) x.begun _ _
+    (restarted_bounded n (stopped s id x) id x (stopped_bounded n s id x h)) (more n s h)
 
-set_repeat_bounded : (n : ℕ) (s : State) (repeat : ℕ) (id : Id) (x : Handle) → IsBounded n s → StartsBefore s.next_start x → IsBounded (suc n) (ops.set_repeat s repeat id x).state
+set_repeat_bounded : (n : ℕ) (s : State) (repeat : ℕ) (id : Id) (x : Handle) → IsBounded n s → StartsBefore s.next_start x →
+    IsBounded (suc n) (ops.set_repeat s repeat id x).state
 set_repeat_bounded n s repeat id x h b = let y : Handle = record x { repeat = repeat } in more n (with_handle s id y) (kept_in n s id y h b)
 
-start_watcher_bounded : (n : ℕ) (s : State) (kind : WatcherKind) (id : Id) (x : Handle) → watcher_kind x.kind ≡ Some kind → IsBounded n s → IsBounded (suc n) (ops.start_watcher s kind id x).state
+start_watcher_bounded : (n : ℕ) (s : State) (kind : WatcherKind) (id : Id) (x : Handle) → watcher_kind x.kind ≡ Some kind → IsBounded n s →
+    IsBounded (suc n) (ops.start_watcher s kind id x).state
 start_watcher_bounded n s kind id x e h =
     let t = with_watched s kind (with_watcher (watched s kind) id) in
     let y : Handle = record x { active = true } in
     if_keeps (IsBounded (suc n)) x.active s (with_handle t id y) (more n s h)
     (more n (with_handle t id y) (kept_in n t id y (watched_bounded n s kind _ h) (λ u a. absurd (never_timer x.kind kind e u))))
 
-set_referenced_bounded : (n : ℕ) (s : State) (flag : Bool) (id : Id) (x : Handle) → IsBounded n s → StartsBefore s.next_start x → IsBounded (suc n) (ops.set_referenced s flag id x).state
+set_referenced_bounded : (n : ℕ) (s : State) (flag : Bool) (id : Id) (x : Handle) → IsBounded n s → StartsBefore s.next_start x →
+    IsBounded (suc n) (ops.set_referenced s flag id x).state
 set_referenced_bounded n s flag id x h b = let y : Handle = record x { referenced = flag } in more n (with_handle s id y) (kept_in n s id y h b)
 
 op_bounded : (n : ℕ) (s : State) (x : Op) → IsBounded n s → IsBounded (suc n) (do_op s x).state
@@ -251,7 +270,8 @@ run_at : (n : ℕ) (s : State) (run : Run) → IsBounded n s → run.line ≤ n 
 run_at n s run h l = placed (suc n) s (Running run) (more n s h) (omega arith)
 
 ends_bounded : (n : ℕ) (s : State) (run : Run) → IsBounded n s → run.line ≤ n → StaysBounded (suc n) (ends s run)
-ends_bounded n s run h l = let t = record s { stop_flag = false } in placed (suc n) t (Main (run.line + 1)) (more n t (flagged n s false s.idled h)) (omega arith)
+ends_bounded n s run h l = let t = record s { stop_flag = false } in placed (suc n) t (Main (run.line + 1)) (more n t (flagged n s false s.idled h))
+    (omega arith)
 
 iteration_bounded : (n : ℕ) (s : State) (run : Run) → IsBounded n s → run.line ≤ n → StaysBounded (suc n) (new_iteration s run)
 iteration_bounded n s run h l =
@@ -260,23 +280,28 @@ iteration_bounded n s run h l =
 
 enter_bounded : (n : ℕ) (s : State) (run : Run) → IsBounded n s → run.line ≤ n → StaysBounded (suc n) (enter s run)
 enter_bounded n s run h l = if_keeps (StaysBounded (suc n)) (goes s) _ _
-    (if_keeps (StaysBounded (suc n)) (is_default run.mode) _ _ (run_at n s (record run { stage = Timers timers_of.Entry Collecting; body = None }) h l) (iteration_bounded n s run h l))
+    (if_keeps (StaysBounded (suc n)) (is_default run.mode) _ _
+        (run_at n s (record run { stage = Timers timers_of.Entry Collecting; body = None }) h l) (iteration_bounded n s run h l))
     (ends_bounded n s run h l)
 
 leave_bounded : (n : ℕ) (s : State) (run : Run) (part : TimersOf) → IsBounded n s → run.line ≤ n → StaysBounded (suc n) (leave_timers s run part)
 leave_bounded n s run timers_of.Entry h l = if_keeps (StaysBounded (suc n)) (goes s) _ _ (iteration_bounded n s run h l) (ends_bounded n s run h l)
-leave_bounded n s run timers_of.Iteration h l = if_keeps (StaysBounded (suc n)) (is_default run.mode && goes s) _ _ (iteration_bounded n s run h l) (ends_bounded n s run h l)
+leave_bounded n s run timers_of.Iteration h l = if_keeps (StaysBounded (suc n)) (is_default run.mode && goes s) _ _ (iteration_bounded n s run h l)
+    (ends_bounded n s run h l)
 
-call_bounded : (p : Program) (n : ℕ) (s : State) (run : Run) (id : Id) (v : Var) → IsBounded (suc n) s → Counts n s.names → run.line ≤ n → StaysBounded (suc n) (call p s run id v)
+call_bounded : (p : Program) (n : ℕ) (s : State) (run : Run) (id : Id) (v : Var) → IsBounded (suc n) s → Counts n s.names → run.line ≤ n →
+    StaysBounded (suc n) (call p s run id v)
 call_bounded p n s run id v h counts l =
     let x : Named = record (named s v) { calls = (named s v).calls + 1 } in
     let t = with_named s v x in
-    placed (suc n) t (Running (record run { body = body_from p v x.calls 0 })) (renamed (suc n) s v x h (omega (arith, count_of n s v counts))) (omega arith)
+    placed (suc n) t (Running (record run { body = body_from p v x.calls 0 })) (renamed (suc n) s v x h (omega (arith, count_of n s v counts)))
+        (omega arith)
 
 restarted_names : (n : ℕ) (s : State) (id : Id) (x : Handle) → Counts n s.names → Counts n (restarted s id x).names
 restarted_names n s id x h = if_keeps (λ (t : State). Counts n t.names) (x.repeat == 0) s (started s id x x.repeat x.repeat) h h
 
-fire_bounded : (p : Program) (n : ℕ) (s : State) (run : Run) (part : TimersOf) → IsBounded n s → run.line ≤ n → StaysBounded (suc n) (fire p s run part)
+fire_bounded : (p : Program) (n : ℕ) (s : State) (run : Run) (part : TimersOf) → IsBounded n s → run.line ≤ n →
+    StaysBounded (suc n) (fire p s run part)
 fire_bounded p n s run part h l = found_both (front s s.ready) _ _ (StaysBounded (suc n))
     (λ t e. let u = record s { ready = drop 1 s.ready } in
       call_bounded p n (restarted u t.0 t.1) (record run { stage = Timers part Firing }) t.0 t.1.name
@@ -289,42 +314,52 @@ collected_bounded n s id x h =
     let ts = drop 1 s.timers in
     kept_in n (record s { timers = ts; ready = ready }) id (inactive x) (listed n s ts ready h) (never s.next_start (inactive x) refl)
 
-timers_bounded : (p : Program) (n : ℕ) (s : State) (run : Run) (part : TimersOf) (timing : Timing) → IsBounded n s → run.line ≤ n → StaysBounded (suc n) (timers p s run part timing)
+timers_bounded : (p : Program) (n : ℕ) (s : State) (run : Run) (part : TimersOf) (timing : Timing) → IsBounded n s → run.line ≤ n →
+    StaysBounded (suc n) (timers p s run part timing)
 timers_bounded p n s run part Collecting h l = found_both (first_due s s.timers) _ _ (StaysBounded (suc n))
     (λ t e. run_at n (collected s t.0 t.1) (record run { stage = Timers part Collecting; body = None }) (collected_bounded n s t.0 t.1 h) l)
     (λ e. fire_bounded p n s run part h l)
 timers_bounded p n s run part Firing h l = fire_bounded p n s run part h l
 
-begin_walk_bounded : (n : ℕ) (s : State) (run : Run) (kind : WatcherKind) → IsBounded n s → run.line ≤ n → StaysBounded (suc n) (begin_walk s run kind)
-begin_walk_bounded n s run kind h l = let w = all_yet (watched s kind) in run_at n (with_watched s kind w) (record run { stage = stage_of kind; body = None }) (watched_bounded n s kind w h) l
+begin_walk_bounded : (n : ℕ) (s : State) (run : Run) (kind : WatcherKind) → IsBounded n s → run.line ≤ n →
+    StaysBounded (suc n) (begin_walk s run kind)
+begin_walk_bounded n s run kind h l = let w = all_yet (watched s kind) in run_at n (with_watched s kind w)
+    (record run { stage = stage_of kind; body = None }) (watched_bounded n s kind w h) l
 
-after_walk_bounded : (n : ℕ) (s : State) (run : Run) (kind : WatcherKind) → IsBounded n s → run.line ≤ n → StaysBounded (suc n) (after_walk s run kind)
+after_walk_bounded : (n : ℕ) (s : State) (run : Run) (kind : WatcherKind) → IsBounded n s → run.line ≤ n →
+    StaysBounded (suc n) (after_walk s run kind)
 after_walk_bounded n s run watcher.Idle h l = begin_walk_bounded n s run watcher.Prepare h l
 after_walk_bounded n s run watcher.Prepare h l = run_at n s (record run { stage = _; body = None }) h l
 after_walk_bounded n s run watcher.Check h l = run_at n s (record run { stage = Closing; body = None }) h l
 
-walk_bounded : (p : Program) (n : ℕ) (s : State) (run : Run) (kind : WatcherKind) → IsBounded n s → run.line ≤ n → StaysBounded (suc n) (walk p s run kind)
+walk_bounded : (p : Program) (n : ℕ) (s : State) (run : Run) (kind : WatcherKind) → IsBounded n s → run.line ≤ n →
+    StaysBounded (suc n) (walk p s run kind)
 walk_bounded p n s run kind h l = found_both (front s (watched s kind).yet) _ _ (StaysBounded (suc n))
     (λ t e. let w = moved_on (watched s kind) t.0 in
       let u = with_watched s kind w in
       call_bounded p n u run t.0 t.1.name (more n u (watched_bounded n s kind w h)) (watched_names n s kind w h.counts) l)
     (λ e. after_walk_bounded n s run kind h l)
 
-stage_bounded : (p : Program) (n : ℕ) (s : State) (run : Run) (stage : Stage) → IsBounded n s → run.line ≤ n → StaysBounded (suc n) (stage_step p s run stage)
+stage_bounded : (p : Program) (n : ℕ) (s : State) (run : Run) (stage : Stage) → IsBounded n s → run.line ≤ n →
+    StaysBounded (suc n) (stage_step p s run stage)
 stage_bounded p n s run Entry h l = enter_bounded n s run h l
 stage_bounded p n s run Pending h l = begin_walk_bounded n s run watcher.Idle h l
 stage_bounded p n s run Idle h l = walk_bounded p n s run watcher.Idle h l
 stage_bounded p n s run Prepare h l = walk_bounded p n s run watcher.Prepare h l
-stage_bounded p n s run (Poll deadline) h l = if_keeps (StaysBounded (suc n)) (has_passed s.clock deadline) _ _ (run_at n (refreshed s) (record run { stage = Done; body = None }) (at_clock n s h) l) tt
+stage_bounded p n s run (Poll deadline) h l = if_keeps (StaysBounded (suc n)) (has_passed s.clock deadline) _ _
+    (run_at n (refreshed s) (record run { stage = Done; body = None }) (at_clock n s h) l) tt
 stage_bounded p n s run Done h l = run_at n s (record run { stage = Async; body = None }) h l
 stage_bounded p n s run Async h l = begin_walk_bounded n s run watcher.Check h l
 stage_bounded p n s run Check h l = walk_bounded p n s run watcher.Check h l
-stage_bounded p n s run Closing h l = run_at n (refreshed s) (record run { stage = Timers timers_of.Iteration Collecting; body = None }) (at_clock n s h) l
+stage_bounded p n s run Closing h l = run_at n (refreshed s) (record run { stage = Timers timers_of.Iteration Collecting; body = None })
+    (at_clock n s h) l
 stage_bounded p n s run (Timers part timing) h l = timers_bounded p n s run part timing h l
 
-body_bounded : (p : Program) (n : ℕ) (s : State) (run : Run) (body : Body) (line : Option CallbackLine) → IsBounded n s → run.line ≤ n → StaysBounded (suc n) (body_step p s run body line)
+body_bounded : (p : Program) (n : ℕ) (s : State) (run : Run) (body : Body) (line : Option CallbackLine) → IsBounded n s → run.line ≤ n →
+    StaysBounded (suc n) (body_step p s run body line)
 body_bounded p n s run body None h l = run_at n s (record run { body = None }) h l
-body_bounded p n s run body (Some line) h l = placed (suc n) (do_op s line.op).state (Running (record run { body = body_from p body.name body.call (body.next + 1) })) (op_bounded n s line.op h) (omega arith)
+body_bounded p n s run body (Some line) h l = placed (suc n) (do_op s line.op).state
+    (Running (record run { body = body_from p body.name body.call (body.next + 1) })) (op_bounded n s line.op h) (omega arith)
 
 main_bounded : (n : ℕ) (s : State) (line : ℕ) (x : Option MainOp) → IsBounded n s → line ≤ n → StaysBounded (suc n) (main_step s line x)
 main_bounded n s line None h l = tt
@@ -333,7 +368,8 @@ main_bounded n s line (Some (main.Run mode)) h l =
     (if_keeps (IsBounded n) (is_default mode) (refreshed s) s (at_clock n s h) h) l
 main_bounded n s line (Some (main.Op op)) h l = placed (suc n) (do_op s op).state (Main (line + 1)) (op_bounded n s op h) (omega arith)
 
-run_bounded : (p : Program) (n : ℕ) (s : State) (run : Run) (body : Option Body) → IsBounded n s → run.line ≤ n → StaysBounded (suc n) (run_step p s run body)
+run_bounded : (p : Program) (n : ℕ) (s : State) (run : Run) (body : Option Body) → IsBounded n s → run.line ≤ n →
+    StaysBounded (suc n) (run_step p s run body)
 run_bounded p n s run None h l = stage_bounded p n s run run.stage h l
 run_bounded p n s run (Some body) h l = body_bounded p n s run body _ h l
 
@@ -343,7 +379,8 @@ place_bounded p n s (Running run) h l = run_bounded p n s run run.body h l
 
 tick_bounded : (n : ℕ) (s : State) (ms : ℕ) → IsBounded n s → StaysBounded (suc n) (tick s ms)
 tick_bounded n s ms h = cond_both (nat_le (s.clock + ms) (2 ^ 62)) _ _ (StaysBounded (suc n))
-    (λ e. let m = more n s h in let small : s.clock + ms ≤ 2 ^ 62 = grind (arith, nat_tests, e) in record { counts = m.counts; starts = m.starts; drawn = m.drawn; time = m.time; clock = small; line = m.line })
+    (λ e. let m = more n s h in let small : s.clock + ms ≤ 2 ^ 62 = grind
+        (arith, nat_tests, e) in record { counts = m.counts; starts = m.starts; drawn = m.drawn; time = m.time; clock = small; line = m.line })
     (λ e. tt)
 
 pub next_bounded : (p : Program) (n : ℕ) (s : State) (e : Event) → IsBounded n s → StaysBounded (suc n) (next p s e)
@@ -371,10 +408,13 @@ fresh_names n = grind (arith, elements)
 
 after_bounded : (p : Program) (es : List Event) → IsBounded (length es) (after p es)
 unfolding after
-after_bounded p es = rw (← zero-add (length es)) (goes_on_bounded p 0 (fresh p) es (record { counts = fresh_names (length p.on); starts = omega arith; drawn = λ k d l. absurd (omega arith); time = omega arith; clock = omega arith; line = omega arith }))
+after_bounded p es = rw (← zero-add (length es))
+    (goes_on_bounded p 0 (fresh p) es (record { counts = fresh_names (length p.on); starts = omega arith; drawn = λ k d l. absurd
+    (omega arith); time = omega arith; clock = omega arith; line = omega arith }))
 
 -- after few steps the numbers fit, and the timers' keys are apart
 pub after_able : (p : Program) (es : List Event) → length es ≤ 2 ^ 24 → CanStep (after p es)
 after_able p es l =
     let h = after_bounded p es in
-    record { small = record { counts = λ k d i. omega (arith, h.counts k d i); starts = omega arith; time = omega arith; line = omega arith }; drawn = h.drawn }
+    record { small = record { counts = λ k d i. omega
+        (arith, h.counts k d i); starts = omega arith; time = omega arith; line = omega arith }; drawn = h.drawn }

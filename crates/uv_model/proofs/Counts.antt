@@ -5,7 +5,8 @@ use Rattle.uv_ids.specs.declared.id.Var.{Var}
 use Rattle.uv_model.specs.declared.handle.Named.{Named}
 use Rattle.uv_model.specs.State.{State, named, unbound}
 
-pub at_name : (m : ℕ) (names : List Named) (i : ℕ) (x : Option Named) → slice_get names i ≡ x → All (λ (n : Named). n.calls < m) names → 0 < m → (unwrap_or x unbound).calls < m
+pub at_name : (m : ℕ) (names : List Named) (i : ℕ) (x : Option Named) → slice_get names i ≡ x → All (λ (n : Named). n.calls < m) names → 0 < m →
+    (unwrap_or x unbound).calls < m
 at_name m names i None e h l = l
 at_name m names i (Some n) e h l = grind (arith, elements, h)
 

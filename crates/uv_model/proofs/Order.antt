@@ -18,23 +18,30 @@ pub due_cmp_total : IsTotalOrder due_cmp
 due_cmp_total = then_total (on_total (λ (d : Due). d.at) nat_cmp_total) (on_total (λ (d : Due). d.start) nat_cmp_total)
 
 -- a timer that is due before all others stands in front
-in_front : (ts : List (Due × Id)) (due : Due) (id : Id) → AllByRecursion (λ d. due_cmp due d ≡ Less) (keys_of ts) → with_timer ts due id ≡ (due, id) ∷ ts
+in_front : (ts : List (Due × Id)) (due : Due) (id : Id) → AllByRecursion (λ d. due_cmp due d ≡ Less) (keys_of ts) →
+    with_timer ts due id ≡ (due, id) ∷ ts
 in_front [] due id h = refl
 in_front (t ∷ ts) due id h = rw h.0 refl
 
-before_all : (a b : Due) (ds : List Due) → due_cmp a b ≡ Less → AllByRecursion (λ d. due_cmp b d ≡ Less) ds → AllByRecursion (λ d. due_cmp a d ≡ Less) ds
+before_all : (a b : Due) (ds : List Due) → due_cmp a b ≡ Less → AllByRecursion (λ d. due_cmp b d ≡ Less) ds →
+    AllByRecursion (λ d. due_cmp a d ≡ Less) ds
 before_all a b [] l h = tt
 before_all a b (d ∷ ds) l h = (due_cmp_total.trans a b d l h.0, before_all a b ds l h.1)
 
 same_other : (old new d : Due) → due_cmp new d ≡ Equal → due_cmp old d ≡ due_cmp old new
-same_other old new d e = due_cmp_total.antisymm old d ∙ ap ordering_reverse (sym (due_cmp_total.congr new d old e)) ∙ sym (due_cmp_total.antisymm old new)
+same_other old new d e = due_cmp_total.antisymm old d ∙ ap ordering_reverse (sym (due_cmp_total.congr new d old e))
+    ∙ sym (due_cmp_total.antisymm old new)
 
 -- one timer put in and another taken out, in either order
-pub without-with_timer : (ts : List (Due × Id)) (old new : Due) (id : Id) → IsStrictlySortedBy due_cmp (keys_of ts) → is_eq (due_cmp old new) ≡ false → without_timer (with_timer ts new id) old ≡ with_timer (without_timer ts old) new id
+pub without-with_timer : (ts : List (Due × Id)) (old new : Due) (id : Id) → IsStrictlySortedBy due_cmp (keys_of ts) →
+    is_eq (due_cmp old new) ≡ false → without_timer (with_timer ts new id) old ≡ with_timer (without_timer ts old) new id
 unfolding IsStrictlySortedBy
 without-with_timer [] old new id s d = rw d refl
 without-with_timer (t ∷ ts) old new id s d = at (due_cmp new t.0) refl (is_eq (due_cmp old t.0)) refl (without-with_timer ts old new id s.1 d) where
-  at : (o : Ordering) → due_cmp new t.0 ≡ o → (b : Bool) → is_eq (due_cmp old t.0) ≡ b → without_timer (with_timer ts new id) old ≡ with_timer (without_timer ts old) new id → without_timer (match_ordering o ((new, id) ∷ t ∷ ts) ((t.0, id) ∷ ts) (t ∷ with_timer ts new id)) old ≡ with_timer (cond b ts (t ∷ without_timer ts old)) new id
+  at : (o : Ordering) → due_cmp new t.0 ≡ o → (b : Bool) → is_eq (due_cmp old t.0) ≡ b →
+      without_timer (with_timer ts new id) old ≡ with_timer (without_timer ts old) new id →
+      without_timer (match_ordering o ((new, id) ∷ t ∷ ts) ((t.0, id) ∷ ts) (t ∷ with_timer ts new id)) old ≡ with_timer
+      (cond b ts (t ∷ without_timer ts old)) new id
   at Less e true f h = rw (d, f) (sym (in_front ts new id (before_all new t.0 (keys_of ts) e s.0)))
   at Less e false f h = rw (d, f, e) refl
   at Equal e true f h = let clash : true ≡ false = sym f ∙ ap is_eq (same_other old new t.0 e) ∙ d in cc clash

@@ -21,7 +21,8 @@ pub seen_by-nil : (p : Program) → seen_by p [] ≡ []
 unfolding seen_by
 seen_by-nil p = refl
 
-goes_on-push : (p : Program) (s : State) (es : List Event) (e : Event) → goes_on p s (es ++ e ∷ []) ≡ state_of (goes_on p s es) (next p (goes_on p s es) e)
+goes_on-push : (p : Program) (s : State) (es : List Event) (e : Event) →
+    goes_on p s (es ++ e ∷ []) ≡ state_of (goes_on p s es) (next p (goes_on p s es) e)
 goes_on-push p s [] e = refl
 goes_on-push p s (x ∷ es) e = goes_on-push p (state_of s (next p s x)) es e
 
@@ -29,7 +30,8 @@ pub after-push : (p : Program) (es : List Event) (e : Event) → after p (es ++ 
 unfolding after
 after-push p es e = goes_on-push p (fresh p) es e
 
-seen_from-push : (p : Program) (s : State) (es : List Event) (e : Event) → seen_from p s (es ++ e ∷ []) ≡ seen_from p s es ++ seen_of (next p (goes_on p s es) e) ∷ []
+seen_from-push : (p : Program) (s : State) (es : List Event) (e : Event) →
+    seen_from p s (es ++ e ∷ []) ≡ seen_from p s es ++ seen_of (next p (goes_on p s es) e) ∷ []
 seen_from-push p s [] e = refl
 seen_from-push p s (x ∷ es) e = ap (λ (ls : List (Option Seen)). seen_of (next p s x) ∷ ls) (seen_from-push p (state_of s (next p s x)) es e)
 
@@ -55,26 +57,31 @@ unfolding seen_by
 seen_by-take p k es = seen_from-take p (fresh p) k es
 
 -- what a standing step appended, read from a list of what each of them appended
-pub seen_at : (p : Program) (es : List Event) (xs : List (Option Seen)) (k : ℕ) (x : Option Seen) → xs ≡ seen_by p es → k < length es → x ≡ get_or xs k x → slice_get (seen_by p es) k ≡ Some x
+pub seen_at : (p : Program) (es : List Event) (xs : List (Option Seen)) (k : ℕ) (x : Option Seen) → xs ≡ seen_by p es → k < length es →
+    x ≡ get_or xs k x → slice_get (seen_by p es) k ≡ Some x
 seen_at p es xs k x same within is =
     let long : length xs ≡ length es = ap length same ∙ length-seen_by p es in
     rw (← same) (slice_get_read xs (length xs) k x refl (omega arith) is)
 
 -- an accepted event is one more step
-pub after-moves : (p : Program) (es : List Event) (e : Event) (t : State) (seen : Option Seen) → next p (after p es) e ≡ Moves t seen → after p (es ++ e ∷ []) ≡ t
+pub after-moves : (p : Program) (es : List Event) (e : Event) (t : State) (seen : Option Seen) → next p (after p es) e ≡ Moves t seen →
+    after p (es ++ e ∷ []) ≡ t
 after-moves p es e t seen h = after-push p es e ∙ ap (state_of (after p es)) h
 
-pub seen_by-moves : (p : Program) (es : List Event) (e : Event) (t : State) (seen : Option Seen) → next p (after p es) e ≡ Moves t seen → seen_by p (es ++ e ∷ []) ≡ seen_by p es ++ seen ∷ []
+pub seen_by-moves : (p : Program) (es : List Event) (e : Event) (t : State) (seen : Option Seen) → next p (after p es) e ≡ Moves t seen →
+    seen_by p (es ++ e ∷ []) ≡ seen_by p es ++ seen ∷ []
 seen_by-moves p es e t seen h = seen_by-push p es e ∙ ap (λ (x : Next). seen_by p es ++ seen_of x ∷ []) h
 
 pub after-refused : (p : Program) (es : List Event) (e : Event) (why : _) → next p (after p es) e ≡ Refuses why → after p (es ++ e ∷ []) ≡ after p es
 after-refused p es e why h = after-push p es e ∙ ap (state_of (after p es)) h
 
 -- one more event of a list, as a loop takes it
-pub after-take : (p : Program) (es : List Event) (k : ℕ) (d : Event) → k < length es → after p (take (k + 1) es) ≡ state_of (after p (take k es)) (next p (after p (take k es)) (get_or es k d))
+pub after-take : (p : Program) (es : List Event) (k : ℕ) (d : Event) → k < length es →
+    after p (take (k + 1) es) ≡ state_of (after p (take k es)) (next p (after p (take k es)) (get_or es k d))
 after-take p es k d h = rw (take_more es k d h) (after-push p (take k es) (get_or es k d))
 
-accepts_from-push : (p : Program) (s : State) (es : List Event) (e : Event) → AcceptsFrom p s es → IsMove (next p (goes_on p s es) e) → AcceptsFrom p s (es ++ e ∷ [])
+accepts_from-push : (p : Program) (s : State) (es : List Event) (e : Event) → AcceptsFrom p s es → IsMove (next p (goes_on p s es) e) →
+    AcceptsFrom p s (es ++ e ∷ [])
 accepts_from-push p s [] e h k = (k, tt)
 accepts_from-push p s (x ∷ es) e h k = (h.0, accepts_from-push p (state_of s (next p s x)) es e h.1 k)
 
@@ -85,7 +92,8 @@ pub accepts-nil : (p : Program) → Accepts p []
 unfolding Accepts
 accepts-nil p = tt
 
-pub accepts-push : (p : Program) (es : List Event) (e : Event) (t : State) (seen : Option Seen) → Accepts p es → next p (after p es) e ≡ Moves t seen → Accepts p (es ++ e ∷ [])
+pub accepts-push : (p : Program) (es : List Event) (e : Event) (t : State) (seen : Option Seen) → Accepts p es →
+    next p (after p es) e ≡ Moves t seen → Accepts p (es ++ e ∷ [])
 unfolding Accepts after
 accepts-push p es e t seen h k = accepts_from-push p (fresh p) es e h (is_move _ t seen k)
 
@@ -98,25 +106,29 @@ pub accepts-take : (p : Program) (k : ℕ) (es : List Event) → Accepts p es �
 unfolding Accepts
 accepts-take p k es h = accepts_from-take p (fresh p) k es h
 
-accepts_from-at : (p : Program) (s : State) (k : ℕ) (es : List Event) (d : Event) → AcceptsFrom p s es → k < length es → IsMove (next p (goes_on p s (take k es)) (get_or es k d))
+accepts_from-at : (p : Program) (s : State) (k : ℕ) (es : List Event) (d : Event) → AcceptsFrom p s es → k < length es →
+    IsMove (next p (goes_on p s (take k es)) (get_or es k d))
 accepts_from-at p s zero [] d h l = absurd (omega arith)
 accepts_from-at p s (suc k) [] d h l = absurd (omega arith)
 accepts_from-at p s zero (x ∷ es) d h l = h.0
 accepts_from-at p s (suc k) (x ∷ es) d h l = accepts_from-at p (state_of s (next p s x)) k es d h.1 (omega arith)
 
 -- an accepted event is accepted again where it stood
-pub accepts-at : (p : Program) (es : List Event) (k : ℕ) (d : Event) → Accepts p es → k < length es → IsMove (next p (after p (take k es)) (get_or es k d))
+pub accepts-at : (p : Program) (es : List Event) (k : ℕ) (d : Event) → Accepts p es → k < length es →
+    IsMove (next p (after p (take k es)) (get_or es k d))
 unfolding Accepts after
 accepts-at p es k d h l = accepts_from-at p (fresh p) k es d h l
 
 -- so it is not refused
-pub not_refused : (p : Program) (es : List Event) (k : ℕ) (d e : Event) (why : Why) → Accepts p es → k < length es → e ≡ get_or es k d → next p (after p (take k es)) e ≡ Refuses why → ⊥
+pub not_refused : (p : Program) (es : List Event) (k : ℕ) (d e : Event) (why : Why) → Accepts p es → k < length es → e ≡ get_or es k d →
+    next p (after p (take k es)) e ≡ Refuses why → ⊥
 not_refused p es k d e why h l same r = subst IsMove r (rw same (accepts-at p es k d h l))
 
 pub ruleset runs = (after-nil, seen_by-nil, after-moves, seen_by-moves, after-refused, length-seen_by, seen_by-take)
 
 -- a step that is taken can fail for memory alone
-pub only_memory : (limit : ℕ) (p : Program) (es : List Event) (e : Event) (f : Fault) (fs : List Event) → length es < limit → IsMove (next p (after p es) e) → Answers limit p es e (Err f) fs → (f ≡ fault.Memory) × (fs ≡ es)
+pub only_memory : (limit : ℕ) (p : Program) (es : List Event) (e : Event) (f : Fault) (fs : List Event) → length es < limit →
+    IsMove (next p (after p es) e) → Answers limit p es e (Err f) fs → (f ≡ fault.Memory) × (fs ≡ es)
 only_memory limit p es e fault.Memory fs l m h = (refl, h.1)
 only_memory limit p es e (fault.Refused why) fs l m h = absurd (subst IsMove h.2 m)
 only_memory limit p es e fault.StepsFull fs l m h = absurd (omega arith)

@@ -15,8 +15,10 @@ use Rattle.uv_model.specs.Bounds.{StartsBefore}
 use Rattle.uv_model.proofs.Order.{without-with_timer, another}
 
 -- the new key may be put in before the old one is taken out
-swapped : (ts : List (Due × Id)) (active : Bool) (old new : Due) (id : Id) → IsStrictlySortedBy due_cmp (keys_of ts) → (active ≡ true → old.start < new.start) →
-    (if active then without_timer (with_timer ts new id) old else with_timer ts new id) ≡ with_timer (if active then without_timer ts old else ts) new id
+swapped : (ts : List (Due × Id)) (active : Bool) (old new : Due) (id : Id) → IsStrictlySortedBy due_cmp (keys_of ts) →
+    (active ≡ true → old.start < new.start) →
+    (if active then without_timer (with_timer ts new id) old else with_timer ts new id) ≡ with_timer
+        (if active then without_timer ts old else ts) new id
 swapped ts true old new id s l = without-with_timer ts old new id s (another old new (l refl))
 swapped ts false old new id s l = refl
 
@@ -27,7 +29,8 @@ both_true a b e = rw e refl
 abbrev pub drawn_one : State → State
 drawn_one s = record s { next_start = s.next_start + 1 }
 
-pub started_again : (s : State) (id : Id) (h : Handle) (timeout repeat : ℕ) → IsStrictlySortedBy due_cmp (keys_of s.timers) → is_timer h.kind ≡ true → StartsBefore s.next_start h →
+pub started_again : (s : State) (id : Id) (h : Handle) (timeout repeat : ℕ) → IsStrictlySortedBy due_cmp (keys_of s.timers) → is_timer h.kind ≡ true →
+    StartsBefore s.next_start h →
     with_handle
     (drawn_one (taken_off (record s { timers = with_timer s.timers (due_after s timeout) id }) id h))
     id

@@ -24,20 +24,27 @@ Found lines v call None sites = sites ≡ []
 Found lines v call (Some next) sites = IsAt lines v call next sites
 
 -- the first line of what is left, and what is left behind it
-first_left : (n : ℕ) (lines : List CallbackLine) (x : CallbackLine) (xs : List CallbackLine) → drop n lines ≡ x ∷ xs → (slice_get lines n ≡ Some x) × (drop (suc n) lines ≡ xs)
+first_left : (n : ℕ) (lines : List CallbackLine) (x : CallbackLine) (xs : List CallbackLine) → drop n lines ≡ x ∷ xs →
+    (slice_get lines n ≡ Some x) × (drop (suc n) lines ≡ xs)
 first_left zero [] x xs e = cc e
 first_left zero (y ∷ ys) x xs e = let a : y ≡ x = cc e in let b : ys ≡ xs = cc e in (ap Some a, b)
 first_left (suc n) [] x xs e = cc e
 first_left (suc n) (y ∷ ys) x xs e = first_left n ys x xs e
 
-found : (v : Var) (call n : ℕ) (lines left : List CallbackLine) → drop n lines ≡ left → Found lines v call (next_line call n left) (sites_from v call n left)
+found : (v : Var) (call n : ℕ) (lines left : List CallbackLine) → drop n lines ≡ left →
+    Found lines v call (next_line call n left) (sites_from v call n left)
 found v call n lines [] e = refl
-found v call n lines (x ∷ xs) e = let f = first_left n lines x xs e in let same : n + 1 ≡ suc n = omega arith in let behind : drop (n + 1) lines ≡ xs = ap (λ (k : ℕ). drop k lines) same ∙ f.1 in at (is_for call x.call) f.0 behind (found v call (n + 1) lines xs behind) where
-  at : (b : Bool) → slice_get lines n ≡ Some x → drop (n + 1) lines ≡ xs → Found lines v call (next_line call (n + 1) xs) (sites_from v call (n + 1) xs) → Found lines v call (if b then Some n else next_line call (n + 1) xs) (if b then site.On v n ∷ sites_from v call (n + 1) xs else sites_from v call (n + 1) xs)
+found v call n lines (x ∷ xs) e = let f = first_left n lines x xs e in let same : n + 1 ≡ suc n = omega arith in let behind : drop
+    (n + 1) lines ≡ xs = ap (λ (k : ℕ). drop k lines) same ∙ f.1 in at (is_for call x.call) f.0 behind (found v call (n + 1) lines xs behind) where
+  at : (b : Bool) → slice_get lines n ≡ Some x → drop (n + 1) lines ≡ xs →
+      Found lines v call (next_line call (n + 1) xs) (sites_from v call (n + 1) xs) →
+      Found lines v call (if b then Some n else next_line call (n + 1) xs)
+      (if b then site.On v n ∷ sites_from v call (n + 1) xs else sites_from v call (n + 1) xs)
   at true a b rest = record { line = x; there = a; are = ap (λ (ls : List CallbackLine). site.On v n ∷ sites_from v call (n + 1) ls) (sym b) }
   at false a b rest = rest
 
-as_body : (p : Program) (v : Var) (call : ℕ) (o : Option ℕ) (sites : List Site) → Found (on_lines p v) v call o sites → IsBody p (body_at v call o) sites
+as_body : (p : Program) (v : Var) (call : ℕ) (o : Option ℕ) (sites : List Site) → Found (on_lines p v) v call o sites →
+    IsBody p (body_at v call o) sites
 as_body p v call None sites f = f
 as_body p v call (Some next) sites f = f
 

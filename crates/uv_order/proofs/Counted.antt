@@ -50,13 +50,16 @@ set_there (n ∷ names) (suc i) (suc j) x d = set_there names i j x (λ e. d (ap
 pub counted_call : (p : Program) (names : List Named) (told : Told) (v : Var) (x : Named) → x.calls ≡ calls_in names v + 1 → Counted p names told →
     Counted p (slice_set names v.0 x) (record { called = v ∷ told.called })
 counted_call p names told v x e k = record { long = set_long names v.0 x ∙ k.long; calls = λ u l. at u l (v.0 == u.0) refl } where
-  at : (u : Var) → u.0 < length p.on → (b : Bool) → (v.0 == u.0) ≡ b → calls_in (slice_set names v.0 x) u ≡ (if b then suc (times told.called u) else times told.called u)
+  at : (u : Var) → u.0 < length p.on → (b : Bool) → (v.0 == u.0) ≡ b → calls_in (slice_set names v.0 x) u ≡
+      (if b then suc (times told.called u) else times told.called u)
   at u l true f =
       let here : v.0 ≡ u.0 = eqb-true v.0 u.0 f in
       let within : v.0 < length names = rw (here, k.long) l in
       let one : calls_in names v ≡ times told.called u = ap (λ (i : ℕ). (unwrap_or (slice_get names i) unbound).calls) here ∙ k.calls u l in
-      ap (λ (i : ℕ). (unwrap_or (slice_get (slice_set names v.0 x) i) unbound).calls) (sym here) ∙ set_here names v.0 x within ∙ e ∙ omega (arith, one)
-  at u l false f = ap (λ (o : Option Named). (unwrap_or o unbound).calls) (set_there names v.0 u.0 x (λ g. both_ways (v.0 == u.0) f (eq-eqb v.0 u.0 (sym g)))) ∙ k.calls u l
+      ap (λ (i : ℕ). (unwrap_or (slice_get (slice_set names v.0 x) i) unbound).calls) (sym here) ∙ set_here names v.0 x within ∙ e
+          ∙ omega (arith, one)
+  at u l false f = ap (λ (o : Option Named). (unwrap_or o unbound).calls)
+      (set_there names v.0 u.0 x (λ g. both_ways (v.0 == u.0) f (eq-eqb v.0 u.0 (sym g)))) ∙ k.calls u l
 
 -- a name without lines has the same body in each call
 past : (lines : List (List CallbackLine)) (i : ℕ) → length lines ≤ i → lines_or_none (slice_get lines i) ≡ []

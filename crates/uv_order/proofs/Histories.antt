@@ -16,7 +16,8 @@ line_of_next s (Moves t (Some seen)) ls hs h = ap (λ (xs : List Seen). seen ∷
 line_of_next s (Moves t None) ls hs h = h
 line_of_next s (Refuses why) ls hs h = h
 
-lines-history_from : (p : Program) (s : State) (es : List Event) → flat_map option_to_list (seen_from p s es) ≡ map (λ (l : Line). l.seen) (history_from p s es)
+lines-history_from : (p : Program) (s : State) (es : List Event) → flat_map option_to_list (seen_from p s es) ≡ map (λ (l : Line). l.seen)
+    (history_from p s es)
 lines-history_from p s [] = refl
 lines-history_from p s (e ∷ es) = line_of_next s (next p s e) _ _ (lines-history_from p (state_of s (next p s e)) es)
 

@@ -16,7 +16,8 @@ same_parts : (a b : Id) → a.slot ≡ b.slot → a.generation ≡ b.generation 
 same_parts a b e f = ap₂ id_of e f
 
 pub same : (a b : Id) → same_id a b ≡ true → a ≡ b
-same a b e = let parts = and_parts (a.slot == b.slot) (a.generation == b.generation) e in same_parts a b (eqb-true a.slot b.slot parts.0) (eqb-true a.generation b.generation parts.1)
+same a b e = let parts = and_parts (a.slot == b.slot) (a.generation == b.generation) e in same_parts a b (eqb-true a.slot b.slot parts.0)
+    (eqb-true a.generation b.generation parts.1)
 
 pub itself : (a b : Id) → a ≡ b → same_id a b ≡ true
 itself a b e = rw (eq-eqb a.slot b.slot (ap (λ (i : Id). i.slot) e), eq-eqb a.generation b.generation (ap (λ (i : Id). i.generation) e)) refl
@@ -74,21 +75,24 @@ absent P x f (id ∷ ids) h = at (same_id id x) refl (absent P x f ids h.1) wher
 pub without_itself : (ids : List Id) (x : Id) → has_id (without_id ids x) x ≡ false
 without_itself [] x = refl
 without_itself (id ∷ ids) x = at (same_id id x) refl (without_itself ids x) where
-  at : (b : Bool) → same_id id x ≡ b → has_id (without_id ids x) x ≡ false → has_id (if not b then id ∷ without_id ids x else without_id ids x) x ≡ false
+  at : (b : Bool) → same_id id x ≡ b → has_id (without_id ids x) x ≡ false →
+      has_id (if not b then id ∷ without_id ids x else without_id ids x) x ≡ false
   at true e rest = rest
   at false e rest = rw (e, rest) refl
 
 pub still_absent : (ids : List Id) (x i : Id) → has_id ids i ≡ false → has_id (without_id ids x) i ≡ false
 still_absent [] x i h = refl
 still_absent (id ∷ ids) x i h = at (same_id id x) refl (still_absent ids x i (or_parts (same_id id i) (has_id ids i) h).1) where
-  at : (b : Bool) → same_id id x ≡ b → has_id (without_id ids x) i ≡ false → has_id (if not b then id ∷ without_id ids x else without_id ids x) i ≡ false
+  at : (b : Bool) → same_id id x ≡ b → has_id (without_id ids x) i ≡ false →
+      has_id (if not b then id ∷ without_id ids x else without_id ids x) i ≡ false
   at true e rest = rest
   at false e rest = rw ((or_parts (same_id id i) (has_id ids i) h).0, rest) refl
 
 pub still_there : (ids : List Id) (x i : Id) → same_id i x ≡ false → has_id ids i ≡ true → has_id (without_id ids x) i ≡ true
 still_there [] x i d h = h
 still_there (id ∷ ids) x i d h = at (same_id id x) refl (same_id id i) refl h (still_there ids x i d) where
-  at : (b : Bool) → same_id id x ≡ b → (c : Bool) → same_id id i ≡ c → (c || has_id ids i) ≡ true → (has_id ids i ≡ true → has_id (without_id ids x) i ≡ true) →
+  at : (b : Bool) → same_id id x ≡ b → (c : Bool) → same_id id i ≡ c → (c || has_id ids i) ≡ true →
+      (has_id ids i ≡ true → has_id (without_id ids x) i ≡ true) →
       has_id (if not b then id ∷ without_id ids x else without_id ids x) i ≡ true
   at true e true f k rest = absurd (both_ways (same_id i x) d (itself i x (sym (same id i f) ∙ same id x e)))
   at true e false f k rest = rest k
@@ -105,7 +109,8 @@ member P (x ∷ ids) h id e = at (same_id x id) refl e (member P ids h.1 id) whe
 
 pub without_absent : (ids : List Id) (x : Id) → has_id ids x ≡ false → without_id ids x ≡ ids
 without_absent [] x h = refl
-without_absent (id ∷ ids) x h = let parts = or_parts (same_id id x) (has_id ids x) h in rw parts.0 (ap (λ (rest : List Id). id ∷ rest) (without_absent ids x parts.1))
+without_absent (id ∷ ids) x h = let parts = or_parts (same_id id x) (has_id ids x) h in rw parts.0
+    (ap (λ (rest : List Id). id ∷ rest) (without_absent ids x parts.1))
 
 pub has_push : (ids : List Id) (x i : Id) → has_id ids i ≡ false → same_id x i ≡ false → has_id (ids ++ x ∷ []) i ≡ false
 has_push [] x i h k = rw k refl
@@ -134,7 +139,8 @@ distinct_without (id ∷ ids) x h = at (same_id id x) (distinct_without ids x h.
 
 pub distinct_push : (ids : List Id) (x : Id) → AreDistinct ids → has_id ids x ≡ false → AreDistinct (ids ++ x ∷ [])
 distinct_push [] x h k = (refl, tt)
-distinct_push (id ∷ ids) x h k = let parts = or_parts (same_id id x) (has_id ids x) k in (has_push ids x id h.0 (turned x id ∙ parts.0), distinct_push ids x h.1 parts.1)
+distinct_push (id ∷ ids) x h k = let parts = or_parts (same_id id x) (has_id ids x) k in
+    (has_push ids x id h.0 (turned x id ∙ parts.0), distinct_push ids x h.1 parts.1)
 
 -- ---- those that were not taken off
 
@@ -149,7 +155,9 @@ none_off (id ∷ ids) = ap (λ (rest : List Id). id ∷ rest) (none_off ids)
 pub one_off : (ids off : List Id) (x : Id) → left_of ids (x ∷ off) ≡ without_id (left_of ids off) x
 one_off [] off x = refl
 one_off (id ∷ ids) off x = at (same_id x id) refl (has_id off id) (one_off ids off x) where
-  at : (a : Bool) → same_id x id ≡ a → (b : Bool) → left_of ids (x ∷ off) ≡ without_id (left_of ids off) x → (if not (a || b) then id ∷ left_of ids (x ∷ off) else left_of ids (x ∷ off)) ≡ without_id (if not b then id ∷ left_of ids off else left_of ids off) x
+  at : (a : Bool) → same_id x id ≡ a → (b : Bool) → left_of ids (x ∷ off) ≡ without_id (left_of ids off) x →
+      (if not (a || b) then id ∷ left_of ids (x ∷ off) else left_of ids (x ∷ off)) ≡ without_id
+      (if not b then id ∷ left_of ids off else left_of ids off) x
   at true e true rest = rest
   at true e false rest = rw (turned id x, e) rest
   at false e true rest = rest
@@ -158,12 +166,14 @@ one_off (id ∷ ids) off x = at (same_id x id) refl (has_id off id) (one_off ids
 -- some were taken off, and then others
 pub more_off : (ids off others : List Id) → left_of (left_of ids off) others ≡ left_of ids (others ++ off)
 more_off ids off [] = none_off (left_of ids off)
-more_off ids off (x ∷ others) = one_off (left_of ids off) others x ∙ ap (λ (is : List Id). without_id is x) (more_off ids off others) ∙ sym (one_off ids (others ++ off) x)
+more_off ids off (x ∷ others) = one_off (left_of ids off) others x ∙ ap (λ (is : List Id). without_id is x) (more_off ids off others)
+    ∙ sym (one_off ids (others ++ off) x)
 
 pub all_off : (ids off : List Id) → left_of ids off ≡ [] → AllOff off ids
 all_off [] off h = tt
 all_off (id ∷ ids) off h = at (has_id off id) refl h (all_off ids off) where
-  at : (b : Bool) → has_id off id ≡ b → ◌≡◌ {A = List Id} (if not b then id ∷ left_of ids off else left_of ids off) [] → (left_of ids off ≡ [] → AllOff off ids) → AllOff off (id ∷ ids)
+  at : (b : Bool) → has_id off id ≡ b → ◌≡◌ {A = List Id} (if not b then id ∷ left_of ids off else left_of ids off) [] →
+      (left_of ids off ≡ [] → AllOff off ids) → AllOff off (id ∷ ids)
   at true e none rest = (e, rest none)
   at false e none rest = cc none
 
@@ -179,11 +189,13 @@ pub record FirstLeft (ids away : List Id) (first : Id) (more : List Id) : Type 0
 pub first_left : (ids off : List Id) (first : Id) (more : List Id) → left_of ids off ≡ first ∷ more → FirstLeft ids off first more
 first_left [] off first more h = cc h
 first_left (id ∷ ids) off first more h = at (has_id off id) refl h (first_left ids off first more) where
-  at : (b : Bool) → has_id off id ≡ b → ◌≡◌ {A = List Id} (if not b then id ∷ left_of ids off else left_of ids off) (first ∷ more) → (left_of ids off ≡ first ∷ more → FirstLeft ids off first more) → FirstLeft (id ∷ ids) off first more
+  at : (b : Bool) → has_id off id ≡ b → ◌≡◌ {A = List Id} (if not b then id ∷ left_of ids off else left_of ids off) (first ∷ more) →
+      (left_of ids off ≡ first ∷ more → FirstLeft ids off first more) → FirstLeft (id ∷ ids) off first more
   at true e rest later =
       let f = later rest in
       record { passed = id ∷ f.passed; behind = f.behind; list = ap (λ (is : List Id). id ∷ is) f.list; off = (e, f.off); on = f.on; rest = f.rest }
   at false e rest later =
       let one : id ≡ first = cc rest in
       let others : left_of ids off ≡ more = cc rest in
-      record { passed = []; behind = ids; list = ap (λ (i : Id). i ∷ ids) one; off = tt; on = ap (λ (i : Id). has_id off i) (sym one) ∙ e; rest = sym others }
+      record { passed = []; behind = ids; list = ap (λ (i : Id). i ∷ ids) one; off = tt; on = ap (λ (i : Id). has_id off i) (sym one)
+          ∙ e; rest = sym others }

@@ -100,7 +100,8 @@ off_list slots P id h x ids e d k = subst (Lists (put slots id x) P) (without_ab
 -- ---- the changes
 
 -- a handle is changed in what the lists don't speak of
-pub put_kept : (s : State) (id : Id) (h x : Handle) → held s id ≡ Some h → x.kind ≡ h.kind → x.active ≡ h.active → x.due ≡ h.due → Kept s → Kept (with_handle s id x)
+pub put_kept : (s : State) (id : Id) (h x : Handle) → held s id ≡ Some h → x.kind ≡ h.kind → x.active ≡ h.active → x.due ≡ h.due → Kept s →
+    Kept (with_handle s id x)
 put_kept s id h x e a b c k = record {
   timers = times_put s.slots s.next_start s.timers id h x e
       (λ key t. record { kind = a ∙ t.kind; active = b ∙ t.active; due = c ∙ t.due })
@@ -124,14 +125,16 @@ stopped_kept s id h e k = record {
   prepare = off_both kind.Prepare s.prepare k.prepare;
   check = off_both kind.Check s.check k.check;
 } where
-  off_both : (q : Kind) (w : Watched) → Everyone s.slots (Watches q) (members w) → Everyone (put s.slots id (inactive h)) (Watches q) (members (without_watcher w id))
+  off_both : (q : Kind) (w : Watched) → Everyone s.slots (Watches q) (members w) →
+      Everyone (put s.slots id (inactive h)) (Watches q) (members (without_watcher w id))
   off_both q w l = subst (Everyone (put s.slots id (inactive h)) (Watches q)) (filter-append (λ i. not (same_id i id)) w.list w.yet)
       (everyone_without s.slots (Watches q) id h (inactive h) (members w) e (λ x. on_off (inactive h) x.active refl) l)
 
   unset : (key : Due) → (is_timer h.kind && h.active) ≡ false → IsSet key h → ⊥
   unset key off a = both_ways (is_timer h.kind && h.active) off (rw (a.kind, a.active) refl)
 
-  at : (b : Bool) → (is_timer h.kind && h.active) ≡ b → Times (put s.slots id (inactive h)) s.next_start (if b then without_timer s.timers h.due else s.timers)
+  at : (b : Bool) → (is_timer h.kind && h.active) ≡ b → Times (put s.slots id (inactive h)) s.next_start
+      (if b then without_timer s.timers h.due else s.timers)
   at true on =
       let parts = and_parts (is_timer h.kind) h.active on in
       let set : IsSet h.due h = record { kind = timer_kind h.kind parts.0; active = parts.1; due = refl } in
@@ -156,10 +159,12 @@ started_kept s id old h timeout repeat e t off u away k =
 pub started_again_kept : (s : State) (id : Id) (h : Handle) (timeout repeat : ℕ) → held s id ≡ Some h → h.kind ≡ kind.Timer → Kept s →
     Kept (started (stopped s id h) id h timeout repeat)
 started_again_kept s id h timeout repeat e t k =
-    started_kept (stopped s id h) id (inactive h) h timeout repeat (put_same s.slots id h (inactive h) e) t refl t (without_itself s.ready id) (stopped_kept s id h e k)
+    started_kept (stopped s id h) id (inactive h) h timeout repeat (put_same s.slots id h (inactive h) e) t refl t (without_itself s.ready id)
+        (stopped_kept s id h e k)
 
 restarted_again_kept : (s : State) (id : Id) (h : Handle) → held s id ≡ Some h → h.kind ≡ kind.Timer → Kept s → Kept (restarted (stopped s id h) id h)
-restarted_again_kept s id h e t k = cond_both (h.repeat == 0) _ _ Kept (λ z. stopped_kept s id h e k) (λ z. started_again_kept s id h h.repeat h.repeat e t k)
+restarted_again_kept s id h e t k = cond_both (h.repeat == 0) _ _ Kept (λ z. stopped_kept s id h e k)
+    (λ z. started_again_kept s id h h.repeat h.repeat e t k)
 
 -- the timers and the ready list where a watcher changes
 others_times : (s : State) (id : Id) (h x : Handle) (q : Kind) → held s id ≡ Some h → h.kind ≡ q → x.kind ≡ q → Apart q kind.Timer → Kept s →
@@ -167,15 +172,18 @@ others_times : (s : State) (id : Id) (h x : Handle) (q : Kind) → held s id ≡
 others_times s id h x q e t u d k = times_put s.slots s.next_start s.timers id h x e
     (λ key a. absurd (no_timer h q key t d a)) (λ key a. absurd (no_timer x q key u d a)) k.timers
 
-others_ready : (s : State) (id : Id) (h x : Handle) (q : Kind) → held s id ≡ Some h → h.kind ≡ q → Apart q kind.Timer → Kept s → Lists (put s.slots id x) Rests s.ready
+others_ready : (s : State) (id : Id) (h x : Handle) (q : Kind) → held s id ≡ Some h → h.kind ≡ q → Apart q kind.Timer → Kept s →
+    Lists (put s.slots id x) Rests s.ready
 others_ready s id h x q e t d k = lists_put s.slots Rests id h x s.ready e (λ r. absurd (d (sym t ∙ r.kind))) k.ready
 
 -- a watcher is put in front of its list
 in_front : (s : State) (id : Id) (h x : Handle) (q : Kind) (ids : List Id) → held s id ≡ Some h → h.active ≡ false → x.kind ≡ q → x.active ≡ true →
     Everyone s.slots (Watches q) ids → Everyone (put s.slots id x) (Watches q) (id ∷ ids)
-in_front s id h x q ids e off u on l = everyone_front s.slots (Watches q) id h x ids e (λ w. on_off h w.active off) (record { kind = u; active = on }) l
+in_front s id h x q ids e off u on l = everyone_front s.slots (Watches q) id h x ids e (λ w. on_off h w.active off)
+    (record { kind = u; active = on }) l
 
-pub watcher_started_kept : (s : State) (k : WatcherKind) (id : Id) (h : Handle) → held s id ≡ Some h → h.kind ≡ kind_as k → h.active ≡ false → Kept s →
+pub watcher_started_kept : (s : State) (k : WatcherKind) (id : Id) (h : Handle) → held s id ≡ Some h → h.kind ≡ kind_as k → h.active ≡ false →
+    Kept s →
     Kept (ops.watcher_started s k id h)
 watcher_started_kept s watcher.Idle id h e t off k =
     let x : Handle = record h { active = true } in
@@ -236,8 +244,10 @@ init_kept s v q None k = init_in_kept s v q (unused_slot s) k
 again_kept : (s : State) (id : Id) (h : Handle) → held s id ≡ Some h → h.kind ≡ kind.Timer → Kept s → Kept (ops.again s id h).state
 again_kept s id h e t k = cond_both h.begun _ _ (λ (d : ops.Done). Kept d.state) (λ b. restarted_again_kept s id h e t k) (λ b. k)
 
-start_watcher_kept : (s : State) (q : WatcherKind) (id : Id) (h : Handle) → held s id ≡ Some h → h.kind ≡ kind_as q → Kept s → Kept (ops.start_watcher s q id h).state
-start_watcher_kept s q id h e t k = cond_both h.active s (ops.watcher_started s q id h) Kept (λ on. k) (λ off. watcher_started_kept s q id h e t off k)
+start_watcher_kept : (s : State) (q : WatcherKind) (id : Id) (h : Handle) → held s id ≡ Some h → h.kind ≡ kind_as q → Kept s →
+    Kept (ops.start_watcher s q id h).state
+start_watcher_kept s q id h e t k = cond_both h.active s (ops.watcher_started s q id h) Kept (λ on. k)
+    (λ off. watcher_started_kept s q id h e t off k)
 
 abbrev KeptBy : ops.Done → Type 0
 KeptBy d = Kept d.state
@@ -247,8 +257,10 @@ referenced_kept s id h flag e k = put_kept s id h (record h { referenced = flag 
 
 pub op_kept : (s : State) (o : Op) → Kept s → Kept (do_op s o).state
 op_kept s (op.Init v q) k = init_kept s v q (live s v) k
-op_kept s (op.Start v timeout repeat) k = on_timer_both s v _ KeptBy (λ c no_success. k) (λ t e is. started_again_kept s t.0 t.1 timeout repeat (live_held s v t e) is k)
-op_kept s (op.StartWatcher v) k = on_watcher_both s v _ KeptBy (λ c no_success. k) (λ q t e is. start_watcher_kept s q t.0 t.1 (live_held s v t e) is k)
+op_kept s (op.Start v timeout repeat) k = on_timer_both s v _ KeptBy (λ c no_success. k)
+    (λ t e is. started_again_kept s t.0 t.1 timeout repeat (live_held s v t e) is k)
+op_kept s (op.StartWatcher v) k = on_watcher_both s v _ KeptBy (λ c no_success. k)
+    (λ q t e is. start_watcher_kept s q t.0 t.1 (live_held s v t e) is k)
 op_kept s (op.Stop v) k = on_handle_both s v _ KeptBy (λ c no_success. k) (λ t e. stopped_kept s t.0 t.1 (live_held s v t e) k)
 op_kept s (op.Again v) k = on_timer_both s v _ KeptBy (λ c no_success. k) (λ t e is. again_kept s t.0 t.1 (live_held s v t e) is k)
 op_kept s (op.SetRepeat v n) k = on_timer_both s v _ KeptBy (λ c no_success. k)
@@ -297,7 +309,8 @@ first_of s [] t e = cc e
 first_of s (x ∷ ts) t e = at (nat_le x.0.at s.time) refl e where
   found : (o : Option Handle) → held s x.1 ≡ o → nat_le x.0.at s.time ≡ true → with_id x.1 o ≡ Some t → FirstOf s (x ∷ ts) t
   found None f due g = cc g
-  found (Some h) f due g = subst (FirstOf s (x ∷ ts)) (same_Some (x.1, h) t g) (record { key = x.0; rest = ts; are = refl; behind = refl; due = due; holds = f })
+  found (Some h) f due g = subst (FirstOf s (x ∷ ts)) (same_Some (x.1, h) t g)
+      (record { key = x.0; rest = ts; are = refl; behind = refl; due = due; holds = f })
 
   at : (b : Bool) → nat_le x.0.at s.time ≡ b → (if b then with_id x.1 (held s x.1) else None) ≡ Some t → FirstOf s (x ∷ ts) t
   at true due g = found (held s x.1) refl due g
@@ -340,10 +353,13 @@ collected_kept s t f k =
     let x : Handle = inactive t.1 in
     let away : has_id s.ready t.0 ≡ false = not_listed s.slots Rests t.0 t.1 s.ready f.holds (λ r. on_off t.1 set.active r.inactive) k.ready in
     let ready : Lists (put s.slots t.0 x) Rests s.ready = off_list s.slots Rests t.0 t.1 x s.ready f.holds away k.ready in
-    let last : Fits (put s.slots t.0 x) Rests t.0 = record { handle = x; holds = put_same s.slots t.0 t.1 x f.holds; fits = record { kind = set.kind; inactive = refl } } in
+    let last : Fits (put s.slots t.0 x) Rests t.0 = record { handle = x; holds = put_same s.slots t.0 t.1 x f.holds;
+        fits = record { kind = set.kind; inactive = refl } } in
     record {
-      timers = subst (Times (put s.slots t.0 x) s.next_start) (sym f.behind) (times_rest s.slots s.next_start (f.key, t.0) f.rest t.1 x f.holds refl times);
-      ready = record { each = each_push (Fits (put s.slots t.0 x) Rests) s.ready t.0 ready.each last; distinct = distinct_push s.ready t.0 ready.distinct away };
+      timers = subst (Times (put s.slots t.0 x) s.next_start) (sym f.behind)
+          (times_rest s.slots s.next_start (f.key, t.0) f.rest t.1 x f.holds refl times);
+      ready = record { each = each_push (Fits (put s.slots t.0 x) Rests) s.ready t.0 ready.each last;
+          distinct = distinct_push s.ready t.0 ready.distinct away };
       idle = others s.slots kind.Timer kind.Idle t.0 t.1 x (members s.idle) f.holds set.kind set.kind (λ g. cc g) k.idle;
       prepare = others s.slots kind.Timer kind.Prepare t.0 t.1 x (members s.prepare) f.holds set.kind set.kind (λ g. cc g) k.prepare;
       check = others s.slots kind.Timer kind.Check t.0 t.1 x (members s.check) f.holds set.kind set.kind (λ g. cc g) k.check;
@@ -355,7 +371,8 @@ timers_kept p s run part Collecting k = found_both (first_due s s.timers) _ _ St
 timers_kept p s run part Firing k = fire_kept p s run part k
 
 -- the whole list is yet to run, where nobody was
-yet_listed : (slots : List Slot) (P : Handle → Type 0) (w : Watched) → w.yet ≡ [] → Everyone slots P (members w) → Everyone slots P (members (all_yet w))
+yet_listed : (slots : List Slot) (P : Handle → Type 0) (w : Watched) → w.yet ≡ [] → Everyone slots P (members w) →
+    Everyone slots P (members (all_yet w))
 yet_listed slots P w e l = subst (Everyone slots P) (ap (λ (ids : List Id). w.list ++ ids) e ∙ append-nil w.list) l
 
 begin_kept : (s : State) (run : Run) (q : WatcherKind) → (watched s q).yet ≡ [] → Kept s → StaysKept (begin_walk s run q)
@@ -373,7 +390,8 @@ begin_kept s run watcher.Check e k = record {
 moved_listed : (s : State) (P : Handle → Type 0) (w : Watched) (t : Id × Handle) → FrontOf s w.yet t → Everyone s.slots P (members w) →
     Everyone s.slots P (members (moved_on w t.0))
 moved_listed s P w t f l =
-    let moved : members w ≡ (w.list ++ t.0 ∷ []) ++ f.rest = ap (λ (ids : List Id). w.list ++ ids) f.are ∙ sym (append_assoc w.list (t.0 ∷ []) f.rest) in
+    let moved : members w ≡ (w.list ++ t.0 ∷ []) ++ f.rest = ap (λ (ids : List Id). w.list ++ ids) f.are
+        ∙ sym (append_assoc w.list (t.0 ∷ []) f.rest) in
     subst (Everyone s.slots P) (moved ∙ ap (λ (ids : List Id). (w.list ++ t.0 ∷ []) ++ ids) (sym f.behind)) l
 
 -- where a section of watchers is to begin, none of them is yet to run

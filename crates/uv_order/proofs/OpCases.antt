@@ -75,12 +75,16 @@ on_handle_both s v f P refused done = at (live s v) refl where
   at (Some t) e = done t e
 
 pub on_timer_both : (s : State) (v : Var) (f : Id → Handle → ops.Done) (P : ops.Done → Type 0) →
-    ((c : Code) → IsRefusal c → P (ops.refuses s c)) → ((t : Id × Handle) → live s v ≡ Some t → t.1.kind ≡ kind.Timer → P (f t.0 t.1)) → P (ops.on_timer s (live s v) f)
+    ((c : Code) → IsRefusal c → P (ops.refuses s c)) → ((t : Id × Handle) → live s v ≡ Some t → t.1.kind ≡ kind.Timer → P (f t.0 t.1)) →
+        P (ops.on_timer s (live s v) f)
 on_timer_both s v f P refused done = on_handle_both s v _ P refused
-    (λ t e. cond_both (is_timer t.1.kind) (f t.0 t.1) (ops.refuses s Ekind) P (λ is. done t e (timer_kind t.1.kind is)) (λ isnt. refused Ekind (λ f. cc f)))
+    (λ t e. cond_both (is_timer t.1.kind) (f t.0 t.1) (ops.refuses s Ekind) P (λ is. done t e (timer_kind t.1.kind is))
+        (λ isnt. refused Ekind (λ f. cc f)))
 
 pub on_watcher_both : (s : State) (v : Var) (f : WatcherKind → Id → Handle → ops.Done) (P : ops.Done → Type 0) →
-    ((c : Code) → IsRefusal c → P (ops.refuses s c)) → ((k : WatcherKind) (t : Id × Handle) → live s v ≡ Some t → t.1.kind ≡ kind_as k → P (f k t.0 t.1)) →
+    ((c : Code) → IsRefusal c → P (ops.refuses s c)) →
+        ((k : WatcherKind) (t : Id × Handle) → live s v ≡ Some t → t.1.kind ≡ kind_as k → P (f k t.0 t.1)) →
     P (ops.on_watcher s (live s v) f)
 on_watcher_both s v f P refused done = on_handle_both s v _ P refused
-    (λ t e. found_both (watcher_kind t.1.kind) _ (ops.refuses s Ekind) P (λ k is. done k t e (as_watcher t.1.kind k is)) (λ isnt. refused Ekind (λ f. cc f)))
+    (λ t e. found_both (watcher_kind t.1.kind) _ (ops.refuses s Ekind) P (λ k is. done k t e (as_watcher t.1.kind k is))
+        (λ isnt. refused Ekind (λ f. cc f)))

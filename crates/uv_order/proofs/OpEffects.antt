@@ -54,7 +54,8 @@ set_calls (n ∷ names) (suc i) zero x e = refl
 set_calls (n ∷ names) (suc i) (suc j) x e = set_calls names i j x e
 
 -- a name is bound anew
-bound_calls : (names : List Named) (i : ℕ) (x : Named) → x.calls ≡ (unwrap_or (slice_get names i) unbound).calls → SameCalls (slice_set names i x) names
+bound_calls : (names : List Named) (i : ℕ) (x : Named) → x.calls ≡ (unwrap_or (slice_get names i) unbound).calls →
+    SameCalls (slice_set names i x) names
 bound_calls names i x e = record { long = set_long names i x; each = λ v. set_calls names i v.0 x e }
 
 -- ---- an op's effect
@@ -82,7 +83,8 @@ same_lists : (s : State) → SameLists s s
 same_lists s = record { ready = refl; idle = refl; prepare = refl; check = refl }
 
 -- nobody is taken off, and the lists stay
-quiet : (s : State) (o : Op) (d : ops.Done) → TakesNone s o d.answer → lasting d.state ≡ after_op o s → SameCalls d.state.names s.names → SameLists d.state s → Effect s o d
+quiet : (s : State) (o : Op) (d : ops.Done) → TakesNone s o d.answer → lasting d.state ≡ after_op o s → SameCalls d.state.names s.names →
+    SameLists d.state s → Effect s o d
 quiet s o d none lasts calls lists = record {
   lasts = lasts;
   calls = calls;
@@ -136,7 +138,8 @@ stop_effect s v t e = record {
 -- ---- timers
 
 -- a handle of another kind isn't on a list of watchers
-not_yet : (s : State) (q : Kind) (w : Watched) (id : Id) (h : Handle) → held s id ≡ Some h → (h.kind ≡ q → ⊥) → Everyone s.slots (Watches q) (members w) →
+not_yet : (s : State) (q : Kind) (w : Watched) (id : Id) (h : Handle) → held s id ≡ Some h → (h.kind ≡ q → ⊥) →
+    Everyone s.slots (Watches q) (members w) →
     without_id w.yet id ≡ left_of w.yet []
 not_yet s q w id h e d l =
     let away : has_id w.yet id ≡ false = has_back w.list w.yet id (not_listed s.slots (Watches q) id h (members w) e (λ x. d x.kind) l.lists) in
@@ -154,8 +157,10 @@ timer_effect s u o v t e is k off lasts same names lists = record {
   calls = rw names (same_calls s.names);
   ready = lists.ready ∙ taken_one s v t s.ready e ∙ ap (λ (x : Option Var). left_of s.ready (ids_of s x)) (sym (off phase.Timers));
   idle = lists.idle ∙ not_yet s kind.Idle s.idle t.0 t.1 held_now (apart t.1 kind.Idle is (λ f. cc f)) k.idle ∙ none_by phase.Idle s.idle.yet refl;
-  prepare = lists.prepare ∙ not_yet s kind.Prepare s.prepare t.0 t.1 held_now (apart t.1 kind.Prepare is (λ f. cc f)) k.prepare ∙ none_by phase.Prepare s.prepare.yet refl;
-  check = lists.check ∙ not_yet s kind.Check s.check t.0 t.1 held_now (apart t.1 kind.Check is (λ f. cc f)) k.check ∙ none_by phase.Check s.check.yet refl;
+  prepare = lists.prepare ∙ not_yet s kind.Prepare s.prepare t.0 t.1 held_now (apart t.1 kind.Prepare is (λ f. cc f)) k.prepare
+      ∙ none_by phase.Prepare s.prepare.yet refl;
+  check = lists.check ∙ not_yet s kind.Check s.check t.0 t.1 held_now (apart t.1 kind.Check is (λ f. cc f)) k.check
+      ∙ none_by phase.Check s.check.yet refl;
 } where
   held_now : held s t.0 ≡ Some t.1
   held_now = live_held s v t e
@@ -176,14 +181,18 @@ start_off v timeout repeat phase.Timers = refl
 start_effect : (s : State) (v : Var) (timeout repeat : ℕ) (t : Id × Handle) → live s v ≡ Some t → t.1.kind ≡ kind.Timer → Kept s →
     Effect s (op.Start v timeout repeat) (ops.start s timeout repeat t.0 t.1)
 start_effect s v timeout repeat t e is k =
-    timer_effect s (started (stopped s t.0 t.1) t.0 t.1 timeout repeat) (op.Start v timeout repeat) v t e is k (start_off v timeout repeat) refl refl refl
+    timer_effect s (started (stopped s t.0 t.1) t.0 t.1 timeout repeat) (op.Start v timeout repeat) v t e is k
+        (start_off v timeout repeat) refl refl refl
     (record { ready = refl; idle = refl; prepare = refl; check = refl })
 
-again_effect : (s : State) (v : Var) (t : Id × Handle) → live s v ≡ Some t → t.1.kind ≡ kind.Timer → Kept s → Effect s (op.Again v) (ops.again s t.0 t.1)
+again_effect : (s : State) (v : Var) (t : Id × Handle) → live s v ≡ Some t → t.1.kind ≡ kind.Timer → Kept s →
+    Effect s (op.Again v) (ops.again s t.0 t.1)
 again_effect s v t e is k = cond_both t.1.begun _ _ (Effect s (op.Again v))
-    (λ begun. cond_both (t.1.repeat == 0) (stopped s t.0 t.1) (started (stopped s t.0 t.1) t.0 t.1 t.1.repeat t.1.repeat) (λ (u : State). Effect s (op.Again v) (ops.succeeds u))
+    (λ begun. cond_both (t.1.repeat == 0) (stopped s t.0 t.1) (started (stopped s t.0 t.1) t.0 t.1 t.1.repeat t.1.repeat)
+        (λ (u : State). Effect s (op.Again v) (ops.succeeds u))
     (λ z. by (stopped s t.0 t.1) refl refl (record { ready = refl; idle = refl; prepare = refl; check = refl }))
-    (λ z. by (started (stopped s t.0 t.1) t.0 t.1 t.1.repeat t.1.repeat) refl refl (record { ready = refl; idle = refl; prepare = refl; check = refl })))
+    (λ z. by (started (stopped s t.0 t.1) t.0 t.1 t.1.repeat t.1.repeat) refl refl
+        (record { ready = refl; idle = refl; prepare = refl; check = refl })))
     (λ never. refused_effect s (op.Again v) refl code.Einval (λ f. cc f))
   where
     by : (u : State) → lasting u ≡ lasting s → u.names ≡ s.names → SameLists u (stopped s t.0 t.1) → Effect s (op.Again v) (ops.succeeds u)
@@ -221,7 +230,8 @@ by_word o a b c d e f g h phase.Closing = g
 by_word o a b c d e f g h phase.Timers = h
 
 -- it leaves all of that as it was
-still : (s : State) (o : Op) (d : ops.Done) → Harmless o → lasting d.state ≡ after_op o s → SameCalls d.state.names s.names → SameLists d.state s → Effect s o d
+still : (s : State) (o : Op) (d : ops.Done) → Harmless o → lasting d.state ≡ after_op o s → SameCalls d.state.names s.names → SameLists d.state s →
+    Effect s o d
 still s o d harmless = quiet s o d (none_taken s o d.answer harmless)
 
 init_effect : (s : State) (v : Var) (q : Kind) (t : Option (Id × Handle)) → Effect s (op.Init v q) (ops.init s v q t)
@@ -245,31 +255,38 @@ start_watcher_effect s v q id h = cond_both h.active s (ops.watcher_started s q 
     put watcher.Check = by _ refl (same_calls s.names) (record { ready = refl; idle = refl; prepare = refl; check = refl })
 
 -- such an op changes one record, or nothing
-simple : (s : State) (o : Op) (d : ops.Done) → Harmless o → lasting d.state ≡ after_op o s → d.state.names ≡ s.names → SameLists d.state s → Effect s o d
+simple : (s : State) (o : Op) (d : ops.Done) → Harmless o → lasting d.state ≡ after_op o s → d.state.names ≡ s.names → SameLists d.state s →
+    Effect s o d
 simple s o d harmless lasts names lists = still s o d harmless lasts (rw names (same_calls s.names)) lists
 
 pub op_effect : (s : State) (o : Op) → Kept s → Effect s o (do_op s o)
 op_effect s (op.Init v q) k = init_effect s v q (live s v)
-op_effect s (op.Start v timeout repeat) k = on_timer_both s v _ (Effect s (op.Start v timeout repeat)) (refused_effect s (op.Start v timeout repeat) refl)
+op_effect s (op.Start v timeout repeat) k = on_timer_both s v _ (Effect s (op.Start v timeout repeat))
+    (refused_effect s (op.Start v timeout repeat) refl)
     (λ t e is. start_effect s v timeout repeat t e is k)
 op_effect s (op.StartWatcher v) k = on_watcher_both s v _ (Effect s (op.StartWatcher v)) (refused_effect s (op.StartWatcher v) refl)
     (λ q t e is. start_watcher_effect s v q t.0 t.1)
 op_effect s (op.Stop v) k = on_handle_both s v _ (Effect s (op.Stop v)) (refused_effect s (op.Stop v) refl) (λ t e. stop_effect s v t e)
 op_effect s (op.Again v) k = on_timer_both s v _ (Effect s (op.Again v)) (refused_effect s (op.Again v) refl) (λ t e is. again_effect s v t e is k)
 op_effect s (op.SetRepeat v n) k = on_timer_both s v _ (Effect s (op.SetRepeat v n)) (refused_effect s (op.SetRepeat v n) refl)
-    (λ t e is. simple s (op.SetRepeat v n) _ (by_word (op.SetRepeat v n) refl refl refl refl refl refl refl refl) refl refl (record { ready = refl; idle = refl; prepare = refl; check = refl }))
+    (λ t e is. simple s (op.SetRepeat v n) _ (by_word (op.SetRepeat v n) refl refl refl refl refl refl refl refl) refl refl
+        (record { ready = refl; idle = refl; prepare = refl; check = refl }))
 op_effect s (op.DueIn v) k = on_timer_both s v _ (Effect s (op.DueIn v)) (refused_effect s (op.DueIn v) refl)
     (λ t e is. simple s (op.DueIn v) _ (by_word (op.DueIn v) refl refl refl refl refl refl refl refl) refl refl (same_lists s))
 op_effect s (op.Ref v) k = on_handle_both s v _ (Effect s (op.Ref v)) (refused_effect s (op.Ref v) refl)
-    (λ t e. simple s (op.Ref v) _ (by_word (op.Ref v) refl refl refl refl refl refl refl refl) refl refl (record { ready = refl; idle = refl; prepare = refl; check = refl }))
+    (λ t e. simple s (op.Ref v) _ (by_word (op.Ref v) refl refl refl refl refl refl refl refl) refl refl
+        (record { ready = refl; idle = refl; prepare = refl; check = refl }))
 op_effect s (op.Unref v) k = on_handle_both s v _ (Effect s (op.Unref v)) (refused_effect s (op.Unref v) refl)
-    (λ t e. simple s (op.Unref v) _ (by_word (op.Unref v) refl refl refl refl refl refl refl refl) refl refl (record { ready = refl; idle = refl; prepare = refl; check = refl }))
+    (λ t e. simple s (op.Unref v) _ (by_word (op.Unref v) refl refl refl refl refl refl refl refl) refl refl
+        (record { ready = refl; idle = refl; prepare = refl; check = refl }))
 op_effect s (op.HasRef v) k = on_handle_both s v _ (Effect s (op.HasRef v)) (refused_effect s (op.HasRef v) refl)
     (λ t e. simple s (op.HasRef v) _ (by_word (op.HasRef v) refl refl refl refl refl refl refl refl) refl refl (same_lists s))
 op_effect s (op.IsActive v) k = on_handle_both s v _ (Effect s (op.IsActive v)) (refused_effect s (op.IsActive v) refl)
     (λ t e. simple s (op.IsActive v) _ (by_word (op.IsActive v) refl refl refl refl refl refl refl refl) refl refl (same_lists s))
-op_effect s op.StopLoop k = simple s op.StopLoop _ (by_word op.StopLoop refl refl refl refl refl refl refl refl) refl refl (record { ready = refl; idle = refl; prepare = refl; check = refl })
-op_effect s op.UpdateTime k = simple s op.UpdateTime _ (by_word op.UpdateTime refl refl refl refl refl refl refl refl) refl refl (record { ready = refl; idle = refl; prepare = refl; check = refl })
+op_effect s op.StopLoop k = simple s op.StopLoop _ (by_word op.StopLoop refl refl refl refl refl refl refl refl) refl refl
+    (record { ready = refl; idle = refl; prepare = refl; check = refl })
+op_effect s op.UpdateTime k = simple s op.UpdateTime _ (by_word op.UpdateTime refl refl refl refl refl refl refl refl) refl refl
+    (record { ready = refl; idle = refl; prepare = refl; check = refl })
 op_effect s op.Now k = simple s op.Now _ (by_word op.Now refl refl refl refl refl refl refl refl) refl refl (same_lists s)
 op_effect s op.IsAlive k = simple s op.IsAlive _ (by_word op.IsAlive refl refl refl refl refl refl refl refl) refl refl (same_lists s)
 op_effect s op.Timeout k = simple s op.Timeout _ (by_word op.Timeout refl refl refl refl refl refl refl refl) refl refl (same_lists s)

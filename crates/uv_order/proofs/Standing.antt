@@ -85,7 +85,8 @@ pub data StandsIn (p : Program) : Option Body → Stage → Standing → Type 0 
   check : {w : Walk} {body : Option Body} → IsBody p body w.body → StandsIn p body stage.Check (Within (In phase.Check) w)
   closing : StandsIn p None stage.Closing (Within (In phase.Closing) bare)
   collects : {part : TimersOf} {w : Walk} → w.body ≡ [] → StandsIn p None (stage.Timers part Collecting) (Within (section_of part) w)
-  fires : {part : TimersOf} {w : Walk} {body : Option Body} → IsBody p body w.body → StandsIn p body (stage.Timers part Firing) (Within (section_of part) w)
+  fires : {part : TimersOf} {w : Walk} {body : Option Body} → IsBody p body w.body →
+      StandsIn p body (stage.Timers part Firing) (Within (section_of part) w)
 
 -- the timers that a section has yet to call: while it collects, those that are due too
 abbrev waiting : Stage → List Id → List Id → List Id
@@ -180,7 +181,8 @@ timers_end Nowait go g = refl
 abbrev IsNext : doc.Part → doc.Part → Type 0
 IsNext a b = (m : Mode) (go : Bool) → part_after m go a ≡ b
 
-by_mode : (a b : doc.Part) → part_after Default true a ≡ b → part_after Default false a ≡ b → part_after Once true a ≡ b → part_after Once false a ≡ b →
+by_mode : (a b : doc.Part) → part_after Default true a ≡ b → part_after Default false a ≡ b → part_after Once true a ≡ b →
+    part_after Once false a ≡ b →
     part_after Nowait true a ≡ b → part_after Nowait false a ≡ b → IsNext a b
 by_mode a b c d e f g h Default true = c
 by_mode a b c d e f g h Default false = d
@@ -234,13 +236,15 @@ are_timers s ts drawn k = record {
 }
 
 due_distinct : (s : State) (time : ℕ) → Kept s → AreDistinct (due_ids time s.timers)
-due_distinct s time k = distinct_due time s.timers k.timers.sorted (λ a b id h l. one_due a b id (k.timers.each a id h).0 (k.timers.each b id l).0) where
+due_distinct s time k = distinct_due time s.timers k.timers.sorted
+    (λ a b id h l. one_due a b id (k.timers.each a id h).0 (k.timers.each b id l).0) where
   one_due : (a b : Due) (id : Id) → Fits s.slots (IsSet a) id → Fits s.slots (IsSet b) id → a ≡ b
   one_due a b id f g = sym f.fits.due ∙ (its_handle s.slots (IsSet b) id f.handle f.holds g).due
 
 -- where nobody is yet to run, the list has all active handles of its kind
 are_active : (s : State) (q : Kind) (w : Watched) → w.yet ≡ [] → Everyone s.slots (Watches q) (members w) → AreActive s q w.list
-are_active s q w e k = record { each = λ id h. active id (member (Fits s.slots (Watches q)) w.list all.lists.each id h); all = λ id a. all.all id (fits id a); distinct = all.lists.distinct } where
+are_active s q w e k = record { each = λ id h. active id (member (Fits s.slots (Watches q)) w.list all.lists.each id h); all = λ id a. all.all id
+    (fits id a); distinct = all.lists.distinct } where
   all : Everyone s.slots (Watches q) w.list
   all = subst (Everyone s.slots (Watches q)) (ap (λ (ids : List Id). w.list ++ ids) e ∙ append-nil w.list) k
 
@@ -258,16 +262,19 @@ opens_bare word l h = record { list = h; off = refl; body = refl }
 
 -- ---- the timers of the entry, and the end of timers
 
-enter_follows : (p : Program) (told : Told) (s : State) (run : Run) → Kept s → Counted p s.names told → Leaves s.ready s.idle.yet s.prepare.yet s.check.yet Begun →
+enter_follows : (p : Program) (told : Told) (s : State) (run : Run) → Kept s → Counted p s.names told →
+    Leaves s.ready s.idle.yet s.prepare.yet s.check.yet Begun →
     Follows p told (Running run.mode run.line Begun) s (step.enter s run)
 enter_follows p told s run k c e = cond_both (goes s) _ _ (Follows p told (Running run.mode run.line Begun) s)
     (λ g. cond_both (is_default run.mode) _ _ (Follows p told (Running run.mode run.line Begun) s)
     (λ d. record {
       to = Running run.mode run.line (Within Entry (begun_with (due_now s)));
       goes = doc.section Entry tt (start_default run.mode (goes s) g d) refl
-          (record { list = record { timers = s.timers; are = are_timers _ s.timers s.next_start k.timers; due = refl; distinct = due_distinct s s.time k }; off = refl; body = refl }) refl;
+          (record { list = record { timers = s.timers; are = are_timers _ s.timers s.next_start k.timers; due = refl;
+              distinct = due_distinct s s.time k }; off = refl; body = refl }) refl;
       stands = record {
-        stands = running (collects refl) (record { timers = ap (λ (ids : List Id). ids ++ due_now s) e.timers ∙ sym (none_off (due_now s)); idle = e.idle; prepare = e.prepare; check = e.check });
+        stands = running (collects refl) (record { timers = ap (λ (ids : List Id). ids ++ due_now s) e.timers ∙ sym
+            (none_off (due_now s)); idle = e.idle; prepare = e.prepare; check = e.check });
         counted = c;
       };
     })
@@ -286,15 +293,18 @@ enter_follows p told s run k c e = cond_both (goes s) _ _ (Follows p told (Runni
 abbrev NoneLeft : State → Type 0
 NoneLeft s = Leaves s.ready s.idle.yet s.prepare.yet s.check.yet Begun
 
-goes_iteration : (p : Program) (told : Told) (s : State) (run : Run) (part : TimersOf) (w : Walk) → part_after run.mode (goes s) (doc.Of (section_of part)) ≡ doc.Of (In phase.Pending) →
-    IsOver w → Counted p s.names told → NoneLeft s → Follows p told (Running run.mode run.line (Within (section_of part) w)) s (step.new_iteration s run)
+goes_iteration : (p : Program) (told : Told) (s : State) (run : Run) (part : TimersOf) (w : Walk) →
+    part_after run.mode (goes s) (doc.Of (section_of part)) ≡ doc.Of (In phase.Pending) →
+    IsOver w → Counted p s.names told → NoneLeft s → Follows p told (Running run.mode run.line (Within (section_of part) w)) s
+        (step.new_iteration s run)
 goes_iteration p told s run part w d over c e = record {
   to = Running run.mode run.line (Within (In phase.Pending) bare);
   goes = doc.section (In phase.Pending) over d refl (opens_bare phase.Pending _ refl) refl;
   stands = record { stands = running pending (record { timers = e.timers; idle = e.idle; prepare = e.prepare; check = e.check }); counted = c };
 }
 
-goes_end : (p : Program) (told : Told) (s : State) (run : Run) (part : TimersOf) (w : Walk) → part_after run.mode (goes s) (doc.Of (section_of part)) ≡ doc.End →
+goes_end : (p : Program) (told : Told) (s : State) (run : Run) (part : TimersOf) (w : Walk) →
+    part_after run.mode (goes s) (doc.Of (section_of part)) ≡ doc.End →
     IsOver w → Counted p s.names told → NoneLeft s → Follows p told (Running run.mode run.line (Within (section_of part) w)) s (step.ends s run)
 goes_end p told s run part w d over c e = record {
   to = Between (run.line + 1);
@@ -307,7 +317,8 @@ leave_follows : (p : Program) (told : Told) (s : State) (run : Run) (part : Time
 leave_follows p told s run timers_of.Entry w over c e = cond_both (goes s) _ _ (Follows p told (Running run.mode run.line (Within Entry w)) s)
     (λ g. goes_iteration p told s run timers_of.Entry w (entry_next run.mode (goes s) g) over c e)
     (λ g. goes_end p told s run timers_of.Entry w (entry_end run.mode (goes s) g) over c e)
-leave_follows p told s run timers_of.Iteration w over c e = cond_both (is_default run.mode && goes s) _ _ (Follows p told (Running run.mode run.line (Within (In phase.Timers) w)) s)
+leave_follows p told s run timers_of.Iteration w over c e = cond_both (is_default run.mode && goes s) _ _
+    (Follows p told (Running run.mode run.line (Within (In phase.Timers) w)) s)
     (λ g. goes_iteration p told s run timers_of.Iteration w (timers_next run.mode (goes s) g) over c e)
     (λ g. goes_end p told s run timers_of.Iteration w (timers_end run.mode (goes s) g) over c e)
 
@@ -331,31 +342,38 @@ calls_next w id rest b e =
 abbrev called_names : State → Var → List Named
 called_names s v = (with_named s v (record (named s v) { calls = (named s v).calls + 1 })).names
 
-call_counted : (p : Program) (told : Told) (s : State) (v : Var) → Counted p s.names told → Counted p (called_names s v) (record { called = v ∷ told.called })
+call_counted : (p : Program) (told : Told) (s : State) (v : Var) → Counted p s.names told →
+    Counted p (called_names s v) (record { called = v ∷ told.called })
 call_counted p told s v c = counted_call p s.names told v (record (named s v) { calls = (named s v).calls + 1 }) refl c
 
-its_body : (p : Program) (told : Told) (s : State) (v : Var) → Counted p s.names told → IsBody p (body_from p v ((named s v).calls + 1) 0) (body_of p v (next_call told v))
+its_body : (p : Program) (told : Told) (s : State) (v : Var) → Counted p s.names told →
+    IsBody p (body_from p v ((named s v).calls + 1) 0) (body_of p v (next_call told v))
 its_body p told s v c = next_body p s.names told v ((named s v).calls + 1) refl c
 
 -- the walk with a member called
 abbrev called : Program → Told → Walk → List Id → Var → Walk
 called p told w behind v = record w { ahead = behind; body = body_of p v (next_call told v) }
 
-timers_left : (part : TimersOf) (ready idlers preparers checkers : List Id) (w : Walk) → ready ≡ left_of w.ahead w.off → idlers ≡ [] → preparers ≡ [] → checkers ≡ [] →
+timers_left : (part : TimersOf) (ready idlers preparers checkers : List Id) (w : Walk) → ready ≡ left_of w.ahead w.off → idlers ≡ [] →
+    preparers ≡ [] → checkers ≡ [] →
     Leaves ready idlers preparers checkers (Within (section_of part) w)
 timers_left timers_of.Entry ready idlers preparers checkers w a b c d = record { timers = a; idle = b; prepare = c; check = d }
 timers_left timers_of.Iteration ready idlers preparers checkers w a b c d = record { timers = a; idle = b; prepare = c; check = d }
 
-left_timers : (part : TimersOf) (ready idlers preparers checkers : List Id) (w : Walk) → Leaves ready idlers preparers checkers (Within (section_of part) w) →
+left_timers : (part : TimersOf) (ready idlers preparers checkers : List Id) (w : Walk) →
+    Leaves ready idlers preparers checkers (Within (section_of part) w) →
     (ready ≡ left_of w.ahead w.off) × (idlers ≡ []) × (preparers ≡ []) × (checkers ≡ [])
 left_timers timers_of.Entry ready idlers preparers checkers w l = (l.timers, l.idle, l.prepare, l.check)
 left_timers timers_of.Iteration ready idlers preparers checkers w l = (l.timers, l.idle, l.prepare, l.check)
 
 -- a timer is called from the ready list, in a state that may have started it again
-call_timer : (p : Program) (told : Told) (s u : State) (run : Run) (part : TimersOf) (w : Walk) (t : Id × Handle) (rest : List Id) → held s t.0 ≡ Some t.1 →
-    u.names ≡ s.names → lasting u ≡ lasting s → u.ready ≡ rest → u.idle.yet ≡ [] → u.prepare.yet ≡ [] → u.check.yet ≡ [] → w.body ≡ [] → left_of w.ahead w.off ≡ t.0 ∷ rest →
+call_timer : (p : Program) (told : Told) (s u : State) (run : Run) (part : TimersOf) (w : Walk) (t : Id × Handle) (rest : List Id) →
+    held s t.0 ≡ Some t.1 →
+    u.names ≡ s.names → lasting u ≡ lasting s → u.ready ≡ rest → u.idle.yet ≡ [] → u.prepare.yet ≡ [] → u.check.yet ≡ [] → w.body ≡ [] →
+        left_of w.ahead w.off ≡ t.0 ∷ rest →
     Counted p s.names told →
-    Follows p told (Running run.mode run.line (Within (section_of part) w)) s (call p u (record run { stage = stage.Timers part Firing }) t.0 t.1.name)
+    Follows p told (Running run.mode run.line (Within (section_of part) w)) s
+        (call p u (record run { stage = stage.Timers part Firing }) t.0 t.1.name)
 call_timer p told s u run part w t rest h names lasts ready idlers preparers checkers b e c =
     let v = t.1.name in
     let next = calls_next w t.0 rest b e in
@@ -364,7 +382,9 @@ call_timer p told s u run part w t rest h names lasts ready idlers preparers che
       to = Running run.mode run.line (Within (section_of part) (called p told w next.behind v));
       goes = doc.call v t.0 next.behind next.is (named_of s t h) refl lasts;
       stands = record {
-        stands = running (fires (its_body p told u v cu)) (timers_left part u.ready u.idle.yet u.prepare.yet u.check.yet (called p told w next.behind v) (ready ∙ next.left) idlers preparers checkers);
+        stands = running (fires (its_body p told u v cu))
+            (timers_left part u.ready u.idle.yet u.prepare.yet u.check.yet (called p told w next.behind v)
+            (ready ∙ next.left) idlers preparers checkers);
         counted = call_counted p told u v cu;
       };
     }
@@ -380,14 +400,16 @@ fire_follows p told s run part w k c l b =
       leave_follows p told s run part w (record { done = b; may_pass = all_off w.ahead w.off (sym left.0 ∙ none) }) c
       (record { timers = none; idle = left.1; prepare = left.2; check = left.3 }))
   where
-    fired : (s.ready ≡ left_of w.ahead w.off) × (s.idle.yet ≡ []) × (s.prepare.yet ≡ []) × (s.check.yet ≡ []) → (t : Id × Handle) → FrontOf s s.ready t →
+    fired : (s.ready ≡ left_of w.ahead w.off) × (s.idle.yet ≡ []) × (s.prepare.yet ≡ []) × (s.check.yet ≡ []) → (t : Id × Handle) →
+        FrontOf s s.ready t →
         Follows p told (Running run.mode run.line (Within (section_of part) w)) s
         (call p (restarted (record s { ready = drop 1 s.ready }) t.0 t.1) (record run { stage = stage.Timers part Firing }) t.0 t.1.name)
     fired left t f =
         let u : State = record s { ready = drop 1 s.ready } in
         let e : left_of w.ahead w.off ≡ t.0 ∷ f.rest = sym left.0 ∙ f.are in
         cond_both (t.1.repeat == 0) u (started u t.0 t.1 t.1.repeat t.1.repeat)
-        (λ (x : State). Follows p told (Running run.mode run.line (Within (section_of part) w)) s (call p x (record run { stage = stage.Timers part Firing }) t.0 t.1.name))
+        (λ (x : State). Follows p told (Running run.mode run.line (Within (section_of part) w)) s
+            (call p x (record run { stage = stage.Timers part Firing }) t.0 t.1.name))
         (λ z. call_timer p told s u run part w t f.rest f.holds refl refl f.behind left.1 left.2 left.3 b e c)
         (λ z. call_timer p told s (started u t.0 t.1 t.1.repeat t.1.repeat) run part w t f.rest f.holds refl refl f.behind left.1 left.2 left.3 b e c)
 
@@ -401,7 +423,8 @@ late_due s (t ∷ ts) drawn k e = at (nat_le t.0.at s.time) refl e where
   is_held : Fits s.slots (IsSet t.0) t.1
   is_held = (k.each t.0 t.1 (inl (refl, refl))).0
 
-  at : (b : Bool) → nat_le t.0.at s.time ≡ b → ◌≡◌ {A = Option (Id × Handle)} (if b then with_id t.1 (held s t.1) else None) None → due_ids s.time (t ∷ ts) ≡ []
+  at : (b : Bool) → nat_le t.0.at s.time ≡ b → ◌≡◌ {A = Option (Id × Handle)} (if b then with_id t.1 (held s t.1) else None) None →
+      due_ids s.time (t ∷ ts) ≡ []
   at true due f = cc (ap (with_id t.1) (sym is_held.holds) ∙ f)
   at false late f = none_due s.time t ts k.sorted late
 
@@ -414,50 +437,64 @@ collect_follows p told s run part w k c l b =
     (λ t e. moved left t (first_of s s.timers t e))
     (λ e. fire_follows p told s run part w k c
       (timers_left part s.ready s.idle.yet s.prepare.yet s.check.yet w
-      (sym (append-nil s.ready) ∙ ap (λ (ids : List Id). s.ready ++ ids) (sym (late_due s s.timers s.next_start k.timers e)) ∙ left.0) left.1 left.2 left.3) b)
+      (sym (append-nil s.ready) ∙ ap (λ (ids : List Id). s.ready ++ ids) (sym (late_due s s.timers s.next_start k.timers e))
+          ∙ left.0) left.1 left.2 left.3) b)
   where
-    moved : ((s.ready ++ due_now s) ≡ left_of w.ahead w.off) × (s.idle.yet ≡ []) × (s.prepare.yet ≡ []) × (s.check.yet ≡ []) → (t : Id × Handle) → FirstOf s s.timers t →
-        Follows p told (Running run.mode run.line (Within (section_of part) w)) s (Moves (step.at (collected s t.0 t.1) run (stage.Timers part Collecting)) None)
+    moved : ((s.ready ++ due_now s) ≡ left_of w.ahead w.off) × (s.idle.yet ≡ []) × (s.prepare.yet ≡ []) × (s.check.yet ≡ []) → (t : Id × Handle) →
+        FirstOf s s.timers t →
+        Follows p told (Running run.mode run.line (Within (section_of part) w)) s
+            (Moves (step.at (collected s t.0 t.1) run (stage.Timers part Collecting)) None)
     moved left t f =
-        let all : due_now s ≡ t.0 ∷ due_ids s.time (drop 1 s.timers) = ap (due_ids s.time) f.are ∙ one_more s.time (f.key, t.0) f.rest f.due ∙ ap (λ (ts : List (Due × Id)). t.0 ∷ due_ids s.time ts) (sym f.behind) in
+        let all : due_now s ≡ t.0 ∷ due_ids s.time (drop 1 s.timers) = ap (due_ids s.time) f.are ∙ one_more s.time (f.key, t.0) f.rest f.due
+            ∙ ap (λ (ts : List (Due × Id)). t.0 ∷ due_ids s.time ts) (sym f.behind) in
         let same : (s.ready ++ t.0 ∷ []) ++ due_ids s.time (drop 1 s.timers) ≡ left_of w.ahead w.off =
             append_assoc s.ready (t.0 ∷ []) (due_ids s.time (drop 1 s.timers)) ∙ ap (λ (ids : List Id). s.ready ++ ids) (sym all) ∙ left.0 in
-        (record { stands = running (collects b) (timers_left part _ s.idle.yet s.prepare.yet s.check.yet w same left.1 left.2 left.3); counted = c }, refl)
+        (record { stands = running (collects b) (timers_left part _ s.idle.yet s.prepare.yet s.check.yet w same left.1 left.2 left.3);
+            counted = c }, refl)
 
 -- ---- sections of watchers
 
-opens_idle : (s t : State) → Kept s → s.idle.yet ≡ [] → Opens phase.Idle (record { before = s; seen = seen.Section phase.Idle; after = t }) (begun_with s.idle.list)
+opens_idle : (s t : State) → Kept s → s.idle.yet ≡ [] → Opens phase.Idle (record { before = s; seen = seen.Section phase.Idle; after = t })
+    (begun_with s.idle.list)
 opens_idle s t k e = record { list = (refl, are_active s kind.Idle s.idle e k.idle); off = refl; body = refl }
 
-opens_prepare : (s t : State) → Kept s → s.prepare.yet ≡ [] → Opens phase.Prepare (record { before = s; seen = seen.Section phase.Prepare; after = t }) (begun_with s.prepare.list)
+opens_prepare : (s t : State) → Kept s → s.prepare.yet ≡ [] → Opens phase.Prepare
+    (record { before = s; seen = seen.Section phase.Prepare; after = t }) (begun_with s.prepare.list)
 opens_prepare s t k e = record { list = (refl, are_active s kind.Prepare s.prepare e k.prepare); off = refl; body = refl }
 
-opens_check : (s t : State) → Kept s → s.check.yet ≡ [] → Opens phase.Check (record { before = s; seen = seen.Section phase.Check; after = t }) (begun_with s.check.list)
+opens_check : (s t : State) → Kept s → s.check.yet ≡ [] → Opens phase.Check (record { before = s; seen = seen.Section phase.Check; after = t })
+    (begun_with s.check.list)
 opens_check s t k e = record { list = (refl, are_active s kind.Check s.check e k.check); off = refl; body = refl }
 
 -- a section of watchers begins behind a part that may be left
-begin_follows : (p : Program) (told : Told) (s : State) (run : Run) (q : WatcherKind) (at : Standing) → MayLeave s at → IsNext (part_of at) (doc.Of (In (phase_of q))) →
+begin_follows : (p : Program) (told : Told) (s : State) (run : Run) (q : WatcherKind) (at : Standing) → MayLeave s at →
+    IsNext (part_of at) (doc.Of (In (phase_of q))) →
     Kept s → Counted p s.names told → NoneLeft s → Follows p told (Running run.mode run.line at) s (step.begin_walk s run q)
 begin_follows p told s run watcher.Idle at over next k c e = record {
   to = Running run.mode run.line (Within (In phase.Idle) (begun_with s.idle.list));
   goes = doc.section (In phase.Idle) over (next run.mode (goes s)) refl (opens_idle s _ k e.idle) refl;
-  stands = record { stands = running (idle refl) (record { timers = e.timers; idle = sym (none_off s.idle.list); prepare = e.prepare; check = e.check }); counted = c };
+  stands = record { stands = running (idle refl)
+      (record { timers = e.timers; idle = sym (none_off s.idle.list); prepare = e.prepare; check = e.check }); counted = c };
 }
 begin_follows p told s run watcher.Prepare at over next k c e = record {
   to = Running run.mode run.line (Within (In phase.Prepare) (begun_with s.prepare.list));
   goes = doc.section (In phase.Prepare) over (next run.mode (goes s)) refl (opens_prepare s _ k e.prepare) refl;
-  stands = record { stands = running (prepare refl) (record { timers = e.timers; idle = e.idle; prepare = sym (none_off s.prepare.list); check = e.check }); counted = c };
+  stands = record { stands = running (prepare refl)
+      (record { timers = e.timers; idle = e.idle; prepare = sym (none_off s.prepare.list); check = e.check }); counted = c };
 }
 begin_follows p told s run watcher.Check at over next k c e = record {
   to = Running run.mode run.line (Within (In phase.Check) (begun_with s.check.list));
   goes = doc.section (In phase.Check) over (next run.mode (goes s)) refl (opens_check s _ k e.check) refl;
-  stands = record { stands = running (check refl) (record { timers = e.timers; idle = e.idle; prepare = e.prepare; check = sym (none_off s.check.list) }); counted = c };
+  stands = record { stands = running (check refl)
+      (record { timers = e.timers; idle = e.idle; prepare = e.prepare; check = sym (none_off s.check.list) }); counted = c };
 }
 
 -- a section without callbacks begins behind a part that may be left
-bare_follows : (p : Program) (told : Told) (s t : State) (run : Run) (x : Stage) (word : Phase) (at : Standing) → MayLeave s at → IsNext (part_of at) (doc.Of (In word)) →
+bare_follows : (p : Program) (told : Told) (s t : State) (run : Run) (x : Stage) (word : Phase) (at : Standing) → MayLeave s at →
+    IsNext (part_of at) (doc.Of (In word)) →
     Opens word (record { before = s; seen = seen.Section word; after = step.at t run x }) bare → lasting t ≡ doc.after_line word s →
-    StandsIn p None x (Within (In word) bare) → Leaves (waiting x t.ready (due_now t)) t.idle.yet t.prepare.yet t.check.yet (Within (In word) bare) → Counted p t.names told →
+    StandsIn p None x (Within (In word) bare) → Leaves (waiting x t.ready (due_now t)) t.idle.yet t.prepare.yet t.check.yet (Within (In word) bare) →
+        Counted p t.names told →
     Follows p told (Running run.mode run.line at) s (step.begins t run x word)
 bare_follows p told s t run x word at over next opens lasts stands left c = record {
   to = Running run.mode run.line (Within (In word) bare);
@@ -475,18 +512,22 @@ poll_follows p told s run w over k c e = record {
   stands = record { stands = running polls (record { timers = e.timers; idle = e.idle; prepare = e.prepare; check = e.check }); counted = c };
 }
 
-after_follows : (p : Program) (told : Told) (s : State) (run : Run) (q : WatcherKind) (w : Walk) → IsOver w → Kept s → Counted p s.names told → NoneLeft s →
+after_follows : (p : Program) (told : Told) (s : State) (run : Run) (q : WatcherKind) (w : Walk) → IsOver w → Kept s → Counted p s.names told →
+    NoneLeft s →
     Follows p told (Running run.mode run.line (Within (In (phase_of q)) w)) s (step.after_walk s run q)
 after_follows p told s run watcher.Idle w over k c e = begin_follows p told s run watcher.Prepare (Within (In phase.Idle) w) over prepare_next k c e
 after_follows p told s run watcher.Prepare w over k c e = poll_follows p told s run w over k c e
 after_follows p told s run watcher.Check w over k c e =
-    bare_follows p told s s run stage.Closing phase.Closing (Within (In phase.Check) w) over closing_next (opens_bare phase.Closing _ refl) refl closing
+    bare_follows p told s s run stage.Closing phase.Closing (Within (In phase.Check) w) over closing_next
+        (opens_bare phase.Closing _ refl) refl closing
     (record { timers = e.timers; idle = e.idle; prepare = e.prepare; check = e.check }) c
 
 -- the next watcher is called
 call_watcher : (p : Program) (told : Told) (s : State) (run : Run) (q : WatcherKind) (w : Walk) (t : Id × Handle) → run.stage ≡ step.stage_of q →
-    FrontOf s (watched s q).yet t → Leaves s.ready s.idle.yet s.prepare.yet s.check.yet (Within (In (phase_of q)) w) → w.body ≡ [] → Counted p s.names told →
-    Follows p told (Running run.mode run.line (Within (In (phase_of q)) w)) s (call p (with_watched s q (moved_on (watched s q) t.0)) run t.0 t.1.name)
+    FrontOf s (watched s q).yet t → Leaves s.ready s.idle.yet s.prepare.yet s.check.yet (Within (In (phase_of q)) w) → w.body ≡ [] →
+        Counted p s.names told →
+    Follows p told (Running run.mode run.line (Within (In (phase_of q)) w)) s
+        (call p (with_watched s q (moved_on (watched s q) t.0)) run t.0 t.1.name)
 call_watcher p told s run watcher.Idle w t st f l b c =
     let v = t.1.name in
     let next = calls_next w t.0 f.rest b (sym l.idle ∙ f.are) in
@@ -494,7 +535,8 @@ call_watcher p told s run watcher.Idle w t st f l b c =
       to = Running run.mode run.line (Within (In phase.Idle) (called p told w next.behind v));
       goes = doc.call v t.0 next.behind next.is (named_of s t f.holds) refl refl;
       stands = record {
-        stands = rw st (running (idle (its_body p told s v c)) (record { timers = l.timers; idle = f.behind ∙ next.left; prepare = l.prepare; check = l.check }));
+        stands = rw st (running (idle (its_body p told s v c))
+            (record { timers = l.timers; idle = f.behind ∙ next.left; prepare = l.prepare; check = l.check }));
         counted = call_counted p told s v c;
       };
     }
@@ -505,7 +547,8 @@ call_watcher p told s run watcher.Prepare w t st f l b c =
       to = Running run.mode run.line (Within (In phase.Prepare) (called p told w next.behind v));
       goes = doc.call v t.0 next.behind next.is (named_of s t f.holds) refl refl;
       stands = record {
-        stands = rw st (running (prepare (its_body p told s v c)) (record { timers = l.timers; idle = l.idle; prepare = f.behind ∙ next.left; check = l.check }));
+        stands = rw st (running (prepare (its_body p told s v c))
+            (record { timers = l.timers; idle = l.idle; prepare = f.behind ∙ next.left; check = l.check }));
         counted = call_counted p told s v c;
       };
     }
@@ -516,19 +559,22 @@ call_watcher p told s run watcher.Check w t st f l b c =
       to = Running run.mode run.line (Within (In phase.Check) (called p told w next.behind v));
       goes = doc.call v t.0 next.behind next.is (named_of s t f.holds) refl refl;
       stands = record {
-        stands = rw st (running (check (its_body p told s v c)) (record { timers = l.timers; idle = l.idle; prepare = l.prepare; check = f.behind ∙ next.left }));
+        stands = rw st (running (check (its_body p told s v c))
+            (record { timers = l.timers; idle = l.idle; prepare = l.prepare; check = f.behind ∙ next.left }));
         counted = call_counted p told s v c;
       };
     }
 
 -- the list of a kind is the one that its section walks
-own_list : (s : State) (q : WatcherKind) (w : Walk) → Leaves s.ready s.idle.yet s.prepare.yet s.check.yet (Within (In (phase_of q)) w) → (watched s q).yet ≡ left_of w.ahead w.off
+own_list : (s : State) (q : WatcherKind) (w : Walk) → Leaves s.ready s.idle.yet s.prepare.yet s.check.yet (Within (In (phase_of q)) w) →
+    (watched s q).yet ≡ left_of w.ahead w.off
 own_list s watcher.Idle w l = l.idle
 own_list s watcher.Prepare w l = l.prepare
 own_list s watcher.Check w l = l.check
 
 -- with none of its own left, none is left
-none_own : (s : State) (q : WatcherKind) (w : Walk) → (watched s q).yet ≡ [] → Leaves s.ready s.idle.yet s.prepare.yet s.check.yet (Within (In (phase_of q)) w) → NoneLeft s
+none_own : (s : State) (q : WatcherKind) (w : Walk) → (watched s q).yet ≡ [] →
+    Leaves s.ready s.idle.yet s.prepare.yet s.check.yet (Within (In (phase_of q)) w) → NoneLeft s
 none_own s watcher.Idle w e l = record { timers = l.timers; idle = e; prepare = l.prepare; check = l.check }
 none_own s watcher.Prepare w e l = record { timers = l.timers; idle = l.idle; prepare = e; check = l.check }
 none_own s watcher.Check w e l = record { timers = l.timers; idle = l.idle; prepare = l.prepare; check = e }
@@ -538,14 +584,17 @@ everyone s watcher.Idle k = k.idle
 everyone s watcher.Prepare k = k.prepare
 everyone s watcher.Check k = k.check
 
-walk_follows : (p : Program) (told : Told) (s : State) (run : Run) (q : WatcherKind) (w : Walk) → run.stage ≡ step.stage_of q → Kept s → Counted p s.names told →
+walk_follows : (p : Program) (told : Told) (s : State) (run : Run) (q : WatcherKind) (w : Walk) → run.stage ≡ step.stage_of q → Kept s →
+    Counted p s.names told →
     Leaves s.ready s.idle.yet s.prepare.yet s.check.yet (Within (In (phase_of q)) w) → w.body ≡ [] →
     Follows p told (Running run.mode run.line (Within (In (phase_of q)) w)) s (step.walk p s run q)
-walk_follows p told s run q w st k c l b = found_both (front s (watched s q).yet) _ _ (Follows p told (Running run.mode run.line (Within (In (phase_of q)) w)) s)
+walk_follows p told s run q w st k c l b = found_both (front s (watched s q).yet) _ _
+    (Follows p told (Running run.mode run.line (Within (In (phase_of q)) w)) s)
     (λ t e. call_watcher p told s run q w t st (front_of s (watched s q).yet t e) l b c)
     (λ e. let each = each_back (Fits s.slots (Watches (kind_as q))) (watched s q).list (watched s q).yet (everyone s q k).lists.each in
       let none : (watched s q).yet ≡ [] = no_front s (Watches (kind_as q)) (watched s q).yet each e in
-      after_follows p told s run q w (record { done = b; may_pass = all_off w.ahead w.off (sym (own_list s q w l) ∙ none) }) k c (none_own s q w none l))
+      after_follows p told s run q w (record { done = b; may_pass = all_off w.ahead w.off (sym (own_list s q w l) ∙ none) }) k c
+          (none_own s q w none l))
 
 -- ---- a stage
 
@@ -555,10 +604,12 @@ closing_follows : (p : Program) (told : Told) (s : State) (run : Run) → Kept s
 closing_follows p told s run k c e = record {
   to = Running run.mode run.line (Within (In phase.Timers) (begun_with (due_ids s.clock s.timers)));
   goes = doc.section (In phase.Timers) bare_over (timers_after run.mode (goes s)) refl
-      (record { list = record { timers = s.timers; are = are_timers _ s.timers s.next_start k.timers; due = refl; distinct = due_distinct s s.clock k }; off = refl; body = refl }) refl;
+      (record { list = record { timers = s.timers; are = are_timers _ s.timers s.next_start k.timers; due = refl;
+          distinct = due_distinct s s.clock k }; off = refl; body = refl }) refl;
   stands = record {
     stands = running (collects refl)
-        (record { timers = ap (λ (ids : List Id). ids ++ due_ids s.clock s.timers) e.timers ∙ sym (none_off (due_ids s.clock s.timers)); idle = e.idle; prepare = e.prepare; check = e.check });
+        (record { timers = ap (λ (ids : List Id). ids ++ due_ids s.clock s.timers) e.timers ∙ sym
+            (none_off (due_ids s.clock s.timers)); idle = e.idle; prepare = e.prepare; check = e.check });
     counted = c;
   };
 }
@@ -619,8 +670,10 @@ none_left s o k l =
     }
 
 -- who is left after an op in a section of watchers
-watchers_left : (s : State) (o : Op) (q : WatcherKind) (w : Walk) (rest : List Site) → Kept s → Leaves s.ready s.idle.yet s.prepare.yet s.check.yet (Within (In (phase_of q)) w) →
-    Leaves (do_op s o).state.ready (do_op s o).state.idle.yet (do_op s o).state.prepare.yet (do_op s o).state.check.yet (Within (In (phase_of q)) (done_one s o (In (phase_of q)) w rest))
+watchers_left : (s : State) (o : Op) (q : WatcherKind) (w : Walk) (rest : List Site) → Kept s →
+    Leaves s.ready s.idle.yet s.prepare.yet s.check.yet (Within (In (phase_of q)) w) →
+    Leaves (do_op s o).state.ready (do_op s o).state.idle.yet (do_op s o).state.prepare.yet (do_op s o).state.check.yet
+        (Within (In (phase_of q)) (done_one s o (In (phase_of q)) w rest))
 watchers_left s o watcher.Idle w rest k l =
     let f = op_effect s o k in
     record {
@@ -647,15 +700,18 @@ watchers_left s o watcher.Check w rest k l =
     }
 
 -- and in a section of timers
-timers_left_by : (s : State) (o : Op) (part : TimersOf) (w : Walk) (rest : List Site) → Kept s → Leaves s.ready s.idle.yet s.prepare.yet s.check.yet (Within (section_of part) w) →
-    Leaves (do_op s o).state.ready (do_op s o).state.idle.yet (do_op s o).state.prepare.yet (do_op s o).state.check.yet (Within (section_of part) (done_one s o (section_of part) w rest))
+timers_left_by : (s : State) (o : Op) (part : TimersOf) (w : Walk) (rest : List Site) → Kept s →
+    Leaves s.ready s.idle.yet s.prepare.yet s.check.yet (Within (section_of part) w) →
+    Leaves (do_op s o).state.ready (do_op s o).state.idle.yet (do_op s o).state.prepare.yet (do_op s o).state.check.yet
+        (Within (section_of part) (done_one s o (section_of part) w rest))
 timers_left_by s o part w rest k l =
     let f = op_effect s o k in
     let left = left_timers part s.ready s.idle.yet s.prepare.yet s.check.yet w l in
     timers_left part _ _ _ _ (done_one s o (section_of part) w rest) (ready part f left.0)
     (still_none _ s.idle.yet _ f.idle left.1) (still_none _ s.prepare.yet _ f.prepare left.2) (still_none _ s.check.yet _ f.check left.3)
   where
-    ready : (x : TimersOf) → Effect s o (do_op s o) → s.ready ≡ left_of w.ahead w.off → (do_op s o).state.ready ≡ left_of w.ahead (done_one s o (section_of x) w rest).off
+    ready : (x : TimersOf) → Effect s o (do_op s o) → s.ready ≡ left_of w.ahead w.off →
+        (do_op s o).state.ready ≡ left_of w.ahead (done_one s o (section_of x) w rest).off
     ready timers_of.Entry f e = more_left w.ahead w.off _ s.ready _ f.ready e
     ready timers_of.Iteration f e = more_left w.ahead w.off _ s.ready _ f.ready e
 
@@ -663,18 +719,23 @@ nothing_there : {A : Type 0} {o : Option A} {x : A} → o ≡ None → o ≡ Som
 nothing_there e f = cc (e, f)
 
 -- the next op of a body, in any section
-op_follows : (p : Program) (told : Told) (s : State) (run : Run) (body : Body) (part : Section) (w : Walk) (x : CallbackLine) → slice_get (on_lines p body.name) body.next ≡ Some x →
-    Kept s → Counted p s.names told → (b : IsBody p (Some body) w.body) → let t = record (do_op s x.op).state { place = place.Running (record run { body = body_from p body.name body.call (body.next + 1) }) } in
+op_follows : (p : Program) (told : Told) (s : State) (run : Run) (body : Body) (part : Section) (w : Walk) (x : CallbackLine) →
+    slice_get (on_lines p body.name) body.next ≡ Some x →
+    Kept s → Counted p s.names told → (b : IsBody p (Some body) w.body) → let t = record
+        (do_op s x.op).state { place = place.Running (record run { body = body_from p body.name body.call (body.next + 1) }) } in
     ((rest : List Site) → IsBody p (body_from p body.name body.call (body.next + 1)) rest →
-      StandsAt p t.ready (due_now t) t.idle.yet t.prepare.yet t.check.yet t.place (Running run.mode run.line (Within part (done_one s x.op part w rest)))) →
+      StandsAt p t.ready (due_now t) t.idle.yet t.prepare.yet t.check.yet t.place
+          (Running run.mode run.line (Within part (done_one s x.op part w rest)))) →
     Follows p told (Running run.mode run.line (Within part w)) s (step.body_step p s run body (Some x))
 op_follows p told s run body part w x e k c b stands = record {
   to = _;
   goes = doc.body_op (site.On body.name body.next) _ x.op _ b.are (ap (option_map (λ (l : CallbackLine). l.op)) e) refl (op_effect s x.op k).lasts;
-  stands = record { stands = stands _ (is_body p body.name body.call (body.next + 1)); counted = counted_kept p _ s.names told (op_effect s x.op k).calls c };
+  stands = record { stands = stands _ (is_body p body.name body.call (body.next + 1)); counted = counted_kept p _ s.names told
+      (op_effect s x.op k).calls c };
 }
 
-body_follows : (p : Program) (told : Told) (s : State) (run : Run) (body : Body) (x : Stage) (at : Standing) (l : Option CallbackLine) → run.stage ≡ x →
+body_follows : (p : Program) (told : Told) (s : State) (run : Run) (body : Body) (x : Stage) (at : Standing) (l : Option CallbackLine) →
+    run.stage ≡ x →
     slice_get (on_lines p body.name) body.next ≡ l → Kept s → Counted p s.names told →
     StandsIn p (Some body) x at → Leaves (waiting x s.ready (due_now s)) s.idle.yet s.prepare.yet s.check.yet at →
     Follows p told (Running run.mode run.line at) s (step.body_step p s run body l)
@@ -685,7 +746,8 @@ body_follows p told s run body x at None st e k c (fires b) l = absurd (nothing_
 body_follows p told s run body x at (Some y) st e k c (idle {w = w} b) l =
     op_follows p told s run body (In phase.Idle) w y e k c b (λ rest is. rw st (running (idle is) (watchers_left s y.op watcher.Idle w rest k l)))
 body_follows p told s run body x at (Some y) st e k c (prepare {w = w} b) l =
-    op_follows p told s run body (In phase.Prepare) w y e k c b (λ rest is. rw st (running (prepare is) (watchers_left s y.op watcher.Prepare w rest k l)))
+    op_follows p told s run body (In phase.Prepare) w y e k c b
+        (λ rest is. rw st (running (prepare is) (watchers_left s y.op watcher.Prepare w rest k l)))
 body_follows p told s run body x at (Some y) st e k c (check {w = w} b) l =
     op_follows p told s run body (In phase.Check) w y e k c b (λ rest is. rw st (running (check is) (watchers_left s y.op watcher.Check w rest k l)))
 body_follows p told s run body x at (Some y) st e k c (fires {part = part} {w = w} b) l =
@@ -698,7 +760,8 @@ run_lasts Default s = refl
 run_lasts Once s = refl
 run_lasts Nowait s = refl
 
-main_follows : (p : Program) (told : Told) (s : State) (i : ℕ) (x : Option MainOp) → slice_get p.main i ≡ x → Kept s → Counted p s.names told → NoneLeft s →
+main_follows : (p : Program) (told : Told) (s : State) (i : ℕ) (x : Option MainOp) → slice_get p.main i ≡ x → Kept s → Counted p s.names told →
+    NoneLeft s →
     Follows p told (Between i) s (step.main_step s i x)
 main_follows p told s i None e k c l = tt
 main_follows p told s i (Some (main.Run m)) e k c l = record {
@@ -706,7 +769,9 @@ main_follows p told s i (Some (main.Run m)) e k c l = record {
   goes = doc.run m e refl (run_lasts m s);
   stands = begun_run m;
 } where
-  begun_run : (x : Mode) → Stands p told (record (if is_default x then refreshed s else s) { place = place.Running (record { mode = m; line = i; stage = stage.Entry; body = None }) }) (Running m i Begun)
+  begun_run : (x : Mode) → Stands p told (record
+      (if is_default x then refreshed s else s) { place = place.Running (record { mode = m; line = i; stage = stage.Entry; body = None }) })
+      (Running m i Begun)
   begun_run Default = record { stands = running begun l; counted = c }
   begun_run Once = record { stands = running begun l; counted = c }
   begun_run Nowait = record { stands = running begun l; counted = c }
@@ -720,7 +785,8 @@ run_follows : (p : Program) (told : Told) (s : State) (run : Run) (body : Option
     StandsIn p body run.stage at → Leaves (waiting run.stage s.ready (due_now s)) s.idle.yet s.prepare.yet s.check.yet at →
     Follows p told (Running run.mode run.line at) s (step.run_step p s run body)
 run_follows p told s run None at k c h l = stage_follows p told s run run.stage at refl k c h l
-run_follows p told s run (Some body) at k c h l = body_follows p told s run body run.stage at (slice_get (on_lines p body.name) body.next) refl refl k c h l
+run_follows p told s run (Some body) at k c h l = body_follows p told s run body run.stage at
+    (slice_get (on_lines p body.name) body.next) refl refl k c h l
 
 place_follows : (p : Program) (told : Told) (s : State) (x : Place) (at : Position) → Kept s → Counted p s.names told →
     StandsAt p s.ready (due_now s) s.idle.yet s.prepare.yet s.check.yet x at → Follows p told at s (step.loop_step p s x)
@@ -739,7 +805,8 @@ follows p told s at (Tick ms) k h = tick_follows p told s at ms h
 -- ---- all steps
 
 -- a section of watchers begins only where none of them is yet to run
-rested_in : (p : Program) (s : State) (body : Option Body) (x : Stage) (at : Standing) → StandsIn p body x at → Leaves (waiting x s.ready (due_now s)) s.idle.yet s.prepare.yet s.check.yet at →
+rested_in : (p : Program) (s : State) (body : Option Body) (x : Stage) (at : Standing) → StandsIn p body x at →
+    Leaves (waiting x s.ready (due_now s)) s.idle.yet s.prepare.yet s.check.yet at →
     IsRestedIn body x s
 rested_in p s (Some body) x at h l = tt
 rested_in p s None stage.Entry at h l = tt
@@ -753,18 +820,22 @@ rested_in p s None stage.Check at h l = tt
 rested_in p s None stage.Closing at h l = tt
 rested_in p s None (stage.Timers part timing) at h l = tt
 
-rested_at : (p : Program) (s : State) (x : Place) (at : Position) → StandsAt p s.ready (due_now s) s.idle.yet s.prepare.yet s.check.yet x at → IsRestedAt x s
+rested_at : (p : Program) (s : State) (x : Place) (at : Position) → StandsAt p s.ready (due_now s) s.idle.yet s.prepare.yet s.check.yet x at →
+    IsRestedAt x s
 rested_at p s (place.Main i) at h = tt
 rested_at p s (place.Running run) at (running h l) = rested_in p s run.body run.stage _ h l
 
-one_step : (p : Program) (told : Told) (s : State) (at : Position) (es : List Event) (n : Next) (was : Lasting) → lasting s ≡ was → Kept s → StaysKept n → Stands p told s at →
-    Follows p told at s n → ((told' : Told) (t : State) (to : Position) (now : Lasting) → lasting t ≡ now → Kept t → Stands p told' t to → GoesOn p to told' now (history_from p t es)) →
+one_step : (p : Program) (told : Told) (s : State) (at : Position) (es : List Event) (n : Next) (was : Lasting) → lasting s ≡ was → Kept s →
+    StaysKept n → Stands p told s at →
+    Follows p told at s n → ((told' : Told) (t : State) (to : Position) (now : Lasting) → lasting t ≡ now → Kept t → Stands p told' t to →
+        GoesOn p to told' now (history_from p t es)) →
     GoesOn p at told was (line_of_step s n ++ history_from p (state_of s n) es)
 one_step p told s at es (Moves t (Some what)) was l k j h f rest = line l f.goes (rest (told_with told what) t f.to (lasting t) refl j f.stands)
 one_step p told s at es (Moves t None) was l k j h f rest = rest told t at was (f.1 ∙ l) j f.0
 one_step p told s at es (Refuses why) was l k j h f rest = rest told s at was l k h
 
-goes_on : (p : Program) (es : List Event) (told : Told) (s : State) (at : Position) (was : Lasting) → lasting s ≡ was → Kept s → Stands p told s at → GoesOn p at told was (history_from p s es)
+goes_on : (p : Program) (es : List Event) (told : Told) (s : State) (at : Position) (was : Lasting) → lasting s ≡ was → Kept s → Stands p told s at →
+    GoesOn p at told was (history_from p s es)
 goes_on p [] told s at was l k h = cut
 goes_on p (e ∷ es) told s at was l k h =
     one_step p told s at es (next p s e) was l k (next_kept p s e (rested_at p s s.place at h.stands) k) h (follows p told s at e k h) (goes_on p es)

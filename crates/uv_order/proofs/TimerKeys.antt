@@ -41,7 +41,8 @@ equal_parts Greater q e = cc e
 pub equal_key : (a b : Due) → due_cmp a b ≡ Equal → a ≡ b
 equal_key a b e =
     let parts = equal_parts (nat_cmp a.at b.at) (nat_cmp a.start b.start) e in
-    same_parts a b (equal_number a.at b.at (nat_cmp a.at b.at) (says a.at b.at) parts.0) (equal_number a.start b.start (nat_cmp a.start b.start) (says a.start b.start) parts.1)
+    same_parts a b (equal_number a.at b.at (nat_cmp a.at b.at) (says a.at b.at) parts.0)
+        (equal_number a.start b.start (nat_cmp a.start b.start) (says a.start b.start) parts.1)
 
 is_equal : (o : Ordering) → is_eq o ≡ true → o ≡ Equal
 is_equal Less e = cc e
@@ -55,7 +56,8 @@ pub key_itself : (a b : Due) → a ≡ b → is_at (due_cmp a) b ≡ true
 key_itself a b e = rw (← e) (ap is_eq (tied_itself due_cmp_total a))
 
 pub not_before_itself : (a b : Due) → a ≡ b → due_cmp a b ≡ Less → ⊥
-not_before_itself a b e l = let tied : due_cmp a a ≡ Equal = tied_itself due_cmp_total a in let less : due_cmp a a ≡ Less = subst (λ (x : Due). due_cmp a x ≡ Less) (sym e) l in cc (tied, less)
+not_before_itself a b e l = let tied : due_cmp a a ≡ Equal = tied_itself due_cmp_total a in let less : due_cmp a a ≡ Less = subst
+    (λ (x : Due). due_cmp a x ≡ Less) (sym e) l in cc (tied, less)
 
 at_most : (x y : ℕ) (r q : Ordering) → MatchOrdering r (x < y) (x ≡ y) (y < x) → ordering_then r q ≡ Less → x ≤ y
 at_most x y Less q h e = omega arith
@@ -98,7 +100,8 @@ one_id (t ∷ ts) key i j s (inr a) (inr b) = one_id ts key i j s.1 a b
 pub still_has : (ts : List (Due × Id)) (key other : Due) (id : Id) → Has ts other id → (other ≡ key → ⊥) → Has (without_timer ts key) other id
 still_has [] key other id h d = absurd h
 still_has (t ∷ ts) key other id h d = at (is_at (due_cmp key) t.0) refl h (λ k. still_has ts key other id k d) where
-  at : (b : Bool) → is_at (due_cmp key) t.0 ≡ b → Has (t ∷ ts) other id → (Has ts other id → Has (without_timer ts key) other id) → Has (cond b ts (t ∷ without_timer ts key)) other id
+  at : (b : Bool) → is_at (due_cmp key) t.0 ≡ b → Has (t ∷ ts) other id → (Has ts other id → Has (without_timer ts key) other id) →
+      Has (cond b ts (t ∷ without_timer ts key)) other id
   at true e (inl is) later = absurd (d (sym is.0 ∙ sym (key_at key t.0 e)))
   at true e (inr rest) later = rest
   at false e (inl is) later = inl is
@@ -107,7 +110,8 @@ still_has (t ∷ ts) key other id h d = at (is_at (due_cmp key) t.0) refl h (λ 
 pub had : (ts : List (Due × Id)) (key other : Due) (id : Id) → InOrder ts → Has (without_timer ts key) other id → Has ts other id × (other ≡ key → ⊥)
 had [] key other id s h = absurd h
 had (t ∷ ts) key other id s h = at (is_at (due_cmp key) t.0) refl h (λ k. had ts key other id s.1 k) where
-  at : (b : Bool) → is_at (due_cmp key) t.0 ≡ b → Has (cond b ts (t ∷ without_timer ts key)) other id → (Has (without_timer ts key) other id → Has ts other id × (other ≡ key → ⊥)) → Has (t ∷ ts) other id × (other ≡ key → ⊥)
+  at : (b : Bool) → is_at (due_cmp key) t.0 ≡ b → Has (cond b ts (t ∷ without_timer ts key)) other id →
+      (Has (without_timer ts key) other id → Has ts other id × (other ≡ key → ⊥)) → Has (t ∷ ts) other id × (other ≡ key → ⊥)
   at true e k later = (inr k, λ f. not_before_itself t.0 other (sym (key_at key t.0 e) ∙ sym f) (before_each ts t.0 other id s.0 k))
   at false e (inl is) later = (inl is, λ f. both_ways e (key_itself key t.0 (sym f ∙ sym is.0))) where
     both_ways : is_at (due_cmp key) t.0 ≡ false → is_at (due_cmp key) t.0 ≡ true → ⊥
@@ -138,7 +142,8 @@ IsNew key (t ∷ ts) = (is_at (due_cmp key) t.0 ≡ false) × IsNew key ts
 pub has_new : (ts : List (Due × Id)) (key : Due) (id : Id) → IsNew key ts → Has (with_timer ts key id) key id
 has_new [] key id n = inl (refl, refl)
 has_new (t ∷ ts) key id n = at (due_cmp key t.0) n.0 (has_new ts key id n.1) where
-  at : (o : Ordering) → is_eq o ≡ false → Has (with_timer ts key id) key id → Has (match_ordering o ((key, id) ∷ t ∷ ts) ((t.0, id) ∷ ts) (t ∷ with_timer ts key id)) key id
+  at : (o : Ordering) → is_eq o ≡ false → Has (with_timer ts key id) key id →
+      Has (match_ordering o ((key, id) ∷ t ∷ ts) ((t.0, id) ∷ ts) (t ∷ with_timer ts key id)) key id
   at Less e rest = inl (refl, refl)
   at Equal e rest = cc e
   at Greater e rest = inr rest
@@ -146,17 +151,20 @@ has_new (t ∷ ts) key id n = at (due_cmp key t.0) n.0 (has_new ts key id n.1) w
 pub has_old : (ts : List (Due × Id)) (key other : Due) (id i : Id) → IsNew key ts → Has ts other i → Has (with_timer ts key id) other i
 has_old [] key other id i n h = absurd h
 has_old (t ∷ ts) key other id i n h = at (due_cmp key t.0) n.0 h (λ k. has_old ts key other id i n.1 k) where
-  at : (o : Ordering) → is_eq o ≡ false → Has (t ∷ ts) other i → (Has ts other i → Has (with_timer ts key id) other i) → Has (match_ordering o ((key, id) ∷ t ∷ ts) ((t.0, id) ∷ ts) (t ∷ with_timer ts key id)) other i
+  at : (o : Ordering) → is_eq o ≡ false → Has (t ∷ ts) other i → (Has ts other i → Has (with_timer ts key id) other i) →
+      Has (match_ordering o ((key, id) ∷ t ∷ ts) ((t.0, id) ∷ ts) (t ∷ with_timer ts key id)) other i
   at Less e k later = inr k
   at Equal e k later = cc e
   at Greater e (inl is) later = inl is
   at Greater e (inr rest) later = inr (later rest)
 
-pub new_or_old : (ts : List (Due × Id)) (key other : Due) (id i : Id) → IsNew key ts → Has (with_timer ts key id) other i → ((key ≡ other) × (id ≡ i)) ⊎ Has ts other i
+pub new_or_old : (ts : List (Due × Id)) (key other : Due) (id i : Id) → IsNew key ts → Has (with_timer ts key id) other i →
+    ((key ≡ other) × (id ≡ i)) ⊎ Has ts other i
 new_or_old [] key other id i n (inl is) = inl is
 new_or_old [] key other id i n (inr none) = absurd none
 new_or_old (t ∷ ts) key other id i n h = at (due_cmp key t.0) n.0 h (λ k. new_or_old ts key other id i n.1 k) where
-  at : (o : Ordering) → is_eq o ≡ false → Has (match_ordering o ((key, id) ∷ t ∷ ts) ((t.0, id) ∷ ts) (t ∷ with_timer ts key id)) other i → (Has (with_timer ts key id) other i → ((key ≡ other) × (id ≡ i)) ⊎ Has ts other i) → ((key ≡ other) × (id ≡ i)) ⊎ Has (t ∷ ts) other i
+  at : (o : Ordering) → is_eq o ≡ false → Has (match_ordering o ((key, id) ∷ t ∷ ts) ((t.0, id) ∷ ts) (t ∷ with_timer ts key id)) other i →
+      (Has (with_timer ts key id) other i → ((key ≡ other) × (id ≡ i)) ⊎ Has ts other i) → ((key ≡ other) × (id ≡ i)) ⊎ Has (t ∷ ts) other i
   at Less e (inl is) later = inl is
   at Less e (inr rest) later = inr rest
   at Equal e k later = cc e
@@ -174,7 +182,8 @@ before_with (t ∷ ts) a key id h l = at (due_cmp key t.0) (before_with ts a key
 pub in_order_with : (ts : List (Due × Id)) (key : Due) (id : Id) → InOrder ts → InOrder (with_timer ts key id)
 in_order_with [] key id s = (tt, tt)
 in_order_with (t ∷ ts) key id s = at (due_cmp key t.0) refl (in_order_with ts key id s.1) where
-  at : (o : Ordering) → due_cmp key t.0 ≡ o → InOrder (with_timer ts key id) → InOrder (match_ordering o ((key, id) ∷ t ∷ ts) ((t.0, id) ∷ ts) (t ∷ with_timer ts key id))
+  at : (o : Ordering) → due_cmp key t.0 ≡ o → InOrder (with_timer ts key id) →
+      InOrder (match_ordering o ((key, id) ∷ t ∷ ts) ((t.0, id) ∷ ts) (t ∷ with_timer ts key id))
   at Less e rest = ((e, before_more ts key t.0 e s.0), s)
   at Equal e rest = s
   at Greater e rest = (before_with ts t.0 key id s.0 (less_turned key t.0 e), rest)
@@ -182,7 +191,8 @@ in_order_with (t ∷ ts) key id s = at (due_cmp key t.0) refl (in_order_with ts 
 -- a key whose start number was not yet drawn is new
 pub is_new : (ts : List (Due × Id)) (key : Due) → ((other : Due) (id : Id) → Has ts other id → other.start < key.start) → IsNew key ts
 is_new [] key h = tt
-is_new (t ∷ ts) key h = (turned_other (due_cmp t.0 key) (another t.0 key (h t.0 t.1 (inl (refl, refl)))) (due_cmp_total.antisymm key t.0), is_new ts key (λ other id k. h other id (inr k))) where
+is_new (t ∷ ts) key h = (turned_other (due_cmp t.0 key) (another t.0 key (h t.0 t.1 (inl (refl, refl))))
+    (due_cmp_total.antisymm key t.0), is_new ts key (λ other id k. h other id (inr k))) where
   turned_other : (o : Ordering) → is_eq o ≡ false → due_cmp key t.0 ≡ ordering_reverse o → is_eq (due_cmp key t.0) ≡ false
   turned_other Less e f = ap is_eq f
   turned_other Equal e f = cc e
@@ -209,14 +219,19 @@ none_due time t ts s e = rw e (none_later time ts t.0 e s.0)
 due_has : (time : ℕ) (ts : List (Due × Id)) (id : Id) → ((key : Due) → Has ts key id → ⊥) → has_id (due_ids time ts) id ≡ false
 due_has time [] id h = refl
 due_has time (t ∷ ts) id h = at (nat_le t.0.at time) (due_has time ts id (λ key k. h key (inr k))) (same_id t.1 id) refl where
-  at : (b : Bool) → has_id (due_ids time ts) id ≡ false → (c : Bool) → same_id t.1 id ≡ c → has_id (map (λ (u : Due × Id). u.1) (cond b (t ∷ filter (λ (u : Due × Id). nat_le u.0.at time) ts) (filter (λ (u : Due × Id). nat_le u.0.at time) ts))) id ≡ false
+  at : (b : Bool) → has_id (due_ids time ts) id ≡ false → (c : Bool) → same_id t.1 id ≡ c →
+      has_id (map (λ (u : Due × Id). u.1) (cond b (t ∷ filter (λ (u : Due × Id). nat_le u.0.at time) ts)
+      (filter (λ (u : Due × Id). nat_le u.0.at time) ts))) id ≡ false
   at true rest true e = absurd (h t.0 (inl (refl, same t.1 id e)))
   at true rest false e = rw (e, rest) refl
   at false rest c e = rest
 
-pub distinct_due : (time : ℕ) (ts : List (Due × Id)) → InOrder ts → ((a b : Due) (id : Id) → Has ts a id → Has ts b id → a ≡ b) → AreDistinct (due_ids time ts)
+pub distinct_due : (time : ℕ) (ts : List (Due × Id)) → InOrder ts → ((a b : Due) (id : Id) → Has ts a id → Has ts b id → a ≡ b) →
+    AreDistinct (due_ids time ts)
 distinct_due time [] s one = tt
 distinct_due time (t ∷ ts) s one = at (nat_le t.0.at time) (distinct_due time ts s.1 (λ a b id h k. one a b id (inr h) (inr k))) where
-  at : (b : Bool) → AreDistinct (due_ids time ts) → AreDistinct (map (λ (u : Due × Id). u.1) (cond b (t ∷ filter (λ (u : Due × Id). nat_le u.0.at time) ts) (filter (λ (u : Due × Id). nat_le u.0.at time) ts)))
-  at true rest = (due_has time ts t.1 (λ key k. not_before_itself t.0 key (one t.0 key t.1 (inl (refl, refl)) (inr k)) (before_each ts t.0 key t.1 s.0 k)), rest)
+  at : (b : Bool) → AreDistinct (due_ids time ts) → AreDistinct
+      (map (λ (u : Due × Id). u.1) (cond b (t ∷ filter (λ (u : Due × Id). nat_le u.0.at time) ts) (filter (λ (u : Due × Id). nat_le u.0.at time) ts)))
+  at true rest = (due_has time ts t.1 (λ key k. not_before_itself t.0 key (one t.0 key t.1 (inl (refl, refl)) (inr k))
+      (before_each ts t.0 key t.1 s.0 k)), rest)
   at false rest = rest

@@ -24,7 +24,8 @@ room_sound p (InMain op) e = ltb-true (line_count p) 65535 e
 room_sound p (InCallback v line) e = ltb-true (line_count p) 65535 e
 
 room_complete : (p : Program) (s : Statement) → HasRoom p s → has_room p s ≡ true
-room_complete p (Declares name) h = and_from (nat_lt (line_count p) 65535) (nat_lt (length p.names) 4096) (lt-ltb (line_count p) 65535 h.0) (lt-ltb (length p.names) 4096 h.1)
+room_complete p (Declares name) h = and_from (nat_lt (line_count p) 65535) (nat_lt (length p.names) 4096) (lt-ltb (line_count p) 65535 h.0)
+    (lt-ltb (length p.names) 4096 h.1)
 room_complete p (InMain op) h = lt-ltb (line_count p) 65535 h
 room_complete p (InCallback v line) h = lt-ltb (line_count p) 65535 h
 
@@ -46,7 +47,8 @@ line_begins [] b word rest e = absurd cc
 line_begins (c ∷ cs) b word rest e =
     elim (cases_Bool (c == 32)) [
       | inl space ↦ absurd (no_word (fields_of cs) (sym (ap (λ t. cond t ([] ∷ fields_of cs) (onto_first c (fields_of cs))) space) ∙ e))
-      | inr other ↦ ap (λ n. n == 35) (onto_begins c b word (fields_of cs) rest (sym (ap (λ t. cond t ([] ∷ fields_of cs) (onto_first c (fields_of cs))) other) ∙ e))
+      | inr other ↦ ap (λ n. n == 35) (onto_begins c b word (fields_of cs) rest
+          (sym (ap (λ t. cond t ([] ∷ fields_of cs) (onto_first c (fields_of cs))) other) ∙ e))
     ]
   where
     no_word : (parts : List (List ℕ)) → ◌≡◌ {A = List (List ℕ)} ([] ∷ parts) ((b ∷ word) ∷ rest) → ⊥
@@ -86,7 +88,8 @@ pub after_complete : (p q : Program) (line : List ℕ) → AreDistinct p.names �
 unfolding after_line
 after_complete p q line distinct (skips is skipped) = rw ((is_line_decides line).1 is, (is_skipped_decides line).1 skipped) refl
 after_complete p q line distinct (says s is said room) =
-    rw ((is_line_decides line).1 is, says_no_skip p.names line s said, statement_complete p.names (fields_of line) s distinct said, room_complete p s room) refl
+    rw ((is_line_decides line).1 is, says_no_skip p.names line s said, statement_complete p.names
+        (fields_of line) s distinct said, room_complete p s room) refl
 
 -- the names of a script are distinct
 distinct_push : (p : Program) (s : Statement) → AreDistinct p.names → IsSound p s → AreDistinct (with_statement p s).names
@@ -107,12 +110,14 @@ pub distinct_none : AreDistinct []
 distinct_none i j d a b = absurd (omega arith)
 
 -- one more line behind the others
-pub ReadsAll-push : (p q r : Program) (lines : List (List ℕ)) (line : List ℕ) → ReadsAll p lines q → Reads q line r → ReadsAll p (lines ++ line ∷ []) r
+pub ReadsAll-push : (p q r : Program) (lines : List (List ℕ)) (line : List ℕ) → ReadsAll p lines q → Reads q line r →
+    ReadsAll p (lines ++ line ∷ []) r
 ReadsAll-push p q r [] line none last = one last none
 ReadsAll-push p q r (a ∷ lines) line (one {q = m} first rest) last = one first (ReadsAll-push m q r lines line rest last)
 
 -- a line that the reader refuses is outside the grammar
-pub refused_line : (p : Program) (before : List (List ℕ)) (line : List ℕ) → ReadsAll blank before p → after_line p line ≡ None → (q : Program) → Reads p line q → ⊥
+pub refused_line : (p : Program) (before : List (List ℕ)) (line : List ℕ) → ReadsAll blank before p → after_line p line ≡ None → (q : Program) →
+    Reads p line q → ⊥
 refused_line p before line read e q is =
     let wrong = after_complete p q line (distinct_all blank p before distinct_none read) is in
     none-some q (sym e ∙ wrong)
@@ -128,11 +133,13 @@ lines_few (b ∷ bs) =
     let few = lines_few bs in
     let onto = onto_length b (lines_of bs) in
     let both : length (cond (b == 10) ([] ∷ lines_of bs) (onto_first b (lines_of bs))) ≤ length bs + 1 =
-    cond_both (b == 10) ([] ∷ lines_of bs) (onto_first b (lines_of bs)) (λ (ls : List (List ℕ)). length ls ≤ length bs + 1) (λ e. omega arith) (λ e. omega arith) in
+    cond_both (b == 10) ([] ∷ lines_of bs) (onto_first b (lines_of bs)) (λ (ls : List (List ℕ)). length ls ≤ length bs + 1) (λ e. omega arith)
+        (λ e. omega arith) in
     omega arith
 
 -- in a loop over lines, what a line and the lines behind it say of their number
-pub line_number : {A : Type 0} (f : A → List ℕ) (text : List ℕ) (before : List A) (line : List ℕ) (left after : List (List ℕ)) → map f before ++ left ≡ lines_of text → left ≡ line ∷ after → length before < length text
+pub line_number : {A : Type 0} (f : A → List ℕ) (text : List ℕ) (before : List A) (line : List ℕ) (left after : List (List ℕ)) →
+    map f before ++ left ≡ lines_of text → left ≡ line ∷ after → length before < length text
 line_number f text before line left after rest step =
     let few = lines_few text in
     let whole = ap length rest in
@@ -142,16 +149,20 @@ line_number f text before line left after rest step =
     omega arith
 
 -- and of the text
-pub lines_step : {A : Type 0} (f : A → List ℕ) (lines : List (List ℕ)) (before : List A) (x : A) (left after : List (List ℕ)) → map f before ++ left ≡ lines → left ≡ f x ∷ after → map f (before ++ x ∷ []) ++ after ≡ lines
+pub lines_step : {A : Type 0} (f : A → List ℕ) (lines : List (List ℕ)) (before : List A) (x : A) (left after : List (List ℕ)) →
+    map f before ++ left ≡ lines → left ≡ f x ∷ after → map f (before ++ x ∷ []) ++ after ≡ lines
 lines_step f lines before x left after rest step =
     ap (λ l. l ++ after) (map-append f before (x ∷ [])) ∙ append_assoc (map f before) (f x ∷ []) after ∙ ap (λ l. map f before ++ l) (sym step) ∙ rest
 
-pub reads_step : {A : Type 0} (f : A → List ℕ) (p q : Program) (before : List A) (x : A) → ReadsAll blank (map f before) p → after_line p (f x) ≡ Some q → ReadsAll blank (map f (before ++ x ∷ [])) q
+pub reads_step : {A : Type 0} (f : A → List ℕ) (p q : Program) (before : List A) (x : A) → ReadsAll blank (map f before) p →
+    after_line p (f x) ≡ Some q → ReadsAll blank (map f (before ++ x ∷ [])) q
 reads_step f p q before x read e =
     subst (λ (l : List (List ℕ)). ReadsAll blank l q) (sym (map-append f before (x ∷ [])))
     (ReadsAll-push blank p q (map f before) (f x) read (after_sound p q (f x) e))
 
-pub bad_line : {A : Type 0} (f : A → List ℕ) (text : List ℕ) (number : ℕ) (p : Program) (before : List A) (x : A) (left after : List (List ℕ)) → ReadsAll blank (map f before) p → map f before ++ left ≡ lines_of text → left ≡ f x ∷ after → number ≡ length before + 1 → after_line p (f x) ≡ None → IsBadLine text number
+pub bad_line : {A : Type 0} (f : A → List ℕ) (text : List ℕ) (number : ℕ) (p : Program) (before : List A) (x : A) (left after : List (List ℕ)) →
+    ReadsAll blank (map f before) p → map f before ++ left ≡ lines_of text → left ≡ f x ∷ after → number ≡ length before + 1 →
+    after_line p (f x) ≡ None → IsBadLine text number
 bad_line f text number p before x left after read rest step count e = record {
   before = map f before;
   line = f x;
@@ -164,7 +175,9 @@ bad_line f text number p before x left after read rest step count e = record {
 }
 
 -- the fault of a line is the text's
-pub line_fault : {A : Type 0} (f : A → List ℕ) (text : List ℕ) (number : ℕ) (p q : Program) (before : List A) (x : A) (left after : List (List ℕ)) (fault : Fault) → ReadsAll blank (map f before) p → map f before ++ left ≡ lines_of text → left ≡ f x ∷ after → number ≡ length before + 1 → ReadsLine p (f x) number (Err fault) q → Parses text (Err fault)
+pub line_fault : {A : Type 0} (f : A → List ℕ) (text : List ℕ) (number : ℕ) (p q : Program) (before : List A) (x : A) (left after : List (List ℕ))
+    (fault : Fault) → ReadsAll blank (map f before) p → map f before ++ left ≡ lines_of text → left ≡ f x ∷ after → number ≡ length before + 1 →
+    ReadsLine p (f x) number (Err fault) q → Parses text (Err fault)
 line_fault f text number p q before x left after (fault.Script bad) read rest step count h =
     subst (IsBadLine text) (sym h.0) (bad_line f text number p before x left after read rest step count h.1)
 line_fault f text number p q before x left after fault.Memory read rest step count h = tt

@@ -50,10 +50,12 @@ init_sound names fields o e =
     let k = kind_of-sound word.0.0 kind.0 kind.1 in
     let z = none_is word.0.1 end.0 end.1 in
     subst (IsOp names (codes "init" ∷ fields)) (same_Some _ _ end.2)
-    (init name.0.0 v.0 kind.0 (ap (λ r. codes "init" ∷ r) (a ∙ ap (λ r. name.0.0 ∷ r) (b ∙ ap (λ w. w ∷ word.0.1) k ∙ ap (λ r. kind_word kind.0 ∷ r) z)))
+    (init name.0.0 v.0 kind.0 (ap (λ r. codes "init" ∷ r)
+        (a ∙ ap (λ r. name.0.0 ∷ r) (b ∙ ap (λ w. w ∷ word.0.1) k ∙ ap (λ r. kind_word kind.0 ∷ r) z)))
     (place_of-sound names name.0.0 v.0 v.1))
 
-timer_start_sound : (names : List (List ℕ)) (name : List ℕ) (v : Var) (timeout : List ℕ) (fields : List (List ℕ)) (o : Op) → IsDeclared names name v → timer_start_of v timeout fields ≡ Some o → IsOp names (codes "start" ∷ name ∷ timeout ∷ fields) o
+timer_start_sound : (names : List (List ℕ)) (name : List ℕ) (v : Var) (timeout : List ℕ) (fields : List (List ℕ)) (o : Op) → IsDeclared names name v →
+    timer_start_of v timeout fields ≡ Some o → IsOp names (codes "start" ∷ name ∷ timeout ∷ fields) o
 unfolding timer_start_of
 timer_start_sound names name v timeout fields o is e =
     let t = bound _ (number_of timeout) o e in
@@ -66,7 +68,8 @@ timer_start_sound names name v timeout fields o is e =
     (start name v timeout last.0.0 t.0 r.0 (ap (λ s. codes "start" ∷ name ∷ timeout ∷ s) (a ∙ ap (λ s. last.0.0 ∷ s) z))
     is (number_of-sound timeout t.0 t.1) (number_of-sound last.0.0 r.0 r.1))
 
-start_by_sound : (names : List (List ℕ)) (name : List ℕ) (v : Var) (fields : List (List ℕ)) (o : Op) → IsDeclared names name v → start_by v fields ≡ Some o → IsOp names (codes "start" ∷ name ∷ fields) o
+start_by_sound : (names : List (List ℕ)) (name : List ℕ) (v : Var) (fields : List (List ℕ)) (o : Op) → IsDeclared names name v →
+    start_by v fields ≡ Some o → IsOp names (codes "start" ∷ name ∷ fields) o
 start_by_sound names name v [] o is e =
     subst (IsOp names (codes "start" ∷ name ∷ [])) (same_Some _ _ e) (on_name (op.StartWatcher v) (codes "start") name v refl refl is)
 start_by_sound names name v (timeout ∷ fields) o is e = timer_start_sound names name v timeout fields o is e
@@ -116,7 +119,8 @@ name_alone_sound names fields v e =
       declared = place_of-sound names name.0.0 v (w.1 ∙ end.2);
     }
 
-short_op_sound : (names fields : List (List ℕ)) (word : List ℕ) (this : Option Op) (o : Op) → bare_op word ≡ this → short_op_of names fields word this ≡ Some o → IsOp names (word ∷ fields) o
+short_op_sound : (names fields : List (List ℕ)) (word : List ℕ) (this : Option Op) (o : Op) → bare_op word ≡ this →
+    short_op_of names fields word this ≡ Some o → IsOp names (word ∷ fields) o
 unfolding short_op_of
 short_op_sound names fields word (Some x) o is e =
     let end = bound _ (none_left fields) o e in
@@ -127,7 +131,8 @@ short_op_sound names fields word None o is e =
     on_name o word name.name v.0 (named_op-sound word v.0 o v.2) (ap (λ s. word ∷ s) name.alone) name.declared
 
 -- the fact of an op, by its word
-op_word : (names : List (List ℕ)) (this word : List ℕ) (fields : List (List ℕ)) (o : Op) → word ≡ this → IsOp names (this ∷ fields) o → IsOp names (word ∷ fields) o
+op_word : (names : List (List ℕ)) (this word : List ℕ) (fields : List (List ℕ)) (o : Op) → word ≡ this → IsOp names (this ∷ fields) o →
+    IsOp names (word ∷ fields) o
 op_word names this word fields o e is = subst (λ (w : List ℕ). IsOp names (w ∷ fields) o) (sym e) is
 
 op_sound : (names : List (List ℕ)) (word : List ℕ) (fields : List (List ℕ)) (o : Op) → op_of names word fields ≡ Some o → IsOp names (word ∷ fields) o
@@ -211,14 +216,16 @@ marked_is (b ∷ bs) digits e =
     let is = cond_some (b == 64) bs digits e in
     ap (λ c. c ∷ bs) (eqb-true b 64 is.0) ∙ ap (λ r. 64 ∷ r) is.1
 
-in_calls_sound : (names : List (List ℕ)) (name : List ℕ) (v : Var) (word : List ℕ) (fields : List (List ℕ)) (s : Statement) → IsDeclared names name v → in_calls_of names v None word fields ≡ Some s → Says names (codes "on" ∷ name ∷ word ∷ fields) s
+in_calls_sound : (names : List (List ℕ)) (name : List ℕ) (v : Var) (word : List ℕ) (fields : List (List ℕ)) (s : Statement) →
+    IsDeclared names name v → in_calls_of names v None word fields ≡ Some s → Says names (codes "on" ∷ name ∷ word ∷ fields) s
 unfolding in_calls_of
 in_calls_sound names name v word fields s is e =
     let o = mapped (λ (o : Op). InCallback v (record { call = None; op = o })) (op_of names word fields) s e in
     subst (Says names (codes "on" ∷ name ∷ word ∷ fields)) o.2
     (in_callback name v (word ∷ fields) o.0 refl is (op_sound names word fields o.0 o.1))
 
-in_call_sound : (names : List (List ℕ)) (name : List ℕ) (v : Var) (digits : List ℕ) (fields : List (List ℕ)) (s : Statement) → IsDeclared names name v → in_call_of names v digits fields ≡ Some s → Says names (codes "on" ∷ name ∷ (64 ∷ digits) ∷ fields) s
+in_call_sound : (names : List (List ℕ)) (name : List ℕ) (v : Var) (digits : List ℕ) (fields : List (List ℕ)) (s : Statement) →
+    IsDeclared names name v → in_call_of names v digits fields ≡ Some s → Says names (codes "on" ∷ name ∷ (64 ∷ digits) ∷ fields) s
 unfolding in_call_of in_calls_of
 in_call_sound names name v digits fields s is e =
     let k = bound _ (call_of digits) s e in
@@ -231,7 +238,8 @@ in_call_sound names name v digits fields s is e =
     (in_call name v digits k.0 (word.0.0 ∷ word.0.1) o.0 refl is call.number call.first call.last
     (op_sound names word.0.0 word.0.1 o.0 o.1)))
 
-calls_sound : (names : List (List ℕ)) (name : List ℕ) (v : Var) (word : List ℕ) (fields : List (List ℕ)) (s : Statement) (mark : Option (List ℕ)) → IsDeclared names name v → marked word ≡ mark → calls_of names v word fields mark ≡ Some s → Says names (codes "on" ∷ name ∷ word ∷ fields) s
+calls_sound : (names : List (List ℕ)) (name : List ℕ) (v : Var) (word : List ℕ) (fields : List (List ℕ)) (s : Statement) (mark : Option (List ℕ)) →
+    IsDeclared names name v → marked word ≡ mark → calls_of names v word fields mark ≡ Some s → Says names (codes "on" ∷ name ∷ word ∷ fields) s
 unfolding calls_of
 calls_sound names name v word fields s None is mark e = in_calls_sound names name v word fields s is e
 calls_sound names name v word fields s (Some digits) is mark e =
@@ -249,7 +257,8 @@ callback_sound names fields s e =
     subst (λ (r : List (List ℕ)). Says names (codes "on" ∷ r) s) (sym (a ∙ ap (λ r. name.0.0 ∷ r) b))
     (calls_sound names name.0.0 v.0 word.0.0 word.0.1 s (marked word.0.0) (place_of-sound names name.0.0 v.0 v.1) refl word.2)
 
-says_word : (names : List (List ℕ)) (this word : List ℕ) (fields : List (List ℕ)) (s : Statement) → word ≡ this → Says names (this ∷ fields) s → Says names (word ∷ fields) s
+says_word : (names : List (List ℕ)) (this word : List ℕ) (fields : List (List ℕ)) (s : Statement) → word ≡ this → Says names (this ∷ fields) s →
+    Says names (word ∷ fields) s
 says_word names this word fields s e is = subst (λ (w : List ℕ). Says names (w ∷ fields) s) (sym e) is
 
 pub statement_sound : (names fields : List (List ℕ)) (s : Statement) → statement_of names fields ≡ Some s → Says names fields s
@@ -273,13 +282,16 @@ abbrev pub AreDistinct : List (List ℕ) → Type 0
 AreDistinct names = AllPairs (λ a b. a ≢ b) names
 
 -- one place has one name, and one name one place
-one_place : (names : List (List ℕ)) (name : List ℕ) (i j : ℕ) → AreDistinct names → slice_get names i ≡ Some name → slice_get names j ≡ Some name → i ≡ j
+one_place : (names : List (List ℕ)) (name : List ℕ) (i j : ℕ) → AreDistinct names → slice_get names i ≡ Some name → slice_get names j ≡ Some name →
+    i ≡ j
 one_place names name i j distinct a b =
     elim (cases_order i j) [
       | inl same ↦ same
       | inr other ↦ elim other [
-        | inl less ↦ absurd (distinct i j name less (slice_get_within names j name b) (get_or_from_slice_get names i name name a ∙ sym (get_or_from_slice_get names j name name b)))
-        | inr more ↦ absurd (distinct j i name more (slice_get_within names i name a) (get_or_from_slice_get names j name name b ∙ sym (get_or_from_slice_get names i name name a)))
+        | inl less ↦ absurd (distinct i j name less (slice_get_within names j name b)
+            (get_or_from_slice_get names i name name a ∙ sym (get_or_from_slice_get names j name name b)))
+        | inr more ↦ absurd (distinct j i name more (slice_get_within names i name a)
+            (get_or_from_slice_get names j name name b ∙ sym (get_or_from_slice_get names i name name a)))
       ]
     ]
 
@@ -310,11 +322,14 @@ record OpParts (names fields : List (List ℕ)) (o : Op) : Type 0 where
   reads : op_of names word rest ≡ Some o
 
 -- an op of a word and a name
-named_parts : (names : List (List ℕ)) (o : Op) (word name : List ℕ) (v : Var) → place_of names name ≡ Some v → named_word o ≡ Some (word, v) → OpParts names (word ∷ name ∷ []) o
+named_parts : (names : List (List ℕ)) (o : Op) (word name : List ℕ) (v : Var) → place_of names name ≡ Some v → named_word o ≡ Some (word, v) →
+    OpParts names (word ∷ name ∷ []) o
 unfolding op_of start_of short_op_of bare_op named_op name_alone
 named_parts names o word name v place e = at o e
   where
-    by : (x : Op) (this : List ℕ) (w : Var) → ◌≡◌ {A = Option (List ℕ × Var)} (Some (this, w)) (Some (word, v)) → bytes_eq this (codes "run") ≡ false → marked this ≡ None → (place_of names name ≡ Some w → op_of names this (name ∷ []) ≡ Some x) → OpParts names (word ∷ name ∷ []) x
+    by : (x : Op) (this : List ℕ) (w : Var) → ◌≡◌ {A = Option (List ℕ × Var)} (Some (this, w)) (Some (word, v)) →
+        bytes_eq this (codes "run") ≡ false → marked this ≡ None → (place_of names name ≡ Some w → op_of names this (name ∷ []) ≡ Some x) →
+        OpParts names (word ∷ name ∷ []) x
     by x this w said no_run no_mark reads =
         let same = same_Some _ _ said in
         subst (λ (p : List ℕ). OpParts names (p ∷ name ∷ []) x) (ap (λ (p : List ℕ × Var). p.0) same)
@@ -343,7 +358,8 @@ bare_parts : (names : List (List ℕ)) (o : Op) (word : List ℕ) → bare_word 
 unfolding op_of short_op_of bare_op
 bare_parts names o word e = at o e
   where
-    by : (x : Op) (this : List ℕ) → Some this ≡ Some word → bytes_eq this (codes "run") ≡ false → marked this ≡ None → op_of names this [] ≡ Some x → OpParts names (word ∷ []) x
+    by : (x : Op) (this : List ℕ) → Some this ≡ Some word → bytes_eq this (codes "run") ≡ false → marked this ≡ None → op_of names this [] ≡ Some x →
+        OpParts names (word ∷ []) x
     by x this said no_run no_mark reads =
         subst (λ (w : List ℕ). OpParts names (w ∷ []) x) (same_Some _ _ said)
         (record { word = this; rest = []; parts = refl; no_run = no_run; no_mark = no_mark; reads = reads })
@@ -387,7 +403,8 @@ op_parts names fields o distinct (on_name x word name v said e is) =
 op_parts names fields o distinct (bare x word said e) =
     subst (λ (r : List (List ℕ)). OpParts names r o) (sym e) (bare_parts names o word said)
 
-declaration_complete : (names : List (List ℕ)) (name : List ℕ) → IsName name → (Contains names name → ⊥) → declaration_of names (name ∷ []) ≡ Some (Declares name)
+declaration_complete : (names : List (List ℕ)) (name : List ℕ) → IsName name → (Contains names name → ⊥) →
+    declaration_of names (name ∷ []) ≡ Some (Declares name)
 unfolding declaration_of
 declaration_complete names name is fresh =
     ap (λ b. cond b (Some (Declares name)) None)
@@ -407,20 +424,25 @@ call_complete digits k is first last =
     rw (number_of-complete digits k is)
     (ap (λ b. cond b (Some k) None) (and_from (nat_le 1 k) (nat_lt k 4294967296) (le-leb 1 k first) (lt-ltb k 4294967296 last)))
 
-callback_complete : (names : List (List ℕ)) (name : List ℕ) (v : Var) (rest : List (List ℕ)) (o : Op) → AreDistinct names → IsDeclared names name v → OpParts names rest o → callback_of names (name ∷ rest) ≡ Some (InCallback v (record { call = None; op = o }))
+callback_complete : (names : List (List ℕ)) (name : List ℕ) (v : Var) (rest : List (List ℕ)) (o : Op) → AreDistinct names → IsDeclared names name v →
+    OpParts names rest o → callback_of names (name ∷ rest) ≡ Some (InCallback v (record { call = None; op = o }))
 unfolding callback_of calls_of in_calls_of
 callback_complete names name v rest o distinct is p = rw (place_complete names name v distinct is, p.parts, p.no_mark, p.reads) refl
 
-in_call_complete : (names : List (List ℕ)) (name : List ℕ) (v : Var) (digits : List ℕ) (k : ℕ) (rest : List (List ℕ)) (o : Op) → AreDistinct names → IsDeclared names name v → call_of digits ≡ Some k → OpParts names rest o → callback_of names (name ∷ (64 ∷ digits) ∷ rest) ≡ Some (InCallback v (record { call = Some k; op = o }))
+in_call_complete : (names : List (List ℕ)) (name : List ℕ) (v : Var) (digits : List ℕ) (k : ℕ) (rest : List (List ℕ)) (o : Op) → AreDistinct names →
+    IsDeclared names name v → call_of digits ≡ Some k → OpParts names rest o →
+    callback_of names (name ∷ (64 ∷ digits) ∷ rest) ≡ Some (InCallback v (record { call = Some k; op = o }))
 unfolding callback_of calls_of in_call_of in_calls_of
 in_call_complete names name v digits k rest o distinct is call p = rw (place_complete names name v distinct is, call, p.parts, p.reads) refl
 
 pub statement_complete : (names fields : List (List ℕ)) (s : Statement) → AreDistinct names → Says names fields s → statement_of names fields ≡ Some s
 unfolding statement_of main_of
 statement_complete names fields s distinct (declares name e is fresh) = ap (statement_of names) e ∙ declaration_complete names name is fresh
-statement_complete names fields s distinct (in_main rest op e is) = ap (statement_of names) e ∙ main_complete names rest op (op_parts names rest op distinct is)
+statement_complete names fields s distinct (in_main rest op e is) = ap (statement_of names) e
+    ∙ main_complete names rest op (op_parts names rest op distinct is)
 statement_complete names fields s distinct (runs mode e) = ap (statement_of names) e ∙ run_complete mode
 statement_complete names fields s distinct (in_callback name v rest op e declared is) =
     ap (statement_of names) e ∙ callback_complete names name v rest op distinct declared (op_parts names rest op distinct is)
 statement_complete names fields s distinct (in_call name v number k rest op e declared is first last op_is) =
-    ap (statement_of names) e ∙ in_call_complete names name v number k rest op distinct declared (call_complete number k is first last) (op_parts names rest op distinct op_is)
+    ap (statement_of names) e ∙ in_call_complete names name v number k rest op distinct declared (call_complete number k is first last)
+        (op_parts names rest op distinct op_is)

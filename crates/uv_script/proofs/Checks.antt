@@ -46,7 +46,8 @@ name_parts b bs h =
     let e = h.is in
     let first : h.first ≡ b = cc in
     let rest : h.rest ≡ bs = cc in
-    (subst IsLetter first h.letter, subst (λ (s : List ℕ). length s ≤ 31) rest h.short, subst (All (λ c. IsLetter c ⊎ (IsDigit c ⊎ (c ≡ 95)))) rest h.others)
+    (subst IsLetter first h.letter, subst (λ (s : List ℕ). length s ≤ 31) rest h.short, subst
+        (All (λ c. IsLetter c ⊎ (IsDigit c ⊎ (c ≡ 95)))) rest h.others)
 
 pub is_name_decides : (name : List ℕ) → Decides (is_name name) (IsName name)
 is_name_decides [] = (λ e. absurd (both_ways false refl e), λ h. absurd (no_name h))
@@ -83,7 +84,8 @@ is_canonical_decides (a ∷ b ∷ bs) = (
 )
 
 decimal_front : (n : ℕ) → n < 2 ^ 64 → HasPlainFront (decimal n)
-decimal_front zero h = subst HasPlainFront (sym (decimal_digit 0 (omega arith))) (record { no_plus = λ e. absurd (omega arith); no_zero = λ e. omega arith })
+decimal_front zero h = subst HasPlainFront (sym (decimal_digit 0 (omega arith)))
+    (record { no_plus = λ e. absurd (omega arith); no_zero = λ e. omega arith })
 decimal_front (suc n) h =
     let first = first_decimal (suc n) (omega arith) h in
     record { no_plus = λ e. absurd (omega arith); no_zero = λ e. absurd (omega arith) }
@@ -149,6 +151,8 @@ no_number_parse text e p n h = let wrong = parse-decimal 64 n text (Err e) h.fit
 pub number_parse : (E : Type 0) (text : List ℕ) (n : ℕ) → is_canonical text ≡ true → ParsesUnsigned {E = E} 64 10 text (Ok n) → IsNumber text n
 number_parse E text n front p =
     let plain = (is_canonical_decides text).0 front in
-    let q : (all_ascii_digits text ≡ true × (0 < length text) × (digits_value 10 text < 2 ^ 64)) × (n ≡ digits_value 10 text) = parse_plain own {E = E} 64 text (Ok n) p plain.no_plus in
-    let e : decimal (digits_value 10 text) ≡ text = decimal-digits_value own text q.0.0 q.0.1 (λ z. let short = plain.no_zero z in omega arith) q.0.2 in
+    let q : (all_ascii_digits text ≡ true × (0 < length text) × (digits_value 10 text < 2 ^ 64)) ×
+        (n ≡ digits_value 10 text) = parse_plain own {E = E} 64 text (Ok n) p plain.no_plus in
+    let e : decimal (digits_value 10 text) ≡ text = decimal-digits_value own text q.0.0 q.0.1
+        (λ z. let short = plain.no_zero z in omega arith) q.0.2 in
     subst (IsNumber text) (sym q.1) (record { is = sym e; fits = q.0.2 })

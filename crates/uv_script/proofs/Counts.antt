@@ -22,7 +22,8 @@ module _ {A : Type 0} (f : A → List CallbackLine) (ks : List A) (i : ℕ) (x y
   pub callbacks-same : f y ≡ f x → map f (slice_set ks i y) ≡ map f ks
   callbacks-same same = map-set_same f ks i y x (same ∙ ap f at)
 
-  pub callbacks-push : (line : CallbackLine) → f y ≡ f x ++ line ∷ [] → map f (slice_set ks i y) ≡ slice_set (map f ks) i (lines_or_none (slice_get (map f ks) i) ++ line ∷ [])
+  pub callbacks-push : (line : CallbackLine) → f y ≡ f x ++ line ∷ [] → map f (slice_set ks i y) ≡ slice_set (map f ks) i
+      (lines_or_none (slice_get (map f ks) i) ++ line ∷ [])
   callbacks-push line more =
       map-set f ks i y ∙ ap (slice_set (map f ks) i) (more ∙ ap (λ o. lines_or_none o ++ line ∷ []) (sym at_place))
 
@@ -34,15 +35,21 @@ module _ {A : Type 0} (f : A → List CallbackLine) (ks : List A) (i : ℕ) (x y
       rw (map-set f ks i y) (omega arith)
 
   -- the count of lines goes up by one
-  pub counted-push : (names : List (List ℕ)) (ops : List MainOp) (n : ℕ) (line : CallbackLine) → f y ≡ f x ++ line ∷ [] → IsCounted n (record { names = names; main = ops; on = map f ks }) → n < 65535 → IsCounted (n + 1) (record { names = names; main = ops; on = map f (slice_set ks i y) })
+  pub counted-push : (names : List (List ℕ)) (ops : List MainOp) (n : ℕ) (line : CallbackLine) → f y ≡ f x ++ line ∷ [] →
+      IsCounted n (record { names = names; main = ops; on = map f ks }) → n < 65535 →
+      IsCounted (n + 1) (record { names = names; main = ops; on = map f (slice_set ks i y) })
   counted-push names ops n line more is room =
       let count = count-push line more in
       let counted = is.counted in
-      let size : length (map f (slice_set ks i y)) ≡ length (map f ks) = length-map (slice_set ks i y) f ∙ length-set ks i y ∙ sym (length-map ks f) in
+      let size : length (map f (slice_set ks i y)) ≡ length (map f ks) = length-map (slice_set ks i y) f ∙ length-set ks i y
+          ∙ sym (length-map ks f) in
       record {
         whole = record { callbacks = size ∙ is.whole.callbacks; few = omega arith };
         counted = omega arith;
       }
 
-  pub counted-same : (names : List (List ℕ)) (ops : List MainOp) (n : ℕ) → f y ≡ f x → IsCounted n (record { names = names; main = ops; on = map f ks }) → IsCounted n (record { names = names; main = ops; on = map f (slice_set ks i y) })
-  counted-same names ops n same is = subst (λ (on : List (List CallbackLine)). IsCounted n (record { names = names; main = ops; on = on })) (sym (callbacks-same same)) is
+  pub counted-same : (names : List (List ℕ)) (ops : List MainOp) (n : ℕ) → f y ≡ f x →
+      IsCounted n (record { names = names; main = ops; on = map f ks }) →
+      IsCounted n (record { names = names; main = ops; on = map f (slice_set ks i y) })
+  counted-same names ops n same is = subst (λ (on : List (List CallbackLine)). IsCounted n (record { names = names; main = ops; on = on }))
+      (sym (callbacks-same same)) is

@@ -34,7 +34,8 @@ first_of_rest : (p q : Program) (line : List ℕ) (lines : List (List ℕ)) → 
 first_of_rest p q line lines (one {q = m} first rest) = (m, first)
 
 -- no script goes on past a line that is refused
-stops : (before after : List (List ℕ)) (line : List ℕ) (script q : Program) → ReadsAll blank before script → ((r : Program) → Reads script line r → ⊥) → ReadsAll blank (before ++ line ∷ after) q → ⊥
+stops : (before after : List (List ℕ)) (line : List ℕ) (script q : Program) → ReadsAll blank before script →
+    ((r : Program) → Reads script line r → ⊥) → ReadsAll blank (before ++ line ∷ after) q → ⊥
 stops before after line script q read refused all =
     let parts = parts_at blank q before (line ∷ after) all in
     let same = all_one blank parts.middle script before distinct_none parts.read read in
@@ -46,7 +47,8 @@ one_script text p q a b = all_one blank p q (lines_of text) distinct_none a b
 
 pub no_bad_line : (text : List ℕ) → HasNoBadLine text
 no_bad_line text p number script bad =
-    stops bad.before bad.after bad.line bad.script p bad.read bad.refused (subst (λ (lines : List (List ℕ)). ReadsAll blank lines p) bad.lines_are script)
+    stops bad.before bad.after bad.line bad.script p bad.read bad.refused
+        (subst (λ (lines : List (List ℕ)). ReadsAll blank lines p) bad.lines_are script)
 
 -- of two cuts of a list the longer one has the other's element
 record GoesPast (before longer : List (List ℕ)) (line : List ℕ) : Type 0 where
@@ -67,7 +69,8 @@ goes_past (w ∷ xs) (z ∷ ys) us vs x y e less =
 not_past : (text : List ℕ) (m n : ℕ) (a : IsBadLine text m) (b : IsBadLine text n) → length a.before < length b.before → ⊥
 not_past text m n a b less =
     let past = goes_past a.before b.before a.after b.after a.line b.line (sym a.lines_are ∙ b.lines_are) less in
-    stops a.before past.between a.line a.script b.script a.read a.refused (subst (λ (lines : List (List ℕ)). ReadsAll blank lines b.script) past.is b.read)
+    stops a.before past.between a.line a.script b.script a.read a.refused
+        (subst (λ (lines : List (List ℕ)). ReadsAll blank lines b.script) past.is b.read)
 
 pub one_bad_line : (text : List ℕ) → HasOneBadLine text
 one_bad_line text m n a b =

@@ -40,14 +40,17 @@ position-finds names name e (k, inside, is) =
     cc
 
 -- both for names that are seen through another type
-pub found_place : {A : Type 0} (f : A → List ℕ) (xs : List A) (names : List (List ℕ)) (name : List ℕ) (i : ℕ) → map f xs ≡ names → position (λ x. bytes_eq name (f x)) xs ≡ Some i → position (bytes_eq name) names ≡ Some i
+pub found_place : {A : Type 0} (f : A → List ℕ) (xs : List A) (names : List (List ℕ)) (name : List ℕ) (i : ℕ) → map f xs ≡ names →
+    position (λ x. bytes_eq name (f x)) xs ≡ Some i → position (bytes_eq name) names ≡ Some i
 found_place f xs names name i view e = ap (position (bytes_eq name)) (sym view) ∙ position-map f (bytes_eq name) xs ∙ e
 
-pub no_place : {A : Type 0} (f : A → List ℕ) (xs : List A) (names : List (List ℕ)) (name : List ℕ) → map f xs ≡ names → position (λ x. bytes_eq name (f x)) xs ≡ None → position (bytes_eq name) names ≡ None
+pub no_place : {A : Type 0} (f : A → List ℕ) (xs : List A) (names : List (List ℕ)) (name : List ℕ) → map f xs ≡ names →
+    position (λ x. bytes_eq name (f x)) xs ≡ None → position (bytes_eq name) names ≡ None
 no_place f xs names name view e = ap (position (bytes_eq name)) (sym view) ∙ position-map f (bytes_eq name) xs ∙ e
 
 -- the same of the reader's word
-pub place_of-found : (names : List (List ℕ)) (name : List ℕ) (i : ℕ) → position (bytes_eq name) names ≡ Some i → place_of names name ≡ Some (record { 0 = i })
+pub place_of-found : (names : List (List ℕ)) (name : List ℕ) (i : ℕ) → position (bytes_eq name) names ≡ Some i →
+    place_of names name ≡ Some (record { 0 = i })
 unfolding place_of
 place_of-found names name i e = ap (option_map as_var) e
 

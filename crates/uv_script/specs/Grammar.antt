@@ -47,10 +47,14 @@ bare_word _ = None
 
 -- the fields of an op, where these names are declared
 pub data IsOp (names : List (List ℕ)) (fields : List (List ℕ)) : Op → Type 0 where
-  init : (name : List ℕ) (v : Var) (kind : Kind) → fields ≡ codes "init" ∷ name ∷ kind_word kind ∷ [] → IsDeclared names name v → IsOp names fields (op.Init v kind)
-  start : (name : List ℕ) (v : Var) (timeout repeat : List ℕ) (t r : ℕ) → fields ≡ codes "start" ∷ name ∷ timeout ∷ repeat ∷ [] → IsDeclared names name v → IsNumber timeout t → IsNumber repeat r → IsOp names fields (op.Start v t r)
-  repeat : (name : List ℕ) (v : Var) (number : List ℕ) (n : ℕ) → fields ≡ codes "repeat" ∷ name ∷ number ∷ [] → IsDeclared names name v → IsNumber number n → IsOp names fields (op.SetRepeat v n)
-  on_name : (o : Op) (word name : List ℕ) (v : Var) → named_word o ≡ Some (word, v) → fields ≡ word ∷ name ∷ [] → IsDeclared names name v → IsOp names fields o
+  init : (name : List ℕ) (v : Var) (kind : Kind) → fields ≡ codes "init" ∷ name ∷ kind_word kind ∷ [] → IsDeclared names name v →
+      IsOp names fields (op.Init v kind)
+  start : (name : List ℕ) (v : Var) (timeout repeat : List ℕ) (t r : ℕ) → fields ≡ codes "start" ∷ name ∷ timeout ∷ repeat ∷ [] →
+      IsDeclared names name v → IsNumber timeout t → IsNumber repeat r → IsOp names fields (op.Start v t r)
+  repeat : (name : List ℕ) (v : Var) (number : List ℕ) (n : ℕ) → fields ≡ codes "repeat" ∷ name ∷ number ∷ [] → IsDeclared names name v →
+      IsNumber number n → IsOp names fields (op.SetRepeat v n)
+  on_name : (o : Op) (word name : List ℕ) (v : Var) → named_word o ≡ Some (word, v) → fields ≡ word ∷ name ∷ [] → IsDeclared names name v →
+      IsOp names fields o
   bare : (o : Op) (word : List ℕ) → bare_word o ≡ Some word → fields ≡ word ∷ [] → IsOp names fields o
 
 -- the fields of a line, and what it says
@@ -58,9 +62,12 @@ pub data Says (names : List (List ℕ)) (fields : List (List ℕ)) : Statement �
   declares : (name : List ℕ) → fields ≡ codes "var" ∷ name ∷ [] → IsName name → (Contains names name → ⊥) → Says names fields (Declares name)
   in_main : (rest : List (List ℕ)) (op : Op) → fields ≡ codes "main" ∷ rest → IsOp names rest op → Says names fields (InMain (main.Op op))
   runs : (mode : Mode) → fields ≡ codes "main" ∷ codes "run" ∷ mode_word mode ∷ [] → Says names fields (InMain (main.Run mode))
-  in_callback : (name : List ℕ) (v : Var) (rest : List (List ℕ)) (op : Op) → fields ≡ codes "on" ∷ name ∷ rest → IsDeclared names name v → IsOp names rest op → Says names fields (InCallback v (record { call = None; op = op }))
+  in_callback : (name : List ℕ) (v : Var) (rest : List (List ℕ)) (op : Op) → fields ≡ codes "on" ∷ name ∷ rest → IsDeclared names name v →
+      IsOp names rest op → Says names fields (InCallback v (record { call = None; op = op }))
   -- with `@k` the op is done in the k-th call only
-  in_call : (name : List ℕ) (v : Var) (number : List ℕ) (k : ℕ) (rest : List (List ℕ)) (op : Op) → fields ≡ codes "on" ∷ name ∷ (64 ∷ number) ∷ rest → IsDeclared names name v → IsNumber number k → 1 ≤ k → k < 2 ^ 32 → IsOp names rest op → Says names fields (InCallback v (record { call = Some k; op = op }))
+  in_call : (name : List ℕ) (v : Var) (number : List ℕ) (k : ℕ) (rest : List (List ℕ)) (op : Op) → fields ≡ codes "on" ∷ name ∷ (64 ∷ number) ∷ rest →
+      IsDeclared names name v → IsNumber number k → 1 ≤ k → k < 2 ^ 32 → IsOp names rest op →
+      Says names fields (InCallback v (record { call = Some k; op = op }))
 
 -- there is room for one more line, and for one more name
 abbrev pub HasRoom : Program → Statement → Type 0

@@ -37,10 +37,12 @@ unfoldable pub place_of : List (List ℕ) → List ℕ → Option Var
 place_of names name = option_map (λ n. record { 0 = n }) (position (bytes_eq name) names)
 
 unfoldable pub kind_of : List ℕ → Option Kind
-kind_of word = if bytes_eq word (codes "timer") then Some kind.Timer else if bytes_eq word (codes "idle") then Some kind.Idle else if bytes_eq word (codes "prepare") then Some kind.Prepare else if bytes_eq word (codes "check") then Some kind.Check else None
+kind_of word = if bytes_eq word (codes "timer") then Some kind.Timer else if bytes_eq word (codes "idle") then Some kind.Idle else if bytes_eq word
+    (codes "prepare") then Some kind.Prepare else if bytes_eq word (codes "check") then Some kind.Check else None
 
 unfoldable pub mode_of : List ℕ → Option Mode
-mode_of word = if bytes_eq word (codes "default") then Some mode.Default else if bytes_eq word (codes "once") then Some mode.Once else if bytes_eq word (codes "nowait") then Some mode.Nowait else None
+mode_of word = if bytes_eq word (codes "default") then Some mode.Default else if bytes_eq word
+    (codes "once") then Some mode.Once else if bytes_eq word (codes "nowait") then Some mode.Nowait else None
 
 -- ops, behind their words
 unfoldable pub init_of : List (List ℕ) → List (List ℕ) → Option Op
@@ -83,11 +85,16 @@ repeat_of names fields = do
 
 -- an op of a word alone
 unfoldable pub bare_op : List ℕ → Option Op
-bare_op word = if bytes_eq word (codes "stoploop") then Some op.StopLoop else if bytes_eq word (codes "updatetime") then Some op.UpdateTime else if bytes_eq word (codes "now") then Some op.Now else if bytes_eq word (codes "alive") then Some op.IsAlive else if bytes_eq word (codes "timeout") then Some op.Timeout else None
+bare_op word = if bytes_eq word (codes "stoploop") then Some op.StopLoop else if bytes_eq word
+    (codes "updatetime") then Some op.UpdateTime else if bytes_eq word (codes "now") then Some op.Now else if bytes_eq word
+    (codes "alive") then Some op.IsAlive else if bytes_eq word (codes "timeout") then Some op.Timeout else None
 
 -- an op of a word and a name; a start is read apart
 unfoldable pub named_op : List ℕ → Var → Option Op
-named_op word v = if bytes_eq word (codes "stop") then Some (op.Stop v) else if bytes_eq word (codes "again") then Some (op.Again v) else if bytes_eq word (codes "due") then Some (op.DueIn v) else if bytes_eq word (codes "ref") then Some (op.Ref v) else if bytes_eq word (codes "unref") then Some (op.Unref v) else if bytes_eq word (codes "hasref") then Some (op.HasRef v) else if bytes_eq word (codes "active") then Some (op.IsActive v) else None
+named_op word v = if bytes_eq word (codes "stop") then Some (op.Stop v) else if bytes_eq word (codes "again") then Some
+    (op.Again v) else if bytes_eq word (codes "due") then Some (op.DueIn v) else if bytes_eq word (codes "ref") then Some
+    (op.Ref v) else if bytes_eq word (codes "unref") then Some (op.Unref v) else if bytes_eq word (codes "hasref") then Some
+    (op.HasRef v) else if bytes_eq word (codes "active") then Some (op.IsActive v) else None
 
 -- a name and nothing more
 unfoldable pub name_alone : List (List ℕ) → List (List ℕ) → Option Var
@@ -108,7 +115,9 @@ short_op_of names fields word None = do
 
 -- an op by its word
 unfoldable pub op_of : List (List ℕ) → List ℕ → List (List ℕ) → Option Op
-op_of names word fields = if bytes_eq word (codes "init") then init_of names fields else if bytes_eq word (codes "start") then start_of names fields else if bytes_eq word (codes "repeat") then repeat_of names fields else short_op_of names fields word (bare_op word)
+op_of names word fields = if bytes_eq word (codes "init") then init_of names fields else if bytes_eq word
+    (codes "start") then start_of names fields else if bytes_eq word (codes "repeat") then repeat_of names fields else short_op_of names fields word
+    (bare_op word)
 
 -- what stands behind `var`
 unfoldable pub declaration_of : List (List ℕ) → List (List ℕ) → Option Statement
@@ -168,7 +177,8 @@ callback_of names fields = do
 unfoldable pub statement_of : List (List ℕ) → List (List ℕ) → Option Statement
 statement_of names fields = do
   word ← first_of fields
-  if bytes_eq word.0 (codes "var") then declaration_of names word.1 else if bytes_eq word.0 (codes "main") then main_of names word.1 else if bytes_eq word.0 (codes "on") then callback_of names word.1 else None
+  if bytes_eq word.0 (codes "var") then declaration_of names word.1 else if bytes_eq word.0
+      (codes "main") then main_of names word.1 else if bytes_eq word.0 (codes "on") then callback_of names word.1 else None
 
 -- whether there is room for one more line, and for one more name
 abbrev pub has_room : Program → Statement → Bool

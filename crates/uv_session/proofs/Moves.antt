@@ -22,8 +22,10 @@ rest k n es l m = rw (length-first k es m) (
     let short : length (take k es) ≡ k = length-first k es m in
     ap (drop (k - n)) (sym whole) ∙ grind (arith, common_steps))
 
-pub split_moved : (p : Program) (limit k n : ℕ) (es : List Event) → n ≤ k → k ≤ length es → split p limit (k - n) es ≡ moved_back n (split p limit k es)
-split_moved p limit k n es l m = ap₂ (λ (xs ys : List Event). record { program = p; limit = limit; standing = xs; taken_back = ys }) (first k n es l m) (rest k n es l m)
+pub split_moved : (p : Program) (limit k n : ℕ) (es : List Event) → n ≤ k → k ≤ length es →
+    split p limit (k - n) es ≡ moved_back n (split p limit k es)
+split_moved p limit k n es l m = ap₂ (λ (xs ys : List Event). record { program = p; limit = limit; standing = xs; taken_back = ys })
+    (first k n es l m) (rest k n es l m)
 
 -- one step more
 pub moved_more : (s : Shown) (n : ℕ) → n < length s.standing → moved_back 1 (moved_back n s) ≡ moved_back (n + 1) s

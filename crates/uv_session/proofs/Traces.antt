@@ -19,11 +19,14 @@ those xs = flat_map option_to_list xs
 
 those-append : (xs ys : List (Option Seen)) → those (xs ++ ys) ≡ those xs ++ those ys
 those-append [] ys = refl
-those-append (x ∷ xs) ys = ap (λ (zs : List Seen). option_to_list x ++ zs) (those-append xs ys) ∙ sym (append_assoc (option_to_list x) (those xs) (those ys))
+those-append (x ∷ xs) ys = ap (λ (zs : List Seen). option_to_list x ++ zs) (those-append xs ys)
+    ∙ sym (append_assoc (option_to_list x) (those xs) (those ys))
 
 -- one step more
-pub those_more : (xs : List (Option Seen)) (i : ℕ) (x : Option Seen) → slice_get xs i ≡ Some x → i < length xs → those (take (i + 1) xs) ≡ those (take i xs) ++ option_to_list x
-those_more xs i x h l = rw (take_more xs i x l, get_or_from_slice_get xs i x x h) (those-append (take i xs) (x ∷ []) ∙ ap (λ (zs : List Seen). those (take i xs) ++ zs) (append-nil (option_to_list x)))
+pub those_more : (xs : List (Option Seen)) (i : ℕ) (x : Option Seen) → slice_get xs i ≡ Some x → i < length xs →
+    those (take (i + 1) xs) ≡ those (take i xs) ++ option_to_list x
+those_more xs i x h l = rw (take_more xs i x l, get_or_from_slice_get xs i x x h)
+    (those-append (take i xs) (x ∷ []) ∙ ap (λ (zs : List Seen). those (take i xs) ++ zs) (append-nil (option_to_list x)))
 
 -- all of them
 pub those_all : (p : Program) (es : List Event) (i : ℕ) → length es ≤ i → those (take i (seen_by p es)) ≡ lines p es

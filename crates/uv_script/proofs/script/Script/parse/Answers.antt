@@ -16,7 +16,8 @@ loop-line-init c = record {
 pub overflow_add-number : goal.overflow_add-number
 overflow_add-number c =
     let loop = c.loop-line in
-    let n = line_number (λ line. line.now) c.args.text.now loop.yielded c.in-Some.line.now loop.line-iterator c.next.new.self loop.invariant.rest c.in-Some.ensures.steps in
+    let n = line_number (λ line. line.now) c.args.text.now loop.yielded c.in-Some.line.now loop.line-iterator c.next.new.self loop.invariant.rest
+        c.in-Some.ensures.steps in
     omega (arith, loop.invariant.counted)
 
 pub loop-line-preserved : goal.loop-line-preserved
@@ -27,11 +28,13 @@ loop-line-preserved c =
       finite = tt;
       read = reads_step (λ line. line.now) loop.script c.read_line.new.self loop.yielded c.in-Some.line loop.invariant.read c.in-Ok.ensures;
       counted = ap (λ n. n + 1) loop.invariant.counted ∙ sym (length-append loop.yielded (c.in-Some.line ∷ []));
-      rest = lines_step (λ line. line.now) _ loop.yielded c.in-Some.line loop.line-iterator c.next.new.self loop.invariant.rest c.in-Some.ensures.steps;
+      rest = lines_step (λ line. line.now) _ loop.yielded c.in-Some.line loop.line-iterator c.next.new.self loop.invariant.rest
+          c.in-Some.ensures.steps;
     }
 
 pub returns-in-Err : goal.returns-in-Err
 returns-in-Err c =
     let loop = c.loop-line in
-    line_fault (λ line. line.now) c.args.text.now (loop.number + 1) loop.script c.read_line.new.self loop.yielded c.in-Some.line loop.line-iterator c.next.new.self c.in-Err.fault
+    line_fault (λ line. line.now) c.args.text.now
+        (loop.number + 1) loop.script c.read_line.new.self loop.yielded c.in-Some.line loop.line-iterator c.next.new.self c.in-Err.fault
     loop.invariant.read loop.invariant.rest c.in-Some.ensures.steps (ap (λ n. n + 1) loop.invariant.counted) c.in-Err.ensures
