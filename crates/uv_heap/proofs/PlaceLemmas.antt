@@ -1,5 +1,5 @@
 -- The places stay right.
-use Rattle.std.proofs.Common.{◌≡◌, ℕ, zero, suc, replicate, ◌+◌, ◌-◌, ◌<◌, ◌≤◌, ◌⊎◌, inl, inr, Bool, List, [], ◌∷◌, ◌++◌, length, get_or, set, take, refl, sym, ap, ◌∙◌, arith, Option, Some, None, count_by, eqb, cond, ltb, IfSome}
+use Rattle.std.proofs.Common.{◌≡◌, ℕ, zero, suc, replicate, ◌+◌, ◌-◌, ◌<◌, ◌≤◌, ◌^◌, ◌⊎◌, inl, inr, Bool, List, [], ◌∷◌, ◌++◌, length, get_or, set, take, refl, sym, ap, ◌∙◌, arith, Option, Some, None, count_by, eqb, cond, ltb, IfSome}
 use Rattle.std.specs.Option.{is_some}
 use Rattle.std.specs.List.{swap, position_or_len}
 use Rattle.std.proofs.lemmas.List.{get_or-set_same, get_or-set_other, get_or_append_left, get_or-append_right, get_or_push, get_or_past, take_all, length-set, length_push, length-append, length-replicate}
@@ -30,11 +30,11 @@ get_or-set ps s t v l = at (cases_eq t s) where
 count_by-set : (ps : List (Option ℕ)) (s : ℕ) (v w : Option ℕ) → s < length ps → place ps s ≡ w → count_by is_some (set ps s v) + one w ≡ count_by is_some ps + one v
 count_by-set ps s v w l e = rw e at (sum_by-set one ps s v None l)
 
--- a slot with no place has memory left for its entry
-pub has_memory : (xs : List Entry) (ps : List (Option ℕ)) (memory s : ℕ) → ArePlaces xs ps memory → s < length ps → place ps s ≡ None → length xs < memory
-has_memory xs ps memory s h l e =
+-- where a slot has no place, there are more slots than entries
+pub is_free : (xs : List Entry) (ps : List (Option ℕ)) (memory s : ℕ) → ArePlaces xs ps memory → s < length ps → place ps s ≡ None → length xs < length ps
+is_free xs ps memory s h l e =
     let more : count_by is_some (set ps s (Some 0)) + 0 ≡ count_by is_some ps + 1 = count_by-set ps s (Some 0) None l e in
-    omega (arith, more, count_by-le-length is_some (set ps s (Some 0)), length-set ps s (Some 0), h.counted, h.fits)
+    omega (arith, more, count_by-le-length is_some (set ps s (Some 0)), length-set ps s (Some 0), h.counted)
 
 pub places_pushed : (xs : List Entry) (ps : List (Option ℕ)) (memory : ℕ) (e : Entry) → ArePlaces xs ps memory → e.slot < length ps → place ps e.slot ≡ None → ArePlaces (xs ++ e ∷ []) (set ps e.slot (Some (length xs))) memory
 places_pushed xs ps memory e h l absent = record {
@@ -45,6 +45,7 @@ places_pushed xs ps memory e h l absent = record {
       let more : count_by is_some (set ps e.slot (Some (length xs))) + 0 ≡ count_by is_some ps + 1 = count_by-set ps e.slot (Some (length xs)) None l absent in
       omega (arith, more, h.counted, length_push xs e);
   fits = omega (arith, length-set ps e.slot (Some (length xs)), h.fits);
+  narrow = omega (arith, length-set ps e.slot (Some (length xs)), h.narrow);
 } where
   known : (i : ℕ) → ((i < length xs) × (entry_at (xs ++ e ∷ []) i ≡ entry_at xs i)) ⊎ ((i ≡ length xs) × (entry_at (xs ++ e ∷ []) i ≡ e)) → (entry_at (xs ++ e ∷ []) i).slot < length (set ps e.slot (Some (length xs)))
   known i (inl a) = omega (arith, ap (λ (x : Entry). x.slot) a.1, h.known i a.0, length-set ps e.slot (Some (length xs)))
@@ -90,6 +91,7 @@ places_popped xs ps memory e h =
           let less : count_by is_some (set ps e.slot None) + 1 ≡ count_by is_some ps + 0 = count_by-set ps e.slot None (Some (length xs)) there placed in
           omega (arith, less, h.counted);
       fits = omega (arith, length-set ps e.slot None, h.fits);
+      narrow = omega (arith, length-set ps e.slot None, h.narrow);
     }
   where
     same : (i : ℕ) → i < length xs → (entry_at xs i).slot ≡ (entry_at (xs ++ e ∷ []) i).slot
@@ -150,6 +152,7 @@ places_swapped xs ps memory a b p q h =
           count_by-set (set ps (entry_at xs b).slot (Some a)) (entry_at xs a).slot (Some b) (Some a) (omega arith) (had (get_or-set ps (entry_at xs b).slot (entry_at xs a).slot (Some a) known_b)) in
           omega (arith, once, twice, h.counted);
       fits = omega (arith, h.fits);
+      narrow = omega (arith, h.narrow);
     }
   where
     had : (((entry_at xs a).slot ≡ (entry_at xs b).slot) × (place (set ps (entry_at xs b).slot (Some a)) (entry_at xs a).slot ≡ Some a)) ⊎ (((entry_at xs a).slot ≡ (entry_at xs b).slot → ⊥) × (place (set ps (entry_at xs b).slot (Some a)) (entry_at xs a).slot ≡ place ps (entry_at xs a).slot)) → place (set ps (entry_at xs b).slot (Some a)) (entry_at xs a).slot ≡ Some a
@@ -222,13 +225,15 @@ none_counted zero = refl
 none_counted (suc n) = sum_by-cons one None (replicate n None) ∙ ap (λ k. 0 + k) (none_counted n)
 
 -- more slots, with no place
-pub places_grown : (xs : List Entry) (ps : List (Option ℕ)) (memory more n k : ℕ) → ArePlaces xs ps memory → length ps ≤ k → length ps + n ≤ more → ArePlaces xs (take k ps ++ replicate n None) more
-places_grown xs ps memory more n k h enough fits = rw (take_all k ps enough) (record {
+pub places_grown : (xs : List Entry) (ps : List (Option ℕ)) (memory more n k : ℕ) → ArePlaces xs ps memory → length ps ≤ k → length ps + n ≤ more → length ps + n ≤ 2 ^ 32
+    → ArePlaces xs (take k ps ++ replicate n None) more
+places_grown xs ps memory more n k h enough fits narrow = rw (take_all k ps enough) (record {
   known = λ i l. omega (arith, h.known i l, long);
   right = λ i l. same (entry_at xs i).slot ∙ h.right i l;
   only = λ s i e. h.only s i (sym (same s) ∙ e);
   counted = omega (arith, sum_by-append one ps (replicate n None), none_counted n, h.counted);
   fits = omega (arith, long);
+  narrow = omega (arith, long);
 }) where
   long : length (ps ++ replicate n None) ≡ length ps + n
   long = omega (arith, length-append ps (replicate n None), length-replicate {A = Option ℕ} n None)
@@ -243,7 +248,7 @@ places_grown xs ps memory more n k h enough fits = rw (take_all k ps enough) (re
 -- more memory
 pub places_kept : (xs : List Entry) (ps : List (Option ℕ)) (memory more : ℕ) → ArePlaces xs ps memory → memory ≤ more → ArePlaces xs ps more
 places_kept xs ps memory more h l =
-    record { known = h.known; right = h.right; only = h.only; counted = h.counted; fits = omega (arith, h.fits) }
+    record { known = h.known; right = h.right; only = h.only; counted = h.counted; fits = omega (arith, h.fits); narrow = h.narrow }
 
 -- a stored place is one of the array, and has the slot
 pub stored_within : (xs : List Entry) (ps : List (Option ℕ)) (memory s : ℕ) (o : Option ℕ) → ArePlaces xs ps memory → o ≡ place ps s → IfSome o (λ i. i < length xs)

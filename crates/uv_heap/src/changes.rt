@@ -10,7 +10,7 @@ use crate::sift;
 use crate::undo::RemoveUndo;
 
 /// Puts an entry last and moves it up. Answers where it comes to rest.
-pub(crate) fn push(entries: &mut PlacedEntries, entry: Entry) -> usize
+pub(crate) fn push(entries: &mut PlacedEntries, entry: Entry) -> u32
     requires room { entry.slot < entries.old.room }
     requires absent { place_in entries.old.array entry.slot ≡ None }
     ensures array { entries.new.array ≡ (pushed entries.old.array entry).array }
@@ -19,7 +19,7 @@ pub(crate) fn push(entries: &mut PlacedEntries, entry: Entry) -> usize
 {
     let last = entries.as_slice().len();
     entries.push(entry);
-    sift::move_up(entries, last)
+    sift::move_up(entries, last) as u32
 }
 
 /// The entry at a place, where it came to rest after a push, goes.
@@ -50,12 +50,21 @@ pub(crate) fn remove(entries: &mut PlacedEntries, place: usize) -> RemoveUndo
     let entry = entries.as_slice()[place];
     entries.swap(place, last);
     let _ = entries.pop();
+    let from = place as u32;
     if place == last {
-        let rest = place;
-        return RemoveUndo { place, rest, entry };
+        let rest = from;
+        return RemoveUndo {
+            place: from,
+            rest,
+            entry,
+        };
     }
-    let rest = sift::settle(entries, place);
-    RemoveUndo { place, rest, entry }
+    let rest = sift::settle(entries, place) as u32;
+    RemoveUndo {
+        place: from,
+        rest,
+        entry,
+    }
 }
 
 /// The entry that took the place goes back to the end, and the one that was there comes again.
@@ -68,11 +77,12 @@ pub(crate) fn undo_remove(entries: &mut PlacedEntries, undo: RemoveUndo)
     ensures room { entries.new.room ≡ entries.old.room }
 {
     let last = entries.as_slice().len();
-    if undo.place == last {
+    let place = undo.place as usize;
+    if place == last {
         entries.push(undo.entry);
         return;
     }
-    sift::go_back(entries, undo.rest, undo.place);
+    sift::go_back(entries, undo.rest as usize, place);
     entries.push(undo.entry);
-    entries.swap(undo.place, last);
+    entries.swap(place, last);
 }

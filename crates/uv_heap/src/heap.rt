@@ -45,11 +45,14 @@ impl TimerHeap {
     }
 
     /// Makes room for a push of this slot, whatever is pushed and removed until then. Room stays.
+    ///
+    /// `Memory` is the only fault, and comes only where the room isn't there yet.
     pub fn reserve(&mut self, slot: u32) -> Result<(), Fault>
         ensures array { self.new.array ≡ self.old.array }
         ensures ok { OnOk result (slot < self.new.room) }
         ensures kept { self.old.room ≤ self.new.room }
         ensures err { OnErr result (self.new.room ≡ self.old.room) }
+        ensures wanted { OnErr result (self.old.room ≤ slot) }
         ensures memory { IfErr result (λ fault. fault ≡ Memory) }
     {
         match self.entries.reserve(slot) {
@@ -81,7 +84,7 @@ impl TimerHeap {
     }
 
     /// The place of a slot in the array, if it is on the heap.
-    pub fn place_of(&self, slot: u32) -> Option<usize>
+    pub fn place_of(&self, slot: u32) -> Option<u32>
         ensures place { result ≡ place_in self.now.array slot }
         ensures within { IfSome result (λ place. place < length self.now.array) }
         ensures slot { IfSome result (λ place. (entry_at self.now.array place).slot ≡ slot) }
@@ -113,7 +116,7 @@ impl TimerHeap {
             → IsInOrder self.new.array (inserted entry timers) }
 
         // The undo gives back the array from before.
-        ensures can_undo { CanUndoPush self.new result.place }
+        ensures can_undo { CanUndoPush self.new.array result.place }
         ensures undone { push_undone self.new.array result.place ≡ self.old.array }
     {
         let place = changes::push(&mut self.entries, entry);
@@ -122,15 +125,15 @@ impl TimerHeap {
 
     /// Takes a push back, where the heap is as the push left it.
     pub fn undo_push(&mut self, undo: PushUndo)
-        requires { CanUndoPush self.old undo.place }
+        requires { CanUndoPush self.old.array undo.place }
         ensures array { self.new.array ≡ push_undone self.old.array undo.place }
         ensures room { self.new.room ≡ self.old.room }
     {
-        changes::undo_push(&mut self.entries, undo.place);
+        changes::undo_push(&mut self.entries, undo.place as usize);
     }
 
     /// Takes the entry at a place off the heap.
-    pub fn remove_at(&mut self, place: usize) -> RemoveUndo
+    pub fn remove_at(&mut self, place: u32) -> RemoveUndo
         requires { place < length self.old.array }
 
         ensures array { self.new.array ≡ (removed self.old.array place).array }
@@ -145,7 +148,7 @@ impl TimerHeap {
         ensures can_undo { CanUndoRemove self.new result }
         ensures undone { removal_undone self.new.array result ≡ self.old.array }
     {
-        changes::remove(&mut self.entries, place)
+        changes::remove(&mut self.entries, place as usize)
     }
 
     /// Takes a removal back, where the heap is as the removal left it.

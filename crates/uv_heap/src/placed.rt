@@ -1,5 +1,5 @@
 //! An array of entries that knows the place of each slot.
-ghost use Rattle.std.specs.Prelude.{◌≡◌, ◌+◌, ◌-◌, ◌<◌, ◌≤◌, [], ◌∷◌, ◌++◌, None, OnOk, OnErr, IfSome, length, swap, take, option_to_list};
+ghost use Rattle.std.specs.Prelude.{◌≡◌, ◌+◌, ◌-◌, ◌^◌, ◌<◌, ◌≤◌, [], ◌∷◌, ◌++◌, None, OnOk, OnErr, IfSome, length, swap, take, option_to_list};
 ghost use Rattle.uv_heap.specs.Array.{entry_at, place_in, SlotsDiffer, SlotsFit};
 
 use crate::entry::Entry;
@@ -11,7 +11,7 @@ use std::marker::Model;
 pub(crate) struct PlacedEntries {
     entries: Vec<Entry>,
     /// By slot. There is memory for as many entries.
-    places: Vec<Option<usize>>,
+    places: Vec<Option<u32>>,
 }
 
 impl Model for PlacedEntries {
@@ -44,6 +44,7 @@ impl PlacedEntries {
         ensures room { OnOk result (slot < self.new.room) }
         ensures kept { self.old.room ≤ self.new.room }
         ensures err { OnErr result (self.new.room ≡ self.old.room) }
+        ensures wanted { OnErr result (self.old.room ≤ slot) }
     {
         let width = slot as usize + 1;
         if width <= self.places.len() {
@@ -58,11 +59,12 @@ impl PlacedEntries {
         ensures array { result.now ≡ self.now.array }
         ensures slots { SlotsDiffer self.now.array }
         ensures room { SlotsFit self.now.array self.now.room }
+        ensures narrow { length self.now.array ≤ 2 ^ 32 }
     {
         self.entries.as_slice()
     }
 
-    pub(crate) fn place_of(&self, slot: u32) -> Option<usize>
+    pub(crate) fn place_of(&self, slot: u32) -> Option<u32>
         ensures place { result ≡ place_in self.now.array slot }
         ensures within { IfSome result (λ place. place < length self.now.array) }
         ensures slot { IfSome result (λ place. (entry_at self.now.array place).slot ≡ slot) }
@@ -78,9 +80,10 @@ impl PlacedEntries {
         requires room { entry.slot < self.old.room }
         requires absent { place_in self.old.array entry.slot ≡ None }
         ensures array { self.new.array ≡ self.old.array ++ entry ∷ [] }
+        ensures narrow { length self.old.array < 2 ^ 32 }
         ensures room { self.new.room ≡ self.old.room }
     {
-        let place = self.entries.len();
+        let place = self.entries.len() as u32;
         self.entries.push_reserved(entry);
         self.places[entry.slot as usize] = Some(place);
     }
@@ -104,7 +107,7 @@ impl PlacedEntries {
         ensures room { self.new.room ≡ self.old.room }
     {
         self.entries.swap(a, b);
-        self.places[self.entries[a].slot as usize] = Some(a);
-        self.places[self.entries[b].slot as usize] = Some(b);
+        self.places[self.entries[a].slot as usize] = Some(a as u32);
+        self.places[self.entries[b].slot as usize] = Some(b as u32);
     }
 }

@@ -20,7 +20,7 @@ fn timer(at: u32) -> Entry {
 }
 
 fn put(rt: &impl Abort, heap: &mut TimerHeap, entry: Entry) -> PushUndo
-    ensures { CanUndoPush heap.new result.place }
+    ensures { CanUndoPush heap.new.array result.place }
 {
     heap.reserve(entry.slot).expect(rt, "there is memory");
     assert!(rt; heap.place_of(entry.slot).is_none());
@@ -102,11 +102,13 @@ fn walk(alloc: Global, heap: &mut TimerHeap, chance: u32, steps: u32) -> Result<
 }
 
 fn is_as_before(heap: &TimerHeap, before: &[Entry]) -> bool {
+    for (place, entry) in before.iter().enumerate() {
+        match heap.place_of(entry.slot) {
+            Some(at) if at as usize == place => {}
+            _ => return false,
+        }
+    }
     heap.entries() == before
-        && before
-            .iter()
-            .enumerate()
-            .all(|(place, entry)| heap.place_of(entry.slot) == Some(place))
 }
 
 #[test]

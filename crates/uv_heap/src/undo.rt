@@ -4,15 +4,15 @@ use crate::entry::Entry;
 /// Takes a push back: the place where the new entry came to rest.
 #[derive(Clone, Copy, Debug, PartialEq, Eq)]
 pub struct PushUndo {
-    pub place: usize,
+    pub place: u32,
 }
 
 /// Takes a removal back.
 #[derive(Clone, Copy, Debug, PartialEq, Eq)]
 pub struct RemoveUndo {
     /// Where the removed entry stood.
-    pub place: usize,
+    pub place: u32,
     /// Where the last entry came to rest, which was put there in its stead; `place` where it was the last itself.
-    pub rest: usize,
+    pub rest: u32,
     pub entry: Entry,
 }

@@ -3,9 +3,10 @@ use Rattle.std.proofs.Common.{◌≡◌, ◌⊎◌, List, sym, subst, Bool}
 use Rattle.std.specs.List.{Contains}
 use Rattle.uv_ids.specs.declared.id.Var.{Var}
 use Rattle.uv_wake.specs.declared.tickets.Ticket.{Ticket}
-use Rattle.uv_wake.specs.Seats.{Loops, Carried, AllCarried, CarriedBy, Carries}
+use Rattle.uv_wake.specs.declared.views.LoopView.{LoopView}
+use Rattle.uv_wake.specs.Seats.{Carried, AllCarried, CarriedBy, Carries}
 
 -- where none of v is left afterwards, each ticket of v was carried before, or by this absorb
-pub once_of : (s s' : Loops) (v : Var) (took : Bool) → s'.tickets ≡ s.tickets → Carries s v took s' → AllCarried s' v
+pub once_of : (s s' : LoopView) (v : Var) (took : Bool) → s'.tickets ≡ s.tickets → Carries s v took s' → AllCarried s' v
     → (t : Ticket) → t.var ≡ v → Contains s.tickets t → Carried s t ⊎ CarriedBy s v took t
 once_of s s' v took same carries all t is c = (carries t).0 (all t is (subst (λ (ts : List Ticket). Contains ts t) (sym same) c))

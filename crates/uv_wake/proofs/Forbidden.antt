@@ -1,6 +1,6 @@
 -- Two steps that the rule forbids, whatever proof is tried: an absorb that stores 0, and a send by a look and a store.
 -- Each is shown at a board of one name, on which one sender sent once.
-use Rattle.std.proofs.Common.{◌≡◌, ℕ, zero, suc, ◌+◌, ◌*◌, ◌<◌, ◌≤◌, List, [], ◌∷◌, get_or, sym, refl, ap, ◌∙◌, subst, inl, inr, ⊎_elim, arith, lit<, Option, Some, None}
+use Rattle.std.proofs.Common.{◌≡◌, ℕ, zero, suc, ◌+◌, ◌*◌, ◌<◌, ◌≤◌, List, [], ◌∷◌, get_or, sym, refl, ap, ◌∙◌, subst, inl, inr, ⊎_elim, arith, lit<, true, Option, Some, None}
 use Rattle.std.specs.List.{Contains}
 use mathlib.Core.Option.{none, some, some-injective, some-ne-none}
 use lib.ListN.{get_elem?}
@@ -13,7 +13,8 @@ use Rattle.uv_wake.specs.declared.views.View.{View}
 use Rattle.uv_wake.specs.declared.views.View.TheVariants.{Loop, Sender}
 use Rattle.uv_wake.specs.Tickets.{ticket}
 use Rattle.uv_wake.specs.Rule.{list_of, Has, NameKept, Kept}
-use Rattle.uv_wake.specs.Steps.{loop_of, sender_of, sent, raised, absorbed}
+use Rattle.uv_wake.specs.Seats.{after_absorb}
+use Rattle.uv_wake.specs.Steps.{loop_of, sender_of, sent, absorbed}
 use Rattle.uv_wake.proofs.Lists.{var_ext, none_in}
 
 abbrev name : Var
@@ -90,7 +91,7 @@ taken = kept_at 1 2 None (record {
 pub absorb_to_zero : (let me : Me ℕ View = (Loop (loop_at 0 (Some name)), []) in Allows (Kept 1) 0 0 me 1 (λ _. 0) (λ _. absorbed (step 0 1 0 0 none) me 0)) → ⊥
 absorb_to_zero may = let found = may (state_at 0 1 (Some name)) asked refl refl (lit< tt) in
     let kept = found.3 in
-    let is : found.0 ≡ Loop (raised (loop_at 0 (Some name)) name) = ap (λ (m : Me ℕ View). m.0) (found.4 name refl).0 in
+    let is : found.0 ≡ Loop (after_absorb (loop_at 0 (Some name)) name true) = ap (λ (m : Me ℕ View). m.0) (found.4 name refl).0 in
     let count : get_or kept.loop.counts 0 0 ≡ 1 = ap (λ (v : View). get_or (loop_of v).counts 0 0) (sym (some-injective _ _ kept.first) ∙ is) in
     ⊎_elim (λ (e : 0 ≡ 2 * get_or kept.loop.counts 0 0). let h : ⊥ = omega arith in h) (λ (e : 0 ≡ 2 * get_or kept.loop.counts 0 0 + 1). let h : ⊥ = omega arith in h) (kept.each name (lit< tt)).is_word
 

@@ -3,6 +3,5 @@ pub mod Names
 pub mod SenderSteps
 pub mod LoopKeeps
 pub mod LoopSteps
-pub mod Pigeonhole
 pub mod Carries
 pub mod Forbidden

@@ -1,7 +1,8 @@
 -- Each step of the loop's seat keeps the rule of the board.
-use Rattle.std.proofs.Common.{◌≡◌, ◌≢◌, ℕ, ◌+◌, ◌*◌, ◌%◌, ◌<◌, ◌≤◌, List, [], ◌∷◌, ◌++◌, get_or, set, sym, refl, ap, ◌∙◌, subst, ⊎_elim, arith, Some, None}
+use Rattle.std.proofs.Common.{◌≡◌, ◌≢◌, ℕ, ◌+◌, ◌*◌, ◌%◌, ◌<◌, ◌≤◌, List, [], ◌∷◌, ◌++◌, get_or, set, sym, refl, ap, ◌∙◌, subst, ⊎_elim, arith, true, Some, None}
 use Rattle.std.specs.List.{Contains}
 use Rattle.std.proofs.lemmas.List.{length-set, get_or-set_same, get_or-set_other, set-get_or, get_or_past}
+use Rattle.std.proofs.lemmas.Bool.{eq-eqb, eqb-true, eqb-false}
 use Rattle.std.proofs.lemmas.List.Elements.{Contains-append_left, Contains-append_right, Contains-append_cases}
 use mathlib.Core.Logic.{dite}
 use mathlib.Core.Option.{some, some-injective}
@@ -17,9 +18,10 @@ use Rattle.uv_wake.specs.declared.views.View.{View}
 use Rattle.uv_wake.specs.declared.views.View.TheVariants.{Loop, Sender, Joined}
 use Rattle.uv_wake.specs.Tickets.{ticket}
 use Rattle.uv_wake.specs.Rule.{list_of, Has, NameKept, NoneIsAhead, Kept}
-use Rattle.uv_wake.specs.Steps.{sender_of, raised, NoneIsLeft, IsComplete, Looked}
+use Rattle.uv_wake.specs.Seats.{AllCarried, HasEach, after_absorb}
+use Rattle.uv_wake.specs.Steps.{sender_of, is_odd, Looked}
 use Rattle.uv_wake.proofs.Lists.{var_ext, set_there, none_in, has_after, has_before, has_longer, has_shorter, count_set, count_push, alone_set, alone_push, ahead_set, ahead_push, all_home}
-use Rattle.uv_wake.proofs.Names.{odd_word, stands, stays, absorbed_name}
+use Rattle.uv_wake.proofs.Names.{odd_word, stays, absorbed_name}
 
 module _ (names : ℕ) (s : State ℕ View) (kept : Kept names s) where
   abbrev word_of : Var → ℕ
@@ -28,7 +30,7 @@ module _ (names : ℕ) (s : State ℕ View) (kept : Kept names s) where
   abbrev count_of : Var → ℕ
   count_of v = get_or kept.loop.counts v.0 0
 
-  pub none_is_left : (v : Var) → v.0 < names → word_of v % 2 ≡ 0 → NoneIsLeft kept.loop v
+  pub none_is_left : (v : Var) → v.0 < names → word_of v % 2 ≡ 0 → AllCarried kept.loop v
   none_is_left v small even t is c = let p = (kept.each v small).is_past t is (0, Loop kept.loop, kept.first, c) in
       let below : t.epoch < count_of v = dite (ℕ_discrete t.epoch (count_of v)) (λ e. let odd = p.1 e in absurd (omega arith)) (λ n. let h = p.0 in omega arith) in
       subst (λ (x : Var). t.epoch < count_of x) (sym is) below
@@ -36,21 +38,18 @@ module _ (names : ℕ) (s : State ℕ View) (kept : Kept names s) where
   home : (t : Ticket) → kept.loop.splits ≡ kept.loop.joins → Has s.views t → Contains kept.loop.tickets t
   home t all = let k = kept.senders in all_home s.views kept.loop t kept.first kept.alone (omega arith)
 
-  pub complete : IsComplete kept.loop
+  pub complete : HasEach kept.loop
   complete all v e lt = let counted = kept.counted in dite (dec_le (v.0 + 1) names)
       (λ small. home (ticket v e) all ((kept.each v (omega arith)).was_asked e lt))
       (λ far. let none = get_or_past kept.loop.counts v.0 0 (omega arith) in absurd (omega arith))
 
-  -- what a look finds, where the loop's view becomes l
-  pub look_finds : (l : LoopView) (v : Var) → v.0 < names → (word_of v % 2 ≢ 0 → l.seen ≡ Some v) → Looked kept.loop l v (word_of v)
-  look_finds l v small marks = let ok = kept.each v small in record {
-    marks = marks;
-    still = λ e even. let odd = ok.is_seen e in omega arith;
-    word = ok.is_word;
-    stands = λ t is c. stands s.views kept.loop.seen v (count_of v) (word_of v) ok t is (0, Loop kept.loop, kept.first, c);
-    carried = none_is_left v small;
-    asked = λ odd all. home (ticket v (count_of v)) all (ok.is_asked (odd_word (count_of v) (word_of v) ok.is_word odd));
-    complete = complete;
+  -- what a look finds
+  pub look_finds : (v : Var) → v.0 < names → Looked kept.loop v (is_odd (word_of v))
+  look_finds v small = let ok = kept.each v small in record {
+    still = λ e. let odd = ok.is_seen e in eq-eqb _ _ (omega arith);
+    carried = λ even. let other = eqb-false (word_of v % 2) 1 even in none_is_left v small (omega arith);
+    asked = λ odd all. let is = eqb-true (word_of v % 2) 1 odd in home (ticket v (count_of v)) all (ok.is_asked (odd_word (count_of v) (word_of v) ok.is_word (omega arith)));
+    each = complete;
   }
 
   -- the loop's view becomes l, with the same list
@@ -82,8 +81,8 @@ module _ (names : ℕ) (s : State ℕ View) (kept : Kept names s) where
   }
 
   pub absorb_keeps : (v : Var) → v.0 < names → word_of v ≡ 2 * count_of v + 1
-      → Kept names (record { words = set s.words (v.0 + 1) (word_of v + 1); homes = s.homes; views = set s.views 0 (Loop (raised kept.loop v)) })
-  absorb_keeps v small odd = let l : LoopView = raised kept.loop v in record {
+      → Kept names (record { words = set s.words (v.0 + 1) (word_of v + 1); homes = s.homes; views = set s.views 0 (Loop (after_absorb kept.loop v true)) })
+  absorb_keeps v small odd = let l : LoopView = after_absorb kept.loop v true in record {
     loop = l;
     first = set_there s.views 0 (Loop l) (Loop kept.loop) kept.first;
     alone = alone_set s.views 0 (Loop l) (λ _ _. refl) kept.alone;

@@ -1,7 +1,8 @@
 -- What the table asks of each step of the loop's seat, and what its seat then is.
-use Rattle.std.proofs.Common.{◌≡◌, ℕ, zero, suc, ◌+◌, ◌*◌, ◌%◌, ◌^◌, ◌<◌, List, [], ◌∷◌, ◌++◌, length, replicate, get_or, set, sym, refl, ap, ◌∙◌, subst, inl, arith, Some, None}
+use Rattle.std.proofs.Common.{◌≡◌, ℕ, zero, suc, ◌+◌, ◌*◌, ◌%◌, ◌^◌, ◌<◌, List, [], ◌∷◌, ◌++◌, length, replicate, get_or, set, sym, refl, ap, ◌∙◌, subst, inl, arith, Bool, true, Some, None}
 use Rattle.std.specs.List.{Contains}
 use Rattle.std.proofs.lemmas.List.{length-replicate, get_or-set_same, set-get_or, get_or-replicate}
+use Rattle.std.proofs.lemmas.Bool.{eq-eqb, ne_eqb}
 use mathlib.Core.Logic.{dite}
 use mathlib.Core.Option.{none, some, some-injective, some-ne-none}
 use native.Mathlib.Decide.{ℕ_discrete}
@@ -15,14 +16,18 @@ use Rattle.uv_wake.specs.declared.views.LoopView.{LoopView}
 use Rattle.uv_wake.specs.declared.views.SenderView.{SenderView}
 use Rattle.uv_wake.specs.declared.views.View.{View}
 use Rattle.uv_wake.specs.declared.views.View.TheVariants.{Loop, Sender, Joined}
-use Rattle.uv_wake.specs.Rule.{list_of, Has, NameKept, Kept, starting, at_first}
-use Rattle.uv_wake.specs.Steps.{loop_of, sender_of, Looked, looked, raised, absorbed, learned, NoneIsLeft, IsComplete, split_left, split_right, joined}
+use Rattle.uv_wake.specs.Rule.{list_of, Has, NameKept, Kept, at_first}
+use Rattle.uv_wake.specs.Seats.{starting, AllCarried, HasEach, after_look, after_absorb}
+use Rattle.uv_wake.specs.Steps.{loop_of, sender_of, is_odd, Looked, looked, absorbed, learned, split_left, split_right, joined}
 use Rattle.uv_wake.specs.Passes.{IsLoops}
 use Rattle.uv_wake.proofs.Lists.{var_ext, set_there}
 use Rattle.uv_wake.proofs.LoopKeeps.{none_is_left, complete, look_finds, look_keeps, absorb_keeps, split_keeps, join_keeps}
 
+abbrev me_of : LoopView → Me ℕ View
+me_of l = (Loop l, [])
+
 abbrev Knows : Me ℕ View → Type 0
-Knows me = me ≡ (Loop (loop_of me.0), [])
+Knows me = me ≡ me_of (loop_of me.0)
 
 is_loop : (names : ℕ) (s : State ℕ View) (kept : Kept names s) (v : View) → get_elem? s.views 0 ≡ some v → Loop kept.loop ≡ v
 is_loop names s kept v at = some-injective (Loop kept.loop) v (sym kept.first ∙ at)
@@ -36,23 +41,29 @@ pub looks : (names slots id : ℕ) (me : Me ℕ View) (v : Var) → id ≡ 0 →
 looks names slots id me v first knows small = subst (λ (k : ℕ). Allows (Kept names) slots k me (v.0 + 1) (λ n. n) (looked (step slots (v.0 + 1) 0 0 none) me)) (sym first) go
   where
     go : Allows (Kept names) slots 0 me (v.0 + 1) (λ n. n) (looked (step slots (v.0 + 1) 0 0 none) me)
-    go s kept deep at fits = let n : ℕ = get_or s.words (v.0 + 1) 0 in let is = is_loop names s kept me.0 at in let same : kept.loop ≡ loop_of me.0 = ap loop_of is in dite (ℕ_discrete (n % 2) 0)
+    go s kept deep at fits =
+        let n : ℕ = get_or s.words (v.0 + 1) 0 in
+        let is = is_loop names s kept me.0 at in
+        let same : kept.loop ≡ loop_of me.0 = ap loop_of is in
+        let finds : (u : Var) → u.0 + 1 ≡ v.0 + 1 → Looked (loop_of me.0) u (is_odd n) =
+        (λ u e. subst (λ (x : LoopView × Var). Looked x.0 x.1 (is_odd n)) (λ i. (same i, var_ext v u (omega arith) i)) (look_finds names s kept v small)) in
+        let here : LoopView → Me ℕ View = (λ l. (Loop l, me.1)) in
+        let view : (u : Var) → u.0 + 1 ≡ v.0 + 1 → here (after_look kept.loop v true) ≡ me_of (after_look (loop_of me.0) u true) =
+        (λ u e i. (Loop (after_look (same i) (var_ext v u (omega arith) i) true), (knows i).1)) in
+        dite (ℕ_discrete (n % 2) 1)
+        (λ odd. (
+          Loop (after_look kept.loop v true),
+          keeps,
+          tt,
+          look_keeps names s kept v small (omega arith),
+          λ u e. (view u e ∙ ap (λ (b : Bool). me_of (after_look (loop_of me.0) u b)) (sym (eq-eqb (n % 2) 1 odd)), finds u e),
+        ))
         (λ even. (
           me.0,
           keeps,
           tt,
           same_state names s (v.0 + 1) me.0 at kept,
-          λ u e. (knows, subst (λ (x : LoopView × Var). Looked x.0 (loop_of me.0) x.1 n) (λ i. (same i, var_ext v u (omega arith) i)) (look_finds names s kept (loop_of me.0) v small (λ odd. absurd (odd even)))),
-        ))
-        (λ odd. let marked_view : LoopView = record kept.loop { seen = Some v } in (
-          Loop marked_view,
-          keeps,
-          tt,
-          look_keeps names s kept v small odd,
-          λ u e. (
-            (λ i. (Loop (record (same i) { seen = Some v }), (knows i).1)),
-            subst (λ (x : LoopView × Var). Looked x.0 marked_view x.1 n) (λ i. (same i, var_ext v u (omega arith) i)) (look_finds names s kept marked_view v small (λ _. refl)),
-          ),
+          λ u e. (knows ∙ ap (λ (b : Bool). me_of (after_look (loop_of me.0) u b)) (sym (ne_eqb (n % 2) 1 even)), finds u e),
         ))
 
 pub absorbs : (names slots id : ℕ) (me : Me ℕ View) (v : Var) → id ≡ 0 → Knows me → v.0 < names → (loop_of me.0).seen ≡ Some v → get_or (loop_of me.0).counts v.0 0 < 2 ^ 62
@@ -67,25 +78,25 @@ absorbs names slots id me v first knows small seen room = subst (λ (k : ℕ). A
         let odd : n ≡ 2 * get_or kept.loop.counts v.0 0 + 1 = (kept.each v small).is_seen (ap (λ (l : LoopView). l.seen) same ∙ seen) in
         let plain : n + 1 ≡ (n + 1) % 18446744073709551616 = omega arith in
         let wide = kept.wide in
-        let after : State ℕ View = record { words = set s.words (v.0 + 1) (n + 1); homes = s.homes; views = set s.views 0 (Loop (raised kept.loop v)) } in
+        let after : State ℕ View = record { words = set s.words (v.0 + 1) (n + 1); homes = s.homes; views = set s.views 0 (Loop (after_absorb kept.loop v true)) } in
         let held : Kept names after = absorb_keeps names s kept v small odd in
         let here_word : get_or (set s.words (v.0 + 1) (n + 1)) (v.0 + 1) 0 ≡ n + 1 = get_or-set_same s.words (v.0 + 1) (n + 1) 0 (omega arith) in
         let even : get_or after.words (v.0 + 1) 0 % 2 ≡ 0 = omega arith in
-        let there : get_elem? after.views 0 ≡ some (Loop (raised kept.loop v)) = set_there s.views 0 (Loop (raised kept.loop v)) me.0 at in (
-          Loop (raised kept.loop v),
+        let there : get_elem? after.views 0 ≡ some (Loop (after_absorb kept.loop v true)) = set_there s.views 0 (Loop (after_absorb kept.loop v true)) me.0 at in (
+          Loop (after_absorb kept.loop v true),
           keeps,
           tt,
-          subst (λ (w : ℕ). Kept names (record { words = set s.words (v.0 + 1) w; homes = s.homes; views = set s.views 0 (Loop (raised kept.loop v)) })) plain held,
-          λ u e. let told = subst (λ (x : LoopView × Var). NoneIsLeft (raised x.0 x.1) x.1 × IsComplete (raised x.0 x.1)) (λ i. (same i, var_ext v u (omega arith) i))
-              (subst (λ (l : LoopView). NoneIsLeft l v × IsComplete l) (ap loop_of (is_loop names after held (Loop (raised kept.loop v)) there)) (none_is_left names after held v small even, complete names after held)) in
-              ((λ i. (Loop (raised (same i) (var_ext v u (omega arith) i)), (knows i).1)), told.0, told.1),
+          subst (λ (w : ℕ). Kept names (record { words = set s.words (v.0 + 1) w; homes = s.homes; views = set s.views 0 (Loop (after_absorb kept.loop v true)) })) plain held,
+          λ u e. let told = subst (λ (x : LoopView × Var). AllCarried (after_absorb x.0 x.1 true) x.1 × HasEach (after_absorb x.0 x.1 true)) (λ i. (same i, var_ext v u (omega arith) i))
+              (subst (λ (l : LoopView). AllCarried l v × HasEach l) (ap loop_of (is_loop names after held (Loop (after_absorb kept.loop v true)) there)) (none_is_left names after held v small even, complete names after held)) in
+              ((λ i. (Loop (after_absorb (same i) (var_ext v u (omega arith) i) true), (knows i).1)), told.0, told.1),
         )
 
 pub learns : (names slots id : ℕ) (me : Me ℕ View) → id ≡ 0 → Knows me → Allows (Kept names) slots id me 0 (λ n. n) (learned (step slots 0 0 0 none) me)
 learns names slots id me first knows = subst (λ (k : ℕ). Allows (Kept names) slots k me 0 (λ n. n) (learned (step slots 0 0 0 none) me)) (sym first) go
   where
     go : Allows (Kept names) slots 0 me 0 (λ n. n) (learned (step slots 0 0 0 none) me)
-    go s kept deep at fits = (me.0, keeps, tt, same_state names s 0 me.0 at kept, (knows, subst (λ (l : LoopView). IsComplete l) (ap loop_of (is_loop names s kept me.0 at)) (complete names s kept)))
+    go s kept deep at fits = (me.0, keeps, tt, same_state names s 0 me.0 at kept, (knows, subst (λ (l : LoopView). HasEach l) (ap loop_of (is_loop names s kept me.0 at)) (complete names s kept)))
 
 pub splits : (names id : ℕ) (v : View) → id ≡ 0 → Splits (Kept names) id v (split_left v) (split_right v)
 splits names id v first s kept at = let at_0 : get_elem? s.views 0 ≡ some v = (λ i. get_elem? s.views (sym first i)) ∙ at in
@@ -135,12 +146,16 @@ opens names words is = record {
 }
 
 -- the loop's seat after a step that leaves it l
-pub settles : (board board' : TableId) (id id' : ℕ) (me me' : Me ℕ View) (counts counts' : List ℕ) (turns turns' : ℕ) (l : LoopView) → IsLoops board id me counts turns
-    → board' ≡ board → id' ≡ id → me' ≡ (Loop l, []) → l.counts ≡ counts' → l.splits ≡ turns' → length counts' ≡ length counts → IsLoops board' id' me' counts' turns'
-settles board board' id id' me me' counts counts' turns turns' l old t i m c k w = let is : loop_of me'.0 ≡ l = ap (λ (x : Me ℕ View). loop_of x.0) m in let wide = old.wide in record {
-  first = i ∙ old.first;
-  knows = m ∙ (λ j. (Loop (sym is j), []));
-  counts_are = ap (λ (x : LoopView). x.counts) is ∙ c;
-  splits_are = ap (λ (x : LoopView). x.splits) is ∙ k;
-  wide = ap (λ (x : TableId). x.words) t ∙ (wide ∙ ap (λ (x : ℕ). x + 1) (sym w));
-}
+pub settles : {board board' : TableId} {id id' : ℕ} {me me' : Me ℕ View} {counts counts' : List ℕ} {turns turns' : ℕ} (l : LoopView)
+    → IsLoops board id me counts turns → board' ≡ board → id' ≡ id → me' ≡ (Loop l, [])
+    → l.counts ≡ counts' → l.splits ≡ turns' → length counts' ≡ length counts → IsLoops board' id' me' counts' turns'
+settles {board'} {me'} l old t i m c k w =
+    let is : loop_of me'.0 ≡ l = ap (λ (x : Me ℕ View). loop_of x.0) m in
+    let wide = old.wide in
+    record {
+      first = i ∙ old.first;
+      knows = m ∙ (λ j. (Loop (sym is j), []));
+      counts_are = ap (λ (x : LoopView). x.counts) is ∙ c;
+      splits_are = ap (λ (x : LoopView). x.splits) is ∙ k;
+      wide = ap (λ (x : TableId). x.words) t ∙ (wide ∙ ap (λ (x : ℕ). x + 1) (sym w));
+    }

@@ -1,5 +1,5 @@
 -- What holds of one name, through each kind of step.
-use Rattle.std.proofs.Common.{◌≡◌, ◌≢◌, ◌⊎◌, ℕ, ◌+◌, ◌*◌, ◌/◌, ◌%◌, ◌^◌, ◌<◌, ◌≤◌, List, sym, refl, ap, ◌∙◌, subst, inl, inr, ⊎_elim, arith, Option, Some, None}
+use Rattle.std.proofs.Common.{◌≡◌, ◌≢◌, ◌⊎◌, ℕ, ◌+◌, ◌*◌, ◌/◌, ◌%◌, ◌^◌, ◌≤◌, List, sym, refl, ap, ◌∙◌, subst, inl, inr, ⊎_elim, arith, Option, Some, None}
 use Rattle.std.proofs.lemmas.Nat.{or_shifted, or_block, or_disjoint, and_le_r}
 use mathlib.Core.Logic.{dite}
 use native.Mathlib.Decide.{ℕ_discrete}
@@ -8,7 +8,9 @@ use Rattle.uv_ids.specs.declared.id.Var.{Var}
 use Rattle.uv_wake.specs.declared.tickets.Ticket.{Ticket}
 use Rattle.uv_wake.specs.declared.views.View.{View}
 use Rattle.uv_wake.specs.Tickets.{ticket}
-use Rattle.uv_wake.specs.Rule.{Has, IsWord, NameKept, NoneIsAhead}
+use Rattle.atomic_table.specs.Table.{State}
+use Rattle.uv_wake.specs.Seats.{count_of}
+use Rattle.uv_wake.specs.Rule.{Has, IsWord, NameKept, NoneIsAhead, Kept, EachStands}
 
 or_even : (e : ℕ) → bit_or (2 * e) 1 ≡ 2 * e + 1
 or_even e = let h : bit_or (e * 2 ^ 1) 1 ≡ e * 2 ^ 1 + 1 = or_shifted e 1 1 (omega arith) in let swap : 2 * e ≡ e * 2 ^ 1 = omega arith in rw swap h
@@ -27,10 +29,11 @@ pub odd_word : (count word : ℕ) → IsWord count word → word % 2 ≢ 0 → w
 odd_word count word h odd = ⊎_elim (λ (e : word ≡ 2 * count). absurd (odd (omega arith))) (λ (e : word ≡ 2 * count + 1). e) h
 
 -- a ticket was carried, or it stands in the word
-pub stands : (views : List View) (seen : Option Var) (name : Var) (count word : ℕ) → NameKept views seen name count word
-    → (t : Ticket) → t.var ≡ name → Has views t → (t.epoch < word / 2) ⊎ (word ≡ 2 * t.epoch + 1)
-stands views seen name count word ok t is h = let p = ok.is_past t is h in let half = (or_one count word ok.is_word).1 in let early = p.0 in
-    dite (ℕ_discrete t.epoch count) (λ e. let odd = p.1 e in inr (omega arith)) (λ n. inl (omega arith))
+pub each_stands : (names : ℕ) (s : State ℕ View) (kept : Kept names s) → EachStands names s kept
+each_stands names s kept t small h =
+    let p = (kept.each t.var small).is_past t refl h in
+    let early = p.0 in
+    dite (ℕ_discrete t.epoch (count_of kept.loop t.var)) (λ e. let odd = p.1 e in inr (omega arith)) (λ n. inl (omega arith))
 
 -- a name whose word the step does not touch
 pub stays : (views views' : List View) (seen seen' : Option Var) (name : Var) (count word : ℕ)

@@ -1,7 +1,7 @@
 -- What the table asks of each step of a sender's seat, and what its seat then is.
-use Rattle.std.proofs.Common.{◌≡◌, ◌⊎◌, ℕ, ◌+◌, ◌/◌, ◌<◌, ◌≤◌, List, [], ◌∷◌, ◌++◌, get_or, set, sym, ap, ◌∙◌, subst, inl, inr, ⊎_elim, arith}
+use Rattle.std.proofs.Common.{◌≡◌, ◌⊎◌, ℕ, ◌+◌, ◌/◌, ◌<◌, ◌≤◌, [], ◌∷◌, ◌++◌, get_or, set, sym, ap, ◌∙◌, subst, inl, inr, ⊎_elim, arith}
 use Rattle.std.specs.List.{Contains}
-use Rattle.std.proofs.lemmas.List.{length-set, get_or-set_same, get_or-set_other, set-get_or}
+use Rattle.std.proofs.lemmas.List.{length-set, get_or-set_same, get_or-set_other}
 use Rattle.std.proofs.lemmas.List.Elements.{Contains-append_left, Contains-push, Contains-push_cases}
 use mathlib.Core.Logic.{dite}
 use mathlib.Core.Option.{none, some, some-injective}
@@ -9,7 +9,7 @@ use native.Mathlib.Decide.{ℕ_discrete}
 use lib.Bits.{bit_or}
 use lib.ListN.{get_elem?}
 use Rattle.atomic_table.specs.Table.{State, Me, step, keeps, Allows}
-use Rattle.atomic_table.proofs.Lists.{set_else, set_again}
+use Rattle.atomic_table.proofs.Lists.{set_else}
 use Rattle.uv_ids.specs.declared.id.Var.{Var}
 use Rattle.uv_wake.specs.declared.tickets.Ticket.{Ticket}
 use Rattle.uv_wake.specs.declared.views.SenderView.{SenderView}
@@ -17,11 +17,11 @@ use Rattle.uv_wake.specs.declared.views.View.{View}
 use Rattle.uv_wake.specs.declared.views.View.TheVariants.{Loop, Sender}
 use Rattle.uv_wake.specs.Tickets.{ticket}
 use Rattle.uv_wake.specs.Rule.{Has, NameKept, NoneIsAhead, Kept}
-use Rattle.uv_wake.specs.Steps.{sender_of, gained, sent, recalled}
-use Rattle.uv_wake.specs.Seats.{EachStands}
+use Rattle.uv_wake.specs.Steps.{sender_of, sent}
+use Rattle.uv_wake.specs.Seats.{after_send}
 use Rattle.uv_wake.specs.Passes.{IsSends}
 use Rattle.uv_wake.proofs.Lists.{var_ext, set_there, has_after, has_before, count_set, alone_set, ahead_set}
-use Rattle.uv_wake.proofs.Names.{or_one, stands, stays, sent_name}
+use Rattle.uv_wake.proofs.Names.{or_one, stays, sent_name}
 
 module _ (names : ℕ) (s : State ℕ View) (kept : Kept names s) where
   abbrev pub word_of : Var → ℕ
@@ -33,7 +33,7 @@ module _ (names : ℕ) (s : State ℕ View) (kept : Kept names s) where
     new = ticket v (word_of v / 2)
 
     abbrev pub after : View
-    after = Sender (gained k new)
+    after = Sender (after_send k new)
 
     not_first : id ≡ 0 → ⊥
     not_first z = let e : Sender k ≡ Loop kept.loop = some-injective _ _ (sym at ∙ (λ i. get_elem? s.views (z i)) ∙ kept.first) in absurd (cc)
@@ -58,9 +58,6 @@ module _ (names : ℕ) (s : State ℕ View) (kept : Kept names s) where
 
     pub is_since : get_or k.since v.0 0 ≤ word_of v / 2
     is_since = let h = (kept.each v small).is_ahead id k at in let e = epoch_is in omega arith
-
-    pub each_stands : EachStands k.tickets v (word_of v)
-    each_stands t is c = stands s.views kept.loop.seen v (get_or kept.loop.counts v.0 0) (word_of v) (kept.each v small) t is (id, Sender k, at, c)
 
     pub send_keeps : Kept names (record { words = set s.words (v.0 + 1) (bit_or (word_of v) 1); homes = s.homes; views = set s.views id after })
     send_keeps = record {
@@ -99,26 +96,8 @@ sends names slots id me v is small s kept deep at fits =
       tt,
       send_keeps names s kept id k seat v small,
       λ u e. let same : v ≡ u = var_ext v u (omega arith) in (
-        (λ i. (Sender (gained k (ticket (same i) (n / 2))), (is i).1)),
+        (λ i. (Sender (after_send k (ticket (same i) (n / 2))), (is i).1)),
         (λ t of c. is_latest names s kept id k seat v small t (of ∙ sym same) c),
-        subst (λ (x : Var). get_or k.since x.0 0 ≤ n / 2) same (is_since names s kept id k seat v small),
-      ),
-    )
-
-pub recalls : (names slots id : ℕ) (me : Me ℕ View) (v : Var) → IsSends me → v.0 < names
-    → Allows (Kept names) slots id me (v.0 + 1) (λ n. n) (recalled (step slots (v.0 + 1) 0 0 none) me)
-recalls names slots id me v is small s kept deep at fits =
-    let k : SenderView = sender_of me.0 in
-    let seat = seat_at s id me is at in
-    let n : ℕ = get_or s.words (v.0 + 1) 0 in (
-      me.0,
-      keeps,
-      tt,
-      subst (λ (x : List ℕ × List View). Kept names (record { words = x.0; homes = s.homes; views = x.1 }))
-          (λ j. (sym (set-get_or s.words (v.0 + 1) 0) j, sym (set_again s.views id me.0 at) j)) kept,
-      λ u e. let same : v ≡ u = var_ext v u (omega arith) in (
-        is,
-        subst (λ (x : Var). EachStands k.tickets x n) same (each_stands names s kept id k seat v small),
         subst (λ (x : Var). get_or k.since x.0 0 ≤ n / 2) same (is_since names s kept id k seat v small),
       ),
     )

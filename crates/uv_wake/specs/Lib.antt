@@ -1,5 +1,5 @@
 pub mod Tickets
+pub mod Seats
 pub mod Rule
 pub mod Steps
-pub mod Seats
 pub mod Passes

@@ -2,18 +2,9 @@
 use Rattle.std.specs.Prelude.{◌≡◌, ℕ, ◌+◌, List, [], length}
 use Rattle.atomic_table.specs.Seated.{TableId}
 use Rattle.atomic_table.specs.Table.{Me}
-use Rattle.uv_wake.specs.declared.views.LoopView.{LoopView}
-use Rattle.uv_wake.specs.declared.views.SenderView.{SenderView}
 use Rattle.uv_wake.specs.declared.views.View.{View}
 use Rattle.uv_wake.specs.declared.views.View.TheVariants.{Loop, Sender}
 use Rattle.uv_wake.specs.Steps.{loop_of, sender_of}
-use Rattle.uv_wake.specs.Seats.{Loops, Sends}
-
-abbrev pub loops_of : TableId → LoopView → Loops
-loops_of b l = record { board = b; counts = l.counts; seen = l.seen; splits = l.splits; joins = l.joins; tickets = l.tickets }
-
-abbrev pub sends_of : TableId → SenderView → Sends
-sends_of b s = record { board = b; since = s.since; tickets = s.tickets }
 
 -- the seat is the loop's, and knows these counts and this number of splits
 pub record IsLoops (board : TableId) (id : ℕ) (me : Me ℕ View) (counts : List ℕ) (splits : ℕ) : Type 0 where

@@ -1,5 +1,5 @@
 -- The rule of the board (uv_async_t): what holds of the words and of all seats between any two steps.
-use Rattle.std.specs.Prelude.{◌≡◌, ◌⊎◌, ℕ, ◌+◌, ◌*◌, ◌<◌, ◌≤◌, List, [], ◌∷◌, length, slice_index, replicate, Option, Some, None}
+use Rattle.std.specs.Prelude.{◌≡◌, ◌⊎◌, ℕ, ◌+◌, ◌*◌, ◌<◌, ◌≤◌, List, [], ◌∷◌, length, slice_index, Option, Some}
 use Rattle.std.specs.List.{Contains}
 use mathlib.Core.Option.{some}
 use lib.ListN.{get_elem?}
@@ -11,6 +11,7 @@ use Rattle.uv_wake.specs.declared.views.SenderView.{SenderView}
 use Rattle.uv_wake.specs.declared.views.View.{View}
 use Rattle.uv_wake.specs.declared.views.View.TheVariants.{Loop, Sender, Joined}
 use Rattle.uv_wake.specs.Tickets.{ticket}
+use Rattle.uv_wake.specs.Seats.{starting, count_of, Carried}
 
 -- the tickets in a seat's list; a joined seat has left its own to the loop's
 abbrev pub list_of : View → List Ticket
@@ -60,13 +61,13 @@ pub record Kept (names : ℕ) (s : State ℕ View) : Type 0 where
   pub wide : length s.words ≡ names + 1
   pub further : slice_index s.words 0 ≡ 0
   pub counted : length loop.counts ≡ names
-  pub each : (v : Var) → v.0 < names → NameKept s.views loop.seen v (slice_index loop.counts v.0) (slice_index s.words (v.0 + 1))
+  pub each : (v : Var) → v.0 < names → NameKept s.views loop.seen v (count_of loop v) (slice_index s.words (v.0 + 1))
   -- the senders' seats that were split off and not joined
   pub senders : loop.splits ≡ loop.joins + sender_count s.views
 
--- what the loop's seat of a new board knows
-abbrev pub starting : ℕ → LoopView
-starting names = record { counts = replicate names 0; seen = None; splits = 0; joins = 0; tickets = [] }
+-- each ticket was carried, or it stands: the word of its name is odd, and of its epoch
+abbrev pub EachStands : (names : ℕ) (s : State ℕ View) → Kept names s → Type 0
+EachStands names s kept = (t : Ticket) → t.var.0 < names → Has s.views t → Carried kept.loop t ⊎ (slice_index s.words (t.var.0 + 1) ≡ 2 * t.epoch + 1)
 
 abbrev pub at_first : ℕ → View
 at_first names = Loop (starting names)

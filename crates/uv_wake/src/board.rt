@@ -1,11 +1,10 @@
 //! The board.
-ghost use Rattle.std.specs.Prelude.{◌≡◌, ◌≢◌, ◌⊎◌, ◌+◌, ◌/◌, ◌%◌, ◌^◌, ◌<◌, ◌≤◌, slice_index, true, IfOk, IfErr, OnOk, OnErr};
+ghost use Rattle.std.specs.Prelude.{◌≡◌, ◌⊎◌, ◌+◌, ◌^◌, ◌<◌, ◌≤◌, slice_index, true, false, Some, IfOk, IfErr, OnOk, OnErr};
 ghost use Rattle.std.specs.List.{Contains};
 ghost use Rattle.uv_wake.specs.declared.tickets.Ticket.{Ticket};
-ghost use Rattle.uv_wake.specs.Rule.{IsWord};
-ghost use Rattle.uv_wake.specs.Seats.{Plan, AllCarried, Carried, CarriedBy, Carries, EachStands, HasEach, WasAsked, after_absorb, after_join, after_send, after_split, at_start, count_of, names_of, split_off};
+ghost use Rattle.uv_wake.specs.Seats.{Plan, AllCarried, Carried, CarriedBy, Carries, HasEach, WasAsked, after_absorb, after_join, after_look, after_send, after_split, count_of, names_of, split_off, starting};
 
-use crate::rule::{Look, Recall, Seats, Wakes};
+use crate::rule::{Look, Seats, Wakes};
 use crate::seats::{LoopSeat, SenderSeat};
 use crate::tickets::Ticket;
 use crate::views::View;
@@ -38,7 +37,7 @@ impl Board {
     pub fn new(alloc: Global, names: usize, senders: u64) -> Result<(Board, LoopSeat), Fault>
         ensures names { IfOk result (λ r. names_of r.0.board ≡ names) }
         ensures senders { IfOk result (λ r. r.0.senders ≡ senders) }
-        ensures seat { IfOk result (λ r. r.1 ≡ at_start r.0.board names) }
+        ensures seat { IfOk result (λ r. r.1 ≡ record { board = r.0.board; knows = starting names }) }
         ensures err { IfErr result (λ f. f ≡ Fault.Memory) }
     {
         Board::made(alloc, names, senders).map_err(|_| Fault::Memory)
@@ -47,7 +46,7 @@ impl Board {
     fn made(alloc: Global, names: usize, senders: u64) -> Result<(Board, LoopSeat), AllocError>
         ensures names { IfOk result (λ r. names_of r.0.board ≡ names) }
         ensures senders { IfOk result (λ r. r.0.senders ≡ senders) }
-        ensures seat { IfOk result (λ r. r.1 ≡ at_start r.0.board names) }
+        ensures seat { IfOk result (λ r. r.1 ≡ record { board = r.0.board; knows = starting names }) }
     {
         let word_count = names.checked_add(1).ok_or(AllocError)?;
         let counts = Vec::from_elem(alloc, 0u64, names)?;
@@ -66,12 +65,12 @@ impl Board {
     /// A seat for one more sender. It answers `Limit` once `senders` seats were split off, joined ones too (own).
     pub fn split(&self, seat: &mut LoopSeat) -> Result<SenderSeat, Fault>
         requires { seat.old.board ≡ self.now.board }
-        ensures ok { IfOk result (λ s. s ≡ split_off seat.old) }
-        ensures seat { OnOk result (seat.new ≡ after_split seat.old) }
-        ensures room { OnOk result (seat.old.splits < self.now.senders) }
+        ensures ok { IfOk result (λ s. s ≡ record { board = seat.old.board; knows = split_off seat.old.knows }) }
+        ensures seat { OnOk result (seat.new ≡ record seat.old { knows = after_split seat.old.knows }) }
+        ensures room { OnOk result (seat.old.knows.splits < self.now.senders) }
 
         ensures err { IfErr result (λ f. f ≡ Fault.Limit) }
-        ensures full { OnErr result (self.now.senders ≤ seat.old.splits) }
+        ensures full { OnErr result (self.now.senders ≤ seat.old.knows.splits) }
         ensures same { OnErr result (seat.new ≡ seat.old) }
     {
         if seat.splits >= self.senders {
@@ -89,11 +88,11 @@ impl Board {
         requires board { seat.old.board ≡ self.now.board }
         requires name { name.0 < names_of self.now.board }
         ensures name { result.var ≡ name }
-        ensures ticket { seat.new ≡ after_send seat.old result }
+        ensures ticket { seat.new ≡ record seat.old { knows = after_send seat.old.knows result } }
 
         // The epoch is that of the word: it is at least what the loop had counted when the seat was split off.
-        ensures order { (t : Ticket) → t.var ≡ name → Contains seat.old.tickets t → t.epoch ≤ result.epoch }
-        ensures since { slice_index seat.old.since name.0 ≤ result.epoch }
+        ensures order { (t : Ticket) → t.var ≡ name → Contains seat.old.knows.tickets t → t.epoch ≤ result.epoch }
+        ensures since { slice_index seat.old.knows.since name.0 ≤ result.epoch }
     {
         let found = self.set(seat, name);
         Ticket {
@@ -102,34 +101,19 @@ impl Board {
         }
     }
 
-    /// The word of a name as a sender finds it. It tells which of the seat's own tickets an absorb has carried (own).
-    pub fn recall(&self, seat: &mut SenderSeat, name: Var) -> u64
+    /// Whether a send stands in the word of a name, which the next `absorb` carries (own).
+    pub fn look(&self, seat: &mut LoopSeat, name: Var) -> bool
         requires board { seat.old.board ≡ self.now.board }
         requires name { name.0 < names_of self.now.board }
-        ensures seat { seat.new ≡ seat.old }
-        ensures stands { EachStands seat.old.tickets name result }
-        ensures since { slice_index seat.old.since name.0 ≤ result / 2 }
+        ensures seat { seat.new ≡ record seat.old { knows = after_look seat.old.knows name result } }
+        ensures still { seat.old.knows.seen ≡ Some name → result ≡ true }
+
+        ensures carried { result ≡ false → AllCarried seat.old.knows name }
+        ensures asked { result ≡ true → WasAsked seat.old.knows name }
+        ensures each { HasEach seat.new.knows }
     {
         let word = name.0 as usize + 1;
-        self.table.shared.load::<Recall>(&mut seat.seat, word)
-    }
-
-    /// The word of a name as the loop finds it: odd where a send stands in it that the next `absorb` carries (own).
-    pub fn look(&self, seat: &mut LoopSeat, name: Var) -> u64
-        requires board { seat.old.board ≡ self.now.board }
-        requires name { name.0 < names_of self.now.board }
-        ensures seat { seat.new ≡ record seat.old { seen = seat.new.seen } }
-        ensures seen { result % 2 ≢ 0 → seat.new.seen ≡ Some name }
-        ensures still { seat.old.seen ≡ Some name → result % 2 ≢ 0 }
-
-        ensures word { IsWord (count_of seat.old name) result }
-        ensures stands { EachStands seat.old.tickets name result }
-        ensures carried { result % 2 ≡ 0 → AllCarried seat.old name }
-        ensures asked { result % 2 ≢ 0 → WasAsked seat.old name }
-        ensures each { HasEach seat.new }
-    {
-        let word = name.0 as usize + 1;
-        self.table.shared.load::<Look>(&mut seat.seat, word)
+        self.table.shared.load::<Look>(&mut seat.seat, word) % 2 == 1
     }
 
     /// Looks at the word of a name. Where a send stands in it, takes it in and answers true: the loop then owes the
@@ -137,23 +121,23 @@ impl Board {
     pub fn absorb(&self, seat: &mut LoopSeat, name: Var) -> bool
         requires board { seat.old.board ≡ self.now.board }
         requires name { name.0 < names_of self.now.board }
-        requires room { count_of seat.old name < 2 ^ 62 }
-        ensures seat { seat.new ≡ after_absorb seat.old name result seat.new.seen }
-        ensures most { count_of seat.new name ≤ count_of seat.old name + 1 }
+        requires room { count_of seat.old.knows name < 2 ^ 62 }
+        ensures seat { seat.new ≡ record seat.old { knows = after_absorb seat.old.knows name result } }
+        ensures most { count_of seat.new.knows name ≤ count_of seat.old.knows name + 1 }
 
-        // True comes only where somebody sent, and always where a look found the word odd or a joined sender's
+        // True comes only where somebody sent, and always where a look found one or a joined sender's
         // ticket of the name is left.
-        ensures still { seat.old.seen ≡ Some name → result ≡ true }
-        ensures asked { result ≡ true → WasAsked seat.old name }
-        ensures once { (t : Ticket) → t.var ≡ name → Contains seat.old.tickets t
-            → Carried seat.old t ⊎ CarriedBy seat.old name result t }
+        ensures still { seat.old.knows.seen ≡ Some name → result ≡ true }
+        ensures asked { result ≡ true → WasAsked seat.old.knows name }
+        ensures once { (t : Ticket) → t.var ≡ name → Contains seat.old.knows.tickets t
+            → Carried seat.old.knows t ⊎ CarriedBy seat.old.knows name result t }
 
         // It carries the tickets of one epoch, and then none of the name is left.
-        ensures carries { Carries seat.old name result seat.new }
-        ensures carried { AllCarried seat.new name }
-        ensures each { HasEach seat.new }
+        ensures carries { Carries seat.old.knows name result seat.new.knows }
+        ensures carried { AllCarried seat.new.knows name }
+        ensures each { HasEach seat.new.knows }
     {
-        if self.look(seat, name) % 2 == 0 {
+        if !self.look(seat, name) {
             return false;
         }
         self.take_in(seat, name);
@@ -164,8 +148,8 @@ impl Board {
     pub fn join(&self, seat: &mut LoopSeat, sender: SenderSeat)
         requires board { seat.old.board ≡ self.now.board }
         requires sender { sender.board ≡ self.now.board }
-        ensures tickets { seat.new ≡ after_join seat.old sender }
-        ensures each { HasEach seat.new }
+        ensures tickets { seat.new ≡ record seat.old { knows = after_join seat.old.knows sender.knows.tickets } }
+        ensures each { HasEach seat.new.knows }
     {
         self.take_back(seat, sender);
         self.learn(seat);

@@ -13,6 +13,7 @@ mod tickets;
 mod views;
 
 pub use board::Board;
+pub use rule::tickets_stand;
 pub use seats::{LoopSeat, SenderSeat};
 pub use tickets::Ticket;
 

@@ -1,6 +1,9 @@
 //! The rule of the board, and what each kind of step tells the seat that makes it.
-ghost use Rattle.uv_wake.specs.Rule.{Kept, at_first};
-ghost use Rattle.uv_wake.specs.Steps.{sent, recalled, looked, absorbed, learned, split_left, split_right, joined, left_behind};
+ghost use Rattle.std.specs.Prelude.{ℕ};
+ghost use Rattle.atomic_table.specs.Table.{State};
+ghost use Rattle.uv_wake.specs.declared.views.View.{View};
+ghost use Rattle.uv_wake.specs.Rule.{Kept, EachStands, at_first};
+ghost use Rattle.uv_wake.specs.Steps.{sent, looked, absorbed, learned, split_left, split_right, joined, left_behind};
 
 use crate::views::View;
 use atomic_table::{Join, Play, Split, TableRule};
@@ -19,13 +22,6 @@ pub struct Send;
 
 impl Play<u8, View> for Send {
     ghost then = { sent };
-}
-
-/// A sender looks at a name's word.
-pub struct Recall;
-
-impl Play<u8, View> for Recall {
-    ghost then = { recalled };
 }
 
 /// The loop looks at a name's word.
@@ -63,3 +59,9 @@ impl Join<View> for Seats {
 
     ghost spent = { left_behind };
 }
+
+/// Between any two steps each ticket was carried, or it stands in the word of its name, which is odd: so no ticket is lost.
+/// It does nothing, and is called for its clause.
+pub fn tickets_stand()
+    ensures { (names : ℕ) (s : State ℕ View) (kept : Kept names s) → EachStands names s kept }
+{}

@@ -1,8 +1,8 @@
 //! The loop's seat and the senders' seats.
 ghost use Rattle.std.specs.Prelude.{◌≡◌, ◌<◌, ◌↔◌, IsTrue};
 ghost use Rattle.uv_wake.specs.Steps.{loop_of, sender_of};
-ghost use Rattle.uv_wake.specs.Seats.{Loops, Sends, Carried, count_of, names_of};
-ghost use Rattle.uv_wake.specs.Passes.{IsLoops, IsSends, loops_of, sends_of};
+ghost use Rattle.uv_wake.specs.Seats.{LoopAt, SenderAt, Carried, count_of, names_of};
+ghost use Rattle.uv_wake.specs.Passes.{IsLoops, IsSends};
 
 use crate::tickets::Ticket;
 use crate::views::View;
@@ -19,9 +19,9 @@ pub struct LoopSeat {
 }
 
 impl Model for LoopSeat {
-    ghost Value = { Loops };
+    ghost Value = { LoopAt };
 
-    ghost view = { λ s. loops_of s.seat.table_id (loop_of s.seat.me.0) };
+    ghost view = { λ s. record { board = s.seat.table_id; knows = loop_of s.seat.me.0 } };
 
     ghost invariant = { λ s. IsLoops s.seat.table_id s.seat.id s.seat.me s.counts.items s.splits };
 }
@@ -30,7 +30,7 @@ impl LoopSeat {
     /// How many times the word of a name was absorbed.
     pub fn count(&self, name: Var) -> u64
         requires { name.0 < names_of self.now.board }
-        ensures { result ≡ count_of self.now name }
+        ensures { result ≡ count_of self.now.knows name }
     {
         self.counts[name.0 as usize]
     }
@@ -38,7 +38,7 @@ impl LoopSeat {
     /// Whether an absorb has carried the ticket. The ticket may be of any seat of the board.
     pub fn carried(&self, ticket: Ticket) -> bool
         requires { ticket.var.0 < names_of self.now.board }
-        ensures { IsTrue result ↔ Carried self.now ticket }
+        ensures { IsTrue result ↔ Carried self.now.knows ticket }
     {
         self.count(ticket.var) > ticket.epoch
     }
@@ -53,9 +53,9 @@ pub struct SenderSeat {
 }
 
 impl Model for SenderSeat {
-    ghost Value = { Sends };
+    ghost Value = { SenderAt };
 
-    ghost view = { λ s. sends_of s.seat.table_id (sender_of s.seat.me.0) };
+    ghost view = { λ s. record { board = s.seat.table_id; knows = sender_of s.seat.me.0 } };
 
     ghost invariant = { λ s. IsSends s.seat.me };
 }

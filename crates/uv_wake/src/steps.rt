@@ -1,5 +1,5 @@
 //! The steps from which `send`, `absorb` and `join` are put together, each with what it tells its seat.
-ghost use Rattle.std.specs.Prelude.{◌≡◌, ◌/◌, ◌^◌, ◌<◌, ◌≤◌, slice_index, true, Some, None};
+ghost use Rattle.std.specs.Prelude.{◌≡◌, ◌/◌, ◌^◌, ◌<◌, ◌≤◌, slice_index, true, Some};
 ghost use Rattle.std.specs.List.{Contains};
 ghost use Rattle.uv_wake.specs.declared.tickets.Ticket.{Ticket};
 ghost use Rattle.uv_wake.specs.Tickets.{ticket};
@@ -15,9 +15,9 @@ impl Board {
     pub(crate) fn set(&self, seat: &mut SenderSeat, name: Var) -> u64
         requires board { seat.old.board ≡ self.now.board }
         requires name { name.0 < names_of self.now.board }
-        ensures seat { seat.new ≡ after_send seat.old (ticket name (result / 2)) }
-        ensures order { (t : Ticket) → t.var ≡ name → Contains seat.old.tickets t → t.epoch ≤ result / 2 }
-        ensures since { slice_index seat.old.since name.0 ≤ result / 2 }
+        ensures seat { seat.new ≡ record seat.old { knows = after_send seat.old.knows (ticket name (result / 2)) } }
+        ensures order { (t : Ticket) → t.var ≡ name → Contains seat.old.knows.tickets t → t.epoch ≤ result / 2 }
+        ensures since { slice_index seat.old.knows.since name.0 ≤ result / 2 }
     {
         let word = name.0 as usize + 1;
         self.table.shared.fetch_or::<Send>(&mut seat.seat, word, 1)
@@ -27,12 +27,12 @@ impl Board {
     pub(crate) fn take_in(&self, seat: &mut LoopSeat, name: Var)
         requires board { seat.old.board ≡ self.now.board }
         requires name { name.0 < names_of self.now.board }
-        requires seen { seat.old.seen ≡ Some name }
-        requires room { count_of seat.old name < 2 ^ 62 }
-        ensures seat { seat.new ≡ after_absorb seat.old name true None }
-        ensures carries { Carries seat.old name true seat.new }
-        ensures carried { AllCarried seat.new name }
-        ensures each { HasEach seat.new }
+        requires seen { seat.old.knows.seen ≡ Some name }
+        requires room { count_of seat.old.knows name < 2 ^ 62 }
+        ensures seat { seat.new ≡ record seat.old { knows = after_absorb seat.old.knows name true } }
+        ensures carries { Carries seat.old.knows name true seat.new.knows }
+        ensures carried { AllCarried seat.new.knows name }
+        ensures each { HasEach seat.new.knows }
     {
         let index = name.0 as usize;
         self.table
@@ -45,7 +45,7 @@ impl Board {
     pub(crate) fn take_back(&self, seat: &mut LoopSeat, sender: SenderSeat)
         requires board { seat.old.board ≡ self.now.board }
         requires sender { sender.board ≡ self.now.board }
-        ensures { seat.new ≡ after_join seat.old sender }
+        ensures { seat.new ≡ record seat.old { knows = after_join seat.old.knows sender.knows.tickets } }
     {
         let SenderSeat { seat: given } = sender;
         self.table.shared.join_seat::<Seats>(&mut seat.seat, given);
@@ -55,7 +55,7 @@ impl Board {
     pub(crate) fn learn(&self, seat: &mut LoopSeat)
         requires { seat.old.board ≡ self.now.board }
         ensures seat { seat.new ≡ seat.old }
-        ensures each { HasEach seat.new }
+        ensures each { HasEach seat.new.knows }
     {
         self.table.shared.load::<Learn>(&mut seat.seat, 0);
     }

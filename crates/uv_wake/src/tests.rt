@@ -1,8 +1,9 @@
 //! The calls by example, and threads that send while the loop absorbs.
-ghost use Rattle.std.specs.Prelude.{◌≡◌, ◌+◌, ◌^◌, ◌<◌, ◌≤◌};
+ghost use Rattle.std.specs.Prelude.{◌≡◌, ◌<◌, ◌≤◌};
 ghost use Rattle.uv_wake.specs.Seats.{count_of, names_of};
 
-use crate::{Board, LoopSeat, SenderSeat, Ticket};
+use crate::{Board, LoopSeat, SenderSeat, Ticket, tickets_stand};
+use std::sync::atomic::{AtomicU64, Ordering};
 use std::test::Fail;
 use std::thread::join;
 use uv_ids::{Fault, Var};
@@ -46,15 +47,15 @@ fn each_ticket_is_carried_once(rt: HostRuntime) -> Result<(), Fail> {
 }
 
 #[test]
-fn the_word_is_odd_while_a_ticket_is_left(rt: HostRuntime) -> Result<(), Fail> {
+fn a_look_finds_a_ticket_that_is_left(rt: HostRuntime) -> Result<(), Fail> {
     let (board, mut seat) = Board::new(rt.alloc(), 2, 1)?;
     let mut sender = board.split(&mut seat)?;
-    assert!(rt; board.look(&mut seat, SECOND) == 0 && board.recall(&mut sender, SECOND) == 0);
+    tickets_stand();
+    assert!(rt; !board.look(&mut seat, SECOND));
     board.send(&mut sender, SECOND);
-    assert!(rt; board.look(&mut seat, SECOND) == 1 && board.recall(&mut sender, SECOND) == 1);
-    assert!(rt; board.look(&mut seat, FIRST) == 0);
+    assert!(rt; board.look(&mut seat, SECOND) && !board.look(&mut seat, FIRST));
     assert!(rt; board.absorb(&mut seat, SECOND));
-    assert!(rt; board.look(&mut seat, SECOND) == 2 && board.recall(&mut sender, SECOND) == 2);
+    assert!(rt; !board.look(&mut seat, SECOND));
     Ok(())
 }
 
@@ -79,52 +80,88 @@ fn want_of_memory_is_answered(rt: HostRuntime) -> Result<(), Fail> {
     Ok(())
 }
 
-// Sends once for each place, and notes the epochs there.
-fn note_sends(
+/// How many sends the loop has to find while the senders run.
+const SEVERAL: u64 = 20;
+
+/// How often the senders send and the loop looks at the most.
+const TURNS: u32 = 100_000_000;
+
+// What a sender's thread and the loop's tell each other.
+#[derive(Drop)]
+struct Told {
+    /// How many sends the loop has found.
+    found: AtomicU64,
+    /// How many senders have ended.
+    ended: AtomicU64,
+}
+
+// Sends until the loop has found several, and notes the epochs of the last sends.
+fn send_on(
     board: &Board,
     seat: SenderSeat,
     name: Var,
     mut epochs: Vec<u64>,
+    told: &Told,
 ) -> (SenderSeat, Vec<u64>)
     requires board { seat.board ≡ board.now.board }
     requires name { name.0 < names_of board.now.board }
     ensures { result.0.board ≡ seat.board }
 {
     let mut seat = seat;
-    for i in 0..epochs.len() {
-        epochs[i] = board.send(&mut seat, name).epoch;
+    let count = epochs.len();
+    let mut place = 0;
+    for _ in 0..TURNS {
+        if told.found.load(Ordering::SeqCst) >= SEVERAL {
+            break;
+        }
+        let epoch = board.send(&mut seat, name).epoch;
+        if place < count {
+            epochs[place] = epoch;
+            place += 1;
+        } else {
+            place = 0;
+        }
     }
+    told.ended.fetch_add(1, Ordering::SeqCst);
     (seat, epochs)
 }
 
-// Looks so many times, and absorbs what it finds.
-fn absorb_often(board: &Board, seat: LoopSeat, name: Var, times: u32) -> LoopSeat
+// Absorbs for as long as two senders run.
+fn absorb_on(board: &Board, seat: LoopSeat, name: Var, told: &Told) -> LoopSeat
     requires board { seat.board ≡ board.now.board }
     requires name { name.0 < names_of board.now.board }
-    requires room { count_of seat name + times < 2 ^ 62 }
+    requires new { count_of seat.knows name ≡ 0 }
     ensures board { result.board ≡ seat.board }
-    ensures most { count_of result name ≤ count_of seat name + times }
+    ensures most { count_of result.knows name ≤ TURNS }
 {
     let mut seat = seat;
-    for _ in 0..times {
-        board.absorb(&mut seat, name);
+    for _ in 0..TURNS {
+        if board.absorb(&mut seat, name) {
+            told.found.fetch_add(1, Ordering::SeqCst);
+        } else if told.ended.load(Ordering::SeqCst) == 2 {
+            break;
+        }
     }
     seat
 }
 
 #[test]
-fn every_ticket_of_two_threads_is_carried(rt: HostRuntime) -> Result<(), Fail> {
+fn sends_and_absorbs_of_three_threads_interleave(rt: HostRuntime) -> Result<(), Fail> {
     let (board, mut seat) = Board::new(rt.alloc(), 1, 2)?;
     let one = board.split(&mut seat)?;
     let two = board.split(&mut seat)?;
     let left = Vec::from_elem(rt.alloc(), 0u64, 1000)?;
     let right = Vec::from_elem(rt.alloc(), 0u64, 1000)?;
+    let told = Told {
+        found: AtomicU64::new(0),
+        ended: AtomicU64::new(0),
+    };
     let (mut seat, ((one, left), (two, right))) = join(
         &rt,
         || -> LoopSeat
-            requires { (seat.board ≡ board.board) × (0 < names_of board.board) × (count_of seat FIRST ≡ 0) }
-            ensures { (result.board ≡ board.board) × (count_of result FIRST ≤ 1000) }
-        { absorb_often(&board, seat, FIRST, 1000) },
+            requires { (seat.board ≡ board.board) × (0 < names_of board.board) × (count_of seat.knows FIRST ≡ 0) }
+            ensures { (result.board ≡ board.board) × (count_of result.knows FIRST ≤ TURNS) }
+        { absorb_on(&board, seat, FIRST, &told) },
         || -> ((SenderSeat, Vec<u64>), (SenderSeat, Vec<u64>))
             requires { (one.board ≡ board.board) × (two.board ≡ board.board) × (0 < names_of board.board) }
             ensures { (result.0.0.board ≡ board.board) × (result.1.0.board ≡ board.board) }
@@ -134,11 +171,11 @@ fn every_ticket_of_two_threads_is_carried(rt: HostRuntime) -> Result<(), Fail> {
                 || -> (SenderSeat, Vec<u64>)
                     requires { (one.board ≡ board.board) × (0 < names_of board.board) }
                     ensures { result.0.board ≡ board.board }
-                { note_sends(&board, one, FIRST, left) },
+                { send_on(&board, one, FIRST, left, &told) },
                 || -> (SenderSeat, Vec<u64>)
                     requires { (two.board ≡ board.board) × (0 < names_of board.board) }
                     ensures { result.0.board ≡ board.board }
-                { note_sends(&board, two, FIRST, right) },
+                { send_on(&board, two, FIRST, right, &told) },
             )
         },
     );
@@ -147,7 +184,8 @@ fn every_ticket_of_two_threads_is_carried(rt: HostRuntime) -> Result<(), Fail> {
     let last = board.absorb(&mut seat, FIRST);
     let again = board.absorb(&mut seat, FIRST);
     assert!(rt; !again, "{last}");
-    assert!(rt; left.len() == 1000 && right.len() == 1000);
+    let found = told.found.load(Ordering::SeqCst);
+    assert!(rt; found >= SEVERAL, "{found}");
     for epoch in left.iter().chain(right.iter()) {
         let carried = seat.carried(ticket(FIRST, *epoch));
         assert!(rt; carried, "{epoch}");

@@ -1,9 +1,11 @@
 use Rattle.std.proofs.Common.{◌≡◌, ℕ, ◌-◌, List, length, take, sym, ◌∙◌, ap, arith}
 use Rattle.std.specs.List.{swap}
+use Rattle.std.proofs.lemmas.List.{length-take-le}
 use Rattle.std.proofs.lemmas.List.Edits.{length-swap}
 use Rattle.uv_heap.specs.declared.entry.Entry.{Entry}
 use Rattle.uv_heap.specs.Moves.{Moved, settled, removed}
 use Rattle.uv_heap.specs.Array.{entry_at}
+use Rattle.uv_heap.proofs.MoveLemmas.{settled_within}
 use Rattle.uv_heap.proofs.UndoLemmas.{removed_last, removed_inner, avoids_is, avoids_removed}
 use Rattle.uv_heap.proofs.changes.remove.Goals as goal
 
@@ -56,3 +58,11 @@ returns-clause-absent c =
     let xs = c.args.entries.now.array in
     rw (returns-clause-array c, c.as_slice-2.ensures.array)
     (avoids_is (removed xs c.args.place).array (entry_at xs c.args.place).slot (avoids_removed xs c.args.place c.requires c.as_slice.ensures.slots))
+
+pub overflow_cast-rest : goal.overflow_cast-rest
+overflow_cast-rest c =
+    let long = ap length c.as_slice.ensures.array in
+    let short = ap length c.pop.ensures.array in
+    let swapped = ap length c.swap.ensures.array ∙ length-swap c.args.entries.now.array c.args.place (length c.as_slice.result.now - 1) in
+    let cut = length-take-le (length c.swap.new.self.array - 1) c.swap.new.self.array (omega arith) in
+    omega (arith, c.settle-rest.ensures.place, settled_within c.pop.new.self.array c.args.place (omega arith), c.as_slice.ensures.narrow)

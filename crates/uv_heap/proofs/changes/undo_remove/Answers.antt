@@ -6,8 +6,8 @@ use Rattle.uv_heap.specs.Undo.{returned}
 use Rattle.uv_heap.proofs.UndoLemmas.{removal_undone_last, removal_undone_inner, avoids_from, avoids_is, avoids_returned, length-returned}
 use Rattle.uv_heap.proofs.changes.undo_remove.Goals as goal
 
-pub returns-then-undo-last-clause-array : goal.returns-then-undo-last-clause-array
-returns-then-undo-last-clause-array c =
+pub returns-then-place-last-clause-array : goal.returns-then-place-last-clause-array
+returns-then-place-last-clause-array c =
     let long = ap length c.as_slice-last.ensures.array in
     c.push.ensures.array ∙ removal_undone_last c.args.entries.now.array c.args.undo (omega arith)
 

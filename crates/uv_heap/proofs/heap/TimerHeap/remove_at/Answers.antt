@@ -34,11 +34,13 @@ returns-clause-can_undo c =
     let long = ap length c.remove.ensures.array in
     let short = length-removed xs c.args.place within in
     record {
-      place_within = omega (arith, c.remove.ensures.place);
-      rest_within = λ l. omega (arith, c.remove.ensures.rest, place-removed xs c.args.place (omega (arith, l, c.remove.ensures.place)));
-      slot_absent = c.remove.ensures.absent;
+      put_back = record {
+        place_within = omega (arith, c.remove.ensures.place);
+        rest_within = λ l. omega (arith, c.remove.ensures.rest, place-removed xs c.args.place (omega (arith, l, c.remove.ensures.place)));
+        slot_absent = c.remove.ensures.absent;
+        heap_before = rw (undone xs c.remove.new.entries.array c.args.place c.remove.result within c.remove.ensures.array c.remove.ensures.place c.remove.ensures.rest c.remove.ensures.entry) c.self.invariant;
+      };
       has_room = c.remove.ensures.has_room;
-      heap_before = rw (undone xs c.remove.new.entries.array c.args.place c.remove.result within c.remove.ensures.array c.remove.ensures.place c.remove.ensures.rest c.remove.ensures.entry) c.self.invariant;
     }
 
 pub returns-clause-undone : goal.returns-clause-undone

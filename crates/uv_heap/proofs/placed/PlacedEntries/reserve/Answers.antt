@@ -12,4 +12,5 @@ pub invariant_of-self-2 : goal.invariant_of-self-2
 invariant_of-self-2 c =
     rw (c.in_ok-reserve.ensures.items, c.in_ok-resize.ensures.items)
     (places_grown c.self.inside.entries.items c.self.inside.places.items _ _ _ _ c.self.invariant
-    (omega (arith, c.self.inside.places.ok.0)) (omega (arith, c.self.inside.places.ok.0, c.self.inside.entries.ok.0, c.in_ok-reserve.ensures.ok)))
+    (omega (arith, c.self.inside.places.ok.0)) (omega (arith, c.self.inside.places.ok.0, c.self.inside.entries.ok.0, c.in_ok-reserve.ensures.ok))
+    (omega (arith, c.self.inside.places.ok.0)))

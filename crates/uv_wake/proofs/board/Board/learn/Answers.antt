@@ -1,7 +1,6 @@
 use Rattle.std.proofs.Common.{rules, sym, subst}
 use Rattle.uv_wake.specs.Steps.{loop_of}
-use Rattle.uv_wake.specs.Seats.{Loops, HasEach}
-use Rattle.uv_wake.specs.Passes.{loops_of}
+use Rattle.uv_wake.specs.Seats.{HasEach}
 use Rattle.uv_wake.proofs.LoopSteps.{learns}
 use Rattle.uv_wake.proofs.board.Board.learn.Goals as goal
 
@@ -9,4 +8,4 @@ pub load-requires : goal.load-requires
 load-requires c = (search rules, search rules, learns _ _ _ _ c.seat.invariant.first c.seat.invariant.knows)
 
 pub returns-clause-each : goal.returns-clause-each
-returns-clause-each c = let k = c.load.ensures in subst (λ (s : Loops). HasEach s) (sym (λ i. loops_of (k.0 i) (loop_of (k.2.0 i).0))) k.2.1
+returns-clause-each c = let k = c.load.ensures in subst HasEach (sym (λ i. loop_of (k.2.0 i).0)) k.2.1

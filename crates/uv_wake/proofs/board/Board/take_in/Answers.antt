@@ -1,7 +1,7 @@
 use Rattle.std.proofs.Common.{rules, refl, ◌<◌, ◌^◌, ◌∙◌, ap, sym, subst, get_or}
+use Rattle.uv_wake.specs.declared.views.LoopView.{LoopView}
 use Rattle.uv_wake.specs.Steps.{loop_of}
-use Rattle.uv_wake.specs.Seats.{Loops, AllCarried, HasEach}
-use Rattle.uv_wake.specs.Passes.{loops_of}
+use Rattle.uv_wake.specs.Seats.{LoopAt, AllCarried, HasEach}
 use Rattle.uv_wake.proofs.LoopSteps.{absorbs}
 use Rattle.uv_wake.proofs.board.Board.take_in.Goals as goal
 
@@ -10,14 +10,13 @@ fetch_add-requires c = let inv = c.seat.invariant in (
   search rules,
   search rules,
   absorbs _ _ _ _ c.args.name inv.first inv.knows (search rules)
-      (ap (λ (s : Loops). s.seen) c.seat.view_is ∙ c.requires.seen)
-      (subst (λ (s : Loops). get_or s.counts c.args.name.0 0 < 2 ^ 62) (sym c.seat.view_is) c.requires.room),
+      (ap (λ (s : LoopAt). s.knows.seen) c.seat.view_is ∙ c.requires.seen)
+      (subst (λ (s : LoopAt). get_or s.knows.counts c.args.name.0 0 < 2 ^ 62) (sym c.seat.view_is) c.requires.room),
 )
 
 pub returns-clause-carried : goal.returns-clause-carried
-returns-clause-carried c = let f = c.fetch_add.ensures in let told = f.2 c.args.name refl in
-    subst (λ (s : Loops). AllCarried s c.args.name) (sym (λ i. loops_of (f.0 i) (loop_of (told.0 i).0))) told.1
+returns-clause-carried c = let told = c.fetch_add.ensures.2 c.args.name refl in
+    subst (λ (l : LoopView). AllCarried l c.args.name) (sym (λ i. loop_of (told.0 i).0)) told.1
 
 pub returns-clause-each : goal.returns-clause-each
-returns-clause-each c = let f = c.fetch_add.ensures in let told = f.2 c.args.name refl in
-    subst (λ (s : Loops). HasEach s) (sym (λ i. loops_of (f.0 i) (loop_of (told.0 i).0))) told.2
+returns-clause-each c = let told = c.fetch_add.ensures.2 c.args.name refl in subst HasEach (sym (λ i. loop_of (told.0 i).0)) told.2
