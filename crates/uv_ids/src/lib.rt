@@ -15,7 +15,7 @@ pub use event::Event;
 pub use fault::{Fault, Why};
 pub use id::{Id, Var};
 pub use phase::{Kind, Mode, Phase};
-pub use seen::{Seen, Site};
+pub use seen::{Callback, Seen, Site};
 
 #[cfg(test)]
 mod tests {

@@ -1,16 +1,25 @@
 //! The lines of a trace.
 
-use crate::code::Answer;
+use crate::code::{Answer, Code};
 use crate::id::{Id, Var};
 use crate::phase::{Mode, Phase};
+
+/// Which callback of a name.
+#[derive(Clone, Copy, Debug, PartialEq, Eq)]
+pub enum Callback {
+    /// That of its handle: `on` in scripts (uv_timer_cb and the like).
+    Handle,
+    /// That of its close: `closed` in scripts (uv_close_cb).
+    Close,
+}
 
 /// Where an op stands in the script.
 #[derive(Clone, Copy, Debug, PartialEq, Eq)]
 pub enum Site {
     /// The line of the main program, from 0.
     Main(usize),
-    /// The line of a name's handle callback, from 0.
-    On(Var, usize),
+    /// The line of a name's callback, from 0.
+    In(Callback, Var, usize),
 }
 
 /// One line of the trace. An op is named by its place in the script, which has its text.
@@ -26,8 +35,12 @@ pub enum Seen {
     Poll(Option<u64>),
     /// The callback of a handle began.
     Call(Var, Id),
+    /// The close callback of a handle began, whose slot was freed.
+    Closed(Var, Id),
     /// The run ended; the loop was alive or not.
     End(bool),
+    /// An async handle was sent to from outside, which was answered this.
+    Send(Var, Code),
     /// The clock went on by so many ms.
     Tick(u64),
 }

@@ -7,12 +7,14 @@ use Rattle.std.proofs.lemmas.Bool.{cases_order, and_parts, and_from, eqb-true, l
 use Rattle.std.proofs.lemmas.Option.{same_Some, none-some, cond_some, slice_get_within, get_or_from_slice_get}
 use Rattle.uv_ids.specs.declared.id.Var.{Var}
 use Rattle.uv_ids.specs.declared.phase.Mode.{Mode}
+use Rattle.uv_ids.specs.declared.seen.Callback.{Callback}
+use Rattle.uv_ids.specs.declared.seen.Callback.TheVariants as callback
 use Rattle.uv_ids.specs.Words.{kind_word, mode_word}
 use Rattle.uv_script.specs.declared.op.Op.{Op}
 use Rattle.uv_script.specs.declared.op.Op.TheVariants as op
 use Rattle.uv_script.specs.declared.op.MainOp.TheVariants as main
-use Rattle.uv_script.specs.Grammar.{Statement, Declares, InMain, InCallback, named_word, bare_word, IsOp, init, start, repeat, on_name, bare, Says, declares, in_main, runs, in_callback, in_call}
-use Rattle.uv_script.specs.Reading.{first_of, none_left, place_of, kind_of, mode_of, init_of, timer_start_of, start_by, start_of, repeat_of, bare_op, named_op, name_alone, short_op_of, op_of, declaration_of, run_of, main_of, call_of, marked, in_calls_of, in_call_of, calls_of, callback_of, statement_of}
+use Rattle.uv_script.specs.Grammar.{Statement, Declares, InMain, InCallback, named_word, bare_word, IsOp, init, start, repeat, on_name, bare, callback_word, Says, declares, in_main, runs, closes_loop, in_callback, in_call}
+use Rattle.uv_script.specs.Reading.{first_of, none_left, place_of, kind_of, mode_of, init_of, timer_start_of, start_by, start_of, repeat_of, bare_op, named_op, name_alone, short_op_of, op_of, declaration_of, run_of, close_loop_of, main_by, main_of, call_of, marked, in_calls_of, in_call_of, calls_of, callback_of, statement_of}
 use Rattle.uv_script.specs.Checks.{is_name, number_of}
 use Rattle.uv_script.specs.Words.{IsName, IsNumber, IsDeclared}
 use Rattle.uv_script.proofs.OpWords.{named_op-sound, bare_op-sound}
@@ -179,18 +181,28 @@ run_sound names fields s e =
     subst (Says names (codes "main" ∷ codes "run" ∷ fields)) (same_Some _ _ end.2)
     (runs m.0 (ap (λ r. codes "main" ∷ codes "run" ∷ r) (a ∙ ap (λ r. word.0.0 ∷ r) z ∙ ap (λ v. v ∷ []) w)))
 
+close_loop_sound : (names fields : List (List ℕ)) (s : Statement) → close_loop_of fields ≡ Some s → Says names (codes "main" ∷ codes "closeloop" ∷ fields) s
+unfolding close_loop_of
+close_loop_sound names fields s e =
+    let end = bound _ (none_left fields) s e in
+    subst (Says names (codes "main" ∷ codes "closeloop" ∷ fields)) (same_Some _ _ end.2)
+    (closes_loop (ap (λ r. codes "main" ∷ codes "closeloop" ∷ r) (none_is fields end.0 end.1)))
+
 main_sound : (names fields : List (List ℕ)) (s : Statement) → main_of names fields ≡ Some s → Says names (codes "main" ∷ fields) s
-unfolding main_of
+unfolding main_of main_by
 main_sound names fields s e =
     let word = bound _ (first_of fields) s e in
     let a = first_is fields word.0 word.1 in
     subst (λ (r : List (List ℕ)). Says names (codes "main" ∷ r) s) (sym a)
     (elim (choice_cases word.0.0 (codes "run") _ _ (Some s) word.2) [
       | inl is ↦ subst (λ (w : List ℕ). Says names (codes "main" ∷ w ∷ word.0.1) s) (sym is.0) (run_sound names word.0.1 s is.1)
-      | inr e' ↦
-          let o = mapped (λ (o : Op). InMain (main.Op o)) (op_of names word.0.0 word.0.1) s e' in
-          subst (Says names (codes "main" ∷ word.0.0 ∷ word.0.1)) o.2
-          (in_main (word.0.0 ∷ word.0.1) o.0 refl (op_sound names word.0.0 word.0.1 o.0 o.1))
+      | inr e' ↦ elim (choice_cases word.0.0 (codes "closeloop") _ _ (Some s) e') [
+        | inl is ↦ subst (λ (w : List ℕ). Says names (codes "main" ∷ w ∷ word.0.1) s) (sym is.0) (close_loop_sound names word.0.1 s is.1)
+        | inr e'' ↦
+            let o = mapped (λ (o : Op). InMain (main.Op o)) (op_of names word.0.0 word.0.1) s e'' in
+            subst (Says names (codes "main" ∷ word.0.0 ∷ word.0.1)) o.2
+            (in_main (word.0.0 ∷ word.0.1) o.0 refl (op_sound names word.0.0 word.0.1 o.0 o.1))
+      ]
     ])
 
 pub record IsCall (digits : List ℕ) (k : ℕ) : Type 0 where
@@ -216,46 +228,48 @@ marked_is (b ∷ bs) digits e =
     let is = cond_some (b == 64) bs digits e in
     ap (λ c. c ∷ bs) (eqb-true b 64 is.0) ∙ ap (λ r. 64 ∷ r) is.1
 
-in_calls_sound : (names : List (List ℕ)) (name : List ℕ) (v : Var) (word : List ℕ) (fields : List (List ℕ)) (s : Statement) →
-    IsDeclared names name v → in_calls_of names v None word fields ≡ Some s → Says names (codes "on" ∷ name ∷ word ∷ fields) s
+in_calls_sound : (names : List (List ℕ)) (kind : Callback) (name : List ℕ) (v : Var) (word : List ℕ) (fields : List (List ℕ)) (s : Statement) →
+    IsDeclared names name v → in_calls_of names kind v None word fields ≡ Some s → Says names (callback_word kind ∷ name ∷ word ∷ fields) s
 unfolding in_calls_of
-in_calls_sound names name v word fields s is e =
-    let o = mapped (λ (o : Op). InCallback v (record { call = None; op = o })) (op_of names word fields) s e in
-    subst (Says names (codes "on" ∷ name ∷ word ∷ fields)) o.2
-    (in_callback name v (word ∷ fields) o.0 refl is (op_sound names word fields o.0 o.1))
+in_calls_sound names kind name v word fields s is e =
+    let o = mapped (λ (o : Op). InCallback kind v (record { call = None; op = o })) (op_of names word fields) s e in
+    subst (Says names (callback_word kind ∷ name ∷ word ∷ fields)) o.2
+    (in_callback kind name v (word ∷ fields) o.0 refl is (op_sound names word fields o.0 o.1))
 
-in_call_sound : (names : List (List ℕ)) (name : List ℕ) (v : Var) (digits : List ℕ) (fields : List (List ℕ)) (s : Statement) →
-    IsDeclared names name v → in_call_of names v digits fields ≡ Some s → Says names (codes "on" ∷ name ∷ (64 ∷ digits) ∷ fields) s
+in_call_sound : (names : List (List ℕ)) (kind : Callback) (name : List ℕ) (v : Var) (digits : List ℕ) (fields : List (List ℕ)) (s : Statement) →
+    IsDeclared names name v → in_call_of names kind v digits fields ≡ Some s → Says names (callback_word kind ∷ name ∷ (64 ∷ digits) ∷ fields) s
 unfolding in_call_of in_calls_of
-in_call_sound names name v digits fields s is e =
+in_call_sound names kind name v digits fields s is e =
     let k = bound _ (call_of digits) s e in
     let word = bound _ (first_of fields) s k.2 in
     let a = first_is fields word.0 word.1 in
-    let o = mapped (λ (o : Op). InCallback v (record { call = Some k.0; op = o })) (op_of names word.0.0 word.0.1) s word.2 in
+    let o = mapped (λ (o : Op). InCallback kind v (record { call = Some k.0; op = o })) (op_of names word.0.0 word.0.1) s word.2 in
     let call = call_sound digits k.0 k.1 in
-    subst (λ (r : List (List ℕ)). Says names (codes "on" ∷ name ∷ (64 ∷ digits) ∷ r) s) (sym a)
-    (subst (Says names (codes "on" ∷ name ∷ (64 ∷ digits) ∷ word.0.0 ∷ word.0.1)) o.2
-    (in_call name v digits k.0 (word.0.0 ∷ word.0.1) o.0 refl is call.number call.first call.last
+    subst (λ (r : List (List ℕ)). Says names (callback_word kind ∷ name ∷ (64 ∷ digits) ∷ r) s) (sym a)
+    (subst (Says names (callback_word kind ∷ name ∷ (64 ∷ digits) ∷ word.0.0 ∷ word.0.1)) o.2
+    (in_call kind name v digits k.0 (word.0.0 ∷ word.0.1) o.0 refl is call.number call.first call.last
     (op_sound names word.0.0 word.0.1 o.0 o.1)))
 
-calls_sound : (names : List (List ℕ)) (name : List ℕ) (v : Var) (word : List ℕ) (fields : List (List ℕ)) (s : Statement) (mark : Option (List ℕ)) →
-    IsDeclared names name v → marked word ≡ mark → calls_of names v word fields mark ≡ Some s → Says names (codes "on" ∷ name ∷ word ∷ fields) s
+calls_sound : (names : List (List ℕ)) (kind : Callback) (name : List ℕ) (v : Var) (word : List ℕ) (fields : List (List ℕ)) (s : Statement)
+    (mark : Option (List ℕ)) → IsDeclared names name v → marked word ≡ mark → calls_of names kind v word fields mark ≡ Some s →
+    Says names (callback_word kind ∷ name ∷ word ∷ fields) s
 unfolding calls_of
-calls_sound names name v word fields s None is mark e = in_calls_sound names name v word fields s is e
-calls_sound names name v word fields s (Some digits) is mark e =
-    subst (λ (w : List ℕ). Says names (codes "on" ∷ name ∷ w ∷ fields) s) (sym (marked_is word digits mark))
-    (in_call_sound names name v digits fields s is e)
+calls_sound names kind name v word fields s None is mark e = in_calls_sound names kind name v word fields s is e
+calls_sound names kind name v word fields s (Some digits) is mark e =
+    subst (λ (w : List ℕ). Says names (callback_word kind ∷ name ∷ w ∷ fields) s) (sym (marked_is word digits mark))
+    (in_call_sound names kind name v digits fields s is e)
 
-callback_sound : (names fields : List (List ℕ)) (s : Statement) → callback_of names fields ≡ Some s → Says names (codes "on" ∷ fields) s
+callback_sound : (names : List (List ℕ)) (kind : Callback) (fields : List (List ℕ)) (s : Statement) → callback_of names kind fields ≡ Some s →
+    Says names (callback_word kind ∷ fields) s
 unfolding callback_of
-callback_sound names fields s e =
+callback_sound names kind fields s e =
     let name = bound _ (first_of fields) s e in
     let v = bound _ (place_of names name.0.0) s name.2 in
     let word = bound _ (first_of name.0.1) s v.2 in
     let a = first_is fields name.0 name.1 in
     let b = first_is name.0.1 word.0 word.1 in
-    subst (λ (r : List (List ℕ)). Says names (codes "on" ∷ r) s) (sym (a ∙ ap (λ r. name.0.0 ∷ r) b))
-    (calls_sound names name.0.0 v.0 word.0.0 word.0.1 s (marked word.0.0) (place_of-sound names name.0.0 v.0 v.1) refl word.2)
+    subst (λ (r : List (List ℕ)). Says names (callback_word kind ∷ r) s) (sym (a ∙ ap (λ r. name.0.0 ∷ r) b))
+    (calls_sound names kind name.0.0 v.0 word.0.0 word.0.1 s (marked word.0.0) (place_of-sound names name.0.0 v.0 v.1) refl word.2)
 
 says_word : (names : List (List ℕ)) (this word : List ℕ) (fields : List (List ℕ)) (s : Statement) → word ≡ this → Says names (this ∷ fields) s →
     Says names (word ∷ fields) s
@@ -272,8 +286,11 @@ statement_sound names fields s e =
       | inr e' ↦ elim (choice_cases word.0.0 (codes "main") _ _ (Some s) e') [
         | inl is ↦ says_word names (codes "main") word.0.0 word.0.1 s is.0 (main_sound names word.0.1 s is.1)
         | inr e'' ↦ elim (choice_cases word.0.0 (codes "on") _ _ (Some s) e'') [
-          | inl is ↦ says_word names (codes "on") word.0.0 word.0.1 s is.0 (callback_sound names word.0.1 s is.1)
-          | inr wrong ↦ cc
+          | inl is ↦ says_word names (codes "on") word.0.0 word.0.1 s is.0 (callback_sound names callback.Handle word.0.1 s is.1)
+          | inr last ↦ elim (choice_cases word.0.0 (codes "closed") _ _ (Some s) last) [
+            | inl is ↦ says_word names (codes "closed") word.0.0 word.0.1 s is.0 (callback_sound names callback.Close word.0.1 s is.1)
+            | inr wrong ↦ cc
+          ]
         ]
       ]
     ])
@@ -318,6 +335,7 @@ record OpParts (names fields : List (List ℕ)) (o : Op) : Type 0 where
   rest : List (List ℕ)
   parts : fields ≡ word ∷ rest
   no_run : bytes_eq word (codes "run") ≡ false
+  no_close : bytes_eq word (codes "closeloop") ≡ false
   no_mark : marked word ≡ None
   reads : op_of names word rest ≡ Some o
 
@@ -328,9 +346,9 @@ unfolding op_of start_of short_op_of bare_op named_op name_alone
 named_parts names o word name v place e = at o e
   where
     by : (x : Op) (this : List ℕ) (w : Var) → ◌≡◌ {A = Option (List ℕ × Var)} (Some (this, w)) (Some (word, v)) →
-        bytes_eq this (codes "run") ≡ false → marked this ≡ None → (place_of names name ≡ Some w → op_of names this (name ∷ []) ≡ Some x) →
+        bytes_eq this (codes "run") ≡ false → bytes_eq this (codes "closeloop") ≡ false → marked this ≡ None → (place_of names name ≡ Some w → op_of names this (name ∷ []) ≡ Some x) →
         OpParts names (word ∷ name ∷ []) x
-    by x this w said no_run no_mark reads =
+    by x this w said no_run no_close no_mark reads =
         let same = same_Some _ _ said in
         subst (λ (p : List ℕ). OpParts names (p ∷ name ∷ []) x) (ap (λ (p : List ℕ × Var). p.0) same)
         (record {
@@ -338,19 +356,23 @@ named_parts names o word name v place e = at o e
           rest = name ∷ [];
           parts = refl;
           no_run = no_run;
+          no_close = no_close;
           no_mark = no_mark;
           reads = reads (place ∙ ap (λ (p : List ℕ × Var). Some p.1) (sym same));
         })
 
     at : (x : Op) → named_word x ≡ Some (word, v) → OpParts names (word ∷ name ∷ []) x
-    at (op.StartWatcher w) is = by (op.StartWatcher w) (codes "start") w is refl refl (λ found. rw found refl)
-    at (op.Stop w) is = by (op.Stop w) (codes "stop") w is refl refl (λ found. rw found refl)
-    at (op.Again w) is = by (op.Again w) (codes "again") w is refl refl (λ found. rw found refl)
-    at (op.DueIn w) is = by (op.DueIn w) (codes "due") w is refl refl (λ found. rw found refl)
-    at (op.Ref w) is = by (op.Ref w) (codes "ref") w is refl refl (λ found. rw found refl)
-    at (op.Unref w) is = by (op.Unref w) (codes "unref") w is refl refl (λ found. rw found refl)
-    at (op.HasRef w) is = by (op.HasRef w) (codes "hasref") w is refl refl (λ found. rw found refl)
-    at (op.IsActive w) is = by (op.IsActive w) (codes "active") w is refl refl (λ found. rw found refl)
+    at (op.StartWatcher w) is = by (op.StartWatcher w) (codes "start") w is refl refl refl (λ found. rw found refl)
+    at (op.Stop w) is = by (op.Stop w) (codes "stop") w is refl refl refl (λ found. rw found refl)
+    at (op.Again w) is = by (op.Again w) (codes "again") w is refl refl refl (λ found. rw found refl)
+    at (op.DueIn w) is = by (op.DueIn w) (codes "due") w is refl refl refl (λ found. rw found refl)
+    at (op.Ref w) is = by (op.Ref w) (codes "ref") w is refl refl refl (λ found. rw found refl)
+    at (op.Unref w) is = by (op.Unref w) (codes "unref") w is refl refl refl (λ found. rw found refl)
+    at (op.HasRef w) is = by (op.HasRef w) (codes "hasref") w is refl refl refl (λ found. rw found refl)
+    at (op.IsActive w) is = by (op.IsActive w) (codes "active") w is refl refl refl (λ found. rw found refl)
+    at (op.Close w) is = by (op.Close w) (codes "close") w is refl refl refl (λ found. rw found refl)
+    at (op.IsClosing w) is = by (op.IsClosing w) (codes "closing") w is refl refl refl (λ found. rw found refl)
+    at (op.Send w) is = by (op.Send w) (codes "send") w is refl refl refl (λ found. rw found refl)
     at _ is = absurd (none-some _ is)
 
 -- an op of one word
@@ -358,18 +380,18 @@ bare_parts : (names : List (List ℕ)) (o : Op) (word : List ℕ) → bare_word 
 unfolding op_of short_op_of bare_op
 bare_parts names o word e = at o e
   where
-    by : (x : Op) (this : List ℕ) → Some this ≡ Some word → bytes_eq this (codes "run") ≡ false → marked this ≡ None → op_of names this [] ≡ Some x →
+    by : (x : Op) (this : List ℕ) → Some this ≡ Some word → bytes_eq this (codes "run") ≡ false → bytes_eq this (codes "closeloop") ≡ false → marked this ≡ None → op_of names this [] ≡ Some x →
         OpParts names (word ∷ []) x
-    by x this said no_run no_mark reads =
+    by x this said no_run no_close no_mark reads =
         subst (λ (w : List ℕ). OpParts names (w ∷ []) x) (same_Some _ _ said)
-        (record { word = this; rest = []; parts = refl; no_run = no_run; no_mark = no_mark; reads = reads })
+        (record { word = this; rest = []; parts = refl; no_run = no_run; no_close = no_close; no_mark = no_mark; reads = reads })
 
     at : (x : Op) → bare_word x ≡ Some word → OpParts names (word ∷ []) x
-    at op.StopLoop is = by op.StopLoop (codes "stoploop") is refl refl refl
-    at op.UpdateTime is = by op.UpdateTime (codes "updatetime") is refl refl refl
-    at op.Now is = by op.Now (codes "now") is refl refl refl
-    at op.IsAlive is = by op.IsAlive (codes "alive") is refl refl refl
-    at op.Timeout is = by op.Timeout (codes "timeout") is refl refl refl
+    at op.StopLoop is = by op.StopLoop (codes "stoploop") is refl refl refl refl
+    at op.UpdateTime is = by op.UpdateTime (codes "updatetime") is refl refl refl refl
+    at op.Now is = by op.Now (codes "now") is refl refl refl refl
+    at op.IsAlive is = by op.IsAlive (codes "alive") is refl refl refl refl
+    at op.Timeout is = by op.Timeout (codes "timeout") is refl refl refl refl
     at _ is = absurd (none-some _ is)
 
 op_parts : (names fields : List (List ℕ)) (o : Op) → AreDistinct names → IsOp names fields o → OpParts names fields o
@@ -379,6 +401,7 @@ op_parts names fields o distinct (init name v kind e is) = record {
   rest = name ∷ kind_word kind ∷ [];
   parts = e;
   no_run = refl;
+  no_close = refl;
   no_mark = refl;
   reads = rw (place_complete names name v distinct is, kind_of-some (kind_word kind) kind refl) refl;
 }
@@ -387,6 +410,7 @@ op_parts names fields o distinct (start name v timeout period t r e is first sec
   rest = name ∷ timeout ∷ period ∷ [];
   parts = e;
   no_run = refl;
+  no_close = refl;
   no_mark = refl;
   reads = rw (place_complete names name v distinct is, number_of-complete timeout t first, number_of-complete period r second) refl;
 }
@@ -395,6 +419,7 @@ op_parts names fields o distinct (repeat name v number n e is value) = record {
   rest = name ∷ number ∷ [];
   parts = e;
   no_run = refl;
+  no_close = refl;
   no_mark = refl;
   reads = rw (place_complete names name v distinct is, number_of-complete number n value) refl;
 }
@@ -411,8 +436,8 @@ declaration_complete names name is fresh =
     (and_from (is_name name) (is_none (place_of names name)) ((is_name_decides name).1 is) (ap is_none (place_fresh names name fresh)))
 
 main_complete : (names rest : List (List ℕ)) (o : Op) → OpParts names rest o → main_of names rest ≡ Some (InMain (main.Op o))
-unfolding main_of
-main_complete names rest o p = rw (p.parts, p.no_run, p.reads) refl
+unfolding main_of main_by
+main_complete names rest o p = rw (p.parts, p.no_run, p.no_close, p.reads) refl
 
 run_complete : (m : Mode) → run_of (mode_word m ∷ []) ≡ Some (InMain (main.Run m))
 unfolding run_of
@@ -424,25 +449,33 @@ call_complete digits k is first last =
     rw (number_of-complete digits k is)
     (ap (λ b. cond b (Some k) None) (and_from (nat_le 1 k) (nat_lt k 4294967296) (le-leb 1 k first) (lt-ltb k 4294967296 last)))
 
-callback_complete : (names : List (List ℕ)) (name : List ℕ) (v : Var) (rest : List (List ℕ)) (o : Op) → AreDistinct names → IsDeclared names name v →
-    OpParts names rest o → callback_of names (name ∷ rest) ≡ Some (InCallback v (record { call = None; op = o }))
+callback_complete : (names : List (List ℕ)) (kind : Callback) (name : List ℕ) (v : Var) (rest : List (List ℕ)) (o : Op) → AreDistinct names →
+    IsDeclared names name v → OpParts names rest o → callback_of names kind (name ∷ rest) ≡ Some (InCallback kind v (record { call = None; op = o }))
 unfolding callback_of calls_of in_calls_of
-callback_complete names name v rest o distinct is p = rw (place_complete names name v distinct is, p.parts, p.no_mark, p.reads) refl
+callback_complete names kind name v rest o distinct is p = rw (place_complete names name v distinct is, p.parts, p.no_mark, p.reads) refl
 
-in_call_complete : (names : List (List ℕ)) (name : List ℕ) (v : Var) (digits : List ℕ) (k : ℕ) (rest : List (List ℕ)) (o : Op) → AreDistinct names →
-    IsDeclared names name v → call_of digits ≡ Some k → OpParts names rest o →
-    callback_of names (name ∷ (64 ∷ digits) ∷ rest) ≡ Some (InCallback v (record { call = Some k; op = o }))
+in_call_complete : (names : List (List ℕ)) (kind : Callback) (name : List ℕ) (v : Var) (digits : List ℕ) (k : ℕ) (rest : List (List ℕ)) (o : Op) →
+    AreDistinct names → IsDeclared names name v → call_of digits ≡ Some k → OpParts names rest o →
+    callback_of names kind (name ∷ (64 ∷ digits) ∷ rest) ≡ Some (InCallback kind v (record { call = Some k; op = o }))
 unfolding callback_of calls_of in_call_of in_calls_of
-in_call_complete names name v digits k rest o distinct is call p = rw (place_complete names name v distinct is, call, p.parts, p.reads) refl
+in_call_complete names kind name v digits k rest o distinct is call p = rw (place_complete names name v distinct is, call, p.parts, p.reads) refl
+
+-- a callback's line, by its word
+by_word : (names : List (List ℕ)) (kind : Callback) (fields : List (List ℕ)) → statement_of names (callback_word kind ∷ fields) ≡ callback_of names kind fields
+unfolding statement_of
+by_word names callback.Handle fields = refl
+by_word names callback.Close fields = refl
 
 pub statement_complete : (names fields : List (List ℕ)) (s : Statement) → AreDistinct names → Says names fields s → statement_of names fields ≡ Some s
-unfolding statement_of main_of
+unfolding statement_of main_of main_by close_loop_of
 statement_complete names fields s distinct (declares name e is fresh) = ap (statement_of names) e ∙ declaration_complete names name is fresh
-statement_complete names fields s distinct (in_main rest op e is) = ap (statement_of names) e
-    ∙ main_complete names rest op (op_parts names rest op distinct is)
+statement_complete names fields s distinct (in_main rest op e is) =
+    ap (statement_of names) e ∙ main_complete names rest op (op_parts names rest op distinct is)
 statement_complete names fields s distinct (runs mode e) = ap (statement_of names) e ∙ run_complete mode
-statement_complete names fields s distinct (in_callback name v rest op e declared is) =
-    ap (statement_of names) e ∙ callback_complete names name v rest op distinct declared (op_parts names rest op distinct is)
-statement_complete names fields s distinct (in_call name v number k rest op e declared is first last op_is) =
-    ap (statement_of names) e ∙ in_call_complete names name v number k rest op distinct declared (call_complete number k is first last)
-        (op_parts names rest op distinct op_is)
+statement_complete names fields s distinct (closes_loop e) = ap (statement_of names) e
+statement_complete names fields s distinct (in_callback kind name v rest op e declared is) =
+    ap (statement_of names) e ∙ by_word names kind (name ∷ rest)
+    ∙ callback_complete names kind name v rest op distinct declared (op_parts names rest op distinct is)
+statement_complete names fields s distinct (in_call kind name v number k rest op e declared is first last op_is) =
+    ap (statement_of names) e ∙ by_word names kind (name ∷ (64 ∷ number) ∷ rest)
+    ∙ in_call_complete names kind name v number k rest op distinct declared (call_complete number k is first last) (op_parts names rest op distinct op_is)

@@ -2,6 +2,8 @@
 use Rattle.std.specs.Prelude.{◌≡◌, ℕ, ◌+◌, ◌<◌, ◌≤◌, ◌^◌, List, [], ◌∷◌, ◌++◌, length, Contains, Option, Some, None, Result, Ok, Err, slice_set, codes}
 use Rattle.uv_ids.specs.declared.id.Var.{Var}
 use Rattle.uv_ids.specs.declared.phase.Kind.{Kind}
+use Rattle.uv_ids.specs.declared.seen.Callback.{Callback}
+use Rattle.uv_ids.specs.declared.seen.Callback.TheVariants as callback
 use Rattle.uv_ids.specs.declared.phase.Mode.{Mode}
 use Rattle.uv_ids.specs.declared.fault.Fault.{Fault}
 use Rattle.uv_ids.specs.declared.fault.Fault.TheVariants as fault
@@ -12,7 +14,7 @@ use Rattle.uv_script.specs.declared.op.MainOp.{MainOp}
 use Rattle.uv_script.specs.declared.op.MainOp.TheVariants as main
 use Rattle.uv_script.specs.declared.op.CallbackLine.{CallbackLine}
 use Rattle.uv_script.specs.Lines.{lines_of, fields_of, IsLine, IsSkipped}
-use Rattle.uv_script.specs.Program.{Program, on_lines, line_count}
+use Rattle.uv_script.specs.Program.{Program, no_callbacks, callbacks_of, with_line, line_count}
 use Rattle.uv_script.specs.Words.{IsName, IsNumber, IsDeclared}
 
 -- what a line says
@@ -21,8 +23,8 @@ pub data Statement : Type 0 where
   Declares : List ℕ → Statement
   -- `main OP`
   InMain : MainOp → Statement
-  -- `on NAME [@k] OP`
-  InCallback : Var → CallbackLine → Statement
+  -- `on NAME [@k] OP`, `closed NAME [@k] OP`
+  InCallback : Callback → Var → CallbackLine → Statement
 
 -- the word of an op that says no more than a name, and the name's number
 abbrev pub named_word : Op → Option (List ℕ × Var)
@@ -34,9 +36,12 @@ named_word (op.Ref v) = Some (codes "ref", v)
 named_word (op.Unref v) = Some (codes "unref", v)
 named_word (op.HasRef v) = Some (codes "hasref", v)
 named_word (op.IsActive v) = Some (codes "active", v)
+named_word (op.Close v) = Some (codes "close", v)
+named_word (op.IsClosing v) = Some (codes "closing", v)
+named_word (op.Send v) = Some (codes "send", v)
 named_word _ = None
 
--- the word of an op that says nothing more
+-- the word of an op that says nothing more, and stands anywhere
 abbrev pub bare_word : Op → Option (List ℕ)
 bare_word op.StopLoop = Some (codes "stoploop")
 bare_word op.UpdateTime = Some (codes "updatetime")
@@ -57,29 +62,36 @@ pub data IsOp (names : List (List ℕ)) (fields : List (List ℕ)) : Op → Type
       IsOp names fields o
   bare : (o : Op) (word : List ℕ) → bare_word o ≡ Some word → fields ≡ word ∷ [] → IsOp names fields o
 
+-- the word of a callback's lines
+abbrev pub callback_word : Callback → List ℕ
+callback_word callback.Handle = codes "on"
+callback_word callback.Close = codes "closed"
+
 -- the fields of a line, and what it says
 pub data Says (names : List (List ℕ)) (fields : List (List ℕ)) : Statement → Type 0 where
   declares : (name : List ℕ) → fields ≡ codes "var" ∷ name ∷ [] → IsName name → (Contains names name → ⊥) → Says names fields (Declares name)
   in_main : (rest : List (List ℕ)) (op : Op) → fields ≡ codes "main" ∷ rest → IsOp names rest op → Says names fields (InMain (main.Op op))
   runs : (mode : Mode) → fields ≡ codes "main" ∷ codes "run" ∷ mode_word mode ∷ [] → Says names fields (InMain (main.Run mode))
-  in_callback : (name : List ℕ) (v : Var) (rest : List (List ℕ)) (op : Op) → fields ≡ codes "on" ∷ name ∷ rest → IsDeclared names name v →
-      IsOp names rest op → Says names fields (InCallback v (record { call = None; op = op }))
+  -- it stands in the main program only
+  closes_loop : fields ≡ codes "main" ∷ codes "closeloop" ∷ [] → Says names fields (InMain (main.Op op.CloseLoop))
+  in_callback : (kind : Callback) (name : List ℕ) (v : Var) (rest : List (List ℕ)) (op : Op) → fields ≡ callback_word kind ∷ name ∷ rest →
+      IsDeclared names name v → IsOp names rest op → Says names fields (InCallback kind v (record { call = None; op = op }))
   -- with `@k` the op is done in the k-th call only
-  in_call : (name : List ℕ) (v : Var) (number : List ℕ) (k : ℕ) (rest : List (List ℕ)) (op : Op) → fields ≡ codes "on" ∷ name ∷ (64 ∷ number) ∷ rest →
-      IsDeclared names name v → IsNumber number k → 1 ≤ k → k < 2 ^ 32 → IsOp names rest op →
-      Says names fields (InCallback v (record { call = Some k; op = op }))
+  in_call : (kind : Callback) (name : List ℕ) (v : Var) (number : List ℕ) (k : ℕ) (rest : List (List ℕ)) (op : Op) →
+      fields ≡ callback_word kind ∷ name ∷ (64 ∷ number) ∷ rest → IsDeclared names name v → IsNumber number k → 1 ≤ k → k < 2 ^ 32 →
+      IsOp names rest op → Says names fields (InCallback kind v (record { call = Some k; op = op }))
 
 -- there is room for one more line, and for one more name
 abbrev pub HasRoom : Program → Statement → Type 0
 HasRoom p (Declares name) = (line_count p < 65535) × (length p.names < 4096)
 HasRoom p (InMain op) = line_count p < 65535
-HasRoom p (InCallback v line) = line_count p < 65535
+HasRoom p (InCallback kind v line) = line_count p < 65535
 
 -- the script with what one more line says
 abbrev pub with_statement : Program → Statement → Program
-with_statement p (Declares name) = record p { names = p.names ++ name ∷ []; on = p.on ++ [] ∷ [] }
+with_statement p (Declares name) = record p { names = p.names ++ name ∷ []; callbacks = p.callbacks ++ no_callbacks ∷ [] }
 with_statement p (InMain op) = record p { main = p.main ++ op ∷ [] }
-with_statement p (InCallback v line) = record p { on = slice_set p.on v.0 (on_lines p v ++ line ∷ []) }
+with_statement p (InCallback kind v line) = record p { callbacks = slice_set p.callbacks v.0 (with_line kind (callbacks_of p v) line) }
 
 -- the line takes the script before it to the script after it
 pub data Reads (p : Program) (line : List ℕ) : Program → Type 0 where
@@ -93,7 +105,7 @@ pub data ReadsAll : Program → List (List ℕ) → Program → Type 0 where
 
 -- the script of no line
 abbrev pub blank : Program
-blank = record { names = []; main = []; on = [] }
+blank = record { names = []; main = []; callbacks = [] }
 
 -- the script of a text
 abbrev pub IsScript : List ℕ → Program → Type 0

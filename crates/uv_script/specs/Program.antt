@@ -1,6 +1,8 @@
 -- A script, as its parts.
-use Rattle.std.specs.Prelude.{◌≡◌, ℕ, ◌+◌, ◌≤◌, ◌==◌, Bool, true, List, [], Option, Some, None, option_map, slice_get, length, sum_by}
+use Rattle.std.specs.Prelude.{◌≡◌, ℕ, ◌+◌, ◌≤◌, ◌==◌, Bool, true, List, [], ◌∷◌, ◌++◌, Option, Some, None, option_map, unwrap_or, slice_get, length, sum_by}
 use Rattle.uv_ids.specs.declared.id.Var.{Var}
+use Rattle.uv_ids.specs.declared.seen.Callback.{Callback}
+use Rattle.uv_ids.specs.declared.seen.Callback.TheVariants as callback
 use Rattle.uv_ids.specs.declared.seen.Site.{Site}
 use Rattle.uv_ids.specs.declared.seen.Site.TheVariants as site
 use Rattle.uv_script.specs.declared.op.Op.{Op}
@@ -8,21 +10,40 @@ use Rattle.uv_script.specs.declared.op.MainOp.{MainOp}
 use Rattle.uv_script.specs.declared.op.MainOp.TheVariants as main
 use Rattle.uv_script.specs.declared.op.CallbackLine.{CallbackLine}
 
+-- the lines of a name's callbacks
+pub record Callbacks : Type 0 where
+  -- of its handle callback
+  pub handle : List CallbackLine
+  -- of its close callback
+  pub close : List CallbackLine
+
 pub record Program : Type 0 where
   -- the declared names; a name's place in this list is its number
   pub names : List (List ℕ)
   -- the lines of the main program
   pub main : List MainOp
-  -- for each name, the lines of its handle callback
-  pub on : List (List CallbackLine)
+  -- for each name, the lines of its callbacks
+  pub callbacks : List Callbacks
 
-abbrev pub lines_or_none : Option (List CallbackLine) → List CallbackLine
-lines_or_none (Some lines) = lines
-lines_or_none None = []
+abbrev pub no_callbacks : Callbacks
+no_callbacks = record { handle = []; close = [] }
 
--- the lines of a name's handle callback
-abbrev pub on_lines : Program → Var → List CallbackLine
-on_lines p v = lines_or_none (slice_get p.on v.0)
+abbrev pub callbacks_of : Program → Var → Callbacks
+callbacks_of p v = unwrap_or (slice_get p.callbacks v.0) no_callbacks
+
+-- the lines of one of these
+abbrev pub lines_of : Callback → Callbacks → List CallbackLine
+lines_of callback.Handle c = c.handle
+lines_of callback.Close c = c.close
+
+-- these with one line more in one of them
+abbrev pub with_line : Callback → Callbacks → CallbackLine → Callbacks
+with_line callback.Handle c line = record c { handle = c.handle ++ line ∷ [] }
+with_line callback.Close c line = record c { close = c.close ++ line ∷ [] }
+
+-- the lines of a name's callback
+abbrev pub lines_in : Program → Callback → Var → List CallbackLine
+lines_in p kind v = lines_of kind (callbacks_of p v)
 
 -- the op of a line of the main program; a run is none
 abbrev pub main_op : Option MainOp → Option Op
@@ -33,20 +54,23 @@ main_op None = None
 -- the op at a place of the script
 abbrev pub op_at : Program → Site → Option Op
 op_at p (site.Main line) = main_op (slice_get p.main line)
-op_at p (site.On v line) = option_map (λ (l : CallbackLine). l.op) (slice_get (on_lines p v) line)
+op_at p (site.In kind v line) = option_map (λ (l : CallbackLine). l.op) (slice_get (lines_in p kind v) line)
 
 -- a line of a callback with no number is for every call, one with a number for that call
 abbrev pub is_for : ℕ → Option ℕ → Bool
 is_for call None = true
 is_for call (Some k) = k == call
 
+abbrev pub callback_count : Callbacks → ℕ
+callback_count c = length c.handle + length c.close
+
 -- the lines that count: all but empty ones and comments
 abbrev pub line_count : Program → ℕ
-line_count p = length p.names + length p.main + sum_by length p.on
+line_count p = length p.names + length p.main + sum_by callback_count p.callbacks
 
--- what every script meets, beside what its names do: each name has a callback, and there are at most 65535 lines
+-- what every script meets, beside what its names do: each name has its callbacks, and there are at most 65535 lines
 pub record IsWhole (p : Program) : Type 0 where
-  pub callbacks : length p.on ≡ length p.names
+  pub callbacks : length p.callbacks ≡ length p.names
   pub few : line_count p ≤ 65535
 
 -- the script is whole, and this many of its lines count

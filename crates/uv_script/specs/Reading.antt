@@ -5,6 +5,8 @@ use Rattle.std.specs.Str.{bytes_eq}
 use Rattle.uv_ids.specs.declared.id.Var.{Var}
 use Rattle.uv_ids.specs.declared.phase.Kind.{Kind}
 use Rattle.uv_ids.specs.declared.phase.Kind.TheVariants as kind
+use Rattle.uv_ids.specs.declared.seen.Callback.{Callback}
+use Rattle.uv_ids.specs.declared.seen.Callback.TheVariants as callback
 use Rattle.uv_ids.specs.declared.phase.Mode.{Mode}
 use Rattle.uv_ids.specs.declared.phase.Mode.TheVariants as mode
 use Rattle.uv_ids.specs.declared.fault.Fault.{Fault}
@@ -37,12 +39,20 @@ unfoldable pub place_of : List (List ℕ) → List ℕ → Option Var
 place_of names name = option_map (λ n. record { 0 = n }) (position (bytes_eq name) names)
 
 unfoldable pub kind_of : List ℕ → Option Kind
-kind_of word = if bytes_eq word (codes "timer") then Some kind.Timer else if bytes_eq word (codes "idle") then Some kind.Idle else if bytes_eq word
-    (codes "prepare") then Some kind.Prepare else if bytes_eq word (codes "check") then Some kind.Check else None
+kind_of word =
+    if bytes_eq word (codes "timer") then Some kind.Timer
+    else if bytes_eq word (codes "idle") then Some kind.Idle
+    else if bytes_eq word (codes "prepare") then Some kind.Prepare
+    else if bytes_eq word (codes "check") then Some kind.Check
+    else if bytes_eq word (codes "async") then Some kind.Async
+    else None
 
 unfoldable pub mode_of : List ℕ → Option Mode
-mode_of word = if bytes_eq word (codes "default") then Some mode.Default else if bytes_eq word
-    (codes "once") then Some mode.Once else if bytes_eq word (codes "nowait") then Some mode.Nowait else None
+mode_of word =
+    if bytes_eq word (codes "default") then Some mode.Default
+    else if bytes_eq word (codes "once") then Some mode.Once
+    else if bytes_eq word (codes "nowait") then Some mode.Nowait
+    else None
 
 -- ops, behind their words
 unfoldable pub init_of : List (List ℕ) → List (List ℕ) → Option Op
@@ -85,16 +95,28 @@ repeat_of names fields = do
 
 -- an op of a word alone
 unfoldable pub bare_op : List ℕ → Option Op
-bare_op word = if bytes_eq word (codes "stoploop") then Some op.StopLoop else if bytes_eq word
-    (codes "updatetime") then Some op.UpdateTime else if bytes_eq word (codes "now") then Some op.Now else if bytes_eq word
-    (codes "alive") then Some op.IsAlive else if bytes_eq word (codes "timeout") then Some op.Timeout else None
+bare_op word =
+    if bytes_eq word (codes "stoploop") then Some op.StopLoop
+    else if bytes_eq word (codes "updatetime") then Some op.UpdateTime
+    else if bytes_eq word (codes "now") then Some op.Now
+    else if bytes_eq word (codes "alive") then Some op.IsAlive
+    else if bytes_eq word (codes "timeout") then Some op.Timeout
+    else None
 
 -- an op of a word and a name; a start is read apart
 unfoldable pub named_op : List ℕ → Var → Option Op
-named_op word v = if bytes_eq word (codes "stop") then Some (op.Stop v) else if bytes_eq word (codes "again") then Some
-    (op.Again v) else if bytes_eq word (codes "due") then Some (op.DueIn v) else if bytes_eq word (codes "ref") then Some
-    (op.Ref v) else if bytes_eq word (codes "unref") then Some (op.Unref v) else if bytes_eq word (codes "hasref") then Some
-    (op.HasRef v) else if bytes_eq word (codes "active") then Some (op.IsActive v) else None
+named_op word v =
+    if bytes_eq word (codes "stop") then Some (op.Stop v)
+    else if bytes_eq word (codes "again") then Some (op.Again v)
+    else if bytes_eq word (codes "due") then Some (op.DueIn v)
+    else if bytes_eq word (codes "ref") then Some (op.Ref v)
+    else if bytes_eq word (codes "unref") then Some (op.Unref v)
+    else if bytes_eq word (codes "hasref") then Some (op.HasRef v)
+    else if bytes_eq word (codes "active") then Some (op.IsActive v)
+    else if bytes_eq word (codes "close") then Some (op.Close v)
+    else if bytes_eq word (codes "closing") then Some (op.IsClosing v)
+    else if bytes_eq word (codes "send") then Some (op.Send v)
+    else None
 
 -- a name and nothing more
 unfoldable pub name_alone : List (List ℕ) → List (List ℕ) → Option Var
@@ -115,9 +137,11 @@ short_op_of names fields word None = do
 
 -- an op by its word
 unfoldable pub op_of : List (List ℕ) → List ℕ → List (List ℕ) → Option Op
-op_of names word fields = if bytes_eq word (codes "init") then init_of names fields else if bytes_eq word
-    (codes "start") then start_of names fields else if bytes_eq word (codes "repeat") then repeat_of names fields else short_op_of names fields word
-    (bare_op word)
+op_of names word fields =
+    if bytes_eq word (codes "init") then init_of names fields
+    else if bytes_eq word (codes "start") then start_of names fields
+    else if bytes_eq word (codes "repeat") then repeat_of names fields
+    else short_op_of names fields word (bare_op word)
 
 -- what stands behind `var`
 unfoldable pub declaration_of : List (List ℕ) → List (List ℕ) → Option Statement
@@ -134,11 +158,23 @@ run_of fields = do
   end ← none_left word.1
   Some (InMain (main.Run m))
 
+-- what stands behind `main closeloop`
+unfoldable pub close_loop_of : List (List ℕ) → Option Statement
+close_loop_of fields = do
+  end ← none_left fields
+  Some (InMain (main.Op op.CloseLoop))
+
 -- what stands behind `main`
+unfoldable pub main_by : List (List ℕ) → List ℕ → List (List ℕ) → Option Statement
+main_by names word fields =
+    if bytes_eq word (codes "run") then run_of fields
+    else if bytes_eq word (codes "closeloop") then close_loop_of fields
+    else option_map (λ o. InMain (main.Op o)) (op_of names word fields)
+
 unfoldable pub main_of : List (List ℕ) → List (List ℕ) → Option Statement
 main_of names fields = do
   word ← first_of fields
-  if bytes_eq word.0 (codes "run") then run_of word.1 else option_map (λ o. InMain (main.Op o)) (op_of names word.0 word.1)
+  main_by names word.0 word.1
 
 -- what stands behind `@`
 unfoldable pub call_of : List ℕ → Option ℕ
@@ -151,46 +187,49 @@ abbrev pub marked : List ℕ → Option (List ℕ)
 marked [] = None
 marked (b ∷ bs) = if b == 64 then Some bs else None
 
--- what stands behind `on NAME`, in every call or in one
-unfoldable pub in_calls_of : List (List ℕ) → Var → Option ℕ → List ℕ → List (List ℕ) → Option Statement
-in_calls_of names v call word fields = option_map (λ o. InCallback v (record { call = call; op = o })) (op_of names word fields)
+-- what stands behind the word of a callback and a name, in every call or in one
+unfoldable pub in_calls_of : List (List ℕ) → Callback → Var → Option ℕ → List ℕ → List (List ℕ) → Option Statement
+in_calls_of names kind v call word fields = option_map (λ o. InCallback kind v (record { call = call; op = o })) (op_of names word fields)
 
-unfoldable pub in_call_of : List (List ℕ) → Var → List ℕ → List (List ℕ) → Option Statement
-in_call_of names v digits fields = do
+unfoldable pub in_call_of : List (List ℕ) → Callback → Var → List ℕ → List (List ℕ) → Option Statement
+in_call_of names kind v digits fields = do
   k ← call_of digits
   word ← first_of fields
-  in_calls_of names v (Some k) word.0 word.1
+  in_calls_of names kind v (Some k) word.0 word.1
 
-unfoldable pub calls_of : List (List ℕ) → Var → List ℕ → List (List ℕ) → Option (List ℕ) → Option Statement
-calls_of names v word fields None = in_calls_of names v None word fields
-calls_of names v word fields (Some digits) = in_call_of names v digits fields
+unfoldable pub calls_of : List (List ℕ) → Callback → Var → List ℕ → List (List ℕ) → Option (List ℕ) → Option Statement
+calls_of names kind v word fields None = in_calls_of names kind v None word fields
+calls_of names kind v word fields (Some digits) = in_call_of names kind v digits fields
 
--- what stands behind `on`
-unfoldable pub callback_of : List (List ℕ) → List (List ℕ) → Option Statement
-callback_of names fields = do
+-- what stands behind the word of a callback
+unfoldable pub callback_of : List (List ℕ) → Callback → List (List ℕ) → Option Statement
+callback_of names kind fields = do
   name ← first_of fields
   v ← place_of names name.0
   word ← first_of name.1
-  calls_of names v word.0 word.1 (marked word.0)
+  calls_of names kind v word.0 word.1 (marked word.0)
 
 -- what a line's fields say
 unfoldable pub statement_of : List (List ℕ) → List (List ℕ) → Option Statement
 statement_of names fields = do
   word ← first_of fields
-  if bytes_eq word.0 (codes "var") then declaration_of names word.1 else if bytes_eq word.0
-      (codes "main") then main_of names word.1 else if bytes_eq word.0 (codes "on") then callback_of names word.1 else None
+  if bytes_eq word.0 (codes "var") then declaration_of names word.1
+      else if bytes_eq word.0 (codes "main") then main_of names word.1
+      else if bytes_eq word.0 (codes "on") then callback_of names callback.Handle word.1
+      else if bytes_eq word.0 (codes "closed") then callback_of names callback.Close word.1
+      else None
 
 -- whether there is room for one more line, and for one more name
 abbrev pub has_room : Program → Statement → Bool
 has_room p (Declares name) = nat_lt (line_count p) 65535 && nat_lt (length p.names) 4096
 has_room p (InMain op) = nat_lt (line_count p) 65535
-has_room p (InCallback v line) = nat_lt (line_count p) 65535
+has_room p (InCallback kind v line) = nat_lt (line_count p) 65535
 
 -- what a statement needs beside room
 abbrev pub IsSound : Program → Statement → Type 0
 IsSound p (Declares name) = IsName name × (Contains p.names name → ⊥)
 IsSound p (InMain op) = Unit {0}
-IsSound p (InCallback v line) = v.0 < length p.names
+IsSound p (InCallback kind v line) = v.0 < length p.names
 
 -- the script after one more line
 unfoldable pub after_line : Program → List ℕ → Option Program

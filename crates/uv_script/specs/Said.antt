@@ -6,4 +6,4 @@ use Rattle.uv_script.specs.Grammar.{Statement, Declares, InMain, InCallback}
 abbrev pub said : code.Statement → Statement
 said (variant.Declares name) = Declares name.now
 said (variant.InMain op) = InMain op
-said (variant.InCallback v line) = InCallback v line
+said (variant.InCallback kind v line) = InCallback kind v line

@@ -1,6 +1,11 @@
 //! What a script's lines do.
 
-use uv_ids::{Kind, Mode, Var};
+ghost use Rattle.std.specs.Prelude.{◌≡◌, OnOk, OnErr};
+ghost use Rattle.uv_script.specs.Program.{no_callbacks, lines_of, with_line};
+
+use std::alloc::{AllocError, Global};
+use std::marker::Model;
+use uv_ids::{Callback, Kind, Mode, Var};
 
 /// An op, as it stands in the main program or in a callback.
 #[derive(Clone, Copy, Debug, PartialEq, Eq)]
@@ -27,6 +32,14 @@ pub enum Op {
     HasRef(Var),
     /// `active NAME` (uv_is_active).
     IsActive(Var),
+    /// `close NAME`: the handle is stopped, and its close callback comes in the closing section (uv_close).
+    Close(Var),
+    /// `closing NAME` (uv_is_closing).
+    IsClosing(Var),
+    /// `send NAME`: wakes the loop for an async handle (uv_async_send).
+    Send(Var),
+    /// `closeloop`, which stands in the main program only (uv_loop_close).
+    CloseLoop,
     /// `stoploop`: the run ends before its next iteration (uv_stop).
     StopLoop,
     /// `updatetime`: sets the loop's time to the clock (uv_update_time).
@@ -45,6 +58,55 @@ pub enum MainOp {
     Op(Op),
     /// `run MODE` (uv_run), which stands in the main program only.
     Run(Mode),
+}
+
+/// The lines of a name's callbacks.
+#[derive(Drop)]
+pub struct Callbacks {
+    handle: Vec<CallbackLine>,
+    close: Vec<CallbackLine>,
+}
+
+impl Model for Callbacks {
+    ghost use Rattle.uv_script.specs.Program as parts;
+
+    ghost Value = { parts.Callbacks };
+
+    ghost view = { λ a. record { handle = a.handle.items; close = a.close.items } };
+}
+
+impl Callbacks {
+    /// No line.
+    pub(crate) fn new(alloc: Global) -> Callbacks
+        ensures { result ≡ no_callbacks }
+    {
+        Callbacks {
+            handle: Vec::new(alloc),
+            close: Vec::new(alloc),
+        }
+    }
+
+    /// The lines of one of the callbacks.
+    pub(crate) fn lines(&self, kind: Callback) -> &[CallbackLine]
+        ensures { result.now ≡ lines_of kind self.now }
+    {
+        match kind {
+            Callback::Handle => &self.handle,
+            Callback::Close => &self.close,
+        }
+    }
+
+    /// Adds a line to one of the callbacks. Without memory nothing changes.
+    pub(crate) fn push(&mut self, kind: Callback, line: CallbackLine) -> Result<(), AllocError>
+        ensures ok { OnOk result (self.new ≡ with_line kind self.old line) }
+        ensures err { OnErr result (self.new ≡ self.old) }
+    {
+        match kind {
+            Callback::Handle => self.handle.push(line)?,
+            Callback::Close => self.close.push(line)?,
+        }
+        Ok(())
+    }
 }
 
 /// A line of a name's callback.

@@ -3,21 +3,21 @@ ghost use Rattle.std.specs.Prelude.{◌≡◌, slice_get, length, OnOk};
 ghost use Rattle.uv_script.specs.Grammar.{Declares, InMain, InCallback, HasRoom, with_statement, blank};
 ghost use Rattle.uv_script.specs.Reading.{has_room, IsSound};
 ghost use Rattle.uv_script.specs.Said.{said};
-ghost use Rattle.uv_script.specs.Program.{on_lines, op_at, IsWhole};
+ghost use Rattle.uv_script.specs.Program.{lines_in, op_at, IsWhole};
 
 use crate::names::Names;
-use crate::op::{CallbackLine, MainOp, Op};
+use crate::op::{CallbackLine, Callbacks, MainOp, Op};
 use crate::statement::Statement;
 use std::alloc::{AllocError, Global};
 use std::marker::Model;
-use uv_ids::{Site, Var};
+use uv_ids::{Callback, Site, Var};
 
 /// A script that was read.
 #[derive(Drop)]
 pub struct Script {
     names: Names,
     main: Vec<MainOp>,
-    on: Vec<Vec<CallbackLine>>,
+    callbacks: Vec<Callbacks>,
     /// How many lines count: all but empty ones and comments.
     lines: usize,
 }
@@ -27,7 +27,6 @@ const MAX_LINES: usize = 65_535;
 const MAX_NAMES: usize = 4096;
 
 impl Model for Script {
-    ghost use Rattle.std.specs.Prelude.{map};
     ghost use Rattle.uv_script.specs.Program.{Program, IsCounted};
 
     ghost Value = { Program };
@@ -35,13 +34,13 @@ impl Model for Script {
     ghost view = { λ script. record {
       names = script.names;
       main = script.main.items;
-      on = map (λ lines. lines.items) script.on.items;
+      callbacks = script.callbacks.items;
     } };
 
     ghost invariant = { λ script. IsCounted script.lines (record {
       names = script.names;
       main = script.main.items;
-      on = map (λ lines. lines.items) script.on.items;
+      callbacks = script.callbacks.items;
     }) };
 }
 
@@ -53,7 +52,7 @@ impl Script {
         Script {
             names: Names::new(alloc),
             main: Vec::new(alloc),
-            on: Vec::new(alloc),
+            callbacks: Vec::new(alloc),
             lines: 0,
         }
     }
@@ -65,7 +64,7 @@ impl Script {
         match statement {
             Statement::Declares(_) => self.lines < MAX_LINES && self.names.len() < MAX_NAMES,
             Statement::InMain(_) => self.lines < MAX_LINES,
-            Statement::InCallback(_, _) => self.lines < MAX_LINES,
+            Statement::InCallback(_, _, _) => self.lines < MAX_LINES,
         }
     }
 
@@ -78,7 +77,7 @@ impl Script {
         match statement {
             Statement::Declares(name) => self.declare(alloc, name),
             Statement::InMain(op) => self.push_main(op),
-            Statement::InCallback(name, line) => self.push_callback(name, line),
+            Statement::InCallback(kind, name, line) => self.push_callback(kind, name, line),
         }
     }
 
@@ -87,9 +86,9 @@ impl Script {
         requires sound { IsSound self.old (Declares name.now) }
         ensures { OnOk result (self.new ≡ with_statement self.old (Declares name.now)) }
     {
-        self.on.reserve(1)?;
+        self.callbacks.reserve(1)?;
         self.names.declare(alloc, name)?;
-        self.on.push_reserved(Vec::new(alloc));
+        self.callbacks.push_reserved(Callbacks::new(alloc));
         self.lines += 1;
         Ok(())
     }
@@ -103,13 +102,18 @@ impl Script {
         Ok(())
     }
 
-    fn push_callback(&mut self, name: Var, line: CallbackLine) -> Result<(), AllocError>
-        requires room { HasRoom self.old (InCallback name line) }
-        requires sound { IsSound self.old (InCallback name line) }
-        ensures { OnOk result (self.new ≡ with_statement self.old (InCallback name line)) }
+    fn push_callback(
+        &mut self,
+        kind: Callback,
+        name: Var,
+        line: CallbackLine,
+    ) -> Result<(), AllocError>
+        requires room { HasRoom self.old (InCallback kind name line) }
+        requires sound { IsSound self.old (InCallback kind name line) }
+        ensures { OnOk result (self.new ≡ with_statement self.old (InCallback kind name line)) }
     {
-        let lines = &mut self.on[name.0 as usize];
-        lines.push(line)?;
+        let callbacks = &mut self.callbacks[name.0 as usize];
+        callbacks.push(kind, line)?;
         self.lines += 1;
         Ok(())
     }
@@ -138,16 +142,16 @@ impl Script {
                 MainOp::Op(op) => Some(op),
                 MainOp::Run(_) => None,
             },
-            Site::On(name, line) => Some(self.on_lines(name).get(line)?.op),
+            Site::In(kind, name, line) => Some(self.lines_in(kind, name).get(line)?.op),
         }
     }
 
-    /// The lines of a name's handle callback.
-    pub fn on_lines(&self, name: Var) -> &[CallbackLine]
-        ensures { result.now ≡ on_lines self.now name }
+    /// The lines of a name's callback.
+    pub fn lines_in(&self, kind: Callback, name: Var) -> &[CallbackLine]
+        ensures { result.now ≡ lines_in self.now kind name }
     {
-        match self.on.get(name.0 as usize) {
-            Some(lines) => lines.as_slice(),
+        match self.callbacks.get(name.0 as usize) {
+            Some(callbacks) => callbacks.lines(kind),
             None => &[],
         }
     }

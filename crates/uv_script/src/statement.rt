@@ -1,14 +1,14 @@
 //! What the lines of a script say, one at a time.
 ghost use Rattle.std.specs.Prelude.{◌≡◌, Some, option_map};
 ghost use Rattle.uv_script.specs.Lines.{fields_of};
-ghost use Rattle.uv_script.specs.Reading.{none_left, kind_of, mode_of, init_of, timer_start_of, start_of, repeat_of, bare_op, named_op, name_alone, short_op_of, op_of, declaration_of, run_of, main_of, call_of, marked, in_calls_of, in_call_of, callback_of, statement_of};
+ghost use Rattle.uv_script.specs.Reading.{none_left, kind_of, mode_of, init_of, timer_start_of, start_of, repeat_of, bare_op, named_op, name_alone, short_op_of, op_of, declaration_of, run_of, main_of, main_by, close_loop_of, call_of, marked, in_calls_of, in_call_of, callback_of, statement_of};
 ghost use Rattle.uv_script.specs.Said.{said};
 
 use crate::lines::Fields;
 use crate::names::Names;
 use crate::op::{CallbackLine, MainOp, Op};
 use crate::words::{is_name, number};
-use uv_ids::{Kind, Mode, Var};
+use uv_ids::{Callback, Kind, Mode, Var};
 
 /// What a line says.
 #[derive(Drop)]
@@ -17,8 +17,8 @@ pub(crate) enum Statement<'a> {
     Declares(&'a [u8]),
     /// `main OP`
     InMain(MainOp),
-    /// `on NAME [@k] OP`
-    InCallback(Var, CallbackLine),
+    /// `on NAME [@k] OP`, `closed NAME [@k] OP`
+    InCallback(Callback, Var, CallbackLine),
 }
 
 /// Nothing, where no field is left.
@@ -102,6 +102,9 @@ fn named_op(word: &[u8], name: Var) -> Option<Op>
         b"unref" => Some(Op::Unref(name)),
         b"hasref" => Some(Op::HasRef(name)),
         b"active" => Some(Op::IsActive(name)),
+        b"close" => Some(Op::Close(name)),
+        b"closing" => Some(Op::IsClosing(name)),
+        b"send" => Some(Op::Send(name)),
         _ => None,
     }
 }
@@ -153,7 +156,8 @@ pub(crate) fn statement_in<'a>(names: &Names, line: &'a [u8]) -> Option<Statemen
     match fields.next()? {
         b"var" => declaration(names, fields),
         b"main" => main_line(names, fields),
-        b"on" => callback(names, fields),
+        b"on" => callback(names, Callback::Handle, fields),
+        b"closed" => callback(names, Callback::Close, fields),
         _ => None,
     }
 }
@@ -175,9 +179,18 @@ fn declaration<'a>(names: &Names, mut fields: Fields<'a>) -> Option<Statement<'a
 fn main_line<'a>(names: &Names, mut fields: Fields<'a>) -> Option<Statement<'a>>
     ensures { option_map said result ≡ main_of names.now fields.entry }
 {
-    match fields.next()? {
+    let word = fields.next()?;
+    main_by_word(names, word, fields)
+}
+
+#[tactic(auto, unfolding(crate::specs::Reading::main_by))]
+fn main_by_word<'a>(names: &Names, word: &[u8], fields: Fields<'a>) -> Option<Statement<'a>>
+    ensures { option_map said result ≡ main_by names.now word.now fields.entry }
+{
+    match word {
         b"run" => run(fields),
-        word => {
+        b"closeloop" => close_loop(fields),
+        _ => {
             let op = op_by_word(names, word, fields)?;
             Some(Statement::InMain(MainOp::Op(op)))
         }
@@ -191,6 +204,14 @@ fn run<'a>(mut fields: Fields<'a>) -> Option<Statement<'a>>
     let mode = Mode::from_word(fields.next()?)?;
     none_left(fields)?;
     Some(Statement::InMain(MainOp::Run(mode)))
+}
+
+#[tactic(auto, unfolding(crate::specs::Reading::close_loop_of))]
+fn close_loop<'a>(fields: Fields<'a>) -> Option<Statement<'a>>
+    ensures { option_map said result ≡ close_loop_of fields.entry }
+{
+    none_left(fields)?;
+    Some(Statement::InMain(MainOp::Op(Op::CloseLoop)))
 }
 
 /// The number of a call behind `@`, from 1.
@@ -216,27 +237,46 @@ fn marked(field: &[u8]) -> Option<&[u8]>
     }
 }
 
-#[tactic(auto, unfolding(crate::specs::Reading::callback_of, crate::specs::Reading::calls_of, crate::specs::Reading::in_call_of, crate::specs::Reading::in_calls_of))]
-fn callback<'a>(names: &Names, mut fields: Fields<'a>) -> Option<Statement<'a>>
-    ensures { option_map said result ≡ callback_of names.now fields.entry }
+/// A callback's line, from its op on.
+#[tactic(auto, unfolding(crate::specs::Reading::in_calls_of))]
+fn in_calls<'a>(
+    names: &Names,
+    kind: Callback,
+    name: Var,
+    call: Option<u32>,
+    word: &[u8],
+    fields: Fields<'a>,
+) -> Option<Statement<'a>>
+    ensures { option_map said result ≡ in_calls_of names.now kind name call word.now fields.entry }
+{
+    let op = op_by_word(names, word, fields)?;
+    Some(Statement::InCallback(kind, name, CallbackLine { call, op }))
+}
+
+/// A callback's line for one call, from behind the `@` on.
+#[tactic(auto, unfolding(crate::specs::Reading::in_call_of))]
+fn in_call<'a>(
+    names: &Names,
+    kind: Callback,
+    name: Var,
+    digits: &[u8],
+    mut fields: Fields<'a>,
+) -> Option<Statement<'a>>
+    ensures { option_map said result ≡ in_call_of names.now kind name digits.now fields.entry }
+{
+    let call = call(digits)?;
+    let word = fields.next()?;
+    in_calls(names, kind, name, Some(call), word, fields)
+}
+
+#[tactic(auto, unfolding(crate::specs::Reading::callback_of, crate::specs::Reading::calls_of))]
+fn callback<'a>(names: &Names, kind: Callback, mut fields: Fields<'a>) -> Option<Statement<'a>>
+    ensures { option_map said result ≡ callback_of names.now kind fields.entry }
 {
     let name = names.number(fields.next()?)?;
     let word = fields.next()?;
     match marked(word) {
-        Some(digits) => {
-            let call = call(digits)?;
-            let op = op_by_word(names, fields.next()?, fields)?;
-            Some(Statement::InCallback(
-                name,
-                CallbackLine {
-                    call: Some(call),
-                    op,
-                },
-            ))
-        }
-        None => {
-            let op = op_by_word(names, word, fields)?;
-            Some(Statement::InCallback(name, CallbackLine { call: None, op }))
-        }
+        Some(digits) => in_call(names, kind, name, digits, fields),
+        None => in_calls(names, kind, name, None, word, fields),
     }
 }

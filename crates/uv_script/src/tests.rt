@@ -4,7 +4,7 @@ use crate::{
 };
 use std::alloc::{AllocError, Global};
 use std::test::Fail;
-use uv_ids::{Fault, Kind, Mode, Var};
+use uv_ids::{Callback, Fault, Kind, Mode, Var};
 
 const GOOD: &[u8] = b"# two timers\n\nvar tick\nmain init tick timer\nvar a_1\n\
     main start tick 5 18446744073709551615\non tick @4294967295 stop tick\non a_1 start tick 0 0\n\
@@ -55,9 +55,9 @@ fn reads_a_script(rt: HostRuntime) -> Result<(), Fail> {
         call: None,
         op: Op::Init(a_1, Kind::Timer),
     };
-    assert_eq!(rt; script.on_lines(tick), [last, each].as_slice());
-    assert_eq!(rt; script.on_lines(a_1).len(), 1);
-    assert_eq!(rt; script.on_lines(Var(2)).len(), 0);
+    assert_eq!(rt; script.lines_in(Callback::Handle, tick), [last, each].as_slice());
+    assert_eq!(rt; script.lines_in(Callback::Handle, a_1).len(), 1);
+    assert_eq!(rt; script.lines_in(Callback::Handle, Var(2)).len(), 0);
     Ok(())
 }
 
@@ -114,7 +114,7 @@ fn reads_each_op_of_a_callback(rt: HostRuntime) -> Result<(), Fail> {
         (None, Op::Timeout),
         (Some(5), Op::Stop(idle)),
     ];
-    let lines = script.on_lines(idle);
+    let lines = script.lines_in(Callback::Handle, idle);
     assert_eq!(rt; lines.len(), on_idle.len());
     for (line, want) in lines.iter().zip(on_idle.iter()) {
         assert_eq!(rt; (line.call, line.op), *want);

@@ -13,3 +13,8 @@ pub returns-in-active : goal.returns-in-active
 unfolding named_op
 returns-in-active c =
     ap (λ word. named_op word c.args.name) (sym (spelled c.args.word.now (codes "active") (omega arith) (search rules)))
+
+pub returns-in-closing : goal.returns-in-closing
+unfolding named_op
+returns-in-closing c =
+    ap (λ word. named_op word c.args.name) (sym (spelled c.args.word.now (codes "closing") (omega arith) (search rules)))
