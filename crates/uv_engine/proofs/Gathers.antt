@@ -58,9 +58,10 @@ one_text Is w t text u h e = record { text = text; is = h; gathers = gathers_tex
 pub one_fault : (Is : List ℕ → Type 0) (f : Fault) (w t text u : List ℕ) → Is text → GathersOne Is (Err f) w t w u
 one_fault Is f w t text u h = record { text = text; is = h; gathers = record { grown = grown_none w; rest = t ++ text; whole = sym (append_assoc w t text) } }
 
--- a line of several was cut off
-pub cut_line : {A : Type 0} (f : A → List ℕ) (xs : List A) (i : ℕ) (d : A) (old all w t v : List ℕ) → i < length xs → Gathered old all w t (flat_map f (drop i xs)) → CutOff w ((w ++ t) ++ f (get_or xs i d)) v → CutOff old all v
-cut_line f xs i d old all w t v l h k = cut_by old all w t (f (get_or xs i d)) (flat_map f (drop (suc i) xs)) v (rw (drop-cons xs i d l) at h) k
+-- a line of several is the next
+pub line_next : {A : Type 0} (f : A → List ℕ) (xs : List A) (i : ℕ) (d : A) (old all w t : List ℕ) → i < length xs
+    → Gathered old all w t (flat_map f (drop i xs)) → Gathered old all w t (f (get_or xs i d) ++ flat_map f (drop (suc i) xs))
+line_next f xs i d old all w t l h = rw (drop-cons xs i d l) at h
 
 -- what was cut off with nothing to come is cut short
 pub short_of_cut : (w t v : List ℕ) → CutOff w ((w ++ t) ++ []) v → CutShort w t v

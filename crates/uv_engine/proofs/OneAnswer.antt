@@ -15,19 +15,19 @@ use Rattle.uv_text.specs.declared.command.Asked.TheVariants.{Nothing, Do, Bad}
 use Rattle.uv_text.proofs.Commands.{asks, asks_one}
 use Rattle.uv_engine.specs.declared.conversation.Ended.{Ended}
 use Rattle.uv_engine.specs.Input.{NoFeed}
-use Rattle.uv_engine.specs.Out.{Answers, asked_after, Talks, input_ends, quits, goes_on, Begins, here, here_at_end, later, NeverBegins, nothing, last_line, one_line, started, Ends, BadScript, talks, bad_line, no_begin, bad_input, HasAnswer, HasOneAnswer}
+use Rattle.uv_engine.specs.Out.{IsAnswer, asked_after, Talks, input_ends, quits, goes_on, Begins, here, here_at_end, later, NeverBegins, nothing, last_line, one_line, fresh_session, Ends, BadScript, talks, bad_line, no_begin, bad_input, HasAnswer, HasOneAnswer}
 use Rattle.uv_engine.proofs.Starting.{some_out}
 
 -- ---- the commands
 
-prints_one : (c : Command) (s : Shown) (a b : List ℕ) → Answers (Do c) s a → Answers (Do c) s b → a ≡ b
+prints_one : (c : Command) (s : Shown) (a b : List ℕ) → IsAnswer (Do c) s a → IsAnswer (Do c) s b → a ≡ b
 prints_one (Loop n) s a b h k = h ∙ sym k
 prints_one (Tick ms) s a b h k = h ∙ sym k
 prints_one (Back n) s a b h k = h ∙ sym k
 prints_one Trace s a b h k = h ∙ sym k
 prints_one Quit s a b h k = h ∙ sym k
 
-answers_one : (asked : Asked) (s : Shown) (a b : List ℕ) → Answers asked s a → Answers asked s b → a ≡ b
+answers_one : (asked : Asked) (s : Shown) (a b : List ℕ) → IsAnswer asked s a → IsAnswer asked s b → a ≡ b
 answers_one Nothing s a b h k = h ∙ sym k
 answers_one (Do c) s a b h k = prints_one c s a b h k
 answers_one Bad s a b h k = h ∙ sym k
@@ -45,7 +45,7 @@ talks_one (line ∷ lines) s a b x y (goes_on asked text rest r other h k) (quit
 talks_one (line ∷ lines) s a b x y (goes_on asked text rest r other h k) (goes_on asked' text' rest' r' other' h' k') =
     let same = asks_one line asked' asked r' r in
     let more = talks_one lines (asked_after asked s) rest rest' x y k (subst (λ (z : Asked). Talks lines (asked_after z s) rest' y) same k') in
-    let first = answers_one asked s text text' h (subst (λ (z : Asked). Answers z s text') same h') in
+    let first = answers_one asked s text text' h (subst (λ (z : Asked). IsAnswer z s text') same h') in
     record { text = ap (λ (t : List ℕ). t ++ rest) first ∙ ap (λ (t : List ℕ). text' ++ t) more.text; end = more.end }
 
 -- ---- where the commands begin
@@ -123,8 +123,8 @@ pub one_answer : (input : List ℕ) → HasOneAnswer input
 one_answer input a b x y (talks {end = f} script commands p begins is talk) (talks {end = g} script' commands' p' begins' is' talk') =
     let one = begins_one input input script script' commands commands' refl begins begins' in
     let same = one_script script p p' is (subst (λ (z : List ℕ). IsScript z p') (sym one.script) is') in
-    let there = subst (λ (z : Program). Talks (lines_of commands) (started z) b g) (sym same) (subst (λ (z : List ℕ). Talks (lines_of z) (started p') b g) (sym one.commands) talk') in
-    let more = talks_one (lines_of commands) (started p) a b f g talk there in
+    let there = subst (λ (z : Program). Talks (lines_of commands) (fresh_session z) b g) (sym same) (subst (λ (z : List ℕ). Talks (lines_of z) (fresh_session p') b g) (sym one.commands) talk') in
+    let more = talks_one (lines_of commands) (fresh_session p) a b f g talk there in
     record { text = more.text; end = ap Ends more.end }
 one_answer input a b x y (talks script commands p begins is talk) (bad_line {number = m} script' commands' begins' bad) =
     let one = begins_one input input script script' commands commands' refl begins begins' in

@@ -18,7 +18,7 @@ use Rattle.uv_engine.specs.Talk.{TalksCut, TalksOn}
 use Rattle.uv_engine.proofs.Talking.{EveryLine, some_talk}
 use Rattle.uv_engine.proofs.Replies.{same_shown}
 use Rattle.uv_engine.specs.Input.{TakesLine, NoFeed, Buffered, pending, left}
-use Rattle.uv_engine.specs.Out.{Out, Begins, NeverBegins, Ends, BadScript, IsCut, Converses, IsDeviceFault, started, talks, here, here_at_end, later, nothing, last_line, one_line, bad_line, no_begin, bad_input, HasAnswer}
+use Rattle.uv_engine.specs.Out.{Out, Begins, NeverBegins, Ends, BadScript, IsCut, Converses, IsDeviceFault, fresh_session, talks, here, here_at_end, later, nothing, last_line, one_line, bad_line, no_begin, bad_input, HasAnswer}
 use Rattle.uv_engine.specs.Start.{HasScript, ReadsScript, MissesBegin, after_last, at_line, NoScript, IsStartFault, with_line}
 
 -- what was read goes on to the whole input: where the rest has a script its front is this text, and where the rest is
@@ -174,7 +174,7 @@ EveryText = (text : List ℕ) → HasReading text
 of_begun : EveryText → EveryLine → (input script commands : List ℕ) → Begins input script commands → HasAnswer input
 of_begun texts lines input script commands b = at (texts script) where
   at : HasReading script → HasAnswer input
-  at (inl r) = let some = some_talk lines (lines_of commands) (started r.0) in record { text = some.text; end = Ends some.end; is = talks script commands r.0 b r.1 some.is }
+  at (inl r) = let some = some_talk lines (lines_of commands) (fresh_session r.0) in record { text = some.text; end = Ends some.end; is = talks script commands r.0 b r.1 some.is }
   at (inr r) = record { text = []; end = BadScript r.0; is = bad_line script commands b r.1 }
 
 of_never : EveryText → (input : List ℕ) → NeverBegins input → HasAnswer input
@@ -215,13 +215,13 @@ no_start texts lines input rest old fault.Limit s h = absurd s
 pub no_machine : EveryText → EveryLine → (input old : List ℕ) (f : Fault) → f ≡ fault.Memory → Converses input (Err f) old old
 no_machine texts lines input old f e = subst (λ (x : Fault). Converses input (Err x) old old) (sym e) (cut_start texts lines input old)
 
-talk_cut : (input : List ℕ) (p : Program) (commands old new : List ℕ) → HasScript input p commands → TalksCut (lines_of commands) (started p) old new → IsCut input old new
+talk_cut : (input : List ℕ) (p : Program) (commands old new : List ℕ) → HasScript input p commands → TalksCut (lines_of commands) (fresh_session p) old new → IsCut input old new
 talk_cut input p commands old new h t = record { text = t.text; end = Ends t.end; is = talks h.script commands p h.begins h.is t.is; cut = t.cut }
 
 -- the commands were answered
-pub talked : (input : List ℕ) (p : Program) (commands : List ℕ) (s : Shown) (old new : List ℕ) (r : Result Ended Fault) → HasScript input p commands → s ≡ started p → IfErr r IsDeviceFault → TalksOn (lines_of commands) s r old new → Converses input r old new
+pub talked : (input : List ℕ) (p : Program) (commands : List ℕ) (s : Shown) (old new : List ℕ) (r : Result Ended Fault) → HasScript input p commands → s ≡ fresh_session p → IfErr r IsDeviceFault → TalksOn (lines_of commands) s r old new → Converses input r old new
 talked input p commands s old new r h e d t = at r d (subst (λ (x : Shown). TalksOn (lines_of commands) x r old new) e t) where
-  at : (r : Result Ended Fault) → IfErr r IsDeviceFault → TalksOn (lines_of commands) (started p) r old new → Converses input r old new
+  at : (r : Result Ended Fault) → IfErr r IsDeviceFault → TalksOn (lines_of commands) (fresh_session p) r old new → Converses input r old new
   at (Ok end) d t = record { text = t.text; is = talks h.script commands p h.begins h.is t.is; written = t.written }
   at (Err fault.Memory) d t = talk_cut input p commands old new h t
   at (Err fault.Read) d t = talk_cut input p commands old new h t
@@ -235,8 +235,8 @@ talked input p commands s old new r h e d t = at r d (subst (λ (x : Shown). Tal
   at (Err fault.Limit) d t = absurd d
 
 -- the session of a machine that has begun
-pub begun_session : (s : Shown) (p q : Program) → s.program ≡ q → q ≡ p → s.limit ≡ STEPS → s.standing ≡ [] → s.taken_back ≡ [] → s ≡ started p
-begun_session s p q a b l x y = same_shown s (started p) (a ∙ b) l x y
+pub begun_session : (s : Shown) (p q : Program) → s.program ≡ q → q ≡ p → s.limit ≡ STEPS → s.standing ≡ [] → s.taken_back ≡ [] → s ≡ fresh_session p
+begun_session s p q a b l x y = same_shown s (fresh_session p) (a ∙ b) l x y
 
 -- before anything was read the whole input is left
 pub reads_whole : (b : Buffered) (input rest : List ℕ) (r : Result Program Fault) → pending b ≡ [] → ReadsScript (left b input) r rest → ReadsScript input r rest

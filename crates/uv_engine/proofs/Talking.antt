@@ -13,7 +13,7 @@ use Rattle.uv_engine.specs.declared.conversation.Ended.{Ended}
 use Rattle.uv_engine.specs.declared.conversation.Ended.TheVariants as ended
 use Rattle.std.proofs.lemmas.List.{append_cancel_left}
 use Rattle.uv_engine.specs.Gather.{Grown, CutOff, Gathers, GathersOne}
-use Rattle.uv_engine.specs.Out.{Talks, input_ends, quits, goes_on, Answers, asked_after}
+use Rattle.uv_engine.specs.Out.{Talks, input_ends, quits, goes_on, IsAnswer, asked_after}
 use Rattle.uv_engine.specs.Talk.{TalksCut, TalksOn, Finishes}
 use Rattle.uv_engine.proofs.Gathers.{grown_none, grown_more}
 
@@ -37,7 +37,7 @@ pub record SomeTalk (lines : List (List ℕ)) (s : Shown) : Type 0 where
   pub end : Ended
   pub is : Talks lines s text end
 
-on_line : (line : List ℕ) (lines : List (List ℕ)) (s : Shown) (asked : Asked) (text : List ℕ) → Asks line asked → asked ≢ Do Quit → Answers asked s text → SomeTalk lines (asked_after asked s) → SomeTalk (line ∷ lines) s
+on_line : (line : List ℕ) (lines : List (List ℕ)) (s : Shown) (asked : Asked) (text : List ℕ) → Asks line asked → asked ≢ Do Quit → IsAnswer asked s text → SomeTalk lines (asked_after asked s) → SomeTalk (line ∷ lines) s
 on_line line lines s asked text a q h k = record { text = text ++ k.text; end = k.end; is = goes_on asked text k.text a q h k.is }
 
 pub some_talk : EveryLine → (lines : List (List ℕ)) (s : Shown) → SomeTalk lines s
@@ -96,7 +96,7 @@ can_write all s0 lines s old w t v u h k = record {
 }
 
 -- a line was answered
-pub can_answer : (all : List (List ℕ)) (s0 : Shown) (line : List ℕ) (lines : List (List ℕ)) (s r : Shown) (asked : Asked) (old w t v u : List ℕ) → CanTalkOn all s0 (line ∷ lines) s old w t → Asks line asked → asked ≢ Do Quit → GathersOne (Answers asked s) (Ok tt) w t v u → r ≡ asked_after asked s → CanTalkOn all s0 lines r old v u
+pub can_answer : (all : List (List ℕ)) (s0 : Shown) (line : List ℕ) (lines : List (List ℕ)) (s r : Shown) (asked : Asked) (old w t v u : List ℕ) → CanTalkOn all s0 (line ∷ lines) s old w t → Asks line asked → asked ≢ Do Quit → GathersOne (IsAnswer asked s) (Ok tt) w t v u → r ≡ asked_after asked s → CanTalkOn all s0 lines r old v u
 can_answer all s0 line lines s r asked old w t v u h a q k e = record {
   part = h.part ++ k.text;
   grown = grown_more old w v h.grown k.gathers.0;
@@ -120,7 +120,7 @@ cut_writing every all s0 lines s old w t v h k =
     (sym (append_assoc v k.rest some.text) ∙ ap (λ (xs : List ℕ). xs ++ some.text) (k.whole ∙ append-nil (w ++ t) ∙ h.said) ∙ append_assoc old h.part some.text)
 
 -- an answer was cut off
-pub cut_answer : EveryLine → (all : List (List ℕ)) (s0 : Shown) (line : List ℕ) (lines : List (List ℕ)) (s : Shown) (asked : Asked) (f : Fault) (old w t v u : List ℕ) → CanTalkOn all s0 (line ∷ lines) s old w t → Asks line asked → asked ≢ Do Quit → GathersOne (Answers asked s) (Err f) w t v u → TalksCut all s0 old v
+pub cut_answer : EveryLine → (all : List (List ℕ)) (s0 : Shown) (line : List ℕ) (lines : List (List ℕ)) (s : Shown) (asked : Asked) (f : Fault) (old w t v u : List ℕ) → CanTalkOn all s0 (line ∷ lines) s old w t → Asks line asked → asked ≢ Do Quit → GathersOne (IsAnswer asked s) (Err f) w t v u → TalksCut all s0 old v
 cut_answer every all s0 line lines s asked f old w t v u h a q k =
     let some = some_talk every lines (asked_after asked s) in
     let text = k.text ++ some.text in

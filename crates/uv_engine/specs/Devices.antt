@@ -1,5 +1,5 @@
 -- How devices count their failures.
-use Rattle.std.specs.Prelude.{◌≡◌, ℕ, ◌+◌, ◌<◌, ◌-◌, ◌^◌, ◌⊎◌, List, length, Result, Ok, Err}
+use Rattle.std.specs.Prelude.{◌≡◌, ℕ, ◌+◌, ◌<◌, ◌-◌, ◌^◌, ◌⊎◌, List, [], length, Option, Some, None, IsSome, Result, Ok, Err}
 use Rattle.uv_ids.specs.declared.fault.Fault.{Fault}
 use Rattle.uv_ids.specs.declared.fault.Fault.TheVariants.{Read, Write}
 use Rattle.uv_engine.specs.declared.sink.WriteFailed.{WriteFailed}
@@ -24,3 +24,12 @@ abbrev pub ReaderCounts : {A : Type 0} → Result A Fault → Type 0 → ℕ →
 ReaderCounts (Err Read) TooLong old new = Counted old new ⊎ ((new ≡ old) × TooLong)
 ReaderCounts (Err _) TooLong old new = new ≡ old
 ReaderCounts (Ok _) TooLong old new = new ≡ old
+
+-- the bytes of each reader or writer of this type are known, as those of one over memory are
+abbrev pub AreKnown : {A : Type 0} → (A → Option (List ℕ)) → Type 0
+AreKnown {A} bytes = (device : A) → IsSome (bytes device)
+
+-- the known bytes
+abbrev pub known : Option (List ℕ) → List ℕ
+known (Some bytes) = bytes
+known None = []

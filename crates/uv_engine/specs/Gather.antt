@@ -33,10 +33,10 @@ pub record GathersOne (Is : List ℕ → Type 0) (r : Result (Unit {0}) Fault) (
   pub gathers : Gathers r written gathered text written' gathered'
 
 -- whether a step was taken, and the session after it
-abbrev pub GoesOn : Reply → Shown → Bool → Shown → Type 0
-GoesOn (Took u seen) s on t = (on ≡ true) × (t ≡ u)
-GoesOn (Refused why) s on t = (on ≡ false) × (t ≡ s)
-GoesOn Full s on t = (on ≡ false) × (t ≡ s)
+abbrev pub WasTaken : Reply → Shown → Bool → Shown → Type 0
+WasTaken (Took u seen) s on t = (on ≡ true) × (t ≡ u)
+WasTaken (Refused why) s on t = (on ≡ false) × (t ≡ s)
+WasTaken Full s on t = (on ≡ false) × (t ≡ s)
 
 -- a growth was refused, or the writer failed
 abbrev pub IsWriteFault : Fault → Type 0

@@ -36,10 +36,10 @@ command_after Trace s = s
 command_after Quit s = s
 
 -- what a line prints, and the session after it
-abbrev pub Answers : Asked → Shown → List ℕ → Type 0
-Answers Nothing s text = text ≡ []
-Answers (Do command) s text = Prints command s text
-Answers Bad s text = text ≡ codes "bad command\n"
+abbrev pub IsAnswer : Asked → Shown → List ℕ → Type 0
+IsAnswer Nothing s text = text ≡ []
+IsAnswer (Do command) s text = Prints command s text
+IsAnswer Bad s text = text ≡ codes "bad command\n"
 
 abbrev pub asked_after : Asked → Shown → Shown
 asked_after Nothing s = s
@@ -50,7 +50,7 @@ asked_after Bad s = s
 pub data Talks : List (List ℕ) → Shown → List ℕ → Ended → Type 0 where
   input_ends : {s : Shown} → Talks [] s [] ended.Input
   quits : {line : List ℕ} {lines : List (List ℕ)} {s : Shown} → Asks line (Do Quit) → Talks (line ∷ lines) s [] ended.Quit
-  goes_on : {line : List ℕ} {lines : List (List ℕ)} {s : Shown} {end : Ended} (asked : Asked) (text rest : List ℕ) → Asks line asked → asked ≢ Do Quit → Answers asked s text → Talks lines (asked_after asked s) rest end → Talks (line ∷ lines) s (text ++ rest) end
+  goes_on : {line : List ℕ} {lines : List (List ℕ)} {s : Shown} {end : Ended} (asked : Asked) (text rest : List ℕ) → Asks line asked → asked ≢ Do Quit → IsAnswer asked s text → Talks lines (asked_after asked s) rest end → Talks (line ∷ lines) s (text ++ rest) end
 
 -- the line `begin` cuts an input: the bytes before it are the script, and those after it the commands
 pub data Begins : List ℕ → List ℕ → List ℕ → Type 0 where
@@ -65,8 +65,8 @@ pub data NeverBegins : List ℕ → Type 0 where
   one_line : {line rest : List ℕ} → NoFeed line → line ≢ codes "begin" → NeverBegins rest → NeverBegins (line ++ 10 ∷ rest)
 
 -- the session of a script that has taken no step
-abbrev pub started : Program → Shown
-started p = record { program = p; limit = STEPS; standing = []; taken_back = [] }
+abbrev pub fresh_session : Program → Shown
+fresh_session p = record { program = p; limit = STEPS; standing = []; taken_back = [] }
 
 -- how a conversation ends: with the commands, or at a line that is outside the grammar of scripts
 pub data End : Type 0 where
@@ -75,7 +75,7 @@ pub data End : Type 0 where
 
 -- what is written for an input, and how that ends. A script without `begin` is bad in the line after its last one.
 pub data Out (input : List ℕ) : List ℕ → End → Type 0 where
-  talks : {text : List ℕ} {end : Ended} (script commands : List ℕ) (p : Program) → Begins input script commands → IsScript script p → Talks (lines_of commands) (started p) text end → Out input text (Ends end)
+  talks : {text : List ℕ} {end : Ended} (script commands : List ℕ) (p : Program) → Begins input script commands → IsScript script p → Talks (lines_of commands) (fresh_session p) text end → Out input text (Ends end)
   bad_line : {number : ℕ} (script commands : List ℕ) → Begins input script commands → IsBadLine script number → Out input [] (BadScript number)
   no_begin : (p : Program) → NeverBegins input → IsScript input p → Out input [] (BadScript (length (lines_of input) + 1))
   bad_input : {number : ℕ} → NeverBegins input → IsBadLine input number → Out input [] (BadScript number)

@@ -27,16 +27,16 @@ reply_to s e (Refuses why) = Refused why
 abbrev pub reply : Shown → Event → Reply
 reply s e = if nat_lt (length s.standing) s.limit then reply_to s e (next s.program (after s.program s.standing) e) else Full
 
--- a line, if one was appended
-abbrev pub line_text : Program → Option Seen → List ℕ
-line_text p None = []
-line_text p (Some seen) = seen_text p seen
+-- the appended line, if one was
+abbrev pub appended_text : Program → Option Seen → List ℕ
+appended_text p None = []
+appended_text p (Some seen) = seen_text p seen
 
 abbrev pub refused_text : Why → List ℕ
 refused_text why = codes "refused " ++ why_word why ++ codes "\n"
 
 abbrev pub reply_text : Program → Reply → List ℕ
-reply_text p (Took t seen) = line_text p seen
+reply_text p (Took t seen) = appended_text p seen
 reply_text p (Refused why) = refused_text why
 reply_text p Full = codes "refused steps\n"
 

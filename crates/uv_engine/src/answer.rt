@@ -1,19 +1,21 @@
 //! The answers to commands.
 ghost use Rattle.std.specs.Prelude.{◌≡◌, ◌++◌, [], IfOk, OnOk, IfErr, codes, decimal};
+ghost use Rattle.std.specs.List.{flat_map};
 ghost use Rattle.uv_ids.specs.declared.fault.Fault.TheVariants.{Memory, Write};
 ghost use Rattle.uv_text.specs.Trace.{seen_text};
 ghost use Rattle.uv_engine.specs.Devices.{WriterCounts};
-ghost use Rattle.uv_engine.specs.Gather.{Gathers, GathersOne, GoesOn, IsWriteFault};
-ghost use Rattle.uv_engine.specs.Reply.{reply, reply_text, reply_after, line_text, loop_text, loop_after, back_text, back_after, trace_text};
-ghost use Rattle.uv_engine.specs.Out.{Prints, command_after, Answers, asked_after};
+ghost use Rattle.uv_engine.specs.Gather.{Gathers, GathersOne, WasTaken, IsWriteFault};
+ghost use Rattle.uv_engine.specs.Reply.{reply, reply_text, reply_after, appended_text, loop_text, loop_after, back_text, back_after, trace_text};
+ghost use Rattle.uv_engine.specs.Out.{Prints, command_after, IsAnswer, asked_after};
 
+use crate::conversation::Conversation;
 use crate::sink::{Sink, write_out};
-use std::alloc::{AllocError, Global};
+use std::alloc::AllocError;
 use uv_ids::{Event, Fault, Seen};
 use uv_model::Machine;
 use uv_script::{Script, push_number};
 use uv_session::Session;
-use uv_text::{Asked, Command, seen_text};
+use uv_text::{Asked, Command, push_seen};
 
 /// How much text is gathered before it is written, in bytes.
 const FULL: usize = 8192;
@@ -30,21 +32,13 @@ fn spill<W: Sink>(writer: &mut W, text: &mut Vec<u8>) -> Result<(), Fault>
     write_out(writer, text)
 }
 
-fn push_seen(
-    alloc: Global,
-    text: &mut Vec<u8>,
-    script: &Script,
-    seen: Option<Seen>,
-) -> Result<(), AllocError>
-    ensures { OnOk result (text.new.items ≡ text.old.items ++ line_text script.now seen) }
+fn push_appended(text: &mut Vec<u8>, script: &Script, seen: Option<Seen>) -> Result<(), AllocError>
+    ensures { OnOk result (text.new.items ≡ text.old.items ++ appended_text script.now seen) }
 {
-    let Some(seen) = seen else {
-        return Ok(());
-    };
-    let Ok(line) = seen_text(alloc, script, seen) else {
-        return Err(AllocError);
-    };
-    text.extend_from_slice(line.as_slice())
+    match seen {
+        Some(seen) => push_seen(text, script, seen),
+        None => Ok(()),
+    }
 }
 
 fn push_refused(text: &mut Vec<u8>, why: &str) -> Result<(), AllocError>
@@ -58,17 +52,16 @@ fn push_refused(text: &mut Vec<u8>, why: &str) -> Result<(), AllocError>
 /// One step, and what it prints. Says whether the step was taken.
 #[tactic(auto, using(crate::proofs::Replies::replies))]
 fn tell<M: Machine>(
-    alloc: Global,
     session: &mut Session<M>,
     text: &mut Vec<u8>,
     event: Event,
 ) -> Result<bool, AllocError>
-    ensures on { IfOk result (λ on. GoesOn (reply session.old event) session.old on session.new) }
+    ensures on { IfOk result (λ on. WasTaken (reply session.old event) session.old on session.new) }
     ensures text { OnOk result (text.new.items ≡ text.old.items ++ reply_text session.old.program (reply session.old event)) }
 {
     match session.do_event(event) {
         Ok(outcome) => {
-            push_seen(alloc, text, session.machine().script(), outcome.seen)?;
+            push_appended(text, session.machine().script(), outcome.seen)?;
             Ok(true)
         }
         Err(Fault::Refused(why)) => {
@@ -81,74 +74,6 @@ fn tell<M: Machine>(
         }
         Err(_) => Err(AllocError),
     }
-}
-
-/// Steps of the loop, up to the first that is refused.
-fn run_loop<M: Machine, W: Sink>(
-    alloc: Global,
-    session: &mut Session<M>,
-    writer: &mut W,
-    text: &mut Vec<u8>,
-    n: u32,
-) -> Result<(), Fault>
-    ensures text { W.Tells → Gathers result (W.written writer.old) text.old.items (loop_text n session.old) (W.written writer.new) text.new.items }
-    ensures session { OnOk result (session.new ≡ loop_after n session.old) }
-    ensures err { IfErr result IsWriteFault }
-    ensures writer { WriterCounts result (W.failures writer.old) (W.failures writer.new) }
-{
-    for _ in 0..n {
-        match tell(alloc, session, text, Event::Loop) {
-            Ok(true) => {}
-            Ok(false) => return Ok(()),
-            Err(AllocError) => return Err(Fault::Memory),
-        }
-        match spill(writer, text) {
-            Ok(()) => {}
-            Err(fault) => return Err(fault),
-        }
-    }
-    Ok(())
-}
-
-/// The lines of the standing steps.
-fn show_trace<M: Machine, W: Sink>(
-    alloc: Global,
-    session: &Session<M>,
-    writer: &mut W,
-    text: &mut Vec<u8>,
-) -> Result<(), Fault>
-    ensures text { W.Tells → Gathers result (W.written writer.old) text.old.items (trace_text session.now) (W.written writer.new) text.new.items }
-    ensures err { IfErr result IsWriteFault }
-    ensures writer { WriterCounts result (W.failures writer.old) (W.failures writer.new) }
-{
-    let Ok(trace) = session.trace() else {
-        return Err(Fault::Memory);
-    };
-    let script = session.machine().script();
-    for seen in trace.as_slice() {
-        match show_line(alloc, script, *seen, writer, text) {
-            Ok(()) => {}
-            Err(fault) => return Err(fault),
-        }
-    }
-    Ok(())
-}
-
-fn show_line<W: Sink>(
-    alloc: Global,
-    script: &Script,
-    seen: Seen,
-    writer: &mut W,
-    text: &mut Vec<u8>,
-) -> Result<(), Fault>
-    ensures text { W.Tells → Gathers result (W.written writer.old) text.old.items (seen_text script.now seen) (W.written writer.new) text.new.items }
-    ensures err { IfErr result IsWriteFault }
-    ensures writer { WriterCounts result (W.failures writer.old) (W.failures writer.new) }
-{
-    if push_seen(alloc, text, script, Some(seen)).is_err() {
-        return Err(Fault::Memory);
-    }
-    spill(writer, text)
 }
 
 fn push_at(text: &mut Vec<u8>, length: usize) -> Result<(), AllocError>
@@ -176,53 +101,96 @@ fn go_back<M: Machine>(
     }
 }
 
-/// Does a command, save `quit`.
-fn perform<M: Machine, W: Sink>(
-    alloc: Global,
-    session: &mut Session<M>,
+/// Some trace lines.
+fn show_lines<W: Sink>(
+    script: &Script,
+    trace: &[Seen],
     writer: &mut W,
     text: &mut Vec<u8>,
-    command: Command,
 ) -> Result<(), Fault>
-    ensures text { W.Tells → GathersOne (Prints command session.old) result (W.written writer.old) text.old.items (W.written writer.new) text.new.items }
-    ensures session { OnOk result (session.new ≡ command_after command session.old) }
+    ensures text { W.Tells → Gathers result (W.written writer.old) text.old.items (flat_map (seen_text script.now) trace.now)
+        (W.written writer.new) text.new.items }
     ensures err { IfErr result IsWriteFault }
     ensures writer { WriterCounts result (W.failures writer.old) (W.failures writer.new) }
 {
-    match command {
-        Command::Loop(n) => run_loop(alloc, session, writer, text, n),
-        Command::Trace => show_trace(alloc, session, writer, text),
-        Command::Tick(ms) => match tell(alloc, session, text, Event::Tick(ms)) {
-            Ok(_) => Ok(()),
-            Err(AllocError) => Err(Fault::Memory),
-        },
-        Command::Back(n) => match go_back(session, text, n) {
-            Ok(()) => Ok(()),
-            Err(AllocError) => Err(Fault::Memory),
-        },
-        Command::Quit => Ok(()),
+    for seen in trace {
+        push_seen(text, script, *seen)?;
+        spill(writer, text)?;
     }
+    Ok(())
 }
 
-/// Does what a line asks for, save `quit`.
-pub fn answer<M: Machine, W: Sink>(
-    alloc: Global,
-    session: &mut Session<M>,
-    writer: &mut W,
-    text: &mut Vec<u8>,
-    asked: Asked,
-) -> Result<(), Fault>
-    ensures text { W.Tells → GathersOne (Answers asked session.old) result (W.written writer.old) text.old.items (W.written writer.new) text.new.items }
-    ensures session { OnOk result (session.new ≡ asked_after asked session.old) }
-    ensures err { IfErr result IsWriteFault }
-    ensures writer { WriterCounts result (W.failures writer.old) (W.failures writer.new) }
-{
-    match asked {
-        Asked::Nothing => Ok(()),
-        Asked::Do(command) => perform(alloc, session, writer, text, command),
-        Asked::Bad => match text.extend_from_slice(b"bad command\n") {
-            Ok(()) => Ok(()),
-            Err(AllocError) => Err(Fault::Memory),
-        },
+impl<M: Machine> Conversation<M> {
+    /// Steps of the loop, up to the first that is refused.
+    fn run_loop<W: Sink>(&mut self, writer: &mut W, n: u32) -> Result<(), Fault>
+        ensures text { W.Tells → Gathers result (W.written writer.old) self.old.text.items (loop_text n self.old.session)
+            (W.written writer.new) self.new.text.items }
+        ensures session { OnOk result (self.new.session ≡ loop_after n self.old.session) }
+        ensures err { IfErr result IsWriteFault }
+        ensures writer { WriterCounts result (W.failures writer.old) (W.failures writer.new) }
+    {
+        for _ in 0..n {
+            if !tell(&mut self.session, &mut self.text, Event::Loop)? {
+                return Ok(());
+            }
+            spill(writer, &mut self.text)?;
+        }
+        Ok(())
+    }
+
+    /// The lines of the standing steps.
+    fn show_trace<W: Sink>(&mut self, writer: &mut W) -> Result<(), Fault>
+        ensures text { W.Tells → Gathers result (W.written writer.old) self.old.text.items (trace_text self.old.session)
+            (W.written writer.new) self.new.text.items }
+        ensures session { self.new.session ≡ self.old.session }
+        ensures err { IfErr result IsWriteFault }
+        ensures writer { WriterCounts result (W.failures writer.old) (W.failures writer.new) }
+    {
+        let Ok(trace) = self.session.trace() else {
+            return Err(Fault::Memory);
+        };
+        let script = self.session.machine().script();
+        show_lines(script, trace.as_slice(), writer, &mut self.text)
+    }
+
+    /// Does a command, save `quit`.
+    fn perform<W: Sink>(&mut self, writer: &mut W, command: Command) -> Result<(), Fault>
+        ensures text { W.Tells → GathersOne (Prints command self.old.session) result (W.written writer.old) self.old.text.items
+            (W.written writer.new) self.new.text.items }
+        ensures session { OnOk result (self.new.session ≡ command_after command self.old.session) }
+        ensures err { IfErr result IsWriteFault }
+        ensures writer { WriterCounts result (W.failures writer.old) (W.failures writer.new) }
+    {
+        match command {
+            Command::Loop(n) => self.run_loop(writer, n),
+            Command::Trace => self.show_trace(writer),
+            Command::Tick(ms) => {
+                tell(&mut self.session, &mut self.text, Event::Tick(ms))?;
+                Ok(())
+            }
+            Command::Back(n) => {
+                go_back(&mut self.session, &mut self.text, n)?;
+                Ok(())
+            }
+            Command::Quit => Ok(()),
+        }
+    }
+
+    /// Does what a line asks for, save `quit`.
+    pub(crate) fn answer<W: Sink>(&mut self, writer: &mut W, asked: Asked) -> Result<(), Fault>
+        ensures text { W.Tells → GathersOne (IsAnswer asked self.old.session) result (W.written writer.old) self.old.text.items
+            (W.written writer.new) self.new.text.items }
+        ensures session { OnOk result (self.new.session ≡ asked_after asked self.old.session) }
+        ensures err { IfErr result IsWriteFault }
+        ensures writer { WriterCounts result (W.failures writer.old) (W.failures writer.new) }
+    {
+        match asked {
+            Asked::Nothing => Ok(()),
+            Asked::Do(command) => self.perform(writer, command),
+            Asked::Bad => {
+                self.text.extend_from_slice(b"bad command\n")?;
+                Ok(())
+            }
+        }
     }
 }

@@ -9,7 +9,6 @@ ghost use Rattle.uv_engine.specs.Gather.{Gathers};
 ghost use Rattle.uv_engine.specs.Out.{Converses, HasAnswer, HasOneAnswer, IsDeviceFault};
 ghost use Rattle.uv_engine.specs.Talk.{TalksOn, Finishes};
 
-use crate::answer::answer;
 use crate::input::Input;
 use crate::script::read_script;
 use crate::sink::{Sink, write_out};
@@ -30,6 +29,14 @@ pub enum Ended {
     Input,
 }
 
+/// A conversation at work.
+#[derive(Drop)]
+pub(crate) struct Conversation<M: Machine> {
+    pub(crate) session: Session<M>,
+    /// What was gathered and not yet written.
+    pub(crate) text: Vec<u8>,
+}
+
 /// Writes the gathered text where the next line has to be waited for.
 fn write_if_waiting<W: Sink>(input: &Input, writer: &mut W, text: &mut Vec<u8>) -> Result<(), Fault>
     ensures text { W.Tells → Gathers result (W.written writer.old) text.old.items [] (W.written writer.new) text.new.items }
@@ -43,45 +50,6 @@ fn write_if_waiting<W: Sink>(input: &Input, writer: &mut W, text: &mut Vec<u8>) 
     write_out(writer, text)
 }
 
-/// Answers the lines of an input, one after another, up to `quit` or the end of the input. The answers to the lines that
-/// were read are written before more is read.
-fn talk<M: Machine, R: Source, W: Sink>(
-    alloc: Global,
-    session: &mut Session<M>,
-    input: &mut Input,
-    reader: &mut R,
-    writer: &mut W,
-) -> Result<Ended, Fault>
-    requires end { R.Tells → EndIsSeen input.old (R.remaining reader.old) }
-    ensures text { R.Tells → W.Tells → TalksOn (lines_of (left input.old (R.remaining reader.old))) session.old result (W.written writer.old) (W.written writer.new) }
-    ensures err { IfErr result IsDeviceFault }
-    ensures reader { ReaderCounts result (R.Tells → input.old.budget < length (R.remaining reader.old)) (R.failures reader.old) (R.failures reader.new) }
-    ensures writer { WriterCounts result (W.failures writer.old) (W.failures writer.new) }
-{
-    every_line_asks();
-    let mut text = Vec::new(alloc);
-    'lines: loop {
-        match write_if_waiting(input, writer, &mut text) {
-            Ok(()) => {}
-            Err(fault) => return Err(fault),
-        }
-        match input.next_line(reader) {
-            Err(fault) => return Err(fault),
-            Ok(None) => return finish(writer, &mut text, Ended::Input),
-            Ok(Some(line)) => {
-                let asked = read_command(line.text.as_slice());
-                if is_quit(asked) {
-                    return finish(writer, &mut text, Ended::Quit);
-                }
-                match answer(alloc, session, writer, &mut text, asked) {
-                    Ok(()) => {}
-                    Err(fault) => return Err(fault),
-                }
-            }
-        }
-    }
-}
-
 fn is_quit(asked: Asked) -> bool
     ensures quit { result ≡ true → asked ≡ Asked.Do Command.Quit }
     ensures other { result ≡ false → asked ≢ Asked.Do Command.Quit }
@@ -89,15 +57,45 @@ fn is_quit(asked: Asked) -> bool
     matches!(asked, Asked::Do(Command::Quit))
 }
 
-/// Writes what was gathered, at the end.
-fn finish<W: Sink>(writer: &mut W, text: &mut Vec<u8>, ended: Ended) -> Result<Ended, Fault>
-    ensures text { W.Tells → Finishes result ended (W.written writer.old) text.old.items (W.written writer.new) }
-    ensures err { IfErr result (λ fault. fault ≡ Write) }
-    ensures writer { WriterCounts result (W.failures writer.old) (W.failures writer.new) }
-{
-    match write_out(writer, text) {
-        Ok(()) => Ok(ended),
-        Err(fault) => Err(fault),
+impl<M: Machine> Conversation<M> {
+    /// Answers the lines of an input, one after another, up to `quit` or the end of the input. The answers to the lines that
+    /// were read are written before more is read.
+    fn talk<R: Source, W: Sink>(
+        &mut self,
+        input: &mut Input,
+        reader: &mut R,
+        writer: &mut W,
+    ) -> Result<Ended, Fault>
+        requires end { R.Tells → EndIsSeen input.old (R.remaining reader.old) }
+        requires nothing { self.old.text.items ≡ [] }
+        ensures text { R.Tells → W.Tells → TalksOn (lines_of (left input.old (R.remaining reader.old))) self.old.session result
+            (W.written writer.old) (W.written writer.new) }
+        ensures err { IfErr result IsDeviceFault }
+        ensures reader { ReaderCounts result (R.Tells → input.old.budget < length (R.remaining reader.old)) (R.failures reader.old) (R.failures reader.new) }
+        ensures writer { WriterCounts result (W.failures writer.old) (W.failures writer.new) }
+    {
+        every_line_asks();
+        'lines: loop {
+            write_if_waiting(input, writer, &mut self.text)?;
+            let Some(line) = input.next_line(reader)? else {
+                return self.finish(writer, Ended::Input);
+            };
+            let asked = read_command(line.text.as_slice());
+            if is_quit(asked) {
+                return self.finish(writer, Ended::Quit);
+            }
+            self.answer(writer, asked)?;
+        }
+    }
+
+    /// Writes what was gathered, at the end.
+    fn finish<W: Sink>(&mut self, writer: &mut W, ended: Ended) -> Result<Ended, Fault>
+        ensures text { W.Tells → Finishes result ended (W.written writer.old) self.old.text.items (W.written writer.new) }
+        ensures err { IfErr result (λ fault. fault ≡ Write) }
+        ensures writer { WriterCounts result (W.failures writer.old) (W.failures writer.new) }
+    {
+        write_out(writer, &mut self.text)?;
+        Ok(ended)
     }
 }
 
@@ -127,14 +125,11 @@ pub fn converse<M: Machine, R: Source, W: Sink>(
     one_reading();
     every_line_asks();
     let mut input = Input::new(alloc);
-    let script = match read_script(alloc, &mut input, reader) {
-        Ok(script) => script,
-        Err(fault) => return Err(fault),
+    let script = read_script(alloc, &mut input, reader)?;
+    let machine = M::begin(alloc, script)?;
+    let mut conversation = Conversation {
+        session: Session::new(alloc, machine, STEPS),
+        text: Vec::new(alloc),
     };
-    let machine = match M::begin(alloc, script) {
-        Ok(machine) => machine,
-        Err(fault) => return Err(fault),
-    };
-    let mut session = Session::new(alloc, machine, STEPS);
-    talk(alloc, &mut session, &mut input, reader, writer)
+    conversation.talk(&mut input, reader, writer)
 }

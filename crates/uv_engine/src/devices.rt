@@ -1,6 +1,7 @@
 //! Standard readers and writers, as a conversation's.
-ghost use Rattle.std.specs.Prelude.{[]};
-ghost use Rattle.uv_engine.specs.Devices.{Counted};
+//!
+//! They tell their bytes wherever std knows those: over memory it does, at a terminal or a file it doesn't.
+ghost use Rattle.uv_engine.specs.Devices.{Counted, AreKnown, known};
 
 use crate::sink::{Sink, WriteFailed};
 use crate::source::{ReadFailed, Source};
@@ -13,7 +14,7 @@ fn count(failures: &mut u64)
     *failures = failures.saturating_add(1);
 }
 
-/// A reader that doesn't tell its bytes.
+/// A standard reader, and how often it failed.
 #[derive(Drop)]
 pub struct Reader<R> {
     reader: R,
@@ -30,9 +31,9 @@ impl<R: Read> Reader<R> {
 }
 
 impl<R: Read> Source for Reader<R> {
-    ghost Tells = { ⊥ };
+    ghost Tells = { AreKnown R.remaining };
 
-    ghost remaining = { λ _. [] };
+    ghost remaining = { λ reader. known (R.remaining reader.reader) };
 
     ghost failures = { λ reader. reader.failures };
 
@@ -47,7 +48,7 @@ impl<R: Read> Source for Reader<R> {
     }
 }
 
-/// A writer that doesn't tell its bytes.
+/// A standard writer, and how often it failed.
 #[derive(Drop)]
 pub struct Writer<W> {
     writer: W,
@@ -64,9 +65,9 @@ impl<W: Write> Writer<W> {
 }
 
 impl<W: Write> Sink for Writer<W> {
-    ghost Tells = { ⊥ };
+    ghost Tells = { AreKnown W.contents };
 
-    ghost written = { λ _. [] };
+    ghost written = { λ writer. known (W.contents writer.writer) };
 
     ghost failures = { λ writer. writer.failures };
 

@@ -121,9 +121,7 @@ impl Input {
                 if n > self.budget {
                     return Err(Fault::Read);
                 }
-                if push_all(&mut self.ahead, &room[..n]).is_err() {
-                    return Err(Fault::Memory);
-                }
+                push_all(&mut self.ahead, &room[..n])?;
                 self.budget -= n;
                 Ok(())
             }
@@ -142,10 +140,8 @@ impl Input {
         ensures reader { ReaderCounts result (R.Tells → self.old.budget < length (R.remaining reader.old)) (R.failures reader.old) (R.failures reader.new) }
     {
         loop {
-            match self.take_ahead() {
-                Ok(Some(text)) => return Ok(Some(Line { text, fed: true })),
-                Ok(None) => {}
-                Err(_) => return Err(Fault::Memory),
+            if let Some(text) = self.take_ahead()? {
+                return Ok(Some(Line { text, fed: true }));
             }
             if self.ended {
                 return Ok(self.take_last());

@@ -27,19 +27,13 @@ pub fn read_script<R: Source>(
 {
     let mut text = Vec::new(alloc);
     'lines: loop {
-        match input.next_line(reader) {
-            Err(fault) => return Err(fault),
-            Ok(None) => return Err(without_begin(alloc, text.as_slice())),
-            Ok(Some(line)) => {
-                if is_begin(&line) {
-                    return Script::parse(alloc, text.as_slice());
-                }
-                match push_line(&mut text, &line) {
-                    Ok(()) => {}
-                    Err(AllocError) => return Err(Fault::Memory),
-                }
-            }
+        let Some(line) = input.next_line(reader)? else {
+            return Err(without_begin(alloc, text.as_slice()));
+        };
+        if is_begin(&line) {
+            return Script::parse(alloc, text.as_slice());
         }
+        push_line(&mut text, &line)?;
     }
 }
 

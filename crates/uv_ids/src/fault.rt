@@ -2,6 +2,7 @@
 ghost use Rattle.std.specs.Prelude.{◌≡◌, Some};
 ghost use Rattle.uv_ids.specs.Words.{why_word};
 
+use std::alloc::AllocError;
 use std::fmt;
 use thiserror::Error;
 
@@ -80,4 +81,14 @@ pub enum Fault {
     /// A limit of the product was reached.
     #[error("limit")]
     Limit,
+}
+
+impl From<AllocError> for Fault {
+    ghost use Rattle.uv_ids.specs.declared.fault.Fault.TheVariants.{Memory};
+
+    ghost from_gives = { λ _ fault. fault ≡ Memory };
+
+    fn from(_refused: AllocError) -> Fault {
+        Fault::Memory
+    }
 }

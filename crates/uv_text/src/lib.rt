@@ -5,4 +5,4 @@ mod command;
 mod trace;
 
 pub use command::{Asked, Command, every_line_asks, read_command};
-pub use trace::seen_text;
+pub use trace::{push_seen, seen_text};

@@ -13,13 +13,12 @@ pub fn seen_text(alloc: Global, script: &Script, seen: Seen) -> Result<Vec<u8>, 
     ensures err { IfErr result (λ fault. fault ≡ Memory) }
 {
     let mut text = Vec::new(alloc);
-    match push_seen(&mut text, script, seen) {
-        Ok(()) => Ok(text),
-        Err(_) => Err(Fault::Memory),
-    }
+    push_seen(&mut text, script, seen)?;
+    Ok(text)
 }
 
-fn push_seen(text: &mut Vec<u8>, script: &Script, seen: Seen) -> Result<(), AllocError>
+/// Puts a trace line with its line feed behind a text.
+pub fn push_seen(text: &mut Vec<u8>, script: &Script, seen: Seen) -> Result<(), AllocError>
     ensures { OnOk result (text.new.items ≡ text.old.items ++ seen_text script.now seen) }
 {
     push_line(text, script, seen)?;

@@ -19,6 +19,12 @@ pub enum NoJob {
     Memory,
 }
 
+impl From<AllocError> for NoJob {
+    fn from(_refused: AllocError) -> NoJob {
+        NoJob::Memory
+    }
+}
+
 fn command<'a>(alloc: Global) -> Result<Command<'a>, AllocError> {
     let debug = Command::new(alloc, "debug").disable_help_flag(true);
     Command::new(alloc, "uvt")
@@ -31,9 +37,7 @@ fn command<'a>(alloc: Global) -> Result<Command<'a>, AllocError> {
 
 /// Reads the words, of which the first is the program's own.
 pub fn read_words<'a>(alloc: Global, words: &'a [&'a str]) -> Result<Job, NoJob> {
-    let Ok(command) = command(alloc) else {
-        return Err(NoJob::Memory);
-    };
+    let command = command(alloc)?;
     match command.try_get_matches_from(words) {
         Ok(matches) => match matches.subcommand_name() {
             Some("debug") => Ok(Job::Debug),

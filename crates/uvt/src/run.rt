@@ -1,47 +1,68 @@
 //! The program over any reader and writers.
+ghost use Rattle.std.specs.Prelude.{◌≡◌};
+ghost use Rattle.uvt.specs.Status.{Runs, status_of};
 
 use crate::command_line::{Job, NoJob, read_words};
 use std::alloc::Global;
-use std::io::{Read, Write};
-use uv_engine::{Reader, Writer, converse};
+use std::io::Write;
+use uv_engine::{Sink, Source, converse, one_answer};
 use uv_ids::Fault;
 use uv_model::PlainLoop;
 
 /// Does what the words say, of which the first is the program's own, and gives the exit status: 0 where it is done, 2 for a
 /// bad command line or a bad script, 4 for any other fault. A fault is a line on the errors, `uvt: ` and its text.
-pub fn run<'a, R: Read + Drop, W: Write + Drop, E: Write>(
+///
+/// The handle is for commands that start threads; none does so far.
+pub fn run<H, R: Source, W: Sink, E: Write>(
+    _rt: &H,
     alloc: Global,
-    words: &'a [&'a str],
-    reader: R,
-    writer: W,
+    words: &[&str],
+    reader: &mut R,
+    writer: &mut W,
     errors: &mut E,
-) -> u8 {
+) -> u8
+    ensures text { R.Tells → W.Tells → Runs (R.remaining reader.old) (W.written writer.old) (W.written writer.new) result }
+
+    // A terminal doesn't tell its bytes. Yet with status 0 neither device has failed.
+    ensures reader { result ≡ 0 → R.failures reader.new ≡ R.failures reader.old }
+    ensures writer { result ≡ 0 → W.failures writer.new ≡ W.failures writer.old }
+{
+    one_answer();
     match read_words(alloc, words) {
         Ok(Job::Debug) => debug(alloc, reader, writer, errors),
-        Err(NoJob::BadWords) => {
-            let _ = writeln!(errors, "uvt: bad command line");
-            2
-        }
+        Err(NoJob::BadWords) => bad_words(errors),
         Err(NoJob::Memory) => fail(Fault::Memory, errors),
     }
 }
 
-fn debug<R: Read + Drop, W: Write + Drop, E: Write>(
+fn debug<R: Source, W: Sink, E: Write>(
     alloc: Global,
-    reader: R,
-    writer: W,
+    reader: &mut R,
+    writer: &mut W,
     errors: &mut E,
-) -> u8 {
-    let mut reader = Reader::new(reader);
-    let mut writer = Writer::new(writer);
-    match converse::<PlainLoop, _, _>(alloc, &mut reader, &mut writer) {
+) -> u8
+    ensures text { R.Tells → W.Tells → Runs (R.remaining reader.old) (W.written writer.old) (W.written writer.new) result }
+    ensures reader { result ≡ 0 → R.failures reader.new ≡ R.failures reader.old }
+    ensures writer { result ≡ 0 → W.failures writer.new ≡ W.failures writer.old }
+{
+    match converse::<PlainLoop, _, _>(alloc, reader, writer) {
         Ok(_) => 0,
         Err(fault) => fail(fault, errors),
     }
 }
 
+/// Says that the command line is bad, and gives the exit status.
+pub fn bad_words<E: Write>(errors: &mut E) -> u8
+    ensures { result ≡ 2 }
+{
+    let _ = writeln!(errors, "uvt: bad command line");
+    2
+}
+
 /// Says what went wrong, and gives the exit status.
-pub fn fail<E: Write>(fault: Fault, errors: &mut E) -> u8 {
+pub fn fail<E: Write>(fault: Fault, errors: &mut E) -> u8
+    ensures { result ≡ status_of fault }
+{
     let _ = writeln!(errors, "uvt: {fault}");
     match fault {
         Fault::Script { .. } => 2,

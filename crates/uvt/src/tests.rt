@@ -8,6 +8,7 @@ use std::alloc::{AllocError, Global};
 use std::io;
 use std::io::{Read, Write};
 use std::test::Fail;
+use uv_engine::{Reader, Writer};
 
 /// What the program wrote, and its status.
 #[derive(Drop)]
@@ -20,7 +21,9 @@ struct Ran {
 fn run_on(alloc: Global, words: &[&str], input: &[u8]) -> Ran {
     let mut output = Vec::new(alloc);
     let mut errors = Vec::new(alloc);
-    let status = run(alloc, words, input, &mut output, &mut errors);
+    let mut reader = Reader::new(input);
+    let mut writer = Writer::new(&mut output);
+    let status = run(&(), alloc, words, &mut reader, &mut writer, &mut errors);
     Ran {
         status,
         output,
@@ -261,16 +264,24 @@ impl Write for Page {
 fn each_line_is_answered_before_the_next_is_read(rt: HostRuntime) {
     let alloc = rt.alloc();
     let input = b"var t\nmain init t timer\nbegin\nloop\nloop\ntick 3\nnone\ntrace\nback 2";
-    let reader = Lines {
+    let mut reader = Reader::new(Lines {
         rest: input,
         reads_left: 100,
-    };
+    });
     let mut page = Page {
         text: Vec::new(alloc),
         writes_left: 100,
     };
+    let mut writer = Writer::new(&mut page);
     let mut errors = Vec::new(alloc);
-    let status = run(alloc, &["uvt", "debug"], reader, &mut page, &mut errors);
+    let status = run(
+        &(),
+        alloc,
+        &["uvt", "debug"],
+        &mut reader,
+        &mut writer,
+        &mut errors,
+    );
     let wanted =
         "init t timer = 0.0\n|refused ended\n|out tick 3\n|bad command\n|init t timer = 0.0\nout tick 3\n|at 0\n|";
     assert_eq!(rt; page.text.as_slice(), wanted.as_bytes());
@@ -291,16 +302,24 @@ fn devices_fail(rt: HostRuntime) -> Result<(), Fail> {
     for one in &CONVERSATIONS {
         for k in 0..80u32 {
             for reads in [true, false] {
-                let reader = Lines {
+                let mut reader = Reader::new(Lines {
                     rest: one.input.as_bytes(),
                     reads_left: if reads { k } else { 1000 },
-                };
+                });
                 let mut page = Page {
                     text: Vec::new(alloc),
                     writes_left: if reads { 1000 } else { k },
                 };
+                let mut writer = Writer::new(&mut page);
                 let mut errors = Vec::new(alloc);
-                let status = run(alloc, &["uvt", "debug"], reader, &mut page, &mut errors);
+                let status = run(
+                    &(),
+                    alloc,
+                    &["uvt", "debug"],
+                    &mut reader,
+                    &mut writer,
+                    &mut errors,
+                );
                 let text = unbarred(alloc, page.text.as_slice())?;
                 assert!(rt;
                     one.output.as_bytes().starts_with(text.as_slice()),

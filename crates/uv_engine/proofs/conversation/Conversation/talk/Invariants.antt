@@ -3,13 +3,16 @@ use Rattle.uv_script.specs.Lines.{lines_of}
 use Rattle.uv_engine.specs.Input.{left, size, EndIsSeen}
 use Rattle.uv_engine.specs.Taking.{SpendsBudget}
 use Rattle.uv_engine.proofs.Talking.{CanTalkOn}
-use Rattle.uv_engine.proofs.conversation.talk.Given as goal
+use Rattle.uv_engine.proofs.conversation.Conversation.talk.Given as goal
 
 -- any answers to the lines that are left make answers to all
 abbrev pub invariant-lines : goal.invariant-lines
 invariant-lines g l = record {
   end : g.R.Source.Tells → EndIsSeen l.input (g.R.Source.remaining l.reader);
-  text : g.R.Source.Tells → g.W.Sink.Tells → CanTalkOn (lines_of (left l.initial.input (g.R.Source.remaining l.initial.reader))) l.initial.session (lines_of (left l.input (g.R.Source.remaining l.reader))) l.session (g.W.Sink.written l.initial.writer) (g.W.Sink.written l.writer) l.text.items;
+  text : g.R.Source.Tells → g.W.Sink.Tells → CanTalkOn
+      (lines_of (left l.initial.input (g.R.Source.remaining l.initial.reader))) l.initial.self.session
+      (lines_of (left l.input (g.R.Source.remaining l.reader))) l.self.session
+      (g.W.Sink.written l.initial.writer) (g.W.Sink.written l.writer) l.self.text.items;
   budget : g.R.Source.Tells → SpendsBudget l.initial.input (g.R.Source.remaining l.initial.reader) l.input (g.R.Source.remaining l.reader);
   none_read_failed : g.R.Source.failures l.reader ≡ g.R.Source.failures l.initial.reader;
   none_write_failed : g.W.Sink.failures l.writer ≡ g.W.Sink.failures l.initial.writer;
