@@ -1,5 +1,5 @@
 -- A state's numbers are no larger than the number of its steps, and its times no later than the clock's limit.
-use Rattle.std.proofs.Common.{◌≡◌, ℕ, suc, ◌+◌, ◌<◌, ◌≤◌, ◌^◌, List, [], ◌∷◌, ◌++◌, length, drop, Bool, true, false, Option, Some, None, if◌then◌else◌, nat_le, ◌==◌, ◌&&◌, option_and_then, slice_get, slice_set, All, refl, arith, subst, replicate, add-zero, zero-add}
+use Rattle.std.proofs.Common.{◌≡◌, ℕ, suc, ◌+◌, ◌<◌, ◌≤◌, ◌^◌, List, [], ◌∷◌, ◌++◌, length, drop, Bool, true, false, Option, Some, None, if◌then◌else◌, nat_le, nat_lt, ◌==◌, ◌&&◌, option_and_then, slice_get, slice_set, All, refl, arith, subst, replicate, add-zero, zero-add}
 use Rattle.std.proofs.lemmas.Grind.{elements}
 use Rattle.std.proofs.lemmas.Bool.{cond_both}
 use Rattle.std.proofs.lemmas.Bool.Decides.{nat_tests}
@@ -10,16 +10,33 @@ use Rattle.uv_ids.specs.declared.phase.Kind.{Kind}
 use Rattle.uv_ids.specs.declared.phase.Kind.TheVariants as kind
 use Rattle.uv_ids.specs.declared.code.Code.TheVariants.{Ekind}
 use Rattle.uv_ids.specs.declared.event.Event.{Event}
-use Rattle.uv_ids.specs.declared.event.Event.TheVariants.{Loop, Tick}
+use Rattle.uv_ids.specs.declared.event.Event.TheVariants.{Loop, Send, Tick}
 use Rattle.uv_script.specs.declared.op.Op.{Op}
 use Rattle.uv_script.specs.declared.op.Op.TheVariants as op
 use Rattle.uv_script.specs.declared.op.MainOp.{MainOp}
 use Rattle.uv_script.specs.declared.op.MainOp.TheVariants as main
 use Rattle.uv_script.specs.declared.op.CallbackLine.{CallbackLine}
 use Rattle.uv_script.specs.Program.{Program}
-use Rattle.uv_model.specs.declared.handle.Handle.{Handle}
-use Rattle.uv_model.specs.declared.handle.Slot.{Slot}
-use Rattle.uv_model.specs.declared.handle.Named.{Named}
+use Rattle.uv_ids.specs.declared.code.Code.{Code}
+use Rattle.uv_ids.specs.declared.seen.Seen.{Seen}
+use Rattle.uv_ids.specs.declared.seen.Seen.TheVariants as seen
+use Rattle.uv_ids.specs.declared.seen.Callback.{Callback}
+use Rattle.uv_ids.specs.declared.seen.Callback.TheVariants as callback
+use Rattle.uv_records.specs.declared.handle.HandleRecord.{HandleRecord}
+use Rattle.uv_records.specs.declared.slot.Slot.{Slot}
+use Rattle.uv_records.specs.declared.lists.WatcherKind.{WatcherKind}
+use Rattle.uv_records.specs.declared.lists.WatcherKind.TheVariants as watcher
+use Rattle.uv_records.specs.Handles as records
+use Rattle.uv_records.specs.Handles.{inited, is_timer, is_async, activated, referenced_as, repeating}
+use Rattle.uv_records.specs.Lists.{watcher_kind}
+use Rattle.uv_records.specs.Refusals.{start_timer_refusal, start_watcher_refusal, stop_refusal, again_refusal, timer_refusal, close_refusal, no_refusal, send_refusal}
+use Rattle.uv_records.specs.Slots as slots
+use Rattle.uv_records.specs.Slots.{Slots, taken, taken_from, freed, next_free}
+use Rattle.uv_records.specs.Walks.{Walk, with_first, all_yet}
+use Rattle.uv_model.specs.declared.content.Content.{Content}
+use Rattle.uv_model.specs.declared.content.Content.TheVariants as content
+use Rattle.uv_model.specs.declared.named.Counts.{Counts as CallCounts}
+use Rattle.uv_model.specs.declared.named.Named.{Named}
 use Rattle.uv_model.specs.declared.place.Body.{Body}
 use Rattle.uv_model.specs.declared.place.Run.{Run}
 use Rattle.uv_model.specs.declared.place.Stage.{Stage}
@@ -30,33 +47,32 @@ use Rattle.uv_model.specs.declared.place.Timing.{Timing}
 use Rattle.uv_model.specs.declared.place.Timing.TheVariants.{Collecting, Firing}
 use Rattle.uv_model.specs.declared.place.Place.{Place}
 use Rattle.uv_model.specs.declared.place.Place.TheVariants.{Main, Running}
-use Rattle.uv_model.specs.declared.watchers.WatcherKind.{WatcherKind}
-use Rattle.uv_model.specs.declared.watchers.WatcherKind.TheVariants as watcher
 use Rattle.uv_model.specs.Ids.{has_some}
 use Rattle.uv_model.specs.Found.{found_or}
-use Rattle.uv_model.specs.Handles.{new_handle, inactive, is_timer, handle_in}
-use Rattle.uv_model.specs.Watchers.{Watched, with_watcher, all_yet, moved_on, watcher_kind}
-use Rattle.uv_model.specs.State.{State, fresh, named, with_handle, with_named, with_new, unused_slot, held, held_in, with_id, live_id, live, front, watched, with_watched, refreshed}
+use Rattle.uv_model.specs.Content.{handle_in}
+use Rattle.uv_model.specs.State.{State, unbound, LAST_GENERATION, fresh, named, handle, with_handle, with_named, counted, count_of, with_id, live_id, live, front, watched, with_watched, refreshed}
 use Rattle.uv_model.specs.Timers.{taken_off, stopped, started, restarted}
-use Rattle.uv_model.specs.Timeout.{has_passed}
 use Rattle.uv_model.specs.Ops as ops
 use Rattle.uv_model.specs.Ops.{do_op, refuses}
-use Rattle.uv_model.specs.Next.{Next, Moves, Refuses, next, loop_step, main_step, run_step, body_step, stage_step, tick, timers, collect, collected, first_due, fire, leave_timers, enter, ends, new_iteration, call, is_default, body_from, goes, begin_walk, after_walk, walk, stage_of}
+use Rattle.uv_model.specs.Next.{Next, Moves, Refuses, next, loop_step, main_step, run_step, body_step, stage_step, tick, sent_to, timers, collect, collected, first_due, fire, leave_timers, enter, ends, new_iteration, calls, may_leave, is_default, body_from, goes, begin_walk, begin_closing, after_walk, front_moved, walk, walk_async, close_front, stage_of}
 use Rattle.uv_model.specs.After.{after, goes_on, state_of}
-use Rattle.uv_model.specs.Bounds.{line_of, HoldsBefore, StartsBefore, CanStep}
-use Rattle.uv_model.proofs.Counts.{at_name}
+use Rattle.uv_model.specs.Bounds.{line_of, HoldsBefore, StartsBefore, AreBelow, CanStep}
+use Rattle.uv_model.proofs.Calls.{at_name}
 use Rattle.uv_model.proofs.Found.{found_both}
 
-abbrev pub Counts : ℕ → List Named → Type 0
-Counts n names = All (λ (x : Named). x.calls ≤ n) names
+abbrev AreUpTo : ℕ → CallCounts → Type 0
+AreUpTo n c = (c.handle ≤ n) × (c.close ≤ n)
 
-abbrev pub Drawn : ℕ → List Slot → Type 0
-Drawn n slots = All (λ (x : Slot). HoldsBefore n (handle_in x.content)) slots
+abbrev pub Counts : ℕ → List Named → Type 0
+Counts n names = All (λ (x : Named). AreUpTo n x.calls) names
+
+abbrev pub Drawn : ℕ → List (Slot Content) → Type 0
+Drawn n slots = All (λ (x : Slot Content). HoldsBefore n (handle_in x.content)) slots
 
 pub record IsBounded (n : ℕ) (s : State) : Type 0 where
   pub counts : Counts n s.names
   pub starts : s.next_start ≤ n
-  pub drawn : Drawn s.next_start s.slots
+  pub drawn : Drawn s.next_start s.arena.slots
   pub time : s.time ≤ 2 ^ 62
   pub clock : s.clock ≤ 2 ^ 62
   pub line : line_of s.place ≤ n
@@ -72,25 +88,25 @@ if_keeps P false x y h k = k
 -- ---- the parts
 
 counts_more : (n : ℕ) (names : List Named) → Counts n names → Counts (suc n) names
-counts_more n names h = λ k d l. omega (arith, h k d l)
+counts_more n names h = λ k d l. let a = h k d l in (omega (arith, a.0), omega (arith, a.1))
 
-counts_set : (n : ℕ) (names : List Named) (i : ℕ) (x : Named) → Counts n names → x.calls ≤ n → Counts n (slice_set names i x)
+counts_set : (n : ℕ) (names : List Named) (i : ℕ) (x : Named) → Counts n names → AreUpTo n x.calls → Counts n (slice_set names i x)
 counts_set n names i x h l = grind (arith, elements, h)
 
-holds_more : (m n : ℕ) (content : Option Handle) → m ≤ n → HoldsBefore m content → HoldsBefore n content
+holds_more : (m n : ℕ) (content : Option HandleRecord) → m ≤ n → HoldsBefore m content → HoldsBefore n content
 holds_more m n None l h = tt
 holds_more m n (Some x) l h = λ t a. omega (arith, h t a)
 
-drawn_more : (m n : ℕ) (slots : List Slot) → m ≤ n → Drawn m slots → Drawn n slots
+drawn_more : (m n : ℕ) (slots : List (Slot Content)) → m ≤ n → Drawn m slots → Drawn n slots
 drawn_more m n slots l h = λ k d w. holds_more m n _ l (h k d w)
 
-drawn_set : (n : ℕ) (slots : List Slot) (i : ℕ) (x : Slot) → Drawn n slots → HoldsBefore n (handle_in x.content) → Drawn n (slice_set slots i x)
+drawn_set : (n : ℕ) (slots : List (Slot Content)) (i : ℕ) (x : Slot Content) → Drawn n slots → HoldsBefore n (handle_in x.content) → Drawn n (slice_set slots i x)
 drawn_set n slots i x h b = grind (arith, elements, h)
 
-drawn_push : (n : ℕ) (slots : List Slot) (x : Slot) → Drawn n slots → HoldsBefore n (handle_in x.content) → Drawn n (slots ++ x ∷ [])
+drawn_push : (n : ℕ) (slots : List (Slot Content)) (x : Slot Content) → Drawn n slots → HoldsBefore n (handle_in x.content) → Drawn n (slots ++ x ∷ [])
 drawn_push n slots x h b = grind (arith, elements, h)
 
-never : (n : ℕ) (h : Handle) → h.active ≡ false → StartsBefore n h
+never : (n : ℕ) (h : HandleRecord) → h.active ≡ false → StartsBefore n h
 never n h e = λ t a. cc (a, e)
 
 never_timer : (k : Kind) (w : WatcherKind) → watcher_kind k ≡ Some w → is_timer k ≡ true → ⊥
@@ -98,36 +114,40 @@ never_timer kind.Timer w e t = cc e
 never_timer kind.Idle w e t = cc t
 never_timer kind.Prepare w e t = cc t
 never_timer kind.Check w e t = cc t
+never_timer kind.Async w e t = cc t
 
-count_of : (n : ℕ) (s : State) (v : Var) → Counts n s.names → (named s v).calls ≤ n
-count_of n s v h = let l : (named s v).calls < suc n = at_name (suc n) s.names v.0 (slice_get s.names v.0) refl (λ k d w. omega (arith, h k d w))
-    (omega arith) in omega arith
+counts_at : (n : ℕ) (s : State) (v : Var) → Counts n s.names → AreUpTo n (named s v).calls
+counts_at n s v h =
+    let below : All (λ (x : Named). AreBelow (suc n) x.calls) s.names = λ k d w. let a = h k d w in (omega (arith, a.0), omega (arith, a.1)) in
+    let l = at_name (suc n) s.names v.0 (slice_get s.names v.0) refl below (omega arith) in
+    (omega (arith, l.0), omega (arith, l.1))
 
 -- ---- a live handle
 
-abbrev LiveBefore : ℕ → Option (Id × Handle) → Type 0
+abbrev LiveBefore : ℕ → Option (Id × HandleRecord) → Type 0
 LiveBefore n None = Unit {0}
 LiveBefore n (Some t) = StartsBefore n t.1
 
-slot_before : (n : ℕ) (slots : List Slot) (i : ℕ) (slot : Slot) → slice_get slots i ≡ Some slot → Drawn n slots →
+slot_before : (n : ℕ) (slots : List (Slot Content)) (i : ℕ) (slot : Slot Content) → slice_get slots i ≡ Some slot → Drawn n slots →
     HoldsBefore n (handle_in slot.content)
 slot_before n slots i slot e h = grind (arith, elements, h)
 
-found_before : (n : ℕ) (slots : List Slot) (id : Id) (x : Option Slot) → slice_get slots id.slot ≡ x → Drawn n slots →
-    HoldsBefore n (option_and_then (held_in id) x)
-found_before n slots id None e h = tt
-found_before n slots id (Some slot) e h = if_keeps (HoldsBefore n) (slot.generation == id.generation) (handle_in slot.content) None
-    (slot_before n slots id.slot slot e h) tt
+found_before : (n : ℕ) (all : List (Slot Content)) (id : Id) (x : Option (Slot Content)) → slice_get all id.slot ≡ x → Drawn n all →
+    HoldsBefore n (handle_in (option_and_then (slots.held_in id) x))
+found_before n all id None e h = tt
+found_before n all id (Some slot) e h = if_keeps (λ (c : Option Content). HoldsBefore n (handle_in c)) (slot.generation == id.generation) slot.content None
+    (slot_before n all id.slot slot e h) tt
 
-with_id_before : (n : ℕ) (id : Id) (x : Option Handle) → HoldsBefore n x → LiveBefore n (with_id id x)
+with_id_before : (n : ℕ) (id : Id) (x : Option HandleRecord) → HoldsBefore n x → LiveBefore n (with_id id x)
 with_id_before n id None h = tt
 with_id_before n id (Some x) h = h
 
-live_id_before : (n : ℕ) (s : State) (id : Option Id) → Drawn n s.slots → LiveBefore n (live_id s id)
+live_id_before : (n : ℕ) (s : State) (id : Option Id) → Drawn n s.arena.slots → LiveBefore n (live_id s id)
 live_id_before n s None h = tt
-live_id_before n s (Some id) h = with_id_before n id (held s id) (found_before n s.slots id (slice_get s.slots id.slot) refl h)
+live_id_before n s (Some id) h =
+    with_id_before n id (handle s id) (found_before n s.arena.slots id (slice_get s.arena.slots id.slot) refl h)
 
-live_before : (s : State) (v : Var) → Drawn s.next_start s.slots → LiveBefore s.next_start (live s v)
+live_before : (s : State) (v : Var) → Drawn s.next_start s.arena.slots → LiveBefore s.next_start (live s v)
 live_before s v h = live_id_before s.next_start s (named s v).id h
 
 -- ---- the changes of a state
@@ -139,18 +159,18 @@ more n s h = record { counts = counts_more n s.names h.counts; starts = omega ar
 placed : (n : ℕ) (s : State) (place : Place) → IsBounded n s → line_of place ≤ n → IsBounded n (record s { place = place })
 placed n s place h l = record { counts = h.counts; starts = h.starts; drawn = h.drawn; time = h.time; clock = h.clock; line = l }
 
-renamed : (n : ℕ) (s : State) (v : Var) (x : Named) → IsBounded n s → x.calls ≤ n → IsBounded n (with_named s v x)
+renamed : (n : ℕ) (s : State) (v : Var) (x : Named) → IsBounded n s → AreUpTo n x.calls → IsBounded n (with_named s v x)
 renamed n s v x h l = record { counts = counts_set n s.names v.0 x h.counts l; starts = h.starts; drawn = h.drawn; time = h.time; clock = h.clock;
     line = h.line }
 
 listed : (n : ℕ) (s : State) (ts : List (Due × Id)) (ready : List Id) → IsBounded n s → IsBounded n (record s { timers = ts; ready = ready })
 listed n s ts ready h = record { counts = h.counts; starts = h.starts; drawn = h.drawn; time = h.time; clock = h.clock; line = h.line }
 
-off_bounded : (n : ℕ) (s : State) (id : Id) (x : Handle) → IsBounded n s → IsBounded n (taken_off s id x)
+off_bounded : (n : ℕ) (s : State) (id : Id) (x : HandleRecord) → IsBounded n s → IsBounded n (taken_off s id x)
 off_bounded n s id x h = record { counts = h.counts; starts = h.starts; drawn = h.drawn; time = h.time; clock = h.clock; line = h.line }
 
-kept_in : (n : ℕ) (s : State) (id : Id) (x : Handle) → IsBounded n s → StartsBefore s.next_start x → IsBounded n (with_handle s id x)
-kept_in n s id x h b = record { counts = h.counts; starts = h.starts; drawn = drawn_set s.next_start s.slots id.slot _ h.drawn b; time = h.time;
+kept_in : (n : ℕ) (s : State) (id : Id) (x : HandleRecord) → IsBounded n s → StartsBefore s.next_start x → IsBounded n (with_handle s id x)
+kept_in n s id x h b = record { counts = h.counts; starts = h.starts; drawn = drawn_set s.next_start s.arena.slots id.slot _ h.drawn b; time = h.time;
     clock = h.clock; line = h.line }
 
 at_clock : (n : ℕ) (s : State) → IsBounded n s → IsBounded n (refreshed s)
@@ -159,26 +179,28 @@ at_clock n s h = record { counts = h.counts; starts = h.starts; drawn = h.drawn;
 flagged : (n : ℕ) (s : State) (stop_flag idled : Bool) → IsBounded n s → IsBounded n (record s { stop_flag = stop_flag; idled = idled })
 flagged n s stop_flag idled h = record { counts = h.counts; starts = h.starts; drawn = h.drawn; time = h.time; clock = h.clock; line = h.line }
 
-watched_bounded : (n : ℕ) (s : State) (kind : WatcherKind) (w : Watched) → IsBounded n s → IsBounded n (with_watched s kind w)
+watched_bounded : (n : ℕ) (s : State) (kind : WatcherKind) (w : Walk Id) → IsBounded n s → IsBounded n (with_watched s kind w)
 watched_bounded n s watcher.Idle w h = record { counts = h.counts; starts = h.starts; drawn = h.drawn; time = h.time; clock = h.clock; line = h.line }
 watched_bounded n s watcher.Prepare w h = record { counts = h.counts; starts = h.starts; drawn = h.drawn; time = h.time; clock = h.clock;
     line = h.line }
 watched_bounded n s watcher.Check w h = record { counts = h.counts; starts = h.starts; drawn = h.drawn; time = h.time; clock = h.clock;
     line = h.line }
+watched_bounded n s watcher.Async w h = record { counts = h.counts; starts = h.starts; drawn = h.drawn; time = h.time; clock = h.clock; line = h.line }
 
-watched_names : (n : ℕ) (s : State) (kind : WatcherKind) (w : Watched) → Counts n s.names → Counts n (with_watched s kind w).names
+watched_names : (n : ℕ) (s : State) (kind : WatcherKind) (w : Walk Id) → Counts n s.names → Counts n (with_watched s kind w).names
 watched_names n s watcher.Idle w h = h
 watched_names n s watcher.Prepare w h = h
 watched_names n s watcher.Check w h = h
+watched_names n s watcher.Async w h = h
 
-stopped_bounded : (n : ℕ) (s : State) (id : Id) (x : Handle) → IsBounded n s → IsBounded n (stopped s id x)
-stopped_bounded n s id x h = kept_in n (taken_off s id x) id (inactive x) (off_bounded n s id x h) (never s.next_start (inactive x) refl)
+stopped_bounded : (n : ℕ) (s : State) (id : Id) (x : HandleRecord) → IsBounded n s → IsBounded n (stopped s id x)
+stopped_bounded n s id x h = kept_in n (taken_off s id x) id (records.stopped x) (off_bounded n s id x h) (never s.next_start (records.stopped x) refl)
 
-started_bounded : (n : ℕ) (s : State) (id : Id) (x : Handle) (timeout repeat : ℕ) → IsBounded n s → IsBounded (suc n) (started s id x timeout repeat)
+started_bounded : (n : ℕ) (s : State) (id : Id) (x : HandleRecord) (timeout repeat : ℕ) → IsBounded n s → IsBounded (suc n) (started s id x timeout repeat)
 started_bounded n s id x timeout repeat h = record {
   counts = counts_more n s.names h.counts;
   starts = omega arith;
-  drawn = drawn_set (s.next_start + 1) s.slots id.slot _ (drawn_more s.next_start (s.next_start + 1) s.slots (omega arith) h.drawn)
+  drawn = drawn_set (s.next_start + 1) s.arena.slots id.slot _ (drawn_more s.next_start (s.next_start + 1) s.arena.slots (omega arith) h.drawn)
       (λ t a. omega arith);
   time = h.time;
   clock = h.clock;
@@ -187,82 +209,112 @@ started_bounded n s id x timeout repeat h = record {
 
 -- ---- the ops
 
-init_in_bounded : (n : ℕ) (s : State) (v : Var) (kind : Kind) (id : Option Id) → IsBounded n s → IsBounded (suc n) (ops.init_in s v kind id).state
-init_in_bounded n s v kind None h = more n s h
-init_in_bounded n s v kind (Some id) h =
+-- a handle that is made is no active timer
+inited_before : (n : ℕ) (v : Var) (kind : Kind) → StartsBefore n (inited v kind)
+inited_before n v kind.Timer = λ t a. cc a
+inited_before n v kind.Idle = λ t a. cc a
+inited_before n v kind.Prepare = λ t a. cc a
+inited_before n v kind.Check = λ t a. cc a
+inited_before n v kind.Async = λ t a. cc t
+
+taken_drawn : (n : ℕ) (free : List ℕ) (id : Id) (x : HandleRecord) (s : Slots Content) → Drawn n s.slots → StartsBefore n x →
+    Drawn n (taken_from free id (content.Handle x) s).slots
+taken_drawn n [] id x s h b = drawn_push n s.slots _ h b
+taken_drawn n (i ∷ is) id x s h b = drawn_set n s.slots id.slot _ h b
+
+new_bounded : (n : ℕ) (s : State) (v : Var) (kind : Kind) (id : Id) → IsBounded n s → IsBounded (suc n) (ops.with_new s v kind id)
+new_bounded n s v kind id h =
     let m = more n s h in
-    let wide : IsBounded (suc n) (with_new s
-        (new_handle v kind)) = record { counts = m.counts; starts = m.starts; drawn = drawn_push s.next_start s.slots _ h.drawn
-        (never s.next_start (new_handle v kind) refl); time = h.time; clock = h.clock; line = m.line } in
-    renamed (suc n) (with_new s (new_handle v kind)) v (record (named s v) { id = Some id }) wide (omega (arith, count_of n s v h.counts))
+    let u = record s { arena = taken id (content.Handle (inited v kind)) s.arena } in
+    let wide : IsBounded (suc n) u = record {
+      counts = m.counts;
+      starts = m.starts;
+      drawn = taken_drawn s.next_start s.arena.free id (inited v kind) s.arena h.drawn (inited_before s.next_start v kind);
+      time = h.time;
+      clock = h.clock;
+      line = m.line;
+    } in
+    let counts = counts_at n s v h.counts in
+    renamed (suc n) (ops.listed_last u kind id) v (record (named s v) { id = Some id })
+        (if_keeps (IsBounded (suc n)) (is_async kind) _ u (watched_bounded (suc n) u watcher.Async _ wide) wide) (omega (arith, counts.0), omega (arith, counts.1))
 
-init_bounded : (n : ℕ) (s : State) (v : Var) (kind : Kind) (t : Option (Id × Handle)) → IsBounded n s → IsBounded (suc n) (ops.init s v kind t).state
+init_bounded : (n : ℕ) (s : State) (v : Var) (kind : Kind) (t : Option (Id × HandleRecord)) → IsBounded n s → IsBounded (suc n) (ops.init s v kind t).state
 init_bounded n s v kind (Some t) h = more n s h
-init_bounded n s v kind None h = init_in_bounded n s v kind (unused_slot s) h
+init_bounded n s v kind None h = found_both (next_free s.arena) _ _ (λ (d : ops.Done). IsBounded (suc n) d.state)
+    (λ id e. new_bounded n s v kind id h) (λ e. more n s h)
 
-on_handle_bounded : (n : ℕ) (s : State) (v : Var) (f : Id → Handle → ops.Done) → IsBounded n s →
-    ((id : Id) (x : Handle) → StartsBefore s.next_start x → IsBounded (suc n) (f id x).state) → IsBounded (suc n) (ops.on_handle s (live s v) f).state
-on_handle_bounded n s v f h k = at (live s v) (live_before s v h.drawn) where
-  at : (t : Option (Id × Handle)) → LiveBefore s.next_start t → IsBounded (suc n) (ops.on_handle s t f).state
+on_handle_bounded : (n : ℕ) (s : State) (v : Var) (why : HandleRecord → Option Code) (f : Id → HandleRecord → ops.Done) → IsBounded n s →
+    ((id : Id) (x : HandleRecord) → StartsBefore s.next_start x → why x ≡ None → IsBounded (suc n) (f id x).state) →
+    IsBounded (suc n) (ops.on_handle s (live s v) why f).state
+on_handle_bounded n s v why f h k = at (live s v) (live_before s v h.drawn) where
+  at : (t : Option (Id × HandleRecord)) → LiveBefore s.next_start t → IsBounded (suc n) (ops.on_handle s t why f).state
   at None l = more n s h
-  at (Some t) l = k t.0 t.1 l
+  at (Some t) l = found_both (why t.1) _ (f t.0 t.1) (λ (d : ops.Done). IsBounded (suc n) d.state) (λ code e. more n s h) (λ e. k t.0 t.1 l e)
 
-on_timer_bounded : (n : ℕ) (s : State) (v : Var) (f : Id → Handle → ops.Done) → IsBounded n s →
-    ((id : Id) (x : Handle) → StartsBefore s.next_start x → IsBounded (suc n) (f id x).state) → IsBounded (suc n) (ops.on_timer s (live s v) f).state
-on_timer_bounded n s v f h k = on_handle_bounded n s v _ h
-    (λ id x b. if_keeps (λ (d : ops.Done). IsBounded (suc n) d.state) (is_timer x.kind) (f id x) (refuses s Ekind) (k id x b) (more n s h))
-
-on_watcher_bounded : (n : ℕ) (s : State) (v : Var) (f : WatcherKind → Id → Handle → ops.Done) → IsBounded n s →
-    ((kind : WatcherKind) (id : Id) (x : Handle) → watcher_kind x.kind ≡ Some kind → IsBounded (suc n) (f kind id x).state) →
-        IsBounded (suc n) (ops.on_watcher s (live s v) f).state
-on_watcher_bounded n s v f h k = on_handle_bounded n s v _ h
-    (λ id x b. found_both (watcher_kind x.kind) _ _ (λ (d : ops.Done). IsBounded (suc n) d.state) (λ kind e. k kind id x e) (λ e. more n s h))
-
-start_bounded : (n : ℕ) (s : State) (timeout repeat : ℕ) (id : Id) (x : Handle) → IsBounded n s →
+start_bounded : (n : ℕ) (s : State) (timeout repeat : ℕ) (id : Id) (x : HandleRecord) → IsBounded n s →
     IsBounded (suc n) (ops.start s timeout repeat id x).state
 start_bounded n s timeout repeat id x h = started_bounded n (stopped s id x) id x timeout repeat (stopped_bounded n s id x h)
 
-restarted_bounded : (n : ℕ) (s : State) (id : Id) (x : Handle) → IsBounded n s → IsBounded (suc n) (restarted s id x)
+restarted_bounded : (n : ℕ) (s : State) (id : Id) (x : HandleRecord) → IsBounded n s → IsBounded (suc n) (restarted s id x)
 restarted_bounded n s id x h = if_keeps (IsBounded (suc n)) (x.repeat == 0) s (started s id x x.repeat x.repeat) (more n s h)
     (started_bounded n s id x x.repeat x.repeat h)
 
-again_bounded : (n : ℕ) (s : State) (id : Id) (x : Handle) → IsBounded n s → IsBounded (suc n) (ops.again s id x).state
-again_bounded n s id x h = if_keeps (λ (d : ops.Done). IsBounded (suc n) d.state) x.begun _ _
-    (restarted_bounded n (stopped s id x) id x (stopped_bounded n s id x h)) (more n s h)
+again_bounded : (n : ℕ) (s : State) (id : Id) (x : HandleRecord) → IsBounded n s → IsBounded (suc n) (ops.again s id x).state
+again_bounded n s id x h = restarted_bounded n (stopped s id x) id x (stopped_bounded n s id x h)
 
-set_repeat_bounded : (n : ℕ) (s : State) (repeat : ℕ) (id : Id) (x : Handle) → IsBounded n s → StartsBefore s.next_start x →
+set_repeat_bounded : (n : ℕ) (s : State) (repeat : ℕ) (id : Id) (x : HandleRecord) → IsBounded n s → StartsBefore s.next_start x →
     IsBounded (suc n) (ops.set_repeat s repeat id x).state
-set_repeat_bounded n s repeat id x h b = let y : Handle = record x { repeat = repeat } in more n (with_handle s id y) (kept_in n s id y h b)
+set_repeat_bounded n s repeat id x h b = more n (with_handle s id (repeating repeat x)) (kept_in n s id (repeating repeat x) h b)
 
-start_watcher_bounded : (n : ℕ) (s : State) (kind : WatcherKind) (id : Id) (x : Handle) → watcher_kind x.kind ≡ Some kind → IsBounded n s →
-    IsBounded (suc n) (ops.start_watcher s kind id x).state
-start_watcher_bounded n s kind id x e h =
-    let t = with_watched s kind (with_watcher (watched s kind) id) in
-    let y : Handle = record x { active = true } in
-    if_keeps (IsBounded (suc n)) x.active s (with_handle t id y) (more n s h)
-    (more n (with_handle t id y) (kept_in n t id y (watched_bounded n s kind _ h) (λ u a. absurd (never_timer x.kind kind e u))))
+start_watcher_bounded : (n : ℕ) (s : State) (id : Id) (x : HandleRecord) → IsBounded n s → IsBounded (suc n) (ops.start_watcher s id x).state
+start_watcher_bounded n s id x h = if_keeps (IsBounded (suc n)) x.active s _ (more n s h)
+    (found_both (watcher_kind x.kind) _ s (IsBounded (suc n)) (λ kind e. started_watcher kind e) (λ e. more n s h))
+  where
+    started_watcher : (kind : WatcherKind) → watcher_kind x.kind ≡ Some kind → IsBounded (suc n) (ops.watcher_started s kind id x)
+    started_watcher kind e =
+        let t = with_watched s kind (with_first (watched s kind) id) in
+        let b = watched_bounded n s kind (with_first (watched s kind) id) h in
+        more n (with_handle t id (activated x)) (kept_in n t id (activated x) b (λ u a. absurd (never_timer x.kind kind e u)))
 
-set_referenced_bounded : (n : ℕ) (s : State) (flag : Bool) (id : Id) (x : Handle) → IsBounded n s → StartsBefore s.next_start x →
+set_referenced_bounded : (n : ℕ) (s : State) (flag : Bool) (id : Id) (x : HandleRecord) → IsBounded n s → StartsBefore s.next_start x →
     IsBounded (suc n) (ops.set_referenced s flag id x).state
-set_referenced_bounded n s flag id x h b = let y : Handle = record x { referenced = flag } in more n (with_handle s id y) (kept_in n s id y h b)
+set_referenced_bounded n s flag id x h b = more n (with_handle s id (referenced_as flag x)) (kept_in n s id (referenced_as flag x) h b)
+
+closed_bounded : (n : ℕ) (s : State) (id : Id) (x : HandleRecord) → IsBounded n s → IsBounded n (ops.closed s id x)
+closed_bounded n s id x h =
+    let off = off_bounded n s id x h in
+    let u = record (taken_off s id x) { closing = with_first s.closing id } in
+    let b : IsBounded n u = record { counts = off.counts; starts = off.starts; drawn = off.drawn; time = off.time; clock = off.clock; line = off.line } in
+    kept_in n u id (records.closed x) b (never s.next_start (records.closed x) refl)
+
+sent_bounded : (n : ℕ) (s : State) (v : Var) → IsBounded n s → IsBounded (suc n) (ops.send s (live s v)).state
+sent_bounded n s v h = at (live s v) (live_before s v h.drawn) where
+  at : (t : Option (Id × HandleRecord)) → LiveBefore s.next_start t → IsBounded (suc n) (ops.send s t).state
+  at None l = more n s h
+  at (Some t) l = found_both (send_refusal t.1) _ _ (λ (d : ops.Coded). IsBounded (suc n) d.state) (λ code e. more n s h)
+      (λ e. more n (with_handle s t.0 (records.sent t.1)) (kept_in n s t.0 (records.sent t.1) h l))
 
 op_bounded : (n : ℕ) (s : State) (x : Op) → IsBounded n s → IsBounded (suc n) (do_op s x).state
 op_bounded n s (op.Init v kind) h = init_bounded n s v kind (live s v) h
-op_bounded n s (op.Start v timeout repeat) h = on_timer_bounded n s v _ h (λ id x b. start_bounded n s timeout repeat id x h)
-op_bounded n s (op.StartWatcher v) h = on_watcher_bounded n s v _ h (λ kind id x e. start_watcher_bounded n s kind id x e h)
-op_bounded n s (op.Stop v) h = on_handle_bounded n s v _ h (λ id x b. more n (stopped s id x) (stopped_bounded n s id x h))
-op_bounded n s (op.Again v) h = on_timer_bounded n s v _ h (λ id x b. again_bounded n s id x h)
-op_bounded n s (op.SetRepeat v repeat) h = on_timer_bounded n s v _ h (λ id x b. set_repeat_bounded n s repeat id x h b)
-op_bounded n s (op.DueIn v) h = on_timer_bounded n s v _ h (λ id x b. more n s h)
-op_bounded n s (op.Ref v) h = on_handle_bounded n s v _ h (λ id x b. set_referenced_bounded n s true id x h b)
-op_bounded n s (op.Unref v) h = on_handle_bounded n s v _ h (λ id x b. set_referenced_bounded n s false id x h b)
-op_bounded n s (op.HasRef v) h = on_handle_bounded n s v _ h (λ id x b. more n s h)
-op_bounded n s (op.IsActive v) h = on_handle_bounded n s v _ h (λ id x b. more n s h)
+op_bounded n s (op.Start v timeout repeat) h = on_handle_bounded n s v start_timer_refusal _ h (λ id x b e. start_bounded n s timeout repeat id x h)
+op_bounded n s (op.StartWatcher v) h = on_handle_bounded n s v start_watcher_refusal _ h (λ id x b e. start_watcher_bounded n s id x h)
+op_bounded n s (op.Stop v) h = on_handle_bounded n s v stop_refusal _ h (λ id x b e. more n (stopped s id x) (stopped_bounded n s id x h))
+op_bounded n s (op.Again v) h = on_handle_bounded n s v again_refusal _ h (λ id x b e. again_bounded n s id x h)
+op_bounded n s (op.SetRepeat v repeat) h = on_handle_bounded n s v timer_refusal _ h (λ id x b e. set_repeat_bounded n s repeat id x h b)
+op_bounded n s (op.DueIn v) h = on_handle_bounded n s v timer_refusal _ h (λ id x b e. more n s h)
+op_bounded n s (op.Close v) h = on_handle_bounded n s v close_refusal _ h (λ id x b e. more n (ops.closed s id x) (closed_bounded n s id x h))
+op_bounded n s (op.Ref v) h = on_handle_bounded n s v no_refusal _ h (λ id x b e. set_referenced_bounded n s true id x h b)
+op_bounded n s (op.Unref v) h = on_handle_bounded n s v no_refusal _ h (λ id x b e. set_referenced_bounded n s false id x h b)
+op_bounded n s (op.HasRef v) h = on_handle_bounded n s v no_refusal _ h (λ id x b e. more n s h)
+op_bounded n s (op.IsActive v) h = on_handle_bounded n s v no_refusal _ h (λ id x b e. more n s h)
+op_bounded n s (op.IsClosing v) h = on_handle_bounded n s v no_refusal _ h (λ id x b e. more n s h)
+op_bounded n s (op.Send v) h = sent_bounded n s v h
 op_bounded n s op.StopLoop h = more n _ (flagged n s true s.idled h)
 op_bounded n s op.UpdateTime h = more n (refreshed s) (at_clock n s h)
 op_bounded n s op.Now h = more n s h
 op_bounded n s op.IsAlive h = more n s h
 op_bounded n s op.Timeout h = more n s h
+op_bounded n s op.CloseLoop h = if_keeps (λ (d : ops.Done). IsBounded (suc n) d.state) (ops.is_in_use s) _ _ (more n s h) (more n s h)
 
 -- ---- the rows
 
@@ -289,30 +341,34 @@ leave_bounded n s run timers_of.Entry h l = if_keeps (StaysBounded (suc n)) (goe
 leave_bounded n s run timers_of.Iteration h l = if_keeps (StaysBounded (suc n)) (is_default run.mode && goes s) _ _ (iteration_bounded n s run h l)
     (ends_bounded n s run h l)
 
-call_bounded : (p : Program) (n : ℕ) (s : State) (run : Run) (id : Id) (v : Var) → IsBounded (suc n) s → Counts n s.names → run.line ≤ n →
-    StaysBounded (suc n) (call p s run id v)
-call_bounded p n s run id v h counts l =
-    let x : Named = record (named s v) { calls = (named s v).calls + 1 } in
-    let t = with_named s v x in
-    placed (suc n) t (Running (record run { body = body_from p v x.calls 0 })) (renamed (suc n) s v x h (omega (arith, count_of n s v counts)))
-        (omega arith)
+counted_up : (n : ℕ) (kind : Callback) (c : CallCounts) → AreUpTo n c → AreUpTo (suc n) (counted kind c)
+counted_up n callback.Handle c h = (omega (arith, h.0), omega (arith, h.1))
+counted_up n callback.Close c h = (omega (arith, h.0), omega (arith, h.1))
 
-restarted_names : (n : ℕ) (s : State) (id : Id) (x : Handle) → Counts n s.names → Counts n (restarted s id x).names
+calls_bounded : (p : Program) (n : ℕ) (s : State) (run : Run) (kind : Callback) (v : Var) (what : Seen) → IsBounded (suc n) s → Counts n s.names →
+    run.line ≤ n → StaysBounded (suc n) (calls p s run kind v what)
+calls_bounded p n s run kind v what h counts l =
+    let x : Named = record (named s v) { calls = counted kind (named s v).calls } in
+    let t = with_named s v x in
+    placed (suc n) t (Running (record run { body = body_from p kind v (count_of kind x.calls) 0 }))
+        (renamed (suc n) s v x h (counted_up n kind (named s v).calls (counts_at n s v counts))) (omega arith)
+
+restarted_names : (n : ℕ) (s : State) (id : Id) (x : HandleRecord) → Counts n s.names → Counts n (restarted s id x).names
 restarted_names n s id x h = if_keeps (λ (t : State). Counts n t.names) (x.repeat == 0) s (started s id x x.repeat x.repeat) h h
 
 fire_bounded : (p : Program) (n : ℕ) (s : State) (run : Run) (part : TimersOf) → IsBounded n s → run.line ≤ n →
     StaysBounded (suc n) (fire p s run part)
 fire_bounded p n s run part h l = found_both (front s s.ready) _ _ (StaysBounded (suc n))
     (λ t e. let u = record s { ready = drop 1 s.ready } in
-      call_bounded p n (restarted u t.0 t.1) (record run { stage = Timers part Firing }) t.0 t.1.name
+      calls_bounded p n (restarted u t.0 t.1) (record run { stage = Timers part Firing }) callback.Handle t.1.name (seen.Call t.1.name t.0)
       (restarted_bounded n u t.0 t.1 (listed n s s.timers (drop 1 s.ready) h)) (restarted_names n u t.0 t.1 h.counts) l)
     (λ e. leave_bounded n s run part h l)
 
-collected_bounded : (n : ℕ) (s : State) (id : Id) (x : Handle) → IsBounded n s → IsBounded n (collected s id x)
+collected_bounded : (n : ℕ) (s : State) (id : Id) (x : HandleRecord) → IsBounded n s → IsBounded n (collected s id x)
 collected_bounded n s id x h =
     let ready = s.ready ++ id ∷ [] in
     let ts = drop 1 s.timers in
-    kept_in n (record s { timers = ts; ready = ready }) id (inactive x) (listed n s ts ready h) (never s.next_start (inactive x) refl)
+    kept_in n (record s { timers = ts; ready = ready }) id (records.stopped x) (listed n s ts ready h) (never s.next_start (records.stopped x) refl)
 
 timers_bounded : (p : Program) (n : ℕ) (s : State) (run : Run) (part : TimersOf) (timing : Timing) → IsBounded n s → run.line ≤ n →
     StaysBounded (suc n) (timers p s run part timing)
@@ -321,24 +377,50 @@ timers_bounded p n s run part Collecting h l = found_both (first_due s s.timers)
     (λ e. fire_bounded p n s run part h l)
 timers_bounded p n s run part Firing h l = fire_bounded p n s run part h l
 
-begin_walk_bounded : (n : ℕ) (s : State) (run : Run) (kind : WatcherKind) → IsBounded n s → run.line ≤ n →
-    StaysBounded (suc n) (begin_walk s run kind)
-begin_walk_bounded n s run kind h l = let w = all_yet (watched s kind) in run_at n (with_watched s kind w)
-    (record run { stage = stage_of kind; body = None }) (watched_bounded n s kind w h) l
+begin_walk_bounded : (n : ℕ) (s : State) (run : Run) (kind : WatcherKind) → IsBounded n s → run.line ≤ n → StaysBounded (suc n) (begin_walk s run kind)
+begin_walk_bounded n s run kind h l =
+    let w = all_yet (watched s kind) in
+    run_at n (with_watched s kind w) (record run { stage = stage_of kind; body = None }) (watched_bounded n s kind w h) l
 
-after_walk_bounded : (n : ℕ) (s : State) (run : Run) (kind : WatcherKind) → IsBounded n s → run.line ≤ n →
-    StaysBounded (suc n) (after_walk s run kind)
+closing_bounded : (n : ℕ) (s : State) (w : Walk Id) → IsBounded n s → IsBounded n (record s { closing = w })
+closing_bounded n s w h = record { counts = h.counts; starts = h.starts; drawn = h.drawn; time = h.time; clock = h.clock; line = h.line }
+
+after_walk_bounded : (n : ℕ) (s : State) (run : Run) (kind : WatcherKind) → IsBounded n s → run.line ≤ n → StaysBounded (suc n) (after_walk s run kind)
 after_walk_bounded n s run watcher.Idle h l = begin_walk_bounded n s run watcher.Prepare h l
 after_walk_bounded n s run watcher.Prepare h l = run_at n s (record run { stage = _; body = None }) h l
-after_walk_bounded n s run watcher.Check h l = run_at n s (record run { stage = Closing; body = None }) h l
+after_walk_bounded n s run watcher.Check h l =
+    run_at n (record s { closing = all_yet s.closing }) (record run { stage = Closing; body = None }) (closing_bounded n s (all_yet s.closing) h) l
+after_walk_bounded n s run watcher.Async h l = begin_walk_bounded n s run watcher.Check h l
 
-walk_bounded : (p : Program) (n : ℕ) (s : State) (run : Run) (kind : WatcherKind) → IsBounded n s → run.line ≤ n →
-    StaysBounded (suc n) (walk p s run kind)
+walk_bounded : (p : Program) (n : ℕ) (s : State) (run : Run) (kind : WatcherKind) → IsBounded n s → run.line ≤ n → StaysBounded (suc n) (walk p s run kind)
 walk_bounded p n s run kind h l = found_both (front s (watched s kind).yet) _ _ (StaysBounded (suc n))
-    (λ t e. let w = moved_on (watched s kind) t.0 in
-      let u = with_watched s kind w in
-      call_bounded p n u run t.0 t.1.name (more n u (watched_bounded n s kind w h)) (watched_names n s kind w h.counts) l)
+    (λ t e. let u = front_moved s kind t.0 in
+      calls_bounded p n u run callback.Handle t.1.name (seen.Call t.1.name t.0) (more n u (watched_bounded n s kind _ h)) (watched_names n s kind _ h.counts) l)
     (λ e. after_walk_bounded n s run kind h l)
+
+front_before : (n : ℕ) (s : State) (ids : List Id) (t : Id × HandleRecord) → front s ids ≡ Some t → Drawn n s.arena.slots → StartsBefore n t.1
+front_before n s [] t e h = cc e
+front_before n s (id ∷ ids) t e h = subst (LiveBefore n) e (live_id_before n s (Some id) h)
+
+async_bounded : (p : Program) (n : ℕ) (s : State) (run : Run) → IsBounded n s → run.line ≤ n → StaysBounded (suc n) (walk_async p s run)
+async_bounded p n s run h l = found_both (front s s.async.yet) _ _ (StaysBounded (suc n))
+    (λ t e. let u = front_moved s watcher.Async t.0 in
+      let b = watched_bounded n s watcher.Async _ h in
+      let x = with_handle u t.0 (records.woken t.1) in
+      if_keeps (StaysBounded (suc n)) t.1.pending _ _
+      (calls_bounded p n x run callback.Handle t.1.name (seen.Call t.1.name t.0) (more n x (kept_in n u t.0 (records.woken t.1) b (front_before s.next_start s s.async.yet t e h.drawn))) h.counts l)
+      (run_at n u (record run { stage = Async; body = None }) b l))
+    (λ e. after_walk_bounded n s run watcher.Async h l)
+
+freed_drawn : (n : ℕ) (last : ℕ) (id : Id) (s : Slots Content) → Drawn n s.slots → Drawn n (freed last id s).slots
+freed_drawn n last id s h = if_keeps (λ (u : Slots Content). Drawn n u.slots) (id.generation == last) _ _ (drawn_set n s.slots id.slot _ h tt) (drawn_set n s.slots id.slot _ h tt)
+
+close_bounded : (p : Program) (n : ℕ) (s : State) (run : Run) → IsBounded n s → run.line ≤ n → StaysBounded (suc n) (close_front p s run)
+close_bounded p n s run h l = found_both (front s s.closing.yet) _ _ (StaysBounded (suc n))
+    (λ t e. let u = record s { arena = freed LAST_GENERATION t.0 s.arena; closing = record s.closing { yet = drop 1 s.closing.yet } } in
+      let b : IsBounded n u = record { counts = h.counts; starts = h.starts; drawn = freed_drawn s.next_start LAST_GENERATION t.0 s.arena h.drawn; time = h.time; clock = h.clock; line = h.line } in
+      calls_bounded p n u run callback.Close t.1.name (seen.Closed t.1.name t.0) (more n u b) h.counts l)
+    (λ e. run_at n (refreshed s) (record run { stage = Timers timers_of.Iteration Collecting; body = None }) (at_clock n s h) l)
 
 stage_bounded : (p : Program) (n : ℕ) (s : State) (run : Run) (stage : Stage) → IsBounded n s → run.line ≤ n →
     StaysBounded (suc n) (stage_step p s run stage)
@@ -346,20 +428,19 @@ stage_bounded p n s run Entry h l = enter_bounded n s run h l
 stage_bounded p n s run Pending h l = begin_walk_bounded n s run watcher.Idle h l
 stage_bounded p n s run Idle h l = walk_bounded p n s run watcher.Idle h l
 stage_bounded p n s run Prepare h l = walk_bounded p n s run watcher.Prepare h l
-stage_bounded p n s run (Poll deadline) h l = if_keeps (StaysBounded (suc n)) (has_passed s.clock deadline) _ _
+stage_bounded p n s run (Poll deadline) h l = if_keeps (StaysBounded (suc n)) (may_leave s deadline) _ _
     (run_at n (refreshed s) (record run { stage = Done; body = None }) (at_clock n s h) l) tt
-stage_bounded p n s run Done h l = run_at n s (record run { stage = Async; body = None }) h l
-stage_bounded p n s run Async h l = begin_walk_bounded n s run watcher.Check h l
+stage_bounded p n s run Done h l = begin_walk_bounded n s run watcher.Async h l
+stage_bounded p n s run Async h l = async_bounded p n s run h l
 stage_bounded p n s run Check h l = walk_bounded p n s run watcher.Check h l
-stage_bounded p n s run Closing h l = run_at n (refreshed s) (record run { stage = Timers timers_of.Iteration Collecting; body = None })
-    (at_clock n s h) l
+stage_bounded p n s run Closing h l = close_bounded p n s run h l
 stage_bounded p n s run (Timers part timing) h l = timers_bounded p n s run part timing h l
 
 body_bounded : (p : Program) (n : ℕ) (s : State) (run : Run) (body : Body) (line : Option CallbackLine) → IsBounded n s → run.line ≤ n →
     StaysBounded (suc n) (body_step p s run body line)
 body_bounded p n s run body None h l = run_at n s (record run { body = None }) h l
 body_bounded p n s run body (Some line) h l = placed (suc n) (do_op s line.op).state
-    (Running (record run { body = body_from p body.name body.call (body.next + 1) })) (op_bounded n s line.op h) (omega arith)
+    (Running (record run { body = body_from p body.callback body.name body.call (body.next + 1) })) (op_bounded n s line.op h) (omega arith)
 
 main_bounded : (n : ℕ) (s : State) (line : ℕ) (x : Option MainOp) → IsBounded n s → line ≤ n → StaysBounded (suc n) (main_step s line x)
 main_bounded n s line None h l = tt
@@ -383,9 +464,13 @@ tick_bounded n s ms h = cond_both (nat_le (s.clock + ms) (2 ^ 62)) _ _ (StaysBou
         (arith, nat_tests, e) in record { counts = m.counts; starts = m.starts; drawn = m.drawn; time = m.time; clock = small; line = m.line })
     (λ e. tt)
 
+sent_to_bounded : (n : ℕ) (s : State) (v : Var) → IsBounded n s → StaysBounded (suc n) (sent_to s v)
+sent_to_bounded n s v h = if_keeps (StaysBounded (suc n)) (nat_lt v.0 (length s.names)) _ _ (sent_bounded n s v h) tt
+
 pub next_bounded : (p : Program) (n : ℕ) (s : State) (e : Event) → IsBounded n s → StaysBounded (suc n) (next p s e)
 unfolding next
 next_bounded p n s Loop h = place_bounded p n s s.place h h.line
+next_bounded p n s (Send v) h = sent_to_bounded n s v h
 next_bounded p n s (Tick ms) h = tick_bounded n s ms h
 
 state_bounded : (p : Program) (n : ℕ) (s : State) (e : Event) → IsBounded n s → IsBounded (suc n) (state_of s (next p s e))
@@ -403,13 +488,13 @@ goes_on_bounded p n s (e ∷ es) h =
     let same : suc n + length es ≡ n + length (e ∷ es) = omega arith in
     subst (λ (m : ℕ). IsBounded m (goes_on p t es)) same (goes_on_bounded p (suc n) t es (state_bounded p n s e h))
 
-fresh_names : (n : ℕ) → Counts 0 (replicate n (record { id = None; calls = 0 }))
+fresh_names : (n : ℕ) → Counts 0 (replicate n unbound)
 fresh_names n = grind (arith, elements)
 
 after_bounded : (p : Program) (es : List Event) → IsBounded (length es) (after p es)
 unfolding after
 after_bounded p es = rw (← zero-add (length es))
-    (goes_on_bounded p 0 (fresh p) es (record { counts = fresh_names (length p.on); starts = omega arith; drawn = λ k d l. absurd
+    (goes_on_bounded p 0 (fresh p) es (record { counts = fresh_names (length p.callbacks); starts = omega arith; drawn = λ k d l. absurd
     (omega arith); time = omega arith; clock = omega arith; line = omega arith }))
 
 -- after few steps the numbers fit, and the timers' keys are apart

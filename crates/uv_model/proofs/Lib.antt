@@ -1,8 +1,10 @@
 pub mod Found
+pub mod Lists
+pub mod Freeing
 pub mod Lines
 pub mod Order
 pub mod Starts
-pub mod Counts
+pub mod Calls
 pub mod Walks
 pub mod Fires
 pub mod Refusals

@@ -1,4 +1,4 @@
--- Which steps are refused: those past the main program's end, those in a poll whose deadline the clock hasn't reached, and a clock past
+-- Which steps are refused: those past the main program's end, those in a poll that can't be left yet, sends to names that aren't there, and a clock past
 -- its limit. All others are taken.
 use Rattle.std.proofs.Common.{◌≡◌, ℕ, ◌&&◌, Option, Some, None, List, slice_get, refl, if◌then◌else◌}
 use Rattle.std.proofs.lemmas.Bool.{cond_both}
@@ -8,8 +8,7 @@ use Rattle.uv_ids.specs.declared.fault.Why.TheVariants.{Blocked, Ended}
 use Rattle.uv_script.specs.declared.op.MainOp.{MainOp}
 use Rattle.uv_script.specs.declared.op.MainOp.TheVariants as main
 use Rattle.uv_script.specs.declared.op.CallbackLine.{CallbackLine}
-use Rattle.uv_script.specs.Program.{Program, on_lines}
-use Rattle.uv_model.specs.declared.handle.Handle.{Handle}
+use Rattle.uv_script.specs.Program.{Program}
 use Rattle.uv_model.specs.declared.place.Body.{Body}
 use Rattle.uv_model.specs.declared.place.Run.{Run}
 use Rattle.uv_model.specs.declared.place.Stage.{Stage}
@@ -18,10 +17,9 @@ use Rattle.uv_model.specs.declared.place.TimersOf.{TimersOf}
 use Rattle.uv_model.specs.declared.place.TimersOf.TheVariants as timers_of
 use Rattle.uv_model.specs.declared.place.Timing.{Timing}
 use Rattle.uv_model.specs.declared.place.Timing.TheVariants.{Collecting, Firing}
-use Rattle.uv_model.specs.declared.watchers.WatcherKind.{WatcherKind}
-use Rattle.uv_model.specs.declared.watchers.WatcherKind.TheVariants as watcher
+use Rattle.uv_records.specs.declared.lists.WatcherKind.{WatcherKind}
+use Rattle.uv_records.specs.declared.lists.WatcherKind.TheVariants as watcher
 use Rattle.uv_model.specs.State.{State, front, watched}
-use Rattle.uv_model.specs.Timeout.{has_passed}
 use Rattle.uv_model.specs.Next as step
 use Rattle.uv_model.specs.Next.{Next}
 use Rattle.uv_model.specs.After.{refusal_of}
@@ -49,13 +47,20 @@ after_moves : (s : State) (run : Run) (kind : WatcherKind) → IsTaken (step.aft
 after_moves s run watcher.Idle = refl
 after_moves s run watcher.Prepare = refl
 after_moves s run watcher.Check = refl
+after_moves s run watcher.Async = refl
 
 walk_moves : (p : Program) (s : State) (run : Run) (kind : WatcherKind) → IsTaken (step.walk p s run kind)
 walk_moves p s run kind = found_both (front s (watched s kind).yet) _ _ IsTaken (λ t e. refl) (λ e. after_moves s run kind)
 
+async_moves : (p : Program) (s : State) (run : Run) → IsTaken (step.walk_async p s run)
+async_moves p s run = found_both (front s s.async.yet) _ _ IsTaken (λ t e. cond_both t.1.pending _ _ IsTaken (λ d. refl) (λ d. refl)) (λ e. refl)
+
+close_moves : (p : Program) (s : State) (run : Run) → IsTaken (step.close_front p s run)
+close_moves p s run = found_both (front s s.closing.yet) _ _ IsTaken (λ t e. refl) (λ e. refl)
+
 -- why a stage's step is refused
 abbrev pub stage_refusal : State → Stage → Option Why
-stage_refusal s (stage.Poll deadline) = if has_passed s.clock deadline then None else Some Blocked
+stage_refusal s (stage.Poll deadline) = if step.may_leave s deadline then None else Some Blocked
 stage_refusal s stage.Entry = None
 stage_refusal s stage.Pending = None
 stage_refusal s stage.Idle = None
@@ -71,13 +76,13 @@ stage_moves p s run stage.Entry = enter_moves s run
 stage_moves p s run stage.Pending = refl
 stage_moves p s run stage.Idle = walk_moves p s run watcher.Idle
 stage_moves p s run stage.Prepare = walk_moves p s run watcher.Prepare
-stage_moves p s run (stage.Poll deadline) = cond_both (has_passed s.clock deadline) _ _ IsPolled (λ e. rw e refl) (λ e. rw e refl) where
+stage_moves p s run (stage.Poll deadline) = cond_both (step.may_leave s deadline) _ _ IsPolled (λ e. rw e refl) (λ e. rw e refl) where
   IsPolled : Next → Type 0
   IsPolled n = refusal_of n ≡ stage_refusal s (stage.Poll deadline)
 stage_moves p s run stage.Done = refl
-stage_moves p s run stage.Async = refl
+stage_moves p s run stage.Async = async_moves p s run
 stage_moves p s run stage.Check = walk_moves p s run watcher.Check
-stage_moves p s run stage.Closing = refl
+stage_moves p s run stage.Closing = close_moves p s run
 stage_moves p s run (stage.Timers part timing) = timers_moves p s run part timing
 
 -- the next op of a body is never refused

@@ -6,10 +6,11 @@ use Rattle.std.specs.Map.{keys_of}
 use Rattle.uv_ids.specs.Due.{due_cmp}
 use Rattle.uv_ids.specs.declared.id.Id.{Id}
 use Rattle.uv_ids.specs.declared.due.Due.{Due}
-use Rattle.uv_model.specs.declared.handle.Handle.{Handle}
-use Rattle.uv_model.specs.declared.handle.Slot.{Slot}
+use Rattle.uv_records.specs.declared.handle.HandleRecord.{HandleRecord}
+use Rattle.uv_records.specs.declared.slot.Slot.{Slot}
+use Rattle.uv_records.specs.Handles.{is_timer, begun_at}
+use Rattle.uv_model.specs.declared.content.Content.{Content}
 use Rattle.uv_model.specs.State.{State, with_handle}
-use Rattle.uv_model.specs.Handles.{is_timer}
 use Rattle.uv_model.specs.Timers.{with_timer, without_timer, due_after, taken_off, stopped, started}
 use Rattle.uv_model.specs.Bounds.{StartsBefore}
 use Rattle.uv_model.proofs.Order.{without-with_timer, another}
@@ -29,16 +30,16 @@ both_true a b e = rw e refl
 abbrev pub drawn_one : State → State
 drawn_one s = record s { next_start = s.next_start + 1 }
 
-pub started_again : (s : State) (id : Id) (h : Handle) (timeout repeat : ℕ) → IsStrictlySortedBy due_cmp (keys_of s.timers) → is_timer h.kind ≡ true →
+pub started_again : (s : State) (id : Id) (h : HandleRecord) (timeout repeat : ℕ) → IsStrictlySortedBy due_cmp (keys_of s.timers) → is_timer h.kind ≡ true →
     StartsBefore s.next_start h →
     with_handle
     (drawn_one (taken_off (record s { timers = with_timer s.timers (due_after s timeout) id }) id h))
     id
-    (record h { active = true; begun = true; due = due_after s timeout; repeat = repeat })
+    (begun_at (due_after s timeout) repeat h)
     ≡ started (stopped s id h) id h timeout repeat
 started_again s id h timeout repeat sorted timer before =
     let u = taken_off s id h in
     rw (both_true (is_timer h.kind) h.active timer) (
-    ap₂ (λ (ts : List (Due × Id)) (slots : List Slot). record u { timers = ts; next_start = s.next_start + 1; slots = slots })
+    ap₂ (λ (ts : List (Due × Id)) (slots : List (Slot Content)). record u { timers = ts; next_start = s.next_start + 1; arena = record s.arena { slots = slots } })
     (swapped s.timers h.active h.due (due_after s timeout) id sorted (before timer))
-    (sym (set-set s.slots id.slot _ _)))
+    (sym (set-set s.arena.slots id.slot _ _)))

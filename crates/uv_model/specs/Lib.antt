@@ -1,7 +1,6 @@
 pub mod Found
 pub mod Ids
-pub mod Handles
-pub mod Watchers
+pub mod Content
 pub mod State
 pub mod Timers
 pub mod Timeout

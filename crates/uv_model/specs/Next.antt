@@ -1,5 +1,5 @@
 -- One step of the loop: a place and what holds there give the line and the next place (design overview, the order of 1.45).
-use Rattle.std.specs.Prelude.{ℕ, ◌+◌, ◌^◌, List, [], ◌∷◌, ◌++◌, Bool, true, false, ◌&&◌, not, drop, Option, Some, None, slice_get, nat_le, if◌then◌else◌}
+use Rattle.std.specs.Prelude.{ℕ, ◌+◌, ◌^◌, List, [], ◌∷◌, ◌++◌, Bool, true, false, ◌&&◌, not, drop, Option, Some, None, slice_get, length, nat_le, nat_lt, ◌||◌, if◌then◌else◌}
 use Rattle.uv_ids.specs.declared.id.Id.{Id}
 use Rattle.uv_ids.specs.declared.id.Var.{Var}
 use Rattle.uv_ids.specs.declared.due.Due.{Due}
@@ -8,16 +8,18 @@ use Rattle.uv_ids.specs.declared.phase.Mode.TheVariants.{Default, Once, Nowait}
 use Rattle.uv_ids.specs.declared.phase.Phase.{Phase}
 use Rattle.uv_ids.specs.declared.phase.Phase.TheVariants as phase
 use Rattle.uv_ids.specs.declared.event.Event.{Event}
-use Rattle.uv_ids.specs.declared.event.Event.TheVariants.{Loop, Tick}
+use Rattle.uv_ids.specs.declared.event.Event.TheVariants.{Loop, Send, Tick}
 use Rattle.uv_ids.specs.declared.seen.Seen.{Seen}
 use Rattle.uv_ids.specs.declared.seen.Seen.TheVariants as seen
+use Rattle.uv_ids.specs.declared.seen.Callback.{Callback}
+use Rattle.uv_ids.specs.declared.seen.Callback.TheVariants as callback
 use Rattle.uv_ids.specs.declared.seen.Site.TheVariants as site
 use Rattle.uv_ids.specs.declared.fault.Why.{Why}
 use Rattle.uv_ids.specs.declared.fault.Why.TheVariants.{Blocked, Ended, Range}
 use Rattle.uv_script.specs.declared.op.MainOp.{MainOp}
 use Rattle.uv_script.specs.declared.op.MainOp.TheVariants as main
 use Rattle.uv_script.specs.declared.op.CallbackLine.{CallbackLine}
-use Rattle.uv_script.specs.Program.{Program, on_lines, is_for}
+use Rattle.uv_script.specs.Program.{Program, lines_in, is_for}
 use Rattle.uv_model.specs.declared.place.Body.{Body}
 use Rattle.uv_model.specs.declared.place.Run.{Run}
 use Rattle.uv_model.specs.declared.place.Stage.{Stage}
@@ -28,17 +30,19 @@ use Rattle.uv_model.specs.declared.place.Timing.{Timing}
 use Rattle.uv_model.specs.declared.place.Timing.TheVariants.{Collecting, Firing}
 use Rattle.uv_model.specs.declared.place.Place.{Place}
 use Rattle.uv_model.specs.declared.place.Place.TheVariants.{Main, Running}
-use Rattle.uv_model.specs.declared.watchers.WatcherKind.{WatcherKind}
-use Rattle.uv_model.specs.declared.watchers.WatcherKind.TheVariants as watcher
-use Rattle.uv_model.specs.declared.handle.Handle.{Handle}
+use Rattle.uv_records.specs.declared.handle.HandleRecord.{HandleRecord}
+use Rattle.uv_records.specs.declared.lists.WatcherKind.{WatcherKind}
+use Rattle.uv_records.specs.declared.lists.WatcherKind.TheVariants as watcher
+use Rattle.uv_records.specs.Handles as records
+use Rattle.uv_records.specs.Lists.{phase_of}
+use Rattle.uv_records.specs.Slots.{freed}
+use Rattle.uv_records.specs.Walks.{Walk, all_yet, moved_on}
 use Rattle.uv_model.specs.Found.{found_or}
 use Rattle.uv_model.specs.Ids.{has_some}
-use Rattle.uv_model.specs.Handles.{inactive}
-use Rattle.uv_model.specs.Watchers.{all_yet, moved_on, phase_of}
-use Rattle.uv_model.specs.State.{State, held, with_id, with_handle, named, with_named, front, watched, with_watched, refreshed}
+use Rattle.uv_model.specs.State.{State, live, LAST_GENERATION, handle, with_id, with_handle, named, with_named, count_of, counted, front, watched, with_watched, refreshed}
 use Rattle.uv_model.specs.Timers.{restarted}
-use Rattle.uv_model.specs.Timeout.{is_alive, poll_timeout, deadline_of, has_passed}
-use Rattle.uv_model.specs.Ops.{do_op}
+use Rattle.uv_model.specs.Timeout.{is_alive, has_pending, poll_timeout, deadline_of, has_passed}
+use Rattle.uv_model.specs.Ops.{do_op, send}
 
 -- what an event does: the state after it and the line that it appends, if it appends one; or why it is refused
 pub data Next : Type 0 where
@@ -53,12 +57,12 @@ next_line call number [] = None
 next_line call number (line ∷ lines) = if is_for call line.call then Some number else next_line call (number + 1) lines
 
 -- the body of a call, if it has a line from this one on
-abbrev pub body_at : Var → ℕ → Option ℕ → Option Body
-body_at v call None = None
-body_at v call (Some next) = Some (record { name = v; call = call; next = next })
+abbrev pub body_at : Callback → Var → ℕ → Option ℕ → Option Body
+body_at kind v call None = None
+body_at kind v call (Some next) = Some (record { callback = kind; name = v; call = call; next = next })
 
-abbrev pub body_from : Program → Var → ℕ → ℕ → Option Body
-body_from p v call number = body_at v call (next_line call number (drop number (on_lines p v)))
+abbrev pub body_from : Program → Callback → Var → ℕ → ℕ → Option Body
+body_from p kind v call number = body_at kind v call (next_line call number (drop number (lines_in p kind v)))
 
 -- ---- where a run stands
 
@@ -101,9 +105,12 @@ begin_poll s run =
     let timeout = poll_timeout s run.mode in
     Moves (at s run (Poll (deadline_of s timeout))) (Some (seen.Poll timeout))
 
--- the poll is left when its deadline has passed; on leaving it the time is refreshed
+-- the poll is left when its deadline has passed, or an async handle was sent to; on leaving it the time is refreshed
+abbrev pub may_leave : State → Option ℕ → Bool
+may_leave s deadline = has_passed s.clock deadline || has_pending s
+
 abbrev pub poll : State → Run → Option ℕ → Next
-poll s run deadline = if has_passed s.clock deadline then begins (refreshed s) run Done phase.Done else Refuses Blocked
+poll s run deadline = if may_leave s deadline then begins (refreshed s) run Done phase.Done else Refuses Blocked
 
 -- the timers of an iteration begin with the time refreshed
 abbrev pub begin_timers : State → Run → Next
@@ -114,13 +121,17 @@ abbrev pub leave_timers : State → Run → TimersOf → Next
 leave_timers s run timers_of.Entry = if goes s then new_iteration s run else ends s run
 leave_timers s run timers_of.Iteration = if is_default run.mode && goes s then new_iteration s run else ends s run
 
--- the callback of a handle begins: one call more of its name
-abbrev pub call : Program → State → Run → Id → Var → Next
-call p s run id v =
-    let count = (named s v).calls + 1 in
+-- a callback begins, with this line: one call more of its name
+abbrev pub calls : Program → State → Run → Callback → Var → Seen → Next
+calls p s run kind v line =
+    let counts = counted kind (named s v).calls in
     Moves
-    (record (with_named s v (record (named s v) { calls = count })) { place = Running (record run { body = body_from p v count 0 }) })
-    (Some (seen.Call v id))
+    (record (with_named s v (record (named s v) { calls = counts })) { place = Running (record run { body = body_from p kind v (count_of kind counts) 0 }) })
+    (Some line)
+
+-- the callback of a handle begins
+abbrev pub call : Program → State → Run → Id → Var → Next
+call p s run id v = calls p s run callback.Handle v (seen.Call v id)
 
 -- the front of the ready list is called, started again where it repeats; with none the section is over
 abbrev pub fire : Program → State → Run → TimersOf → Next
@@ -129,13 +140,13 @@ fire p s run part = found_or (front s s.ready)
     (leave_timers s run part)
 
 -- the first timer, if it is due
-abbrev pub first_due : State → List (Due × Id) → Option (Id × Handle)
+abbrev pub first_due : State → List (Due × Id) → Option (Id × HandleRecord)
 first_due s [] = None
-first_due s (t ∷ ts) = if nat_le t.0.at s.time then with_id t.1 (held s t.1) else None
+first_due s (t ∷ ts) = if nat_le t.0.at s.time then with_id t.1 (handle s t.1) else None
 
 -- the first timer leaves the order of timers for the end of the ready list, inactive
-abbrev pub collected : State → Id → Handle → State
-collected s id h = with_handle (record s { timers = drop 1 s.timers; ready = s.ready ++ id ∷ [] }) id (inactive h)
+abbrev pub collected : State → Id → HandleRecord → State
+collected s id h = with_handle (record s { timers = drop 1 s.timers; ready = s.ready ++ id ∷ [] }) id (records.stopped h)
 
 -- all due timers are collected, one a step and without a line, before the first is called
 abbrev pub collect : Program → State → Run → TimersOf → Next
@@ -147,27 +158,54 @@ abbrev pub timers : Program → State → Run → TimersOf → Timing → Next
 timers p s run part Collecting = collect p s run part
 timers p s run part Firing = fire p s run part
 
--- the place of a section of watchers
+-- the place of a section that walks handles of a kind
 abbrev pub stage_of : WatcherKind → Stage
 stage_of watcher.Idle = Idle
 stage_of watcher.Prepare = Prepare
 stage_of watcher.Check = Check
+stage_of watcher.Async = Async
 
--- a section of watchers begins: its whole list is yet to run
+-- such a section begins: its whole list is yet to run
 abbrev pub begin_walk : State → Run → WatcherKind → Next
 begin_walk s run kind = begins (with_watched s kind (all_yet (watched s kind))) run (stage_of kind) (phase_of kind)
 
--- after a section of watchers
+-- so does the closing section
+abbrev pub begin_closing : State → Run → Next
+begin_closing s run = begins (record s { closing = all_yet s.closing }) run Closing phase.Closing
+
+-- after such a section
 abbrev pub after_walk : State → Run → WatcherKind → Next
 after_walk s run watcher.Idle = begin_walk s run watcher.Prepare
 after_walk s run watcher.Prepare = begin_poll s run
-after_walk s run watcher.Check = begins s run Closing phase.Closing
+after_walk s run watcher.Check = begin_closing s run
+after_walk s run watcher.Async = begin_walk s run watcher.Check
 
--- the front of those yet to run goes to the end of the list and is called; with none the section is over
+-- the front of those yet to run goes to the end of the list
+abbrev pub front_moved : State → WatcherKind → Id → State
+front_moved s kind id = with_watched s kind (moved_on (watched s kind) id (drop 1 (watched s kind).yet))
+
+-- it is called; with none the section is over
 abbrev pub walk : Program → State → Run → WatcherKind → Next
 walk p s run kind = found_or (front s (watched s kind).yet)
-    (λ t. call p (with_watched s kind (moved_on (watched s kind) t.0)) run t.0 t.1.name)
+    (λ t. call p (front_moved s kind t.0) run t.0 t.1.name)
     (after_walk s run kind)
+
+-- an async handle that was sent to is called, and isn't pending any more; another one is passed by without a line
+abbrev pub walk_async : Program → State → Run → Next
+walk_async p s run = found_or (front s s.async.yet)
+    (λ t.
+      let moved = front_moved s watcher.Async t.0 in
+      if t.1.pending then call p (with_handle moved t.0 (records.woken t.1)) run t.0 t.1.name
+      else Moves (at moved run Async) None)
+    (after_walk s run watcher.Async)
+
+-- the front of the closing handles leaves its list, its slot is freed and its close callback begins; with none the timers begin
+abbrev pub close_front : Program → State → Run → Next
+close_front p s run = found_or (front s s.closing.yet)
+    (λ t.
+      let gone = record s { arena = freed LAST_GENERATION t.0 s.arena; closing = record s.closing { yet = drop 1 s.closing.yet } } in
+      calls p gone run callback.Close t.1.name (seen.Closed t.1.name t.0))
+    (begin_timers s run)
 
 -- what a run does next where no body is under way
 abbrev pub stage_step : Program → State → Run → Stage → Next
@@ -176,10 +214,10 @@ stage_step p s run Pending = begin_walk s run watcher.Idle
 stage_step p s run Idle = walk p s run watcher.Idle
 stage_step p s run Prepare = walk p s run watcher.Prepare
 stage_step p s run (Poll deadline) = poll s run deadline
-stage_step p s run Done = begins s run Async phase.Async
-stage_step p s run Async = begin_walk s run watcher.Check
+stage_step p s run Done = begin_walk s run watcher.Async
+stage_step p s run Async = walk_async p s run
 stage_step p s run Check = walk p s run watcher.Check
-stage_step p s run Closing = begin_timers s run
+stage_step p s run Closing = close_front p s run
 stage_step p s run (Timers part timing) = timers p s run part timing
 
 -- a body under way does its next op
@@ -188,12 +226,12 @@ body_step p s run body None = Moves (record s { place = Running (record run { bo
 body_step p s run body (Some line) =
     let done = do_op s line.op in
     Moves
-    (record done.state { place = Running (record run { body = body_from p body.name body.call (body.next + 1) }) })
-    (Some (seen.Op (site.On body.name body.next) done.answer))
+    (record done.state { place = Running (record run { body = body_from p body.callback body.name body.call (body.next + 1) }) })
+    (Some (seen.Op (site.In body.callback body.name body.next) done.answer))
 
 abbrev pub run_step : Program → State → Run → Option Body → Next
 run_step p s run None = stage_step p s run run.stage
-run_step p s run (Some body) = body_step p s run body (slice_get (on_lines p body.name) body.next)
+run_step p s run (Some body) = body_step p s run body (slice_get (lines_in p body.callback body.name) body.next)
 
 -- the main program does its next line; a default run refreshes the time as it begins
 abbrev pub main_step : State → ℕ → Option MainOp → Next
@@ -217,7 +255,14 @@ LATEST = 2 ^ 62
 abbrev pub tick : State → ℕ → Next
 tick s ms = if nat_le (s.clock + ms) LATEST then Moves (record s { clock = s.clock + ms }) (Some (seen.Tick ms)) else Refuses Range
 
+-- an async handle is sent to from outside, by its name
+abbrev pub sent_to : State → Var → Next
+sent_to s v =
+    let done = send s (live s v) in
+    if nat_lt v.0 (length s.names) then Moves done.state (Some (seen.Send v done.code)) else Refuses Range
+
 -- one step
 unfoldable pub next : Program → State → Event → Next
 next p s Loop = loop_step p s s.place
+next p s (Send v) = sent_to s v
 next p s (Tick ms) = tick s ms

@@ -1,21 +1,30 @@
 -- What each op answers and changes. Of several answers the first that holds is given; a refusal changes nothing.
 use Rattle.std.specs.Prelude.{ℕ, Bool, true, false, Option, Some, None, if◌then◌else◌}
+use Rattle.std.specs.List.{list_any}
 use Rattle.uv_ids.specs.declared.id.Id.{Id}
 use Rattle.uv_ids.specs.declared.id.Var.{Var}
 use Rattle.uv_ids.specs.declared.phase.Kind.{Kind}
 use Rattle.uv_ids.specs.declared.code.Code.{Code}
-use Rattle.uv_ids.specs.declared.code.Code.TheVariants.{Ok as Success, Ebound, Efull, Estale, Ekind, Einval}
+use Rattle.uv_ids.specs.declared.code.Code.TheVariants.{Ok as Success, Ebusy, Ebound, Efull, Estale}
 use Rattle.uv_ids.specs.declared.code.Answer.{Answer}
 use Rattle.uv_ids.specs.declared.code.Answer.TheVariants as answer
 use Rattle.uv_script.specs.declared.op.Op.{Op}
 use Rattle.uv_script.specs.declared.op.Op.TheVariants as op
-use Rattle.uv_model.specs.declared.handle.Handle.{Handle}
-use Rattle.uv_model.specs.declared.watchers.WatcherKind.{WatcherKind}
+use Rattle.uv_records.specs.declared.handle.HandleRecord.{HandleRecord}
+use Rattle.uv_records.specs.declared.lists.WatcherKind.{WatcherKind}
+use Rattle.uv_records.specs.declared.slot.Slot.{Slot}
+use Rattle.uv_records.specs.Handles as records
+use Rattle.uv_records.specs.Handles.{inited, activated, referenced_as, repeating, is_async}
+use Rattle.uv_records.specs.Lists.{watcher_kind}
+use Rattle.uv_records.specs.Refusals.{no_refusal, timer_refusal, start_timer_refusal, start_watcher_refusal, stop_refusal, again_refusal, close_refusal, send_refusal}
+use Rattle.uv_records.specs.Slots.{next_free, taken}
+use Rattle.uv_records.specs.Walks.{with_first, with_last}
+use Rattle.uv_model.specs.declared.content.Content.{Content}
+use Rattle.uv_model.specs.declared.content.Content.TheVariants as content
+use Rattle.uv_model.specs.Content.{is_used}
 use Rattle.uv_model.specs.Found.{found_or}
-use Rattle.uv_model.specs.Handles.{new_handle, is_timer}
-use Rattle.uv_model.specs.Watchers.{with_watcher, watcher_kind}
-use Rattle.uv_model.specs.State.{State, live, named, unused_slot, with_new, with_named, with_handle, watched, with_watched, refreshed}
-use Rattle.uv_model.specs.Timers.{stopped, started, restarted, due_in}
+use Rattle.uv_model.specs.State.{State, live, named, with_named, with_handle, watched, with_watched, refreshed}
+use Rattle.uv_model.specs.Timers.{taken_off, stopped, started, restarted, due_in}
 use Rattle.uv_model.specs.Timeout.{is_alive, backend_timeout}
 
 -- the state after an op, and its answer
@@ -35,79 +44,117 @@ succeeds s = says s (answer.Code Success)
 
 -- ---- handles
 
+-- an async handle goes to the end of its list as it is made, a handle of another kind on none
+abbrev pub listed_last : State → Kind → Id → State
+listed_last s kind id = if is_async kind then record s { async = with_last s.async id } else s
+
+-- the state with a new handle of a name, under an id that is free
+abbrev pub with_new : State → Var → Kind → Id → State
+with_new s v kind id = with_named
+    (listed_last (record s { arena = taken id (content.Handle (inited v kind)) s.arena }) kind id)
+    v
+    (record (named s v) { id = Some id })
+
 -- `init v KIND`: EBOUND if v is live; EFULL if no slot is left; else v is bound to a new handle, whose id is the answer
-abbrev pub init_in : State → Var → Kind → Option Id → Done
-init_in s v kind None = refuses s Efull
-init_in s v kind (Some id) = record {
-  state = with_named (with_new s (new_handle v kind)) v (record (named s v) { id = Some id });
-  answer = answer.Id id;
-}
-
-abbrev pub init : State → Var → Kind → Option (Id × Handle) → Done
+abbrev pub init : State → Var → Kind → Option (Id × HandleRecord) → Done
 init s v kind (Some bound) = refuses s Ebound
-init s v kind None = init_in s v kind (unused_slot s)
+init s v kind None = found_or (next_free s.arena) (λ id. record { state = with_new s v kind id; answer = answer.Id id }) (refuses s Efull)
 
--- an op on a handle: ESTALE if v isn't live
-abbrev pub on_handle : State → Option (Id × Handle) → (Id → Handle → Done) → Done
-on_handle s None f = refuses s Estale
-on_handle s (Some t) f = f t.0 t.1
+-- an op on a handle: ESTALE if v isn't live; else refused as its record says, or done
+abbrev pub on_handle : State → Option (Id × HandleRecord) → (HandleRecord → Option Code) → (Id → HandleRecord → Done) → Done
+on_handle s None why f = refuses s Estale
+on_handle s (Some t) why f = found_or (why t.1) (refuses s) (f t.0 t.1)
 
 -- `stop v`: stopped
-abbrev pub stop : State → Id → Handle → Done
+abbrev pub stop : State → Id → HandleRecord → Done
 stop s id h = succeeds (stopped s id h)
 
+-- a handle that is closed: stopped, no send pending, and at the front of the closing list
+abbrev pub closed : State → Id → HandleRecord → State
+closed s id h =
+    let off = taken_off s id h in
+    with_handle (record off { closing = with_first s.closing id }) id (records.closed h)
+
+-- `close v`: closed
+abbrev pub close : State → Id → HandleRecord → Done
+close s id h = succeeds (closed s id h)
+
 -- `ref v`, `unref v`: the handle is referenced or not
-abbrev pub set_referenced : State → Bool → Id → Handle → Done
-set_referenced s flag id h = succeeds (with_handle s id (record h { referenced = flag }))
+abbrev pub set_referenced : State → Bool → Id → HandleRecord → Done
+set_referenced s flag id h = succeeds (with_handle s id (referenced_as flag h))
 
 -- ---- watchers
 
--- an op on a watcher: ESTALE if v isn't live; EKIND if it is a timer
-abbrev pub on_watcher : State → Option (Id × Handle) → (WatcherKind → Id → Handle → Done) → Done
-on_watcher s t f = on_handle s t (λ id h. found_or (watcher_kind h.kind) (λ kind. f kind id h) (refuses s Ekind))
-
 -- a watcher that is started: active, and at the front of its list
-abbrev pub watcher_started : State → WatcherKind → Id → Handle → State
-watcher_started s kind id h = with_handle (with_watched s kind (with_watcher (watched s kind) id)) id (record h { active = true })
+abbrev pub watcher_started : State → WatcherKind → Id → HandleRecord → State
+watcher_started s kind id h = with_handle (with_watched s kind (with_first (watched s kind) id)) id (activated h)
 
 -- `start v`: started, if it isn't active
-abbrev pub start_watcher : State → WatcherKind → Id → Handle → Done
-start_watcher s kind id h = succeeds (if h.active then s else watcher_started s kind id h)
+abbrev pub start_watcher : State → Id → HandleRecord → Done
+start_watcher s id h = succeeds (if h.active then s else found_or (watcher_kind h.kind) (λ kind. watcher_started s kind id h) s)
+
+-- ---- async handles
+
+-- the state after a send, and the code that it answers
+pub record Coded : Type 0 where
+  pub state : State
+  pub code : Code
+
+-- `send v`: ESTALE if v isn't live; else refused as its record says, or a callback is pending
+abbrev pub send : State → Option (Id × HandleRecord) → Coded
+send s None = record { state = s; code = Estale }
+send s (Some t) = found_or (send_refusal t.1)
+    (λ code. record { state = s; code = code })
+    (record { state = with_handle s t.0 (records.sent t.1); code = Success })
+
+-- the same as an op
+abbrev pub says_code : Coded → Done
+says_code c = record { state = c.state; answer = answer.Code c.code }
 
 -- ---- timers
 
--- an op on a timer: ESTALE if v isn't live; EKIND if it isn't a timer
-abbrev pub on_timer : State → Option (Id × Handle) → (Id → Handle → Done) → Done
-on_timer s t f = on_handle s t (λ id h. if is_timer h.kind then f id h else refuses s Ekind)
-
 -- `start v T R`: stopped, and then started
-abbrev pub start : State → ℕ → ℕ → Id → Handle → Done
+abbrev pub start : State → ℕ → ℕ → Id → HandleRecord → Done
 start s timeout repeat id h = succeeds (started (stopped s id h) id h timeout repeat)
 
--- `again v`: EINVAL if it was never started; else stopped, and started again if it repeats
-abbrev pub again : State → Id → Handle → Done
-again s id h = if h.begun then succeeds (restarted (stopped s id h) id h) else refuses s Einval
+-- `again v`: stopped, and started again if it repeats
+abbrev pub again : State → Id → HandleRecord → Done
+again s id h = succeeds (restarted (stopped s id h) id h)
 
 -- `repeat v n`: its repeat is n from now on; when it is due stays
-abbrev pub set_repeat : State → ℕ → Id → Handle → Done
-set_repeat s n id h = succeeds (with_handle s id (record h { repeat = n }))
+abbrev pub set_repeat : State → ℕ → Id → HandleRecord → Done
+set_repeat s n id h = succeeds (with_handle s id (repeating n h))
+
+-- ---- the loop
+
+-- some slot holds a handle
+abbrev pub is_in_use : State → Bool
+is_in_use s = list_any (λ (slot : Slot Content). is_used slot.content) s.arena.slots
+
+-- `closeloop`: EBUSY if some slot holds a handle; else ok. It changes nothing (uv_loop_close)
+abbrev pub close_loop : State → Done
+close_loop s = if is_in_use s then refuses s Ebusy else succeeds s
 
 -- ---- any op
 
 abbrev pub do_op : State → Op → Done
 do_op s (op.Init v kind) = init s v kind (live s v)
-do_op s (op.Start v timeout repeat) = on_timer s (live s v) (start s timeout repeat)
-do_op s (op.StartWatcher v) = on_watcher s (live s v) (start_watcher s)
-do_op s (op.Stop v) = on_handle s (live s v) (stop s)
-do_op s (op.Again v) = on_timer s (live s v) (again s)
-do_op s (op.SetRepeat v n) = on_timer s (live s v) (set_repeat s n)
-do_op s (op.DueIn v) = on_timer s (live s v) (λ id h. says s (answer.Number (due_in s h)))
-do_op s (op.Ref v) = on_handle s (live s v) (set_referenced s true)
-do_op s (op.Unref v) = on_handle s (live s v) (set_referenced s false)
-do_op s (op.HasRef v) = on_handle s (live s v) (λ id h. says s (answer.Flag h.referenced))
-do_op s (op.IsActive v) = on_handle s (live s v) (λ id h. says s (answer.Flag h.active))
+do_op s (op.Start v timeout repeat) = on_handle s (live s v) start_timer_refusal (start s timeout repeat)
+do_op s (op.StartWatcher v) = on_handle s (live s v) start_watcher_refusal (start_watcher s)
+do_op s (op.Stop v) = on_handle s (live s v) stop_refusal (stop s)
+do_op s (op.Again v) = on_handle s (live s v) again_refusal (again s)
+do_op s (op.SetRepeat v n) = on_handle s (live s v) timer_refusal (set_repeat s n)
+do_op s (op.DueIn v) = on_handle s (live s v) timer_refusal (λ id h. says s (answer.Number (due_in s h)))
+do_op s (op.Close v) = on_handle s (live s v) close_refusal (close s)
+do_op s (op.Ref v) = on_handle s (live s v) no_refusal (set_referenced s true)
+do_op s (op.Unref v) = on_handle s (live s v) no_refusal (set_referenced s false)
+do_op s (op.HasRef v) = on_handle s (live s v) no_refusal (λ id h. says s (answer.Flag h.referenced))
+do_op s (op.IsActive v) = on_handle s (live s v) no_refusal (λ id h. says s (answer.Flag h.active))
+do_op s (op.IsClosing v) = on_handle s (live s v) no_refusal (λ id h. says s (answer.Flag h.closing))
+do_op s (op.Send v) = says_code (send s (live s v))
 do_op s op.StopLoop = succeeds (record s { stop_flag = true })
 do_op s op.UpdateTime = succeeds (refreshed s)
 do_op s op.Now = says s (answer.Number s.time)
 do_op s op.IsAlive = says s (answer.Flag (is_alive s))
 do_op s op.Timeout = says s (answer.Timeout (backend_timeout s))
+do_op s op.CloseLoop = close_loop s

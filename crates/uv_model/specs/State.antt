@@ -1,35 +1,42 @@
--- The state of a loop: plain lists, a map in the order of timers, and numbers.
-use Rattle.std.specs.Prelude.{ℕ, ◌==◌, Bool, false, List, [], ◌∷◌, ◌++◌, length, Option, Some, None, unwrap_or, option_and_then, nat_lt, replicate, slice_get, slice_set, if◌then◌else◌}
+-- The state of a loop: slots, plain lists, a map in the order of timers, and numbers.
+use Rattle.std.specs.Prelude.{ℕ, ◌+◌, ◌^◌, ◌-◌, ◌==◌, Bool, true, false, List, [], ◌∷◌, length, Option, Some, None, unwrap_or, option_and_then, replicate, slice_get, slice_set}
 use Rattle.uv_ids.specs.declared.id.Id.{Id}
 use Rattle.uv_ids.specs.declared.id.Var.{Var}
 use Rattle.uv_ids.specs.declared.due.Due.{Due}
+use Rattle.uv_ids.specs.declared.seen.Callback.{Callback}
+use Rattle.uv_ids.specs.declared.seen.Callback.TheVariants as callback
+use Rattle.uv_records.specs.declared.handle.HandleRecord.{HandleRecord}
+use Rattle.uv_records.specs.declared.lists.WatcherKind.{WatcherKind}
+use Rattle.uv_records.specs.declared.lists.WatcherKind.TheVariants as watcher
+use Rattle.uv_records.specs.Slots.{Slots, unused_slots, held, with_held}
+use Rattle.uv_records.specs.Walks.{Walk, nothing_listed}
 use Rattle.uv_script.specs.Program.{Program}
-use Rattle.uv_model.specs.declared.handle.Handle.{Handle}
-use Rattle.uv_model.specs.declared.handle.Content.TheVariants as content
-use Rattle.uv_model.specs.declared.handle.Slot.{Slot}
-use Rattle.uv_model.specs.declared.handle.Named.{Named}
+use Rattle.uv_model.specs.declared.content.Content.{Content}
+use Rattle.uv_model.specs.declared.content.Content.TheVariants as content
+use Rattle.uv_model.specs.declared.named.Counts.{Counts}
+use Rattle.uv_model.specs.declared.named.Named.{Named}
 use Rattle.uv_model.specs.declared.place.Place.{Place}
 use Rattle.uv_model.specs.declared.place.Place.TheVariants.{Main}
-use Rattle.uv_model.specs.declared.watchers.WatcherKind.{WatcherKind}
-use Rattle.uv_model.specs.declared.watchers.WatcherKind.TheVariants as watcher
-use Rattle.uv_model.specs.Handles.{handle_in}
-use Rattle.uv_model.specs.Watchers.{Watched, none_watched}
+use Rattle.uv_model.specs.Content.{handle_in}
 
 pub record State : Type 0 where
   -- where the loop stands
   pub place : Place
-  -- for each name, what it is bound to and how often it was called
+  -- for each name, what it is bound to and how often its callbacks were called
   pub names : List Named
-  -- the slots of the arena that were ever used, by number
-  pub slots : List Slot
+  -- the slots that hold the handles
+  pub arena : Slots Content
   -- the active timers, by due time and then by start number
   pub timers : List (Due × Id)
   -- the timers that a section collected and will call, front first
   pub ready : List Id
-  -- the active idle, prepare and check handles
-  pub idle : Watched
-  pub prepare : Watched
-  pub check : Watched
+  -- the active idle, prepare and check handles, and the async ones
+  pub idle : Walk Id
+  pub prepare : Walk Id
+  pub check : Walk Id
+  pub async : Walk Id
+  -- the handles whose close callback is still to come
+  pub closing : Walk Id
   -- the loop's cached time in ms (uv_now)
   pub time : ℕ
   -- the clock in ms
@@ -41,21 +48,34 @@ pub record State : Type 0 where
   -- an idle handle was active as the iteration began
   pub idled : Bool
 
+-- how many slots the arena has (own)
+abbrev pub CAPACITY : ℕ
+CAPACITY = 1024
+
+-- the generation at which a slot that is freed is retired (own)
+abbrev pub LAST_GENERATION : ℕ
+LAST_GENERATION = 4294967295
+
+abbrev pub never_called : Counts
+never_called = record { handle = 0; close = 0 }
+
 -- a name that is bound to nothing and was never called
 abbrev pub unbound : Named
-unbound = record { id = None; calls = 0 }
+unbound = record { id = None; calls = never_called }
 
 -- the state in which every script begins
 abbrev pub fresh : Program → State
 fresh p = record {
   place = Main 0;
-  names = replicate (length p.on) unbound;
-  slots = [];
+  names = replicate (length p.callbacks) unbound;
+  arena = unused_slots Content CAPACITY;
   timers = [];
   ready = [];
-  idle = none_watched;
-  prepare = none_watched;
-  check = none_watched;
+  idle = nothing_listed Id;
+  prepare = nothing_listed Id;
+  check = nothing_listed Id;
+  async = nothing_listed Id;
+  closing = nothing_listed Id;
   time = 0;
   clock = 0;
   next_start = 0;
@@ -63,31 +83,29 @@ fresh p = record {
   idled = false;
 }
 
--- how many slots the arena has
-abbrev pub CAPACITY : ℕ
-CAPACITY = 1024
-
--- the id of the next unused slot, while there is one
-abbrev pub unused_slot : State → Option Id
-unused_slot s = if nat_lt (length s.slots) CAPACITY then Some (record { slot = length s.slots; generation = 0 }) else None
-
--- the state with a handle in a slot that was never used
-abbrev pub with_new : State → Handle → State
-with_new s h = record s { slots = s.slots ++ record { generation = 0; content = Some (content.Handle h) } ∷ [] }
-
--- the handle in a slot, if the slot still has the generation of the id
-abbrev pub held_in : Id → Slot → Option Handle
-held_in id slot = if slot.generation == id.generation then handle_in slot.content else None
+-- ---- handles
 
 -- the handle of an id whose slot still holds it
-abbrev pub held : State → Id → Option Handle
-held s id = option_and_then (held_in id) (slice_get s.slots id.slot)
+abbrev pub handle : State → Id → Option HandleRecord
+handle s id = handle_in (held s.arena.slots id)
 
 -- the state with this record in the slot of an id
-abbrev pub with_handle : State → Id → Handle → State
-with_handle s id h = record s { slots = slice_set s.slots id.slot (record { generation = id.generation; content = Some (content.Handle h) }) }
+abbrev pub with_handle : State → Id → HandleRecord → State
+with_handle s id h = record s { arena = record s.arena { slots = with_held s.arena.slots id (content.Handle h) } }
 
--- what a name is bound to, and its count
+-- an id with its handle
+abbrev pub with_id : Id → Option HandleRecord → Option (Id × HandleRecord)
+with_id id None = None
+with_id id (Some h) = Some (id, h)
+
+-- the front of a list of handles
+abbrev pub front : State → List Id → Option (Id × HandleRecord)
+front s [] = None
+front s (id ∷ ids) = with_id id (handle s id)
+
+-- ---- names
+
+-- what a name is bound to, and its counts
 abbrev pub named : State → Var → Named
 named s v = unwrap_or (slice_get s.names v.0) unbound
 
@@ -95,33 +113,38 @@ named s v = unwrap_or (slice_get s.names v.0) unbound
 abbrev pub with_named : State → Var → Named → State
 with_named s v n = record s { names = slice_set s.names v.0 n }
 
+-- how often one of a name's callbacks was called
+abbrev pub count_of : Callback → Counts → ℕ
+count_of callback.Handle c = c.handle
+count_of callback.Close c = c.close
+
+-- one call more
+abbrev pub counted : Callback → Counts → Counts
+counted callback.Handle c = record c { handle = c.handle + 1 }
+counted callback.Close c = record c { close = c.close + 1 }
+
 -- the id and the handle of a name that is live: its slot still holds the handle that the name was bound to
-abbrev pub with_id : Id → Option Handle → Option (Id × Handle)
-with_id id None = None
-with_id id (Some h) = Some (id, h)
-
-abbrev pub live_id : State → Option Id → Option (Id × Handle)
+abbrev pub live_id : State → Option Id → Option (Id × HandleRecord)
 live_id s None = None
-live_id s (Some id) = with_id id (held s id)
+live_id s (Some id) = with_id id (handle s id)
 
-abbrev pub live : State → Var → Option (Id × Handle)
+abbrev pub live : State → Var → Option (Id × HandleRecord)
 live s v = live_id s (named s v).id
 
--- the front of a list of handles
-abbrev pub front : State → List Id → Option (Id × Handle)
-front s [] = None
-front s (id ∷ ids) = with_id id (held s id)
+-- ---- lists
 
--- the active handles of a kind of watcher
-abbrev pub watched : State → WatcherKind → Watched
+-- the handles of a kind that a section walks
+abbrev pub watched : State → WatcherKind → Walk Id
 watched s watcher.Idle = s.idle
 watched s watcher.Prepare = s.prepare
 watched s watcher.Check = s.check
+watched s watcher.Async = s.async
 
-abbrev pub with_watched : State → WatcherKind → Watched → State
+abbrev pub with_watched : State → WatcherKind → Walk Id → State
 with_watched s watcher.Idle w = record s { idle = w }
 with_watched s watcher.Prepare w = record s { prepare = w }
 with_watched s watcher.Check w = record s { check = w }
+with_watched s watcher.Async w = record s { async = w }
 
 -- the loop's time is set to the clock (uv_update_time)
 abbrev pub refreshed : State → State

@@ -5,14 +5,23 @@ use Rattle.uv_ids.specs.declared.id.Id.{Id}
 use Rattle.uv_ids.specs.declared.due.Due.{Due}
 use Rattle.uv_ids.specs.declared.phase.Mode.{Mode}
 use Rattle.uv_ids.specs.declared.phase.Mode.TheVariants.{Default, Once, Nowait}
-use Rattle.uv_model.specs.declared.handle.Slot.{Slot}
-use Rattle.uv_model.specs.Handles.{content_keeps}
+use Rattle.uv_records.specs.declared.slot.Slot.{Slot}
+use Rattle.uv_model.specs.declared.content.Content.{Content}
+use Rattle.uv_model.specs.Content.{content_keeps, content_pends}
 use Rattle.uv_model.specs.Ids.{has_some}
 use Rattle.uv_model.specs.State.{State}
 
--- the loop is alive: some handle is active and referenced (uv_loop_alive)
+-- a handle closes whose close callback is still to come
+abbrev pub has_closing : State → Bool
+has_closing s = has_some s.closing.list || has_some s.closing.yet
+
+-- the loop is alive: some handle is active and referenced, or closes (uv_loop_alive)
 abbrev pub is_alive : State → Bool
-is_alive s = list_any (λ (slot : Slot). content_keeps slot.content) s.slots
+is_alive s = list_any (λ (slot : Slot Content). content_keeps slot.content) s.arena.slots || has_closing s
+
+-- some async handle was sent to, and not called since
+abbrev pub has_pending : State → Bool
+has_pending s = list_any (λ (slot : Slot Content). content_pends slot.content) s.arena.slots
 
 -- an idle handle is active
 abbrev pub has_idle : State → Bool
@@ -28,13 +37,14 @@ until_first time [] = None
 until_first time (t ∷ ts) = Some (min (t.0.at - time) LONGEST_POLL)
 
 -- how long a poll might wait where these are the active timers (uv_backend_timeout): not at all with the stop flag set, with
--- nothing alive, or with an active idle handle; else until the nearest active timer, referenced or not; none is infinite
+-- nothing alive, with an active idle handle, or with a closing handle; else until the nearest active timer, referenced or not; none is infinite
 abbrev pub backend_timeout_by : State → List (Due × Id) → Option ℕ
 backend_timeout_by s timers =
     if s.stop_flag then Some 0
     else (if not (is_alive s) then Some 0
     else (if has_idle s then Some 0
-    else until_first s.time timers))
+    else (if has_closing s then Some 0
+    else until_first s.time timers)))
 
 -- how long the poll of a run may wait (design overview): not at all in nowait, nor in once where an idle handle was active as
 -- the iteration began (own)

@@ -5,10 +5,10 @@ use Rattle.std.specs.BTreeMap.{insert_entry, is_at}
 use Rattle.uv_ids.specs.Due.{due_cmp}
 use Rattle.uv_ids.specs.declared.id.Id.{Id}
 use Rattle.uv_ids.specs.declared.due.Due.{Due}
-use Rattle.uv_model.specs.declared.handle.Handle.{Handle}
-use Rattle.uv_model.specs.Ids.{without_id}
-use Rattle.uv_model.specs.Handles.{inactive, is_timer}
-use Rattle.uv_model.specs.Watchers.{without_watcher}
+use Rattle.uv_records.specs.declared.handle.HandleRecord.{HandleRecord}
+use Rattle.uv_records.specs.Handles as records
+use Rattle.uv_records.specs.Handles.{is_timer, begun_at}
+use Rattle.uv_model.specs.Ids.{without_id, walk_without_id}
 use Rattle.uv_model.specs.State.{State, with_handle}
 
 -- the timers with one more, at its place in the order
@@ -19,38 +19,39 @@ with_timer timers due id = insert_entry due_cmp timers due id
 abbrev pub without_timer : List (Due × Id) → Due → List (Due × Id)
 without_timer timers due = remove_entry (is_at (due_cmp due)) timers
 
--- a handle off the order of timers, the ready list and the lists of watchers
-abbrev pub taken_off : State → Id → Handle → State
+-- a handle off the order of timers, the ready list and the lists of its kind
+abbrev pub taken_off : State → Id → HandleRecord → State
 taken_off s id h = record s {
   timers = if is_timer h.kind && h.active then without_timer s.timers h.due else s.timers;
   ready = without_id s.ready id;
-  idle = without_watcher s.idle id;
-  prepare = without_watcher s.prepare id;
-  check = without_watcher s.check id;
+  idle = walk_without_id s.idle id;
+  prepare = walk_without_id s.prepare id;
+  check = walk_without_id s.check id;
+  async = walk_without_id s.async id;
 }
 
 -- a handle that is stopped: off each of these, and inactive
-abbrev pub stopped : State → Id → Handle → State
-stopped s id h = with_handle (taken_off s id h) id (inactive h)
+abbrev pub stopped : State → Id → HandleRecord → State
+stopped s id h = with_handle (taken_off s id h) id (records.stopped h)
 
 -- when a timer is due that is started now: no later than the largest time (uv_timer_start)
 abbrev pub due_after : State → ℕ → Due
 due_after s timeout = record { at = min (s.time + timeout) (2 ^ 64 - 1); start = s.next_start }
 
 -- a stopped timer that is started: it gets its due time, the next start number and its repeat, and is active
-abbrev pub started : State → Id → Handle → ℕ → ℕ → State
+abbrev pub started : State → Id → HandleRecord → ℕ → ℕ → State
 started s id h timeout repeat = with_handle
     (record s {
       timers = with_timer s.timers (due_after s timeout) id;
       next_start = s.next_start + 1;
     })
     id
-    (record h { active = true; begun = true; due = due_after s timeout; repeat = repeat })
+    (begun_at (due_after s timeout) repeat h)
 
 -- a stopped timer that repeats is started again with its repeat as timeout
-abbrev pub restarted : State → Id → Handle → State
+abbrev pub restarted : State → Id → HandleRecord → State
 restarted s id h = if h.repeat == 0 then s else started s id h h.repeat h.repeat
 
 -- in how many ms a timer is due (uv_timer_get_due_in): 0 where it is due already, and where it isn't active
-abbrev pub due_in : State → Handle → ℕ
+abbrev pub due_in : State → HandleRecord → ℕ
 due_in s h = if h.active then h.due.at - s.time else 0

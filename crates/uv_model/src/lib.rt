@@ -2,16 +2,18 @@
 //! lists and an ordered map.
 #![tactic(auto)]
 
-mod handle;
+mod arena;
+mod content;
 mod ids;
 mod machine;
+mod named;
 mod place;
 mod plain;
 mod state;
-mod watchers;
+mod walked;
 
-pub use handle::{Content, Handle, Named, Slot};
+pub use content::Content;
 pub use machine::{Machine, Outcome, STEPS};
+pub use named::{Counts, Named};
 pub use place::{Body, Place, Run, Stage, TimersOf, Timing};
 pub use plain::PlainLoop;
-pub use watchers::WatcherKind;

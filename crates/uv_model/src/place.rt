@@ -1,6 +1,6 @@
 //! Where the loop stands.
 
-use uv_ids::{Mode, Var};
+use uv_ids::{Callback, Mode, Var};
 
 /// Where the loop stands.
 #[derive(Clone, Copy, Debug, PartialEq, Eq)]
@@ -61,9 +61,10 @@ pub enum Timing {
 /// A callback's body: the call that it belongs to, and its next line.
 #[derive(Clone, Copy, Debug, PartialEq, Eq)]
 pub struct Body {
+    pub callback: Callback,
     pub name: Var,
-    /// Which call of the name it is, from 1.
+    /// Which call of that callback it is, from 1.
     pub call: u32,
-    /// The next line of the name's callback, from 0.
+    /// The next line of that callback, from 0.
     pub next: usize,
 }

@@ -1,14 +1,17 @@
 //! The plain loop's state: lists, and the timers in an ordered map.
-ghost use Rattle.std.specs.Prelude.{◌≡◌, ◌<◌, ◌+◌, ◌++◌, ◌∷◌, [], ◌^◌, IfOk, OnOk, OnErr, length, None, Some, true};
-ghost use Rattle.uv_model.specs.State.{fresh, unused_slot, held, with_handle, named, with_named, live, front, refreshed, CAPACITY};
+ghost use Rattle.std.specs.Prelude.{◌≡◌, ◌<◌, ◌^◌, IfOk, OnOk, OnErr, None, Some};
+ghost use Rattle.uv_model.specs.State.{fresh, handle, with_handle, named, with_named, live, front, refreshed};
 
-use crate::handle::{Content, Handle, Named, Slot};
+use crate::arena::Arena;
+use crate::content::{Content, handle_in};
+use crate::named::Named;
 use crate::place::Place;
-use crate::watchers::Watchers;
+use crate::walked::Walked;
 use std::alloc::{AllocError, Global};
 use std::collections::BTreeMap;
 use std::marker::Model;
 use uv_ids::{Due, Id, Var};
+use uv_records::HandleRecord;
 use uv_script::Script;
 
 mod ops;
@@ -18,23 +21,22 @@ mod timeout;
 mod timers;
 mod walks;
 
-/// How many slots the arena has (own).
-const CAPACITY: usize = 1024;
-
 /// Everything that a step reads and changes.
 #[derive(Drop)]
 pub struct LoopState {
     place: Place,
     names: Vec<Named>,
-    /// The slots of the arena that were ever used, by number.
-    slots: Vec<Slot>,
+    arena: Arena,
     /// The active timers.
     timers: BTreeMap<Due, Id>,
     /// The timers that a section collected and will call, front first.
     ready: Vec<Id>,
-    idle: Watchers,
-    prepare: Watchers,
-    check: Watchers,
+    idle: Walked,
+    prepare: Walked,
+    check: Walked,
+    asyncs: Walked,
+    /// The handles whose close callback is still to come.
+    closing: Walked,
     /// The loop's cached time in ms (uv_now).
     time: u64,
     /// The clock in ms.
@@ -55,12 +57,14 @@ impl Model for LoopState {
     ghost view = { λ a. record {
       place = a.place;
       names = a.names.items;
-      slots = a.slots.items;
+      arena = a.arena;
       timers = a.timers.entries;
       ready = a.ready.items;
       idle = a.idle;
       prepare = a.prepare;
       check = a.check;
+      async = a.asyncs;
+      closing = a.closing;
       time = a.time;
       clock = a.clock;
       next_start = a.next_start;
@@ -74,17 +78,18 @@ impl LoopState {
     pub fn fresh(alloc: Global, script: &Script) -> Result<LoopState, AllocError>
         ensures { IfOk result (λ state. state ≡ fresh script.now) }
     {
-        let unbound = Named { id: None, calls: 0 };
-        let names = vec![in alloc; unbound; script.names().len()]?;
+        let names = vec![in alloc; Named::unbound(); script.names().len()]?;
         Ok(LoopState {
             place: Place::Main(0),
             names,
-            slots: Vec::new(alloc),
+            arena: Arena::new(alloc),
             timers: BTreeMap::new(alloc),
             ready: Vec::new(alloc),
-            idle: Watchers::new(alloc),
-            prepare: Watchers::new(alloc),
-            check: Watchers::new(alloc),
+            idle: Walked::new(alloc),
+            prepare: Walked::new(alloc),
+            check: Walked::new(alloc),
+            asyncs: Walked::new(alloc),
+            closing: Walked::new(alloc),
             time: 0,
             clock: 0,
             next_start: 0,
@@ -93,49 +98,24 @@ impl LoopState {
         })
     }
 
-    /// The id of the next unused slot, while there is one.
-    fn unused_slot(&self) -> Option<Id>
-        ensures id { result ≡ unused_slot self.now }
-    {
-        let used = self.slots.len();
-        if used >= CAPACITY {
-            return None;
-        }
-        Some(Id {
-            slot: used as u32,
-            generation: 0,
-        })
-    }
-
     /// The handle of an id whose slot still holds it.
-    fn held(&self, id: Id) -> Option<Handle>
-        ensures { result ≡ held self.now id }
+    fn handle(&self, id: Id) -> Option<HandleRecord>
+        ensures { result ≡ handle self.now id }
     {
-        let slot = self.slots.get(id.slot as usize)?;
-        if slot.generation == id.generation {
-            slot.handle()
-        } else {
-            None
-        }
+        handle_in(self.arena.held(id))
     }
 
-    fn set_handle(&mut self, id: Id, handle: Handle)
+    fn set_handle(&mut self, id: Id, handle: HandleRecord)
         ensures { self.new ≡ with_handle self.old id handle }
     {
-        if let Some(slot) = self.slots.get_mut(id.slot as usize) {
-            *slot = Slot {
-                generation: id.generation,
-                content: Some(Content::Handle(handle)),
-            };
-        }
+        self.arena.set(id, Content::Handle(handle));
     }
 
-    /// What a name is bound to, and its count.
+    /// What a name is bound to, and its counts.
     fn named(&self, name: Var) -> Named
         ensures { result ≡ named self.now name }
     {
-        let unbound = Named { id: None, calls: 0 };
-        self.names.get(name.0 as usize).copied().unwrap_or(unbound)
+        self.names.get(name.0 as usize).copied().unwrap_or(Named::unbound())
     }
 
     fn set_named(&mut self, name: Var, named: Named)
@@ -147,20 +127,20 @@ impl LoopState {
     }
 
     /// The id and the handle of a name that is live.
-    fn live(&self, name: Var) -> Option<(Id, Handle)>
+    fn live(&self, name: Var) -> Option<(Id, HandleRecord)>
         ensures { result ≡ live self.now name }
     {
         let id = self.named(name).id?;
-        let handle = self.held(id)?;
+        let handle = self.handle(id)?;
         Some((id, handle))
     }
 
     /// The front of a list of handles.
-    fn front(&self, ids: &[Id]) -> Option<(Id, Handle)>
+    fn front(&self, ids: &[Id]) -> Option<(Id, HandleRecord)>
         ensures { result ≡ front self.now ids.now }
     {
         let id = *ids.first()?;
-        let handle = self.held(id)?;
+        let handle = self.handle(id)?;
         Some((id, handle))
     }
 

@@ -1,17 +1,19 @@
 //! The ops.
-ghost use Rattle.std.specs.Prelude.{◌≡◌, IfOk, IfErr, OnErr, Some, true};
-ghost use Rattle.uv_ids.specs.declared.id.Id.{Id};
-ghost use Rattle.uv_model.specs.declared.handle.Handle.{Handle};
-ghost use Rattle.uv_model.specs.Handles.{is_timer};
+ghost use Rattle.std.specs.Prelude.{◌≡◌, IfOk, OnOk, OnErr, Some};
+ghost use Rattle.uv_records.specs.Handles.{inited};
+ghost use Rattle.uv_records.specs.Refusals.{no_refusal};
+ghost use Rattle.uv_records.specs.Slots.{next_free, taken};
+ghost use Rattle.uv_model.specs.declared.content.Content.TheVariants as content;
 ghost use Rattle.uv_model.specs.State.{live};
-ghost use Rattle.uv_model.specs.Ops.{Done, do_op, on_handle, on_timer, refuses, set_referenced};
+ghost use Rattle.uv_model.specs.Ops.{do_op, on_handle, set_referenced, listed_last, closed, send};
 ghost use Rattle.uv_model.specs.Bounds.{CanStep};
 
-use crate::handle::{Content, Handle, Named, Slot};
+use crate::content::Content;
+use crate::named::Named;
 use crate::state::LoopState;
-use crate::watchers::WatcherKind;
 use std::alloc::AllocError;
 use uv_ids::{Answer, Code, Id, Kind, Var};
+use uv_records::{HandleRecord, WatcherKind};
 use uv_script::Op;
 
 impl LoopState {
@@ -29,18 +31,46 @@ impl LoopState {
             Op::Again(name) => self.again(name),
             Op::SetRepeat(name, repeat) => Ok(self.set_repeat(name, repeat)),
             Op::DueIn(name) => Ok(self.due(name)),
+            Op::Close(name) => self.close(name),
             Op::Ref(name) => Ok(self.set_referenced(name, true)),
             Op::Unref(name) => Ok(self.set_referenced(name, false)),
             Op::HasRef(name) => Ok(self.has_ref(name)),
             Op::IsActive(name) => Ok(self.is_active(name)),
+            Op::IsClosing(name) => Ok(self.is_closing(name)),
+            Op::Send(name) => Ok(Answer::Code(self.send(name))),
             Op::StopLoop => Ok(self.stop_loop()),
             Op::UpdateTime => Ok(self.update_time()),
             Op::Now => Ok(Answer::Number(self.time)),
             Op::IsAlive => Ok(Answer::Flag(self.is_alive())),
             Op::Timeout => Ok(Answer::Timeout(self.backend_timeout())),
+            Op::CloseLoop => Ok(self.close_loop()),
         }
     }
 
+    /// Takes a slot for a new handle, and lists it if it is an async one. Without memory nothing changes.
+    #[tactic(auto, using(crate::proofs::Lists::popped))]
+    fn add(&mut self, name: Var, kind: Kind, id: Id) -> Result<(), AllocError>
+        requires { next_free self.old.arena ≡ Some id }
+        ensures ok {
+            OnOk result (self.new ≡ listed_last (record self.old { arena = taken id (content.Handle (inited name kind)) self.old.arena }) kind id)
+        }
+        ensures err { OnErr result (self.new ≡ self.old) }
+    {
+        let content = Content::Handle(HandleRecord::new(name, kind));
+        if !matches!(kind, Kind::Async) {
+            return self.arena.take(id, content);
+        }
+        self.asyncs.push_back(id)?;
+        match self.arena.take(id, content) {
+            Ok(()) => Ok(()),
+            Err(refused) => {
+                self.asyncs.pop_back();
+                Err(refused)
+            }
+        }
+    }
+
+    /// Makes a handle, to which the name is bound (uv_timer_init and the like).
     fn init(&mut self, name: Var, kind: Kind) -> Result<Answer, AllocError>
         ensures ok { IfOk result (λ answer. do_op self.old (Op.Init name kind) ≡ record { state = self.new; answer = answer }) }
         ensures err { OnErr result (self.new ≡ self.old) }
@@ -48,34 +78,19 @@ impl LoopState {
         if self.live(name).is_some() {
             return Ok(Answer::Code(Code::Ebound));
         }
-        let Some(id) = self.unused_slot() else {
+        let Some(id) = self.arena.next_free() else {
             return Ok(Answer::Code(Code::Efull));
         };
-        self.slots.push(Slot {
-            generation: 0,
-            content: Some(Content::Handle(Handle::new(name, kind))),
-        })?;
-        let calls = self.named(name).calls;
+        self.add(name, kind, id)?;
+        let named = self.named(name);
         self.set_named(
             name,
             Named {
                 id: Some(id),
-                calls,
+                ..named
             },
         );
         Ok(Answer::Id(id))
-    }
-
-    /// The id and the handle of a name that is a live timer; else the code that an op on a timer answers.
-    fn live_timer(&self, name: Var) -> Result<(Id, Handle), Code>
-        ensures timer { IfOk result (λ t. (live self.now name ≡ Some t) × (is_timer t.1.kind ≡ true)) }
-        ensures none { IfErr result (λ code. (f : Id → Handle → Done) → on_timer self.now (live self.now name) f ≡ refuses self.now code) }
-    {
-        match self.live(name) {
-            None => Err(Code::Estale),
-            Some((id, handle)) if handle.is_timer() => Ok((id, handle)),
-            Some(_) => Err(Code::Ekind),
-        }
     }
 
     /// Starts a timer; both times in ms (uv_timer_start).
@@ -84,10 +99,12 @@ impl LoopState {
         ensures ok { IfOk result (λ answer. do_op self.old (Op.Start name timeout repeat) ≡ record { state = self.new; answer = answer }) }
         ensures err { OnErr result (self.new ≡ self.old) }
     {
-        let (id, handle) = match self.live_timer(name) {
-            Ok(timer) => timer,
-            Err(code) => return Ok(Answer::Code(code)),
+        let Some((id, handle)) = self.live(name) else {
+            return Ok(Answer::Code(Code::Estale));
         };
+        if let Some(code) = handle.start_timer_refusal() {
+            return Ok(Answer::Code(code));
+        }
         self.start_timer(id, handle, timeout, repeat)?;
         Ok(Answer::Code(Code::Ok))
     }
@@ -100,10 +117,13 @@ impl LoopState {
         let Some((id, handle)) = self.live(name) else {
             return Ok(Answer::Code(Code::Estale));
         };
-        let Some(kind) = WatcherKind::from_kind(handle.kind) else {
-            return Ok(Answer::Code(Code::Ekind));
-        };
-        if !handle.active {
+        if let Some(code) = handle.start_watcher_refusal() {
+            return Ok(Answer::Code(code));
+        }
+        if handle.active {
+            return Ok(Answer::Code(Code::Ok));
+        }
+        if let Some(kind) = WatcherKind::from_kind(handle.kind) {
             self.start_watching(kind, id, handle)?;
         }
         Ok(Answer::Code(Code::Ok))
@@ -116,6 +136,9 @@ impl LoopState {
         let Some((id, handle)) = self.live(name) else {
             return Answer::Code(Code::Estale);
         };
+        if let Some(code) = handle.stop_refusal() {
+            return Answer::Code(code);
+        }
         self.stop_handle(id, handle);
         Answer::Code(Code::Ok)
     }
@@ -126,12 +149,11 @@ impl LoopState {
         ensures ok { IfOk result (λ answer. do_op self.old (Op.Again name) ≡ record { state = self.new; answer = answer }) }
         ensures err { OnErr result (self.new ≡ self.old) }
     {
-        let (id, handle) = match self.live_timer(name) {
-            Ok(timer) => timer,
-            Err(code) => return Ok(Answer::Code(code)),
+        let Some((id, handle)) = self.live(name) else {
+            return Ok(Answer::Code(Code::Estale));
         };
-        if !handle.begun {
-            return Ok(Answer::Code(Code::Einval));
+        if let Some(code) = handle.again_refusal() {
+            return Ok(Answer::Code(code));
         }
         self.restart_timer(id, handle)?;
         Ok(Answer::Code(Code::Ok))
@@ -141,39 +163,66 @@ impl LoopState {
     fn set_repeat(&mut self, name: Var, repeat: u64) -> Answer
         ensures { do_op self.old (Op.SetRepeat name repeat) ≡ record { state = self.new; answer = result } }
     {
-        match self.live_timer(name) {
-            Ok((id, handle)) => {
-                self.set_handle(id, Handle { repeat, ..handle });
-                Answer::Code(Code::Ok)
-            }
-            Err(code) => Answer::Code(code),
+        let Some((id, handle)) = self.live(name) else {
+            return Answer::Code(Code::Estale);
+        };
+        if let Some(code) = handle.timer_refusal() {
+            return Answer::Code(code);
         }
+        self.set_handle(id, handle.repeating(repeat));
+        Answer::Code(Code::Ok)
     }
 
     /// In how many ms a timer is due (uv_timer_get_due_in).
     fn due(&self, name: Var) -> Answer
         ensures { do_op self.now (Op.DueIn name) ≡ record { state = self.now; answer = result } }
     {
-        match self.live_timer(name) {
-            Ok((_, handle)) => Answer::Number(self.due_in(handle)),
-            Err(code) => Answer::Code(code),
+        let Some((_, handle)) = self.live(name) else {
+            return Answer::Code(Code::Estale);
+        };
+        match handle.timer_refusal() {
+            Some(code) => Answer::Code(code),
+            None => Answer::Number(self.due_in(handle)),
         }
+    }
+
+    /// Closes a handle: stopped, and at the front of the closing list. Without memory nothing changes.
+    fn close_handle(&mut self, id: Id, handle: HandleRecord) -> Result<(), AllocError>
+        ensures ok { OnOk result (self.new ≡ closed self.old id handle) }
+        ensures err { OnErr result (self.new ≡ self.old) }
+    {
+        self.closing.push_front(id)?;
+        self.take_off(id, handle);
+        self.set_handle(id, handle.closed());
+        Ok(())
+    }
+
+    /// Closes a handle (uv_close).
+    fn close(&mut self, name: Var) -> Result<Answer, AllocError>
+        ensures ok { IfOk result (λ answer. do_op self.old (Op.Close name) ≡ record { state = self.new; answer = answer }) }
+        ensures err { OnErr result (self.new ≡ self.old) }
+    {
+        let Some((id, handle)) = self.live(name) else {
+            return Ok(Answer::Code(Code::Estale));
+        };
+        if let Some(code) = handle.close_refusal() {
+            return Ok(Answer::Code(code));
+        }
+        self.close_handle(id, handle)?;
+        Ok(Answer::Code(Code::Ok))
     }
 
     /// References a handle, or doesn't (uv_ref, uv_unref).
     fn set_referenced(&mut self, name: Var, referenced: bool) -> Answer
-        ensures { on_handle self.old (live self.old name) (set_referenced self.old referenced) ≡ record { state = self.new; answer = result } }
+        ensures {
+            on_handle self.old (live self.old name) no_refusal (set_referenced self.old referenced)
+            ≡ record { state = self.new; answer = result }
+        }
     {
         let Some((id, handle)) = self.live(name) else {
             return Answer::Code(Code::Estale);
         };
-        self.set_handle(
-            id,
-            Handle {
-                referenced,
-                ..handle
-            },
-        );
+        self.set_handle(id, handle.referenced_as(referenced));
         Answer::Code(Code::Ok)
     }
 
@@ -197,6 +246,30 @@ impl LoopState {
         }
     }
 
+    /// Whether a handle closes (uv_is_closing).
+    fn is_closing(&self, name: Var) -> Answer
+        ensures { do_op self.now (Op.IsClosing name) ≡ record { state = self.now; answer = result } }
+    {
+        match self.live(name) {
+            None => Answer::Code(Code::Estale),
+            Some((_, handle)) => Answer::Flag(handle.closing),
+        }
+    }
+
+    /// Has an async handle called (uv_async_send).
+    pub(super) fn send(&mut self, name: Var) -> Code
+        ensures { send self.old (live self.old name) ≡ record { state = self.new; code = result } }
+    {
+        let Some((id, handle)) = self.live(name) else {
+            return Code::Estale;
+        };
+        if let Some(code) = handle.send_refusal() {
+            return code;
+        }
+        self.set_handle(id, handle.sent());
+        Code::Ok
+    }
+
     /// Has the run end before its next iteration (uv_stop).
     fn stop_loop(&mut self) -> Answer
         ensures { do_op self.old Op.StopLoop ≡ record { state = self.new; answer = result } }
@@ -211,5 +284,16 @@ impl LoopState {
     {
         self.refresh();
         Answer::Code(Code::Ok)
+    }
+
+    /// Whether the loop could be closed (uv_loop_close).
+    fn close_loop(&self) -> Answer
+        ensures { do_op self.now Op.CloseLoop ≡ record { state = self.now; answer = result } }
+    {
+        if self.arena.is_in_use() {
+            Answer::Code(Code::Ebusy)
+        } else {
+            Answer::Code(Code::Ok)
+        }
     }
 }

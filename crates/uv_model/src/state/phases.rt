@@ -1,18 +1,18 @@
 //! The phases of a run, and one step.
 ghost use Rattle.std.specs.Prelude.{◌≡◌, ◌<◌, ◌+◌, ◌^◌, IfOk, IfSome, OnErr, length, slice_get, drop, None, Some};
-ghost use Rattle.uv_script.specs.Program.{on_lines, is_for};
+ghost use Rattle.uv_script.specs.Program.{lines_in, is_for};
 ghost use Rattle.uv_model.specs.State.{named};
-ghost use Rattle.uv_model.specs.Bounds.{CanStep};
-ghost use Rattle.uv_model.specs.Next.{Moves, next_line, body_at, body_from, begins, new_iteration, ends, goes, enter, begin_poll, poll, begin_timers, leave_timers, call, fire, first_due, collect, timers, stage_step, body_step, main_step, tick, next, LATEST};
+ghost use Rattle.uv_model.specs.Bounds.{CanStep, AreBelow};
+ghost use Rattle.uv_model.specs.Next.{Moves, next_line, body_at, body_from, begins, new_iteration, ends, goes, enter, begin_poll, poll, begin_timers, leave_timers, calls, call, fire, first_due, collect, timers, stage_step, body_step, main_step, sent_to, tick, next};
 ghost use Rattle.uv_model.specs.Steps.{Steps, Falls};
 
-use crate::handle::{Handle, Named};
+use crate::named::Named;
 use crate::machine::Outcome;
 use crate::place::{Body, Place, Run, Stage, TimersOf, Timing};
 use crate::state::LoopState;
-use crate::watchers::WatcherKind;
 use std::alloc::AllocError;
-use uv_ids::{Event, Fault, Id, Mode, Phase, Seen, Site, Var, Why};
+use uv_ids::{Callback, Event, Fault, Id, Mode, Phase, Seen, Site, Var, Why};
+use uv_records::{HandleRecord, WatcherKind};
 use uv_script::{CallbackLine, MainOp, Script};
 
 /// A step that appended a line.
@@ -31,13 +31,18 @@ fn is_for(line: CallbackLine, call: u32) -> bool
 
 /// The body of a call, if it has a line from this one on.
 #[tactic(auto, using(crate::proofs::Lines::steps))]
-fn body_from(script: &Script, name: Var, call: u32, from: usize) -> Option<Body>
-    ensures { result ≡ body_from script.now name call from }
+fn body_from(script: &Script, kind: Callback, name: Var, call: u32, from: usize) -> Option<Body>
+    ensures { result ≡ body_from script.now kind name call from }
 {
-    let lines = script.on_lines(name);
+    let lines = script.lines_in(kind, name);
     for next in from..lines.len() {
         if is_for(lines[next], call) {
-            return Some(Body { name, call, next });
+            return Some(Body {
+                callback: kind,
+                name,
+                call,
+                next,
+            });
         }
     }
     None
@@ -115,7 +120,7 @@ impl LoopState {
     fn poll(&mut self, run: Run, deadline: Option<u64>) -> Result<Outcome, Why>
         ensures { Falls (poll self.old run deadline) self.old result self.new }
     {
-        if !self.has_passed(deadline) {
+        if !self.may_leave(deadline) {
             return Err(Why::Blocked);
         }
         self.refresh();
@@ -123,7 +128,7 @@ impl LoopState {
     }
 
     /// Begins the timers of an iteration.
-    fn begin_timers(&mut self, run: Run) -> Outcome
+    pub(super) fn begin_timers(&mut self, run: Run) -> Outcome
         ensures { begin_timers self.old run ≡ Moves self.new result.seen }
     {
         self.refresh();
@@ -146,17 +151,32 @@ impl LoopState {
         }
     }
 
-    /// Begins the callback of a handle.
-    pub(super) fn call(&mut self, script: &Script, run: Run, id: Id, name: Var) -> Outcome
-        requires { (named self.old name).calls < 2 ^ 31 }
-        ensures { call script.now self.old run id name ≡ Moves self.new result.seen }
+    /// Begins a callback, with its line: one call more of its name.
+    pub(super) fn calls(
+        &mut self,
+        script: &Script,
+        run: Run,
+        kind: Callback,
+        name: Var,
+        line: Seen,
+    ) -> Outcome
+        requires { AreBelow (2 ^ 31) (named self.old name).calls }
+        ensures { calls script.now self.old run kind name line ≡ Moves self.new result.seen }
     {
         let named = self.named(name);
-        let calls = named.calls + 1;
+        let calls = named.calls.counted(kind);
         self.set_named(name, Named { calls, ..named });
-        let body = body_from(script, name, calls, 0);
+        let body = body_from(script, kind, name, calls.of(kind), 0);
         self.place = Place::Running(Run { body, ..run });
-        seen(Seen::Call(name, id))
+        seen(line)
+    }
+
+    /// Begins the callback of a handle.
+    pub(super) fn call(&mut self, script: &Script, run: Run, id: Id, name: Var) -> Outcome
+        requires { AreBelow (2 ^ 31) (named self.old name).calls }
+        ensures { call script.now self.old run id name ≡ Moves self.new result.seen }
+    {
+        self.calls(script, run, Callback::Handle, name, Seen::Call(name, id))
     }
 
     /// Calls the front of the ready list, or leaves the section. A timer that repeats is started again first. Without memory
@@ -180,7 +200,7 @@ impl LoopState {
     }
 
     /// The first timer, if it is due.
-    fn first_due(&self) -> Option<(Id, Handle)>
+    fn first_due(&self) -> Option<(Id, HandleRecord)>
         ensures due { result ≡ first_due self.now self.now.timers }
         ensures some { IfSome result (λ t. 0 < length self.now.timers) }
     {
@@ -188,7 +208,7 @@ impl LoopState {
         if due.at > self.time {
             return None;
         }
-        let handle = self.held(*id)?;
+        let handle = self.handle(*id)?;
         Some((*id, handle))
     }
 
@@ -204,7 +224,7 @@ impl LoopState {
         };
         self.ready.push(id)?;
         self.timers.pop_first();
-        self.set_handle(id, handle.inactive());
+        self.set_handle(id, handle.stopped());
         self.place = Place::Running(Run {
             stage: Stage::Timers(part, Timing::Collecting),
             body: None,
@@ -244,10 +264,10 @@ impl LoopState {
             Stage::Idle => self.in_walk(script, run, WatcherKind::Idle),
             Stage::Prepare => self.in_walk(script, run, WatcherKind::Prepare),
             Stage::Poll(deadline) => self.poll(run, deadline).map_err(Fault::Refused),
-            Stage::Done => Ok(self.begin(run, Stage::Async, Phase::Async)),
-            Stage::Async => Ok(self.begin_walk(run, WatcherKind::Check)),
+            Stage::Done => Ok(self.begin_walk(run, WatcherKind::Async)),
+            Stage::Async => self.in_async(script, run),
             Stage::Check => self.in_walk(script, run, WatcherKind::Check),
-            Stage::Closing => Ok(self.begin_timers(run)),
+            Stage::Closing => self.in_closing(script, run),
             Stage::Timers(part, timing) => self.in_timers(script, run, part, timing),
         }
     }
@@ -256,18 +276,20 @@ impl LoopState {
     fn in_body(&mut self, script: &Script, run: Run, body: Body) -> Result<Outcome, Fault>
         requires able { CanStep self.old }
         requires line { run.line < 2 ^ 63 }
-        ensures { Steps (body_step script.now self.old run body (slice_get (on_lines script.now body.name) body.next)) self.old result self.new }
+        ensures { Steps (body_step script.now self.old run body (slice_get (lines_in script.now body.callback body.name) body.next)) self.old result self.new }
     {
-        let Some(line) = script.on_lines(body.name).get(body.next).copied() else {
+        let lines = script.lines_in(body.callback, body.name);
+        let Some(line) = lines.get(body.next).copied() else {
             self.place = Place::Running(Run { body: None, ..run });
             return Ok(Outcome { seen: None });
         };
         let Ok(answer) = self.do_op(line.op) else {
             return Err(Fault::Memory);
         };
-        let rest = body_from(script, body.name, body.call, body.next + 1);
+        let rest = body_from(script, body.callback, body.name, body.call, body.next + 1);
         self.place = Place::Running(Run { body: rest, ..run });
-        Ok(seen(Seen::Op(Site::On(body.name, body.next), answer)))
+        let site = Site::In(body.callback, body.name, body.next);
+        Ok(seen(Seen::Op(site, answer)))
     }
 
     /// The next line of the main program.
@@ -305,6 +327,17 @@ impl LoopState {
         seen(Seen::Run(mode))
     }
 
+    /// Sends to an async handle from outside.
+    fn send_to(&mut self, name: Var) -> Result<Outcome, Why>
+        ensures { Falls (sent_to self.old name) self.old result self.new }
+    {
+        if name.0 as usize >= self.names.len() {
+            return Err(Why::Range);
+        }
+        let code = self.send(name);
+        Ok(seen(Seen::Send(name, code)))
+    }
+
     /// The clock goes on by so many ms, up to its limit.
     fn tick(&mut self, ms: u64) -> Result<Outcome, Why>
         ensures { Falls (tick self.old ms) self.old result self.new }
@@ -321,6 +354,7 @@ impl LoopState {
         ensures { Steps (next script.now self.old event) self.old result self.new }
     {
         match event {
+            Event::Send(name) => self.send_to(name).map_err(Fault::Refused),
             Event::Tick(ms) => self.tick(ms).map_err(Fault::Refused),
             Event::Loop => match self.place {
                 Place::Main(line) => self.in_main(script, line),

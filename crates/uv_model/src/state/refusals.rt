@@ -1,11 +1,11 @@
 //! Why a step is to be refused. It is found before anything is changed, and before memory is asked for.
 ghost use Rattle.std.specs.Prelude.{◌≡◌, ◌+◌, ◌≤◌, IfSome, IfNone, slice_get, None};
-ghost use Rattle.uv_model.specs.Next.{main_step, run_step, tick, next, LATEST};
+ghost use Rattle.uv_model.specs.Next.{main_step, run_step, sent_to, tick, next, LATEST};
 ghost use Rattle.uv_model.specs.After.{refusal_of};
 
 use crate::place::{Place, Run, Stage};
 use crate::state::LoopState;
-use uv_ids::{Event, Why};
+use uv_ids::{Event, Var, Why};
 use uv_script::Script;
 
 /// The latest time that the clock may show, in ms.
@@ -42,14 +42,25 @@ impl LoopState {
         }
     }
 
-    /// The poll isn't left before its deadline, unless a callback's body is under way.
+    /// The poll isn't left before its deadline unless an async handle was sent to.
     #[tactic(auto, using(crate::proofs::Refusals::run_moves))]
     fn run_refusal(&self, script: &Script, run: Run) -> Option<Why>
         ensures { result ≡ refusal_of (run_step script.now self.now run run.body) }
     {
         match (run.body, run.stage) {
-            (None, Stage::Poll(deadline)) if !self.has_passed(deadline) => Some(Why::Blocked),
+            (None, Stage::Poll(deadline)) if !self.may_leave(deadline) => Some(Why::Blocked),
             _ => None,
+        }
+    }
+
+    /// There has to be such a name.
+    fn send_refusal(&self, name: Var) -> Option<Why>
+        ensures { result ≡ refusal_of (sent_to self.now name) }
+    {
+        if (name.0 as usize) < self.names.len() {
+            None
+        } else {
+            Some(Why::Range)
         }
     }
 
@@ -59,6 +70,7 @@ impl LoopState {
         ensures { result ≡ refusal_of (next script.now self.now event) }
     {
         match event {
+            Event::Send(name) => self.send_refusal(name),
             Event::Tick(ms) => self.tick_refusal(ms),
             Event::Loop => match self.place {
                 Place::Main(line) => self.main_refusal(script, line),

@@ -1,6 +1,7 @@
 //! Whether the loop is alive, and how long its poll may wait.
 ghost use Rattle.std.specs.Prelude.{◌≡◌, ◌<◌, ◌≤◌, ◌^◌, IfSome};
-ghost use Rattle.uv_model.specs.Timeout.{is_alive, has_idle, until_first, backend_timeout, poll_timeout, deadline_of, has_passed, LONGEST_POLL};
+ghost use Rattle.uv_model.specs.Next.{may_leave};
+ghost use Rattle.uv_model.specs.Timeout.{is_alive, has_closing, has_pending, has_idle, until_first, backend_timeout, poll_timeout, deadline_of, has_passed, LONGEST_POLL};
 
 use crate::state::LoopState;
 use uv_ids::Mode;
@@ -9,11 +10,32 @@ use uv_ids::Mode;
 const LONGEST_POLL: u64 = 2_147_483_647;
 
 impl LoopState {
-    /// Whether the loop is alive: some handle is active and referenced (uv_loop_alive).
+    /// Whether a handle closes whose close callback is still to come.
+    fn has_closing(&self) -> bool
+        ensures { result ≡ has_closing self.now }
+    {
+        self.closing.any()
+    }
+
+    /// Whether the loop is alive: some handle is active and referenced, or closes (uv_loop_alive).
     pub(super) fn is_alive(&self) -> bool
         ensures { result ≡ is_alive self.now }
     {
-        self.slots.iter().any(|slot| slot.keeps_alive())
+        self.arena.keeps_alive() || self.has_closing()
+    }
+
+    /// Whether some async handle was sent to, and not called since.
+    fn has_pending(&self) -> bool
+        ensures { result ≡ has_pending self.now }
+    {
+        self.arena.pends()
+    }
+
+    /// Whether the poll may be left.
+    pub(super) fn may_leave(&self, deadline: Option<u64>) -> bool
+        ensures { result ≡ may_leave self.now deadline }
+    {
+        self.has_passed(deadline) || self.has_pending()
     }
 
     /// In how many ms the first timer is due; none is infinite.
@@ -30,7 +52,7 @@ impl LoopState {
         ensures timeout { result ≡ backend_timeout self.now }
         ensures short { IfSome result (λ ms. ms ≤ LONGEST_POLL) }
     {
-        if self.stop_flag || !self.is_alive() || self.idle.any() {
+        if self.stop_flag || !self.is_alive() || self.idle.any() || self.has_closing() {
             return Some(0);
         }
         self.until_first()
@@ -62,7 +84,7 @@ impl LoopState {
     }
 
     /// Whether the clock has reached a deadline.
-    pub(super) fn has_passed(&self, deadline: Option<u64>) -> bool
+    fn has_passed(&self, deadline: Option<u64>) -> bool
         ensures { result ≡ has_passed self.now.clock deadline }
     {
         deadline.is_some_and(|deadline| deadline <= self.clock)

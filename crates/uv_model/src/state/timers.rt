@@ -1,19 +1,22 @@
 //! The timers: the ordered map of those that are active, and the ready list.
 ghost use Rattle.std.specs.Prelude.{◌≡◌, ◌<◌, ◌+◌, ◌&&◌, ◌^◌, OnOk, OnErr, true, if◌then◌else◌};
-ghost use Rattle.uv_model.specs.Handles.{is_timer};
+ghost use Rattle.uv_records.specs.Handles.{is_timer};
 ghost use Rattle.uv_model.specs.Timers.{without_timer, taken_off, stopped, started, restarted, due_after, due_in};
 ghost use Rattle.uv_model.specs.Bounds.{StartsBefore};
 
-use crate::handle::Handle;
 use crate::ids::remove_id;
 use crate::state::LoopState;
 use std::alloc::AllocError;
 use std::collections::BTreeMap;
 use uv_ids::{Due, Id};
+use uv_records::HandleRecord;
 
 /// Takes a timer off the order, if it is active.
-fn remove_timer(timers: &mut BTreeMap<Due, Id>, handle: Handle)
-    ensures { timers.new.entries ≡ (if is_timer handle.kind && handle.active then without_timer timers.old.entries handle.due else timers.old.entries) }
+fn remove_timer(timers: &mut BTreeMap<Due, Id>, handle: HandleRecord)
+    ensures {
+        timers.new.entries
+        ≡ (if is_timer handle.kind && handle.active then without_timer timers.old.entries handle.due else timers.old.entries)
+    }
 {
     if handle.is_timer() && handle.active {
         timers.remove(&handle.due);
@@ -32,7 +35,7 @@ impl LoopState {
     }
 
     /// In how many ms a timer is due (uv_timer_get_due_in).
-    pub(super) fn due_in(&self, handle: Handle) -> u64
+    pub(super) fn due_in(&self, handle: HandleRecord) -> u64
         ensures { result ≡ due_in self.now handle }
     {
         if handle.active {
@@ -43,29 +46,30 @@ impl LoopState {
     }
 
     /// Takes a handle off the order of timers, and off each list.
-    fn take_off(&mut self, id: Id, handle: Handle)
+    pub(super) fn take_off(&mut self, id: Id, handle: HandleRecord)
         ensures { self.new ≡ taken_off self.old id handle }
     {
         remove_timer(&mut self.timers, handle);
         remove_id(&mut self.ready, id);
-        self.idle.stop(id);
-        self.prepare.stop(id);
-        self.check.stop(id);
+        self.idle.remove(id);
+        self.prepare.remove(id);
+        self.check.remove(id);
+        self.asyncs.remove(id);
     }
 
     /// Stops a handle (uv_timer_stop and the like).
-    pub(super) fn stop_handle(&mut self, id: Id, handle: Handle)
+    pub(super) fn stop_handle(&mut self, id: Id, handle: HandleRecord)
         ensures { self.new ≡ stopped self.old id handle }
     {
         self.take_off(id, handle);
-        self.set_handle(id, handle.inactive());
+        self.set_handle(id, handle.stopped());
     }
 
     /// Starts a timer that is stopped. Without memory nothing changes.
     pub(super) fn start_stopped(
         &mut self,
         id: Id,
-        handle: Handle,
+        handle: HandleRecord,
         timeout: u64,
         repeat: u64,
     ) -> Result<(), AllocError>
@@ -76,16 +80,7 @@ impl LoopState {
         let due = self.due_after(timeout);
         self.timers.insert(due, id)?;
         self.next_start += 1;
-        self.set_handle(
-            id,
-            Handle {
-                active: true,
-                begun: true,
-                due,
-                repeat,
-                ..handle
-            },
-        );
+        self.set_handle(id, handle.begun_at(due, repeat));
         Ok(())
     }
 
@@ -95,7 +90,7 @@ impl LoopState {
     pub(super) fn start_timer(
         &mut self,
         id: Id,
-        handle: Handle,
+        handle: HandleRecord,
         timeout: u64,
         repeat: u64,
     ) -> Result<(), AllocError>
@@ -109,22 +104,13 @@ impl LoopState {
         self.timers.insert(due, id)?;
         self.take_off(id, handle);
         self.next_start += 1;
-        self.set_handle(
-            id,
-            Handle {
-                active: true,
-                begun: true,
-                due,
-                repeat,
-                ..handle
-            },
-        );
+        self.set_handle(id, handle.begun_at(due, repeat));
         Ok(())
     }
 
     /// Stops a timer, and starts it again with its repeat as timeout if it repeats (uv_timer_again). Without memory nothing
     /// changes.
-    pub(super) fn restart_timer(&mut self, id: Id, handle: Handle) -> Result<(), AllocError>
+    pub(super) fn restart_timer(&mut self, id: Id, handle: HandleRecord) -> Result<(), AllocError>
         requires starts { self.old.next_start < 2 ^ 63 }
         requires kind { is_timer handle.kind ≡ true }
         requires drawn { StartsBefore self.old.next_start handle }

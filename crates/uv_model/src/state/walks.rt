@@ -1,19 +1,19 @@
 //! The watchers of each kind, and the sections that call them.
 ghost use Rattle.std.specs.Prelude.{◌≡◌, ◌<◌, ◌^◌, IfOk, OnOk, OnErr, length};
+ghost use Rattle.uv_records.specs.Walks.{with_first, all_yet};
 ghost use Rattle.uv_model.specs.State.{watched, with_watched};
-ghost use Rattle.uv_model.specs.Watchers.{with_watcher, all_yet, moved_on};
 ghost use Rattle.uv_model.specs.Ops.{watcher_started};
 ghost use Rattle.uv_model.specs.Bounds.{CanStep};
-ghost use Rattle.uv_model.specs.Next.{Moves, stage_of, begin_walk, after_walk, walk};
+ghost use Rattle.uv_model.specs.Next.{Moves, stage_of, begin_walk, begin_closing, after_walk, front_moved, walk, walk_async, close_front};
 ghost use Rattle.uv_model.specs.Steps.{Steps};
 
-use crate::handle::Handle;
 use crate::machine::Outcome;
-use crate::place::{Run, Stage};
+use crate::place::{Place, Run, Stage};
 use crate::state::LoopState;
-use crate::watchers::{WatcherKind, Watchers};
+use crate::walked::Walked;
 use std::alloc::AllocError;
-use uv_ids::{Fault, Id, Phase};
+use uv_ids::{Callback, Fault, Id, Phase, Seen};
+use uv_records::{HandleRecord, WatcherKind};
 use uv_script::Script;
 
 /// The place of a section of watchers.
@@ -24,30 +24,33 @@ fn stage_of(kind: WatcherKind) -> Stage
         WatcherKind::Idle => Stage::Idle,
         WatcherKind::Prepare => Stage::Prepare,
         WatcherKind::Check => Stage::Check,
+        WatcherKind::Async => Stage::Async,
     }
 }
 
 impl LoopState {
     /// The active handles of a kind.
-    fn watchers(&self, kind: WatcherKind) -> &Watchers
+    fn watchers(&self, kind: WatcherKind) -> &Walked
         ensures { result.now ≡ watched self.now kind }
     {
         match kind {
             WatcherKind::Idle => &self.idle,
             WatcherKind::Prepare => &self.prepare,
             WatcherKind::Check => &self.check,
+            WatcherKind::Async => &self.asyncs,
         }
     }
 
     /// Puts a handle at the front of its list. Without memory nothing changes.
     fn list_watcher(&mut self, kind: WatcherKind, id: Id) -> Result<(), AllocError>
-        ensures ok { OnOk result (self.new ≡ with_watched self.old kind (with_watcher (watched self.old kind) id)) }
+        ensures ok { OnOk result (self.new ≡ with_watched self.old kind (with_first (watched self.old kind) id)) }
         ensures err { OnErr result (self.new ≡ self.old) }
     {
         match kind {
-            WatcherKind::Idle => self.idle.start(id),
-            WatcherKind::Prepare => self.prepare.start(id),
-            WatcherKind::Check => self.check.start(id),
+            WatcherKind::Idle => self.idle.push_front(id),
+            WatcherKind::Prepare => self.prepare.push_front(id),
+            WatcherKind::Check => self.check.push_front(id),
+            WatcherKind::Async => self.asyncs.push_front(id),
         }
     }
 
@@ -56,19 +59,13 @@ impl LoopState {
         &mut self,
         kind: WatcherKind,
         id: Id,
-        handle: Handle,
+        handle: HandleRecord,
     ) -> Result<(), AllocError>
         ensures ok { OnOk result (self.new ≡ watcher_started self.old kind id handle) }
         ensures err { OnErr result (self.new ≡ self.old) }
     {
         self.list_watcher(kind, id)?;
-        self.set_handle(
-            id,
-            Handle {
-                active: true,
-                ..handle
-            },
-        );
+        self.set_handle(id, handle.activated());
         Ok(())
     }
 
@@ -80,19 +77,21 @@ impl LoopState {
             WatcherKind::Idle => self.idle.begin_walk(),
             WatcherKind::Prepare => self.prepare.begin_walk(),
             WatcherKind::Check => self.check.begin_walk(),
+            WatcherKind::Async => self.asyncs.begin_walk(),
         }
     }
 
     /// Moves the front of those yet to run to the end of the list. Without memory nothing changes.
     fn move_on(&mut self, kind: WatcherKind, front: Id) -> Result<(), AllocError>
         requires { 0 < length (watched self.old kind).yet }
-        ensures ok { OnOk result (self.new ≡ with_watched self.old kind (moved_on (watched self.old kind) front)) }
+        ensures ok { OnOk result (self.new ≡ front_moved self.old kind front) }
         ensures err { OnErr result (self.new ≡ self.old) }
     {
         match kind {
             WatcherKind::Idle => self.idle.move_on(front),
             WatcherKind::Prepare => self.prepare.move_on(front),
             WatcherKind::Check => self.check.move_on(front),
+            WatcherKind::Async => self.asyncs.move_on(front),
         }
     }
 
@@ -104,6 +103,14 @@ impl LoopState {
         self.begin(run, stage_of(kind), kind.phase())
     }
 
+    /// Begins the closing section.
+    fn begin_closing(&mut self, run: Run) -> Outcome
+        ensures { begin_closing self.old run ≡ Moves self.new result.seen }
+    {
+        self.closing.begin_walk();
+        self.begin(run, Stage::Closing, Phase::Closing)
+    }
+
     /// Leaves a section of watchers.
     fn after_walk(&mut self, run: Run, kind: WatcherKind) -> Outcome
         requires { self.old.time < 2 ^ 63 }
@@ -112,7 +119,8 @@ impl LoopState {
         match kind {
             WatcherKind::Idle => self.begin_walk(run, WatcherKind::Prepare),
             WatcherKind::Prepare => self.begin_poll(run),
-            WatcherKind::Check => self.begin(run, Stage::Closing, Phase::Closing),
+            WatcherKind::Check => self.begin_closing(run),
+            WatcherKind::Async => self.begin_walk(run, WatcherKind::Check),
         }
     }
 
@@ -141,5 +149,60 @@ impl LoopState {
         ensures { Steps (walk script.now self.old run kind) self.old result self.new }
     {
         self.walk(script, run, kind).map_err(|_| Fault::Memory)
+    }
+
+    /// Calls the front of those yet to run, if it was sent to, or leaves the section. Without memory nothing changes.
+    #[tactic(auto, using(crate::proofs::Walks::walks))]
+    fn walk_async(&mut self, script: &Script, run: Run) -> Result<Outcome, AllocError>
+        requires { CanStep self.old }
+        ensures ok { IfOk result (λ outcome. walk_async script.now self.old run ≡ Moves self.new outcome.seen) }
+        ensures err { OnErr result (self.new ≡ self.old) }
+    {
+        let Some((id, handle)) = self.front(self.asyncs.yet()) else {
+            return Ok(self.after_walk(run, WatcherKind::Async));
+        };
+        self.move_on(WatcherKind::Async, id)?;
+        if handle.pending {
+            self.set_handle(id, handle.woken());
+            return Ok(self.call(script, run, id, handle.name));
+        }
+        self.place = Place::Running(Run {
+            stage: Stage::Async,
+            body: None,
+            ..run
+        });
+        Ok(Outcome { seen: None })
+    }
+
+    /// Goes on in the async section.
+    pub(super) fn in_async(&mut self, script: &Script, run: Run) -> Result<Outcome, Fault>
+        requires { CanStep self.old }
+        ensures { Steps (walk_async script.now self.old run) self.old result self.new }
+    {
+        self.walk_async(script, run).map_err(|_| Fault::Memory)
+    }
+
+    /// Frees the slot of the front of the closing handles and calls it, or leaves the section. Without memory nothing changes.
+    #[tactic(auto, using(crate::proofs::Walks::walks))]
+    fn close_front(&mut self, script: &Script, run: Run) -> Result<Outcome, AllocError>
+        requires { CanStep self.old }
+        ensures ok { IfOk result (λ outcome. close_front script.now self.old run ≡ Moves self.new outcome.seen) }
+        ensures err { OnErr result (self.new ≡ self.old) }
+    {
+        let Some((id, handle)) = self.front(self.closing.yet()) else {
+            return Ok(self.begin_timers(run));
+        };
+        self.arena.release(id)?;
+        self.closing.take_front();
+        let name = handle.name;
+        Ok(self.calls(script, run, Callback::Close, name, Seen::Closed(name, id)))
+    }
+
+    /// Goes on in the closing section.
+    pub(super) fn in_closing(&mut self, script: &Script, run: Run) -> Result<Outcome, Fault>
+        requires { CanStep self.old }
+        ensures { Steps (close_front script.now self.old run) self.old result self.new }
+    {
+        self.close_front(script, run).map_err(|_| Fault::Memory)
     }
 }

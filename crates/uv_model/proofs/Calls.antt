@@ -1,0 +1,18 @@
+-- The counts of names, read one at a time.
+use Rattle.std.proofs.Common.{◌≡◌, ℕ, ◌<◌, ◌^◌, List, Option, Some, None, All, slice_get, unwrap_or, refl, arith}
+use Rattle.std.proofs.lemmas.Grind.{elements}
+use Rattle.uv_ids.specs.declared.id.Var.{Var}
+use Rattle.uv_model.specs.declared.named.Named.{Named}
+use Rattle.uv_model.specs.State.{State, named, unbound}
+use Rattle.uv_model.specs.Bounds.{AreBelow, CanStep}
+
+pub at_name : (m : ℕ) (names : List Named) (i : ℕ) (x : Option Named) → slice_get names i ≡ x → All (λ (n : Named). AreBelow m n.calls) names → 0 < m →
+    AreBelow m (unwrap_or x unbound).calls
+at_name m names i None e h l = (l, l)
+at_name m names i (Some n) e h l = grind (arith, elements, h)
+
+pub small : (s : State) (v : Var) → All (λ (n : Named). AreBelow (2 ^ 31) n.calls) s.names → AreBelow (2 ^ 31) (named s v).calls
+small s v h = at_name (2 ^ 31) s.names v.0 (slice_get s.names v.0) refl h (omega arith)
+
+pub able_small : (s : State) (v : Var) → CanStep s → AreBelow (2 ^ 31) (named s v).calls
+able_small s v h = small s v h.small.counts

@@ -1,0 +1,11 @@
+-- A handle put at the end of a list, and taken off again.
+use Rattle.std.proofs.Common.{◌≡◌, ℕ, ◌+◌, ◌-◌, List, [], ◌∷◌, ◌++◌, length, take, refl, ap, arith, length-append}
+use Rattle.std.proofs.lemmas.Grind.{common_steps}
+use Rattle.uv_ids.specs.declared.id.Id.{Id}
+use Rattle.uv_records.specs.Walks.{Walk, with_last}
+
+front_again : (ids : List Id) (id : Id) → take (length (ids ++ id ∷ []) - 1) (ids ++ id ∷ []) ≡ ids
+front_again ids id = grind (arith, common_steps)
+
+pub popped : (w : Walk Id) (id : Id) → record (with_last w id) { list = take (length (w.list ++ id ∷ []) - 1) (w.list ++ id ∷ []) } ≡ w
+popped w id = ap (λ (ids : List Id). record w { list = ids }) (front_again w.list id)
