@@ -2,37 +2,48 @@
 use Rattle.std.proofs.Common.{◌≡◌, inl, inr, ℕ, zero, suc, ◌+◌, ◌<◌, ◌≤◌, ◌==◌, List, [], ◌∷◌, length, drop, Bool, true, false, Option, Some, None, slice_get, slice_set, unwrap_or, replicate, refl, ap, sym, subst, ◌∙◌, arith, if◌then◌else◌}
 use Rattle.std.proofs.lemmas.Bool.{eqb-true, eq-eqb, both_ways, cases_lt}
 use Rattle.uv_ids.specs.declared.id.Var.{Var}
+use Rattle.uv_ids.specs.declared.seen.Callback.{Callback}
+use Rattle.uv_ids.specs.declared.seen.Callback.TheVariants as callback
 use Rattle.uv_script.specs.declared.op.CallbackLine.{CallbackLine}
-use Rattle.uv_script.specs.Program.{Program, on_lines, lines_or_none}
-use Rattle.uv_model.specs.declared.handle.Named.{Named}
-use Rattle.uv_model.specs.State.{State, fresh, named, unbound}
+use Rattle.uv_script.specs.Program.{Program, Callbacks, no_callbacks, lines_of, lines_in}
+use Rattle.uv_model.specs.declared.named.Counts.{Counts}
+use Rattle.uv_model.specs.declared.named.Named.{Named}
+use Rattle.uv_model.specs.State.{State, fresh, named, unbound, count_of, counted}
 use Rattle.uv_model.specs.Next.{body_from, body_at, next_line}
-use Rattle.uv_order.specs.Documented.{Told, nothing_told, times, next_call, body_of, sites_from}
+use Rattle.uv_order.specs.Documented.{Told, nothing_told, told_of, times, next_call, body_of, sites_from}
 use Rattle.uv_order.proofs.Bodies.{IsBody, whole_body}
 use Rattle.uv_order.proofs.OpEffects.{SameCalls, set_long}
 
-abbrev calls_in : List Named → Var → ℕ
-calls_in names v = (unwrap_or (slice_get names v.0) unbound).calls
+abbrev counts_in : List Named → Var → Counts
+counts_in names v = (unwrap_or (slice_get names v.0) unbound).calls
 
 -- a name that has lines was called as often as the lines tell
 pub record Counted (p : Program) (names : List Named) (told : Told) : Type 0 where
-  pub long : length names ≡ length p.on
-  pub calls : (v : Var) → v.0 < length p.on → calls_in names v ≡ times told.called v
+  pub long : length names ≡ length p.callbacks
+  pub calls : (kind : Callback) (v : Var) → v.0 < length p.callbacks → count_of kind (counts_in names v) ≡ times (told_of kind told) v
 
 pub counted_kept : (p : Program) (now was : List Named) (told : Told) → SameCalls now was → Counted p was told → Counted p now told
-counted_kept p now was told same k = record { long = same.long ∙ k.long; calls = λ v l. same.each v ∙ k.calls v l }
+counted_kept p now was told same k = record { long = same.long ∙ k.long; calls = λ kind v l. ap (count_of kind) (same.each v) ∙ k.calls kind v l }
 
-no_calls : (n : ℕ) (i : ℕ) → (unwrap_or (slice_get (replicate n unbound) i) unbound).calls ≡ 0
-no_calls zero i = refl
-no_calls (suc n) zero = refl
-no_calls (suc n) (suc i) = no_calls n i
+no_calls : (kind : Callback) (n : ℕ) (i : ℕ) → count_of kind (unwrap_or (slice_get (replicate n unbound) i) unbound).calls ≡ 0
+no_calls callback.Handle zero i = refl
+no_calls callback.Close zero i = refl
+no_calls callback.Handle (suc n) zero = refl
+no_calls callback.Close (suc n) zero = refl
+no_calls callback.Handle (suc n) (suc i) = no_calls callback.Handle n i
+no_calls callback.Close (suc n) (suc i) = no_calls callback.Close n i
 
 replicate_long : (n : ℕ) → length (replicate n unbound) ≡ n
 replicate_long zero = refl
 replicate_long (suc n) = ap suc (replicate_long n)
 
+none_told : (kind : Callback) (v : Var) → times (told_of kind nothing_told) v ≡ 0
+none_told callback.Handle v = refl
+none_told callback.Close v = refl
+
 pub counted_fresh : (p : Program) → Counted p (fresh p).names nothing_told
-counted_fresh p = record { long = replicate_long (length p.on); calls = λ v l. no_calls (length p.on) v.0 }
+counted_fresh p = record { long = replicate_long (length p.callbacks);
+    calls = λ kind v l. no_calls kind (length p.callbacks) v.0 ∙ sym (none_told kind v) }
 
 set_here : (names : List Named) (i : ℕ) (x : Named) → i < length names → (unwrap_or (slice_get (slice_set names i x) i) unbound).calls ≡ x.calls
 set_here [] i x l = absurd (omega arith)
@@ -46,39 +57,71 @@ set_there (n ∷ names) zero (suc j) x d = refl
 set_there (n ∷ names) (suc i) zero x d = refl
 set_there (n ∷ names) (suc i) (suc j) x d = set_there names i j x (λ e. d (ap suc e))
 
+-- one call of a name's callback more is told
+abbrev pub told_call : Callback → Var → Told → Told
+told_call callback.Handle v told = record told { called = v ∷ told.called }
+told_call callback.Close v told = record told { closed = v ∷ told.closed }
+
+-- one more of a callback is none more of another
+told_more : (kind other : Callback) (v u : Var) (told : Told) (c : Counts) → (v.0 == u.0) ≡ true → count_of other c ≡ times (told_of other told) u →
+    count_of other (counted kind c) ≡ times (told_of other (told_call kind v told)) u
+told_more callback.Handle callback.Handle v u told c e h = rw e (omega (arith, h))
+told_more callback.Close callback.Close v u told c e h = rw e (omega (arith, h))
+told_more callback.Handle callback.Close v u told c e h = h
+told_more callback.Close callback.Handle v u told c e h = h
+
+told_same : (kind other : Callback) (v u : Var) (told : Told) → (v.0 == u.0) ≡ false → times (told_of other (told_call kind v told)) u ≡ times
+    (told_of other told) u
+told_same callback.Handle callback.Handle v u told e = rw e refl
+told_same callback.Close callback.Close v u told e = rw e refl
+told_same callback.Handle callback.Close v u told e = refl
+told_same callback.Close callback.Handle v u told e = refl
+
 -- a name is called once more
-pub counted_call : (p : Program) (names : List Named) (told : Told) (v : Var) (x : Named) → x.calls ≡ calls_in names v + 1 → Counted p names told →
-    Counted p (slice_set names v.0 x) (record { called = v ∷ told.called })
-counted_call p names told v x e k = record { long = set_long names v.0 x ∙ k.long; calls = λ u l. at u l (v.0 == u.0) refl } where
-  at : (u : Var) → u.0 < length p.on → (b : Bool) → (v.0 == u.0) ≡ b → calls_in (slice_set names v.0 x) u ≡
-      (if b then suc (times told.called u) else times told.called u)
-  at u l true f =
+pub counted_call : (p : Program) (names : List Named) (told : Told) (kind : Callback) (v : Var) (x : Named) → x.calls ≡ counted kind (counts_in
+    names v) →
+    Counted p names told → Counted p (slice_set names v.0 x) (told_call kind v told)
+counted_call p names told kind v x e k = record { long = set_long names v.0 x ∙ k.long; calls = λ other u l. at other u l (v.0 == u.0) refl } where
+  at : (other : Callback) (u : Var) → u.0 < length p.callbacks → (b : Bool) → (v.0 == u.0) ≡ b →
+      count_of other (counts_in (slice_set names v.0 x) u) ≡ times (told_of other (told_call kind v told)) u
+  at other u l true f =
       let here : v.0 ≡ u.0 = eqb-true v.0 u.0 f in
       let within : v.0 < length names = rw (here, k.long) l in
-      let one : calls_in names v ≡ times told.called u = ap (λ (i : ℕ). (unwrap_or (slice_get names i) unbound).calls) here ∙ k.calls u l in
-      ap (λ (i : ℕ). (unwrap_or (slice_get (slice_set names v.0 x) i) unbound).calls) (sym here) ∙ set_here names v.0 x within ∙ e
-          ∙ omega (arith, one)
-  at u l false f = ap (λ (o : Option Named). (unwrap_or o unbound).calls)
-      (set_there names v.0 u.0 x (λ g. both_ways (v.0 == u.0) f (eq-eqb v.0 u.0 (sym g)))) ∙ k.calls u l
+      let one : count_of other (counts_in names v) ≡ times (told_of other told) u =
+          ap (λ (i : ℕ). count_of other (unwrap_or (slice_get names i) unbound).calls) here ∙ k.calls other u l in
+      ap (λ (i : ℕ). count_of other (unwrap_or (slice_get (slice_set names v.0 x) i) unbound).calls) (sym here)
+      ∙ ap (count_of other) (set_here names v.0 x within ∙ e) ∙ told_more kind other v u told (counts_in names v) f one
+  at other u l false f =
+      let apart : u.0 ≡ v.0 → ⊥ = λ g. both_ways (v.0 == u.0) f (eq-eqb v.0 u.0 (sym g)) in
+      ap (λ (o : Option Named). count_of other (unwrap_or o unbound).calls) (set_there names v.0 u.0 x apart) ∙ k.calls other u l ∙ sym (told_same
+          kind other v u told f)
 
 -- a name without lines has the same body in each call
-past : (lines : List (List CallbackLine)) (i : ℕ) → length lines ≤ i → lines_or_none (slice_get lines i) ≡ []
+past : (all : List Callbacks) (i : ℕ) → length all ≤ i → unwrap_or (slice_get all i) no_callbacks ≡ no_callbacks
 past [] i l = refl
-past (x ∷ lines) zero l = absurd (omega arith)
-past (x ∷ lines) (suc i) l = past lines i (omega arith)
+past (x ∷ all) zero l = absurd (omega arith)
+past (x ∷ all) (suc i) l = past all i (omega arith)
 
-empty_body : (p : Program) (v : Var) (call : ℕ) → on_lines p v ≡ [] → body_of p v call ≡ []
-empty_body p v call e = rw e refl
+none_in : (kind : Callback) → lines_of kind no_callbacks ≡ []
+none_in callback.Handle = refl
+none_in callback.Close = refl
 
-no_body : (p : Program) (v : Var) (call : ℕ) → on_lines p v ≡ [] → body_from p v call 0 ≡ None
-no_body p v call e = rw e refl
+empty_body : (p : Program) (kind : Callback) (v : Var) (call : ℕ) → lines_in p kind v ≡ [] → body_of p kind v call ≡ []
+empty_body p kind v call e = rw e refl
+
+no_body : (p : Program) (kind : Callback) (v : Var) (call : ℕ) → lines_in p kind v ≡ [] → body_from p kind v call 0 ≡ None
+no_body p kind v call e = rw e refl
 
 -- the body of the next call is that which the lines tell
-pub next_body : (p : Program) (names : List Named) (told : Told) (v : Var) (call : ℕ) → call ≡ calls_in names v + 1 → Counted p names told →
-    IsBody p (body_from p v call 0) (body_of p v (next_call told v))
-next_body p names told v call e k = elim (cases_lt v.0 (length p.on)) [ | inl l ↦ within l | inr l ↦ beyond l ] where
-  within : v.0 < length p.on → IsBody p (body_from p v call 0) (body_of p v (next_call told v))
-  within l = subst (λ (n : ℕ). IsBody p (body_from p v call 0) (body_of p v n)) (e ∙ ap (λ (n : ℕ). n + 1) (k.calls v l)) (whole_body p v call)
+pub next_body : (p : Program) (names : List Named) (told : Told) (kind : Callback) (v : Var) (call : ℕ) → call ≡ count_of kind (counts_in names v) +
+    1 →
+    Counted p names told → IsBody p (body_from p kind v call 0) (body_of p kind v (next_call told kind v))
+next_body p names told kind v call e k = elim (cases_lt v.0 (length p.callbacks)) [ | inl l ↦ within l | inr l ↦ beyond l ] where
+  within : v.0 < length p.callbacks → IsBody p (body_from p kind v call 0) (body_of p kind v (next_call told kind v))
+  within l = subst (λ (n : ℕ). IsBody p (body_from p kind v call 0) (body_of p kind v n)) (e ∙ ap (λ (n : ℕ). n + 1) (k.calls kind v l)) (whole_body
+      p kind v call)
 
-  beyond : length p.on ≤ v.0 → IsBody p (body_from p v call 0) (body_of p v (next_call told v))
-  beyond l = let none : on_lines p v ≡ [] = past p.on v.0 l in rw (no_body p v call none) (empty_body p v (next_call told v) none)
+  beyond : length p.callbacks ≤ v.0 → IsBody p (body_from p kind v call 0) (body_of p kind v (next_call told kind v))
+  beyond l =
+      let none : lines_in p kind v ≡ [] = ap (lines_of kind) (past p.callbacks v.0 l) ∙ none_in kind in
+      rw (no_body p kind v call none) (empty_body p kind v (next_call told kind v) none)

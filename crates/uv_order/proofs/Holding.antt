@@ -1,138 +1,221 @@
 -- What the slots hold, and the lists of ids of handles.
-use Rattle.std.proofs.Common.{◌≡◌, ◌⊎◌, inl, inr, ℕ, zero, suc, ◌<◌, ◌==◌, List, [], ◌∷◌, ◌++◌, Bool, true, false, cond, Option, Some, None, slice_get, slice_set, refl, ap, sym, subst, ◌∙◌, arith}
+use Rattle.std.proofs.Common.{◌≡◌, ◌⊎◌, inl, inr, ℕ, zero, suc, ◌<◌, ◌==◌, List, [], ◌∷◌, ◌++◌, Bool, true, false, cond, Option, Some, None, length, slice_get, slice_set, refl, ap, sym, subst, ◌∙◌, arith}
 use Rattle.std.specs.Prelude.{option_and_then}
 use Rattle.std.proofs.lemmas.Bool.{eq-eqb, eqb-true}
 use Rattle.std.proofs.lemmas.Option.{same_Some}
 use Rattle.uv_ids.specs.declared.id.Id.{Id}
 use Rattle.uv_ids.specs.declared.due.Due.{Due}
 use Rattle.uv_ids.specs.declared.phase.Kind.TheVariants as kind
-use Rattle.uv_model.specs.declared.handle.Handle.{Handle}
-use Rattle.uv_model.specs.declared.handle.Content.TheVariants as content
-use Rattle.uv_model.specs.declared.handle.Slot.{Slot}
-use Rattle.uv_model.specs.Handles.{handle_in}
+use Rattle.uv_records.specs.declared.handle.HandleRecord.{HandleRecord}
+use Rattle.uv_records.specs.declared.slot.Slot.{Slot}
+use Rattle.uv_records.specs.Slots.{held_in, held, with_held}
+use Rattle.uv_model.specs.declared.content.Content.{Content}
+use Rattle.uv_model.specs.declared.content.Content.TheVariants as content
+use Rattle.uv_model.specs.Content.{handle_in}
 use Rattle.uv_model.specs.Ids.{same_id, without_id}
-use Rattle.uv_model.specs.State.{held_in}
 use Rattle.uv_model.specs.Timers.{with_timer, without_timer}
 use Rattle.uv_order.specs.Active.{Has, InOrder}
 use Rattle.uv_order.specs.Active.{has_id, AreDistinct}
-use Rattle.uv_order.proofs.IdLists.{same, other, turned, Each, each_mapped, each_without, absent, distinct_without, still_there, without_absent}
+use Rattle.uv_order.proofs.IdLists.{same, other, turned, Each, each_mapped, each_without, absent, distinct_without, still_there, without_absent, each_middle, distinct_middle, has_new_middle, has_old_middle, each_but, distinct_but, has_but}
 use Rattle.uv_order.proofs.TimerKeys.{one_id, not_before_itself, before_each, still_has, had, in_order_without, IsNew, has_new, has_old, new_or_old, in_order_with, is_new}
 
 -- ---- slots
 
-abbrev pub held_at : List Slot → Id → Option Handle
-held_at slots id = option_and_then (held_in id) (slice_get slots id.slot)
+-- the handle of an id, by its slot
+abbrev pub look : Id → Option (Slot Content) → Option HandleRecord
+look id slot = handle_in (option_and_then (held_in id) slot)
 
-abbrev pub slot_of : Id → Handle → Slot
+abbrev pub held_at : List (Slot Content) → Id → Option HandleRecord
+held_at slots id = look id (slice_get slots id.slot)
+
+abbrev pub slot_of : Id → HandleRecord → Slot Content
 slot_of id h = record { generation = id.generation; content = Some (content.Handle h) }
 
 -- the handle of an id is put in its slot
-abbrev pub put : List Slot → Id → Handle → List Slot
+abbrev pub put : List (Slot Content) → Id → HandleRecord → List (Slot Content)
 put slots id h = slice_set slots id.slot (slot_of id h)
 
-get_set_same : (slots : List Slot) (i : ℕ) (x y : Slot) → slice_get slots i ≡ Some y → slice_get (slice_set slots i x) i ≡ Some x
+pub get_set_same : (slots : List (Slot Content)) (i : ℕ) (x y : Slot Content) → slice_get slots i ≡ Some y → slice_get (slice_set slots i x) i ≡
+    Some x
 get_set_same [] i x y e = cc e
 get_set_same (s ∷ slots) zero x y e = refl
 get_set_same (s ∷ slots) (suc i) x y e = get_set_same slots i x y e
 
-get_set_other : (slots : List Slot) (i j : ℕ) (x : Slot) → (j ≡ i → ⊥) → slice_get (slice_set slots i x) j ≡ slice_get slots j
+pub get_set_other : (slots : List (Slot Content)) (i j : ℕ) (x : Slot Content) → (j ≡ i → ⊥) → slice_get (slice_set slots i x) j ≡ slice_get slots j
 get_set_other [] i j x d = refl
 get_set_other (s ∷ slots) zero zero x d = absurd (d refl)
 get_set_other (s ∷ slots) zero (suc j) x d = refl
 get_set_other (s ∷ slots) (suc i) zero x d = refl
 get_set_other (s ∷ slots) (suc i) (suc j) x d = get_set_other slots i j x (λ e. d (ap suc e))
 
--- a held id's slot is there, with its generation
-pub record Holds (slots : List Slot) (id : Id) (h : Handle) : Type 0 where
-  pub slot : Slot
+-- the slot of an id is there, with its generation
+pub record IsThere (slots : List (Slot Content)) (id : Id) : Type 0 where
+  pub slot : Slot Content
   pub there : slice_get slots id.slot ≡ Some slot
   pub generation : slot.generation ≡ id.generation
-  pub content : handle_in slot.content ≡ Some h
 
-holds_in : (slots : List Slot) (id : Id) (h : Handle) (o : Option Slot) → slice_get slots id.slot ≡ o → option_and_then (held_in id) o ≡ Some h →
+-- and holds a handle
+pub record Holds (slots : List (Slot Content)) (id : Id) (h : HandleRecord) : Type 0 where
+  pub at : IsThere slots id
+  pub content : handle_in at.slot.content ≡ Some h
+
+holds_in : (slots : List (Slot Content)) (id : Id) (h : HandleRecord) (o : Option (Slot Content)) → slice_get slots id.slot ≡ o → look id o ≡ Some h →
     Holds slots id h
 holds_in slots id h None e k = cc k
-holds_in slots id h (Some slot) e k = at (slot.generation == id.generation) refl k where
-  at : (b : Bool) → (slot.generation == id.generation) ≡ b → ◌≡◌ {A = Option Handle} (cond b (handle_in slot.content) None) (Some h) →
-      Holds slots id h
-  at true f l = record { slot = slot; there = e; generation = eqb-true slot.generation id.generation f; content = l }
-  at false f l = cc l
+holds_in slots id h (Some slot) e k = by (slot.generation == id.generation) refl k where
+  by : (b : Bool) → (slot.generation == id.generation) ≡ b → handle_in (cond b slot.content None) ≡ Some h → Holds slots id h
+  by true f l = record { at = record { slot = slot; there = e; generation = eqb-true slot.generation id.generation f }; content = l }
+  by false f l = cc l
 
-holds : (slots : List Slot) (id : Id) (h : Handle) → held_at slots id ≡ Some h → Holds slots id h
+pub holds : (slots : List (Slot Content)) (id : Id) (h : HandleRecord) → held_at slots id ≡ Some h → Holds slots id h
 holds slots id h e = holds_in slots id h (slice_get slots id.slot) refl e
 
-in_slot : (id : Id) (slot : Slot) → slot.generation ≡ id.generation → held_in id slot ≡ handle_in slot.content
+in_slot : (id : Id) (slot : Slot Content) → slot.generation ≡ id.generation → look id (Some slot) ≡ handle_in slot.content
 in_slot id slot e = rw (eq-eqb slot.generation id.generation e) refl
-
-pub put_same : (slots : List Slot) (id : Id) (h x : Handle) → held_at slots id ≡ Some h → held_at (put slots id x) id ≡ Some x
-put_same slots id h x e =
-    let k = holds slots id h e in
-    rw (get_set_same slots id.slot (slot_of id x) k.slot k.there) (in_slot id (slot_of id x) refl)
 
 ids_alike : (a b : Id) → a.slot ≡ b.slot → a.generation ≡ b.generation → same_id a b ≡ true
 ids_alike a b e f = rw (eq-eqb a.slot b.slot e, eq-eqb a.generation b.generation f) refl
 
-other_generation : (i : Id) (slot : Slot) → (slot.generation ≡ i.generation → ⊥) → held_in i slot ≡ None
-other_generation i slot d = at (slot.generation == i.generation) refl where
-  at : (b : Bool) → (slot.generation == i.generation) ≡ b → ◌≡◌ {A = Option Handle} (cond b (handle_in slot.content) None) None
-  at true f = absurd (d (eqb-true slot.generation i.generation f))
-  at false f = refl
+other_generation : (i : Id) (slot : Slot Content) → (slot.generation ≡ i.generation → ⊥) → look i (Some slot) ≡ None
+other_generation i slot d = by (slot.generation == i.generation) refl where
+  by : (b : Bool) → (slot.generation == i.generation) ≡ b → handle_in (cond b slot.content None) ≡ None
+  by true f = absurd (d (eqb-true slot.generation i.generation f))
+  by false f = refl
 
-pub put_other : (slots : List Slot) (id i : Id) (h x : Handle) → held_at slots id ≡ Some h → (i ≡ id → ⊥) →
-    held_at (put slots id x) i ≡ held_at slots i
-put_other slots id i h x e d = at (i.slot == id.slot) refl where
-  at : (b : Bool) → (i.slot == id.slot) ≡ b → held_at (put slots id x) i ≡ held_at slots i
-  at false f = ap (option_and_then (held_in i)) (get_set_other slots id.slot i.slot (slot_of id x) (λ g. not_same f (eq-eqb i.slot id.slot g))) where
-    not_same : (i.slot == id.slot) ≡ false → (i.slot == id.slot) ≡ true → ⊥
-    not_same a b = cc (a, b)
-  at true f =
-      let k = holds slots id h e in
+-- whatever is put into the slot, the ids of other slots are held as before
+elsewhere : (slots : List (Slot Content)) (n : ℕ) (i : Id) (y : Slot Content) → (i.slot == n) ≡ false → held_at (slice_set slots n y) i ≡ held_at
+    slots i
+elsewhere slots n i y f = ap (look i) (get_set_other slots n i.slot y (λ g. clash f (eq-eqb i.slot n g))) where
+  clash : (i.slot == n) ≡ false → (i.slot == n) ≡ true → ⊥
+  clash a b = cc (a, b)
+
+pub there_same : (slots : List (Slot Content)) (id : Id) (x : HandleRecord) → IsThere slots id → held_at (put slots id x) id ≡ Some x
+there_same slots id x k = rw (get_set_same slots id.slot (slot_of id x) k.slot k.there) (in_slot id (slot_of id x) refl)
+
+pub there_other : (slots : List (Slot Content)) (id i : Id) (x : HandleRecord) → IsThere slots id → (i ≡ id → ⊥) → held_at (put slots id x) i ≡
+    held_at slots i
+there_other slots id i x k d = by (i.slot == id.slot) refl where
+  by : (b : Bool) → (i.slot == id.slot) ≡ b → held_at (put slots id x) i ≡ held_at slots i
+  by false f = elsewhere slots id.slot i (slot_of id x) f
+  by true f =
       let here : i.slot ≡ id.slot = eqb-true i.slot id.slot f in
       let apart : id.generation ≡ i.generation → ⊥ = λ g. d (same i id (ids_alike i id here (sym g))) in
       let after : slice_get (put slots id x) i.slot ≡ Some (slot_of id x) = rw here (get_set_same slots id.slot (slot_of id x) k.slot k.there) in
       let before : slice_get slots i.slot ≡ Some k.slot = rw here k.there in
-      ap (option_and_then (held_in i)) after ∙ other_generation i (slot_of id x) apart
-      ∙ sym (ap (option_and_then (held_in i)) before ∙ other_generation i k.slot (λ g. apart (sym k.generation ∙ g)))
+      ap (look i) after ∙ other_generation i (slot_of id x) apart
+      ∙ sym (ap (look i) before ∙ other_generation i k.slot (λ g. apart (sym k.generation ∙ g)))
 
-get_push : (slots : List Slot) (x y : Slot) (i : ℕ) → slice_get slots i ≡ Some y → slice_get (slots ++ x ∷ []) i ≡ Some y
+pub put_same : (slots : List (Slot Content)) (id : Id) (h x : HandleRecord) → held_at slots id ≡ Some h → held_at (put slots id x) id ≡ Some x
+put_same slots id h x e = there_same slots id x (holds slots id h e).at
+
+pub put_other : (slots : List (Slot Content)) (id i : Id) (h x : HandleRecord) → held_at slots id ≡ Some h → (i ≡ id → ⊥) →
+    held_at (put slots id x) i ≡ held_at slots i
+put_other slots id i h x e d = there_other slots id i x (holds slots id h e).at d
+
+-- a slot that is emptied, whatever its generation is then
+abbrev pub emptied : List (Slot Content) → Id → ℕ → List (Slot Content)
+emptied slots id generation = slice_set slots id.slot (record { generation = generation; content = None })
+
+-- nothing is held in an empty slot
+nothing_in : (i : Id) (generation : ℕ) → look i (Some (record { generation = generation; content = None })) ≡ None
+nothing_in i generation = by (generation == i.generation) where
+  by : (b : Bool) → handle_in (cond b None None) ≡ None
+  by true = refl
+  by false = refl
+
+pub emptied_same : (slots : List (Slot Content)) (id : Id) (h : HandleRecord) (generation : ℕ) → held_at slots id ≡ Some h → held_at (emptied slots
+    id generation) id ≡ None
+emptied_same slots id h generation e =
+    let k = (holds slots id h e).at in
+    ap (look id) (get_set_same slots id.slot (record { generation = generation; content = None }) k.slot k.there) ∙ nothing_in id generation
+
+pub emptied_other : (slots : List (Slot Content)) (id i : Id) (h : HandleRecord) (generation : ℕ) → held_at slots id ≡ Some h → (i ≡ id → ⊥) →
+    held_at (emptied slots id generation) i ≡ held_at slots i
+emptied_other slots id i h generation e d = by (i.slot == id.slot) refl where
+  by : (b : Bool) → (i.slot == id.slot) ≡ b → held_at (emptied slots id generation) i ≡ held_at slots i
+  by false f = elsewhere slots id.slot i (record { generation = generation; content = None }) f
+  by true f =
+      let k = (holds slots id h e).at in
+      let here : i.slot ≡ id.slot = eqb-true i.slot id.slot f in
+      let apart : k.slot.generation ≡ i.generation → ⊥ = λ g. d (same i id (ids_alike i id here (sym g ∙ k.generation))) in
+      let after : slice_get (emptied slots id generation) i.slot ≡ Some (record { generation = generation; content = None }) =
+          rw here (get_set_same slots id.slot (record { generation = generation; content = None }) k.slot k.there) in
+      let before : slice_get slots i.slot ≡ Some k.slot = rw here k.there in
+      ap (look i) after ∙ nothing_in i generation ∙ sym (ap (look i) before ∙ other_generation i k.slot apart)
+
+pub get_push : (slots : List (Slot Content)) (x y : Slot Content) (i : ℕ) → slice_get slots i ≡ Some y → slice_get (slots ++ x ∷ []) i ≡ Some y
 get_push [] x y i e = cc e
 get_push (s ∷ slots) x y zero e = e
 get_push (s ∷ slots) x y (suc i) e = get_push slots x y i e
 
-got_push : (slots : List Slot) (x y : Slot) (i : ℕ) → slice_get (slots ++ x ∷ []) i ≡ Some y → (slice_get slots i ≡ Some y) ⊎ (x ≡ y)
-got_push [] x y zero e = inr (same_Some x y e)
-got_push [] x y (suc i) e = cc e
-got_push (s ∷ slots) x y zero e = inl e
-got_push (s ∷ slots) x y (suc i) e = got_push slots x y i e
+-- ---- a slot that is taken
 
-from_slot : (slots : List Slot) (id : Id) (h : Handle) → Holds slots id h → held_at slots id ≡ Some h
-from_slot slots id h k = ap (option_and_then (held_in id)) k.there ∙ in_slot id k.slot k.generation ∙ k.content
+-- one more handle is held, under an id under which nothing was
+pub record Grown (slots more : List (Slot Content)) (id : Id) (x : HandleRecord) : Type 0 where
+  pub here : held_at more id ≡ Some x
+  pub others : (i : Id) → (i ≡ id → ⊥) → held_at more i ≡ held_at slots i
+  pub new : held_at slots id ≡ None
 
-pub held_push : (slots : List Slot) (x : Slot) (id : Id) (h : Handle) → held_at slots id ≡ Some h → held_at (slots ++ x ∷ []) id ≡ Some h
-held_push slots x id h e = let k = holds slots id h e in from_slot (slots ++ x ∷ []) id h
-    (record { slot = k.slot; there = get_push slots x k.slot id.slot k.there; generation = k.generation; content = k.content })
+past_end : (slots : List (Slot Content)) (y z : Slot Content) (i : ℕ) → slice_get slots i ≡ None → slice_get (slots ++ y ∷ []) i ≡ Some z → (i ≡
+    length slots) × (y ≡ z)
+past_end [] y z zero e f = (refl, same_Some y z f)
+past_end [] y z (suc i) e f = cc f
+past_end (s ∷ slots) y z zero e f = cc e
+past_end (s ∷ slots) y z (suc i) e f = let rest = past_end slots y z i e f in (ap suc rest.0, rest.1)
 
-pub was_held : (slots : List Slot) (x : Slot) (id : Id) (h : Handle) → held_at (slots ++ x ∷ []) id ≡ Some h →
-    (held_at slots id ≡ Some h) ⊎ (handle_in x.content ≡ Some h)
-was_held slots x id h e =
-    let k = holds (slots ++ x ∷ []) id h e in
-    elim (got_push slots x k.slot id.slot k.there) [
-      | inl there ↦ inl (from_slot slots id h (record { slot = k.slot; there = there; generation = k.generation; content = k.content }))
-      | inr new ↦ inr (ap (λ (s : Slot). handle_in s.content) new ∙ k.content)
-    ]
+at_end : (slots : List (Slot Content)) (y : Slot Content) → slice_get (slots ++ y ∷ []) (length slots) ≡ Some y
+at_end [] y = refl
+at_end (s ∷ slots) y = at_end slots y
+
+none_at_end : (slots : List (Slot Content)) → slice_get slots (length slots) ≡ None
+none_at_end [] = refl
+none_at_end (s ∷ slots) = none_at_end slots
+
+-- the next unused slot
+pub grown_push : (slots : List (Slot Content)) (x : HandleRecord) → Grown slots (slots ++ slot_of (record { slot = length slots;
+    generation = 0 }) x ∷ []) (record { slot = length slots; generation = 0 }) x
+grown_push slots x = record { here = ap (look id) (at_end slots y) ∙ in_slot id y refl;
+    others = λ i d. by i d (slice_get slots i.slot) refl (slice_get (slots ++ y ∷ []) i.slot) refl; new = ap (look id) (none_at_end slots) } where
+  id : Id
+  id = record { slot = length slots; generation = 0 }
+
+  y : Slot Content
+  y = slot_of id x
+
+  by : (i : Id) → (i ≡ id → ⊥) → (o : Option (Slot Content)) → slice_get slots i.slot ≡ o → (q : Option (Slot Content)) → slice_get (slots ++ y ∷
+      []) i.slot ≡ q →
+      held_at (slots ++ y ∷ []) i ≡ held_at slots i
+  by i d (Some s) e q f = ap (look i) (get_push slots y s i.slot e) ∙ sym (ap (look i) e)
+  by i d None e None f = ap (look i) f ∙ sym (ap (look i) e)
+  by i d None e (Some z) f =
+      let end = past_end slots y z i.slot e f in
+      let apart : z.generation ≡ i.generation → ⊥ = λ g. d (same i id (ids_alike i id end.0 (sym g ∙ ap (λ (s : Slot Content). s.generation) (sym
+          end.1)))) in
+      ap (look i) f ∙ other_generation i z apart ∙ sym (ap (look i) e)
+
+-- an empty slot that was used
+pub grown_fill : (slots : List (Slot Content)) (id : Id) (x : HandleRecord) (k : IsThere slots id) → k.slot.content ≡ None → Grown slots (put slots
+    id x) id x
+grown_fill slots id x k empty = record {
+  here = there_same slots id x k;
+  others = λ i d. there_other slots id i x k d;
+  new = ap (look id) k.there ∙ in_slot id k.slot k.generation ∙ ap handle_in empty;
+}
 
 -- ---- ids of handles of which something holds
 
-pub record Fits (slots : List Slot) (P : Handle → Type 0) (id : Id) : Type 0 where
-  pub handle : Handle
+pub record Fits (slots : List (Slot Content)) (P : HandleRecord → Type 0) (id : Id) : Type 0 where
+  pub handle : HandleRecord
   pub holds : held_at slots id ≡ Some handle
   pub fits : P handle
 
-pub its_handle : (slots : List Slot) (P : Handle → Type 0) (id : Id) (h : Handle) → held_at slots id ≡ Some h → Fits slots P id → P h
+pub its_handle : (slots : List (Slot Content)) (P : HandleRecord → Type 0) (id : Id) (h : HandleRecord) → held_at slots id ≡ Some h → Fits slots P
+    id → P h
 its_handle slots P id h e f = subst P (same_Some _ _ (sym f.holds ∙ e)) f.fits
 
 -- another handle is changed, or this one in a way that lets it fit
-pub fits_put : (slots : List Slot) (P : Handle → Type 0) (id : Id) (h x : Handle) → held_at slots id ≡ Some h → (P h → P x) → (i : Id) →
+pub fits_put : (slots : List (Slot Content)) (P : HandleRecord → Type 0) (id : Id) (h x : HandleRecord) → held_at slots id ≡ Some h → (P h → P x) →
+    (i : Id) →
     Fits slots P i → Fits (put slots id x) P i
 fits_put slots P id h x e f i k = at (same_id i id) refl where
   at : (b : Bool) → same_id i id ≡ b → Fits (put slots id x) P i
@@ -140,17 +223,20 @@ fits_put slots P id h x e f i k = at (same_id i id) refl where
       (its_handle slots P id h e (subst (Fits slots P) is k)) }
   at false s = record { handle = k.handle; holds = put_other slots id i h x e (other i id s) ∙ k.holds; fits = k.fits }
 
-pub fits_other : (slots : List Slot) (P : Handle → Type 0) (id : Id) (h x : Handle) → held_at slots id ≡ Some h → (i : Id) → (i ≡ id → ⊥) →
+pub fits_other : (slots : List (Slot Content)) (P : HandleRecord → Type 0) (id : Id) (h x : HandleRecord) → held_at slots id ≡ Some h → (i : Id) →
+    (i ≡ id → ⊥) →
     Fits slots P i → Fits (put slots id x) P i
 fits_other slots P id h x e i d k = record { handle = k.handle; holds = put_other slots id i h x e d ∙ k.holds; fits = k.fits }
 
 -- it fitted before, unless it is the one that was changed
-pub fitted : (slots : List Slot) (P : Handle → Type 0) (id : Id) (h x : Handle) → held_at slots id ≡ Some h → (i : Id) → (i ≡ id → ⊥) →
+pub fitted : (slots : List (Slot Content)) (P : HandleRecord → Type 0) (id : Id) (h x : HandleRecord) → held_at slots id ≡ Some h → (i : Id) → (i ≡
+    id → ⊥) →
     Fits (put slots id x) P i → Fits slots P i
 fitted slots P id h x e i d k = record { handle = k.handle; holds = sym (put_other slots id i h x e d) ∙ k.holds; fits = k.fits }
 
 -- it fitted before, where the changed one did if it does now
-pub fits_back : (slots : List Slot) (P : Handle → Type 0) (id : Id) (h x : Handle) → held_at slots id ≡ Some h → (P x → P h) → (i : Id) →
+pub fits_back : (slots : List (Slot Content)) (P : HandleRecord → Type 0) (id : Id) (h x : HandleRecord) → held_at slots id ≡ Some h → (P x → P h) →
+    (i : Id) →
     Fits (put slots id x) P i → Fits slots P i
 fits_back slots P id h x e g i l = at (same_id i id) refl where
   at : (b : Bool) → same_id i id ≡ b → Fits slots P i
@@ -160,51 +246,46 @@ fits_back slots P id h x e g i l = at (same_id i id) refl where
           (its_handle (put slots id x) P id x (put_same slots id h x e) (subst (Fits (put slots id x) P) is l)) }
   at false s = fitted slots P id h x e i (other i id s) l
 
-pub fits_push : (slots : List Slot) (P : Handle → Type 0) (x : Slot) (i : Id) → Fits slots P i → Fits (slots ++ x ∷ []) P i
-fits_push slots P x i k = record { handle = k.handle; holds = held_push slots x i k.handle k.holds; fits = k.fits }
-
 -- ---- lists of such ids, on which none stands twice
 
-pub record Lists (slots : List Slot) (P : Handle → Type 0) (ids : List Id) : Type 0 where
+pub record Lists (slots : List (Slot Content)) (P : HandleRecord → Type 0) (ids : List Id) : Type 0 where
   pub each : Each (Fits slots P) ids
   pub distinct : AreDistinct ids
 
-pub lists_none : (slots : List Slot) (P : Handle → Type 0) → Lists slots P []
-lists_none slots P = record { each = tt; distinct = tt }
-
-pub lists_put : (slots : List Slot) (P : Handle → Type 0) (id : Id) (h x : Handle) (ids : List Id) → held_at slots id ≡ Some h → (P h → P x) →
+pub lists_put : (slots : List (Slot Content)) (P : HandleRecord → Type 0) (id : Id) (h x : HandleRecord) (ids : List Id) → held_at slots id ≡ Some h
+    → (P h → P x) →
     Lists slots P ids → Lists (put slots id x) P ids
 lists_put slots P id h x ids e f k = record { each = each_mapped (Fits slots P) (Fits (put slots id x) P)
     (fits_put slots P id h x e f) ids k.each; distinct = k.distinct }
 
-pub lists_without : (slots : List Slot) (P : Handle → Type 0) (id : Id) (h x : Handle) (ids : List Id) → held_at slots id ≡ Some h →
+pub lists_without : (slots : List (Slot Content)) (P : HandleRecord → Type 0) (id : Id) (h x : HandleRecord) (ids : List Id) → held_at slots id ≡
+    Some h →
     Lists slots P ids → Lists (put slots id x) P (without_id ids id)
 lists_without slots P id h x ids e k = record { each = each_without (Fits slots P) (Fits (put slots id x) P) id
     (λ i d f. fits_other slots P id h x e i d f) ids k.each; distinct = distinct_without ids id k.distinct }
 
-pub lists_push : (slots : List Slot) (P : Handle → Type 0) (x : Slot) (ids : List Id) → Lists slots P ids → Lists (slots ++ x ∷ []) P ids
-lists_push slots P x ids k = record { each = each_mapped (Fits slots P) (Fits (slots ++ x ∷ []) P)
-    (fits_push slots P x) ids k.each; distinct = k.distinct }
-
 -- a handle that doesn't fit is on no such list
-pub not_listed : (slots : List Slot) (P : Handle → Type 0) (id : Id) (h : Handle) (ids : List Id) → held_at slots id ≡ Some h → (P h → ⊥) →
+pub not_listed : (slots : List (Slot Content)) (P : HandleRecord → Type 0) (id : Id) (h : HandleRecord) (ids : List Id) → held_at slots id ≡ Some h
+    → (P h → ⊥) →
     Lists slots P ids → has_id ids id ≡ false
 not_listed slots P id h ids e f k = absent (Fits slots P) id (λ g. f (its_handle slots P id h e g)) ids k.each
 
 -- ---- all handles of which something holds
 
-pub record Everyone (slots : List Slot) (P : Handle → Type 0) (ids : List Id) : Type 0 where
+pub record Everyone (slots : List (Slot Content)) (P : HandleRecord → Type 0) (ids : List Id) : Type 0 where
   pub lists : Lists slots P ids
   pub all : (id : Id) → Fits slots P id → has_id ids id ≡ true
 
 -- a handle is changed that fits before and after, or doesn't
-pub everyone_put : (slots : List Slot) (P : Handle → Type 0) (id : Id) (h x : Handle) (ids : List Id) → held_at slots id ≡ Some h →
+pub everyone_put : (slots : List (Slot Content)) (P : HandleRecord → Type 0) (id : Id) (h x : HandleRecord) (ids : List Id) → held_at slots id ≡
+    Some h →
     (P h → P x) → (P x → P h) → Everyone slots P ids → Everyone (put slots id x) P ids
 everyone_put slots P id h x ids e f g k = record { lists = lists_put slots P id h x ids e f k.lists; all = λ i l. k.all i
     (fits_back slots P id h x e g i l) }
 
 -- one that doesn't fit any more is taken off
-pub everyone_without : (slots : List Slot) (P : Handle → Type 0) (id : Id) (h x : Handle) (ids : List Id) → held_at slots id ≡ Some h →
+pub everyone_without : (slots : List (Slot Content)) (P : HandleRecord → Type 0) (id : Id) (h x : HandleRecord) (ids : List Id) → held_at slots id ≡
+    Some h →
     (P x → ⊥) → Everyone slots P ids → Everyone (put slots id x) P (without_id ids id)
 everyone_without slots P id h x ids e g k = record { lists = lists_without slots P id h x ids e k.lists; all = λ i l. at i l
     (same_id i id) refl } where
@@ -213,7 +294,8 @@ everyone_without slots P id h x ids e g k = record { lists = lists_without slots
   at i l false s = still_there ids id i s (k.all i (fitted slots P id h x e i (other i id s) l))
 
 -- one that fits from now on is put in front
-pub everyone_front : (slots : List Slot) (P : Handle → Type 0) (id : Id) (h x : Handle) (ids : List Id) → held_at slots id ≡ Some h →
+pub everyone_front : (slots : List (Slot Content)) (P : HandleRecord → Type 0) (id : Id) (h x : HandleRecord) (ids : List Id) → held_at slots id ≡
+    Some h →
     (P h → ⊥) → P x → Everyone slots P ids → Everyone (put slots id x) P (id ∷ ids)
 everyone_front slots P id h x ids e f g k =
     let away : has_id ids id ≡ false = not_listed slots P id h ids e f k.lists in
@@ -227,31 +309,116 @@ everyone_front slots P id h x ids e f g k =
   at i l true s = rw (turned id i, s) refl
   at i l false s = rw (turned id i, s) (k.all i (fitted slots P id h x e i (other i id s) l))
 
-pub everyone_push : (slots : List Slot) (P : Handle → Type 0) (x : Slot) (ids : List Id) → ((h : Handle) → handle_in x.content ≡ Some h → P h → ⊥) →
-    Everyone slots P ids → Everyone (slots ++ x ∷ []) P ids
-everyone_push slots P x ids d k = record {
-  lists = lists_push slots P x ids k.lists;
-  all = λ i l. elim (was_held slots x i l.handle l.holds) [
-    | inl old ↦ k.all i (record { handle = l.handle; holds = old; fits = l.fits })
-    | inr new ↦ absurd (d l.handle new l.fits)
+-- ---- one handle more, or one less
+
+pub fits_grown : (slots more : List (Slot Content)) (P : HandleRecord → Type 0) (id : Id) (x : HandleRecord) → Grown slots more id x → (i : Id) →
+    Fits slots P i → Fits more P i
+fits_grown slots more P id x g i k = record { handle = k.handle; holds = g.others i (λ e. clash (ap (held_at slots) (sym e) ∙ k.holds)) ∙ k.holds;
+    fits = k.fits } where
+  clash : held_at slots id ≡ Some k.handle → ⊥
+  clash e = cc (sym g.new ∙ e)
+
+-- it fitted before, unless it is the new one
+pub fitted_grown : (slots more : List (Slot Content)) (P : HandleRecord → Type 0) (id : Id) (x : HandleRecord) → Grown slots more id x → (i : Id) →
+    Fits more P i →
+    ((i ≡ id) × P x) ⊎ Fits slots P i
+fitted_grown slots more P id x g i l = by (same_id i id) refl where
+  by : (b : Bool) → same_id i id ≡ b → ((i ≡ id) × P x) ⊎ Fits slots P i
+  by true s = let is = same i id s in inl (is, its_handle more P id x g.here (subst (Fits more P) is l))
+  by false s = inr (record { handle = l.handle; holds = sym (g.others i (other i id s)) ∙ l.holds; fits = l.fits })
+
+pub lists_grown : (slots more : List (Slot Content)) (P : HandleRecord → Type 0) (id : Id) (x : HandleRecord) (ids : List Id) → Grown slots more id
+    x →
+    Lists slots P ids → Lists more P ids
+lists_grown slots more P id x ids g k = record { each = each_mapped (Fits slots P) (Fits more P) (fits_grown slots more P id x g) ids k.each;
+    distinct = k.distinct }
+
+pub everyone_grown : (slots more : List (Slot Content)) (P : HandleRecord → Type 0) (id : Id) (x : HandleRecord) (ids : List Id) → Grown slots more
+    id x → (P x → ⊥) →
+    Everyone slots P ids → Everyone more P ids
+everyone_grown slots more P id x ids g d k = record {
+  lists = lists_grown slots more P id x ids g k.lists;
+  all = λ i l. elim (fitted_grown slots more P id x g i l) [ | inl new ↦ absurd (d new.1) | inr old ↦ k.all i old ];
+}
+
+-- the new one is listed, anywhere
+pub everyone_listed : (slots more : List (Slot Content)) (P : HandleRecord → Type 0) (id : Id) (x : HandleRecord) (xs ys : List Id) → Grown slots
+    more id x → P x →
+    Everyone slots P (xs ++ ys) → Everyone more P (xs ++ id ∷ ys)
+everyone_listed slots more P id x xs ys g fits k = record {
+  lists = record {
+    each = each_middle (Fits more P) xs ys id (record { handle = x; holds = g.here;
+        fits = fits }) (lists_grown slots more P id x (xs ++ ys) g k.lists).each;
+    distinct = distinct_middle xs ys id k.lists.distinct (absent (Fits slots P) id (λ f. clash f.handle f.holds) (xs ++ ys) k.lists.each);
+  };
+  all = λ i l. elim (fitted_grown slots more P id x g i l) [
+    | inl new ↦ subst (λ (j : Id). has_id (xs ++ id ∷ ys) j ≡ true) (sym new.0) (has_new_middle xs ys id)
+    | inr old ↦ has_old_middle xs ys id i (k.all i old)
   ];
+} where
+  clash : (h : HandleRecord) → held_at slots id ≡ Some h → ⊥
+  clash h e = cc (sym g.new ∙ e)
+
+-- a slot is emptied, whose handle fitted nowhere
+pub fits_emptied : (slots : List (Slot Content)) (P : HandleRecord → Type 0) (id : Id) (h : HandleRecord) (n : ℕ) → held_at slots id ≡ Some h → (i :
+    Id) → (i ≡ id → ⊥) →
+    Fits slots P i → Fits (emptied slots id n) P i
+fits_emptied slots P id h n e i d k = record { handle = k.handle; holds = emptied_other slots id i h n e d ∙ k.holds; fits = k.fits }
+
+pub fitted_emptied : (slots : List (Slot Content)) (P : HandleRecord → Type 0) (id : Id) (h : HandleRecord) (n : ℕ) → held_at slots id ≡ Some h → (i
+    : Id) →
+    Fits (emptied slots id n) P i → (i ≡ id → ⊥) × Fits slots P i
+fitted_emptied slots P id h n e i l = (apart, record { handle = l.handle; holds = sym (emptied_other slots id i h n e apart) ∙ l.holds;
+    fits = l.fits }) where
+  clash : held_at (emptied slots id n) id ≡ Some l.handle → ⊥
+  clash f = cc (sym (emptied_same slots id h n e) ∙ f)
+
+  apart : i ≡ id → ⊥
+  apart is = clash (ap (held_at (emptied slots id n)) (sym is) ∙ l.holds)
+
+pub lists_emptied : (slots : List (Slot Content)) (P : HandleRecord → Type 0) (id : Id) (h : HandleRecord) (n : ℕ) (ids : List Id) → held_at slots
+    id ≡ Some h → (P h → ⊥) →
+    Lists slots P ids → Lists (emptied slots id n) P ids
+lists_emptied slots P id h n ids e d k = record {
+  each = each_mapped (Fits slots P) (Fits (emptied slots id n) P) (λ i f. fits_emptied slots P id h n e i (λ is. d (its_handle slots P id h e (subst
+      (Fits slots P) is f))) f) ids k.each;
+  distinct = k.distinct;
+}
+
+pub everyone_emptied : (slots : List (Slot Content)) (P : HandleRecord → Type 0) (id : Id) (h : HandleRecord) (n : ℕ) (ids : List Id) → held_at
+    slots id ≡ Some h → (P h → ⊥) →
+    Everyone slots P ids → Everyone (emptied slots id n) P ids
+everyone_emptied slots P id h n ids e d k = record { lists = lists_emptied slots P id h n ids e d k.lists;
+    all = λ i l. k.all i (fitted_emptied slots P id h n e i l).1 }
+
+-- the one whose slot is emptied is the first of a list, and leaves it
+pub everyone_rest : (slots : List (Slot Content)) (P : HandleRecord → Type 0) (id : Id) (h : HandleRecord) (n : ℕ) (xs ys : List Id) → held_at slots
+    id ≡ Some h →
+    Everyone slots P (xs ++ id ∷ ys) → Everyone (emptied slots id n) P (xs ++ ys)
+everyone_rest slots P id h n xs ys e k = record {
+  lists = record {
+    each = each_but (Fits slots P) (Fits (emptied slots id n) P) xs ys id (λ i d f. fits_emptied slots P id h n e i d f) k.lists.distinct
+        k.lists.each;
+    distinct = distinct_but xs ys id k.lists.distinct;
+  };
+  all = λ i l. let f = fitted_emptied slots P id h n e i l in has_but xs ys id i (f.0) (k.all i f.1);
 }
 
 -- ---- the timers
 
-pub record IsSet (key : Due) (h : Handle) : Type 0 where
+pub record IsSet (key : Due) (h : HandleRecord) : Type 0 where
   pub kind : h.kind ≡ kind.Timer
   pub active : h.active ≡ true
   pub due : h.due ≡ key
 
 -- the order of timers has just the active ones, and their start numbers are drawn
-pub record Times (slots : List Slot) (drawn : ℕ) (ts : List (Due × Id)) : Type 0 where
+pub record Times (slots : List (Slot Content)) (drawn : ℕ) (ts : List (Due × Id)) : Type 0 where
   pub each : (key : Due) (id : Id) → Has ts key id → Fits slots (IsSet key) id × (key.start < drawn)
   pub all : (key : Due) (id : Id) → Fits slots (IsSet key) id → Has ts key id
   pub sorted : InOrder ts
 
 -- a handle is changed that is no active timer, before or after
-pub times_put : (slots : List Slot) (drawn : ℕ) (ts : List (Due × Id)) (id : Id) (h x : Handle) → held_at slots id ≡ Some h →
+pub times_put : (slots : List (Slot Content)) (drawn : ℕ) (ts : List (Due × Id)) (id : Id) (h x : HandleRecord) → held_at slots id ≡ Some h →
     ((key : Due) → IsSet key h → IsSet key x) → ((key : Due) → IsSet key x → IsSet key h) → Times slots drawn ts → Times (put slots id x) drawn ts
 times_put slots drawn ts id h x e f g k = record {
   each = λ key i l. let m = k.each key i l in (fits_put slots (IsSet key) id h x e (f key) i m.0, m.1);
@@ -260,7 +427,8 @@ times_put slots drawn ts id h x e f g k = record {
 }
 
 -- an active timer becomes inactive
-pub times_without : (slots : List Slot) (drawn : ℕ) (ts : List (Due × Id)) (key : Due) (id : Id) (h x : Handle) → held_at slots id ≡ Some h →
+pub times_without : (slots : List (Slot Content)) (drawn : ℕ) (ts : List (Due × Id)) (key : Due) (id : Id) (h x : HandleRecord) → held_at slots id ≡
+    Some h →
     IsSet key h → x.active ≡ false → Times slots drawn ts → Times (put slots id x) drawn (without_timer ts key)
 times_without slots drawn ts key id h x e a off k = record {
   each = λ other_key i l.
@@ -280,7 +448,7 @@ times_without slots drawn ts key id h x e a off k = record {
       (subst (Fits (put slots id x) (IsSet other_key)) is l)).active in cc (on, off)
 
 -- the first one becomes inactive
-pub times_rest : (slots : List Slot) (drawn : ℕ) (t : Due × Id) (ts : List (Due × Id)) (h x : Handle) → held_at slots t.1 ≡ Some h →
+pub times_rest : (slots : List (Slot Content)) (drawn : ℕ) (t : Due × Id) (ts : List (Due × Id)) (h x : HandleRecord) → held_at slots t.1 ≡ Some h →
     x.active ≡ false → Times slots drawn (t ∷ ts) → Times (put slots t.1 x) drawn ts
 times_rest slots drawn t ts h x e off k = record {
   each = λ key i l. let n = k.each key i (inr l) in
@@ -305,7 +473,8 @@ times_rest slots drawn t ts h x e off k = record {
   behind key i d (inr rest) = rest
 
 -- an inactive one becomes active, with a start number that is drawn now
-pub times_with : (slots : List Slot) (drawn more : ℕ) (ts : List (Due × Id)) (key : Due) (id : Id) (h x : Handle) → held_at slots id ≡ Some h →
+pub times_with : (slots : List (Slot Content)) (drawn more : ℕ) (ts : List (Due × Id)) (key : Due) (id : Id) (h x : HandleRecord) → held_at slots id
+    ≡ Some h →
     h.active ≡ false → IsSet key x → key.start ≡ drawn → drawn < more → Times slots drawn ts → Times (put slots id x) more (with_timer ts key id)
 times_with slots drawn more ts key id h x e off a number less k = record {
   each = λ other_key i l. elim (new_or_old ts key other_key id i fresh l) [
@@ -318,7 +487,7 @@ times_with slots drawn more ts key id h x e off a number less k = record {
   all = λ other_key i l. at other_key i l (same_id i id) refl;
   sorted = in_order_with ts key id k.sorted;
 } where
-  on_and_off : (y : Handle) → y.active ≡ true → y.active ≡ false → ⊥
+  on_and_off : (y : HandleRecord) → y.active ≡ true → y.active ≡ false → ⊥
   on_and_off y on off' = cc (on, off')
 
   fresh : IsNew key ts
@@ -333,15 +502,25 @@ times_with slots drawn more ts key id h x e off a number less k = record {
           (subst (Has (with_timer ts key id) key) (sym is) (has_new ts key id fresh))
   at other_key i l false s = has_old ts key other_key id i fresh (k.all other_key i (fitted slots (IsSet other_key) id h x e i (other i id s) l))
 
-pub times_push : (slots : List Slot) (drawn : ℕ) (ts : List (Due × Id)) (x : Slot) →
-    ((h : Handle) → handle_in x.content ≡ Some h → h.active ≡ false) → Times slots drawn ts → Times (slots ++ x ∷ []) drawn ts
-times_push slots drawn ts x off k = record {
-  each = λ key i l. let m = k.each key i l in (fits_push slots (IsSet key) x i m.0, m.1);
-  all = λ key i l. elim (was_held slots x i l.handle l.holds) [
-    | inl old ↦ k.all key i (record { handle = l.handle; holds = old; fits = l.fits })
-    | inr new ↦ absurd (clash l.handle l.fits.active (off l.handle new))
-  ];
+-- one handle more, which is no active timer
+pub times_grown : (slots more : List (Slot Content)) (drawn : ℕ) (ts : List (Due × Id)) (id : Id) (x : HandleRecord) → Grown slots more id x → ((key
+    : Due) → IsSet key x → ⊥) →
+    Times slots drawn ts → Times more drawn ts
+times_grown slots more drawn ts id x g d k = record {
+  each = λ key i l. let m = k.each key i l in (fits_grown slots more (IsSet key) id x g i m.0, m.1);
+  all = λ key i l. elim (fitted_grown slots more (IsSet key) id x g i l) [ | inl new ↦ absurd (d key new.1) | inr old ↦ k.all key i old ];
   sorted = k.sorted;
-} where
-  clash : (y : Handle) → y.active ≡ true → y.active ≡ false → ⊥
-  clash y on off' = cc (on, off')
+}
+
+-- and one less
+pub times_emptied : (slots : List (Slot Content)) (drawn : ℕ) (ts : List (Due × Id)) (id : Id) (h : HandleRecord) (n : ℕ) → held_at slots id ≡ Some
+    h →
+    ((key : Due) → IsSet key h → ⊥) → Times slots drawn ts → Times (emptied slots id n) drawn ts
+times_emptied slots drawn ts id h n e d k = record {
+  each = λ key i l.
+      let m = k.each key i l in
+      (fits_emptied slots (IsSet key) id h n e i (λ is. d key (its_handle slots (IsSet key) id h e (subst (Fits slots (IsSet key)) is m.0))) m.0,
+          m.1);
+  all = λ key i l. k.all key i (fitted_emptied slots (IsSet key) id h n e i l).1;
+  sorted = k.sorted;
+}

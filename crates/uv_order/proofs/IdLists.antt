@@ -142,6 +142,79 @@ distinct_push [] x h k = (refl, tt)
 distinct_push (id ∷ ids) x h k = let parts = or_parts (same_id id x) (has_id ids x) k in
     (has_push ids x id h.0 (turned x id ∙ parts.0), distinct_push ids x h.1 parts.1)
 
+-- ---- one in the middle
+
+pub each_middle : (P : Id → Type 0) (xs ys : List Id) (id : Id) → P id → Each P (xs ++ ys) → Each P (xs ++ id ∷ ys)
+each_middle P [] ys id p h = (p, h)
+each_middle P (x ∷ xs) ys id p h = (h.0, each_middle P xs ys id p h.1)
+
+has_no_middle : (xs ys : List Id) (id i : Id) → same_id id i ≡ false → has_id (xs ++ ys) i ≡ false → has_id (xs ++ id ∷ ys) i ≡ false
+has_no_middle [] ys id i d h = rw (d, h) refl
+has_no_middle (x ∷ xs) ys id i d h = let parts = or_parts (same_id x i) (has_id (xs ++ ys) i) h in rw (parts.0, has_no_middle xs ys id i d parts.1)
+    refl
+
+pub distinct_middle : (xs ys : List Id) (id : Id) → AreDistinct (xs ++ ys) → has_id (xs ++ ys) id ≡ false → AreDistinct (xs ++ id ∷ ys)
+distinct_middle [] ys id h d = (d, h)
+distinct_middle (x ∷ xs) ys id h d =
+    let parts = or_parts (same_id x id) (has_id (xs ++ ys) id) d in
+    (has_no_middle xs ys id x (turned id x ∙ parts.0) h.0, distinct_middle xs ys id h.1 parts.1)
+
+pub has_new_middle : (xs ys : List Id) (id : Id) → has_id (xs ++ id ∷ ys) id ≡ true
+has_new_middle [] ys id = rw (itself id id refl) refl
+has_new_middle (x ∷ xs) ys id = at (same_id x id) (has_new_middle xs ys id) where
+  at : (b : Bool) → has_id (xs ++ id ∷ ys) id ≡ true → (b || has_id (xs ++ id ∷ ys) id) ≡ true
+  at true h = refl
+  at false h = h
+
+pub has_old_middle : (xs ys : List Id) (id i : Id) → has_id (xs ++ ys) i ≡ true → has_id (xs ++ id ∷ ys) i ≡ true
+has_old_middle [] ys id i h = at (same_id id i) where
+  at : (b : Bool) → (b || has_id ys i) ≡ true
+  at true = refl
+  at false = h
+has_old_middle (x ∷ xs) ys id i h = at (same_id x i) h (has_old_middle xs ys id i) where
+  at : (b : Bool) → (b || has_id (xs ++ ys) i) ≡ true → (has_id (xs ++ ys) i ≡ true → has_id (xs ++ id ∷ ys) i ≡ true) → (b || has_id (xs ++ id ∷
+      ys) i) ≡ true
+  at true k rest = refl
+  at false k rest = rest k
+
+-- the one in the middle goes
+has_no_other : (xs ys : List Id) (id i : Id) → has_id (xs ++ id ∷ ys) i ≡ false → has_id (xs ++ ys) i ≡ false
+has_no_other [] ys id i h = (or_parts (same_id id i) (has_id ys i) h).1
+has_no_other (x ∷ xs) ys id i h = let parts = or_parts (same_id x i) (has_id (xs ++ id ∷ ys) i) h in rw (parts.0, has_no_other xs ys id i parts.1)
+    refl
+
+pub distinct_but : (xs ys : List Id) (id : Id) → AreDistinct (xs ++ id ∷ ys) → AreDistinct (xs ++ ys)
+distinct_but [] ys id h = h.1
+distinct_but (x ∷ xs) ys id h = (has_no_other xs ys id x h.0, distinct_but xs ys id h.1)
+
+pub has_but : (xs ys : List Id) (id i : Id) → (i ≡ id → ⊥) → has_id (xs ++ id ∷ ys) i ≡ true → has_id (xs ++ ys) i ≡ true
+has_but [] ys id i d h = at (same_id id i) refl h where
+  at : (b : Bool) → same_id id i ≡ b → (b || has_id ys i) ≡ true → has_id ys i ≡ true
+  at true e k = absurd (d (sym (same id i e)))
+  at false e k = k
+has_but (x ∷ xs) ys id i d h = at (same_id x i) h (has_but xs ys id i d) where
+  at : (b : Bool) → (b || has_id (xs ++ id ∷ ys) i) ≡ true → (has_id (xs ++ id ∷ ys) i ≡ true → has_id (xs ++ ys) i ≡ true) → (b || has_id (xs ++
+      ys) i) ≡ true
+  at true k rest = refl
+  at false k rest = rest k
+
+-- none of the others is that one
+gone : (xs ys : List Id) (id x : Id) → has_id (xs ++ id ∷ ys) x ≡ false → x ≡ id → ⊥
+gone [] ys id x h e = both_ways (same_id id x) ((or_parts (same_id id x) (has_id ys x) h).0) (itself id x (sym e))
+gone (y ∷ xs) ys id x h e = gone xs ys id x ((or_parts (same_id y x) (has_id (xs ++ id ∷ ys) x) h).1) e
+
+each_apart : (P Q : Id → Type 0) (ys : List Id) (id : Id) → ((i : Id) → (i ≡ id → ⊥) → P i → Q i) → has_id ys id ≡ false → Each P ys → Each Q ys
+each_apart P Q [] id f h e = tt
+each_apart P Q (y ∷ ys) id f h e =
+    let parts = or_parts (same_id y id) (has_id ys id) h in
+    (f y (other y id parts.0) e.0, each_apart P Q ys id f parts.1 e.1)
+
+pub each_but : (P Q : Id → Type 0) (xs ys : List Id) (id : Id) → ((i : Id) → (i ≡ id → ⊥) → P i → Q i) → AreDistinct (xs ++ id ∷ ys) → Each P (xs ++
+    id ∷ ys) →
+    Each Q (xs ++ ys)
+each_but P Q [] ys id f d h = each_apart P Q ys id f d.0 h.1
+each_but P Q (x ∷ xs) ys id f d h = (f x (gone xs ys id x d.0) h.0, each_but P Q xs ys id f d.1 h.1)
+
 -- ---- those that were not taken off
 
 abbrev pub left_of : List Id → List Id → List Id

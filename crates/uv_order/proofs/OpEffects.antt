@@ -13,13 +13,17 @@ use Rattle.uv_ids.specs.declared.phase.Phase.{Phase}
 use Rattle.uv_ids.specs.declared.phase.Phase.TheVariants as phase
 use Rattle.uv_script.specs.declared.op.Op.{Op}
 use Rattle.uv_script.specs.declared.op.Op.TheVariants as op
-use Rattle.uv_model.specs.declared.handle.Handle.{Handle}
-use Rattle.uv_model.specs.declared.handle.Named.{Named}
-use Rattle.uv_model.specs.declared.watchers.WatcherKind.{WatcherKind}
-use Rattle.uv_model.specs.declared.watchers.WatcherKind.TheVariants as watcher
+use Rattle.uv_records.specs.declared.handle.HandleRecord.{HandleRecord}
+use Rattle.uv_model.specs.declared.named.Named.{Named}
+use Rattle.uv_records.specs.declared.lists.WatcherKind.{WatcherKind}
+use Rattle.uv_records.specs.declared.lists.WatcherKind.TheVariants as watcher
+use Rattle.uv_records.specs.Handles as records
+use Rattle.uv_records.specs.Lists.{watcher_kind}
+use Rattle.uv_records.specs.Refusals.{no_refusal, timer_refusal, start_timer_refusal, start_watcher_refusal, stop_refusal, again_refusal, close_refusal}
+use Rattle.uv_records.specs.Slots.{next_free}
+use Rattle.uv_records.specs.Walks.{Walk}
 use Rattle.uv_model.specs.Ids.{without_id}
-use Rattle.uv_model.specs.Watchers.{Watched}
-use Rattle.uv_model.specs.State.{State, held, live, named, unbound, unused_slot}
+use Rattle.uv_model.specs.State.{State, handle, live, named, unbound}
 use Rattle.uv_model.specs.Timers.{stopped, started}
 use Rattle.uv_model.specs.Ops as ops
 use Rattle.uv_model.specs.Ops.{do_op}
@@ -28,7 +32,8 @@ use Rattle.uv_order.specs.Documented.{lasting, after_op, taken_off, ids_of, off_
 use Rattle.uv_order.proofs.IdLists.{left_of, none_off, one_off, without_absent, has_back}
 use Rattle.uv_order.proofs.Holding.{Everyone, not_listed}
 use Rattle.uv_order.proofs.Keeping.{Kept, Watches, members}
-use Rattle.uv_order.proofs.OpCases.{live_held, live_bound, IsRefusal, on_handle_both, on_timer_both, on_watcher_both}
+use Rattle.uv_model.proofs.Found.{found_both}
+use Rattle.uv_order.proofs.OpCases.{live_held, live_bound, IsRefusal, refuses_none, refuses_timer, refuses_start, refuses_start_watcher, refuses_stop, refuses_again, refuses_close, start_passes, again_passes, on_handle_both, send_both}
 
 -- ---- counts of calls
 
@@ -67,6 +72,8 @@ pub record Effect (s : State) (o : Op) (d : ops.Done) : Type 0 where
   pub idle : d.state.idle.yet ≡ left_of s.idle.yet (taken_off phase.Idle s o d.answer)
   pub prepare : d.state.prepare.yet ≡ left_of s.prepare.yet (taken_off phase.Prepare s o d.answer)
   pub check : d.state.check.yet ≡ left_of s.check.yet (taken_off phase.Check s o d.answer)
+  pub async : d.state.async.yet ≡ left_of s.async.yet (taken_off phase.Async s o d.answer)
+  pub closing : d.state.closing.yet ≡ s.closing.yet
 
 -- the op takes nobody off
 abbrev TakesNone : State → Op → Answer → Type 0
@@ -78,9 +85,11 @@ record SameLists (now was : State) : Type 0 where
   idle : now.idle.yet ≡ was.idle.yet
   prepare : now.prepare.yet ≡ was.prepare.yet
   check : now.check.yet ≡ was.check.yet
+  async : now.async.yet ≡ was.async.yet
+  closing : now.closing.yet ≡ was.closing.yet
 
 same_lists : (s : State) → SameLists s s
-same_lists s = record { ready = refl; idle = refl; prepare = refl; check = refl }
+same_lists s = record { ready = refl; idle = refl; prepare = refl; check = refl; async = refl; closing = refl }
 
 -- nobody is taken off, and the lists stay
 quiet : (s : State) (o : Op) (d : ops.Done) → TakesNone s o d.answer → lasting d.state ≡ after_op o s → SameCalls d.state.names s.names →
@@ -92,6 +101,8 @@ quiet s o d none lasts calls lists = record {
   idle = same phase.Idle d.state.idle.yet s.idle.yet lists.idle;
   prepare = same phase.Prepare d.state.prepare.yet s.prepare.yet lists.prepare;
   check = same phase.Check d.state.check.yet s.check.yet lists.check;
+  async = same phase.Async d.state.async.yet s.async.yet lists.async;
+  closing = lists.closing;
 } where
   same : (word : Phase) (now was : List Id) → now ≡ was → now ≡ left_of was (taken_off word s o d.answer)
   same word now was e = rw (none word) (e ∙ sym (none_off was))
@@ -119,13 +130,13 @@ left_one : (ids : List Id) (id : Id) → without_id ids id ≡ left_of ids (id �
 left_one ids id = sym (one_off ids [] id ∙ ap (λ (is : List Id). without_id is id) (none_off ids))
 
 -- the id of a live name
-one_taken : (s : State) (v : Var) (t : Id × Handle) → live s v ≡ Some t → ids_of s (Some v) ≡ t.0 ∷ []
+one_taken : (s : State) (v : Var) (t : Id × HandleRecord) → live s v ≡ Some t → ids_of s (Some v) ≡ t.0 ∷ []
 one_taken s v t e = rw (live_bound s v t e) refl
 
-taken_one : (s : State) (v : Var) (t : Id × Handle) (ids : List Id) → live s v ≡ Some t → without_id ids t.0 ≡ left_of ids (ids_of s (Some v))
+taken_one : (s : State) (v : Var) (t : Id × HandleRecord) (ids : List Id) → live s v ≡ Some t → without_id ids t.0 ≡ left_of ids (ids_of s (Some v))
 taken_one s v t ids e = rw (one_taken s v t e) (left_one ids t.0)
 
-stop_effect : (s : State) (v : Var) (t : Id × Handle) → live s v ≡ Some t → Effect s (op.Stop v) (ops.stop s t.0 t.1)
+stop_effect : (s : State) (v : Var) (t : Id × HandleRecord) → live s v ≡ Some t → Effect s (op.Stop v) (ops.stop s t.0 t.1)
 stop_effect s v t e = record {
   lasts = refl;
   calls = same_calls s.names;
@@ -133,23 +144,37 @@ stop_effect s v t e = record {
   idle = taken_one s v t s.idle.yet e;
   prepare = taken_one s v t s.prepare.yet e;
   check = taken_one s v t s.check.yet e;
+  async = taken_one s v t s.async.yet e;
+  closing = refl;
+}
+
+close_effect : (s : State) (v : Var) (t : Id × HandleRecord) → live s v ≡ Some t → Effect s (op.Close v) (ops.close s t.0 t.1)
+close_effect s v t e = record {
+  lasts = refl;
+  calls = same_calls s.names;
+  ready = taken_one s v t s.ready e;
+  idle = taken_one s v t s.idle.yet e;
+  prepare = taken_one s v t s.prepare.yet e;
+  check = taken_one s v t s.check.yet e;
+  async = taken_one s v t s.async.yet e;
+  closing = refl;
 }
 
 -- ---- timers
 
 -- a handle of another kind isn't on a list of watchers
-not_yet : (s : State) (q : Kind) (w : Watched) (id : Id) (h : Handle) → held s id ≡ Some h → (h.kind ≡ q → ⊥) →
-    Everyone s.slots (Watches q) (members w) →
+not_yet : (s : State) (q : Kind) (w : Walk Id) (id : Id) (h : HandleRecord) → handle s id ≡ Some h → (h.kind ≡ q → ⊥) →
+    Everyone s.arena.slots (Watches q) (members w) →
     without_id w.yet id ≡ left_of w.yet []
 not_yet s q w id h e d l =
-    let away : has_id w.yet id ≡ false = has_back w.list w.yet id (not_listed s.slots (Watches q) id h (members w) e (λ x. d x.kind) l.lists) in
+    let away : has_id w.yet id ≡ false = has_back w.list w.yet id (not_listed s.arena.slots (Watches q) id h (members w) e (λ x. d x.kind) l.lists) in
     without_absent w.yet id away ∙ sym (none_off w.yet)
 
 -- a timer is not a watcher
-apart : (h : Handle) (q : Kind) → h.kind ≡ kind.Timer → (kind.Timer ≡ q → ⊥) → h.kind ≡ q → ⊥
+apart : (h : HandleRecord) (q : Kind) → h.kind ≡ kind.Timer → (kind.Timer ≡ q → ⊥) → h.kind ≡ q → ⊥
 apart h q e d f = d (sym e ∙ f)
 
-timer_effect : (s u : State) (o : Op) (v : Var) (t : Id × Handle) → live s v ≡ Some t → t.1.kind ≡ kind.Timer → Kept s →
+timer_effect : (s u : State) (o : Op) (v : Var) (t : Id × HandleRecord) → live s v ≡ Some t → t.1.kind ≡ kind.Timer → Kept s →
     ((word : Phase) → off_by word o ≡ off_by word (op.Again v)) → after_op o s ≡ lasting s → lasting u ≡ lasting s → u.names ≡ s.names →
     SameLists u (stopped s t.0 t.1) → Effect s o (ops.succeeds u)
 timer_effect s u o v t e is k off lasts same names lists = record {
@@ -159,10 +184,13 @@ timer_effect s u o v t e is k off lasts same names lists = record {
   idle = lists.idle ∙ not_yet s kind.Idle s.idle t.0 t.1 held_now (apart t.1 kind.Idle is (λ f. cc f)) k.idle ∙ none_by phase.Idle s.idle.yet refl;
   prepare = lists.prepare ∙ not_yet s kind.Prepare s.prepare t.0 t.1 held_now (apart t.1 kind.Prepare is (λ f. cc f)) k.prepare
       ∙ none_by phase.Prepare s.prepare.yet refl;
-  check = lists.check ∙ not_yet s kind.Check s.check t.0 t.1 held_now (apart t.1 kind.Check is (λ f. cc f)) k.check
-      ∙ none_by phase.Check s.check.yet refl;
+  check = lists.check ∙ not_yet s kind.Check s.check t.0 t.1 held_now (apart t.1 kind.Check is (λ f. cc f)) k.check ∙ none_by phase.Check
+      s.check.yet refl;
+  async = lists.async ∙ not_yet s kind.Async s.async t.0 t.1 held_now (apart t.1 kind.Async is (λ f. cc f)) k.async ∙ none_by phase.Async
+      s.async.yet refl;
+  closing = lists.closing;
 } where
-  held_now : held s t.0 ≡ Some t.1
+  held_now : handle s t.0 ≡ Some t.1
   held_now = live_held s v t e
 
   none_by : (word : Phase) (ids : List Id) → off_by word (op.Again v) ≡ None → left_of ids [] ≡ left_of ids (taken_off word s o (answer.Code code.Ok))
@@ -178,22 +206,21 @@ start_off v timeout repeat phase.Check = refl
 start_off v timeout repeat phase.Closing = refl
 start_off v timeout repeat phase.Timers = refl
 
-start_effect : (s : State) (v : Var) (timeout repeat : ℕ) (t : Id × Handle) → live s v ≡ Some t → t.1.kind ≡ kind.Timer → Kept s →
+start_effect : (s : State) (v : Var) (timeout repeat : ℕ) (t : Id × HandleRecord) → live s v ≡ Some t → t.1.kind ≡ kind.Timer → Kept s →
     Effect s (op.Start v timeout repeat) (ops.start s timeout repeat t.0 t.1)
 start_effect s v timeout repeat t e is k =
     timer_effect s (started (stopped s t.0 t.1) t.0 t.1 timeout repeat) (op.Start v timeout repeat) v t e is k
         (start_off v timeout repeat) refl refl refl
-    (record { ready = refl; idle = refl; prepare = refl; check = refl })
+    (record { ready = refl; idle = refl; prepare = refl; check = refl; async = refl; closing = refl })
 
-again_effect : (s : State) (v : Var) (t : Id × Handle) → live s v ≡ Some t → t.1.kind ≡ kind.Timer → Kept s →
-    Effect s (op.Again v) (ops.again s t.0 t.1)
-again_effect s v t e is k = cond_both t.1.begun _ _ (Effect s (op.Again v))
-    (λ begun. cond_both (t.1.repeat == 0) (stopped s t.0 t.1) (started (stopped s t.0 t.1) t.0 t.1 t.1.repeat t.1.repeat)
-        (λ (u : State). Effect s (op.Again v) (ops.succeeds u))
-    (λ z. by (stopped s t.0 t.1) refl refl (record { ready = refl; idle = refl; prepare = refl; check = refl }))
-    (λ z. by (started (stopped s t.0 t.1) t.0 t.1 t.1.repeat t.1.repeat) refl refl
-        (record { ready = refl; idle = refl; prepare = refl; check = refl })))
-    (λ never. refused_effect s (op.Again v) refl code.Einval (λ f. cc f))
+again_effect : (s : State) (v : Var) (t : Id × HandleRecord) → live s v ≡ Some t → t.1.kind ≡ kind.Timer → Kept s → Effect s (op.Again v) (ops.again
+    s t.0 t.1)
+again_effect s v t e is k =
+    cond_both (t.1.repeat == 0) (stopped s t.0 t.1) (started (stopped s t.0 t.1) t.0 t.1 t.1.repeat t.1.repeat) (λ (u : State). Effect s (op.Again
+        v) (ops.succeeds u))
+    (λ z. by (stopped s t.0 t.1) refl refl (record { ready = refl; idle = refl; prepare = refl; check = refl; async = refl; closing = refl }))
+    (λ z. by (started (stopped s t.0 t.1) t.0 t.1 t.1.repeat t.1.repeat) refl refl (record { ready = refl; idle = refl; prepare = refl;
+        check = refl; async = refl; closing = refl }))
   where
     by : (u : State) → lasting u ≡ lasting s → u.names ≡ s.names → SameLists u (stopped s t.0 t.1) → Effect s (op.Again v) (ops.succeeds u)
     by u same names lists = timer_effect s u (op.Again v) v t e is k (λ word. refl) refl same names lists
@@ -234,59 +261,97 @@ still : (s : State) (o : Op) (d : ops.Done) → Harmless o → lasting d.state �
     Effect s o d
 still s o d harmless = quiet s o d (none_taken s o d.answer harmless)
 
-init_effect : (s : State) (v : Var) (q : Kind) (t : Option (Id × Handle)) → Effect s (op.Init v q) (ops.init s v q t)
-init_effect s v q (Some t) = refused_effect s (op.Init v q) refl code.Ebound (λ f. cc f)
-init_effect s v q None = at (unused_slot s) where
-  at : (id : Option Id) → Effect s (op.Init v q) (ops.init_in s v q id)
-  at None = refused_effect s (op.Init v q) refl code.Efull (λ f. cc f)
-  at (Some id) = still s (op.Init v q) (ops.init_in s v q (Some id)) (by_word (op.Init v q) refl refl refl refl refl refl refl refl) refl
-      (bound_calls s.names v.0 _ refl) (record { ready = refl; idle = refl; prepare = refl; check = refl })
+new_effect : (s : State) (v : Var) (q : Kind) (id : Id) → Effect s (op.Init v q) (record { state = ops.with_new s v q id; answer = answer.Id id })
+new_effect s v kind.Timer id = still s (op.Init v kind.Timer) _ (by_word (op.Init v kind.Timer) refl refl refl refl refl refl refl refl) refl
+    (bound_calls s.names v.0 _ refl)
+    (record { ready = refl; idle = refl; prepare = refl; check = refl; async = refl; closing = refl })
+new_effect s v kind.Idle id = still s (op.Init v kind.Idle) _ (by_word (op.Init v kind.Idle) refl refl refl refl refl refl refl refl) refl
+    (bound_calls s.names v.0 _ refl)
+    (record { ready = refl; idle = refl; prepare = refl; check = refl; async = refl; closing = refl })
+new_effect s v kind.Prepare id = still s (op.Init v kind.Prepare) _ (by_word (op.Init v kind.Prepare) refl refl refl refl refl refl refl refl) refl
+    (bound_calls s.names v.0 _ refl)
+    (record { ready = refl; idle = refl; prepare = refl; check = refl; async = refl; closing = refl })
+new_effect s v kind.Check id = still s (op.Init v kind.Check) _ (by_word (op.Init v kind.Check) refl refl refl refl refl refl refl refl) refl
+    (bound_calls s.names v.0 _ refl)
+    (record { ready = refl; idle = refl; prepare = refl; check = refl; async = refl; closing = refl })
+new_effect s v kind.Async id = still s (op.Init v kind.Async) _ (by_word (op.Init v kind.Async) refl refl refl refl refl refl refl refl) refl
+    (bound_calls s.names v.0 _ refl)
+    (record { ready = refl; idle = refl; prepare = refl; check = refl; async = refl; closing = refl })
 
-start_watcher_effect : (s : State) (v : Var) (q : WatcherKind) (id : Id) (h : Handle) → Effect s (op.StartWatcher v) (ops.start_watcher s q id h)
-start_watcher_effect s v q id h = cond_both h.active s (ops.watcher_started s q id h) (λ (u : State). Effect s (op.StartWatcher v) (ops.succeeds u))
-    (λ on. by s refl (same_calls s.names) (same_lists s)) (λ off. put q)
+init_effect : (s : State) (v : Var) (q : Kind) (t : Option (Id × HandleRecord)) → Effect s (op.Init v q) (ops.init s v q t)
+init_effect s v q (Some t) = refused_effect s (op.Init v q) refl code.Ebound (λ f. cc f)
+init_effect s v q None = found_both (next_free s.arena) _ (ops.refuses s code.Efull) (Effect s (op.Init v q))
+    (λ id e. new_effect s v q id) (λ e. refused_effect s (op.Init v q) refl code.Efull (λ f. cc f))
+
+start_watcher_effect : (s : State) (v : Var) (id : Id) (h : HandleRecord) → Effect s (op.StartWatcher v) (ops.start_watcher s id h)
+start_watcher_effect s v id h = cond_both h.active s _ (λ (u : State). Effect s (op.StartWatcher v) (ops.succeeds u))
+    (λ on. by s refl (same_calls s.names) (same_lists s))
+    (λ off. found_both (watcher_kind h.kind) _ s (λ (u : State). Effect s (op.StartWatcher v) (ops.succeeds u)) (λ q is. put q) (λ none. by s refl
+        (same_calls s.names) (same_lists s)))
   where
     by : (u : State) → lasting u ≡ lasting s → SameCalls u.names s.names → SameLists u s → Effect s (op.StartWatcher v) (ops.succeeds u)
     by u = still s (op.StartWatcher v) (ops.succeeds u) (by_word (op.StartWatcher v) refl refl refl refl refl refl refl refl)
 
     put : (k : WatcherKind) → Effect s (op.StartWatcher v) (ops.succeeds (ops.watcher_started s k id h))
-    put watcher.Idle = by _ refl (same_calls s.names) (record { ready = refl; idle = refl; prepare = refl; check = refl })
-    put watcher.Prepare = by _ refl (same_calls s.names) (record { ready = refl; idle = refl; prepare = refl; check = refl })
-    put watcher.Check = by _ refl (same_calls s.names) (record { ready = refl; idle = refl; prepare = refl; check = refl })
+    put watcher.Idle = by _ refl (same_calls s.names) (record { ready = refl; idle = refl; prepare = refl; check = refl; async = refl;
+        closing = refl })
+    put watcher.Prepare = by _ refl (same_calls s.names) (record { ready = refl; idle = refl; prepare = refl; check = refl; async = refl;
+        closing = refl })
+    put watcher.Check = by _ refl (same_calls s.names) (record { ready = refl; idle = refl; prepare = refl; check = refl; async = refl;
+        closing = refl })
+    put watcher.Async = by _ refl (same_calls s.names) (record { ready = refl; idle = refl; prepare = refl; check = refl; async = refl;
+        closing = refl })
 
 -- such an op changes one record, or nothing
 simple : (s : State) (o : Op) (d : ops.Done) → Harmless o → lasting d.state ≡ after_op o s → d.state.names ≡ s.names → SameLists d.state s →
     Effect s o d
 simple s o d harmless lasts names lists = still s o d harmless lasts (rw names (same_calls s.names)) lists
 
+pub send_effect : (s : State) (v : Var) → Effect s (op.Send v) (ops.says_code (ops.send s (live s v)))
+send_effect s v = send_both s v (λ (c : ops.Coded). Effect s (op.Send v) (ops.says_code c)) (refused_effect s (op.Send v) refl)
+    (λ t e stays. simple s (op.Send v) _ (by_word (op.Send v) refl refl refl refl refl refl refl refl) refl refl (record { ready = refl;
+        idle = refl; prepare = refl; check = refl; async = refl; closing = refl }))
+
 pub op_effect : (s : State) (o : Op) → Kept s → Effect s o (do_op s o)
 op_effect s (op.Init v q) k = init_effect s v q (live s v)
-op_effect s (op.Start v timeout repeat) k = on_timer_both s v _ (Effect s (op.Start v timeout repeat))
-    (refused_effect s (op.Start v timeout repeat) refl)
-    (λ t e is. start_effect s v timeout repeat t e is k)
-op_effect s (op.StartWatcher v) k = on_watcher_both s v _ (Effect s (op.StartWatcher v)) (refused_effect s (op.StartWatcher v) refl)
-    (λ q t e is. start_watcher_effect s v q t.0 t.1)
-op_effect s (op.Stop v) k = on_handle_both s v _ (Effect s (op.Stop v)) (refused_effect s (op.Stop v) refl) (λ t e. stop_effect s v t e)
-op_effect s (op.Again v) k = on_timer_both s v _ (Effect s (op.Again v)) (refused_effect s (op.Again v) refl) (λ t e is. again_effect s v t e is k)
-op_effect s (op.SetRepeat v n) k = on_timer_both s v _ (Effect s (op.SetRepeat v n)) (refused_effect s (op.SetRepeat v n) refl)
-    (λ t e is. simple s (op.SetRepeat v n) _ (by_word (op.SetRepeat v n) refl refl refl refl refl refl refl refl) refl refl
-        (record { ready = refl; idle = refl; prepare = refl; check = refl }))
-op_effect s (op.DueIn v) k = on_timer_both s v _ (Effect s (op.DueIn v)) (refused_effect s (op.DueIn v) refl)
+op_effect s (op.Start v timeout repeat) k =
+    on_handle_both s v start_timer_refusal _ (Effect s (op.Start v timeout repeat)) refuses_start (refused_effect s (op.Start v timeout repeat) refl)
+    (λ t e is. start_effect s v timeout repeat t e (start_passes t.1 is).0 k)
+op_effect s (op.StartWatcher v) k = on_handle_both s v start_watcher_refusal _ (Effect s (op.StartWatcher v)) refuses_start_watcher (refused_effect
+    s (op.StartWatcher v) refl)
+    (λ t e is. start_watcher_effect s v t.0 t.1)
+op_effect s (op.Stop v) k = on_handle_both s v stop_refusal _ (Effect s (op.Stop v)) refuses_stop (refused_effect s (op.Stop v) refl) (λ t e is.
+    stop_effect s v t e)
+op_effect s (op.Again v) k = on_handle_both s v again_refusal _ (Effect s (op.Again v)) refuses_again (refused_effect s (op.Again v) refl)
+    (λ t e is. again_effect s v t e (again_passes t.1 is).0 k)
+op_effect s (op.Close v) k = on_handle_both s v close_refusal _ (Effect s (op.Close v)) refuses_close (refused_effect s (op.Close v) refl) (λ t e
+    is. close_effect s v t e)
+op_effect s (op.SetRepeat v n) k = on_handle_both s v timer_refusal _ (Effect s (op.SetRepeat v n)) refuses_timer (refused_effect s (op.SetRepeat v
+    n) refl)
+    (λ t e is. simple s (op.SetRepeat v n) _ (by_word (op.SetRepeat v n) refl refl refl refl refl refl refl refl) refl refl (record { ready = refl;
+        idle = refl; prepare = refl; check = refl; async = refl; closing = refl }))
+op_effect s (op.DueIn v) k = on_handle_both s v timer_refusal _ (Effect s (op.DueIn v)) refuses_timer (refused_effect s (op.DueIn v) refl)
     (λ t e is. simple s (op.DueIn v) _ (by_word (op.DueIn v) refl refl refl refl refl refl refl refl) refl refl (same_lists s))
-op_effect s (op.Ref v) k = on_handle_both s v _ (Effect s (op.Ref v)) (refused_effect s (op.Ref v) refl)
-    (λ t e. simple s (op.Ref v) _ (by_word (op.Ref v) refl refl refl refl refl refl refl refl) refl refl
-        (record { ready = refl; idle = refl; prepare = refl; check = refl }))
-op_effect s (op.Unref v) k = on_handle_both s v _ (Effect s (op.Unref v)) (refused_effect s (op.Unref v) refl)
-    (λ t e. simple s (op.Unref v) _ (by_word (op.Unref v) refl refl refl refl refl refl refl refl) refl refl
-        (record { ready = refl; idle = refl; prepare = refl; check = refl }))
-op_effect s (op.HasRef v) k = on_handle_both s v _ (Effect s (op.HasRef v)) (refused_effect s (op.HasRef v) refl)
-    (λ t e. simple s (op.HasRef v) _ (by_word (op.HasRef v) refl refl refl refl refl refl refl refl) refl refl (same_lists s))
-op_effect s (op.IsActive v) k = on_handle_both s v _ (Effect s (op.IsActive v)) (refused_effect s (op.IsActive v) refl)
-    (λ t e. simple s (op.IsActive v) _ (by_word (op.IsActive v) refl refl refl refl refl refl refl refl) refl refl (same_lists s))
-op_effect s op.StopLoop k = simple s op.StopLoop _ (by_word op.StopLoop refl refl refl refl refl refl refl refl) refl refl
-    (record { ready = refl; idle = refl; prepare = refl; check = refl })
-op_effect s op.UpdateTime k = simple s op.UpdateTime _ (by_word op.UpdateTime refl refl refl refl refl refl refl refl) refl refl
-    (record { ready = refl; idle = refl; prepare = refl; check = refl })
+op_effect s (op.Ref v) k = on_handle_both s v no_refusal _ (Effect s (op.Ref v)) refuses_none (refused_effect s (op.Ref v) refl)
+    (λ t e is. simple s (op.Ref v) _ (by_word (op.Ref v) refl refl refl refl refl refl refl refl) refl refl (record { ready = refl; idle = refl;
+        prepare = refl; check = refl; async = refl; closing = refl }))
+op_effect s (op.Unref v) k = on_handle_both s v no_refusal _ (Effect s (op.Unref v)) refuses_none (refused_effect s (op.Unref v) refl)
+    (λ t e is. simple s (op.Unref v) _ (by_word (op.Unref v) refl refl refl refl refl refl refl refl) refl refl (record { ready = refl; idle = refl;
+        prepare = refl; check = refl; async = refl; closing = refl }))
+op_effect s (op.HasRef v) k = on_handle_both s v no_refusal _ (Effect s (op.HasRef v)) refuses_none (refused_effect s (op.HasRef v) refl)
+    (λ t e is. simple s (op.HasRef v) _ (by_word (op.HasRef v) refl refl refl refl refl refl refl refl) refl refl (same_lists s))
+op_effect s (op.IsActive v) k = on_handle_both s v no_refusal _ (Effect s (op.IsActive v)) refuses_none (refused_effect s (op.IsActive v) refl)
+    (λ t e is. simple s (op.IsActive v) _ (by_word (op.IsActive v) refl refl refl refl refl refl refl refl) refl refl (same_lists s))
+op_effect s (op.IsClosing v) k = on_handle_both s v no_refusal _ (Effect s (op.IsClosing v)) refuses_none (refused_effect s (op.IsClosing v) refl)
+    (λ t e is. simple s (op.IsClosing v) _ (by_word (op.IsClosing v) refl refl refl refl refl refl refl refl) refl refl (same_lists s))
+op_effect s (op.Send v) k = send_effect s v
+op_effect s op.StopLoop k = simple s op.StopLoop _ (by_word op.StopLoop refl refl refl refl refl refl refl refl) refl refl (record { ready = refl;
+    idle = refl; prepare = refl; check = refl; async = refl; closing = refl })
+op_effect s op.UpdateTime k = simple s op.UpdateTime _ (by_word op.UpdateTime refl refl refl refl refl refl refl refl) refl refl (record { ready =
+    refl; idle = refl; prepare = refl; check = refl; async = refl; closing = refl })
 op_effect s op.Now k = simple s op.Now _ (by_word op.Now refl refl refl refl refl refl refl refl) refl refl (same_lists s)
 op_effect s op.IsAlive k = simple s op.IsAlive _ (by_word op.IsAlive refl refl refl refl refl refl refl refl) refl refl (same_lists s)
 op_effect s op.Timeout k = simple s op.Timeout _ (by_word op.Timeout refl refl refl refl refl refl refl refl) refl refl (same_lists s)
+op_effect s op.CloseLoop k = cond_both (ops.is_in_use s) _ _ (Effect s op.CloseLoop)
+    (λ e. refused_effect s op.CloseLoop refl code.Ebusy (λ f. cc f))
+    (λ e. simple s op.CloseLoop _ (by_word op.CloseLoop refl refl refl refl refl refl refl refl) refl refl (same_lists s))

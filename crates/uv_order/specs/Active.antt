@@ -6,9 +6,9 @@ use Rattle.uv_ids.specs.declared.id.Id.{Id}
 use Rattle.uv_ids.specs.declared.due.Due.{Due}
 use Rattle.uv_ids.specs.declared.phase.Kind.{Kind}
 use Rattle.uv_ids.specs.declared.phase.Kind.TheVariants as kind
-use Rattle.uv_model.specs.declared.handle.Handle.{Handle}
+use Rattle.uv_records.specs.declared.handle.HandleRecord.{HandleRecord}
 use Rattle.uv_model.specs.Ids.{same_id}
-use Rattle.uv_model.specs.State.{State, held}
+use Rattle.uv_model.specs.State.{State, handle}
 
 -- ---- ids
 
@@ -25,10 +25,10 @@ AreDistinct (id ∷ ids) = (has_id ids id ≡ false) × AreDistinct ids
 
 -- the id is that of an active handle of this kind
 pub record IsActive (s : State) (k : Kind) (id : Id) : Type 0 where
-  pub handle : Handle
-  pub holds : held s id ≡ Some handle
-  pub kind : handle.kind ≡ k
-  pub active : handle.active ≡ true
+  pub its : HandleRecord
+  pub holds : handle s id ≡ Some its
+  pub kind : its.kind ≡ k
+  pub active : its.active ≡ true
 
 -- these are the active handles of this kind, all of them and no others, and none twice
 pub record AreActive (s : State) (k : Kind) (ids : List Id) : Type 0 where
@@ -36,15 +36,29 @@ pub record AreActive (s : State) (k : Kind) (ids : List Id) : Type 0 where
   pub all : (id : Id) → IsActive s k id → has_id ids id ≡ true
   pub distinct : AreDistinct ids
 
+-- ---- closing handles
+
+-- the id is that of a handle that closes, and whose close callback is still to come
+pub record IsClosing (s : State) (id : Id) : Type 0 where
+  pub its : HandleRecord
+  pub holds : handle s id ≡ Some its
+  pub closing : its.closing ≡ true
+
+-- these are all of them and no others, and none twice
+pub record AreClosing (s : State) (ids : List Id) : Type 0 where
+  pub each : (id : Id) → has_id ids id ≡ true → IsClosing s id
+  pub all : (id : Id) → IsClosing s id → has_id ids id ≡ true
+  pub distinct : AreDistinct ids
+
 -- ---- timers
 
 -- the id is that of an active timer, which is due then
 pub record IsTimer (s : State) (key : Due) (id : Id) : Type 0 where
-  pub handle : Handle
-  pub holds : held s id ≡ Some handle
-  pub kind : handle.kind ≡ kind.Timer
-  pub active : handle.active ≡ true
-  pub due : handle.due ≡ key
+  pub its : HandleRecord
+  pub holds : handle s id ≡ Some its
+  pub kind : its.kind ≡ kind.Timer
+  pub active : its.active ≡ true
+  pub due : its.due ≡ key
 
 -- it stands on the list
 abbrev pub Has : List (Due × Id) → Due → Id → Type 0

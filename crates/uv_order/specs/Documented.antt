@@ -2,10 +2,11 @@
 -- over the lines of a trace, with the states before and after each. A trace is the lines of the main program and its runs; a run
 -- is the timers of its entry, iterations, and its end; an iteration is its sections in their order; a section calls the members
 -- of its list, and each callback does the ops of its body. It says nothing of how a step is done.
-use Rattle.std.specs.Prelude.{◌≡◌, ◌==◌, ◌&&◌, ℕ, zero, suc, ◌+◌, List, [], ◌∷◌, ◌++◌, Bool, true, false, not, Option, Some, None, slice_get, option_map, if◌then◌else◌}
+use Rattle.std.specs.Prelude.{◌≡◌, ◌==◌, ◌&&◌, ◌||◌, ℕ, zero, suc, ◌+◌, List, [], ◌∷◌, ◌++◌, Bool, true, false, not, Option, Some, None, slice_get, option_map, if◌then◌else◌}
 use Rattle.uv_ids.specs.declared.id.Id.{Id}
 use Rattle.uv_ids.specs.declared.id.Var.{Var}
 use Rattle.uv_ids.specs.declared.due.Due.{Due}
+use Rattle.uv_ids.specs.declared.code.Code.{Code}
 use Rattle.uv_ids.specs.declared.code.Code.TheVariants.{Ok as Success}
 use Rattle.uv_ids.specs.declared.code.Answer.{Answer}
 use Rattle.uv_ids.specs.declared.code.Answer.TheVariants.{Code as Says}
@@ -16,19 +17,21 @@ use Rattle.uv_ids.specs.declared.phase.Phase.{Phase}
 use Rattle.uv_ids.specs.declared.phase.Phase.TheVariants as phase
 use Rattle.uv_ids.specs.declared.seen.Seen.{Seen}
 use Rattle.uv_ids.specs.declared.seen.Seen.TheVariants as seen
+use Rattle.uv_ids.specs.declared.seen.Callback.{Callback}
+use Rattle.uv_ids.specs.declared.seen.Callback.TheVariants as callback
 use Rattle.uv_ids.specs.declared.seen.Site.{Site}
 use Rattle.uv_ids.specs.declared.seen.Site.TheVariants as site
 use Rattle.uv_script.specs.declared.op.Op.{Op}
 use Rattle.uv_script.specs.declared.op.Op.TheVariants as op
 use Rattle.uv_script.specs.declared.op.MainOp.TheVariants as main
 use Rattle.uv_script.specs.declared.op.CallbackLine.{CallbackLine}
-use Rattle.uv_script.specs.Program.{Program, on_lines, is_for, op_at}
-use Rattle.uv_model.specs.declared.handle.Handle.{Handle}
+use Rattle.uv_script.specs.Program.{Program, lines_in, is_for, op_at}
+use Rattle.uv_records.specs.declared.handle.HandleRecord.{HandleRecord}
 use Rattle.uv_model.specs.Ids.{has_some}
-use Rattle.uv_model.specs.State.{State, held, named}
-use Rattle.uv_model.specs.Timeout.{is_alive, poll_timeout_by, deadline_of, has_passed}
+use Rattle.uv_model.specs.State.{State, handle, named}
+use Rattle.uv_model.specs.Timeout.{is_alive, has_pending, poll_timeout_by, deadline_of, has_passed}
 use Rattle.uv_order.specs.Line.{Line}
-use Rattle.uv_order.specs.Active.{has_id, AreDistinct, AreActive, AreTimers, AreDue}
+use Rattle.uv_order.specs.Active.{has_id, AreDistinct, AreActive, AreClosing, AreTimers, AreDue}
 
 -- ---- what lasts from line to line
 
@@ -85,42 +88,53 @@ after_tick ms s = record (lasting s) { clock = s.clock + ms }
 -- ---- what the lines have told
 
 pub record Told : Type 0 where
-  -- the names that were called, the last one first
+  -- the names whose handle callback was called, the last one first
   pub called : List Var
+  -- the names whose close callback was called, the last one first
+  pub closed : List Var
 
 abbrev pub nothing_told : Told
-nothing_told = record { called = [] }
+nothing_told = record { called = []; closed = [] }
+
+-- the names of which this callback was called
+abbrev pub told_of : Callback → Told → List Var
+told_of callback.Handle told = told.called
+told_of callback.Close told = told.closed
 
 -- how often a name is among these
 abbrev pub times : List Var → Var → ℕ
 times [] v = zero
 times (x ∷ xs) v = if x.0 == v.0 then suc (times xs v) else times xs v
 
--- the number of a name's next call
-abbrev pub next_call : Told → Var → ℕ
-next_call told v = times told.called v + 1
+-- the number of the next call of a name's callback
+abbrev pub next_call : Told → Callback → Var → ℕ
+next_call told kind v = times (told_of kind told) v + 1
 
 -- with one line more: a call is one more of its name
 abbrev pub told_with : Told → Seen → Told
-told_with told (seen.Call v id) = record { called = v ∷ told.called }
+told_with told (seen.Call v id) = record told { called = v ∷ told.called }
+told_with told (seen.Closed v id) = record told { closed = v ∷ told.closed }
 told_with told (seen.Op place a) = told
 told_with told (seen.Run m) = told
 told_with told (seen.Section word) = told
 told_with told (seen.Poll timeout) = told
 told_with told (seen.End alive) = told
+told_with told (seen.Send v code) = told
 told_with told (seen.Tick ms) = told
 
 -- ---- bodies
 
 -- the places of those of these lines that are for this call, the first of the lines having this number
-abbrev pub sites_from : Var → ℕ → ℕ → List CallbackLine → List Site
-sites_from v call number [] = []
-sites_from v call number (line ∷ lines) =
-    if is_for call line.call then site.On v number ∷ sites_from v call (number + 1) lines else sites_from v call (number + 1) lines
+abbrev pub sites_from : Callback → Var → ℕ → ℕ → List CallbackLine → List Site
+sites_from kind v call number [] = []
+sites_from kind v call number (line ∷ lines) =
+    if is_for call line.call
+    then site.In kind v number ∷ sites_from kind v call (number + 1) lines
+    else sites_from kind v call (number + 1) lines
 
--- the body of a name's call: its lines for that call, in order
-abbrev pub body_of : Program → Var → ℕ → List Site
-body_of p v call = sites_from v call 0 (on_lines p v)
+-- the body of a call of a name's callback: its lines for that call, in order
+abbrev pub body_of : Program → Callback → Var → ℕ → List Site
+body_of p kind v call = sites_from kind v call 0 (lines_in p kind v)
 
 -- ---- the parts of a run
 
@@ -178,8 +192,9 @@ after_section (In word) s = after_line word s
 
 -- ---- sections
 
--- the list of a section, by its line: for idle, prepare and check the list of that word before it, which has all active handles of the
--- kind; for timers all active timers that are due after it, in their order. Nothing is called in the others yet.
+-- the list of a section, by its line: for idle, prepare, check and async the list of that word before it, which has all active handles
+-- of the kind; for closing the list before it, which has all handles that close; for timers all active timers that are due after it, in
+-- their order. Nothing is called in the others.
 abbrev pub HasList : Phase → Line → List Id → Type 0
 HasList phase.Idle l ids = (ids ≡ l.before.idle.list) × AreActive l.before kind.Idle ids
 HasList phase.Prepare l ids = (ids ≡ l.before.prepare.list) × AreActive l.before kind.Prepare ids
@@ -187,12 +202,15 @@ HasList phase.Check l ids = (ids ≡ l.before.check.list) × AreActive l.before 
 HasList phase.Timers l ids = AreDue l.after ids
 HasList phase.Pending l ids = ids ≡ []
 HasList phase.Done l ids = ids ≡ []
-HasList phase.Async l ids = ids ≡ []
-HasList phase.Closing l ids = ids ≡ []
+HasList phase.Async l ids = (ids ≡ l.before.async.list) × AreActive l.before kind.Async ids
+HasList phase.Closing l ids = (ids ≡ l.before.closing.list) × AreClosing l.before ids
 
--- whom an accepted op takes off the list of a section: one that it stops, and in a section of timers one that it starts
+-- whom an accepted op takes off the list of a section: one that it stops or closes, and in a section of timers one that it starts. A
+-- handle that closes is called whatever is done to it
 abbrev pub off_by : Phase → Op → Option Var
+off_by phase.Closing o = None
 off_by word (op.Stop v) = Some v
+off_by word (op.Close v) = Some v
 off_by phase.Timers (op.Start v timeout repeat) = Some v
 off_by phase.Timers (op.Again v) = Some v
 off_by word o = None
@@ -217,6 +235,14 @@ pub record Walk : Type 0 where
   -- the ops of the callback under way that are still to be done
   pub body : List Site
 
+-- the id is that of an async handle that was sent to, and not called since
+abbrev pub pends_in : Option HandleRecord → Bool
+pends_in None = false
+pends_in (Some h) = h.pending
+
+abbrev pub is_pending : State → Id → Bool
+is_pending s id = pends_in (handle s id)
+
 -- a section as it begins: nobody was called, and nobody taken off
 pub record Opens (word : Phase) (l : Line) (w : Walk) : Type 0 where
   pub list : HasList word l w.ahead
@@ -228,30 +254,36 @@ abbrev pub AllOff : List Id → List Id → Type 0
 AllOff off [] = Unit {0}
 AllOff off (id ∷ ids) = (has_id off id ≡ true) × AllOff off ids
 
--- who may be passed by: whoever was taken off
-abbrev pub MayPass : Walk → List Id → Type 0
-MayPass w ids = AllOff w.off ids
+-- who may be passed by: whoever was taken off; in async everybody, since one that isn't pending at its turn isn't called
+abbrev pub MayPass : Phase → Walk → List Id → Type 0
+MayPass phase.Async w ids = Unit {0}
+MayPass word w ids = AllOff w.off ids
 
--- who must not be called: whoever was taken off
-abbrev pub MayCall : Walk → Id → Type 0
-MayCall w id = has_id w.off id ≡ false
+-- who may be called: nobody who was taken off, and in async only who is pending
+abbrev pub is_called : Phase → State → Id → Bool
+is_called phase.Async s id = is_pending s id
+is_called word s id = true
+
+pub record MayCall (word : Phase) (s : State) (w : Walk) (id : Id) : Type 0 where
+  pub on : has_id w.off id ≡ false
+  pub called : is_called word s id ≡ true
 
 -- a callback may begin: the ops of the last one are done; those before the member called may be passed by, and these are behind it
-pub record CallsNext (w : Walk) (id : Id) (behind : List Id) : Type 0 where
+pub record CallsNext (word : Phase) (s : State) (w : Walk) (id : Id) (behind : List Id) : Type 0 where
   pub done : w.body ≡ []
   pub passed : List Id
   pub list : w.ahead ≡ passed ++ id ∷ behind
-  pub may_pass : MayPass w passed
-  pub may_call : MayCall w id
+  pub may_pass : MayPass word w passed
+  pub may_call : MayCall word s w id
 
 -- a section may be left: the ops of the last callback are done, and whoever wasn't called may be passed by
-pub record IsOver (w : Walk) : Type 0 where
+pub record IsOver (word : Phase) (w : Walk) : Type 0 where
   pub done : w.body ≡ []
-  pub may_pass : MayPass w w.ahead
+  pub may_pass : MayPass word w w.ahead
 
 -- the id is that of a handle of this name
 abbrev pub IsOf : State → Id → Var → Type 0
-IsOf s id v = option_map (λ (h : Handle). h.name) (held s id) ≡ Some v
+IsOf s id v = option_map (λ (h : HandleRecord). h.name) (handle s id) ≡ Some v
 
 -- ---- runs
 
@@ -269,17 +301,26 @@ part_of Begun = Start
 part_of (Within part w) = Of part
 part_of (Polling deadline) = Poll
 
--- it may go on to its next part: a section that is over, and a poll whose deadline the clock has reached
+-- it may go on to its next part: a section that is over, and a poll whose deadline the clock has reached, or that an async handle ends
 abbrev pub MayLeave : State → Standing → Type 0
 MayLeave s Begun = Unit {0}
-MayLeave s (Within part w) = IsOver w
-MayLeave s (Polling deadline) = has_passed s.clock deadline ≡ true
+MayLeave s (Within part w) = IsOver (word_of part) w
+MayLeave s (Polling deadline) = (has_passed s.clock deadline || has_pending s) ≡ true
 
 -- the poll may wait so long, by the active timers as the handles say
 pub record PollsFor (s : State) (m : Mode) (timeout : Option ℕ) : Type 0 where
   pub timers : List (Due × Id)
   pub are : AreTimers s timers
   pub is : timeout ≡ poll_timeout_by s timers m
+
+-- the callbacks of a section, and their lines
+abbrev pub callback_in : Phase → Callback
+callback_in phase.Closing = callback.Close
+callback_in word = callback.Handle
+
+abbrev pub call_line : Callback → Var → Id → Seen
+call_line callback.Handle v id = seen.Call v id
+call_line callback.Close v id = seen.Closed v id
 
 -- where a trace stands
 pub data Position : Type 0 where
@@ -326,12 +367,14 @@ pub data Goes (p : Program) (told : Told) : Position → Line → Position → T
       → lasting l.after ≡ after_end l.before
       → Goes p told (Running m i at) l (Between (i + 1))
   -- a callback of the section begins
-  call : {l : Line} {m : Mode} {i : ℕ} {part : Section} {w : Walk} (v : Var) (id : Id) (behind : List Id)
-      → CallsNext w id behind
+  call : {l : Line} {m : Mode} {i : ℕ} {part : Section} {w : Walk} (kind : Callback) (v : Var) (id : Id) (behind : List Id)
+      → callback_in (word_of part) ≡ kind
+      → CallsNext (word_of part) l.before w id behind
       → IsOf l.before id v
-      → l.seen ≡ seen.Call v id
+      → l.seen ≡ call_line kind v id
       → lasting l.after ≡ lasting l.before
-      → Goes p told (Running m i (Within part w)) l (Running m i (Within part (record w { ahead = behind; body = body_of p v (next_call told v) })))
+      → Goes p told (Running m i (Within part w)) l (Running m i (Within part (record w { ahead = behind;
+          body = body_of p kind v (next_call told kind v) })))
   -- the next op of its body
   body_op : {l : Line} {m : Mode} {i : ℕ} {part : Section} {w : Walk} (place : Site) (rest : List Site) (o : Op) (a : Answer)
       → w.body ≡ place ∷ rest
@@ -340,7 +383,11 @@ pub data Goes (p : Program) (told : Told) : Position → Line → Position → T
       → lasting l.after ≡ after_op o l.before
       → Goes p told (Running m i (Within part w)) l
           (Running m i (Within part (record w { off = taken_off (word_of part) l.before o a ++ w.off; body = rest })))
-  -- a step from outside stands anywhere
+  -- steps from outside stand anywhere
+  sent : {l : Line} {at : Position} (v : Var) (code : Code)
+      → l.seen ≡ seen.Send v code
+      → lasting l.after ≡ lasting l.before
+      → Goes p told at l at
   outside : {l : Line} {at : Position} (ms : ℕ)
       → l.seen ≡ seen.Tick ms
       → lasting l.after ≡ after_tick ms l.before
