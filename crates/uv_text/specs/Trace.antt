@@ -39,18 +39,20 @@ op_or_none p None = []
 abbrev pub site_text : Program → Site → List ℕ
 site_text p site = op_or_none p (op_at p site)
 
--- `call NAME ID`
-abbrev pub call_text : Program → Var → Id → List ℕ
-call_text p v id = codes "call " ++ name_text p.names v ++ codes " " ++ id_text id
+-- a callback's line, behind its word: `NAME ID`
+abbrev pub handle_text : Program → Var → Id → List ℕ
+handle_text p v id = name_text p.names v ++ codes " " ++ id_text id
 
 abbrev pub line_text : Program → Seen → List ℕ
 line_text p (seen.Op site answer) = site_text p site ++ codes " = " ++ answer_text answer
 line_text p (seen.Run mode) = codes "run " ++ mode_word mode
 line_text p (seen.Section phase) = phase_word phase
 line_text p (seen.Poll timeout) = codes "poll " ++ timeout_text timeout
-line_text p (seen.Call v id) = call_text p v id
+line_text p (seen.Call v id) = codes "call " ++ handle_text p v id
+line_text p (seen.Closed v id) = codes "closed " ++ handle_text p v id
 line_text p (seen.End true) = codes "end 1"
 line_text p (seen.End false) = codes "end 0"
+line_text p (seen.Send v code) = codes "out send " ++ name_text p.names v ++ codes " = " ++ code_word code
 line_text p (seen.Tick ms) = codes "out tick " ++ decimal ms
 
 -- a line with its line feed

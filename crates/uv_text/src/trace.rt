@@ -1,7 +1,7 @@
 //! The text of a trace.
 ghost use Rattle.std.specs.Prelude.{◌≡◌, ◌++◌, IfOk, IfErr, OnOk};
 ghost use Rattle.uv_ids.specs.declared.fault.Fault.TheVariants.{Memory};
-ghost use Rattle.uv_text.specs.Trace.{id_text, call_text, timeout_text, answer_text, site_text, line_text, seen_text};
+ghost use Rattle.uv_text.specs.Trace.{id_text, handle_text, timeout_text, answer_text, site_text, line_text, seen_text};
 
 use std::alloc::{AllocError, Global};
 use uv_ids::{Answer, Fault, Id, Seen, Site, Var};
@@ -43,9 +43,22 @@ fn push_line(text: &mut Vec<u8>, script: &Script, seen: Seen) -> Result<(), Allo
             text.extend_from_slice(b"poll ")?;
             push_timeout(text, timeout)
         }
-        Seen::Call(name, id) => push_call(text, script, name, id),
+        Seen::Call(name, id) => {
+            text.extend_from_slice(b"call ")?;
+            push_handle(text, script, name, id)
+        }
+        Seen::Closed(name, id) => {
+            text.extend_from_slice(b"closed ")?;
+            push_handle(text, script, name, id)
+        }
         Seen::End(true) => text.extend_from_slice(b"end 1"),
         Seen::End(false) => text.extend_from_slice(b"end 0"),
+        Seen::Send(name, code) => {
+            text.extend_from_slice(b"out send ")?;
+            script.names().push_name(text, name)?;
+            text.extend_from_slice(b" = ")?;
+            text.extend_from_slice(code.word().as_bytes())
+        }
         Seen::Tick(ms) => {
             text.extend_from_slice(b"out tick ")?;
             push_number(text, ms)
@@ -53,10 +66,10 @@ fn push_line(text: &mut Vec<u8>, script: &Script, seen: Seen) -> Result<(), Allo
     }
 }
 
-fn push_call(text: &mut Vec<u8>, script: &Script, name: Var, id: Id) -> Result<(), AllocError>
-    ensures { OnOk result (text.new.items ≡ text.old.items ++ call_text script.now name id) }
+/// A handle, by its name and its id.
+fn push_handle(text: &mut Vec<u8>, script: &Script, name: Var, id: Id) -> Result<(), AllocError>
+    ensures { OnOk result (text.new.items ≡ text.old.items ++ handle_text script.now name id) }
 {
-    text.extend_from_slice(b"call ")?;
     script.names().push_name(text, name)?;
     text.extend_from_slice(b" ")?;
     push_id(text, id)
