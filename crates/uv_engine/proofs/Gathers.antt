@@ -20,7 +20,8 @@ gathered_none w t text = record { grown = grown_none w; whole = refl }
 pub gathered_more : (old all w t x rest u : List ℕ) → Gathered old all w t (x ++ rest) → u ≡ t ++ x → Gathered old all w u rest
 gathered_more old all w t x rest u h e = record {
   grown = h.grown;
-  whole = ap (λ (xs : List ℕ). (w ++ xs) ++ rest) e ∙ ap (λ (xs : List ℕ). xs ++ rest) (sym (append_assoc w t x)) ∙ append_assoc (w ++ t) x rest ∙ h.whole;
+  whole = ap (λ (xs : List ℕ). (w ++ xs) ++ rest) e ∙ ap (λ (xs : List ℕ). xs ++ rest) (sym (append_assoc w t x)) ∙ append_assoc (w ++ t) x rest
+      ∙ h.whole;
 }
 
 -- another call gathered a text
@@ -56,7 +57,11 @@ one_text Is w t text u h e = record { text = text; is = h; gathers = gathers_tex
 
 -- there was no memory to gather it
 pub one_fault : (Is : List ℕ → Type 0) (f : Fault) (w t text u : List ℕ) → Is text → GathersOne Is (Err f) w t w u
-one_fault Is f w t text u h = record { text = text; is = h; gathers = record { grown = grown_none w; rest = t ++ text; whole = sym (append_assoc w t text) } }
+one_fault Is f w t text u h = record {
+  text = text;
+  is = h;
+  gathers = record { grown = grown_none w; rest = t ++ text; whole = sym (append_assoc w t text) };
+}
 
 -- a line of several is the next
 pub line_next : {A : Type 0} (f : A → List ℕ) (xs : List A) (i : ℕ) (d : A) (old all w t : List ℕ) → i < length xs
@@ -68,6 +73,7 @@ pub short_of_cut : (w t v : List ℕ) → CutOff w ((w ++ t) ++ []) v → CutSho
 short_of_cut w t v h = record {
   part = h.grown.part;
   rest = h.rest;
-  whole = append_cancel_left w (h.grown.part ++ h.rest) t (sym (append_assoc w h.grown.part h.rest) ∙ ap (λ (xs : List ℕ). xs ++ h.rest) (sym h.grown.is) ∙ h.whole ∙ append-nil (w ++ t));
+  whole = append_cancel_left w (h.grown.part ++ h.rest) t
+      (sym (append_assoc w h.grown.part h.rest) ∙ ap (λ (xs : List ℕ). xs ++ h.rest) (sym h.grown.is) ∙ h.whole ∙ append-nil (w ++ t));
   written = h.grown.is;
 }

@@ -71,7 +71,8 @@ impl<M: Machine> Conversation<M> {
         ensures text { R.Tells → W.Tells → TalksOn (lines_of (left input.old (R.remaining reader.old))) self.old.session result
             (W.written writer.old) (W.written writer.new) }
         ensures err { IfErr result IsDeviceFault }
-        ensures reader { ReaderCounts result (R.Tells → input.old.budget < length (R.remaining reader.old)) (R.failures reader.old) (R.failures reader.new) }
+        ensures reader { ReaderCounts result (R.Tells → input.old.budget < length (R.remaining reader.old))
+            (R.failures reader.old) (R.failures reader.new) }
         ensures writer { WriterCounts result (W.failures writer.old) (W.failures writer.new) }
     {
         every_line_asks();

@@ -14,7 +14,8 @@ loop-preserved g c =
     let on = rw c.if-not-branch.false at c.in_ok-tell.ensures.on in
     record {
       text = λ tells.
-          let before = rw (turn_on c.args.n c.loop.counter c.loop.self.session c.tell.new.session c.loop-test.true on) at (c.loop.invariant.text tells) in
+          let before = rw (turn_on c.args.n c.loop.counter c.loop.self.session c.tell.new.session c.loop-test.true on) at
+          (c.loop.invariant.text tells) in
           gathered_by _ _ _ _ [] _ _ _ (gathered_more _ _ _ _ _ _ _ before c.in_ok-tell.ensures.text) (c.in_ok-spill.ensures.text tells);
       session = sym (turn_after c.args.n c.loop.counter c.loop.self.session c.tell.new.session c.loop-test.true on) ∙ c.loop.invariant.session;
       none_failed = c.in_ok-spill.ensures.writer ∙ c.loop.invariant.none_failed;

@@ -13,7 +13,8 @@ returns-in_err-write_if_waiting-clause-text g c = λ reads tells.
 pub returns-in_err-line-clause-text : goal.returns-in_err-line-clause-text
 returns-in_err-line-clause-text g c = λ reads tells.
     let written = can_write _ _ _ _ _ _ _ _ _ (c.lines.invariant.text reads tells) (c.in_ok-write_if_waiting.ensures.text tells) in
-    rw ((err_from_is_err_and c.from_residual-in_err-line.result c.from_residual-in_err-line.ensures.1).1) (cut_waiting c.every_line_asks.ensures.some _ _ _ _ _ _ _ written)
+    rw ((err_from_is_err_and c.from_residual-in_err-line.result c.from_residual-in_err-line.ensures.1).1)
+    (cut_waiting c.every_line_asks.ensures.some _ _ _ _ _ _ _ written)
 
 pub returns-in_default-clause-text : goal.returns-in_default-clause-text
 returns-in_default-clause-text g c = λ reads tells.
@@ -27,7 +28,8 @@ returns-then-is_quit-clause-text g c = λ reads tells.
     let taken = rw c.in-Some.is at (c.in_ok-line.ensures.line reads) in
     let before = can_next _ _ _ _ _ _ _ _ _ _ taken written in
     let asks = rw c.as_slice.ensures.value at c.read_command-asked.ensures.rule in
-    talk_quits c.every_line_asks.ensures.some _ _ _ _ _ _ _ _ _ _ before (rw (← (c.is_quit.ensures.quit c.if-is_quit.true)) asks) (c.finish-then-is_quit.ensures.text tells)
+    talk_quits c.every_line_asks.ensures.some _ _ _ _ _ _ _ _ _ _ before (rw (← (c.is_quit.ensures.quit c.if-is_quit.true)) asks)
+    (c.finish-then-is_quit.ensures.text tells)
 
 pub returns-in_err-answer-clause-text : goal.returns-in_err-answer-clause-text
 returns-in_err-answer-clause-text g c = λ reads tells.
