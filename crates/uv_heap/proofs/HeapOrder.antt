@@ -84,22 +84,22 @@ module _ (xs : List Entry) (i : ℕ) (p : 0 < i) (l : i < length xs) (less : is_
           → is_before (entry_at (swap xs i (parent i)) k) (entry_at (swap xs i (parent i)) (parent (parent i))) ≡ false
       across k m z e (inl g) =
           by _ _ _ _ (ap (entry_at (swap xs i (parent i))) g ∙ swapped.0) (swapped.2 (parent (parent i)) (omega arith) (omega arith))
-              (h.others (parent i) (omega arith) (omega arith) (omega arith))
+          (h.others (parent i) (omega arith) (omega arith) (omega arith))
       across k m z e (inr g) =
           by _ _ _ _ (swapped.2 k g (omega arith)) (swapped.2 (parent (parent i)) (omega arith) (omega arith))
           (chain xs k (parent i) (parent (parent i)) (second_is xs k (parent k) (parent i) e (h.others k m g (omega arith)))
-              (h.others (parent i) (omega arith) (omega arith) (omega arith)))
+          (h.others (parent i) (omega arith) (omega arith) (omega arith)))
 
   above_up : FitsAbove (swap xs i (parent i)) (parent i)
   above_up = let long = length-swap xs i (parent i) in
       record { children = λ k m z e. children k (omega arith) e (cases_eq k i) (cases_eq k (parent i)) } where
-    children : (k : ℕ) → k < length xs → parent k ≡ parent i → (k ≡ i) ⊎ (k ≡ i → ⊥) → (k ≡ parent i) ⊎ (k ≡ parent i → ⊥)
-        → is_before (entry_at (swap xs i (parent i)) k) (entry_at (swap xs i (parent i)) (parent i)) ≡ false
-    children k m e (inl g) f = by _ _ _ _ (ap (entry_at (swap xs i (parent i))) g ∙ swapped.0) swapped.1 (one_way xs i (parent i) less)
-    children k m e (inr g) (inl f) = itself_at (swap xs i (parent i)) k (parent i) f
-    children k m e (inr g) (inr f) =
-        by _ _ _ _ (swapped.2 k g f) swapped.1
-        (chain xs k (parent i) i (second_is xs k (parent k) (parent i) e (h.others k m g (omega arith))) (one_way xs i (parent i) less))
+        children : (k : ℕ) → k < length xs → parent k ≡ parent i → (k ≡ i) ⊎ (k ≡ i → ⊥) → (k ≡ parent i) ⊎ (k ≡ parent i → ⊥)
+            → is_before (entry_at (swap xs i (parent i)) k) (entry_at (swap xs i (parent i)) (parent i)) ≡ false
+        children k m e (inl g) f = by _ _ _ _ (ap (entry_at (swap xs i (parent i))) g ∙ swapped.0) swapped.1 (one_way xs i (parent i) less)
+        children k m e (inr g) (inl f) = itself_at (swap xs i (parent i)) k (parent i) f
+        children k m e (inr g) (inr f) =
+            by _ _ _ _ (swapped.2 k g f) swapped.1
+            (chain xs k (parent i) i (second_is xs k (parent k) (parent i) e (h.others k m g (omega arith))) (one_way xs i (parent i) less))
 
 pub heap_from_up : (n : ℕ) (xs : List Entry) (i : ℕ) → i ≤ n → i < length xs → HasHole xs i → FitsAbove xs i → IsHeap (moved_up n xs i).array
 unfolding moved_up
@@ -109,8 +109,10 @@ heap_from_up (suc n) xs i q l h above = if_when (λ (m : Moved). IsHeap m.array)
     let less = (and_parts (ltb 0 i) _ e).1 in
     let long = length-swap xs i (parent i) in
     heap_from_up n (swap xs i (parent i)) (parent i) (omega arith) (omega arith) (hole_up xs i p l less h) (above_up xs i p l less h))
-    (λ e. fits xs i h above (record { parent_first = λ p. stays p
-        (and_cases (ltb 0 i) (is_before (entry_at xs i) (entry_at xs (parent i))) e) })) where
+    (λ e. fits xs i h above (record {
+      parent_first = λ p. stays p
+          (and_cases (ltb 0 i) (is_before (entry_at xs i) (entry_at xs (parent i))) e);
+    })) where
       stays : 0 < i → (ltb 0 i ≡ false) ⊎ (is_before (entry_at xs i) (entry_at xs (parent i)) ≡ false)
           → is_before (entry_at xs i) (entry_at xs (parent i)) ≡ false
       stays p (inl e) = absurd (omega (arith, ltb-false 0 i e))
@@ -123,7 +125,7 @@ lesser xs i k l z e = if_when (λ (c : ℕ). is_before (entry_at xs k) (entry_at
     (ltb (2 * i + 2) (length xs) && is_before (entry_at xs (2 * i + 2)) (entry_at xs (2 * i + 1))) (2 * i + 2) (2 * i + 1)
     (λ t. right ((and_parts (ltb (2 * i + 2) (length xs)) _ t).1) (cases_eq k (2 * i + 2)))
     (λ t. left (and_cases (ltb (2 * i + 2) (length xs)) (is_before (entry_at xs (2 * i + 2)) (entry_at xs (2 * i + 1))) t)
-        (cases_eq k (2 * i + 1))) where
+    (cases_eq k (2 * i + 1))) where
       right : is_before (entry_at xs (2 * i + 2)) (entry_at xs (2 * i + 1)) ≡ true → (k ≡ 2 * i + 2) ⊎ (k ≡ 2 * i + 2 → ⊥)
           → is_before (entry_at xs k) (entry_at xs (2 * i + 2)) ≡ false
       right t (inl f) = itself_at xs k (2 * i + 2) f
@@ -137,7 +139,7 @@ lesser xs i k l z e = if_when (λ (c : ℕ). is_before (entry_at xs k) (entry_at
 
 module _ (xs : List Entry) (i c : ℕ) (l : i < length xs) (m : c < length xs) (child : parent c ≡ i) (under : i < c)
     (less : is_before (entry_at xs c) (entry_at xs i) ≡ true)
-        (least : (k : ℕ) → k < length xs → 0 < k → parent k ≡ i → is_before (entry_at xs k) (entry_at xs c) ≡ false)
+    (least : (k : ℕ) → k < length xs → 0 < k → parent k ≡ i → is_before (entry_at xs k) (entry_at xs c) ≡ false)
     (h : HasHole xs i) where
   exchanged : Swapped (λ k. entry_at xs k) (λ k. entry_at (swap xs i c) k) i c
   exchanged = swapped_at xs i c l m
@@ -149,7 +151,7 @@ module _ (xs : List Entry) (i c : ℕ) (l : i < length xs) (m : c < length xs) (
         others = λ k n e f. others k (omega arith) e f (cases_eq k i) (cases_eq (parent k) i) (cases_lt 0 k);
         across = λ k n z e.
             by _ _ _ _ (exchanged.2 k (omega arith) (omega arith)) (ap (entry_at (swap xs i c)) child ∙ exchanged.0 ∙ ap (entry_at xs) (sym e))
-                (h.others k (omega arith) (omega arith) (omega arith));
+            (h.others k (omega arith) (omega arith) (omega arith));
       }
     where
       others : (k : ℕ) → k < length xs → (k ≡ c → ⊥) → (parent k ≡ c → ⊥) → (k ≡ i) ⊎ (k ≡ i → ⊥) → (parent k ≡ i) ⊎ (parent k ≡ i → ⊥)
@@ -157,8 +159,8 @@ module _ (xs : List Entry) (i c : ℕ) (l : i < length xs) (m : c < length xs) (
       others k n e f g a (inr z) = itself_at (swap xs i c) k (parent k) (omega arith)
       others k n e f (inl g) a (inl z) =
           by _ _ _ _ (ap (entry_at (swap xs i c)) g ∙ exchanged.0)
-              (ap (λ (j : ℕ). entry_at (swap xs i c) (parent j)) g ∙ exchanged.2 (parent i) (omega arith) (omega arith))
-              (h.across c m (omega arith) child)
+          (ap (λ (j : ℕ). entry_at (swap xs i c) (parent j)) g ∙ exchanged.2 (parent i) (omega arith) (omega arith))
+          (h.across c m (omega arith) child)
       others k n e f (inr g) (inl a) (inl z) = by _ _ _ _ (exchanged.2 k g e) (ap (entry_at (swap xs i c)) a ∙ exchanged.0) (least k n z a)
       others k n e f (inr g) (inr a) (inl z) = by _ _ _ _ (exchanged.2 k g e) (exchanged.2 (parent k) a f) (h.others k n g a)
 
@@ -177,8 +179,10 @@ heap_from_down (suc n) xs i q l h below = if_when (λ (m : Moved). IsHeap m.arra
     let hole = hole_down xs i (lesser_child xs i) l within c.0 c.1 less (lesser xs i) h in
     let fine = below_down xs i (lesser_child xs i) l within c.0 c.1 less (lesser xs i) h in
     heap_from_down n (swap xs i (lesser_child xs i)) (lesser_child xs i) (omega arith) (omega arith) hole fine)
-    (λ e. fits xs i h (record { children = λ k m z f. stays k m z f
-        (and_cases (ltb (2 * i + 1) (length xs)) (is_before (entry_at xs (lesser_child xs i)) (entry_at xs i)) e) }) below) where
+    (λ e. fits xs i h (record {
+      children = λ k m z f. stays k m z f
+          (and_cases (ltb (2 * i + 1) (length xs)) (is_before (entry_at xs (lesser_child xs i)) (entry_at xs i)) e);
+    }) below) where
       stays : (k : ℕ) → k < length xs → 0 < k → parent k ≡ i
           → (ltb (2 * i + 1) (length xs) ≡ false) ⊎ (is_before (entry_at xs (lesser_child xs i)) (entry_at xs i) ≡ false)
           → is_before (entry_at xs k) (entry_at xs i) ≡ false
@@ -191,10 +195,12 @@ unfolding settled
 heap_settled xs i l h = if_when (λ (m : Moved). IsHeap m.array) (must_rise xs i) _ _
     (λ e. let p = rises_from xs i e in
     let less = (and_parts (ltb 0 i) _ e).1 in
-    heap_from_up i xs i (omega arith) l h (record { children = λ k m z f. chain xs k (parent i) i (h.across k m p f)
-        (one_way xs i (parent i) less) }))
+    heap_from_up i xs i (omega arith) l h (record {
+      children = λ k m z f. chain xs k (parent i) i (h.across k m p f)
+          (one_way xs i (parent i) less);
+    }))
     (λ e. heap_from_down (length xs) xs i (omega arith) l h
-        (record { parent_first = λ p. stays p (and_cases (ltb 0 i) (is_before (entry_at xs i) (entry_at xs (parent i))) e) })) where
+    (record { parent_first = λ p. stays p (and_cases (ltb 0 i) (is_before (entry_at xs i) (entry_at xs (parent i))) e) })) where
       stays : 0 < i → (ltb 0 i ≡ false) ⊎ (is_before (entry_at xs i) (entry_at xs (parent i)) ≡ false)
           → is_before (entry_at xs i) (entry_at xs (parent i)) ≡ false
       stays p (inl e) = absurd (omega (arith, ltb-false 0 i e))
@@ -237,7 +243,7 @@ heap_removed xs i l h = if_when (λ (m : Moved). IsHeap m.array) (eqb i (length 
     let short = length-take-le (length xs - 1) xs (omega arith) in
     let long = length-set (take (length xs - 1) xs) i (entry_at xs (length xs - 1)) in
     heap_settled (set (take (length xs - 1) xs) i (entry_at xs (length xs - 1))) i (omega arith)
-        (hole_put xs i (length xs - 1) _ (omega arith) (omega arith) h))
+    (hole_put xs i (length xs - 1) _ (omega arith) (omega arith) h))
 
 -- the root comes before no other
 pub root_first : (xs : List Entry) → IsHeap xs → (n k : ℕ) → k ≤ n → k < length xs → is_before (entry_at xs k) (entry_at xs 0) ≡ false

@@ -46,7 +46,7 @@ take-swap xs i n e p =
     let cut = length-take-le n (swap xs i n) (omega arith) in
     let put = length-set (take n xs) i (entry_at xs n) in
     ext_get_or no_entry (take n (swap xs i n)) (set (take n xs) i (entry_at xs n)) (cut ∙ sym (put ∙ short))
-        (λ k l. at k s (omega arith) (omega arith) (cases_eq k i))
+    (λ k l. at k s (omega arith) (omega arith) (cases_eq k i))
   where
     at : (k : ℕ) → Swapped (λ j. entry_at xs j) (λ j. entry_at (swap xs i n) j) i n → k < n → i < length (take n xs) → (k ≡ i) ⊎ (k ≡ i → ⊥)
         → entry_at (take n (swap xs i n)) k ≡ entry_at (set (take n xs) i (entry_at xs n)) k
@@ -64,14 +64,14 @@ swap-push ys i e p =
     let put = length-set ys i e in
     let m = length_push (set ys i e) (entry_at ys i) in
     ext_get_or no_entry (swap (ys ++ e ∷ []) i (length ys)) (set ys i e ++ entry_at ys i ∷ []) (omega arith)
-        (λ k l. at k s (omega arith) put (cases_eq k i) (cases_lt k (length ys)))
+    (λ k l. at k s (omega arith) put (cases_eq k i) (cases_lt k (length ys)))
   where
     at : (k : ℕ) → Swapped (λ j. entry_at (ys ++ e ∷ []) j) (λ j. entry_at (swap (ys ++ e ∷ []) i (length ys)) j) i (length ys) → k ≤ length ys
         → length (set ys i e) ≡ length ys → (k ≡ i) ⊎ (k ≡ i → ⊥) → (k < length ys) ⊎ (length ys ≤ k)
         → entry_at (swap (ys ++ e ∷ []) i (length ys)) k ≡ entry_at (set ys i e ++ entry_at ys i ∷ []) k
     at k s l put (inl f) _ = ap (entry_at (swap (ys ++ e ∷ []) i (length ys))) f ∙ s.0 ∙ get_or_push ys e no_entry (length ys) refl
         ∙ sym (ap (entry_at (set ys i e ++ entry_at ys i ∷ [])) f ∙ get_or_append_left (set ys i e) (entry_at ys i ∷ []) no_entry i (omega arith)
-            ∙ get_or-set_same ys i e no_entry p)
+        ∙ get_or-set_same ys i e no_entry p)
     at k s l put (inr f) (inl g) = s.2 k f (omega arith) ∙ get_or_append_left ys (e ∷ []) no_entry k g
         ∙ sym (get_or_append_left (set ys i e) (entry_at ys i ∷ []) no_entry k (omega arith) ∙ get_or-set_other ys i k e no_entry f)
     at k s l put (inr f) (inr g) = let is : k ≡ length ys = omega arith in

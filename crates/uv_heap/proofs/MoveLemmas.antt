@@ -42,7 +42,7 @@ pub child_within : (xs : List Entry) (i : ℕ) → must_sink xs i ≡ true → l
 child_within xs i e =
     let left = ltb-true (2 * i + 1) (length xs) ((and_parts (ltb (2 * i + 1) (length xs)) _ e).0) in
     if_when (λ (k : ℕ). k < length xs) (ltb (2 * i + 2) (length xs) && is_before (entry_at xs (2 * i + 2)) (entry_at xs (2 * i + 1))) (2 * i + 2)
-        (2 * i + 1)
+    (2 * i + 1)
     (λ t. ltb-true (2 * i + 2) (length xs) ((and_parts (ltb (2 * i + 2) (length xs)) _ t).0)) (λ _. left)
 
 pub leaf_stays : (xs : List Entry) (i : ℕ) → length xs ≤ 2 * i + 1 → must_sink xs i ≡ false
@@ -77,7 +77,7 @@ moved_down_enough (suc n) (suc m) xs i p q =
     let below = (child_is xs i).1 in
     let long = length-swap xs i (lesser_child xs i) in
     if_same (must_sink xs i) _ _ _ _ (λ e. moved_down_enough n m (swap xs i (lesser_child xs i)) (lesser_child xs i) (omega arith) (omega arith))
-        (λ _. refl)
+    (λ _. refl)
 
 pub moved_down_more : (xs : List Entry) (i : ℕ) → must_sink xs i ≡ true
     → moved_down (length xs) xs i ≡ moved_down (length (swap xs i (lesser_child xs i))) (swap xs i (lesser_child xs i)) (lesser_child xs i)
@@ -94,7 +94,7 @@ moved_down_more xs i e =
         let below = (child_is xs i).1 in
         let long = length-swap xs i (lesser_child xs i) in
         if_true (must_sink xs i) _ _ e ∙ moved_down_enough n (length xs) (swap xs i (lesser_child xs i)) (lesser_child xs i) (omega arith)
-            (omega arith)
+        (omega arith)
 
 pub moved_down_end : (xs : List Entry) (i : ℕ) → must_sink xs i ≡ false → moved_down (length xs) xs i ≡ record { array = xs; place = i }
 unfolding moved_down
@@ -130,14 +130,14 @@ lowered_enough zero (suc m) xs from to p q = sym (if_false (ltb from to) _ _ (le
 lowered_enough (suc n) zero xs from to p q = if_false (ltb from to) _ _ (le-ltb from to (omega arith))
 lowered_enough (suc n) (suc m) xs from to p q = if_same (ltb from to) _ _ _ _
     (λ e. let up = ltb-true from to e in ap (λ (ys : List Entry). swap ys (parent to) to)
-        (lowered_enough n m xs from (parent to) (omega arith) (omega arith))) (λ _. refl)
+    (lowered_enough n m xs from (parent to) (omega arith) (omega arith))) (λ _. refl)
 
 pub lowered_more : (xs : List Entry) (from to : ℕ) → from < to → lowered to xs from to ≡ swap (lowered (parent to) xs from (parent to)) (parent to) to
 unfolding lowered
 lowered_more xs from zero p = absurd (omega arith)
 lowered_more xs from (suc to) p = if_true (ltb from (suc to)) _ _ (lt-ltb from (suc to) p)
     ∙ ap (λ (ys : List Entry). swap ys (parent (suc to)) (suc to))
-        (lowered_enough to (parent (suc to)) xs from (parent (suc to)) (omega arith) (omega arith))
+    (lowered_enough to (parent (suc to)) xs from (parent (suc to)) (omega arith) (omega arith))
 
 pub lowered_end : (xs : List Entry) (from to : ℕ) → to ≤ from → lowered to xs from to ≡ xs
 unfolding lowered

@@ -40,7 +40,7 @@ count_by-moved_down p (suc n) xs i l = if_when (λ (m : Moved). count_by p m.arr
     (λ e. let within = child_within xs i e in
     let long = length-swap xs i (lesser_child xs i) in
     count_by-moved_down p n (swap xs i (lesser_child xs i)) (lesser_child xs i) (omega arith) ∙ count_by-swap p xs i (lesser_child xs i) l within)
-        (λ _. refl)
+    (λ _. refl)
 
 count_by-settled : (p : Entry → Bool) (xs : List Entry) (i : ℕ) → i < length xs → count_by p (settled xs i).array ≡ count_by p xs
 unfolding settled
@@ -57,7 +57,7 @@ count_by-pushed p xs e =
 count_by-taken : (p : Entry → Bool) (xs : List Entry) (n : ℕ) → n + 1 ≡ length xs → count_by p (take n xs) + one p (entry_at xs n) ≡ count_by p xs
 count_by-taken p xs n e =
     sym (sum_by_push (one p) (take n xs) (entry_at xs n))
-        ∙ ap (count_by p) (sym (take_more xs n no_entry (omega arith)) ∙ take_all (n + 1) xs (omega arith))
+    ∙ ap (count_by p) (sym (take_more xs n no_entry (omega arith)) ∙ take_all (n + 1) xs (omega arith))
 
 pub count_by-removed : (p : Entry → Bool) (xs : List Entry) (i : ℕ) → i < length xs
     → count_by p (removed xs i).array + one p (entry_at xs i) ≡ count_by p xs
@@ -74,10 +74,10 @@ count_by-removed p xs i l = if_when (λ (m : Moved). count_by p m.array + one p 
         let put = take-swap xs i (length xs - 1) n (omega arith) in
         let long = length-swap xs i (length xs - 1) in
         let short : length (set (take (length xs - 1) xs) i (entry_at xs (length xs - 1))) ≡ length xs - 1 = ap length (sym put)
-            ∙ length-take-le (length xs - 1) (swap xs i (length xs - 1)) (omega arith) in
+        ∙ length-take-le (length xs - 1) (swap xs i (length xs - 1)) (omega arith) in
         let last = swapped_at xs i (length xs - 1) l (omega arith) in
         ap (λ (k : ℕ). k + one p (entry_at xs i))
-            (count_by-settled p (set (take (length xs - 1) xs) i (entry_at xs (length xs - 1))) i (omega arith) ∙ ap (count_by p) (sym put))
+        (count_by-settled p (set (take (length xs - 1) xs) i (entry_at xs (length xs - 1))) i (omega arith) ∙ ap (count_by p) (sym put))
         ∙ ap (λ (x : Entry). count_by p (take (length xs - 1) (swap xs i (length xs - 1))) + one p x) (sym last.1)
         ∙ count_by-taken p (swap xs i (length xs - 1)) (length xs - 1) (omega arith)
         ∙ count_by-swap p xs i (length xs - 1) l (omega arith)
@@ -178,7 +178,7 @@ first_is_root x xs first others h order all_behind = at (cases_Bool (is_same x f
   at (inr t) =
       let no : one (is_same x) first ≡ 0 = if_false _ _ _ t in
       let behind = before_all_there first x others all_behind
-          (omega (arith, no, counts_itself x xs, order.same x, count_by-cons (is_same x) first others)) in
+      (omega (arith, no, counts_itself x xs, order.same x, count_by-cons (is_same x) first others)) in
       let not_before = none_before_there x first (x ∷ xs) (least_first x xs h) (omega (arith, counts_itself first others, order.same first)) in
       absurd (false≢true (sym not_before ∙ behind))
 

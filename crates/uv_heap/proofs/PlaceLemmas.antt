@@ -47,7 +47,7 @@ places_pushed xs ps memory e h l absent = record {
   only = λ s i. only s i (get_or-set ps e.slot s (Some (length xs)) l);
   counted =
       let more : count_by is_some (set ps e.slot (Some (length xs))) + 0 ≡ count_by is_some ps + 1 = count_by-set ps e.slot
-          (Some (length xs)) None l absent in
+      (Some (length xs)) None l absent in
       omega (arith, more, h.counted, length_push xs e);
   fits = omega (arith, length-set ps e.slot (Some (length xs)), h.fits);
   narrow = omega (arith, length-set ps e.slot (Some (length xs)), h.narrow);
@@ -61,12 +61,12 @@ places_pushed xs ps memory e h l absent = record {
       → place (set ps e.slot (Some (length xs))) (entry_at (xs ++ e ∷ []) i).slot ≡ Some i
   right i (inl a) = ap (λ (x : Entry). place (set ps e.slot (Some (length xs))) x.slot) a.1
       ∙ old (h.right i a.0) (get_or-set ps e.slot (entry_at xs i).slot (Some (length xs)) l) where
-    old : place ps (entry_at xs i).slot ≡ Some i
-        → (((entry_at xs i).slot ≡ e.slot) × (place (set ps e.slot (Some (length xs))) (entry_at xs i).slot ≡ Some (length xs))) ⊎
-        (((entry_at xs i).slot ≡ e.slot → ⊥) × (place (set ps e.slot (Some (length xs))) (entry_at xs i).slot ≡ place ps (entry_at xs i).slot))
-        → place (set ps e.slot (Some (length xs))) (entry_at xs i).slot ≡ Some i
-    old was (inl b) = let here : place ps (entry_at xs i).slot ≡ place ps e.slot = ap (place ps) b.0 in cc
-    old was (inr b) = b.1 ∙ was
+        old : place ps (entry_at xs i).slot ≡ Some i
+            → (((entry_at xs i).slot ≡ e.slot) × (place (set ps e.slot (Some (length xs))) (entry_at xs i).slot ≡ Some (length xs))) ⊎
+            (((entry_at xs i).slot ≡ e.slot → ⊥) × (place (set ps e.slot (Some (length xs))) (entry_at xs i).slot ≡ place ps (entry_at xs i).slot))
+            → place (set ps e.slot (Some (length xs))) (entry_at xs i).slot ≡ Some i
+        old was (inl b) = let here : place ps (entry_at xs i).slot ≡ place ps e.slot = ap (place ps) b.0 in cc
+        old was (inr b) = b.1 ∙ was
   right i (inr a) = ap (λ (x : Entry). place (set ps e.slot (Some (length xs))) x.slot) a.1 ∙ get_or-set_same ps e.slot (Some (length xs)) None l
       ∙ ap Some (sym a.0)
 
@@ -106,7 +106,7 @@ places_popped xs ps memory e h =
       only = λ s i. only s i last (get_or-set ps e.slot s None there);
       counted =
           let less : count_by is_some (set ps e.slot None) + 1 ≡ count_by is_some ps + 0 = count_by-set ps e.slot None
-              (Some (length xs)) there placed in
+          (Some (length xs)) there placed in
           omega (arith, less, h.counted);
       fits = omega (arith, length-set ps e.slot None, h.fits);
       narrow = omega (arith, length-set ps e.slot None, h.narrow);
@@ -176,11 +176,11 @@ places_swapped xs ps memory a b p q h =
       only = λ t i e. only t i s long (written ps (entry_at xs a).slot (entry_at xs b).slot a b t known_a known_b) e;
       counted =
           let once : count_by is_some (set ps (entry_at xs b).slot (Some a)) + 1 ≡ count_by is_some ps + 1 = count_by-set ps (entry_at xs b).slot
-              (Some a) (Some b) known_b (h.right b q) in
+          (Some a) (Some b) known_b (h.right b q) in
           let twice : count_by is_some (both ps (entry_at xs a).slot (entry_at xs b).slot a b) + 1 ≡ count_by is_some
-              (set ps (entry_at xs b).slot (Some a)) + 1 =
+          (set ps (entry_at xs b).slot (Some a)) + 1 =
           count_by-set (set ps (entry_at xs b).slot (Some a)) (entry_at xs a).slot (Some b) (Some a) (omega arith)
-              (had (get_or-set ps (entry_at xs b).slot (entry_at xs a).slot (Some a) known_b)) in
+          (had (get_or-set ps (entry_at xs b).slot (entry_at xs a).slot (Some a) known_b)) in
           omega (arith, once, twice, h.counted);
       fits = omega (arith, h.fits);
       narrow = omega (arith, h.narrow);
@@ -219,15 +219,15 @@ places_swapped xs ps memory a b p q h =
     right i s l (inl e) f =
         ap (λ (x : Entry). place (both ps (entry_at xs a).slot (entry_at xs b).slot a b) x.slot) (ap (entry_at (swap xs a b)) e ∙ s.0)
         ∙ now_at i b q refl ((λ g. e ∙ sym g, λ _. e), λ _ g. absurd (g refl))
-            (written ps (entry_at xs a).slot (entry_at xs b).slot a b (entry_at xs b).slot (h.known a p) (h.known b q))
+        (written ps (entry_at xs a).slot (entry_at xs b).slot a b (entry_at xs b).slot (h.known a p) (h.known b q))
     right i s l (inr e) (inl f) =
         ap (λ (x : Entry). place (both ps (entry_at xs a).slot (entry_at xs b).slot a b) x.slot) (ap (entry_at (swap xs a b)) f ∙ s.1)
         ∙ now_at i a p refl ((λ _. f, λ g. f ∙ sym g), λ g _. absurd (g refl))
-            (written ps (entry_at xs a).slot (entry_at xs b).slot a b (entry_at xs a).slot (h.known a p) (h.known b q))
+        (written ps (entry_at xs a).slot (entry_at xs b).slot a b (entry_at xs a).slot (h.known a p) (h.known b q))
     right i s l (inr e) (inr f) =
         ap (λ (x : Entry). place (both ps (entry_at xs a).slot (entry_at xs b).slot a b) x.slot) (s.2 i e f)
         ∙ now_at i i l refl ((λ g. absurd (e g), λ g. absurd (f g)), λ _ _. refl)
-            (written ps (entry_at xs a).slot (entry_at xs b).slot a b (entry_at xs i).slot (h.known a p) (h.known b q))
+        (written ps (entry_at xs a).slot (entry_at xs b).slot a b (entry_at xs i).slot (h.known a p) (h.known b q))
 
     only : (t i : ℕ) → Swapped (λ k. entry_at xs k) (λ k. entry_at (swap xs a b) k) a b → length (swap xs a b) ≡ length xs
         → Written ps (entry_at xs a).slot (entry_at xs b).slot a b t → place (both ps (entry_at xs a).slot (entry_at xs b).slot a b) t ≡ Some i
@@ -239,10 +239,12 @@ places_swapped xs ps memory a b p q h =
         let is : i ≡ a = cc in
         (omega arith, ap (λ (x : Entry). x.slot) (ap (entry_at (swap xs a b)) is ∙ s.0) ∙ sym e)
     only t i s n (elsewhere e f w) r =
-        let was = h.only t i (sym w ∙ r) in
-        (omega (arith, was.0), ap (λ (x : Entry). x.slot)
-            (s.2 i (λ g. e (sym was.1 ∙ ap (λ (k : ℕ). (entry_at xs k).slot) g)) (λ g. f (sym was.1 ∙ ap (λ (k : ℕ). (entry_at xs k).slot) g)))
-            ∙ was.1)
+        let was = h.only t i (sym w ∙ r) in (
+          omega (arith, was.0),
+          ap (λ (x : Entry). x.slot)
+              (s.2 i (λ g. e (sym was.1 ∙ ap (λ (k : ℕ). (entry_at xs k).slot) g)) (λ g. f (sym was.1 ∙ ap (λ (k : ℕ). (entry_at xs k).slot) g)))
+              ∙ was.1,
+        )
 
 -- what the places say is where the array has the slot
 pub place_in_is : (xs : List Entry) (ps : List (Option ℕ)) (memory s : ℕ) → ArePlaces xs ps memory → place_in xs s ≡ place ps s
@@ -253,13 +255,13 @@ place_in_is xs ps memory s h = at (place ps s) refl where
   at : (o : Option ℕ) → place ps s ≡ o → place_in xs s ≡ o
   at None e =
       found (length xs) (position_or_len_is (λ (x : Entry). eqb x.slot s) xs (length xs) no_entry (omega arith)
-          (λ k l. ne_eqb _ _ (λ g. let no : Some k ≡ None = sym (h.right k l) ∙ ap (place ps) g ∙ e in cc)) (λ l. absurd (omega arith)))
+      (λ k l. ne_eqb _ _ (λ g. let no : Some k ≡ None = sym (h.right k l) ∙ ap (place ps) g ∙ e in cc)) (λ l. absurd (omega arith)))
       ∙ ap (λ (b : Bool). cond b (Some (length xs)) None) (le-ltb (length xs) (length xs) (omega arith))
   at (Some i) e =
       let was = h.only s i e in
       found i (position_or_len_is (λ (x : Entry). eqb x.slot s) xs i no_entry (omega (arith, was.0))
       (λ k l. ne_eqb _ _ (λ g. let no : Some k ≡ Some i = sym (h.right k (omega (arith, was.0))) ∙ ap (place ps) g
-          ∙ e in let is : k ≡ i = cc in absurd (omega arith))) (λ l. eq-eqb _ _ was.1))
+      ∙ e in let is : k ≡ i = cc in absurd (omega arith))) (λ l. eq-eqb _ _ was.1))
       ∙ ap (λ (b : Bool). cond b (Some i) None) (lt-ltb i (length xs) was.0)
 
 none_there : (n k : ℕ) → place (replicate n None) k ≡ None

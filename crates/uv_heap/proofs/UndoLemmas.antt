@@ -45,7 +45,7 @@ push_undone-pushed xs e =
     let last : length (pushed xs e).array - 1 ≡ length xs = omega arith in
     ap (λ (k : ℕ). take k (lowered k (pushed xs e).array (pushed xs e).place k)) last
     ∙ ap (λ (ys : List Entry). take (length xs) (lowered (length xs) ys (pushed xs e).place (length xs)))
-        (sym (MoveLemmas.raised-moved_up (length xs) (xs ++ e ∷ []) (length xs)))
+    (sym (MoveLemmas.raised-moved_up (length xs) (xs ++ e ∷ []) (length xs)))
     ∙ ap (take (length xs)) (MoveLemmas.lowered-raised (length xs) (xs ++ e ∷ []) (length xs) (pushed xs e).place (omega arith))
     ∙ take_at xs (e ∷ []) (length xs) refl
 
@@ -59,7 +59,7 @@ returned-settled xs i l = MoveLemmas.if_when (λ (m : Moved). returned m.array m
     ∙ ap (λ (ys : List Entry). lowered i ys (moved_up i xs i).place i) (sym (MoveLemmas.raised-moved_up i xs i))
     ∙ MoveLemmas.lowered-raised i xs i (moved_up i xs i).place l)
     (λ _. down (cases_lt i (moved_down (length xs) xs i).place)
-        (MoveLemmas.raised-moved_down (length xs) xs i i (omega arith) l ∙ MoveLemmas.raised_end xs i i (omega arith)))
+    (MoveLemmas.raised-moved_down (length xs) xs i i (omega arith) l ∙ MoveLemmas.raised_end xs i i (omega arith)))
   where
     down : (i < (moved_down (length xs) xs i).place) ⊎ ((moved_down (length xs) xs i).place ≤ i)
         → raised (moved_down (length xs) xs i).place (moved_down (length xs) xs i).array (moved_down (length xs) xs i).place i ≡ xs
@@ -116,7 +116,7 @@ removal_undone-removed xs undo l rest entry = at (cases_eq undo.place (length xs
   at (inl e) =
       let short = length-take-le (length xs - 1) xs (omega arith) in
       let is : (removed xs undo.place).array ≡ take (length xs - 1) xs = ap (λ (m : Moved). m.array)
-          (MoveLemmas.if_true _ _ _ (eq-eqb undo.place (length xs - 1) e)) in
+      (MoveLemmas.if_true _ _ _ (eq-eqb undo.place (length xs - 1) e)) in
       ap (λ (ys : List Entry). removal_undone ys undo) is
       ∙ MoveLemmas.if_true _ _ _ (eq-eqb undo.place (length (take (length xs - 1) xs)) (omega arith))
       ∙ ap (λ (x : Entry). take (length xs - 1) xs ++ x ∷ []) (entry ∙ ap (entry_at xs) e)
@@ -127,7 +127,7 @@ removal_undone-removed xs undo l rest entry = at (cases_eq undo.place (length xs
       let long = MoveLemmas.length-settled (put xs undo.place) undo.place in
       let back : returned (settled (put xs undo.place) undo.place).array undo.rest undo.place ≡ put xs undo.place =
       ap (λ (k : ℕ). returned (settled (put xs undo.place) undo.place).array k undo.place) (rest ∙ ap (λ (m : Moved). m.place) moved)
-          ∙ returned-settled (put xs undo.place) undo.place (omega arith) in
+      ∙ returned-settled (put xs undo.place) undo.place (omega arith) in
       ap (λ (m : Moved). removal_undone m.array undo) moved
       ∙ MoveLemmas.if_false _ _ _ (ne_eqb undo.place (length (settled (put xs undo.place) undo.place).array) (λ g. f (omega arith)))
       ∙ ap (λ (ys : List Entry). set ys undo.place undo.entry ++ entry_at ys undo.place ∷ []) back
@@ -153,7 +153,7 @@ pub avoids_is : (xs : List Entry) (slot : ℕ) → Avoids xs slot → place_in x
 avoids_is xs slot h =
     let all : position_or_len (λ (x : Entry). eqb x.slot slot) xs ≡ length xs =
     position_or_len_is (λ (x : Entry). eqb x.slot slot) xs (length xs) no_entry (omega arith) (λ k l. ne_eqb _ _ (h.none k l))
-        (λ l. absurd (omega arith)) in
+    (λ l. absurd (omega arith)) in
     MoveLemmas.if_false _ _ _ (le-ltb _ (length xs) (omega arith))
 
 avoids_swap : (xs : List Entry) (a b slot : ℕ) → a < length xs → b < length xs → Avoids xs slot → Avoids (swap xs a b) slot
@@ -174,7 +174,7 @@ avoids_raised zero xs from to slot l h = h
 avoids_raised (suc n) xs from to slot l h = MoveLemmas.if_when (λ (ys : List Entry). Avoids ys slot) (ltb to from) _ _
     (λ _. let long = length-swap xs from (parent from) in
     avoids_raised n (swap xs from (parent from)) (parent from) to slot (omega arith) (avoids_swap xs from (parent from) slot l (omega arith) h))
-        (λ _. h)
+    (λ _. h)
 
 avoids_lowered : (n : ℕ) (xs : List Entry) (from to slot : ℕ) → to < length xs → Avoids xs slot → Avoids (lowered n xs from to) slot
 unfolding lowered
@@ -182,7 +182,7 @@ avoids_lowered zero xs from to slot l h = h
 avoids_lowered (suc n) xs from to slot l h = MoveLemmas.if_when (λ (ys : List Entry). Avoids ys slot) (ltb from to) _ _
     (λ _. let long = MoveLemmas.length-lowered n xs from (parent to) in
     avoids_swap (lowered n xs from (parent to)) (parent to) to slot (omega arith) (omega arith)
-        (avoids_lowered n xs from (parent to) slot (omega arith) h)) (λ _. h)
+    (avoids_lowered n xs from (parent to) slot (omega arith) h)) (λ _. h)
 
 pub avoids_returned : (xs : List Entry) (rest place slot : ℕ) → rest < length xs → place < length xs → Avoids xs slot
     → Avoids (returned xs rest place) slot
@@ -243,7 +243,7 @@ avoids_moved_down (suc n) xs i slot l h = MoveLemmas.if_when (λ (m : Moved). Av
     (λ e. let within = MoveLemmas.child_within xs i e in
     let long = length-swap xs i (lesser_child xs i) in
     avoids_moved_down n (swap xs i (lesser_child xs i)) (lesser_child xs i) slot (omega arith) (avoids_swap xs i (lesser_child xs i) slot l within h))
-        (λ _. h)
+    (λ _. h)
 
 avoids_settled : (xs : List Entry) (i slot : ℕ) → i < length xs → Avoids xs slot → Avoids (settled xs i).array slot
 unfolding settled
@@ -256,14 +256,16 @@ avoids_left xs i n e l differ =
     let long = length-swap xs i n in
     let short = length-take-le n (swap xs i n) (omega arith) in
     let s = swapped_at xs i n (omega arith) (omega arith) in
-    record { none = λ k m f. at k s (omega arith) (ap (λ (x : Entry). x.slot) (sym (get_or-take n (swap xs i n) k no_entry (omega arith))) ∙ f)
-        (cases_eq k i) }
+    record {
+      none = λ k m f. at k s (omega arith) (ap (λ (x : Entry). x.slot) (sym (get_or-take n (swap xs i n) k no_entry (omega arith))) ∙ f)
+          (cases_eq k i);
+    }
   where
     at : (k : ℕ) → Swapped (λ j. entry_at xs j) (λ j. entry_at (swap xs i n) j) i n → k < n → (entry_at (swap xs i n) k).slot ≡ (entry_at xs i).slot
         → (k ≡ i) ⊎ (k ≡ i → ⊥) → ⊥
     at k s m f (inl g) =
         let same = differ n i (omega arith) (omega arith)
-            (ap (λ (x : Entry). x.slot) (sym s.0) ∙ ap (λ (j : ℕ). (entry_at (swap xs i n) j).slot) (sym g) ∙ f) in
+        (ap (λ (x : Entry). x.slot) (sym s.0) ∙ ap (λ (j : ℕ). (entry_at (swap xs i n) j).slot) (sym g) ∙ f) in
         omega arith
     at k s m f (inr g) = g (differ k i (omega arith) (omega arith) (ap (λ (x : Entry). x.slot) (sym (s.2 k g (omega arith))) ∙ f))
 
@@ -277,4 +279,4 @@ avoids_removed xs i l differ = at (cases_eq i (length xs - 1)) where
       let short = length-take-le (length xs - 1) (swap xs i (length xs - 1)) (omega arith) in
       rw (← removed_inner xs i (length xs - 1) n (omega arith))
       (avoids_settled (take (length xs - 1) (swap xs i (length xs - 1))) i (entry_at xs i).slot (omega arith)
-          (avoids_left xs i (length xs - 1) n (omega arith) differ))
+      (avoids_left xs i (length xs - 1) n (omega arith) differ))

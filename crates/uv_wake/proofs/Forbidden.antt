@@ -99,13 +99,13 @@ absorb_to_zero may = let found = may (state_at 0 1 (Some name)) asked refl refl 
     let is : found.0 ≡ Loop (after_absorb (loop_at 0 (Some name)) name true) = ap (λ (m : Me ℕ View). m.0) (found.4 name refl).0 in
     let count : get_or kept.loop.counts 0 0 ≡ 1 = ap (λ (v : View). get_or (loop_of v).counts 0 0) (sym (some-injective _ _ kept.first) ∙ is) in
     ⊎_elim (λ (e : 0 ≡ 2 * get_or kept.loop.counts 0 0). let h : ⊥ = omega arith in h)
-        (λ (e : 0 ≡ 2 * get_or kept.loop.counts 0 0 + 1). let h : ⊥ = omega arith in h) (kept.each name (lit< tt)).is_word
+    (λ (e : 0 ≡ 2 * get_or kept.loop.counts 0 0 + 1). let h : ⊥ = omega arith in h) (kept.each name (lit< tt)).is_word
 
 -- a sender that looked before the absorb may not store what it saw, with the lowest bit set
 pub send_by_store : (let me : Me ℕ View = (Sender sender, []) in Allows (Kept 1) 0 1 me 1 (λ _. 1) (λ _. sent (step 0 1 1 0 none) me 1)) → ⊥
 send_by_store may = let found = may (state_at 1 2 None) taken refl refl (lit< tt) in
     let kept = found.3 in
     let count : 1 ≡ get_or kept.loop.counts 0 0 = ap (λ (v : View). get_or (loop_of v).counts 0 0)
-        (some-injective (Loop (loop_at 1 None)) (Loop kept.loop) kept.first) in
+    (some-injective (Loop (loop_at 1 None)) (Loop kept.loop) kept.first) in
     ⊎_elim (λ (e : 1 ≡ 2 * get_or kept.loop.counts 0 0). let h : ⊥ = omega arith in h)
-        (λ (e : 1 ≡ 2 * get_or kept.loop.counts 0 0 + 1). let h : ⊥ = omega arith in h) (kept.each name (lit< tt)).is_word
+    (λ (e : 1 ≡ 2 * get_or kept.loop.counts 0 0 + 1). let h : ⊥ = omega arith in h) (kept.each name (lit< tt)).is_word

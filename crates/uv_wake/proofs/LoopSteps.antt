@@ -50,7 +50,7 @@ looks names slots id me v first knows small = subst
         let same : kept.loop ≡ loop_of me.0 = ap loop_of is in
         let finds : (u : Var) → u.0 + 1 ≡ v.0 + 1 → Looked (loop_of me.0) u (is_odd n) =
         (λ u e. subst (λ (x : LoopView × Var). Looked x.0 x.1 (is_odd n)) (λ i. (same i, var_ext v u (omega arith) i))
-            (look_finds names s kept v small)) in
+        (look_finds names s kept v small)) in
         let here : LoopView → Me ℕ View = (λ l. (Loop l, me.1)) in
         let view : (u : Var) → u.0 + 1 ≡ v.0 + 1 → here (after_look kept.loop v true) ≡ me_of (after_look (loop_of me.0) u true) =
         (λ u e i. (Loop (after_look (same i) (var_ext v u (omega arith) i) true), (knows i).1)) in
@@ -84,23 +84,31 @@ absorbs names slots id me v first knows small seen room = subst
         let odd : n ≡ 2 * get_or kept.loop.counts v.0 0 + 1 = (kept.each v small).is_seen (ap (λ (l : LoopView). l.seen) same ∙ seen) in
         let plain : n + 1 ≡ (n + 1) % 18446744073709551616 = omega arith in
         let wide = kept.wide in
-        let after : State ℕ View = record { words = set s.words (v.0 + 1) (n + 1); homes = s.homes; views = set s.views 0
-            (Loop (after_absorb kept.loop v true)) } in
+        let after : State ℕ View = record {
+          words = set s.words (v.0 + 1) (n + 1);
+          homes = s.homes;
+          views = set s.views 0
+              (Loop (after_absorb kept.loop v true));
+        } in
         let held : Kept names after = absorb_keeps names s kept v small odd in
         let here_word : get_or (set s.words (v.0 + 1) (n + 1)) (v.0 + 1) 0 ≡ n + 1 = get_or-set_same s.words (v.0 + 1) (n + 1) 0 (omega arith) in
         let even : get_or after.words (v.0 + 1) 0 % 2 ≡ 0 = omega arith in
         let there : get_elem? after.views 0 ≡ some (Loop (after_absorb kept.loop v true)) = set_there s.views 0
-            (Loop (after_absorb kept.loop v true)) me.0 at in (
+        (Loop (after_absorb kept.loop v true)) me.0 at in (
           Loop (after_absorb kept.loop v true),
           keeps,
           tt,
-          subst (λ (w : ℕ). Kept names (record { words = set s.words (v.0 + 1) w; homes = s.homes; views = set s.views 0
-              (Loop (after_absorb kept.loop v true)) })) plain held,
+          subst (λ (w : ℕ). Kept names (record {
+            words = set s.words (v.0 + 1) w;
+            homes = s.homes;
+            views = set s.views 0
+                (Loop (after_absorb kept.loop v true));
+          })) plain held,
           λ u e. let told = subst (λ (x : LoopView × Var). AllCarried (after_absorb x.0 x.1 true) x.1 × HasEach (after_absorb x.0 x.1 true))
               (λ i. (same i, var_ext v u (omega arith) i))
               (subst (λ (l : LoopView). AllCarried l v × HasEach l)
-                  (ap loop_of (is_loop names after held (Loop (after_absorb kept.loop v true)) there))
-                  (none_is_left names after held v small even, complete names after held)) in
+              (ap loop_of (is_loop names after held (Loop (after_absorb kept.loop v true)) there))
+              (none_is_left names after held v small even, complete names after held)) in
               ((λ i. (Loop (after_absorb (same i) (var_ext v u (omega arith) i) true), (knows i).1)), told.0, told.1),
         )
 
@@ -110,21 +118,30 @@ learns names slots id me first knows = subst (λ (k : ℕ). Allows (Kept names) 
     (sym first) go
   where
     go : Allows (Kept names) slots 0 me 0 (λ n. n) (learned (step slots 0 0 0 none) me)
-    go s kept deep at fits = (me.0, keeps, tt, same_state names s 0 me.0 at kept,
-        (knows, subst (λ (l : LoopView). HasEach l) (ap loop_of (is_loop names s kept me.0 at)) (complete names s kept)))
+    go s kept deep at fits = (
+      me.0,
+      keeps,
+      tt,
+      same_state names s 0 me.0 at kept,
+      (knows, subst (λ (l : LoopView). HasEach l) (ap loop_of (is_loop names s kept me.0 at)) (complete names s kept)),
+    )
 
 pub splits : (names id : ℕ) (v : View) → id ≡ 0 → Splits (Kept names) id v (split_left v) (split_right v)
 splits names id v first s kept at = let at_0 : get_elem? s.views 0 ≡ some v = (λ i. get_elem? s.views (sym first i)) ∙ at in
-    subst (λ (x : ℕ × View). Kept names (record { words = s.words; homes = s.homes; views = set s.views x.0 (split_left x.1)
-        ++ split_right x.1 ∷ [] })) (λ i. (sym first i, is_loop names s kept v at_0 i)) (split_keeps names s kept)
+    subst (λ (x : ℕ × View). Kept names (record {
+      words = s.words;
+      homes = s.homes;
+      views = set s.views x.0 (split_left x.1)
+          ++ split_right x.1 ∷ [];
+    })) (λ i. (sym first i, is_loop names s kept v at_0 i)) (split_keeps names s kept)
 
 pub joins : (names id other : ℕ) (v w : View) → id ≡ 0 → w ≡ Sender (sender_of w) → Joins (Kept names) id v other w (joined v w) Joined
 joins names id other v w first sender s kept at apart there = let at_0 : get_elem? s.views 0 ≡ some v = (λ i. get_elem? s.views (sym first i)) ∙ at in
     let at_other : get_elem? s.views other ≡ some (Sender (sender_of w)) = sym (set_else s.views id other (joined v w) apart)
-        ∙ (there ∙ ap (λ (x : View). some x) sender) in
+    ∙ (there ∙ ap (λ (x : View). some x) sender) in
     let whole = join_keeps names s kept other (sender_of w) (λ z. apart (z ∙ sym first)) at_other in
     subst (λ (x : ℕ × View × View). Kept names
-        (record { words = s.words; homes = s.homes; views = set (set s.views x.0 (joined x.1 x.2)) other Joined }))
+    (record { words = s.words; homes = s.homes; views = set (set s.views x.0 (joined x.1 x.2)) other Joined }))
     (λ i. (sym first i, is_loop names s kept v at_0 i, sym sender i)) whole
 
 none_has : (views : List View) (l : LoopView) (t : Ticket) → l.tickets ≡ [] → views ≡ Loop l ∷ [] → Has views t → ⊥
@@ -152,8 +169,11 @@ opens names words is = record {
   further = (λ i. get_or (is i) 0 0) ∙ get_or-replicate (names + 1) 0 0 0 (omega arith);
   counted = length-replicate names 0;
   each = λ v small. subst (λ (x : ℕ × ℕ). NameKept (at_first names ∷ []) None v x.0 x.1)
-      (λ i. (sym (get_or-replicate names v.0 0 0 small) i, sym
-          ((λ j. get_or (is j) (v.0 + 1) 0) ∙ get_or-replicate (names + 1) (v.0 + 1) 0 0 (omega arith)) i))
+      (λ i. (
+        sym (get_or-replicate names v.0 0 0 small) i,
+        sym
+            ((λ j. get_or (is j) (v.0 + 1) 0) ∙ get_or-replicate (names + 1) (v.0 + 1) 0 0 (omega arith)) i,
+      ))
       (record {
         is_word = inl refl;
         is_past = λ t _ h. absurd (none_has (at_first names ∷ []) (starting names) t refl refl h);

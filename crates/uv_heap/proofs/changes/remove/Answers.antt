@@ -13,7 +13,7 @@ use Rattle.uv_heap.proofs.changes.remove.Goals as goal
 left : (xs ys zs : List Entry) (i n : ℕ) → ys ≡ swap xs i n → zs ≡ take (length ys - 1) ys → n ≡ length xs - 1 → zs ≡ take n (swap xs i n)
 left xs ys zs i n e f g =
     f ∙ ap (λ (l : List Entry). take (length l - 1) l) e ∙ ap (λ (k : ℕ). take (k - 1) (swap xs i n)) (length-swap xs i n)
-        ∙ ap (λ (k : ℕ). take k (swap xs i n)) (sym g)
+    ∙ ap (λ (k : ℕ). take k (swap xs i n)) (sym g)
 
 pub returns-then-place-last-clause-array : goal.returns-then-place-last-clause-array
 returns-then-place-last-clause-array c =
@@ -22,7 +22,7 @@ returns-then-place-last-clause-array c =
     let last : c.args.place ≡ length xs - 1 = omega arith in
     let same : length c.as_slice.result.now - 1 ≡ c.args.place = omega arith in
     left xs c.swap.new.self.array c.pop.new.self.array c.args.place (length c.as_slice.result.now - 1) c.swap.ensures.array c.pop.ensures.array
-        (omega arith)
+    (omega arith)
     ∙ ap (λ (n : ℕ). take n (swap xs c.args.place n)) same
     ∙ ap (λ (m : Moved). m.array) (removed_last xs c.args.place c.requires last)
 
@@ -38,7 +38,7 @@ returns-clause-array c =
     let n = length c.as_slice.result.now - 1 in
     c.settle-rest.ensures.array
     ∙ ap (λ (ys : List Entry). (settled ys c.args.place).array)
-        (left xs c.swap.new.self.array c.pop.new.self.array c.args.place n c.swap.ensures.array c.pop.ensures.array (omega arith))
+    (left xs c.swap.new.self.array c.pop.new.self.array c.args.place n c.swap.ensures.array c.pop.ensures.array (omega arith))
     ∙ ap (λ (m : Moved). m.array) (removed_inner xs c.args.place n (omega arith) (omega arith))
 
 pub returns-clause-rest : goal.returns-clause-rest
@@ -48,7 +48,7 @@ returns-clause-rest c =
     let n = length c.as_slice.result.now - 1 in
     c.settle-rest.ensures.place
     ∙ ap (λ (ys : List Entry). (settled ys c.args.place).place)
-        (left xs c.swap.new.self.array c.pop.new.self.array c.args.place n c.swap.ensures.array c.pop.ensures.array (omega arith))
+    (left xs c.swap.new.self.array c.pop.new.self.array c.args.place n c.swap.ensures.array c.pop.ensures.array (omega arith))
     ∙ ap (λ (m : Moved). m.place) (removed_inner xs c.args.place n (omega arith) (omega arith))
 
 pub returns-then-place-last-clause-absent : goal.returns-then-place-last-clause-absent

@@ -4,8 +4,13 @@ use Rattle.uv_heap.proofs.sift.+lower.Goals as goal
 
 pub swap-requires-clause-a_within : goal.swap-requires-clause-a_within
 swap-requires-clause-a_within t c = rw c.lower.ensures.array
-    (omega (arith, c.requires, c.parent-above.ensures, length-lowered c.parent-above.result c.args.entries.now.array c.args.from
-    c.parent-above.result))
+    (omega (
+      arith,
+      c.requires,
+      c.parent-above.ensures,
+      length-lowered c.parent-above.result c.args.entries.now.array c.args.from
+          c.parent-above.result,
+    ))
 
 pub swap-requires-clause-b_within : goal.swap-requires-clause-b_within
 swap-requires-clause-b_within t c = rw c.lower.ensures.array

@@ -10,7 +10,7 @@ loop-child-smaller c =
     let below = (child_is c.loop-child.entries.array c.loop-child.place).1 in
     let smaller : length c.swap.new.self.array - c.in-Some.child < length c.loop-child.entries.array - c.loop-child.place =
     rw (c.swap.ensures.array, length-swap c.loop-child.entries.array c.loop-child.place c.in-Some.child)
-        (omega (arith, c.in-Some.ensures.child, below, c.loop-child.invariant.within)) in
+    (omega (arith, c.in-Some.ensures.child, below, c.loop-child.invariant.within)) in
     smaller
 
 pub loop-child-preserved : goal.loop-child-preserved

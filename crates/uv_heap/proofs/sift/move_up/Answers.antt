@@ -6,8 +6,13 @@ use Rattle.uv_heap.proofs.sift.move_up.Goals as goal
 
 pub loop-above-preserved : goal.loop-above-preserved
 loop-above-preserved c = record {
-  within = rw c.swap.ensures.array (omega (arith, c.parent-above.ensures, c.loop-above.invariant.within, length-swap c.loop-above.entries.array
-      c.loop-above.place c.parent-above.result));
+  within = rw c.swap.ensures.array (omega (
+    arith,
+    c.parent-above.ensures,
+    c.loop-above.invariant.within,
+    length-swap c.loop-above.entries.array
+        c.loop-above.place c.parent-above.result,
+  ));
   rest = rw (c.swap.ensures.array, c.parent-above.ensures)
       (sym (moved_up_more c.loop-above.entries.array c.loop-above.place (sym c.loop-above-test.ensures)) ∙ c.loop-above.invariant.rest);
   room = c.swap.ensures.room ∙ c.loop-above.invariant.room;

@@ -19,7 +19,7 @@ is_first (x ∷ xs) h first others order before = ap Some (first_is_root x xs fi
 pub returns-clause-least : goal.returns-clause-least
 returns-clause-least c =
     let root : c.copied.result ≡ slice_get c.args.self.now.array 0 = c.copied.ensures ∙ c.first.ensures.value
-        ∙ ap (λ (xs : List Entry). slice_get xs 0) c.entries.ensures.array in
+    ∙ ap (λ (xs : List Entry). slice_get xs 0) c.entries.ensures.array in
     rw root (least c.args.self.now.array c.entries.ensures.heap)
 
 pub returns-clause-first : goal.returns-clause-first

@@ -33,5 +33,5 @@ returns-clause-can_undo c =
 pub returns-clause-undone : goal.returns-clause-undone
 returns-clause-undone c =
     undone c.self.inside.entries.array c.push-place.new.entries.array c.args.entry c.push-place.result c.push-place.ensures.array
-        c.push-place.ensures.place
+    c.push-place.ensures.place
     ∙ ap (λ (heap : Heap). heap.array) c.self.view_is

@@ -50,5 +50,5 @@ returns-clause-undone c =
     let view = ap (λ (heap : Heap). heap.array) c.self.view_is in
     let within : c.args.place < length c.self.inside.entries.array = rw view c.requires in
     undone c.self.inside.entries.array c.remove.new.entries.array c.args.place c.remove.result within c.remove.ensures.array c.remove.ensures.place
-        c.remove.ensures.rest c.remove.ensures.entry
+    c.remove.ensures.rest c.remove.ensures.entry
     ∙ view
