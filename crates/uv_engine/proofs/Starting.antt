@@ -64,11 +64,11 @@ more_last input text before line after h n e z other =
           ∙ sym (append_assoc text line []) ∙ ap (λ (xs : List ℕ). (text ++ line) ++ xs) (sym z);
     }
 
-pub can_go_on : (input text before line after more : List ℕ) (fed : Bool) → CanBegin input text before → TakesLine before line fed after
+pub can_go_on : {input text before line after more : List ℕ} (fed : Bool) → CanBegin input text before → TakesLine before line fed after
     → line ≢ codes "begin" → more ≡ text ++ with_line line fed → CanBegin input more after
-can_go_on input text before line after more true h k other e = subst (λ (xs : List ℕ). CanBegin input xs after) (sym e)
+can_go_on {input} {text} {before} {line} {after} {more} true h k other e = subst (λ (xs : List ℕ). CanBegin input xs after) (sym e)
     (more_fed input text before line after h k.0 k.1 other)
-can_go_on input text before line after more false h k other e = subst (λ (xs : List ℕ). CanBegin input xs after) (sym e)
+can_go_on {input} {text} {before} {line} {after} {more} false h k other e = subst (λ (xs : List ℕ). CanBegin input xs after) (sym e)
     (more_last input text before line after h k.0 k.2 k.3 other)
 
 begins_here : (before line after : List ℕ) (fed : Bool) → TakesLine before line fed after → line ≡ codes "begin" → Begins before [] after
@@ -90,9 +90,9 @@ parsed input text after (Err (fault.Differs at)) b h = absurd h
 parsed input text after (Err fault.Limit) b h = absurd h
 
 -- the line `begin` was read
-pub script_read : (input text before line after : List ℕ) (fed : Bool) (r : Result Program Fault) → CanBegin input text before
+pub script_read : {input text before line : List ℕ} (after : List ℕ) (fed : Bool) (r : Result Program Fault) → CanBegin input text before
     → TakesLine before line fed after → line ≡ codes "begin" → Parses text r → ReadsScript input r after
-script_read input text before line after fed r h k e p =
+script_read {input} {text} {before} {line} after fed r h k e p =
     parsed input text after r (subst (λ (xs : List ℕ). Begins input xs after) (append-nil text)
     (h.begins [] after (begins_here before line after fed k e))) p
 
@@ -102,19 +102,19 @@ missing input text _ n e (after_last p h) = subst (λ (xs : List ℕ). Out input
 missing input text line n e (at_line h) = bad_input n (subst (λ (xs : List ℕ). IsBadLine xs line) (sym e) h)
 
 -- the input is at its end
-pub script_missing : (input text before after : List ℕ) (f : Fault) → CanBegin input text before → before ≡ [] → NoScript text f
+pub script_missing : {input text before : List ℕ} (after : List ℕ) (f : Fault) → CanBegin input text before → before ≡ [] → NoScript text f
     → ReadsScript input (Err f) after
-script_missing input text before after (fault.Script line) h e m =
+script_missing {input} {text} {before} after (fault.Script line) h e m =
     missing input text line (h.never (subst NeverBegins (sym e) nothing)) (h.whole ∙ ap (λ (xs : List ℕ). text ++ xs) e ∙ append-nil text) m
-script_missing input text before after fault.Memory h e m = tt
-script_missing input text before after (fault.Refused why) h e m = absurd m
-script_missing input text before after fault.StepsFull h e m = absurd m
-script_missing input text before after fault.Read h e m = absurd m
-script_missing input text before after fault.Write h e m = absurd m
-script_missing input text before after (fault.Torn at) h e m = absurd m
-script_missing input text before after fault.Stalled h e m = absurd m
-script_missing input text before after (fault.Differs at) h e m = absurd m
-script_missing input text before after fault.Limit h e m = absurd m
+script_missing {input} {text} {before} after fault.Memory h e m = tt
+script_missing {input} {text} {before} after (fault.Refused why) h e m = absurd m
+script_missing {input} {text} {before} after fault.StepsFull h e m = absurd m
+script_missing {input} {text} {before} after fault.Read h e m = absurd m
+script_missing {input} {text} {before} after fault.Write h e m = absurd m
+script_missing {input} {text} {before} after (fault.Torn at) h e m = absurd m
+script_missing {input} {text} {before} after fault.Stalled h e m = absurd m
+script_missing {input} {text} {before} after (fault.Differs at) h e m = absurd m
+script_missing {input} {text} {before} after fault.Limit h e m = absurd m
 
 -- what a parse may answer are faults of a start
 pub start_fault : (text : List ℕ) (f : Fault) → Parses text (Err f) → IsStartFault f

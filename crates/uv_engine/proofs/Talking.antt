@@ -90,9 +90,9 @@ cut_talk all s0 old new whole rest end talks grown e = record {
 }
 
 -- more was written of what was gathered
-pub can_write : (all : List (List ℕ)) (s0 : Shown) (lines : List (List ℕ)) (s : Shown) (old w t v u : List ℕ) → CanTalkOn all s0 lines s old w t
+pub can_write : {all : List (List ℕ)} {s0 : Shown} {lines : List (List ℕ)} {s : Shown} {old w t v u : List ℕ} → CanTalkOn all s0 lines s old w t
     → Gathers (Ok tt) w t [] v u → CanTalkOn all s0 lines s old v u
-can_write all s0 lines s old w t v u h k = record {
+can_write {all} {s0} {lines} {s} {old} {w} {t} {v} {u} h k = record {
   part = h.part;
   grown = grown_more old w v h.grown k.0;
   said = k.1 ∙ append-nil (w ++ t) ∙ h.said;
@@ -100,10 +100,10 @@ can_write all s0 lines s old w t v u h k = record {
 }
 
 -- a line was answered
-pub can_answer : (all : List (List ℕ)) (s0 : Shown) (line : List ℕ) (lines : List (List ℕ)) (s r : Shown) (asked : Asked) (old w t v u : List ℕ)
+pub can_answer : {all : List (List ℕ)} {s0 : Shown} {line : List ℕ} {lines : List (List ℕ)} {s r : Shown} {asked : Asked} {old w t v u : List ℕ}
     → CanTalkOn all s0 (line ∷ lines) s old w t → Asks line asked → asked ≢ Do Quit → GathersOne (IsAnswer asked s) (Ok tt) w t v u
     → r ≡ asked_after asked s → CanTalkOn all s0 lines r old v u
-can_answer all s0 line lines s r asked old w t v u h a q k e = record {
+can_answer {all} {s0} {line} {lines} {s} {r} {asked} {old} {w} {t} {v} {u} h a q k e = record {
   part = h.part ++ k.text;
   grown = grown_more old w v h.grown k.gathers.0;
   said = k.gathers.1 ∙ ap (λ (xs : List ℕ). xs ++ k.text) h.said ∙ append_assoc old h.part k.text;
@@ -113,17 +113,17 @@ can_answer all s0 line lines s r asked old w t v u h a q k e = record {
 
 -- ---- the ends
 -- the next line can't be had
-pub cut_waiting : EveryLine → (all : List (List ℕ)) (s0 : Shown) (lines : List (List ℕ)) (s : Shown) (old w t : List ℕ)
+pub cut_waiting : {all : List (List ℕ)} {s0 : Shown} {lines : List (List ℕ)} {s : Shown} {old w t : List ℕ} → EveryLine
     → CanTalkOn all s0 lines s old w t → TalksCut all s0 old w
-cut_waiting every all s0 lines s old w t h =
+cut_waiting {all} {s0} {lines} {s} {old} {w} {t} every h =
     let some = some_talk every lines s in
     cut_talk all s0 old w (h.part ++ some.text) (t ++ some.text) some.end (h.onward some.text some.end some.is) h.grown
     (sym (append_assoc w t some.text) ∙ ap (λ (xs : List ℕ). xs ++ some.text) h.said ∙ append_assoc old h.part some.text)
 
 -- a write failed
-pub cut_writing : EveryLine → (all : List (List ℕ)) (s0 : Shown) (lines : List (List ℕ)) (s : Shown) (old w t v : List ℕ)
+pub cut_writing : {all : List (List ℕ)} {s0 : Shown} {lines : List (List ℕ)} {s : Shown} {old w t v : List ℕ} → EveryLine
     → CanTalkOn all s0 lines s old w t → CutOff w ((w ++ t) ++ []) v → TalksCut all s0 old v
-cut_writing every all s0 lines s old w t v h k =
+cut_writing {all} {s0} {lines} {s} {old} {w} {t} {v} every h k =
     let some = some_talk every lines s in
     cut_talk all s0 old v (h.part ++ some.text) (k.rest ++ some.text) some.end (h.onward some.text some.end some.is)
     (grown_more old w v h.grown k.grown)
@@ -131,10 +131,10 @@ cut_writing every all s0 lines s old w t v h k =
     ∙ append_assoc old h.part some.text)
 
 -- an answer was cut off
-pub cut_answer : EveryLine → (all : List (List ℕ)) (s0 : Shown) (line : List ℕ) (lines : List (List ℕ)) (s : Shown) (asked : Asked) (f : Fault)
-    (old w t v u : List ℕ) → CanTalkOn all s0 (line ∷ lines) s old w t → Asks line asked → asked ≢ Do Quit
+pub cut_answer : {all : List (List ℕ)} {s0 : Shown} {line : List ℕ} {lines : List (List ℕ)} {s : Shown} {asked : Asked} {f : Fault}
+    {old w t v u : List ℕ} → EveryLine → CanTalkOn all s0 (line ∷ lines) s old w t → Asks line asked → asked ≢ Do Quit
     → GathersOne (IsAnswer asked s) (Err f) w t v u → TalksCut all s0 old v
-cut_answer every all s0 line lines s asked f old w t v u h a q k =
+cut_answer {all} {s0} {line} {lines} {s} {asked} {f} {old} {w} {t} {v} {u} every h a q k =
     let some = some_talk every lines (asked_after asked s) in
     let text = k.text ++ some.text in
     let cut = k.gathers in
@@ -145,14 +145,14 @@ cut_answer every all s0 line lines s asked f old w t v u h a q k =
     ∙ append_assoc old (h.part ++ k.text) some.text ∙ ap (λ (xs : List ℕ). old ++ xs) (append_assoc h.part k.text some.text))
 
 -- the last text is written, or a beginning of it
-finish_talk : EveryLine → (all : List (List ℕ)) (s0 : Shown) (lines : List (List ℕ)) (s : Shown) (old w t v : List ℕ) (end : Ended)
-    (r : Result Ended Fault) → CanTalkOn all s0 lines s old w t → Talks lines s [] end → Finishes r end w t v → TalksOn all s0 r old v
-finish_talk every all s0 lines s old w t v end (Ok ended) h talks k = record {
+finish_talk : (all : List (List ℕ)) (s0 : Shown) (lines : List (List ℕ)) (s : Shown) (old w t v : List ℕ) (end : Ended)
+    (r : Result Ended Fault) → EveryLine → CanTalkOn all s0 lines s old w t → Talks lines s [] end → Finishes r end w t v → TalksOn all s0 r old v
+finish_talk all s0 lines s old w t v end (Ok ended) every h talks k = record {
   text = h.part ++ [];
   is = subst (λ (x : Ended). Talks all s0 (h.part ++ []) x) (sym k.0) (h.onward [] end talks);
   written = k.1 ∙ h.said ∙ ap (λ (xs : List ℕ). old ++ xs) (sym (append-nil h.part));
 }
-finish_talk every all s0 lines s old w t v end (Err fault) h talks k =
+finish_talk all s0 lines s old w t v end (Err fault) every h talks k =
     cut_talk all s0 old v (h.part ++ []) (k.rest ++ []) end (h.onward [] end talks)
     (grown_more old w v h.grown (record { part = k.part; is = k.written }))
     (ap (λ (xs : List ℕ). xs ++ (k.rest ++ [])) k.written ∙ append_assoc w k.part (k.rest ++ [])
@@ -160,18 +160,21 @@ finish_talk every all s0 lines s old w t v end (Err fault) h talks k =
     ∙ ap (λ (xs : List ℕ). old ++ xs) (sym (append-nil h.part)))
 
 -- the input is at its end
-pub talk_ends : EveryLine → (all : List (List ℕ)) (s0 : Shown) (lines : List (List ℕ)) (s : Shown) (old w t v : List ℕ) (r : Result Ended Fault)
-    → CanTalkOn all s0 lines s old w t → lines ≡ [] → Finishes r ended.Input w t v → TalksOn all s0 r old v
-talk_ends every all s0 lines s old w t v r h e k = finish_talk every all s0 lines s old w t v ended.Input r h
+pub talk_ends : {all : List (List ℕ)} {s0 : Shown} {lines : List (List ℕ)} {s : Shown} {old w t : List ℕ} (v : List ℕ) (r : Result Ended Fault)
+    → EveryLine → CanTalkOn all s0 lines s old w t → lines ≡ [] → Finishes r ended.Input w t v → TalksOn all s0 r old v
+talk_ends {all} {s0} {lines} {s} {old} {w} {t} v r every h e k = finish_talk all s0 lines s old w t v ended.Input r every h
     (subst (λ (ls : List (List ℕ)). Talks ls s [] ended.Input) (sym e) input_ends) k
 
 -- `quit` was read
-pub talk_quits : EveryLine → (all : List (List ℕ)) (s0 : Shown) (line : List ℕ) (lines : List (List ℕ)) (s : Shown) (old w t v : List ℕ)
-    (r : Result Ended Fault) → CanTalkOn all s0 (line ∷ lines) s old w t → Asks line (Do Quit) → Finishes r ended.Quit w t v → TalksOn all s0 r old v
-talk_quits every all s0 line lines s old w t v r h a k = finish_talk every all s0 (line ∷ lines) s old w t v ended.Quit r h (quits a) k
+pub talk_quits : {all : List (List ℕ)} {s0 : Shown} {line : List ℕ} {lines : List (List ℕ)} {s : Shown} {old w t : List ℕ} (v : List ℕ)
+    (r : Result Ended Fault) → EveryLine → CanTalkOn all s0 (line ∷ lines) s old w t → Asks line (Do Quit) → Finishes r ended.Quit w t v
+    → TalksOn all s0 r old v
+talk_quits {all} {s0} {line} {lines} {s} {old} {w} {t} v r every h a k = finish_talk all s0 (line ∷ lines) s old w t v ended.Quit r every h
+    (quits a) k
 
 -- the next line stands in front of the others
-pub can_next : (all : List (List ℕ)) (s0 s : Shown) (before after line : List ℕ) (fed : Bool) (old w t : List ℕ) → TakesLine before line fed after
+pub can_next : {all : List (List ℕ)} {s0 s : Shown} (before after : List ℕ) {line : List ℕ} (fed : Bool) {old w t : List ℕ}
+    → TakesLine before line fed after
     → CanTalkOn all s0 (lines_of before) s old w t → CanTalkOn all s0 (line ∷ lines_of after) s old w t
-can_next all s0 s before after line fed old w t h k = subst (λ (ls : List (List ℕ)). CanTalkOn all s0 ls s old w t)
+can_next {all} {s0} {s} before after {line} fed {old} {w} {t} h k = subst (λ (ls : List (List ℕ)). CanTalkOn all s0 ls s old w t)
     (lines_next before after line fed h) k
