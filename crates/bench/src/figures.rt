@@ -42,6 +42,39 @@ impl Rounds {
     }
 }
 
+/// What the rounds of one kind of change took, and what took them back.
+#[derive(Drop)]
+pub struct BothWays {
+    change: Rounds,
+    undo: Rounds,
+}
+
+impl BothWays {
+    pub fn new(alloc: Global) -> BothWays {
+        BothWays {
+            change: Rounds::new(alloc),
+            undo: Rounds::new(alloc),
+        }
+    }
+
+    /// Notes a round that began, turned and ended at these moments.
+    pub fn note(
+        &mut self,
+        start: Instant,
+        turned: Instant,
+        end: Instant,
+        calls: u32,
+    ) -> Result<(), AllocError> {
+        self.change.note(start, turned, calls)?;
+        self.undo.note(turned, end, calls)
+    }
+
+    /// The medians of the change and of its undo.
+    pub fn medians(&mut self) -> Result<(Median, Median), AllocError> {
+        Ok((self.change.median()?, self.undo.median()?))
+    }
+}
+
 /// A median, in tenths of a nanosecond.
 #[derive(Clone, Copy, Debug)]
 pub struct Median {

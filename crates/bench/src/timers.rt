@@ -1,7 +1,7 @@
 //! The timer heap beside std's `BinaryHeap`, on the same calls; and what undoes the timer heap's.
 ghost use Rattle.std.specs.Prelude.{◌≡◌, ◌≤◌};
 
-use crate::figures::{Median, ROUNDS, Rounds, early, moment};
+use crate::figures::{BothWays, Median, ROUNDS, Rounds, early, moment};
 use std::alloc::{AllocError, Global};
 use std::cmp::Reverse;
 use std::collections::BinaryHeap;
@@ -253,50 +253,66 @@ fn compare(
     Ok((own.median()?, std.median()?))
 }
 
-/// The medians of changes and of their undos.
-fn undos(clock: &impl Clock, alloc: Global, size: u32) -> io::Result<[Median; 6]> {
+/// Changes that are taken back, by kind.
+#[derive(Drop)]
+struct Changes {
+    push: BothWays,
+    least: BothWays,
+    anywhere: BothWays,
+}
+
+/// One round of each kind of change.
+fn change_and_back(
+    clock: &impl Clock,
+    heap: &mut TimerHeap,
+    slots: &[u32],
+    size: u32,
+    count: u32,
+    number: u32,
+    changes: &mut Changes,
+) -> io::Result<()> {
+    let start = moment(clock)?;
+    let turned = push_and_back(clock, heap, size, size.saturating_add(count), number)?;
+    changes.push.note(start, turned, moment(clock)?, count)?;
+
+    let start = moment(clock)?;
+    let turned = remove_least_and_back(clock, heap, count)?;
+    changes.least.note(start, turned, moment(clock)?, count)?;
+
+    let start = moment(clock)?;
+    let turned = remove_and_back(clock, heap, slots)?;
+    changes.anywhere.note(start, turned, moment(clock)?, count)?;
+    Ok(())
+}
+
+/// The rounds of changes and of their undos.
+fn undos(clock: &impl Clock, alloc: Global, size: u32) -> io::Result<Changes> {
     let count = BATCH.min(size);
     let mut heap = filled(alloc, size)?;
     let before = Vec::from_slice(alloc, heap.entries())?;
-    let mut push = Rounds::new(alloc);
-    let mut undo_push = Rounds::new(alloc);
-    let mut least = Rounds::new(alloc);
-    let mut undo_least = Rounds::new(alloc);
-    let mut anywhere = Rounds::new(alloc);
-    let mut undo_anywhere = Rounds::new(alloc);
+    let mut changes = Changes {
+        push: BothWays::new(alloc),
+        least: BothWays::new(alloc),
+        anywhere: BothWays::new(alloc),
+    };
     let mut number = size;
     for _ in 0..ROUNDS {
-        let start = moment(clock)?;
-        let turned = push_and_back(clock, &mut heap, size, size.saturating_add(count), number)?;
-        let end = moment(clock)?;
-        push.note(start, turned, count)?;
-        undo_push.note(turned, end, count)?;
-
-        let start = moment(clock)?;
-        let turned = remove_least_and_back(clock, &mut heap, count)?;
-        let end = moment(clock)?;
-        least.note(start, turned, count)?;
-        undo_least.note(turned, end, count)?;
-
         let slots = slots_from(alloc, size, number, count)?;
-        let start = moment(clock)?;
-        let turned = remove_and_back(clock, &mut heap, slots.as_slice())?;
-        let end = moment(clock)?;
-        anywhere.note(start, turned, count)?;
-        undo_anywhere.note(turned, end, count)?;
+        change_and_back(
+            clock,
+            &mut heap,
+            slots.as_slice(),
+            size,
+            count,
+            number,
+            &mut changes,
+        )?;
         number = number.wrapping_add(BATCH);
     }
     if heap.entries() != before.as_slice() {
         return Err(early());
     }
-    Ok([
-        push.median()?,
-        undo_push.median()?,
-        least.median()?,
-        undo_least.median()?,
-        anywhere.median()?,
-        undo_anywhere.median()?,
-    ])
+    Ok(changes)
 }
 
 /// The median of restarts of any timer.
@@ -321,7 +337,10 @@ pub fn measure(clock: &impl Clock, alloc: Global, size: u32) -> io::Result<Figur
     let (repeat, std_repeat) = compare(clock, alloc, size, false)?;
     let (same_timeout, std_same_timeout) = compare(clock, alloc, size, true)?;
     let restart = restarts(clock, alloc, size)?;
-    let [push, undo_push, least, undo_least, anywhere, undo_anywhere] = undos(clock, alloc, size)?;
+    let mut changes = undos(clock, alloc, size)?;
+    let (push, undo_push) = changes.push.medians()?;
+    let (least, undo_least) = changes.least.medians()?;
+    let (anywhere, undo_anywhere) = changes.anywhere.medians()?;
     Ok(Figures {
         repeat,
         std_repeat,
