@@ -17,57 +17,64 @@ pub gathered_none : (w t text : List ℕ) → Gathered w ((w ++ t) ++ text) w t 
 gathered_none w t text = record { grown = grown_none w; whole = refl }
 
 -- a piece was gathered
-pub gathered_more : (old all w t x rest u : List ℕ) → Gathered old all w t (x ++ rest) → u ≡ t ++ x → Gathered old all w u rest
-gathered_more old all w t x rest u h e = record {
+pub gathered_more : {old all w t : List ℕ} (x : List ℕ) {rest u : List ℕ} → Gathered old all w t (x ++ rest) → u ≡ t ++ x → Gathered old all w u rest
+gathered_more {old} {all} {w} {t} x {rest} {u} h e = record {
   grown = h.grown;
-  whole = ap (λ (xs : List ℕ). (w ++ xs) ++ rest) e ∙ ap (λ (xs : List ℕ). xs ++ rest) (sym (append_assoc w t x)) ∙ append_assoc (w ++ t) x rest ∙ h.whole;
+  whole = ap (λ (xs : List ℕ). (w ++ xs) ++ rest) e ∙ ap (λ (xs : List ℕ). xs ++ rest) (sym (append_assoc w t x)) ∙ append_assoc (w ++ t) x rest
+      ∙ h.whole;
 }
 
 -- another call gathered a text
-pub gathered_by : (old all w t x rest v u : List ℕ) → Gathered old all w t (x ++ rest) → Gathers (Ok tt) w t x v u → Gathered old all v u rest
-gathered_by old all w t x rest v u h k = record {
+pub gathered_by : {old all w t : List ℕ} (x : List ℕ) {rest v u : List ℕ} → Gathered old all w t (x ++ rest) → Gathers (Ok tt) w t x v u
+    → Gathered old all v u rest
+gathered_by {old} {all} {w} {t} x {rest} {v} {u} h k = record {
   grown = grown_more old w v h.grown k.0;
   whole = ap (λ (xs : List ℕ). xs ++ rest) k.1 ∙ append_assoc (w ++ t) x rest ∙ h.whole;
 }
 
 -- and was cut off
-pub cut_by : (old all w t x rest v : List ℕ) → Gathered old all w t (x ++ rest) → CutOff w ((w ++ t) ++ x) v → CutOff old all v
-cut_by old all w t x rest v h k = record {
+pub cut_by : {old all w t : List ℕ} (x rest : List ℕ) {v : List ℕ} → Gathered old all w t (x ++ rest) → CutOff w ((w ++ t) ++ x) v → CutOff old all v
+cut_by {old} {all} {w} {t} x rest {v} h k = record {
   grown = grown_more old w v h.grown k.grown;
   rest = k.rest ++ rest;
   whole = sym (append_assoc v k.rest rest) ∙ ap (λ (xs : List ℕ). xs ++ rest) k.whole ∙ append_assoc (w ++ t) x rest ∙ h.whole;
 }
 
 -- it ends before all is gathered
-pub cut_here : (old all w t rest : List ℕ) → Gathered old all w t rest → CutOff old all w
-cut_here old all w t rest h = record { grown = h.grown; rest = t ++ rest; whole = sym (append_assoc w t rest) ∙ h.whole }
+pub cut_here : {old all w t rest : List ℕ} → Gathered old all w t rest → CutOff old all w
+cut_here {old} {all} {w} {t} {rest} h = record { grown = h.grown; rest = t ++ rest; whole = sym (append_assoc w t rest) ∙ h.whole }
 
 -- all is gathered
-pub gathered_all : (w t text v u : List ℕ) → Gathered w ((w ++ t) ++ text) v u [] → Gathers (Ok tt) w t text v u
-gathered_all w t text v u h = (h.grown, sym (append-nil (v ++ u)) ∙ h.whole)
+pub gathered_all : {w : List ℕ} (t text : List ℕ) {v u : List ℕ} → Gathered w ((w ++ t) ++ text) v u [] → Gathers (Ok tt) w t text v u
+gathered_all {w} t text {v} {u} h = (h.grown, sym (append-nil (v ++ u)) ∙ h.whole)
 
 -- what was gathered without a write
 pub gathers_text : (w t text u : List ℕ) → u ≡ t ++ text → Gathers (Ok tt) w t text w u
 gathers_text w t text u e = (grown_none w, ap (λ (xs : List ℕ). w ++ xs) e ∙ sym (append_assoc w t text))
 
 -- a text of a kind was gathered without a write
-pub one_text : (Is : List ℕ → Type 0) (w t text u : List ℕ) → Is text → u ≡ t ++ text → GathersOne Is (Ok tt) w t w u
-one_text Is w t text u h e = record { text = text; is = h; gathers = gathers_text w t text u e }
+pub one_text : {Is : List ℕ → Type 0} {w t : List ℕ} (text : List ℕ) {u : List ℕ} → Is text → u ≡ t ++ text → GathersOne Is (Ok tt) w t w u
+one_text {Is} {w} {t} text {u} h e = record { text = text; is = h; gathers = gathers_text w t text u e }
 
 -- there was no memory to gather it
-pub one_fault : (Is : List ℕ → Type 0) (f : Fault) (w t text u : List ℕ) → Is text → GathersOne Is (Err f) w t w u
-one_fault Is f w t text u h = record { text = text; is = h; gathers = record { grown = grown_none w; rest = t ++ text; whole = sym (append_assoc w t text) } }
+pub one_fault : {Is : List ℕ → Type 0} {f : Fault} {w t : List ℕ} (text : List ℕ) {u : List ℕ} → Is text → GathersOne Is (Err f) w t w u
+one_fault {Is} {f} {w} {t} text {u} h = record {
+  text = text;
+  is = h;
+  gathers = record { grown = grown_none w; rest = t ++ text; whole = sym (append_assoc w t text) };
+}
 
 -- a line of several is the next
-pub line_next : {A : Type 0} (f : A → List ℕ) (xs : List A) (i : ℕ) (d : A) (old all w t : List ℕ) → i < length xs
+pub line_next : {A : Type 0} (f : A → List ℕ) (xs : List A) {i : ℕ} (d : A) {old all w t : List ℕ} → i < length xs
     → Gathered old all w t (flat_map f (drop i xs)) → Gathered old all w t (f (get_or xs i d) ++ flat_map f (drop (suc i) xs))
-line_next f xs i d old all w t l h = rw (drop-cons xs i d l) at h
+line_next f xs {i} d {old} {all} {w} {t} l h = rw (drop-cons xs i d l) at h
 
 -- what was cut off with nothing to come is cut short
-pub short_of_cut : (w t v : List ℕ) → CutOff w ((w ++ t) ++ []) v → CutShort w t v
-short_of_cut w t v h = record {
+pub short_of_cut : {w t v : List ℕ} → CutOff w ((w ++ t) ++ []) v → CutShort w t v
+short_of_cut {w} {t} {v} h = record {
   part = h.grown.part;
   rest = h.rest;
-  whole = append_cancel_left w (h.grown.part ++ h.rest) t (sym (append_assoc w h.grown.part h.rest) ∙ ap (λ (xs : List ℕ). xs ++ h.rest) (sym h.grown.is) ∙ h.whole ∙ append-nil (w ++ t));
+  whole = append_cancel_left w (h.grown.part ++ h.rest) t
+      (sym (append_assoc w h.grown.part h.rest) ∙ ap (λ (xs : List ℕ). xs ++ h.rest) (sym h.grown.is) ∙ h.whole ∙ append-nil (w ++ t));
   written = h.grown.is;
 }

@@ -4,5 +4,4 @@ pub mod Gathers
 pub mod Loops
 pub mod Talking
 pub mod Starting
-pub mod Counts
 mod OneAnswer

@@ -8,7 +8,8 @@ use Rattle.uv_engine.specs.Gather.{WasTaken}
 one_less : (n i : ℕ) → i < n → n - i ≡ suc (n - (i + 1))
 one_less n i l = omega arith
 
-turn_from : (m k : ℕ) (s : Shown) → m ≡ suc k → loop_text m s ≡ reply_text s.program (reply s event.Loop) ++ on_text (reply s event.Loop) (loop_text k)
+turn_from : (m k : ℕ) (s : Shown) → m ≡ suc k
+    → loop_text m s ≡ reply_text s.program (reply s event.Loop) ++ on_text (reply s event.Loop) (loop_text k)
 unfolding loop_text
 turn_from m k s e = rw e refl
 
@@ -37,15 +38,19 @@ after_off (Refused why) s t f h = sym h.1
 after_off Full s t f h = sym h.1
 
 -- a step was taken
-pub turn_on : (n i : ℕ) (s t : Shown) → i < n → WasTaken (reply s event.Loop) s true t → loop_text (n - i) s ≡ reply_text s.program (reply s event.Loop) ++ loop_text (n - (i + 1)) t
-turn_on n i s t l h = turn_from (n - i) (n - (i + 1)) s (one_less n i l) ∙ ap (λ (xs : List ℕ). reply_text s.program (reply s event.Loop) ++ xs) (text_on (reply s event.Loop) s t (loop_text (n - (i + 1))) h)
+pub turn_on : (n i : ℕ) (s t : Shown) → i < n → WasTaken (reply s event.Loop) s true t
+    → loop_text (n - i) s ≡ reply_text s.program (reply s event.Loop) ++ loop_text (n - (i + 1)) t
+turn_on n i s t l h = turn_from (n - i) (n - (i + 1)) s (one_less n i l)
+    ∙ ap (λ (xs : List ℕ). reply_text s.program (reply s event.Loop) ++ xs) (text_on (reply s event.Loop) s t (loop_text (n - (i + 1))) h)
 
 pub turn_after : (n i : ℕ) (s t : Shown) → i < n → WasTaken (reply s event.Loop) s true t → loop_after (n - i) s ≡ loop_after (n - (i + 1)) t
 turn_after n i s t l h = after_from (n - i) (n - (i + 1)) s (one_less n i l) ∙ after_on (reply s event.Loop) s t (loop_after (n - (i + 1))) h
 
 -- a step was refused
-pub turn_off : (n i : ℕ) (s t : Shown) → i < n → WasTaken (reply s event.Loop) s false t → loop_text (n - i) s ≡ reply_text s.program (reply s event.Loop) ++ []
-turn_off n i s t l h = turn_from (n - i) (n - (i + 1)) s (one_less n i l) ∙ ap (λ (xs : List ℕ). reply_text s.program (reply s event.Loop) ++ xs) (text_off (reply s event.Loop) s t (loop_text (n - (i + 1))) h)
+pub turn_off : (n i : ℕ) (s t : Shown) → i < n → WasTaken (reply s event.Loop) s false t
+    → loop_text (n - i) s ≡ reply_text s.program (reply s event.Loop) ++ []
+turn_off n i s t l h = turn_from (n - i) (n - (i + 1)) s (one_less n i l)
+    ∙ ap (λ (xs : List ℕ). reply_text s.program (reply s event.Loop) ++ xs) (text_off (reply s event.Loop) s t (loop_text (n - (i + 1))) h)
 
 pub off_after : (n i : ℕ) (s t : Shown) → i < n → WasTaken (reply s event.Loop) s false t → loop_after (n - i) s ≡ t
 off_after n i s t l h = after_from (n - i) (n - (i + 1)) s (one_less n i l) ∙ after_off (reply s event.Loop) s t (loop_after (n - (i + 1))) h

@@ -53,7 +53,8 @@ talks_one (line ∷ lines) s a b x y (goes_on asked text rest r other h k) (goes
 feed_free : (line rest : List ℕ) (other : List ℕ) → NoFeed other → other ≡ line ++ 10 ∷ rest → ⊥
 feed_free [] rest other h e = let free = All-head (λ b. (b == 10) ≡ false) 10 rest (subst NoFeed e h) in cc free
 feed_free (b ∷ line) rest [] h e = cc e
-feed_free (b ∷ line) rest (c ∷ other) h e = let same : other ≡ line ++ 10 ∷ rest = cc e in feed_free line rest other (All-tail (λ b. (b == 10) ≡ false) c other h) same
+feed_free (b ∷ line) rest (c ∷ other) h e = let same : other ≡ line ++ 10 ∷ rest = cc e in feed_free line rest other
+    (All-tail (λ b. (b == 10) ≡ false) c other h) same
 
 -- a text is cut in one way at its first line feed
 record OneCut (a b x y : List ℕ) : Type 0 where
@@ -91,8 +92,10 @@ begins_one i j a b x y e here_at_end (here {commands = d}) = absurd (too_long e)
   too_long : codes "begin" ≡ codes "begin\n" ++ d → ⊥
   too_long f = cc f
 begins_one i j a b x y e here_at_end here_at_end = record { script = refl; commands = refl }
-begins_one i j a b x y e (here {commands = c}) (later {line = l} {rest = r} free other more) = let cut = cut_one (codes "begin") l c r begin_free free e in absurd (other (sym cut.line))
-begins_one i j a b x y e (later {line = l} {rest = r} free other more) (here {commands = d}) = let cut = cut_one l (codes "begin") r d free begin_free e in absurd (other cut.line)
+begins_one i j a b x y e (here {commands = c}) (later {line = l} {rest = r} free other more) = let cut = cut_one
+    (codes "begin") l c r begin_free free e in absurd (other (sym cut.line))
+begins_one i j a b x y e (later {line = l} {rest = r} free other more) (here {commands = d}) = let cut = cut_one l
+    (codes "begin") r d free begin_free e in absurd (other cut.line)
 begins_one i j a b x y e here_at_end (later {line = l} {rest = r} free other more) = absurd (feed_free l r (codes "begin") begin_free e)
 begins_one i j a b x y e (later {line = l} {rest = r} free other more) here_at_end = absurd (feed_free l r (codes "begin") begin_free (sym e))
 begins_one i j a b x y e (later {line = l} {rest = r} {script = s} free other more) (later {line = m} {rest = t} {script = u} free' other' more') =
@@ -103,7 +106,8 @@ begins_one i j a b x y e (later {line = l} {rest = r} {script = s} free other mo
 never_begins : (i j a x : List ℕ) → i ≡ j → Begins i a x → NeverBegins j → ⊥
 never_begins i j a x e (here {commands = c}) nothing = cc e
 never_begins i j a x e (here {commands = c}) (last_line free other) = feed_free (codes "begin") c j free (sym e)
-never_begins i j a x e (here {commands = c}) (one_line {line = l} {rest = r} free other more) = let cut = cut_one (codes "begin") l c r begin_free free e in other (sym cut.line)
+never_begins i j a x e (here {commands = c}) (one_line {line = l} {rest = r} free other more) = let cut = cut_one
+    (codes "begin") l c r begin_free free e in other (sym cut.line)
 never_begins i j a x e here_at_end nothing = cc e
 never_begins i j a x e here_at_end (last_line free other) = other (sym e)
 never_begins i j a x e here_at_end (one_line {line = l} {rest = r} free other more) = feed_free l r (codes "begin") begin_free e
@@ -112,7 +116,8 @@ never_begins i j a x e (later {line = l} {rest = r} free other more) nothing = e
   empty [] r f = cc f
   empty (c ∷ l) r f = cc f
 never_begins i j a x e (later {line = l} {rest = r} free other more) (last_line free' other') = feed_free l r j free' (sym e)
-never_begins i j a x e (later {line = l} {rest = r} {script = s} free other more) (one_line {line = m} {rest = t} free' other' more') = let cut = cut_one l m r t free free' e in never_begins r t s x cut.rest more more'
+never_begins i j a x e (later {line = l} {rest = r} {script = s} free other more)
+    (one_line {line = m} {rest = t} free' other' more') = let cut = cut_one l m r t free free' e in never_begins r t s x cut.rest more more'
 
 -- ---- all of it
 
@@ -123,30 +128,40 @@ pub one_answer : (input : List ℕ) → HasOneAnswer input
 one_answer input a b x y (talks {end = f} script commands p begins is talk) (talks {end = g} script' commands' p' begins' is' talk') =
     let one = begins_one input input script script' commands commands' refl begins begins' in
     let same = one_script script p p' is (subst (λ (z : List ℕ). IsScript z p') (sym one.script) is') in
-    let there = subst (λ (z : Program). Talks (lines_of commands) (fresh_session z) b g) (sym same) (subst (λ (z : List ℕ). Talks (lines_of z) (fresh_session p') b g) (sym one.commands) talk') in
+    let there = subst (λ (z : Program). Talks (lines_of commands) (fresh_session z) b g) (sym same)
+    (subst (λ (z : List ℕ). Talks (lines_of z) (fresh_session p') b g) (sym one.commands) talk') in
     let more = talks_one (lines_of commands) (fresh_session p) a b f g talk there in
     record { text = more.text; end = ap Ends more.end }
 one_answer input a b x y (talks script commands p begins is talk) (bad_line {number = m} script' commands' begins' bad) =
     let one = begins_one input input script script' commands commands' refl begins begins' in
     absurd (no_bad_line script p m is (subst (λ (z : List ℕ). IsBadLine z m) (sym one.script) bad))
-one_answer input a b x y (talks script commands p begins is talk) (no_begin p' never is') = absurd (never_begins input input script commands refl begins never)
-one_answer input a b x y (talks script commands p begins is talk) (bad_input never bad) = absurd (never_begins input input script commands refl begins never)
+one_answer input a b x y (talks script commands p begins is talk) (no_begin p' never is') = absurd
+    (never_begins input input script commands refl begins never)
+one_answer input a b x y (talks script commands p begins is talk) (bad_input never bad) = absurd
+    (never_begins input input script commands refl begins never)
 one_answer input a b x y (bad_line script commands begins bad) (talks script' commands' p' begins' is' talk') =
     let one = begins_one input input script script' commands commands' refl begins begins' in
     absurd (no_bad_line script p' _ (subst (λ (z : List ℕ). IsScript z p') (sym one.script) is') bad)
 one_answer input a b x y (bad_line {number = n} script commands begins bad) (bad_line {number = m} script' commands' begins' bad') =
     let one = begins_one input input script script' commands commands' refl begins begins' in
     record { text = refl; end = end_of n m (one_bad_line script n m bad (subst (λ (z : List ℕ). IsBadLine z m) (sym one.script) bad')) }
-one_answer input a b x y (bad_line script commands begins bad) (no_begin p' never is') = absurd (never_begins input input script commands refl begins never)
-one_answer input a b x y (bad_line script commands begins bad) (bad_input never bad') = absurd (never_begins input input script commands refl begins never)
-one_answer input a b x y (no_begin p never is) (talks script commands p' begins is' talk) = absurd (never_begins input input script commands refl begins never)
-one_answer input a b x y (no_begin p never is) (bad_line script commands begins bad) = absurd (never_begins input input script commands refl begins never)
+one_answer input a b x y (bad_line script commands begins bad) (no_begin p' never is') = absurd
+    (never_begins input input script commands refl begins never)
+one_answer input a b x y (bad_line script commands begins bad) (bad_input never bad') = absurd
+    (never_begins input input script commands refl begins never)
+one_answer input a b x y (no_begin p never is) (talks script commands p' begins is' talk) = absurd
+    (never_begins input input script commands refl begins never)
+one_answer input a b x y (no_begin p never is) (bad_line script commands begins bad) = absurd
+    (never_begins input input script commands refl begins never)
 one_answer input a b x y (no_begin p never is) (no_begin p' never' is') = record { text = refl; end = refl }
 one_answer input a b x y (no_begin p never is) (bad_input never' bad) = absurd (no_bad_line input p _ is bad)
-one_answer input a b x y (bad_input never bad) (talks script commands p' begins is' talk) = absurd (never_begins input input script commands refl begins never)
-one_answer input a b x y (bad_input never bad) (bad_line script commands begins bad') = absurd (never_begins input input script commands refl begins never)
+one_answer input a b x y (bad_input never bad) (talks script commands p' begins is' talk) = absurd
+    (never_begins input input script commands refl begins never)
+one_answer input a b x y (bad_input never bad) (bad_line script commands begins bad') = absurd
+    (never_begins input input script commands refl begins never)
 one_answer input a b x y (bad_input never bad) (no_begin p' never' is') = absurd (no_bad_line input p' _ is' bad)
-one_answer input a b x y (bad_input {number = n} never bad) (bad_input {number = m} never' bad') = record { text = refl; end = end_of n m (one_bad_line input n m bad bad') }
+one_answer input a b x y (bad_input {number = n} never bad)
+    (bad_input {number = m} never' bad') = record { text = refl; end = end_of n m (one_bad_line input n m bad bad') }
 
 pub some_answer : (input : List ℕ) → HasAnswer input
 some_answer input = some_out some_reading asks input

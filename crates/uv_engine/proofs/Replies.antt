@@ -26,7 +26,9 @@ same_shown s t a b c d = same_fields s.program t.program s.limit t.limit s.stand
 
 pub took : (s t : Shown) (e : Event) (outcome : Outcome) → TakesEvent s e (Ok outcome) t → reply s e ≡ Took t outcome.seen
 took s t e outcome h =
-    rw (below (length s.standing) s.limit h.answer.0) (rw h.answer.2 (ap (λ (u : Shown). Took u outcome.seen) (same_shown _ t (sym h.same_program) (sym h.same_limit) (sym h.answer.1) (sym h.taken_back))))
+    rw (below (length s.standing) s.limit h.answer.0)
+    (rw h.answer.2 (ap (λ (u : Shown). Took u outcome.seen)
+    (same_shown _ t (sym h.same_program) (sym h.same_limit) (sym h.answer.1) (sym h.taken_back))))
 
 pub refused : (s t : Shown) (e : Event) (why : Why) → TakesEvent s e (Err (fault.Refused why)) t → (reply s e ≡ Refused why) × (t ≡ s)
 refused s t e why h =
@@ -47,7 +49,8 @@ nat_le_false : (m n : ℕ) → n < m → nat_le m n ≡ false
 nat_le_false m n h = grind (arith, nat_tests)
 
 -- so many steps were taken back
-pub back_text-taken : (n : ℕ) (s t : Shown) → n ≤ length s.standing → t ≡ moved_back n s → back_text n s ≡ codes "at " ++ decimal (length t.standing) ++ codes "\n"
+pub back_text-taken : (n : ℕ) (s t : Shown) → n ≤ length s.standing → t ≡ moved_back n s
+    → back_text n s ≡ codes "at " ++ decimal (length t.standing) ++ codes "\n"
 back_text-taken n s t l e =
     let same : length t.standing ≡ length s.standing - n = rw e (length-rest (length s.standing - n) s.standing (omega arith)) in
     rw (nat_le_true n (length s.standing) l, same) refl

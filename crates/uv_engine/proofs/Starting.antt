@@ -32,11 +32,14 @@ pub can_start : (input : List ℕ) → CanBegin input [] input
 can_start input = record { begins = λ script commands h. h; never = λ h. h; whole = refl }
 
 -- one line more that isn't `begin`
-more_fed : (input text before line after : List ℕ) → CanBegin input text before → NoFeed line → before ≡ line ++ 10 ∷ after → line ≢ codes "begin" → CanBegin input (text ++ (line ++ 10 ∷ [])) after
+more_fed : (input text before line after : List ℕ) → CanBegin input text before → NoFeed line → before ≡ line ++ 10 ∷ after → line ≢ codes "begin"
+    → CanBegin input (text ++ (line ++ 10 ∷ [])) after
 more_fed input text before line after h n e other = record {
   begins = λ script commands k.
-      let front : (text ++ (line ++ 10 ∷ [])) ++ script ≡ text ++ (line ++ 10 ∷ script) = append_assoc text (line ++ 10 ∷ []) script ∙ ap (λ (xs : List ℕ). text ++ xs) (append_assoc line (10 ∷ []) script) in
-      subst (λ (xs : List ℕ). Begins input xs commands) (sym front) (h.begins (line ++ 10 ∷ script) commands (subst (λ (xs : List ℕ). Begins xs (line ++ 10 ∷ script) commands) (sym e) (later n other k)));
+      let front : (text ++ (line ++ 10 ∷ [])) ++ script ≡ text ++ (line ++ 10 ∷ script) = append_assoc text (line ++ 10 ∷ []) script
+      ∙ ap (λ (xs : List ℕ). text ++ xs) (append_assoc line (10 ∷ []) script) in
+      subst (λ (xs : List ℕ). Begins input xs commands) (sym front)
+      (h.begins (line ++ 10 ∷ script) commands (subst (λ (xs : List ℕ). Begins xs (line ++ 10 ∷ script) commands) (sym e) (later n other k)));
   never = λ k. h.never (subst NeverBegins (sym e) (one_line n other k));
   whole = h.whole ∙ ap (λ (xs : List ℕ). text ++ xs) (e ∙ sym (append_assoc line (10 ∷ []) after)) ∙ sym (append_assoc text (line ++ 10 ∷ []) after);
 }
@@ -51,21 +54,27 @@ no_more _ script commands e (here {commands = c}) = cc e
 no_more _ script commands e here_at_end = cc e
 no_more _ _ commands e (later {line = line} {rest = rest} n other k) = fed_line line rest e
 
-more_last : (input text before line after : List ℕ) → CanBegin input text before → NoFeed line → before ≡ line → after ≡ [] → line ≢ codes "begin" → CanBegin input (text ++ line) after
+more_last : (input text before line after : List ℕ) → CanBegin input text before → NoFeed line → before ≡ line → after ≡ [] → line ≢ codes "begin"
+    → CanBegin input (text ++ line) after
 more_last input text before line after h n e z other =
     let never_line : NeverBegins before = subst NeverBegins (sym e) (last_line n other) in record {
       begins = λ script commands k. absurd (no_more after script commands z k);
       never = λ k. h.never never_line;
-      whole = h.whole ∙ ap (λ (xs : List ℕ). text ++ xs) e ∙ ap (λ (xs : List ℕ). text ++ xs) (sym (append-nil line)) ∙ sym (append_assoc text line []) ∙ ap (λ (xs : List ℕ). (text ++ line) ++ xs) (sym z);
+      whole = h.whole ∙ ap (λ (xs : List ℕ). text ++ xs) e ∙ ap (λ (xs : List ℕ). text ++ xs) (sym (append-nil line))
+          ∙ sym (append_assoc text line []) ∙ ap (λ (xs : List ℕ). (text ++ line) ++ xs) (sym z);
     }
 
-pub can_go_on : (input text before line after more : List ℕ) (fed : Bool) → CanBegin input text before → TakesLine before line fed after → line ≢ codes "begin" → more ≡ text ++ with_line line fed → CanBegin input more after
-can_go_on input text before line after more true h k other e = subst (λ (xs : List ℕ). CanBegin input xs after) (sym e) (more_fed input text before line after h k.0 k.1 other)
-can_go_on input text before line after more false h k other e = subst (λ (xs : List ℕ). CanBegin input xs after) (sym e) (more_last input text before line after h k.0 k.2 k.3 other)
+pub can_go_on : {input text before line after more : List ℕ} (fed : Bool) → CanBegin input text before → TakesLine before line fed after
+    → line ≢ codes "begin" → more ≡ text ++ with_line line fed → CanBegin input more after
+can_go_on {input} {text} {before} {line} {after} {more} true h k other e = subst (λ (xs : List ℕ). CanBegin input xs after) (sym e)
+    (more_fed input text before line after h k.0 k.1 other)
+can_go_on {input} {text} {before} {line} {after} {more} false h k other e = subst (λ (xs : List ℕ). CanBegin input xs after) (sym e)
+    (more_last input text before line after h k.0 k.2 k.3 other)
 
 begins_here : (before line after : List ℕ) (fed : Bool) → TakesLine before line fed after → line ≡ codes "begin" → Begins before [] after
 begins_here before line after true k e = subst (λ (xs : List ℕ). Begins xs [] after) (sym (k.1 ∙ ap (λ (xs : List ℕ). xs ++ 10 ∷ after) e)) here
-begins_here before line after false k e = subst (λ (xs : List ℕ). Begins before [] xs) (sym k.3) (subst (λ (xs : List ℕ). Begins xs [] []) (sym (k.2 ∙ e)) here_at_end)
+begins_here before line after false k e = subst (λ (xs : List ℕ). Begins before [] xs) (sym k.3)
+    (subst (λ (xs : List ℕ). Begins xs [] []) (sym (k.2 ∙ e)) here_at_end)
 
 parsed : (input text after : List ℕ) (r : Result Program Fault) → Begins input text after → Parses text r → ReadsScript input r after
 parsed input text after (Ok p) b h = record { script = text; begins = b; is = h }
@@ -81,27 +90,31 @@ parsed input text after (Err (fault.Differs at)) b h = absurd h
 parsed input text after (Err fault.Limit) b h = absurd h
 
 -- the line `begin` was read
-pub script_read : (input text before line after : List ℕ) (fed : Bool) (r : Result Program Fault) → CanBegin input text before → TakesLine before line fed after → line ≡ codes "begin" → Parses text r → ReadsScript input r after
-script_read input text before line after fed r h k e p =
-    parsed input text after r (subst (λ (xs : List ℕ). Begins input xs after) (append-nil text) (h.begins [] after (begins_here before line after fed k e))) p
+pub script_read : {input text before line : List ℕ} (after : List ℕ) (fed : Bool) (r : Result Program Fault) → CanBegin input text before
+    → TakesLine before line fed after → line ≡ codes "begin" → Parses text r → ReadsScript input r after
+script_read {input} {text} {before} {line} after fed r h k e p =
+    parsed input text after r (subst (λ (xs : List ℕ). Begins input xs after) (append-nil text)
+    (h.begins [] after (begins_here before line after fed k e))) p
 
 missing : (input text : List ℕ) (line : ℕ) → NeverBegins input → input ≡ text → MissesBegin text line → Out input [] (BadScript line)
-missing input text _ n e (after_last p h) = subst (λ (xs : List ℕ). Out input [] (BadScript (length (lines_of xs) + 1))) e (no_begin p n (subst (λ (xs : List ℕ). IsScript xs p) (sym e) h))
+missing input text _ n e (after_last p h) = subst (λ (xs : List ℕ). Out input [] (BadScript (length (lines_of xs) + 1))) e
+    (no_begin p n (subst (λ (xs : List ℕ). IsScript xs p) (sym e) h))
 missing input text line n e (at_line h) = bad_input n (subst (λ (xs : List ℕ). IsBadLine xs line) (sym e) h)
 
 -- the input is at its end
-pub script_missing : (input text before after : List ℕ) (f : Fault) → CanBegin input text before → before ≡ [] → NoScript text f → ReadsScript input (Err f) after
-script_missing input text before after (fault.Script line) h e m =
+pub script_missing : {input text before : List ℕ} (after : List ℕ) (f : Fault) → CanBegin input text before → before ≡ [] → NoScript text f
+    → ReadsScript input (Err f) after
+script_missing {input} {text} {before} after (fault.Script line) h e m =
     missing input text line (h.never (subst NeverBegins (sym e) nothing)) (h.whole ∙ ap (λ (xs : List ℕ). text ++ xs) e ∙ append-nil text) m
-script_missing input text before after fault.Memory h e m = tt
-script_missing input text before after (fault.Refused why) h e m = absurd m
-script_missing input text before after fault.StepsFull h e m = absurd m
-script_missing input text before after fault.Read h e m = absurd m
-script_missing input text before after fault.Write h e m = absurd m
-script_missing input text before after (fault.Torn at) h e m = absurd m
-script_missing input text before after fault.Stalled h e m = absurd m
-script_missing input text before after (fault.Differs at) h e m = absurd m
-script_missing input text before after fault.Limit h e m = absurd m
+script_missing {input} {text} {before} after fault.Memory h e m = tt
+script_missing {input} {text} {before} after (fault.Refused why) h e m = absurd m
+script_missing {input} {text} {before} after fault.StepsFull h e m = absurd m
+script_missing {input} {text} {before} after fault.Read h e m = absurd m
+script_missing {input} {text} {before} after fault.Write h e m = absurd m
+script_missing {input} {text} {before} after (fault.Torn at) h e m = absurd m
+script_missing {input} {text} {before} after fault.Stalled h e m = absurd m
+script_missing {input} {text} {before} after (fault.Differs at) h e m = absurd m
+script_missing {input} {text} {before} after fault.Limit h e m = absurd m
 
 -- what a parse may answer are faults of a start
 pub start_fault : (text : List ℕ) (f : Fault) → Parses text (Err f) → IsStartFault f
@@ -161,7 +174,8 @@ starts_from : (part bytes : List ℕ) → NoFeed part → Starts (part ++ bytes)
 starts_from part [] n = subst Starts (sym (append-nil part)) (ends_here part n)
 starts_from part (b ∷ bs) n = at (b == 10) refl (λ more k. starts_from more bs k) where
   at : (x : Bool) → (b == 10) ≡ x → ((more : List ℕ) → NoFeed more → Starts (more ++ bs)) → Starts (part ++ b ∷ bs)
-  at true e on = subst (λ (c : ℕ). Starts (part ++ c ∷ bs)) (sym ((Decides-eqb b 10).0 e)) (line_here part bs n (on [] (λ k d l. absurd (omega arith))))
+  at true e on = subst (λ (c : ℕ). Starts (part ++ c ∷ bs)) (sym ((Decides-eqb b 10).0 e))
+      (line_here part bs n (on [] (λ k d l. absurd (omega arith))))
   at false e on = subst Starts (append_assoc part (b ∷ []) bs) (on (part ++ b ∷ []) (feed_step part b n e))
 
 starts : (input : List ℕ) → Starts input
@@ -174,7 +188,8 @@ EveryText = (text : List ℕ) → HasReading text
 of_begun : EveryText → EveryLine → (input script commands : List ℕ) → Begins input script commands → HasAnswer input
 of_begun texts lines input script commands b = at (texts script) where
   at : HasReading script → HasAnswer input
-  at (inl r) = let some = some_talk lines (lines_of commands) (fresh_session r.0) in record { text = some.text; end = Ends some.end; is = talks script commands r.0 b r.1 some.is }
+  at (inl r) = let some = some_talk lines (lines_of commands)
+      (fresh_session r.0) in record { text = some.text; end = Ends some.end; is = talks script commands r.0 b r.1 some.is }
   at (inr r) = record { text = []; end = BadScript r.0; is = bad_line script commands b r.1 }
 
 of_never : EveryText → (input : List ℕ) → NeverBegins input → HasAnswer input
@@ -199,7 +214,8 @@ cut_start texts lines input old = let some = some_out texts lines input in recor
   cut = record { part = []; rest = some.text; whole = refl; written = sym (append-nil old) };
 }
 
-pub no_start : EveryText → EveryLine → (input rest old : List ℕ) (f : Fault) → IsStartFault f → ReadsScript input (Err f) rest → Converses input (Err f) old old
+pub no_start : EveryText → EveryLine → (input rest old : List ℕ) (f : Fault) → IsStartFault f → ReadsScript input (Err f) rest
+    → Converses input (Err f) old old
 no_start texts lines input rest old (fault.Script line) s h = (h, refl)
 no_start texts lines input rest old fault.Memory s h = cut_start texts lines input old
 no_start texts lines input rest old fault.Read s h = cut_start texts lines input old
@@ -215,11 +231,13 @@ no_start texts lines input rest old fault.Limit s h = absurd s
 pub no_machine : EveryText → EveryLine → (input old : List ℕ) (f : Fault) → f ≡ fault.Memory → Converses input (Err f) old old
 no_machine texts lines input old f e = subst (λ (x : Fault). Converses input (Err x) old old) (sym e) (cut_start texts lines input old)
 
-talk_cut : (input : List ℕ) (p : Program) (commands old new : List ℕ) → HasScript input p commands → TalksCut (lines_of commands) (fresh_session p) old new → IsCut input old new
+talk_cut : (input : List ℕ) (p : Program) (commands old new : List ℕ) → HasScript input p commands
+    → TalksCut (lines_of commands) (fresh_session p) old new → IsCut input old new
 talk_cut input p commands old new h t = record { text = t.text; end = Ends t.end; is = talks h.script commands p h.begins h.is t.is; cut = t.cut }
 
 -- the commands were answered
-pub talked : (input : List ℕ) (p : Program) (commands : List ℕ) (s : Shown) (old new : List ℕ) (r : Result Ended Fault) → HasScript input p commands → s ≡ fresh_session p → IfErr r IsDeviceFault → TalksOn (lines_of commands) s r old new → Converses input r old new
+pub talked : (input : List ℕ) (p : Program) (commands : List ℕ) (s : Shown) (old new : List ℕ) (r : Result Ended Fault) → HasScript input p commands
+    → s ≡ fresh_session p → IfErr r IsDeviceFault → TalksOn (lines_of commands) s r old new → Converses input r old new
 talked input p commands s old new r h e d t = at r d (subst (λ (x : Shown). TalksOn (lines_of commands) x r old new) e t) where
   at : (r : Result Ended Fault) → IfErr r IsDeviceFault → TalksOn (lines_of commands) (fresh_session p) r old new → Converses input r old new
   at (Ok end) d t = record { text = t.text; is = talks h.script commands p h.begins h.is t.is; written = t.written }
@@ -239,5 +257,6 @@ pub begun_session : (s : Shown) (p q : Program) → s.program ≡ q → q ≡ p 
 begun_session s p q a b l x y = same_shown s (fresh_session p) (a ∙ b) l x y
 
 -- before anything was read the whole input is left
-pub reads_whole : (b : Buffered) (input rest : List ℕ) (r : Result Program Fault) → pending b ≡ [] → ReadsScript (left b input) r rest → ReadsScript input r rest
+pub reads_whole : (b : Buffered) (input rest : List ℕ) (r : Result Program Fault) → pending b ≡ [] → ReadsScript (left b input) r rest
+    → ReadsScript input r rest
 reads_whole b input rest r e h = subst (λ (xs : List ℕ). ReadsScript xs r rest) (ap (λ (xs : List ℕ). xs ++ input) e) h

@@ -37,7 +37,8 @@ pub record SomeTalk (lines : List (List ℕ)) (s : Shown) : Type 0 where
   pub end : Ended
   pub is : Talks lines s text end
 
-on_line : (line : List ℕ) (lines : List (List ℕ)) (s : Shown) (asked : Asked) (text : List ℕ) → Asks line asked → asked ≢ Do Quit → IsAnswer asked s text → SomeTalk lines (asked_after asked s) → SomeTalk (line ∷ lines) s
+on_line : (line : List ℕ) (lines : List (List ℕ)) (s : Shown) (asked : Asked) (text : List ℕ) → Asks line asked → asked ≢ Do Quit
+    → IsAnswer asked s text → SomeTalk lines (asked_after asked s) → SomeTalk (line ∷ lines) s
 on_line line lines s asked text a q h k = record { text = text ++ k.text; end = k.end; is = goes_on asked text k.text a q h k.is }
 
 pub some_talk : EveryLine → (lines : List (List ℕ)) (s : Shown) → SomeTalk lines s
@@ -73,7 +74,8 @@ lines_next old new line true h = ap lines_of h.1 ∙ lines_fed line new h.0
 lines_next old new line false h = ap lines_of h.2 ∙ lines_last line h.0 h.1 ∙ ap (λ (ls : List ℕ). line ∷ lines_of ls) (sym h.3)
 
 -- what was written is a beginning of answers to all
-pub cut_talk : (all : List (List ℕ)) (s0 : Shown) (old new whole rest : List ℕ) (end : Ended) → Talks all s0 whole end → Grown old new → new ++ rest ≡ old ++ whole → TalksCut all s0 old new
+pub cut_talk : (all : List (List ℕ)) (s0 : Shown) (old new whole rest : List ℕ) (end : Ended) → Talks all s0 whole end → Grown old new
+    → new ++ rest ≡ old ++ whole → TalksCut all s0 old new
 cut_talk all s0 old new whole rest end talks grown e = record {
   text = whole;
   end = end;
@@ -81,14 +83,16 @@ cut_talk all s0 old new whole rest end talks grown e = record {
   cut = record {
     part = grown.part;
     rest = rest;
-    whole = append_cancel_left old (grown.part ++ rest) whole (sym (append_assoc old grown.part rest) ∙ ap (λ (xs : List ℕ). xs ++ rest) (sym grown.is) ∙ e);
+    whole = append_cancel_left old (grown.part ++ rest) whole
+        (sym (append_assoc old grown.part rest) ∙ ap (λ (xs : List ℕ). xs ++ rest) (sym grown.is) ∙ e);
     written = grown.is;
   };
 }
 
 -- more was written of what was gathered
-pub can_write : (all : List (List ℕ)) (s0 : Shown) (lines : List (List ℕ)) (s : Shown) (old w t v u : List ℕ) → CanTalkOn all s0 lines s old w t → Gathers (Ok tt) w t [] v u → CanTalkOn all s0 lines s old v u
-can_write all s0 lines s old w t v u h k = record {
+pub can_write : {all : List (List ℕ)} {s0 : Shown} {lines : List (List ℕ)} {s : Shown} {old w t v u : List ℕ} → CanTalkOn all s0 lines s old w t
+    → Gathers (Ok tt) w t [] v u → CanTalkOn all s0 lines s old v u
+can_write {all} {s0} {lines} {s} {old} {w} {t} {v} {u} h k = record {
   part = h.part;
   grown = grown_more old w v h.grown k.0;
   said = k.1 ∙ append-nil (w ++ t) ∙ h.said;
@@ -96,59 +100,81 @@ can_write all s0 lines s old w t v u h k = record {
 }
 
 -- a line was answered
-pub can_answer : (all : List (List ℕ)) (s0 : Shown) (line : List ℕ) (lines : List (List ℕ)) (s r : Shown) (asked : Asked) (old w t v u : List ℕ) → CanTalkOn all s0 (line ∷ lines) s old w t → Asks line asked → asked ≢ Do Quit → GathersOne (IsAnswer asked s) (Ok tt) w t v u → r ≡ asked_after asked s → CanTalkOn all s0 lines r old v u
-can_answer all s0 line lines s r asked old w t v u h a q k e = record {
+pub can_answer : {all : List (List ℕ)} {s0 : Shown} {line : List ℕ} {lines : List (List ℕ)} {s r : Shown} {asked : Asked} {old w t v u : List ℕ}
+    → CanTalkOn all s0 (line ∷ lines) s old w t → Asks line asked → asked ≢ Do Quit → GathersOne (IsAnswer asked s) (Ok tt) w t v u
+    → r ≡ asked_after asked s → CanTalkOn all s0 lines r old v u
+can_answer {all} {s0} {line} {lines} {s} {r} {asked} {old} {w} {t} {v} {u} h a q k e = record {
   part = h.part ++ k.text;
   grown = grown_more old w v h.grown k.gathers.0;
   said = k.gathers.1 ∙ ap (λ (xs : List ℕ). xs ++ k.text) h.said ∙ append_assoc old h.part k.text;
-  onward = λ rest end talks. subst (λ (xs : List ℕ). Talks all s0 xs end) (sym (append_assoc h.part k.text rest)) (h.onward (k.text ++ rest) end (goes_on asked k.text rest a q k.is (subst (λ (x : Shown). Talks lines x rest end) e talks)));
+  onward = λ rest end talks. subst (λ (xs : List ℕ). Talks all s0 xs end) (sym (append_assoc h.part k.text rest))
+      (h.onward (k.text ++ rest) end (goes_on asked k.text rest a q k.is (subst (λ (x : Shown). Talks lines x rest end) e talks)));
 }
 
 -- ---- the ends
 -- the next line can't be had
-pub cut_waiting : EveryLine → (all : List (List ℕ)) (s0 : Shown) (lines : List (List ℕ)) (s : Shown) (old w t : List ℕ) → CanTalkOn all s0 lines s old w t → TalksCut all s0 old w
-cut_waiting every all s0 lines s old w t h =
+pub cut_waiting : {all : List (List ℕ)} {s0 : Shown} {lines : List (List ℕ)} {s : Shown} {old w t : List ℕ} → EveryLine
+    → CanTalkOn all s0 lines s old w t → TalksCut all s0 old w
+cut_waiting {all} {s0} {lines} {s} {old} {w} {t} every h =
     let some = some_talk every lines s in
     cut_talk all s0 old w (h.part ++ some.text) (t ++ some.text) some.end (h.onward some.text some.end some.is) h.grown
     (sym (append_assoc w t some.text) ∙ ap (λ (xs : List ℕ). xs ++ some.text) h.said ∙ append_assoc old h.part some.text)
 
 -- a write failed
-pub cut_writing : EveryLine → (all : List (List ℕ)) (s0 : Shown) (lines : List (List ℕ)) (s : Shown) (old w t v : List ℕ) → CanTalkOn all s0 lines s old w t → CutOff w ((w ++ t) ++ []) v → TalksCut all s0 old v
-cut_writing every all s0 lines s old w t v h k =
+pub cut_writing : {all : List (List ℕ)} {s0 : Shown} {lines : List (List ℕ)} {s : Shown} {old w t v : List ℕ} → EveryLine
+    → CanTalkOn all s0 lines s old w t → CutOff w ((w ++ t) ++ []) v → TalksCut all s0 old v
+cut_writing {all} {s0} {lines} {s} {old} {w} {t} {v} every h k =
     let some = some_talk every lines s in
-    cut_talk all s0 old v (h.part ++ some.text) (k.rest ++ some.text) some.end (h.onward some.text some.end some.is) (grown_more old w v h.grown k.grown)
-    (sym (append_assoc v k.rest some.text) ∙ ap (λ (xs : List ℕ). xs ++ some.text) (k.whole ∙ append-nil (w ++ t) ∙ h.said) ∙ append_assoc old h.part some.text)
+    cut_talk all s0 old v (h.part ++ some.text) (k.rest ++ some.text) some.end (h.onward some.text some.end some.is)
+    (grown_more old w v h.grown k.grown)
+    (sym (append_assoc v k.rest some.text) ∙ ap (λ (xs : List ℕ). xs ++ some.text) (k.whole ∙ append-nil (w ++ t) ∙ h.said)
+    ∙ append_assoc old h.part some.text)
 
 -- an answer was cut off
-pub cut_answer : EveryLine → (all : List (List ℕ)) (s0 : Shown) (line : List ℕ) (lines : List (List ℕ)) (s : Shown) (asked : Asked) (f : Fault) (old w t v u : List ℕ) → CanTalkOn all s0 (line ∷ lines) s old w t → Asks line asked → asked ≢ Do Quit → GathersOne (IsAnswer asked s) (Err f) w t v u → TalksCut all s0 old v
-cut_answer every all s0 line lines s asked f old w t v u h a q k =
+pub cut_answer : {all : List (List ℕ)} {s0 : Shown} {line : List ℕ} {lines : List (List ℕ)} {s : Shown} {asked : Asked} {f : Fault}
+    {old w t v u : List ℕ} → EveryLine → CanTalkOn all s0 (line ∷ lines) s old w t → Asks line asked → asked ≢ Do Quit
+    → GathersOne (IsAnswer asked s) (Err f) w t v u → TalksCut all s0 old v
+cut_answer {all} {s0} {line} {lines} {s} {asked} {f} {old} {w} {t} {v} {u} every h a q k =
     let some = some_talk every lines (asked_after asked s) in
     let text = k.text ++ some.text in
     let cut = k.gathers in
-    cut_talk all s0 old v (h.part ++ text) (cut.rest ++ some.text) some.end (h.onward text some.end (goes_on asked k.text some.text a q k.is some.is)) (grown_more old w v h.grown cut.grown)
-    (sym (append_assoc v cut.rest some.text) ∙ ap (λ (xs : List ℕ). xs ++ some.text) (cut.whole ∙ ap (λ (xs : List ℕ). xs ++ k.text) h.said ∙ append_assoc old h.part k.text)
+    cut_talk all s0 old v (h.part ++ text) (cut.rest ++ some.text) some.end (h.onward text some.end (goes_on asked k.text some.text a q k.is some.is))
+    (grown_more old w v h.grown cut.grown)
+    (sym (append_assoc v cut.rest some.text) ∙ ap (λ (xs : List ℕ). xs ++ some.text)
+    (cut.whole ∙ ap (λ (xs : List ℕ). xs ++ k.text) h.said ∙ append_assoc old h.part k.text)
     ∙ append_assoc old (h.part ++ k.text) some.text ∙ ap (λ (xs : List ℕ). old ++ xs) (append_assoc h.part k.text some.text))
 
 -- the last text is written, or a beginning of it
-finish_talk : EveryLine → (all : List (List ℕ)) (s0 : Shown) (lines : List (List ℕ)) (s : Shown) (old w t v : List ℕ) (end : Ended) (r : Result Ended Fault) → CanTalkOn all s0 lines s old w t → Talks lines s [] end → Finishes r end w t v → TalksOn all s0 r old v
-finish_talk every all s0 lines s old w t v end (Ok ended) h talks k = record {
+finish_talk : (all : List (List ℕ)) (s0 : Shown) (lines : List (List ℕ)) (s : Shown) (old w t v : List ℕ) (end : Ended)
+    (r : Result Ended Fault) → EveryLine → CanTalkOn all s0 lines s old w t → Talks lines s [] end → Finishes r end w t v → TalksOn all s0 r old v
+finish_talk all s0 lines s old w t v end (Ok ended) every h talks k = record {
   text = h.part ++ [];
   is = subst (λ (x : Ended). Talks all s0 (h.part ++ []) x) (sym k.0) (h.onward [] end talks);
   written = k.1 ∙ h.said ∙ ap (λ (xs : List ℕ). old ++ xs) (sym (append-nil h.part));
 }
-finish_talk every all s0 lines s old w t v end (Err fault) h talks k =
-    cut_talk all s0 old v (h.part ++ []) (k.rest ++ []) end (h.onward [] end talks) (grown_more old w v h.grown (record { part = k.part; is = k.written }))
+finish_talk all s0 lines s old w t v end (Err fault) every h talks k =
+    cut_talk all s0 old v (h.part ++ []) (k.rest ++ []) end (h.onward [] end talks)
+    (grown_more old w v h.grown (record { part = k.part; is = k.written }))
     (ap (λ (xs : List ℕ). xs ++ (k.rest ++ [])) k.written ∙ append_assoc w k.part (k.rest ++ [])
-    ∙ ap (λ (xs : List ℕ). w ++ xs) (sym (append_assoc k.part k.rest []) ∙ append-nil (k.part ++ k.rest) ∙ k.whole) ∙ h.said ∙ ap (λ (xs : List ℕ). old ++ xs) (sym (append-nil h.part)))
+    ∙ ap (λ (xs : List ℕ). w ++ xs) (sym (append_assoc k.part k.rest []) ∙ append-nil (k.part ++ k.rest) ∙ k.whole) ∙ h.said
+    ∙ ap (λ (xs : List ℕ). old ++ xs) (sym (append-nil h.part)))
 
 -- the input is at its end
-pub talk_ends : EveryLine → (all : List (List ℕ)) (s0 : Shown) (lines : List (List ℕ)) (s : Shown) (old w t v : List ℕ) (r : Result Ended Fault) → CanTalkOn all s0 lines s old w t → lines ≡ [] → Finishes r ended.Input w t v → TalksOn all s0 r old v
-talk_ends every all s0 lines s old w t v r h e k = finish_talk every all s0 lines s old w t v ended.Input r h (subst (λ (ls : List (List ℕ)). Talks ls s [] ended.Input) (sym e) input_ends) k
+pub talk_ends : {all : List (List ℕ)} {s0 : Shown} {lines : List (List ℕ)} {s : Shown} {old w t : List ℕ} (v : List ℕ) (r : Result Ended Fault)
+    → EveryLine → CanTalkOn all s0 lines s old w t → lines ≡ [] → Finishes r ended.Input w t v → TalksOn all s0 r old v
+talk_ends {all} {s0} {lines} {s} {old} {w} {t} v r every h e k = finish_talk all s0 lines s old w t v ended.Input r every h
+    (subst (λ (ls : List (List ℕ)). Talks ls s [] ended.Input) (sym e) input_ends) k
 
 -- `quit` was read
-pub talk_quits : EveryLine → (all : List (List ℕ)) (s0 : Shown) (line : List ℕ) (lines : List (List ℕ)) (s : Shown) (old w t v : List ℕ) (r : Result Ended Fault) → CanTalkOn all s0 (line ∷ lines) s old w t → Asks line (Do Quit) → Finishes r ended.Quit w t v → TalksOn all s0 r old v
-talk_quits every all s0 line lines s old w t v r h a k = finish_talk every all s0 (line ∷ lines) s old w t v ended.Quit r h (quits a) k
+pub talk_quits : {all : List (List ℕ)} {s0 : Shown} {line : List ℕ} {lines : List (List ℕ)} {s : Shown} {old w t : List ℕ} (v : List ℕ)
+    (r : Result Ended Fault) → EveryLine → CanTalkOn all s0 (line ∷ lines) s old w t → Asks line (Do Quit) → Finishes r ended.Quit w t v
+    → TalksOn all s0 r old v
+talk_quits {all} {s0} {line} {lines} {s} {old} {w} {t} v r every h a k = finish_talk all s0 (line ∷ lines) s old w t v ended.Quit r every h
+    (quits a) k
 
 -- the next line stands in front of the others
-pub can_next : (all : List (List ℕ)) (s0 s : Shown) (before after line : List ℕ) (fed : Bool) (old w t : List ℕ) → TakesLine before line fed after → CanTalkOn all s0 (lines_of before) s old w t → CanTalkOn all s0 (line ∷ lines_of after) s old w t
-can_next all s0 s before after line fed old w t h k = subst (λ (ls : List (List ℕ)). CanTalkOn all s0 ls s old w t) (lines_next before after line fed h) k
+pub can_next : {all : List (List ℕ)} {s0 s : Shown} (before after : List ℕ) {line : List ℕ} (fed : Bool) {old w t : List ℕ}
+    → TakesLine before line fed after
+    → CanTalkOn all s0 (lines_of before) s old w t → CanTalkOn all s0 (line ∷ lines_of after) s old w t
+can_next {all} {s0} {s} before after {line} fed {old} {w} {t} h k = subst (λ (ls : List (List ℕ)). CanTalkOn all s0 ls s old w t)
+    (lines_next before after line fed h) k

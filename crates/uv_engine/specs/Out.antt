@@ -50,13 +50,15 @@ asked_after Bad s = s
 pub data Talks : List (List ℕ) → Shown → List ℕ → Ended → Type 0 where
   input_ends : {s : Shown} → Talks [] s [] ended.Input
   quits : {line : List ℕ} {lines : List (List ℕ)} {s : Shown} → Asks line (Do Quit) → Talks (line ∷ lines) s [] ended.Quit
-  goes_on : {line : List ℕ} {lines : List (List ℕ)} {s : Shown} {end : Ended} (asked : Asked) (text rest : List ℕ) → Asks line asked → asked ≢ Do Quit → IsAnswer asked s text → Talks lines (asked_after asked s) rest end → Talks (line ∷ lines) s (text ++ rest) end
+  goes_on : {line : List ℕ} {lines : List (List ℕ)} {s : Shown} {end : Ended} (asked : Asked) (text rest : List ℕ) → Asks line asked → asked ≢ Do Quit
+      → IsAnswer asked s text → Talks lines (asked_after asked s) rest end → Talks (line ∷ lines) s (text ++ rest) end
 
 -- the line `begin` cuts an input: the bytes before it are the script, and those after it the commands
 pub data Begins : List ℕ → List ℕ → List ℕ → Type 0 where
   here : {commands : List ℕ} → Begins (codes "begin\n" ++ commands) [] commands
   here_at_end : Begins (codes "begin") [] []
-  later : {line rest script commands : List ℕ} → NoFeed line → line ≢ codes "begin" → Begins rest script commands → Begins (line ++ 10 ∷ rest) (line ++ 10 ∷ script) commands
+  later : {line rest script commands : List ℕ} → NoFeed line → line ≢ codes "begin" → Begins rest script commands
+      → Begins (line ++ 10 ∷ rest) (line ++ 10 ∷ script) commands
 
 -- no line of the input is `begin`
 pub data NeverBegins : List ℕ → Type 0 where
@@ -75,7 +77,8 @@ pub data End : Type 0 where
 
 -- what is written for an input, and how that ends. A script without `begin` is bad in the line after its last one.
 pub data Out (input : List ℕ) : List ℕ → End → Type 0 where
-  talks : {text : List ℕ} {end : Ended} (script commands : List ℕ) (p : Program) → Begins input script commands → IsScript script p → Talks (lines_of commands) (fresh_session p) text end → Out input text (Ends end)
+  talks : {text : List ℕ} {end : Ended} (script commands : List ℕ) (p : Program) → Begins input script commands → IsScript script p
+      → Talks (lines_of commands) (fresh_session p) text end → Out input text (Ends end)
   bad_line : {number : ℕ} (script commands : List ℕ) → Begins input script commands → IsBadLine script number → Out input [] (BadScript number)
   no_begin : (p : Program) → NeverBegins input → IsScript input p → Out input [] (BadScript (length (lines_of input) + 1))
   bad_input : {number : ℕ} → NeverBegins input → IsBadLine input number → Out input [] (BadScript number)

@@ -1,5 +1,5 @@
 //! The conversation.
-ghost use Rattle.std.specs.Prelude.{◌≡◌, ℕ, List, ◌++◌, ◌<◌, ◌^◌, ◌==◌, [], length, IfOk, IfErr, OnOk, ◌≢◌, true, false};
+ghost use Rattle.std.specs.Prelude.{◌≡◌, ℕ, List, ◌++◌, ◌<◌, ◌≤◌, ◌^◌, ◌==◌, [], length, Ok, IfOk, IfErr, OnOk, ◌≢◌, true, false};
 ghost use Rattle.std.specs.List.{list_any};
 ghost use Rattle.uv_ids.specs.declared.fault.Fault.TheVariants.{Write};
 ghost use Rattle.uv_script.specs.Lines.{lines_of};
@@ -71,7 +71,9 @@ impl<M: Machine> Conversation<M> {
         ensures text { R.Tells → W.Tells → TalksOn (lines_of (left input.old (R.remaining reader.old))) self.old.session result
             (W.written writer.old) (W.written writer.new) }
         ensures err { IfErr result IsDeviceFault }
-        ensures reader { ReaderCounts result (R.Tells → input.old.budget < length (R.remaining reader.old)) (R.failures reader.old) (R.failures reader.new) }
+        ensures limit { result ≡ Ok Ended.Input → R.Tells → length (R.remaining reader.old) ≤ input.old.budget }
+        ensures reader { ReaderCounts result (R.Tells → input.old.budget < length (R.remaining reader.old))
+            (R.failures reader.old) (R.failures reader.new) }
         ensures writer { WriterCounts result (W.failures writer.old) (W.failures writer.new) }
     {
         every_line_asks();
@@ -91,6 +93,7 @@ impl<M: Machine> Conversation<M> {
     /// Writes what was gathered, at the end.
     fn finish<W: Sink>(&mut self, writer: &mut W, ended: Ended) -> Result<Ended, Fault>
         ensures text { W.Tells → Finishes result ended (W.written writer.old) self.old.text.items (W.written writer.new) }
+        ensures ended { IfOk result (λ end. end ≡ ended) }
         ensures err { IfErr result (λ fault. fault ≡ Write) }
         ensures writer { WriterCounts result (W.failures writer.old) (W.failures writer.new) }
     {
@@ -111,14 +114,15 @@ pub fn one_answer()
 /// lines that were read are written before more is read.
 ///
 /// `Script` names the first line outside the grammar of scripts, and nothing is written then. `Read` comes where the reader
-/// fails, and else only where the input is longer than 2^30 bytes; `Write` where the writer fails or takes no byte, and only
-/// there. What follows `quit` may have been read.
+/// fails, and else only where the input is longer than 2^30 bytes: such an input is never read to its end. `Write` comes
+/// where the writer fails or takes no byte, and only there. What follows `quit` may have been read.
 pub fn converse<M: Machine, R: Source, W: Sink>(
     alloc: Global,
     reader: &mut R,
     writer: &mut W,
 ) -> Result<Ended, Fault>
     ensures text { R.Tells → W.Tells → Converses (R.remaining reader.old) result (W.written writer.old) (W.written writer.new) }
+    ensures limit { result ≡ Ok Ended.Input → R.Tells → length (R.remaining reader.old) ≤ 2 ^ 30 }
     ensures reader { ReaderCounts result (R.Tells → 2 ^ 30 < length (R.remaining reader.old)) (R.failures reader.old) (R.failures reader.new) }
     ensures writer { WriterCounts result (W.failures writer.old) (W.failures writer.new) }
 {

@@ -108,7 +108,8 @@ impl Input {
         ensures size { OnOk result (size self.new ≡ size self.old) }
         ensures budget { OnOk result (R.Tells → SpendsBudget self.old (R.remaining reader.old) self.new (R.remaining reader.new)) }
         ensures err { IfErr result IsReadFault }
-        ensures reader { ReaderCounts result (R.Tells → self.old.budget < length (R.remaining reader.old)) (R.failures reader.old) (R.failures reader.new) }
+        ensures reader { ReaderCounts result (R.Tells → self.old.budget < length (R.remaining reader.old))
+            (R.failures reader.old) (R.failures reader.new) }
     {
         let mut room = [0; 4096];
         match reader.read(&mut room) {
@@ -131,13 +132,15 @@ impl Input {
     /// The next line; none at the end of the input.
     pub fn next_line<R: Source>(&mut self, reader: &mut R) -> Result<Option<Line>, Fault>
         requires end { R.Tells → EndIsSeen self.old (R.remaining reader.old) }
-        ensures line { IfOk result (λ line. R.Tells → TakesNext (left self.old (R.remaining reader.old)) line (left self.new (R.remaining reader.new))) }
+        ensures line { IfOk result (λ line. R.Tells → TakesNext (left self.old (R.remaining reader.old)) line (left self.new
+            (R.remaining reader.new))) }
         ensures size { IfOk result (λ line. OnSome line (size self.new < size self.old)) }
         ensures end { OnOk result (R.Tells → EndIsSeen self.new (R.remaining reader.new)) }
         ensures ended { OnOk result (self.old.ended ≡ true → self.new.ended ≡ true) }
         ensures budget { OnOk result (R.Tells → SpendsBudget self.old (R.remaining reader.old) self.new (R.remaining reader.new)) }
         ensures err { IfErr result IsReadFault }
-        ensures reader { ReaderCounts result (R.Tells → self.old.budget < length (R.remaining reader.old)) (R.failures reader.old) (R.failures reader.new) }
+        ensures reader { ReaderCounts result (R.Tells → self.old.budget < length (R.remaining reader.old))
+            (R.failures reader.old) (R.failures reader.new) }
     {
         loop {
             if let Some(text) = self.take_ahead()? {

@@ -23,7 +23,8 @@ pub fn read_script<R: Source>(
     ensures end { OnOk result (R.Tells → EndIsSeen input.new (R.remaining reader.new)) }
     ensures budget { OnOk result (R.Tells → SpendsBudget input.old (R.remaining reader.old) input.new (R.remaining reader.new)) }
     ensures err { IfErr result IsStartFault }
-    ensures reader { ReaderCounts result (R.Tells → input.old.budget < length (R.remaining reader.old)) (R.failures reader.old) (R.failures reader.new) }
+    ensures reader { ReaderCounts result (R.Tells → input.old.budget < length (R.remaining reader.old))
+        (R.failures reader.old) (R.failures reader.new) }
 {
     let mut text = Vec::new(alloc);
     'lines: loop {

@@ -50,14 +50,16 @@ pub record FitsBelow (xs : List Entry) (i : ℕ) : Type 0 where
 
 fits : (xs : List Entry) (i : ℕ) → HasHole xs i → FitsAbove xs i → FitsBelow xs i → IsHeap xs
 fits xs i h above below = λ k l. at k l (cases_eq k i) (cases_eq (parent k) i) (cases_lt 0 k) where
-  at : (k : ℕ) → k < length xs → (k ≡ i) ⊎ (k ≡ i → ⊥) → (parent k ≡ i) ⊎ (parent k ≡ i → ⊥) → (0 < k) ⊎ (k ≤ 0) → is_before (entry_at xs k) (entry_at xs (parent k)) ≡ false
+  at : (k : ℕ) → k < length xs → (k ≡ i) ⊎ (k ≡ i → ⊥) → (parent k ≡ i) ⊎ (parent k ≡ i → ⊥) → (0 < k) ⊎ (k ≤ 0)
+      → is_before (entry_at xs k) (entry_at xs (parent k)) ≡ false
   at k l e f (inr z) = itself_at xs k (parent k) (omega arith)
   at k l (inl e) f (inl p) = by _ _ _ _ (ap (entry_at xs) e) (ap (λ (j : ℕ). entry_at xs (parent j)) e) (below.parent_first (omega arith))
   at k l (inr e) (inl f) (inl p) = second_is xs k i (parent k) (sym f) (above.children k l p f)
   at k l (inr e) (inr f) (inl p) = h.others k l e f
 
 -- ---- up
-module _ (xs : List Entry) (i : ℕ) (p : 0 < i) (l : i < length xs) (less : is_before (entry_at xs i) (entry_at xs (parent i)) ≡ true) (h : HasHole xs i) where
+module _ (xs : List Entry) (i : ℕ) (p : 0 < i) (l : i < length xs) (less : is_before (entry_at xs i) (entry_at xs (parent i)) ≡ true)
+    (h : HasHole xs i) where
   swapped : Swapped (λ k. entry_at xs k) (λ k. entry_at (swap xs i (parent i)) k) i (parent i)
   swapped = swapped_at xs i (parent i) l (omega arith)
 
@@ -69,7 +71,8 @@ module _ (xs : List Entry) (i : ℕ) (p : 0 < i) (l : i < length xs) (less : is_
         across = λ k m z e. across k (omega arith) z e (cases_eq k i);
       }
     where
-      others : (k : ℕ) → k < length xs → (k ≡ parent i → ⊥) → (parent k ≡ parent i → ⊥) → (parent k ≡ i) ⊎ (parent k ≡ i → ⊥) → is_before (entry_at (swap xs i (parent i)) k) (entry_at (swap xs i (parent i)) (parent k)) ≡ false
+      others : (k : ℕ) → k < length xs → (k ≡ parent i → ⊥) → (parent k ≡ parent i → ⊥) → (parent k ≡ i) ⊎ (parent k ≡ i → ⊥)
+          → is_before (entry_at (swap xs i (parent i)) k) (entry_at (swap xs i (parent i)) (parent k)) ≡ false
       others k m e f (inl g) =
           let not_i : k ≡ i → ⊥ = λ z. f (ap parent z) in
           by _ _ _ _ (swapped.2 k not_i e) (ap (entry_at (swap xs i (parent i))) g ∙ swapped.0) (h.across k m p g)
@@ -77,21 +80,26 @@ module _ (xs : List Entry) (i : ℕ) (p : 0 < i) (l : i < length xs) (less : is_
           let not_i : k ≡ i → ⊥ = λ z. f (ap parent z) in
           by _ _ _ _ (swapped.2 k not_i e) (swapped.2 (parent k) g f) (h.others k m not_i g)
 
-      across : (k : ℕ) → k < length xs → 0 < parent i → parent k ≡ parent i → (k ≡ i) ⊎ (k ≡ i → ⊥) → is_before (entry_at (swap xs i (parent i)) k) (entry_at (swap xs i (parent i)) (parent (parent i))) ≡ false
+      across : (k : ℕ) → k < length xs → 0 < parent i → parent k ≡ parent i → (k ≡ i) ⊎ (k ≡ i → ⊥)
+          → is_before (entry_at (swap xs i (parent i)) k) (entry_at (swap xs i (parent i)) (parent (parent i))) ≡ false
       across k m z e (inl g) =
-          by _ _ _ _ (ap (entry_at (swap xs i (parent i))) g ∙ swapped.0) (swapped.2 (parent (parent i)) (omega arith) (omega arith)) (h.others (parent i) (omega arith) (omega arith) (omega arith))
+          by _ _ _ _ (ap (entry_at (swap xs i (parent i))) g ∙ swapped.0) (swapped.2 (parent (parent i)) (omega arith) (omega arith))
+          (h.others (parent i) (omega arith) (omega arith) (omega arith))
       across k m z e (inr g) =
           by _ _ _ _ (swapped.2 k g (omega arith)) (swapped.2 (parent (parent i)) (omega arith) (omega arith))
-          (chain xs k (parent i) (parent (parent i)) (second_is xs k (parent k) (parent i) e (h.others k m g (omega arith))) (h.others (parent i) (omega arith) (omega arith) (omega arith)))
+          (chain xs k (parent i) (parent (parent i)) (second_is xs k (parent k) (parent i) e (h.others k m g (omega arith)))
+          (h.others (parent i) (omega arith) (omega arith) (omega arith)))
 
   above_up : FitsAbove (swap xs i (parent i)) (parent i)
-  above_up = let long = length-swap xs i (parent i) in record { children = λ k m z e. children k (omega arith) e (cases_eq k i) (cases_eq k (parent i)) } where
-    children : (k : ℕ) → k < length xs → parent k ≡ parent i → (k ≡ i) ⊎ (k ≡ i → ⊥) → (k ≡ parent i) ⊎ (k ≡ parent i → ⊥) → is_before (entry_at (swap xs i (parent i)) k) (entry_at (swap xs i (parent i)) (parent i)) ≡ false
-    children k m e (inl g) f = by _ _ _ _ (ap (entry_at (swap xs i (parent i))) g ∙ swapped.0) swapped.1 (one_way xs i (parent i) less)
-    children k m e (inr g) (inl f) = itself_at (swap xs i (parent i)) k (parent i) f
-    children k m e (inr g) (inr f) =
-        by _ _ _ _ (swapped.2 k g f) swapped.1
-        (chain xs k (parent i) i (second_is xs k (parent k) (parent i) e (h.others k m g (omega arith))) (one_way xs i (parent i) less))
+  above_up = let long = length-swap xs i (parent i) in
+      record { children = λ k m z e. children k (omega arith) e (cases_eq k i) (cases_eq k (parent i)) } where
+        children : (k : ℕ) → k < length xs → parent k ≡ parent i → (k ≡ i) ⊎ (k ≡ i → ⊥) → (k ≡ parent i) ⊎ (k ≡ parent i → ⊥)
+            → is_before (entry_at (swap xs i (parent i)) k) (entry_at (swap xs i (parent i)) (parent i)) ≡ false
+        children k m e (inl g) f = by _ _ _ _ (ap (entry_at (swap xs i (parent i))) g ∙ swapped.0) swapped.1 (one_way xs i (parent i) less)
+        children k m e (inr g) (inl f) = itself_at (swap xs i (parent i)) k (parent i) f
+        children k m e (inr g) (inr f) =
+            by _ _ _ _ (swapped.2 k g f) swapped.1
+            (chain xs k (parent i) i (second_is xs k (parent k) (parent i) e (h.others k m g (omega arith))) (one_way xs i (parent i) less))
 
 pub heap_from_up : (n : ℕ) (xs : List Entry) (i : ℕ) → i ≤ n → i < length xs → HasHole xs i → FitsAbove xs i → IsHeap (moved_up n xs i).array
 unfolding moved_up
@@ -101,28 +109,37 @@ heap_from_up (suc n) xs i q l h above = if_when (λ (m : Moved). IsHeap m.array)
     let less = (and_parts (ltb 0 i) _ e).1 in
     let long = length-swap xs i (parent i) in
     heap_from_up n (swap xs i (parent i)) (parent i) (omega arith) (omega arith) (hole_up xs i p l less h) (above_up xs i p l less h))
-    (λ e. fits xs i h above (record { parent_first = λ p. stays p (and_cases (ltb 0 i) (is_before (entry_at xs i) (entry_at xs (parent i))) e) })) where
-      stays : 0 < i → (ltb 0 i ≡ false) ⊎ (is_before (entry_at xs i) (entry_at xs (parent i)) ≡ false) → is_before (entry_at xs i) (entry_at xs (parent i)) ≡ false
+    (λ e. fits xs i h above (record {
+      parent_first = λ p. stays p
+          (and_cases (ltb 0 i) (is_before (entry_at xs i) (entry_at xs (parent i))) e);
+    })) where
+      stays : 0 < i → (ltb 0 i ≡ false) ⊎ (is_before (entry_at xs i) (entry_at xs (parent i)) ≡ false)
+          → is_before (entry_at xs i) (entry_at xs (parent i)) ≡ false
       stays p (inl e) = absurd (omega (arith, ltb-false 0 i e))
       stays p (inr e) = e
 
 -- ---- down
 -- no child comes before the lesser one
 lesser : (xs : List Entry) (i k : ℕ) → k < length xs → 0 < k → parent k ≡ i → is_before (entry_at xs k) (entry_at xs (lesser_child xs i)) ≡ false
-lesser xs i k l z e = if_when (λ (c : ℕ). is_before (entry_at xs k) (entry_at xs c) ≡ false) (ltb (2 * i + 2) (length xs) && is_before (entry_at xs (2 * i + 2)) (entry_at xs (2 * i + 1))) (2 * i + 2) (2 * i + 1)
+lesser xs i k l z e = if_when (λ (c : ℕ). is_before (entry_at xs k) (entry_at xs c) ≡ false)
+    (ltb (2 * i + 2) (length xs) && is_before (entry_at xs (2 * i + 2)) (entry_at xs (2 * i + 1))) (2 * i + 2) (2 * i + 1)
     (λ t. right ((and_parts (ltb (2 * i + 2) (length xs)) _ t).1) (cases_eq k (2 * i + 2)))
-    (λ t. left (and_cases (ltb (2 * i + 2) (length xs)) (is_before (entry_at xs (2 * i + 2)) (entry_at xs (2 * i + 1))) t) (cases_eq k (2 * i + 1))) where
-      right : is_before (entry_at xs (2 * i + 2)) (entry_at xs (2 * i + 1)) ≡ true → (k ≡ 2 * i + 2) ⊎ (k ≡ 2 * i + 2 → ⊥) → is_before (entry_at xs k) (entry_at xs (2 * i + 2)) ≡ false
+    (λ t. left (and_cases (ltb (2 * i + 2) (length xs)) (is_before (entry_at xs (2 * i + 2)) (entry_at xs (2 * i + 1))) t)
+    (cases_eq k (2 * i + 1))) where
+      right : is_before (entry_at xs (2 * i + 2)) (entry_at xs (2 * i + 1)) ≡ true → (k ≡ 2 * i + 2) ⊎ (k ≡ 2 * i + 2 → ⊥)
+          → is_before (entry_at xs k) (entry_at xs (2 * i + 2)) ≡ false
       right t (inl f) = itself_at xs k (2 * i + 2) f
       right t (inr f) = first_is xs k (2 * i + 1) (2 * i + 2) (omega arith) (one_way xs (2 * i + 2) (2 * i + 1) t)
 
-      left : (ltb (2 * i + 2) (length xs) ≡ false) ⊎ (is_before (entry_at xs (2 * i + 2)) (entry_at xs (2 * i + 1)) ≡ false) → (k ≡ 2 * i + 1) ⊎ (k ≡ 2 * i + 1 → ⊥) → is_before (entry_at xs k) (entry_at xs (2 * i + 1)) ≡ false
+      left : (ltb (2 * i + 2) (length xs) ≡ false) ⊎ (is_before (entry_at xs (2 * i + 2)) (entry_at xs (2 * i + 1)) ≡ false)
+          → (k ≡ 2 * i + 1) ⊎ (k ≡ 2 * i + 1 → ⊥) → is_before (entry_at xs k) (entry_at xs (2 * i + 1)) ≡ false
       left t (inl f) = itself_at xs k (2 * i + 1) f
       left (inl t) (inr f) = absurd (omega (arith, ltb-false (2 * i + 2) (length xs) t))
       left (inr t) (inr f) = first_is xs k (2 * i + 2) (2 * i + 1) (omega arith) t
 
 module _ (xs : List Entry) (i c : ℕ) (l : i < length xs) (m : c < length xs) (child : parent c ≡ i) (under : i < c)
-    (less : is_before (entry_at xs c) (entry_at xs i) ≡ true) (least : (k : ℕ) → k < length xs → 0 < k → parent k ≡ i → is_before (entry_at xs k) (entry_at xs c) ≡ false)
+    (less : is_before (entry_at xs c) (entry_at xs i) ≡ true)
+    (least : (k : ℕ) → k < length xs → 0 < k → parent k ≡ i → is_before (entry_at xs k) (entry_at xs c) ≡ false)
     (h : HasHole xs i) where
   exchanged : Swapped (λ k. entry_at xs k) (λ k. entry_at (swap xs i c) k) i c
   exchanged = swapped_at xs i c l m
@@ -133,20 +150,25 @@ module _ (xs : List Entry) (i c : ℕ) (l : i < length xs) (m : c < length xs) (
       record {
         others = λ k n e f. others k (omega arith) e f (cases_eq k i) (cases_eq (parent k) i) (cases_lt 0 k);
         across = λ k n z e.
-            by _ _ _ _ (exchanged.2 k (omega arith) (omega arith)) (ap (entry_at (swap xs i c)) child ∙ exchanged.0 ∙ ap (entry_at xs) (sym e)) (h.others k (omega arith) (omega arith) (omega arith));
+            by _ _ _ _ (exchanged.2 k (omega arith) (omega arith)) (ap (entry_at (swap xs i c)) child ∙ exchanged.0 ∙ ap (entry_at xs) (sym e))
+            (h.others k (omega arith) (omega arith) (omega arith));
       }
     where
-      others : (k : ℕ) → k < length xs → (k ≡ c → ⊥) → (parent k ≡ c → ⊥) → (k ≡ i) ⊎ (k ≡ i → ⊥) → (parent k ≡ i) ⊎ (parent k ≡ i → ⊥) → (0 < k) ⊎ (k ≤ 0) → is_before (entry_at (swap xs i c) k) (entry_at (swap xs i c) (parent k)) ≡ false
+      others : (k : ℕ) → k < length xs → (k ≡ c → ⊥) → (parent k ≡ c → ⊥) → (k ≡ i) ⊎ (k ≡ i → ⊥) → (parent k ≡ i) ⊎ (parent k ≡ i → ⊥)
+          → (0 < k) ⊎ (k ≤ 0) → is_before (entry_at (swap xs i c) k) (entry_at (swap xs i c) (parent k)) ≡ false
       others k n e f g a (inr z) = itself_at (swap xs i c) k (parent k) (omega arith)
       others k n e f (inl g) a (inl z) =
-          by _ _ _ _ (ap (entry_at (swap xs i c)) g ∙ exchanged.0) (ap (λ (j : ℕ). entry_at (swap xs i c) (parent j)) g ∙ exchanged.2 (parent i) (omega arith) (omega arith)) (h.across c m (omega arith) child)
+          by _ _ _ _ (ap (entry_at (swap xs i c)) g ∙ exchanged.0)
+          (ap (λ (j : ℕ). entry_at (swap xs i c) (parent j)) g ∙ exchanged.2 (parent i) (omega arith) (omega arith))
+          (h.across c m (omega arith) child)
       others k n e f (inr g) (inl a) (inl z) = by _ _ _ _ (exchanged.2 k g e) (ap (entry_at (swap xs i c)) a ∙ exchanged.0) (least k n z a)
       others k n e f (inr g) (inr a) (inl z) = by _ _ _ _ (exchanged.2 k g e) (exchanged.2 (parent k) a f) (h.others k n g a)
 
   below_down : FitsBelow (swap xs i c) c
   below_down = record { parent_first = λ _. by _ _ _ _ exchanged.1 (ap (entry_at (swap xs i c)) child ∙ exchanged.0) (one_way xs c i less) }
 
-pub heap_from_down : (n : ℕ) (xs : List Entry) (i : ℕ) → length xs ≤ n + i → i < length xs → HasHole xs i → FitsBelow xs i → IsHeap (moved_down n xs i).array
+pub heap_from_down : (n : ℕ) (xs : List Entry) (i : ℕ) → length xs ≤ n + i → i < length xs → HasHole xs i → FitsBelow xs i
+    → IsHeap (moved_down n xs i).array
 unfolding moved_down
 heap_from_down zero xs i q l h below = absurd (omega arith)
 heap_from_down (suc n) xs i q l h below = if_when (λ (m : Moved). IsHeap m.array) (must_sink xs i) _ _
@@ -157,8 +179,13 @@ heap_from_down (suc n) xs i q l h below = if_when (λ (m : Moved). IsHeap m.arra
     let hole = hole_down xs i (lesser_child xs i) l within c.0 c.1 less (lesser xs i) h in
     let fine = below_down xs i (lesser_child xs i) l within c.0 c.1 less (lesser xs i) h in
     heap_from_down n (swap xs i (lesser_child xs i)) (lesser_child xs i) (omega arith) (omega arith) hole fine)
-    (λ e. fits xs i h (record { children = λ k m z f. stays k m z f (and_cases (ltb (2 * i + 1) (length xs)) (is_before (entry_at xs (lesser_child xs i)) (entry_at xs i)) e) }) below) where
-      stays : (k : ℕ) → k < length xs → 0 < k → parent k ≡ i → (ltb (2 * i + 1) (length xs) ≡ false) ⊎ (is_before (entry_at xs (lesser_child xs i)) (entry_at xs i) ≡ false) → is_before (entry_at xs k) (entry_at xs i) ≡ false
+    (λ e. fits xs i h (record {
+      children = λ k m z f. stays k m z f
+          (and_cases (ltb (2 * i + 1) (length xs)) (is_before (entry_at xs (lesser_child xs i)) (entry_at xs i)) e);
+    }) below) where
+      stays : (k : ℕ) → k < length xs → 0 < k → parent k ≡ i
+          → (ltb (2 * i + 1) (length xs) ≡ false) ⊎ (is_before (entry_at xs (lesser_child xs i)) (entry_at xs i) ≡ false)
+          → is_before (entry_at xs k) (entry_at xs i) ≡ false
       stays k m z f (inl t) = absurd (omega (arith, ltb-false (2 * i + 1) (length xs) t))
       stays k m z f (inr t) = chain xs k (lesser_child xs i) i (lesser xs i k m z f) t
 
@@ -168,9 +195,14 @@ unfolding settled
 heap_settled xs i l h = if_when (λ (m : Moved). IsHeap m.array) (must_rise xs i) _ _
     (λ e. let p = rises_from xs i e in
     let less = (and_parts (ltb 0 i) _ e).1 in
-    heap_from_up i xs i (omega arith) l h (record { children = λ k m z f. chain xs k (parent i) i (h.across k m p f) (one_way xs i (parent i) less) }))
-    (λ e. heap_from_down (length xs) xs i (omega arith) l h (record { parent_first = λ p. stays p (and_cases (ltb 0 i) (is_before (entry_at xs i) (entry_at xs (parent i))) e) })) where
-      stays : 0 < i → (ltb 0 i ≡ false) ⊎ (is_before (entry_at xs i) (entry_at xs (parent i)) ≡ false) → is_before (entry_at xs i) (entry_at xs (parent i)) ≡ false
+    heap_from_up i xs i (omega arith) l h (record {
+      children = λ k m z f. chain xs k (parent i) i (h.across k m p f)
+          (one_way xs i (parent i) less);
+    }))
+    (λ e. heap_from_down (length xs) xs i (omega arith) l h
+    (record { parent_first = λ p. stays p (and_cases (ltb 0 i) (is_before (entry_at xs i) (entry_at xs (parent i))) e) })) where
+      stays : 0 < i → (ltb 0 i ≡ false) ⊎ (is_before (entry_at xs i) (entry_at xs (parent i)) ≡ false)
+          → is_before (entry_at xs i) (entry_at xs (parent i)) ≡ false
       stays p (inl e) = absurd (omega (arith, ltb-false 0 i e))
       stays p (inr e) = e
 
@@ -210,12 +242,14 @@ heap_removed xs i l h = if_when (λ (m : Moved). IsHeap m.array) (eqb i (length 
     (λ e. let elsewhere = eqb-false i (length xs - 1) e in
     let short = length-take-le (length xs - 1) xs (omega arith) in
     let long = length-set (take (length xs - 1) xs) i (entry_at xs (length xs - 1)) in
-    heap_settled (set (take (length xs - 1) xs) i (entry_at xs (length xs - 1))) i (omega arith) (hole_put xs i (length xs - 1) _ (omega arith) (omega arith) h))
+    heap_settled (set (take (length xs - 1) xs) i (entry_at xs (length xs - 1))) i (omega arith)
+    (hole_put xs i (length xs - 1) _ (omega arith) (omega arith) h))
 
 -- the root comes before no other
 pub root_first : (xs : List Entry) → IsHeap xs → (n k : ℕ) → k ≤ n → k < length xs → is_before (entry_at xs k) (entry_at xs 0) ≡ false
 root_first xs h zero k p l = itself_at xs k 0 (omega arith)
 root_first xs h (suc n) k p l = at (cases_lt 0 k) (root_first xs h n (parent k)) where
-  at : (0 < k) ⊎ (k ≤ 0) → (parent k ≤ n → parent k < length xs → is_before (entry_at xs (parent k)) (entry_at xs 0) ≡ false) → is_before (entry_at xs k) (entry_at xs 0) ≡ false
+  at : (0 < k) ⊎ (k ≤ 0) → (parent k ≤ n → parent k < length xs → is_before (entry_at xs (parent k)) (entry_at xs 0) ≡ false)
+      → is_before (entry_at xs k) (entry_at xs 0) ≡ false
   at (inl z) on = chain xs k (parent k) 0 (h k l) (on (omega arith) (omega arith))
   at (inr z) on = itself_at xs k 0 (omega arith)

@@ -34,13 +34,15 @@ rises_from xs i e = ltb-true 0 i ((and_parts (ltb 0 i) _ e).0)
 
 -- the lesser child is a child, and one of the array where the entry is greater than it
 pub child_is : (xs : List Entry) (i : ℕ) → (parent (lesser_child xs i) ≡ i) × (i < lesser_child xs i)
-child_is xs i = if_when (λ (k : ℕ). (parent k ≡ i) × (i < k)) (ltb (2 * i + 2) (length xs) && is_before (entry_at xs (2 * i + 2)) (entry_at xs (2 * i + 1))) (2 * i + 2) (2 * i + 1)
+child_is xs i = if_when (λ (k : ℕ). (parent k ≡ i) × (i < k))
+    (ltb (2 * i + 2) (length xs) && is_before (entry_at xs (2 * i + 2)) (entry_at xs (2 * i + 1))) (2 * i + 2) (2 * i + 1)
     (λ _. (omega arith, omega arith)) (λ _. (omega arith, omega arith))
 
 pub child_within : (xs : List Entry) (i : ℕ) → must_sink xs i ≡ true → lesser_child xs i < length xs
 child_within xs i e =
     let left = ltb-true (2 * i + 1) (length xs) ((and_parts (ltb (2 * i + 1) (length xs)) _ e).0) in
-    if_when (λ (k : ℕ). k < length xs) (ltb (2 * i + 2) (length xs) && is_before (entry_at xs (2 * i + 2)) (entry_at xs (2 * i + 1))) (2 * i + 2) (2 * i + 1)
+    if_when (λ (k : ℕ). k < length xs) (ltb (2 * i + 2) (length xs) && is_before (entry_at xs (2 * i + 2)) (entry_at xs (2 * i + 1))) (2 * i + 2)
+    (2 * i + 1)
     (λ t. ltb-true (2 * i + 2) (length xs) ((and_parts (ltb (2 * i + 2) (length xs)) _ t).0)) (λ _. left)
 
 pub leaf_stays : (xs : List Entry) (i : ℕ) → length xs ≤ 2 * i + 1 → must_sink xs i ≡ false
@@ -74,9 +76,11 @@ moved_down_enough (suc n) zero xs i p q = if_false (must_sink xs i) _ _ (leaf_st
 moved_down_enough (suc n) (suc m) xs i p q =
     let below = (child_is xs i).1 in
     let long = length-swap xs i (lesser_child xs i) in
-    if_same (must_sink xs i) _ _ _ _ (λ e. moved_down_enough n m (swap xs i (lesser_child xs i)) (lesser_child xs i) (omega arith) (omega arith)) (λ _. refl)
+    if_same (must_sink xs i) _ _ _ _ (λ e. moved_down_enough n m (swap xs i (lesser_child xs i)) (lesser_child xs i) (omega arith) (omega arith))
+    (λ _. refl)
 
-pub moved_down_more : (xs : List Entry) (i : ℕ) → must_sink xs i ≡ true → moved_down (length xs) xs i ≡ moved_down (length (swap xs i (lesser_child xs i))) (swap xs i (lesser_child xs i)) (lesser_child xs i)
+pub moved_down_more : (xs : List Entry) (i : ℕ) → must_sink xs i ≡ true
+    → moved_down (length xs) xs i ≡ moved_down (length (swap xs i (lesser_child xs i))) (swap xs i (lesser_child xs i)) (lesser_child xs i)
 unfolding moved_down
 moved_down_more xs i e =
     let below = (child_is xs i).1 in
@@ -89,7 +93,8 @@ moved_down_more xs i e =
     step (suc n) p q =
         let below = (child_is xs i).1 in
         let long = length-swap xs i (lesser_child xs i) in
-        if_true (must_sink xs i) _ _ e ∙ moved_down_enough n (length xs) (swap xs i (lesser_child xs i)) (lesser_child xs i) (omega arith) (omega arith)
+        if_true (must_sink xs i) _ _ e ∙ moved_down_enough n (length xs) (swap xs i (lesser_child xs i)) (lesser_child xs i) (omega arith)
+        (omega arith)
 
 pub moved_down_end : (xs : List Entry) (i : ℕ) → must_sink xs i ≡ false → moved_down (length xs) xs i ≡ record { array = xs; place = i }
 unfolding moved_down
@@ -106,7 +111,8 @@ raised_enough (suc n) zero xs from to p q = if_false (ltb to from) _ _ (le-ltb t
 raised_enough (suc n) (suc m) xs from to p q = if_same (ltb to from) _ _ _ _
     (λ e. let up = ltb-true to from e in raised_enough n m (swap xs from (parent from)) (parent from) to (omega arith) (omega arith)) (λ _. refl)
 
-pub raised_more : (xs : List Entry) (from to : ℕ) → to < from → raised from xs from to ≡ raised (parent from) (swap xs from (parent from)) (parent from) to
+pub raised_more : (xs : List Entry) (from to : ℕ) → to < from
+    → raised from xs from to ≡ raised (parent from) (swap xs from (parent from)) (parent from) to
 unfolding raised
 raised_more xs zero to p = absurd (omega arith)
 raised_more xs (suc from) to p = if_true (ltb to (suc from)) _ _ (lt-ltb to (suc from) p)
@@ -123,13 +129,15 @@ lowered_enough zero zero xs from to p q = refl
 lowered_enough zero (suc m) xs from to p q = sym (if_false (ltb from to) _ _ (le-ltb from to (omega arith)))
 lowered_enough (suc n) zero xs from to p q = if_false (ltb from to) _ _ (le-ltb from to (omega arith))
 lowered_enough (suc n) (suc m) xs from to p q = if_same (ltb from to) _ _ _ _
-    (λ e. let up = ltb-true from to e in ap (λ (ys : List Entry). swap ys (parent to) to) (lowered_enough n m xs from (parent to) (omega arith) (omega arith))) (λ _. refl)
+    (λ e. let up = ltb-true from to e in ap (λ (ys : List Entry). swap ys (parent to) to)
+    (lowered_enough n m xs from (parent to) (omega arith) (omega arith))) (λ _. refl)
 
 pub lowered_more : (xs : List Entry) (from to : ℕ) → from < to → lowered to xs from to ≡ swap (lowered (parent to) xs from (parent to)) (parent to) to
 unfolding lowered
 lowered_more xs from zero p = absurd (omega arith)
 lowered_more xs from (suc to) p = if_true (ltb from (suc to)) _ _ (lt-ltb from (suc to) p)
-    ∙ ap (λ (ys : List Entry). swap ys (parent (suc to)) (suc to)) (lowered_enough to (parent (suc to)) xs from (parent (suc to)) (omega arith) (omega arith))
+    ∙ ap (λ (ys : List Entry). swap ys (parent (suc to)) (suc to))
+    (lowered_enough to (parent (suc to)) xs from (parent (suc to)) (omega arith) (omega arith))
 
 pub lowered_end : (xs : List Entry) (from to : ℕ) → to ≤ from → lowered to xs from to ≡ xs
 unfolding lowered
@@ -183,7 +191,10 @@ pub lowered-raised : (n : ℕ) (xs : List Entry) (i p : ℕ) → i < length xs �
 unfolding raised lowered
 lowered-raised zero xs i p l = refl
 lowered-raised (suc n) xs i p l = at (ltb p i) (lowered-raised n (swap xs i (parent i)) (parent i) p) where
-  at : (b : Bool) → (parent i < length (swap xs i (parent i)) → lowered n (raised n (swap xs i (parent i)) (parent i) p) p (parent i) ≡ swap xs i (parent i)) → cond b (swap (lowered n (cond b (raised n (swap xs i (parent i)) (parent i) p) xs) p (parent i)) (parent i) i) (cond b (raised n (swap xs i (parent i)) (parent i) p) xs) ≡ xs
+  at : (b : Bool) → (parent i < length (swap xs i (parent i))
+      → lowered n (raised n (swap xs i (parent i)) (parent i) p) p (parent i) ≡ swap xs i (parent i))
+      → cond b (swap (lowered n (cond b (raised n (swap xs i (parent i)) (parent i) p) xs) p (parent i)) (parent i) i)
+      (cond b (raised n (swap xs i (parent i)) (parent i) p) xs) ≡ xs
   at true on =
       let long = length-swap xs i (parent i) in
       ap (λ (ys : List Entry). swap ys (parent i) i) (on (omega arith)) ∙ swap-swap xs i (parent i) l (omega arith)
@@ -193,14 +204,16 @@ lowered-raised (suc n) xs i p l = at (ltb p i) (lowered-raised n (swap xs i (par
 pub raised-moved_up : (n : ℕ) (xs : List Entry) (i : ℕ) → raised n xs i (moved_up n xs i).place ≡ (moved_up n xs i).array
 unfolding raised moved_up
 raised-moved_up zero xs i = refl
-raised-moved_up (suc n) xs i = if_when (λ (m : Moved). cond (ltb m.place i) (raised n (swap xs i (parent i)) (parent i) m.place) xs ≡ m.array) (must_rise xs i) _ _
+raised-moved_up (suc n) xs i = if_when (λ (m : Moved). cond (ltb m.place i) (raised n (swap xs i (parent i)) (parent i) m.place) xs ≡ m.array)
+    (must_rise xs i) _ _
     (λ e. let above = moved_up_above n (swap xs i (parent i)) (parent i) in
     let up = rises_from xs i e in
     if_true _ _ _ (lt-ltb (moved_up n (swap xs i (parent i)) (parent i)).place i (omega arith)) ∙ raised-moved_up n (swap xs i (parent i)) (parent i))
     (λ _. if_false (ltb i i) _ _ (le-ltb i i (omega arith)))
 
 -- an entry that moved down goes up again through the place where it was
-pub raised-moved_down : (n : ℕ) (xs : List Entry) (i to : ℕ) → to ≤ i → i < length xs → raised (moved_down n xs i).place (moved_down n xs i).array (moved_down n xs i).place to ≡ raised i xs i to
+pub raised-moved_down : (n : ℕ) (xs : List Entry) (i to : ℕ) → to ≤ i → i < length xs
+    → raised (moved_down n xs i).place (moved_down n xs i).array (moved_down n xs i).place to ≡ raised i xs i to
 unfolding moved_down
 raised-moved_down zero xs i to p l = refl
 raised-moved_down (suc n) xs i to p l = if_when (λ (m : Moved). raised m.place m.array m.place to ≡ raised i xs i to) (must_sink xs i) _ _

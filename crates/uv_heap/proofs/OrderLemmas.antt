@@ -39,7 +39,8 @@ count_by-moved_down p zero xs i l = refl
 count_by-moved_down p (suc n) xs i l = if_when (λ (m : Moved). count_by p m.array ≡ count_by p xs) (must_sink xs i) _ _
     (λ e. let within = child_within xs i e in
     let long = length-swap xs i (lesser_child xs i) in
-    count_by-moved_down p n (swap xs i (lesser_child xs i)) (lesser_child xs i) (omega arith) ∙ count_by-swap p xs i (lesser_child xs i) l within) (λ _. refl)
+    count_by-moved_down p n (swap xs i (lesser_child xs i)) (lesser_child xs i) (omega arith) ∙ count_by-swap p xs i (lesser_child xs i) l within)
+    (λ _. refl)
 
 count_by-settled : (p : Entry → Bool) (xs : List Entry) (i : ℕ) → i < length xs → count_by p (settled xs i).array ≡ count_by p xs
 unfolding settled
@@ -55,23 +56,28 @@ count_by-pushed p xs e =
 -- what a list has, but for its last entry
 count_by-taken : (p : Entry → Bool) (xs : List Entry) (n : ℕ) → n + 1 ≡ length xs → count_by p (take n xs) + one p (entry_at xs n) ≡ count_by p xs
 count_by-taken p xs n e =
-    sym (sum_by_push (one p) (take n xs) (entry_at xs n)) ∙ ap (count_by p) (sym (take_more xs n no_entry (omega arith)) ∙ take_all (n + 1) xs (omega arith))
+    sym (sum_by_push (one p) (take n xs) (entry_at xs n))
+    ∙ ap (count_by p) (sym (take_more xs n no_entry (omega arith)) ∙ take_all (n + 1) xs (omega arith))
 
-pub count_by-removed : (p : Entry → Bool) (xs : List Entry) (i : ℕ) → i < length xs → count_by p (removed xs i).array + one p (entry_at xs i) ≡ count_by p xs
+pub count_by-removed : (p : Entry → Bool) (xs : List Entry) (i : ℕ) → i < length xs
+    → count_by p (removed xs i).array + one p (entry_at xs i) ≡ count_by p xs
 unfolding removed
 count_by-removed p xs i l = if_when (λ (m : Moved). count_by p m.array + one p (entry_at xs i) ≡ count_by p xs) (eqb i (length xs - 1)) _ _
     (λ e. let last = eqb-true i (length xs - 1) e in
     ap (λ (k : ℕ). count_by p (take (length xs - 1) xs) + one p (entry_at xs k)) last ∙ count_by-taken p xs (length xs - 1) (omega arith))
     (λ e. elsewhere (eqb-false i (length xs - 1) e))
   where
-    elsewhere : (i ≡ length xs - 1 → ⊥) → count_by p (settled (set (take (length xs - 1) xs) i (entry_at xs (length xs - 1))) i).array + one p (entry_at xs i) ≡ count_by p xs
+    elsewhere : (i ≡ length xs - 1 → ⊥) → count_by p (settled (set (take (length xs - 1) xs) i (entry_at xs (length xs - 1))) i).array + one p
+        (entry_at xs i) ≡ count_by p xs
     elsewhere f =
         let n : length xs - 1 + 1 ≡ length xs = omega arith in
         let put = take-swap xs i (length xs - 1) n (omega arith) in
         let long = length-swap xs i (length xs - 1) in
-        let short : length (set (take (length xs - 1) xs) i (entry_at xs (length xs - 1))) ≡ length xs - 1 = ap length (sym put) ∙ length-take-le (length xs - 1) (swap xs i (length xs - 1)) (omega arith) in
+        let short : length (set (take (length xs - 1) xs) i (entry_at xs (length xs - 1))) ≡ length xs - 1 = ap length (sym put)
+        ∙ length-take-le (length xs - 1) (swap xs i (length xs - 1)) (omega arith) in
         let last = swapped_at xs i (length xs - 1) l (omega arith) in
-        ap (λ (k : ℕ). k + one p (entry_at xs i)) (count_by-settled p (set (take (length xs - 1) xs) i (entry_at xs (length xs - 1))) i (omega arith) ∙ ap (count_by p) (sym put))
+        ap (λ (k : ℕ). k + one p (entry_at xs i))
+        (count_by-settled p (set (take (length xs - 1) xs) i (entry_at xs (length xs - 1))) i (omega arith) ∙ ap (count_by p) (sym put))
         ∙ ap (λ (x : Entry). count_by p (take (length xs - 1) (swap xs i (length xs - 1))) + one p x) (sym last.1)
         ∙ count_by-taken p (swap xs i (length xs - 1)) (length xs - 1) (omega arith)
         ∙ count_by-swap p xs i (length xs - 1) l (omega arith)
@@ -107,10 +113,13 @@ count_by-inserted p e (x ∷ xs) = if_when (λ (ys : List Entry). count_by p ys 
 -- the one that is taken out counts once less
 count_by-without : (e f : Entry) (xs : List Entry) → count_by (is_same e) (without f xs) ≡ count_by (is_same e) xs - one (is_same e) f
 count_by-without e f [] = omega arith
-count_by-without e f (x ∷ xs) = if_when (λ (ys : List Entry). count_by (is_same e) ys ≡ count_by (is_same e) (x ∷ xs) - one (is_same e) f) (is_same f x) _ _
+count_by-without e f (x ∷ xs) = if_when (λ (ys : List Entry). count_by (is_same e) ys ≡ count_by (is_same e) (x ∷ xs) - one (is_same e) f)
+    (is_same f x) _ _
     (λ t. let is : one (is_same e) f ≡ one (is_same e) x = ap (one (is_same e)) (same_is f x t) in omega (arith, is, count_by-cons (is_same e) x xs))
     (λ t. kept t (count_by-without e f xs) (cases_Bool (is_same e f)) (cases_Bool (is_same e x))) where
-      kept : is_same f x ≡ false → count_by (is_same e) (without f xs) ≡ count_by (is_same e) xs - one (is_same e) f → (is_same e f ≡ true) ⊎ (is_same e f ≡ false) → (is_same e x ≡ true) ⊎ (is_same e x ≡ false) → count_by (is_same e) (x ∷ without f xs) ≡ count_by (is_same e) (x ∷ xs) - one (is_same e) f
+      kept : is_same f x ≡ false → count_by (is_same e) (without f xs) ≡ count_by (is_same e) xs - one (is_same e) f
+          → (is_same e f ≡ true) ⊎ (is_same e f ≡ false) → (is_same e x ≡ true) ⊎ (is_same e x ≡ false)
+          → count_by (is_same e) (x ∷ without f xs) ≡ count_by (is_same e) (x ∷ xs) - one (is_same e) f
       kept t on (inl p) (inl q) = absurd (false≢true (sym t ∙ ap (λ (y : Entry). is_same y x) (sym (same_is e f p)) ∙ q))
       kept t on (inl p) (inr q) =
           let no : one (is_same e) x ≡ 0 = if_false _ _ _ q in
@@ -126,7 +135,8 @@ order_pushed xs timers e h = record {
   same = λ f. count_by-inserted (is_same f) e timers ∙ ap (λ (k : ℕ). one (is_same f) e + k) (h.same f) ∙ sym (count_by-pushed (is_same f) xs e);
 }
 
-pub order_removed : (xs timers : List Entry) (i : ℕ) → i < length xs → IsInOrder xs timers → IsInOrder (removed xs i).array (without (entry_at xs i) timers)
+pub order_removed : (xs timers : List Entry) (i : ℕ) → i < length xs → IsInOrder xs timers
+    → IsInOrder (removed xs i).array (without (entry_at xs i) timers)
 order_removed xs timers i l h = record {
   ordered = ordered_without (entry_at xs i) timers h.ordered;
   same = λ f. omega (arith, count_by-without f (entry_at xs i) timers, h.same f, count_by-removed (is_same f) xs i l);
@@ -160,13 +170,15 @@ counts_itself : (x : Entry) (xs : List Entry) → 0 < count_by (is_same x) (x �
 counts_itself x xs = let yes : one (is_same x) x ≡ 1 = if_true _ _ _ (same_itself x) in omega (arith, yes, count_by-cons (is_same x) x xs)
 
 -- the first in the order is at the root, where no other is due alike
-pub first_is_root : (x : Entry) (xs : List Entry) (first : Entry) (others : List Entry) → IsHeap (x ∷ xs) → IsInOrder (x ∷ xs) (first ∷ others) → IsBeforeAll first others → x ≡ first
+pub first_is_root : (x : Entry) (xs : List Entry) (first : Entry) (others : List Entry) → IsHeap (x ∷ xs) → IsInOrder (x ∷ xs) (first ∷ others)
+    → IsBeforeAll first others → x ≡ first
 first_is_root x xs first others h order all_behind = at (cases_Bool (is_same x first)) where
   at : (is_same x first ≡ true) ⊎ (is_same x first ≡ false) → x ≡ first
   at (inl t) = same_is x first t
   at (inr t) =
       let no : one (is_same x) first ≡ 0 = if_false _ _ _ t in
-      let behind = before_all_there first x others all_behind (omega (arith, no, counts_itself x xs, order.same x, count_by-cons (is_same x) first others)) in
+      let behind = before_all_there first x others all_behind
+      (omega (arith, no, counts_itself x xs, order.same x, count_by-cons (is_same x) first others)) in
       let not_before = none_before_there x first (x ∷ xs) (least_first x xs h) (omega (arith, counts_itself first others, order.same first)) in
       absurd (false≢true (sym not_before ∙ behind))
 

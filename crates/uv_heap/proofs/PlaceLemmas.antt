@@ -20,51 +20,66 @@ abbrev place : List (Option ℕ) → ℕ → Option ℕ
 place ps s = get_or ps s None
 
 -- a place that is written, and another
-get_or-set : (ps : List (Option ℕ)) (s t : ℕ) (v : Option ℕ) → s < length ps → ((t ≡ s) × (place (set ps s v) t ≡ v)) ⊎ ((t ≡ s → ⊥) × (place (set ps s v) t ≡ place ps t))
+get_or-set : (ps : List (Option ℕ)) (s t : ℕ) (v : Option ℕ) → s < length ps
+    → ((t ≡ s) × (place (set ps s v) t ≡ v)) ⊎ ((t ≡ s → ⊥) × (place (set ps s v) t ≡ place ps t))
 get_or-set ps s t v l = at (cases_eq t s) where
   at : (t ≡ s) ⊎ (t ≡ s → ⊥) → ((t ≡ s) × (place (set ps s v) t ≡ v)) ⊎ ((t ≡ s → ⊥) × (place (set ps s v) t ≡ place ps t))
   at (inl e) = inl (e, ap (place (set ps s v)) e ∙ get_or-set_same ps s v None l)
   at (inr e) = inr (e, get_or-set_other ps s t v None e)
 
 -- how many places there are after one is written
-count_by-set : (ps : List (Option ℕ)) (s : ℕ) (v w : Option ℕ) → s < length ps → place ps s ≡ w → count_by is_some (set ps s v) + one w ≡ count_by is_some ps + one v
+count_by-set : (ps : List (Option ℕ)) (s : ℕ) (v w : Option ℕ) → s < length ps → place ps s ≡ w
+    → count_by is_some (set ps s v) + one w ≡ count_by is_some ps + one v
 count_by-set ps s v w l e = rw e at (sum_by-set one ps s v None l)
 
 -- where a slot has no place, there are more slots than entries
-pub is_free : (xs : List Entry) (ps : List (Option ℕ)) (memory s : ℕ) → ArePlaces xs ps memory → s < length ps → place ps s ≡ None → length xs < length ps
+pub is_free : (xs : List Entry) (ps : List (Option ℕ)) (memory s : ℕ) → ArePlaces xs ps memory → s < length ps → place ps s ≡ None
+    → length xs < length ps
 is_free xs ps memory s h l e =
     let more : count_by is_some (set ps s (Some 0)) + 0 ≡ count_by is_some ps + 1 = count_by-set ps s (Some 0) None l e in
     omega (arith, more, count_by-le-length is_some (set ps s (Some 0)), length-set ps s (Some 0), h.counted)
 
-pub places_pushed : (xs : List Entry) (ps : List (Option ℕ)) (memory : ℕ) (e : Entry) → ArePlaces xs ps memory → e.slot < length ps → place ps e.slot ≡ None → ArePlaces (xs ++ e ∷ []) (set ps e.slot (Some (length xs))) memory
+pub places_pushed : (xs : List Entry) (ps : List (Option ℕ)) (memory : ℕ) (e : Entry) → ArePlaces xs ps memory → e.slot < length ps
+    → place ps e.slot ≡ None → ArePlaces (xs ++ e ∷ []) (set ps e.slot (Some (length xs))) memory
 places_pushed xs ps memory e h l absent = record {
   known = λ i p. known i (at_push xs e i p);
   right = λ i p. right i (at_push xs e i p);
   only = λ s i. only s i (get_or-set ps e.slot s (Some (length xs)) l);
   counted =
-      let more : count_by is_some (set ps e.slot (Some (length xs))) + 0 ≡ count_by is_some ps + 1 = count_by-set ps e.slot (Some (length xs)) None l absent in
+      let more : count_by is_some (set ps e.slot (Some (length xs))) + 0 ≡ count_by is_some ps + 1 = count_by-set ps e.slot
+      (Some (length xs)) None l absent in
       omega (arith, more, h.counted, length_push xs e);
   fits = omega (arith, length-set ps e.slot (Some (length xs)), h.fits);
   narrow = omega (arith, length-set ps e.slot (Some (length xs)), h.narrow);
 } where
-  known : (i : ℕ) → ((i < length xs) × (entry_at (xs ++ e ∷ []) i ≡ entry_at xs i)) ⊎ ((i ≡ length xs) × (entry_at (xs ++ e ∷ []) i ≡ e)) → (entry_at (xs ++ e ∷ []) i).slot < length (set ps e.slot (Some (length xs)))
+  known : (i : ℕ) → ((i < length xs) × (entry_at (xs ++ e ∷ []) i ≡ entry_at xs i)) ⊎ ((i ≡ length xs) × (entry_at (xs ++ e ∷ []) i ≡ e))
+      → (entry_at (xs ++ e ∷ []) i).slot < length (set ps e.slot (Some (length xs)))
   known i (inl a) = omega (arith, ap (λ (x : Entry). x.slot) a.1, h.known i a.0, length-set ps e.slot (Some (length xs)))
   known i (inr a) = omega (arith, ap (λ (x : Entry). x.slot) a.1, length-set ps e.slot (Some (length xs)))
 
-  right : (i : ℕ) → ((i < length xs) × (entry_at (xs ++ e ∷ []) i ≡ entry_at xs i)) ⊎ ((i ≡ length xs) × (entry_at (xs ++ e ∷ []) i ≡ e)) → place (set ps e.slot (Some (length xs))) (entry_at (xs ++ e ∷ []) i).slot ≡ Some i
-  right i (inl a) = ap (λ (x : Entry). place (set ps e.slot (Some (length xs))) x.slot) a.1 ∙ old (h.right i a.0) (get_or-set ps e.slot (entry_at xs i).slot (Some (length xs)) l) where
-    old : place ps (entry_at xs i).slot ≡ Some i → (((entry_at xs i).slot ≡ e.slot) × (place (set ps e.slot (Some (length xs))) (entry_at xs i).slot ≡ Some (length xs))) ⊎ (((entry_at xs i).slot ≡ e.slot → ⊥) × (place (set ps e.slot (Some (length xs))) (entry_at xs i).slot ≡ place ps (entry_at xs i).slot)) → place (set ps e.slot (Some (length xs))) (entry_at xs i).slot ≡ Some i
-    old was (inl b) = let here : place ps (entry_at xs i).slot ≡ place ps e.slot = ap (place ps) b.0 in cc
-    old was (inr b) = b.1 ∙ was
-  right i (inr a) = ap (λ (x : Entry). place (set ps e.slot (Some (length xs))) x.slot) a.1 ∙ get_or-set_same ps e.slot (Some (length xs)) None l ∙ ap Some (sym a.0)
+  right : (i : ℕ) → ((i < length xs) × (entry_at (xs ++ e ∷ []) i ≡ entry_at xs i)) ⊎ ((i ≡ length xs) × (entry_at (xs ++ e ∷ []) i ≡ e))
+      → place (set ps e.slot (Some (length xs))) (entry_at (xs ++ e ∷ []) i).slot ≡ Some i
+  right i (inl a) = ap (λ (x : Entry). place (set ps e.slot (Some (length xs))) x.slot) a.1
+      ∙ old (h.right i a.0) (get_or-set ps e.slot (entry_at xs i).slot (Some (length xs)) l) where
+        old : place ps (entry_at xs i).slot ≡ Some i
+            → (((entry_at xs i).slot ≡ e.slot) × (place (set ps e.slot (Some (length xs))) (entry_at xs i).slot ≡ Some (length xs))) ⊎
+            (((entry_at xs i).slot ≡ e.slot → ⊥) × (place (set ps e.slot (Some (length xs))) (entry_at xs i).slot ≡ place ps (entry_at xs i).slot))
+            → place (set ps e.slot (Some (length xs))) (entry_at xs i).slot ≡ Some i
+        old was (inl b) = let here : place ps (entry_at xs i).slot ≡ place ps e.slot = ap (place ps) b.0 in cc
+        old was (inr b) = b.1 ∙ was
+  right i (inr a) = ap (λ (x : Entry). place (set ps e.slot (Some (length xs))) x.slot) a.1 ∙ get_or-set_same ps e.slot (Some (length xs)) None l
+      ∙ ap Some (sym a.0)
 
-  only : (s i : ℕ) → ((s ≡ e.slot) × (place (set ps e.slot (Some (length xs))) s ≡ Some (length xs))) ⊎ ((s ≡ e.slot → ⊥) × (place (set ps e.slot (Some (length xs))) s ≡ place ps s)) → place (set ps e.slot (Some (length xs))) s ≡ Some i → (i < length (xs ++ e ∷ [])) × ((entry_at (xs ++ e ∷ []) i).slot ≡ s)
+  only : (s i : ℕ) → ((s ≡ e.slot) × (place (set ps e.slot (Some (length xs))) s ≡ Some (length xs))) ⊎
+      ((s ≡ e.slot → ⊥) × (place (set ps e.slot (Some (length xs))) s ≡ place ps s)) → place (set ps e.slot (Some (length xs))) s ≡ Some i
+      → (i < length (xs ++ e ∷ [])) × ((entry_at (xs ++ e ∷ []) i).slot ≡ s)
   only s i (inl a) b =
       let is : i ≡ length xs = cc in
       let one_more = length_push xs e in
       let last = at_push xs e i (omega arith) in
       (omega arith, at last is) where
-        at : ((i < length xs) × (entry_at (xs ++ e ∷ []) i ≡ entry_at xs i)) ⊎ ((i ≡ length xs) × (entry_at (xs ++ e ∷ []) i ≡ e)) → i ≡ length xs → (entry_at (xs ++ e ∷ []) i).slot ≡ s
+        at : ((i < length xs) × (entry_at (xs ++ e ∷ []) i ≡ entry_at xs i)) ⊎ ((i ≡ length xs) × (entry_at (xs ++ e ∷ []) i ≡ e)) → i ≡ length xs
+            → (entry_at (xs ++ e ∷ []) i).slot ≡ s
         at (inl x) is = absurd (omega (arith, x.0))
         at (inr x) is = ap (λ (y : Entry). y.slot) x.1 ∙ sym a.0
   only s i (inr a) b =
@@ -72,12 +87,14 @@ places_pushed xs ps memory e h l absent = record {
       let one_more = length_push xs e in
       let there = at_push xs e i (omega arith) in
       (omega arith, at there was) where
-        at : ((i < length xs) × (entry_at (xs ++ e ∷ []) i ≡ entry_at xs i)) ⊎ ((i ≡ length xs) × (entry_at (xs ++ e ∷ []) i ≡ e)) → (i < length xs) × ((entry_at xs i).slot ≡ s) → (entry_at (xs ++ e ∷ []) i).slot ≡ s
+        at : ((i < length xs) × (entry_at (xs ++ e ∷ []) i ≡ entry_at xs i)) ⊎ ((i ≡ length xs) × (entry_at (xs ++ e ∷ []) i ≡ e))
+            → (i < length xs) × ((entry_at xs i).slot ≡ s) → (entry_at (xs ++ e ∷ []) i).slot ≡ s
         at (inl x) was = ap (λ (y : Entry). y.slot) x.1 ∙ was.1
         at (inr x) was = absurd (omega (arith, x.0, was.0))
 
 -- the last entry goes
-pub places_popped : (xs : List Entry) (ps : List (Option ℕ)) (memory : ℕ) (e : Entry) → ArePlaces (xs ++ e ∷ []) ps memory → ArePlaces xs (set ps e.slot None) memory
+pub places_popped : (xs : List Entry) (ps : List (Option ℕ)) (memory : ℕ) (e : Entry) → ArePlaces (xs ++ e ∷ []) ps memory
+    → ArePlaces xs (set ps e.slot None) memory
 places_popped xs ps memory e h =
     let n = length_push xs e in
     let last : (entry_at (xs ++ e ∷ []) (length xs)).slot ≡ e.slot = ap (λ (x : Entry). x.slot) (get_or_push xs e no_entry (length xs) refl) in
@@ -88,7 +105,8 @@ places_popped xs ps memory e h =
       right = λ i p. right i p placed (ap (place ps) (same i p) ∙ h.right i (omega arith)) (get_or-set ps e.slot (entry_at xs i).slot None there);
       only = λ s i. only s i last (get_or-set ps e.slot s None there);
       counted =
-          let less : count_by is_some (set ps e.slot None) + 1 ≡ count_by is_some ps + 0 = count_by-set ps e.slot None (Some (length xs)) there placed in
+          let less : count_by is_some (set ps e.slot None) + 1 ≡ count_by is_some ps + 0 = count_by-set ps e.slot None
+          (Some (length xs)) there placed in
           omega (arith, less, h.counted);
       fits = omega (arith, length-set ps e.slot None, h.fits);
       narrow = omega (arith, length-set ps e.slot None, h.narrow);
@@ -97,20 +115,26 @@ places_popped xs ps memory e h =
     same : (i : ℕ) → i < length xs → (entry_at xs i).slot ≡ (entry_at (xs ++ e ∷ []) i).slot
     same i p = ap (λ (x : Entry). x.slot) (sym (get_or_append_left xs (e ∷ []) no_entry i p))
 
-    right : (i : ℕ) → i < length xs → place ps e.slot ≡ Some (length xs) → place ps (entry_at xs i).slot ≡ Some i → (((entry_at xs i).slot ≡ e.slot) × (place (set ps e.slot None) (entry_at xs i).slot ≡ None)) ⊎ (((entry_at xs i).slot ≡ e.slot → ⊥) × (place (set ps e.slot None) (entry_at xs i).slot ≡ place ps (entry_at xs i).slot)) → place (set ps e.slot None) (entry_at xs i).slot ≡ Some i
+    right : (i : ℕ) → i < length xs → place ps e.slot ≡ Some (length xs) → place ps (entry_at xs i).slot ≡ Some i
+        → (((entry_at xs i).slot ≡ e.slot) × (place (set ps e.slot None) (entry_at xs i).slot ≡ None)) ⊎
+        (((entry_at xs i).slot ≡ e.slot → ⊥) × (place (set ps e.slot None) (entry_at xs i).slot ≡ place ps (entry_at xs i).slot))
+        → place (set ps e.slot None) (entry_at xs i).slot ≡ Some i
     right i p placed was (inl b) =
         let here : place ps (entry_at xs i).slot ≡ place ps e.slot = ap (place ps) b.0 in
         let is : i ≡ length xs = cc in
         absurd (omega arith)
     right i p placed was (inr b) = b.1 ∙ was
 
-    only : (s i : ℕ) → (entry_at (xs ++ e ∷ []) (length xs)).slot ≡ e.slot → ((s ≡ e.slot) × (place (set ps e.slot None) s ≡ None)) ⊎ ((s ≡ e.slot → ⊥) × (place (set ps e.slot None) s ≡ place ps s)) → place (set ps e.slot None) s ≡ Some i → (i < length xs) × ((entry_at xs i).slot ≡ s)
+    only : (s i : ℕ) → (entry_at (xs ++ e ∷ []) (length xs)).slot ≡ e.slot
+        → ((s ≡ e.slot) × (place (set ps e.slot None) s ≡ None)) ⊎ ((s ≡ e.slot → ⊥) × (place (set ps e.slot None) s ≡ place ps s))
+        → place (set ps e.slot None) s ≡ Some i → (i < length xs) × ((entry_at xs i).slot ≡ s)
     only s i last (inl a) b = let no : None ≡ Some i = sym a.1 ∙ b in cc
     only s i last (inr a) b =
         let was = h.only s i (sym a.1 ∙ b) in
         let n = length_push xs e in
         at (cases_eq i (length xs)) was (omega (arith, was.0)) where
-          at : (i ≡ length xs) ⊎ (i ≡ length xs → ⊥) → (i < length (xs ++ e ∷ [])) × ((entry_at (xs ++ e ∷ []) i).slot ≡ s) → i < length xs + 1 → (i < length xs) × ((entry_at xs i).slot ≡ s)
+          at : (i ≡ length xs) ⊎ (i ≡ length xs → ⊥) → (i < length (xs ++ e ∷ [])) × ((entry_at (xs ++ e ∷ []) i).slot ≡ s) → i < length xs + 1
+              → (i < length xs) × ((entry_at xs i).slot ≡ s)
           at (inl is) was l = absurd (a.0 (sym was.1 ∙ ap (λ (k : ℕ). (entry_at (xs ++ e ∷ []) k).slot) is ∙ last))
           at (inr is) was l = (omega arith, same i (omega arith) ∙ was.1)
 
@@ -128,13 +152,17 @@ written : (ps : List (Option ℕ)) (first second a b t : ℕ) → first < length
 written ps first second a b t p q =
     let width = length-set ps second (Some a) in
     at (get_or-set (set ps second (Some a)) first t (Some b) (omega arith)) (get_or-set ps second t (Some a) q) where
-      at : ((t ≡ first) × (place (both ps first second a b) t ≡ Some b)) ⊎ ((t ≡ first → ⊥) × (place (both ps first second a b) t ≡ place (set ps second (Some a)) t)) → ((t ≡ second) × (place (set ps second (Some a)) t ≡ Some a)) ⊎ ((t ≡ second → ⊥) × (place (set ps second (Some a)) t ≡ place ps t)) → Written ps first second a b t
+      at : ((t ≡ first) × (place (both ps first second a b) t ≡ Some b)) ⊎
+          ((t ≡ first → ⊥) × (place (both ps first second a b) t ≡ place (set ps second (Some a)) t))
+          → ((t ≡ second) × (place (set ps second (Some a)) t ≡ Some a)) ⊎ ((t ≡ second → ⊥) × (place (set ps second (Some a)) t ≡ place ps t))
+          → Written ps first second a b t
       at (inl e) _ = at_first e.0 e.1
       at (inr e) (inl f) = at_second f.0 (e.1 ∙ f.1)
       at (inr e) (inr f) = elsewhere e.0 f.0 (e.1 ∙ f.1)
 
 -- two entries change places
-pub places_swapped : (xs : List Entry) (ps : List (Option ℕ)) (memory a b : ℕ) → a < length xs → b < length xs → ArePlaces xs ps memory → ArePlaces (swap xs a b) (both ps (entry_at xs a).slot (entry_at xs b).slot a b) memory
+pub places_swapped : (xs : List Entry) (ps : List (Option ℕ)) (memory a b : ℕ) → a < length xs → b < length xs → ArePlaces xs ps memory
+    → ArePlaces (swap xs a b) (both ps (entry_at xs a).slot (entry_at xs b).slot a b) memory
 places_swapped xs ps memory a b p q h =
     let s = swapped_at xs a b p q in
     let long = length-swap xs a b in
@@ -147,25 +175,34 @@ places_swapped xs ps memory a b p q h =
       right = λ i l. right i s (omega arith) (cases_eq i a) (cases_eq i b);
       only = λ t i e. only t i s long (written ps (entry_at xs a).slot (entry_at xs b).slot a b t known_a known_b) e;
       counted =
-          let once : count_by is_some (set ps (entry_at xs b).slot (Some a)) + 1 ≡ count_by is_some ps + 1 = count_by-set ps (entry_at xs b).slot (Some a) (Some b) known_b (h.right b q) in
-          let twice : count_by is_some (both ps (entry_at xs a).slot (entry_at xs b).slot a b) + 1 ≡ count_by is_some (set ps (entry_at xs b).slot (Some a)) + 1 =
-          count_by-set (set ps (entry_at xs b).slot (Some a)) (entry_at xs a).slot (Some b) (Some a) (omega arith) (had (get_or-set ps (entry_at xs b).slot (entry_at xs a).slot (Some a) known_b)) in
+          let once : count_by is_some (set ps (entry_at xs b).slot (Some a)) + 1 ≡ count_by is_some ps + 1 = count_by-set ps (entry_at xs b).slot
+          (Some a) (Some b) known_b (h.right b q) in
+          let twice : count_by is_some (both ps (entry_at xs a).slot (entry_at xs b).slot a b) + 1 ≡ count_by is_some
+          (set ps (entry_at xs b).slot (Some a)) + 1 =
+          count_by-set (set ps (entry_at xs b).slot (Some a)) (entry_at xs a).slot (Some b) (Some a) (omega arith)
+          (had (get_or-set ps (entry_at xs b).slot (entry_at xs a).slot (Some a) known_b)) in
           omega (arith, once, twice, h.counted);
       fits = omega (arith, h.fits);
       narrow = omega (arith, h.narrow);
     }
   where
-    had : (((entry_at xs a).slot ≡ (entry_at xs b).slot) × (place (set ps (entry_at xs b).slot (Some a)) (entry_at xs a).slot ≡ Some a)) ⊎ (((entry_at xs a).slot ≡ (entry_at xs b).slot → ⊥) × (place (set ps (entry_at xs b).slot (Some a)) (entry_at xs a).slot ≡ place ps (entry_at xs a).slot)) → place (set ps (entry_at xs b).slot (Some a)) (entry_at xs a).slot ≡ Some a
+    had : (((entry_at xs a).slot ≡ (entry_at xs b).slot) × (place (set ps (entry_at xs b).slot (Some a)) (entry_at xs a).slot ≡ Some a)) ⊎
+        (((entry_at xs a).slot ≡ (entry_at xs b).slot → ⊥)
+        × (place (set ps (entry_at xs b).slot (Some a)) (entry_at xs a).slot ≡ place ps (entry_at xs a).slot))
+        → place (set ps (entry_at xs b).slot (Some a)) (entry_at xs a).slot ≡ Some a
     had (inl e) = e.1
     had (inr e) = e.1 ∙ h.right a p
 
-    known : (i : ℕ) → Swapped (λ k. entry_at xs k) (λ k. entry_at (swap xs a b) k) a b → i < length xs → (i ≡ a) ⊎ (i ≡ a → ⊥) → (i ≡ b) ⊎ (i ≡ b → ⊥) → (entry_at (swap xs a b) i).slot < length ps
+    known : (i : ℕ) → Swapped (λ k. entry_at xs k) (λ k. entry_at (swap xs a b) k) a b → i < length xs → (i ≡ a) ⊎ (i ≡ a → ⊥) → (i ≡ b) ⊎ (i ≡ b → ⊥)
+        → (entry_at (swap xs a b) i).slot < length ps
     known i s l (inl e) f = omega (arith, ap (λ (k : ℕ). (entry_at (swap xs a b) k).slot) e, ap (λ (x : Entry). x.slot) s.0, h.known b q)
     known i s l (inr e) (inl f) = omega (arith, ap (λ (k : ℕ). (entry_at (swap xs a b) k).slot) f, ap (λ (x : Entry). x.slot) s.1, h.known a p)
     known i s l (inr e) (inr f) = omega (arith, ap (λ (x : Entry). x.slot) (s.2 i e f), h.known i l)
 
     -- the place of the slot of the entry at j of the old array
-    now_at : (i j : ℕ) → j < length xs → Some i ≡ Some i → ((j ≡ a → i ≡ b) × (j ≡ b → i ≡ a)) × ((j ≡ a → ⊥) → (j ≡ b → ⊥) → i ≡ j) → Written ps (entry_at xs a).slot (entry_at xs b).slot a b (entry_at xs j).slot → place (both ps (entry_at xs a).slot (entry_at xs b).slot a b) (entry_at xs j).slot ≡ Some i
+    now_at : (i j : ℕ) → j < length xs → Some i ≡ Some i → ((j ≡ a → i ≡ b) × (j ≡ b → i ≡ a)) × ((j ≡ a → ⊥) → (j ≡ b → ⊥) → i ≡ j)
+        → Written ps (entry_at xs a).slot (entry_at xs b).slot a b (entry_at xs j).slot
+        → place (both ps (entry_at xs a).slot (entry_at xs b).slot a b) (entry_at xs j).slot ≡ Some i
     now_at i j l _ r (at_first e w) =
         let is : Some j ≡ Some a = sym (h.right j l) ∙ ap (place ps) e ∙ h.right a p in
         let here : j ≡ a = cc in
@@ -177,18 +214,24 @@ places_swapped xs ps memory a b p q h =
     now_at i j l _ r (elsewhere e f w) =
         w ∙ h.right j l ∙ ap Some (sym (r.1 (λ g. e (ap (λ (k : ℕ). (entry_at xs k).slot) g)) (λ g. f (ap (λ (k : ℕ). (entry_at xs k).slot) g))))
 
-    right : (i : ℕ) → Swapped (λ k. entry_at xs k) (λ k. entry_at (swap xs a b) k) a b → i < length xs → (i ≡ a) ⊎ (i ≡ a → ⊥) → (i ≡ b) ⊎ (i ≡ b → ⊥) → place (both ps (entry_at xs a).slot (entry_at xs b).slot a b) (entry_at (swap xs a b) i).slot ≡ Some i
+    right : (i : ℕ) → Swapped (λ k. entry_at xs k) (λ k. entry_at (swap xs a b) k) a b → i < length xs → (i ≡ a) ⊎ (i ≡ a → ⊥) → (i ≡ b) ⊎ (i ≡ b → ⊥)
+        → place (both ps (entry_at xs a).slot (entry_at xs b).slot a b) (entry_at (swap xs a b) i).slot ≡ Some i
     right i s l (inl e) f =
         ap (λ (x : Entry). place (both ps (entry_at xs a).slot (entry_at xs b).slot a b) x.slot) (ap (entry_at (swap xs a b)) e ∙ s.0)
-        ∙ now_at i b q refl ((λ g. e ∙ sym g, λ _. e), λ _ g. absurd (g refl)) (written ps (entry_at xs a).slot (entry_at xs b).slot a b (entry_at xs b).slot (h.known a p) (h.known b q))
+        ∙ now_at i b q refl ((λ g. e ∙ sym g, λ _. e), λ _ g. absurd (g refl))
+        (written ps (entry_at xs a).slot (entry_at xs b).slot a b (entry_at xs b).slot (h.known a p) (h.known b q))
     right i s l (inr e) (inl f) =
         ap (λ (x : Entry). place (both ps (entry_at xs a).slot (entry_at xs b).slot a b) x.slot) (ap (entry_at (swap xs a b)) f ∙ s.1)
-        ∙ now_at i a p refl ((λ _. f, λ g. f ∙ sym g), λ g _. absurd (g refl)) (written ps (entry_at xs a).slot (entry_at xs b).slot a b (entry_at xs a).slot (h.known a p) (h.known b q))
+        ∙ now_at i a p refl ((λ _. f, λ g. f ∙ sym g), λ g _. absurd (g refl))
+        (written ps (entry_at xs a).slot (entry_at xs b).slot a b (entry_at xs a).slot (h.known a p) (h.known b q))
     right i s l (inr e) (inr f) =
         ap (λ (x : Entry). place (both ps (entry_at xs a).slot (entry_at xs b).slot a b) x.slot) (s.2 i e f)
-        ∙ now_at i i l refl ((λ g. absurd (e g), λ g. absurd (f g)), λ _ _. refl) (written ps (entry_at xs a).slot (entry_at xs b).slot a b (entry_at xs i).slot (h.known a p) (h.known b q))
+        ∙ now_at i i l refl ((λ g. absurd (e g), λ g. absurd (f g)), λ _ _. refl)
+        (written ps (entry_at xs a).slot (entry_at xs b).slot a b (entry_at xs i).slot (h.known a p) (h.known b q))
 
-    only : (t i : ℕ) → Swapped (λ k. entry_at xs k) (λ k. entry_at (swap xs a b) k) a b → length (swap xs a b) ≡ length xs → Written ps (entry_at xs a).slot (entry_at xs b).slot a b t → place (both ps (entry_at xs a).slot (entry_at xs b).slot a b) t ≡ Some i → (i < length (swap xs a b)) × ((entry_at (swap xs a b) i).slot ≡ t)
+    only : (t i : ℕ) → Swapped (λ k. entry_at xs k) (λ k. entry_at (swap xs a b) k) a b → length (swap xs a b) ≡ length xs
+        → Written ps (entry_at xs a).slot (entry_at xs b).slot a b t → place (both ps (entry_at xs a).slot (entry_at xs b).slot a b) t ≡ Some i
+        → (i < length (swap xs a b)) × ((entry_at (swap xs a b) i).slot ≡ t)
     only t i s n (at_first e w) r =
         let is : i ≡ b = cc in
         (omega arith, ap (λ (x : Entry). x.slot) (ap (entry_at (swap xs a b)) is ∙ s.1) ∙ sym e)
@@ -196,8 +239,12 @@ places_swapped xs ps memory a b p q h =
         let is : i ≡ a = cc in
         (omega arith, ap (λ (x : Entry). x.slot) (ap (entry_at (swap xs a b)) is ∙ s.0) ∙ sym e)
     only t i s n (elsewhere e f w) r =
-        let was = h.only t i (sym w ∙ r) in
-        (omega (arith, was.0), ap (λ (x : Entry). x.slot) (s.2 i (λ g. e (sym was.1 ∙ ap (λ (k : ℕ). (entry_at xs k).slot) g)) (λ g. f (sym was.1 ∙ ap (λ (k : ℕ). (entry_at xs k).slot) g))) ∙ was.1)
+        let was = h.only t i (sym w ∙ r) in (
+          omega (arith, was.0),
+          ap (λ (x : Entry). x.slot)
+              (s.2 i (λ g. e (sym was.1 ∙ ap (λ (k : ℕ). (entry_at xs k).slot) g)) (λ g. f (sym was.1 ∙ ap (λ (k : ℕ). (entry_at xs k).slot) g)))
+              ∙ was.1,
+        )
 
 -- what the places say is where the array has the slot
 pub place_in_is : (xs : List Entry) (ps : List (Option ℕ)) (memory s : ℕ) → ArePlaces xs ps memory → place_in xs s ≡ place ps s
@@ -207,12 +254,14 @@ place_in_is xs ps memory s h = at (place ps s) refl where
 
   at : (o : Option ℕ) → place ps s ≡ o → place_in xs s ≡ o
   at None e =
-      found (length xs) (position_or_len_is (λ (x : Entry). eqb x.slot s) xs (length xs) no_entry (omega arith) (λ k l. ne_eqb _ _ (λ g. let no : Some k ≡ None = sym (h.right k l) ∙ ap (place ps) g ∙ e in cc)) (λ l. absurd (omega arith)))
+      found (length xs) (position_or_len_is (λ (x : Entry). eqb x.slot s) xs (length xs) no_entry (omega arith)
+      (λ k l. ne_eqb _ _ (λ g. let no : Some k ≡ None = sym (h.right k l) ∙ ap (place ps) g ∙ e in cc)) (λ l. absurd (omega arith)))
       ∙ ap (λ (b : Bool). cond b (Some (length xs)) None) (le-ltb (length xs) (length xs) (omega arith))
   at (Some i) e =
       let was = h.only s i e in
       found i (position_or_len_is (λ (x : Entry). eqb x.slot s) xs i no_entry (omega (arith, was.0))
-      (λ k l. ne_eqb _ _ (λ g. let no : Some k ≡ Some i = sym (h.right k (omega (arith, was.0))) ∙ ap (place ps) g ∙ e in let is : k ≡ i = cc in absurd (omega arith))) (λ l. eq-eqb _ _ was.1))
+      (λ k l. ne_eqb _ _ (λ g. let no : Some k ≡ Some i = sym (h.right k (omega (arith, was.0))) ∙ ap (place ps) g
+      ∙ e in let is : k ≡ i = cc in absurd (omega arith))) (λ l. eq-eqb _ _ was.1))
       ∙ ap (λ (b : Bool). cond b (Some i) None) (lt-ltb i (length xs) was.0)
 
 none_there : (n k : ℕ) → place (replicate n None) k ≡ None
@@ -225,7 +274,8 @@ none_counted zero = refl
 none_counted (suc n) = sum_by-cons one None (replicate n None) ∙ ap (λ k. 0 + k) (none_counted n)
 
 -- more slots, with no place
-pub places_grown : (xs : List Entry) (ps : List (Option ℕ)) (memory more n k : ℕ) → ArePlaces xs ps memory → length ps ≤ k → length ps + n ≤ more → length ps + n ≤ 2 ^ 32
+pub places_grown : (xs : List Entry) (ps : List (Option ℕ)) (memory more n k : ℕ) → ArePlaces xs ps memory → length ps ≤ k → length ps + n ≤ more
+    → length ps + n ≤ 2 ^ 32
     → ArePlaces xs (take k ps ++ replicate n None) more
 places_grown xs ps memory more n k h enough fits narrow = rw (take_all k ps enough) (record {
   known = λ i l. omega (arith, h.known i l, long);
@@ -251,10 +301,12 @@ places_kept xs ps memory more h l =
     record { known = h.known; right = h.right; only = h.only; counted = h.counted; fits = omega (arith, h.fits); narrow = h.narrow }
 
 -- a stored place is one of the array, and has the slot
-pub stored_within : (xs : List Entry) (ps : List (Option ℕ)) (memory s : ℕ) (o : Option ℕ) → ArePlaces xs ps memory → o ≡ place ps s → IfSome o (λ i. i < length xs)
+pub stored_within : (xs : List Entry) (ps : List (Option ℕ)) (memory s : ℕ) (o : Option ℕ) → ArePlaces xs ps memory → o ≡ place ps s
+    → IfSome o (λ i. i < length xs)
 stored_within xs ps memory s None h e = tt
 stored_within xs ps memory s (Some i) h e = (h.only s i (sym e)).0
 
-pub stored_slot : (xs : List Entry) (ps : List (Option ℕ)) (memory s : ℕ) (o : Option ℕ) → ArePlaces xs ps memory → o ≡ place ps s → IfSome o (λ i. (entry_at xs i).slot ≡ s)
+pub stored_slot : (xs : List Entry) (ps : List (Option ℕ)) (memory s : ℕ) (o : Option ℕ) → ArePlaces xs ps memory → o ≡ place ps s
+    → IfSome o (λ i. (entry_at xs i).slot ≡ s)
 stored_slot xs ps memory s None h e = tt
 stored_slot xs ps memory s (Some i) h e = (h.only s i (sym e)).1

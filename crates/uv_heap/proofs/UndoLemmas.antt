@@ -22,7 +22,8 @@ swap_comm xs a b p q =
     let t = swapped_at xs b a q p in
     ext_get_or no_entry (swap xs a b) (swap xs b a) (n ∙ sym m) (λ i _. at i s t (cases_eq i a) (cases_eq i b))
   where
-    at : (i : ℕ) → Swapped (λ k. entry_at xs k) (λ k. entry_at (swap xs a b) k) a b → Swapped (λ k. entry_at xs k) (λ k. entry_at (swap xs b a) k) b a → (i ≡ a) ⊎ (i ≡ a → ⊥) → (i ≡ b) ⊎ (i ≡ b → ⊥) → entry_at (swap xs a b) i ≡ entry_at (swap xs b a) i
+    at : (i : ℕ) → Swapped (λ k. entry_at xs k) (λ k. entry_at (swap xs a b) k) a b → Swapped (λ k. entry_at xs k) (λ k. entry_at (swap xs b a) k) b a
+        → (i ≡ a) ⊎ (i ≡ a → ⊥) → (i ≡ b) ⊎ (i ≡ b → ⊥) → entry_at (swap xs a b) i ≡ entry_at (swap xs b a) i
     at i s t (inl e) f = ap (entry_at (swap xs a b)) e ∙ s.0 ∙ sym t.1 ∙ ap (entry_at (swap xs b a)) (sym e)
     at i s t (inr e) (inl f) = ap (entry_at (swap xs a b)) f ∙ s.1 ∙ sym t.0 ∙ ap (entry_at (swap xs b a)) (sym f)
     at i s t (inr e) (inr f) = s.2 i e f ∙ sym (t.2 i f e)
@@ -43,7 +44,8 @@ push_undone-pushed xs e =
     let long = length-pushed xs e in
     let last : length (pushed xs e).array - 1 ≡ length xs = omega arith in
     ap (λ (k : ℕ). take k (lowered k (pushed xs e).array (pushed xs e).place k)) last
-    ∙ ap (λ (ys : List Entry). take (length xs) (lowered (length xs) ys (pushed xs e).place (length xs))) (sym (MoveLemmas.raised-moved_up (length xs) (xs ++ e ∷ []) (length xs)))
+    ∙ ap (λ (ys : List Entry). take (length xs) (lowered (length xs) ys (pushed xs e).place (length xs)))
+    (sym (MoveLemmas.raised-moved_up (length xs) (xs ++ e ∷ []) (length xs)))
     ∙ ap (take (length xs)) (MoveLemmas.lowered-raised (length xs) (xs ++ e ∷ []) (length xs) (pushed xs e).place (omega arith))
     ∙ take_at xs (e ∷ []) (length xs) refl
 
@@ -56,9 +58,12 @@ returned-settled xs i l = MoveLemmas.if_when (λ (m : Moved). returned m.array m
     MoveLemmas.if_true _ _ _ (le-leb _ i above)
     ∙ ap (λ (ys : List Entry). lowered i ys (moved_up i xs i).place i) (sym (MoveLemmas.raised-moved_up i xs i))
     ∙ MoveLemmas.lowered-raised i xs i (moved_up i xs i).place l)
-    (λ _. down (cases_lt i (moved_down (length xs) xs i).place) (MoveLemmas.raised-moved_down (length xs) xs i i (omega arith) l ∙ MoveLemmas.raised_end xs i i (omega arith)))
+    (λ _. down (cases_lt i (moved_down (length xs) xs i).place)
+    (MoveLemmas.raised-moved_down (length xs) xs i i (omega arith) l ∙ MoveLemmas.raised_end xs i i (omega arith)))
   where
-    down : (i < (moved_down (length xs) xs i).place) ⊎ ((moved_down (length xs) xs i).place ≤ i) → raised (moved_down (length xs) xs i).place (moved_down (length xs) xs i).array (moved_down (length xs) xs i).place i ≡ xs → returned (moved_down (length xs) xs i).array (moved_down (length xs) xs i).place i ≡ xs
+    down : (i < (moved_down (length xs) xs i).place) ⊎ ((moved_down (length xs) xs i).place ≤ i)
+        → raised (moved_down (length xs) xs i).place (moved_down (length xs) xs i).array (moved_down (length xs) xs i).place i ≡ xs
+        → returned (moved_down (length xs) xs i).array (moved_down (length xs) xs i).place i ≡ xs
     down (inl under) back = MoveLemmas.if_false _ _ _ (lt-leb _ i under) ∙ back
     down (inr here) back =
         let within = (MoveLemmas.moved_down_within (length xs) xs i l).0 in
@@ -103,13 +108,15 @@ place-removed xs i l = MoveLemmas.if_when (λ (m : Moved). m.place + 1 < length 
     (λ _. l)
     (λ _. let short = length-put xs i in omega (arith, MoveLemmas.settled_within (put xs i) i (omega arith), short))
 
-pub removal_undone-removed : (xs : List Entry) (undo : RemoveUndo) → undo.place < length xs → undo.rest ≡ (removed xs undo.place).place → undo.entry ≡ entry_at xs undo.place → removal_undone (removed xs undo.place).array undo ≡ xs
+pub removal_undone-removed : (xs : List Entry) (undo : RemoveUndo) → undo.place < length xs → undo.rest ≡ (removed xs undo.place).place
+    → undo.entry ≡ entry_at xs undo.place → removal_undone (removed xs undo.place).array undo ≡ xs
 unfolding removed removal_undone
 removal_undone-removed xs undo l rest entry = at (cases_eq undo.place (length xs - 1)) where
   at : (undo.place ≡ length xs - 1) ⊎ (undo.place ≡ length xs - 1 → ⊥) → removal_undone (removed xs undo.place).array undo ≡ xs
   at (inl e) =
       let short = length-take-le (length xs - 1) xs (omega arith) in
-      let is : (removed xs undo.place).array ≡ take (length xs - 1) xs = ap (λ (m : Moved). m.array) (MoveLemmas.if_true _ _ _ (eq-eqb undo.place (length xs - 1) e)) in
+      let is : (removed xs undo.place).array ≡ take (length xs - 1) xs = ap (λ (m : Moved). m.array)
+      (MoveLemmas.if_true _ _ _ (eq-eqb undo.place (length xs - 1) e)) in
       ap (λ (ys : List Entry). removal_undone ys undo) is
       ∙ MoveLemmas.if_true _ _ _ (eq-eqb undo.place (length (take (length xs - 1) xs)) (omega arith))
       ∙ ap (λ (x : Entry). take (length xs - 1) xs ++ x ∷ []) (entry ∙ ap (entry_at xs) e)
@@ -119,7 +126,8 @@ removal_undone-removed xs undo l rest entry = at (cases_eq undo.place (length xs
       let short = length-put xs undo.place in
       let long = MoveLemmas.length-settled (put xs undo.place) undo.place in
       let back : returned (settled (put xs undo.place) undo.place).array undo.rest undo.place ≡ put xs undo.place =
-      ap (λ (k : ℕ). returned (settled (put xs undo.place) undo.place).array k undo.place) (rest ∙ ap (λ (m : Moved). m.place) moved) ∙ returned-settled (put xs undo.place) undo.place (omega arith) in
+      ap (λ (k : ℕ). returned (settled (put xs undo.place) undo.place).array k undo.place) (rest ∙ ap (λ (m : Moved). m.place) moved)
+      ∙ returned-settled (put xs undo.place) undo.place (omega arith) in
       ap (λ (m : Moved). removal_undone m.array undo) moved
       ∙ MoveLemmas.if_false _ _ _ (ne_eqb undo.place (length (settled (put xs undo.place) undo.place).array) (λ g. f (omega arith)))
       ∙ ap (λ (ys : List Entry). set ys undo.place undo.entry ++ entry_at ys undo.place ∷ []) back
@@ -133,7 +141,8 @@ pub record Avoids (xs : List Entry) (slot : ℕ) : Type 0 where
 
 pub avoids_from : (xs : List Entry) (slot : ℕ) → place_in xs slot ≡ None → Avoids xs slot
 avoids_from xs slot e = record { none = λ k l f. at (cases_lt (position_or_len (λ (x : Entry). eqb x.slot slot) xs) (length xs)) k l f } where
-  at : (position_or_len (λ (x : Entry). eqb x.slot slot) xs < length xs) ⊎ (length xs ≤ position_or_len (λ (x : Entry). eqb x.slot slot) xs) → (k : ℕ) → k < length xs → (entry_at xs k).slot ≡ slot → ⊥
+  at : (position_or_len (λ (x : Entry). eqb x.slot slot) xs < length xs) ⊎ (length xs ≤ position_or_len (λ (x : Entry). eqb x.slot slot) xs) → (k : ℕ)
+      → k < length xs → (entry_at xs k).slot ≡ slot → ⊥
   at (inl p) k l f =
       let there : place_in xs slot ≡ Some (position_or_len (λ (x : Entry). eqb x.slot slot) xs) = MoveLemmas.if_true _ _ _ (lt-ltb _ (length xs) p) in
       let no : Some (position_or_len (λ (x : Entry). eqb x.slot slot) xs) ≡ None = sym there ∙ e in
@@ -143,7 +152,8 @@ avoids_from xs slot e = record { none = λ k l f. at (cases_lt (position_or_len 
 pub avoids_is : (xs : List Entry) (slot : ℕ) → Avoids xs slot → place_in xs slot ≡ None
 avoids_is xs slot h =
     let all : position_or_len (λ (x : Entry). eqb x.slot slot) xs ≡ length xs =
-    position_or_len_is (λ (x : Entry). eqb x.slot slot) xs (length xs) no_entry (omega arith) (λ k l. ne_eqb _ _ (h.none k l)) (λ l. absurd (omega arith)) in
+    position_or_len_is (λ (x : Entry). eqb x.slot slot) xs (length xs) no_entry (omega arith) (λ k l. ne_eqb _ _ (h.none k l))
+    (λ l. absurd (omega arith)) in
     MoveLemmas.if_false _ _ _ (le-ltb _ (length xs) (omega arith))
 
 avoids_swap : (xs : List Entry) (a b slot : ℕ) → a < length xs → b < length xs → Avoids xs slot → Avoids (swap xs a b) slot
@@ -152,7 +162,8 @@ avoids_swap xs a b slot p q h =
     let s = swapped_at xs a b p q in
     record { none = λ k l e. at k s (omega arith) e (cases_eq k a) (cases_eq k b) }
   where
-    at : (k : ℕ) → Swapped (λ j. entry_at xs j) (λ j. entry_at (swap xs a b) j) a b → k < length xs → (entry_at (swap xs a b) k).slot ≡ slot → (k ≡ a) ⊎ (k ≡ a → ⊥) → (k ≡ b) ⊎ (k ≡ b → ⊥) → ⊥
+    at : (k : ℕ) → Swapped (λ j. entry_at xs j) (λ j. entry_at (swap xs a b) j) a b → k < length xs → (entry_at (swap xs a b) k).slot ≡ slot
+        → (k ≡ a) ⊎ (k ≡ a → ⊥) → (k ≡ b) ⊎ (k ≡ b → ⊥) → ⊥
     at k s l e (inl f) g = h.none b q (ap (λ (x : Entry). x.slot) (sym s.0) ∙ ap (λ (j : ℕ). (entry_at (swap xs a b) j).slot) (sym f) ∙ e)
     at k s l e (inr f) (inl g) = h.none a p (ap (λ (x : Entry). x.slot) (sym s.1) ∙ ap (λ (j : ℕ). (entry_at (swap xs a b) j).slot) (sym g) ∙ e)
     at k s l e (inr f) (inr g) = h.none k l (ap (λ (x : Entry). x.slot) (sym (s.2 k f g)) ∙ e)
@@ -162,16 +173,19 @@ unfolding raised
 avoids_raised zero xs from to slot l h = h
 avoids_raised (suc n) xs from to slot l h = MoveLemmas.if_when (λ (ys : List Entry). Avoids ys slot) (ltb to from) _ _
     (λ _. let long = length-swap xs from (parent from) in
-    avoids_raised n (swap xs from (parent from)) (parent from) to slot (omega arith) (avoids_swap xs from (parent from) slot l (omega arith) h)) (λ _. h)
+    avoids_raised n (swap xs from (parent from)) (parent from) to slot (omega arith) (avoids_swap xs from (parent from) slot l (omega arith) h))
+    (λ _. h)
 
 avoids_lowered : (n : ℕ) (xs : List Entry) (from to slot : ℕ) → to < length xs → Avoids xs slot → Avoids (lowered n xs from to) slot
 unfolding lowered
 avoids_lowered zero xs from to slot l h = h
 avoids_lowered (suc n) xs from to slot l h = MoveLemmas.if_when (λ (ys : List Entry). Avoids ys slot) (ltb from to) _ _
     (λ _. let long = MoveLemmas.length-lowered n xs from (parent to) in
-    avoids_swap (lowered n xs from (parent to)) (parent to) to slot (omega arith) (omega arith) (avoids_lowered n xs from (parent to) slot (omega arith) h)) (λ _. h)
+    avoids_swap (lowered n xs from (parent to)) (parent to) to slot (omega arith) (omega arith)
+    (avoids_lowered n xs from (parent to) slot (omega arith) h)) (λ _. h)
 
-pub avoids_returned : (xs : List Entry) (rest place slot : ℕ) → rest < length xs → place < length xs → Avoids xs slot → Avoids (returned xs rest place) slot
+pub avoids_returned : (xs : List Entry) (rest place slot : ℕ) → rest < length xs → place < length xs → Avoids xs slot
+    → Avoids (returned xs rest place) slot
 avoids_returned xs rest place slot l m h = MoveLemmas.if_when (λ (ys : List Entry). Avoids ys slot) (leb rest place) _ _
     (λ _. avoids_lowered place xs rest place slot m h) (λ _. avoids_raised rest xs rest place slot l h)
 
@@ -205,7 +219,8 @@ pub removal_undone_last : (xs : List Entry) (undo : RemoveUndo) → undo.place �
 unfolding removal_undone
 removal_undone_last xs undo e = sym (MoveLemmas.if_true _ _ _ (eq-eqb undo.place (length xs) e))
 
-pub removal_undone_inner : (xs : List Entry) (undo : RemoveUndo) → undo.place < length xs → swap (returned xs undo.rest undo.place ++ undo.entry ∷ []) undo.place (length xs) ≡ removal_undone xs undo
+pub removal_undone_inner : (xs : List Entry) (undo : RemoveUndo) → undo.place < length xs
+    → swap (returned xs undo.rest undo.place ++ undo.entry ∷ []) undo.place (length xs) ≡ removal_undone xs undo
 unfolding removal_undone
 removal_undone_inner xs undo l =
     let long = length-returned xs undo.rest undo.place in
@@ -227,7 +242,8 @@ avoids_moved_down zero xs i slot l h = h
 avoids_moved_down (suc n) xs i slot l h = MoveLemmas.if_when (λ (m : Moved). Avoids m.array slot) (must_sink xs i) _ _
     (λ e. let within = MoveLemmas.child_within xs i e in
     let long = length-swap xs i (lesser_child xs i) in
-    avoids_moved_down n (swap xs i (lesser_child xs i)) (lesser_child xs i) slot (omega arith) (avoids_swap xs i (lesser_child xs i) slot l within h)) (λ _. h)
+    avoids_moved_down n (swap xs i (lesser_child xs i)) (lesser_child xs i) slot (omega arith) (avoids_swap xs i (lesser_child xs i) slot l within h))
+    (λ _. h)
 
 avoids_settled : (xs : List Entry) (i slot : ℕ) → i < length xs → Avoids xs slot → Avoids (settled xs i).array slot
 unfolding settled
@@ -240,11 +256,16 @@ avoids_left xs i n e l differ =
     let long = length-swap xs i n in
     let short = length-take-le n (swap xs i n) (omega arith) in
     let s = swapped_at xs i n (omega arith) (omega arith) in
-    record { none = λ k m f. at k s (omega arith) (ap (λ (x : Entry). x.slot) (sym (get_or-take n (swap xs i n) k no_entry (omega arith))) ∙ f) (cases_eq k i) }
+    record {
+      none = λ k m f. at k s (omega arith) (ap (λ (x : Entry). x.slot) (sym (get_or-take n (swap xs i n) k no_entry (omega arith))) ∙ f)
+          (cases_eq k i);
+    }
   where
-    at : (k : ℕ) → Swapped (λ j. entry_at xs j) (λ j. entry_at (swap xs i n) j) i n → k < n → (entry_at (swap xs i n) k).slot ≡ (entry_at xs i).slot → (k ≡ i) ⊎ (k ≡ i → ⊥) → ⊥
+    at : (k : ℕ) → Swapped (λ j. entry_at xs j) (λ j. entry_at (swap xs i n) j) i n → k < n → (entry_at (swap xs i n) k).slot ≡ (entry_at xs i).slot
+        → (k ≡ i) ⊎ (k ≡ i → ⊥) → ⊥
     at k s m f (inl g) =
-        let same = differ n i (omega arith) (omega arith) (ap (λ (x : Entry). x.slot) (sym s.0) ∙ ap (λ (j : ℕ). (entry_at (swap xs i n) j).slot) (sym g) ∙ f) in
+        let same = differ n i (omega arith) (omega arith)
+        (ap (λ (x : Entry). x.slot) (sym s.0) ∙ ap (λ (j : ℕ). (entry_at (swap xs i n) j).slot) (sym g) ∙ f) in
         omega arith
     at k s m f (inr g) = g (differ k i (omega arith) (omega arith) (ap (λ (x : Entry). x.slot) (sym (s.2 k g (omega arith))) ∙ f))
 
@@ -257,4 +278,5 @@ avoids_removed xs i l differ = at (cases_eq i (length xs - 1)) where
       let long = length-swap xs i (length xs - 1) in
       let short = length-take-le (length xs - 1) (swap xs i (length xs - 1)) (omega arith) in
       rw (← removed_inner xs i (length xs - 1) n (omega arith))
-      (avoids_settled (take (length xs - 1) (swap xs i (length xs - 1))) i (entry_at xs i).slot (omega arith) (avoids_left xs i (length xs - 1) n (omega arith) differ))
+      (avoids_settled (take (length xs - 1) (swap xs i (length xs - 1))) i (entry_at xs i).slot (omega arith)
+      (avoids_left xs i (length xs - 1) n (omega arith) differ))

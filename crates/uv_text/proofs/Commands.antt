@@ -33,7 +33,8 @@ second : {a b c d : List ℕ} {xs ys : List (List ℕ)} → a ∷ b ∷ xs ≡ c
 second e = cc e
 
 -- ---- a word alone
-none_alone : (word : List ℕ) → bytes_eq word (codes "loop") ≡ false → bytes_eq word (codes "trace") ≡ false → bytes_eq word (codes "quit") ≡ false → IsNoCommand (word ∷ [])
+none_alone : (word : List ℕ) → bytes_eq word (codes "loop") ≡ false → bytes_eq word (codes "trace") ≡ false → bytes_eq word (codes "quit") ≡ false
+    → IsNoCommand (word ∷ [])
 none_alone word a b d c (one_step e) = other _ _ a (first e)
 none_alone word a b d c (steps number n e h l m) = cc e
 none_alone word a b d c (tick number ms e h) = cc e
@@ -52,17 +53,22 @@ alone_tells word =
 -- ---- a word with a number
 none_without : (word argument : List ℕ) → number_of argument ≡ None → IsNoCommand (word ∷ argument ∷ [])
 none_without word argument z c (one_step e) = cc e
-none_without word argument z c (steps number n e h l m) = let same_number : number ≡ argument = sym (second e) in cc (number_of-complete number n h, ap number_of same_number, z)
-none_without word argument z c (tick number ms e h) = let same_number : number ≡ argument = sym (second e) in cc (number_of-complete number ms h, ap number_of same_number, z)
-none_without word argument z c (back number n e h l) = let same_number : number ≡ argument = sym (second e) in cc (number_of-complete number n h, ap number_of same_number, z)
+none_without word argument z c (steps number n e h l m) = let same_number : number ≡ argument = sym (second e) in cc
+    (number_of-complete number n h, ap number_of same_number, z)
+none_without word argument z c (tick number ms e h) = let same_number : number ≡ argument = sym (second e) in cc
+    (number_of-complete number ms h, ap number_of same_number, z)
+none_without word argument z c (back number n e h l) = let same_number : number ≡ argument = sym (second e) in cc
+    (number_of-complete number n h, ap number_of same_number, z)
 none_without word argument z c (trace e) = cc e
 none_without word argument z c (quit e) = cc e
 
 -- the number of a command's argument is the one that was read
 same_value : (number argument : List ℕ) (m n : ℕ) → number ≡ argument → IsNumber number m → IsNumber argument n → m ≡ n
-same_value number argument m n e h k = let x = number_of-complete number m h in let y = number_of-complete argument n k in let z = ap number_of e in cc (x, y, z)
+same_value number argument m n e h k = let x = number_of-complete number m h in let y = number_of-complete argument n k in let z = ap number_of e in
+    cc (x, y, z)
 
-none_loops : (word argument : List ℕ) (n : ℕ) → word ≡ codes "loop" → IsNumber argument n → (nat_le 1 n && nat_le n MOST) ≡ false → IsNoCommand (word ∷ argument ∷ [])
+none_loops : (word argument : List ℕ) (n : ℕ) → word ≡ codes "loop" → IsNumber argument n → (nat_le 1 n && nat_le n MOST) ≡ false
+    → IsNoCommand (word ∷ argument ∷ [])
 none_loops word argument n w k z c (one_step e) = cc e
 none_loops word argument n w k z c (steps number m e h l u) =
     let same_n = same_value number argument m n (sym (second e)) h k in
@@ -76,11 +82,13 @@ none_back : (word argument : List ℕ) (n : ℕ) → word ≡ codes "back" → I
 none_back word argument n w k z c (one_step e) = cc e
 none_back word argument n w k z c (steps number m e h l u) = other (codes "back") (codes "loop") refl (sym w ∙ first e)
 none_back word argument n w k z c (tick number ms e h) = other (codes "back") (codes "tick") refl (sym w ∙ first e)
-none_back word argument n w k z c (back number m e h l) = let same_n = same_value number argument m n (sym (second e)) h k in both_ways _ z (le-leb n MOST (omega arith))
+none_back word argument n w k z c (back number m e h l) = let same_n = same_value number argument m n (sym (second e)) h k in both_ways _ z
+    (le-leb n MOST (omega arith))
 none_back word argument n w k z c (trace e) = cc e
 none_back word argument n w k z c (quit e) = cc e
 
-none_with : (word argument : List ℕ) → bytes_eq word (codes "loop") ≡ false → bytes_eq word (codes "tick") ≡ false → bytes_eq word (codes "back") ≡ false → IsNoCommand (word ∷ argument ∷ [])
+none_with : (word argument : List ℕ) → bytes_eq word (codes "loop") ≡ false → bytes_eq word (codes "tick") ≡ false
+    → bytes_eq word (codes "back") ≡ false → IsNoCommand (word ∷ argument ∷ [])
 none_with word argument a b d c (one_step e) = cc e
 none_with word argument a b d c (steps number n e h l u) = other _ _ a (first e)
 none_with word argument a b d c (tick number ms e h) = other _ _ b (first e)
@@ -174,7 +182,8 @@ pub asks_only : (line : List ℕ) (asked : Asked) → Asks line asked → asked 
 asks_only line asked (nothing l s) = rw ((is_line_decides line).1 l, (is_skipped_decides line).1 s) refl
 asks_only line asked (command c l h) = rw ((is_line_decides line).1 l, says_something line c h, reads_command (fields_of line) c h) refl
 asks_only line asked (bad skip none) = at (is_line line) refl (is_skipped line) refl where
-  at : (a : Bool) → is_line line ≡ a → (b : Bool) → is_skipped line ≡ b → ◌≡◌ {A = Asked} Bad (if a then (if b then Nothing else asked_for (command_of (fields_of line))) else Bad)
+  at : (a : Bool) → is_line line ≡ a → (b : Bool) → is_skipped line ≡ b
+      → ◌≡◌ {A = Asked} Bad (if a then (if b then Nothing else asked_for (command_of (fields_of line))) else Bad)
   at false e b f = refl
   at true e true f = absurd (skip ((is_line_decides line).0 e) ((is_skipped_decides line).0 f))
   at true e false f = rw (no_command (fields_of line) (none ((is_line_decides line).0 e))) refl

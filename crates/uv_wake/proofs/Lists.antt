@@ -26,7 +26,8 @@ pub none_in : (t : Ticket) → Contains [] t → ⊥
 none_in t c = let h : c.0 < 0 = c.1 in omega arith
 
 -- a seat's view changes, and its list loses no ticket
-pub has_after : (views : List View) (me : ℕ) (v w : View) (t : Ticket) → get_elem? views me ≡ some v → (Contains (list_of v) t → Contains (list_of w) t) → Has views t → Has (set views me w) t
+pub has_after : (views : List View) (me : ℕ) (v w : View) (t : Ticket) → get_elem? views me ≡ some v
+    → (Contains (list_of v) t → Contains (list_of w) t) → Has views t → Has (set views me w) t
 has_after views me v w t at more h = dite (ℕ_discrete h.0 me)
     (λ e. let same : h.1 ≡ v = some-injective h.1 v (sym h.2 ∙ (λ i. get_elem? views (e i)) ∙ at) in
     (me, w, set_there views me w v at, more (subst (λ (x : View). Contains (list_of x) t) same h.3)))
@@ -47,7 +48,8 @@ has_shorter views w t h = ⊎_elim
     (λ (e : w ≡ h.1). inl (subst (λ (x : View). Contains (list_of x) t) (sym e) h.3))
     (at_snoc views w h.1 h.0 h.2)
 
-pub count_set : (views : List View) (me : ℕ) (v w : View) → get_elem? views me ≡ some v → sender_count (set views me w) + senders_in v ≡ sender_count views + senders_in w
+pub count_set : (views : List View) (me : ℕ) (v w : View) → get_elem? views me ≡ some v
+    → sender_count (set views me w) + senders_in v ≡ sender_count views + senders_in w
 count_set [] me v w e = absurd (some-ne-none v (sym e))
 count_set (x ∷ xs) zero v w e = let same = ap senders_in (some-injective x v e) in omega arith
 count_set (x ∷ xs) (suc me) v w e = let ih = count_set xs me v w e in omega arith
@@ -92,7 +94,8 @@ ahead_push views w name count mine others seat s e = ⊎_elim
     (at_snoc views w (Sender s) seat e)
 
 -- where no view is a sender's, each ticket is in the loop's list
-pub all_home : (views : List View) (l : LoopView) (t : Ticket) → get_elem? views 0 ≡ some (Loop l) → IsAlone views → sender_count views ≡ 0 → Has views t → Contains l.tickets t
+pub all_home : (views : List View) (l : LoopView) (t : Ticket) → get_elem? views 0 ≡ some (Loop l) → IsAlone views → sender_count views ≡ 0
+    → Has views t → Contains l.tickets t
 all_home views l t first alone none h = go h.1 h.2 h.3
   where
     go : (v : View) → get_elem? views h.0 ≡ some v → Contains (list_of v) t → Contains l.tickets t

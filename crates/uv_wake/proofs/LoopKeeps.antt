@@ -32,7 +32,8 @@ module _ (names : ℕ) (s : State ℕ View) (kept : Kept names s) where
 
   pub none_is_left : (v : Var) → v.0 < names → word_of v % 2 ≡ 0 → AllCarried kept.loop v
   none_is_left v small even t is c = let p = (kept.each v small).is_past t is (0, Loop kept.loop, kept.first, c) in
-      let below : t.epoch < count_of v = dite (ℕ_discrete t.epoch (count_of v)) (λ e. let odd = p.1 e in absurd (omega arith)) (λ n. let h = p.0 in omega arith) in
+      let below : t.epoch < count_of v = dite (ℕ_discrete t.epoch (count_of v)) (λ e. let odd = p.1 e in absurd (omega arith))
+      (λ n. let h = p.0 in omega arith) in
       subst (λ (x : Var). t.epoch < count_of x) (sym is) below
 
   home : (t : Ticket) → kept.loop.splits ≡ kept.loop.joins → Has s.views t → Contains kept.loop.tickets t
@@ -48,7 +49,8 @@ module _ (names : ℕ) (s : State ℕ View) (kept : Kept names s) where
   look_finds v small = let ok = kept.each v small in record {
     still = λ e. let odd = ok.is_seen e in eq-eqb _ _ (omega arith);
     carried = λ even. let other = eqb-false (word_of v % 2) 1 even in none_is_left v small (omega arith);
-    asked = λ odd all. let is = eqb-true (word_of v % 2) 1 odd in home (ticket v (count_of v)) all (ok.is_asked (odd_word (count_of v) (word_of v) ok.is_word (omega arith)));
+    asked = λ odd all. let is = eqb-true (word_of v % 2) 1 odd in home (ticket v (count_of v)) all
+        (ok.is_asked (odd_word (count_of v) (word_of v) ok.is_word (omega arith)));
     each = complete;
   }
 
@@ -65,7 +67,12 @@ module _ (names : ℕ) (s : State ℕ View) (kept : Kept names s) where
   ahead l u lt = ahead_set s.views 0 (Loop l) u (count_of u) (λ x e. absurd (cc)) (kept.each u lt).is_ahead
 
   pub look_keeps : (v : Var) → v.0 < names → word_of v % 2 ≢ 0
-      → Kept names (record { words = set s.words (v.0 + 1) (word_of v); homes = s.homes; views = set s.views 0 (Loop (record kept.loop { seen = Some v })) })
+      → Kept names (record {
+        words = set s.words (v.0 + 1) (word_of v);
+        homes = s.homes;
+        views = set s.views 0
+            (Loop (record kept.loop { seen = Some v }));
+      })
   look_keeps v small odd = let l : LoopView = record kept.loop { seen = Some v } in record {
     loop = l;
     first = set_there s.views 0 (Loop l) (Loop kept.loop) kept.first;
@@ -73,7 +80,8 @@ module _ (names : ℕ) (s : State ℕ View) (kept : Kept names s) where
     wide = length-set s.words (v.0 + 1) _ ∙ kept.wide;
     further = ap (λ (ws : List ℕ). get_or ws 0 0) (set-get_or s.words (v.0 + 1) 0) ∙ kept.further;
     counted = kept.counted;
-    each = λ u lt. subst (λ (ws : List ℕ). NameKept (set s.views 0 (Loop l)) (Some v) u (count_of u) (get_or ws (u.0 + 1) 0)) (sym (set-get_or s.words (v.0 + 1) 0))
+    each = λ u lt. subst (λ (ws : List ℕ). NameKept (set s.views 0 (Loop l)) (Some v) u (count_of u) (get_or ws (u.0 + 1) 0))
+        (sym (set-get_or s.words (v.0 + 1) 0))
         (stays s.views (set s.views 0 (Loop l)) kept.loop.seen (Some v) u (count_of u) (word_of u) (λ t _. more l refl t) (λ t _. less l refl t)
         (λ e. let same : v ≡ u = cc in subst (λ (x : Var). word_of x ≡ 2 * count_of x + 1) same (odd_word _ _ (kept.each v small).is_word odd))
         (ahead l u lt) (kept.each u lt));
@@ -81,7 +89,12 @@ module _ (names : ℕ) (s : State ℕ View) (kept : Kept names s) where
   }
 
   pub absorb_keeps : (v : Var) → v.0 < names → word_of v ≡ 2 * count_of v + 1
-      → Kept names (record { words = set s.words (v.0 + 1) (word_of v + 1); homes = s.homes; views = set s.views 0 (Loop (after_absorb kept.loop v true)) })
+      → Kept names (record {
+        words = set s.words (v.0 + 1) (word_of v + 1);
+        homes = s.homes;
+        views = set s.views 0
+            (Loop (after_absorb kept.loop v true));
+      })
   absorb_keeps v small odd = let l : LoopView = after_absorb kept.loop v true in record {
     loop = l;
     first = set_there s.views 0 (Loop l) (Loop kept.loop) kept.first;
@@ -91,21 +104,36 @@ module _ (names : ℕ) (s : State ℕ View) (kept : Kept names s) where
     counted = length-set kept.loop.counts v.0 _ ∙ kept.counted;
     each = λ u lt. dite (ℕ_discrete u.0 v.0)
         (λ e. let wide = kept.wide in let counted = kept.counted in let same = var_ext u v e in
-        subst (λ (x : Var). NameKept (set s.views 0 (Loop l)) None x (get_or l.counts x.0 0) (get_or (set s.words (v.0 + 1) (word_of v + 1)) (x.0 + 1) 0)) (sym same)
+        subst (λ (x : Var). NameKept (set s.views 0 (Loop l)) None x (get_or l.counts x.0 0)
+        (get_or (set s.words (v.0 + 1) (word_of v + 1)) (x.0 + 1) 0)) (sym same)
         (subst (λ (n : ℕ × ℕ). NameKept (set s.views 0 (Loop l)) None v n.0 n.1)
-        (λ i. (sym (get_or-set_same kept.loop.counts v.0 (count_of v + 1) 0 (omega arith)) i, sym (get_or-set_same s.words (v.0 + 1) (word_of v + 1) 0 (omega arith)) i))
+        (λ i. (
+          sym (get_or-set_same kept.loop.counts v.0 (count_of v + 1) 0 (omega arith)) i,
+          sym
+              (get_or-set_same s.words (v.0 + 1) (word_of v + 1) 0 (omega arith)) i,
+        ))
         (absorbed_name s.views (set s.views 0 (Loop l)) kept.loop.seen v (count_of v) (word_of v) (more l refl) (less l refl) odd
         (λ seat x at. let h = ahead l v small seat x at in omega arith) (kept.each v small))))
         (λ n. subst (λ (n : ℕ × ℕ). NameKept (set s.views 0 (Loop l)) None u n.0 n.1)
-        (λ i. (sym (get_or-set_other kept.loop.counts v.0 u.0 (count_of v + 1) 0 n) i, sym (get_or-set_other s.words (v.0 + 1) (u.0 + 1) (word_of v + 1) 0 (λ e. n (omega arith))) i))
-        (stays s.views (set s.views 0 (Loop l)) kept.loop.seen None u (count_of u) (word_of u) (λ t _. more l refl t) (λ t _. less l refl t) (λ e. absurd (cc)) (ahead l u lt) (kept.each u lt)));
+        (λ i. (
+          sym (get_or-set_other kept.loop.counts v.0 u.0 (count_of v + 1) 0 n) i,
+          sym
+              (get_or-set_other s.words (v.0 + 1) (u.0 + 1) (word_of v + 1) 0 (λ e. n (omega arith))) i,
+        ))
+        (stays s.views (set s.views 0 (Loop l)) kept.loop.seen None u (count_of u) (word_of u) (λ t _. more l refl t) (λ t _. less l refl t)
+        (λ e. absurd (cc)) (ahead l u lt) (kept.each u lt)));
     senders = let c = count_set s.views 0 (Loop kept.loop) (Loop l) kept.first in let k = kept.senders in omega arith;
   }
 
   abbrev pub new_sender : View
   new_sender = Sender (record { since = kept.loop.counts; tickets = [] })
 
-  pub split_keeps : Kept names (record { words = s.words; homes = s.homes; views = set s.views 0 (Loop (record kept.loop { splits = kept.loop.splits + 1 })) ++ new_sender ∷ [] })
+  pub split_keeps : Kept names (record {
+    words = s.words;
+    homes = s.homes;
+    views = set s.views 0
+        (Loop (record kept.loop { splits = kept.loop.splits + 1 })) ++ new_sender ∷ [];
+  })
   split_keeps = let l : LoopView = record kept.loop { splits = kept.loop.splits + 1 } in let views : List View = set s.views 0 (Loop l) in record {
     loop = l;
     first = at_longer views (new_sender ∷ []) 0 (Loop l) (set_there s.views 0 (Loop l) (Loop kept.loop) kept.first);
@@ -117,9 +145,11 @@ module _ (names : ℕ) (s : State ℕ View) (kept : Kept names s) where
         (λ t _ h. has_longer views new_sender t (more l refl t h))
         (λ t _ h. ⊎_elim (λ (c : Contains [] t). absurd (none_in t c)) (λ (old : Has views t). less l refl t old) (has_shorter views new_sender t h))
         (kept.each u lt).is_seen
-        (ahead_push views new_sender u (count_of u) (λ x e. subst (λ (y : SenderView). get_or y.since u.0 0 ≤ count_of u) (ap sender_of e) (omega arith)) (ahead l u lt))
+        (ahead_push views new_sender u (count_of u)
+        (λ x e. subst (λ (y : SenderView). get_or y.since u.0 0 ≤ count_of u) (ap sender_of e) (omega arith)) (ahead l u lt))
         (kept.each u lt);
-    senders = let c = count_set s.views 0 (Loop kept.loop) (Loop l) kept.first in let d = count_push views new_sender in let k = kept.senders in omega arith;
+    senders = let c = count_set s.views 0 (Loop kept.loop)
+        (Loop l) kept.first in let d = count_push views new_sender in let k = kept.senders in omega arith;
   }
 
   module _ (other : ℕ) (k : SenderView) (apart : other ≢ 0) (at : get_elem? s.views other ≡ some (Sender k)) where
@@ -165,7 +195,9 @@ module _ (names : ℕ) (s : State ℕ View) (kept : Kept names s) where
       wide = kept.wide;
       further = kept.further;
       counted = kept.counted;
-      each = λ u lt. stays s.views joined_views kept.loop.seen kept.loop.seen u (count_of u) (word_of u) (λ t _. more_joined t) (λ t _. less_joined t) (kept.each u lt).is_seen
+      each = λ u lt. stays s.views joined_views kept.loop.seen kept.loop.seen u (count_of u) (word_of u) (λ t _. more_joined t) (λ t _. less_joined t)
+          (kept.each u lt).is_seen
           (ahead_set first_step other Joined u (count_of u) (λ x e. absurd (cc)) (ahead both u lt)) (kept.each u lt);
-      senders = let c = count_set s.views 0 (Loop kept.loop) (Loop both) kept.first in let d = count_set first_step other (Sender k) Joined still in let k = kept.senders in omega arith;
+      senders = let c = count_set s.views 0 (Loop kept.loop) (Loop both) kept.first in let d = count_set first_step other
+          (Sender k) Joined still in let k = kept.senders in omega arith;
     }

@@ -38,7 +38,8 @@ each_stands names s kept t small h =
 -- a name whose word the step does not touch
 pub stays : (views views' : List View) (seen seen' : Option Var) (name : Var) (count word : ℕ)
     → ((t : Ticket) → t.var ≡ name → Has views t → Has views' t) → ((t : Ticket) → t.var ≡ name → Has views' t → Has views t)
-    → (seen' ≡ Some name → word ≡ 2 * count + 1) → NoneIsAhead views' name count → NameKept views seen name count word → NameKept views' seen' name count word
+    → (seen' ≡ Some name → word ≡ 2 * count + 1) → NoneIsAhead views' name count → NameKept views seen name count word
+    → NameKept views' seen' name count word
 stays views views' seen seen' name count word more less mark ahead ok = record {
   is_word = ok.is_word;
   is_past = λ t is h. ok.is_past t is (less t is h);
@@ -67,7 +68,8 @@ sent_name views views' seen name count word more new less ahead ok = let odd = (
 -- the name that is absorbed
 pub absorbed_name : (views views' : List View) (seen : Option Var) (name : Var) (count word : ℕ)
     → ((t : Ticket) → Has views t → Has views' t) → ((t : Ticket) → Has views' t → Has views t)
-    → word ≡ 2 * count + 1 → NoneIsAhead views' name (count + 1) → NameKept views seen name count word → NameKept views' None name (count + 1) (word + 1)
+    → word ≡ 2 * count + 1 → NoneIsAhead views' name (count + 1) → NameKept views seen name count word
+    → NameKept views' None name (count + 1) (word + 1)
 absorbed_name views views' seen name count word more less odd ahead ok = record {
   is_word = inl (omega arith);
   is_past = λ t is h. let p = (ok.is_past t is (less t h)).0 in (omega arith, λ e. absurd (omega arith));

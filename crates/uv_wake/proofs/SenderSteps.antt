@@ -69,20 +69,30 @@ module _ (names : ℕ) (s : State ℕ View) (kept : Kept names s) where
       counted = kept.counted;
       each = λ u lt. dite (ℕ_discrete u.0 v.0)
           (λ e. let wide = kept.wide in let same = var_ext u v e in let ok = kept.each v small in
-          subst (λ (x : Var). NameKept (set s.views id after) kept.loop.seen x (get_or kept.loop.counts x.0 0) (get_or (set s.words (v.0 + 1) (bit_or (word_of v) 1)) (x.0 + 1) 0)) (sym same)
-          (subst (λ (n : ℕ). NameKept (set s.views id after) kept.loop.seen v (get_or kept.loop.counts v.0 0) n) (sym (get_or-set_same s.words (v.0 + 1) (bit_or (word_of v) 1) 0 (omega arith)))
-          (sent_name s.views (set s.views id after) kept.loop.seen v (get_or kept.loop.counts v.0 0) (word_of v) more
-          (id, after, set_there s.views id after (Sender k) at, subst (λ (n : ℕ). Contains (k.tickets ++ new ∷ []) (ticket v n)) epoch_is (Contains-push k.tickets new))
+          subst (λ (x : Var). NameKept (set s.views id after) kept.loop.seen x (get_or kept.loop.counts x.0 0)
+          (get_or (set s.words (v.0 + 1) (bit_or (word_of v) 1)) (x.0 + 1) 0)) (sym same)
+          (subst (λ (n : ℕ). NameKept (set s.views id after) kept.loop.seen v (get_or kept.loop.counts v.0 0) n)
+          (sym (get_or-set_same s.words (v.0 + 1) (bit_or (word_of v) 1) 0 (omega arith)))
+          (sent_name s.views (set s.views id after) kept.loop.seen v (get_or kept.loop.counts v.0 0) (word_of v) more (
+            id,
+            after,
+            set_there s.views id after (Sender k) at,
+            subst (λ (n : ℕ). Contains (k.tickets ++ new ∷ []) (ticket v n)) epoch_is
+                (Contains-push k.tickets new),
+          )
           (λ t h. ⊎_elim (λ (e : t ≡ new). inl (e ∙ ap (ticket v) epoch_is)) (λ (old : Has s.views t). inr old) (less t h))
           (none_is_ahead v small) ok)))
-          (λ n. subst (λ (w : ℕ). NameKept (set s.views id after) kept.loop.seen u (get_or kept.loop.counts u.0 0) w) (sym (get_or-set_other s.words (v.0 + 1) (u.0 + 1) (bit_or (word_of v) 1) 0 (λ e. n (omega arith))))
+          (λ n. subst (λ (w : ℕ). NameKept (set s.views id after) kept.loop.seen u (get_or kept.loop.counts u.0 0) w)
+          (sym (get_or-set_other s.words (v.0 + 1) (u.0 + 1) (bit_or (word_of v) 1) 0 (λ e. n (omega arith))))
           (stays s.views (set s.views id after) kept.loop.seen kept.loop.seen u _ _ (λ t is h. more t h)
-          (λ t is h. ⊎_elim (λ (e : t ≡ new). absurd (n (ap (λ (x : Var). x.0) (sym is ∙ ap (λ (x : Ticket). x.var) e)))) (λ (old : Has s.views t). old) (less t h))
+          (λ t is h. ⊎_elim (λ (e : t ≡ new). absurd (n (ap (λ (x : Var). x.0) (sym is ∙ ap (λ (x : Ticket). x.var) e))))
+          (λ (old : Has s.views t). old) (less t h))
           (kept.each u lt).is_seen (none_is_ahead u lt) (kept.each u lt)));
       senders = let c = count_set s.views id (Sender k) after at in let k = kept.senders in omega arith;
     }
 
-seat_at : (s : State ℕ View) (id : ℕ) (me : Me ℕ View) → IsSends me → get_elem? s.views id ≡ some me.0 → get_elem? s.views id ≡ some (Sender (sender_of me.0))
+seat_at : (s : State ℕ View) (id : ℕ) (me : Me ℕ View) → IsSends me → get_elem? s.views id ≡ some me.0
+    → get_elem? s.views id ≡ some (Sender (sender_of me.0))
 seat_at s id me is at = at ∙ ap (λ (m : Me ℕ View). some m.0) is
 
 pub sends : (names slots id : ℕ) (me : Me ℕ View) (v : Var) → IsSends me → v.0 < names

@@ -21,7 +21,8 @@ abbrev pub sender_of : View → SenderView
 sender_of (Sender s) = s
 sender_of _ = record { since = []; tickets = [] }
 
--- A send (fetch_or 1): the list gains a ticket of the epoch that the word shows, and no ticket of that name in it is later, nor was the seat split off later
+-- A send (fetch_or 1): the list gains a ticket of the epoch that the word shows, and no ticket of that name in it is later, nor was the seat split
+-- off later
 abbrev pub sent : Step ℕ → Me ℕ View → ℕ → Me ℕ View → Type 0
 sent st m n m' = (v : Var) → v.0 + 1 ≡ st.word
     → (m' ≡ (Sender (after_send (sender_of m.0) (ticket v (n / 2))), []))

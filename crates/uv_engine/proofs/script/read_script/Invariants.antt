@@ -8,7 +8,8 @@ use Rattle.uv_engine.proofs.script.read_script.Given as goal
 abbrev pub invariant-lines : goal.invariant-lines
 invariant-lines g l = record {
   end : g.R.Source.Tells → EndIsSeen l.input (g.R.Source.remaining l.reader);
-  text : g.R.Source.Tells → CanBegin (left l.initial.input (g.R.Source.remaining l.initial.reader)) l.text.items (left l.input (g.R.Source.remaining l.reader));
+  text : g.R.Source.Tells → CanBegin (left l.initial.input (g.R.Source.remaining l.initial.reader)) l.text.items
+      (left l.input (g.R.Source.remaining l.reader));
   budget : g.R.Source.Tells → SpendsBudget l.initial.input (g.R.Source.remaining l.initial.reader) l.input (g.R.Source.remaining l.reader);
   none_failed : g.R.Source.failures l.reader ≡ g.R.Source.failures l.initial.reader;
 }

@@ -12,7 +12,8 @@ use Rattle.uv_heap.proofs.changes.remove.Goals as goal
 -- what is left once the two have changed places and the last one went
 left : (xs ys zs : List Entry) (i n : ℕ) → ys ≡ swap xs i n → zs ≡ take (length ys - 1) ys → n ≡ length xs - 1 → zs ≡ take n (swap xs i n)
 left xs ys zs i n e f g =
-    f ∙ ap (λ (l : List Entry). take (length l - 1) l) e ∙ ap (λ (k : ℕ). take (k - 1) (swap xs i n)) (length-swap xs i n) ∙ ap (λ (k : ℕ). take k (swap xs i n)) (sym g)
+    f ∙ ap (λ (l : List Entry). take (length l - 1) l) e ∙ ap (λ (k : ℕ). take (k - 1) (swap xs i n)) (length-swap xs i n)
+    ∙ ap (λ (k : ℕ). take k (swap xs i n)) (sym g)
 
 pub returns-then-place-last-clause-array : goal.returns-then-place-last-clause-array
 returns-then-place-last-clause-array c =
@@ -20,7 +21,8 @@ returns-then-place-last-clause-array c =
     let long = ap length c.as_slice.ensures.array in
     let last : c.args.place ≡ length xs - 1 = omega arith in
     let same : length c.as_slice.result.now - 1 ≡ c.args.place = omega arith in
-    left xs c.swap.new.self.array c.pop.new.self.array c.args.place (length c.as_slice.result.now - 1) c.swap.ensures.array c.pop.ensures.array (omega arith)
+    left xs c.swap.new.self.array c.pop.new.self.array c.args.place (length c.as_slice.result.now - 1) c.swap.ensures.array c.pop.ensures.array
+    (omega arith)
     ∙ ap (λ (n : ℕ). take n (swap xs c.args.place n)) same
     ∙ ap (λ (m : Moved). m.array) (removed_last xs c.args.place c.requires last)
 
@@ -35,7 +37,8 @@ returns-clause-array c =
     let long = ap length c.as_slice.ensures.array in
     let n = length c.as_slice.result.now - 1 in
     c.settle-rest.ensures.array
-    ∙ ap (λ (ys : List Entry). (settled ys c.args.place).array) (left xs c.swap.new.self.array c.pop.new.self.array c.args.place n c.swap.ensures.array c.pop.ensures.array (omega arith))
+    ∙ ap (λ (ys : List Entry). (settled ys c.args.place).array)
+    (left xs c.swap.new.self.array c.pop.new.self.array c.args.place n c.swap.ensures.array c.pop.ensures.array (omega arith))
     ∙ ap (λ (m : Moved). m.array) (removed_inner xs c.args.place n (omega arith) (omega arith))
 
 pub returns-clause-rest : goal.returns-clause-rest
@@ -44,7 +47,8 @@ returns-clause-rest c =
     let long = ap length c.as_slice.ensures.array in
     let n = length c.as_slice.result.now - 1 in
     c.settle-rest.ensures.place
-    ∙ ap (λ (ys : List Entry). (settled ys c.args.place).place) (left xs c.swap.new.self.array c.pop.new.self.array c.args.place n c.swap.ensures.array c.pop.ensures.array (omega arith))
+    ∙ ap (λ (ys : List Entry). (settled ys c.args.place).place)
+    (left xs c.swap.new.self.array c.pop.new.self.array c.args.place n c.swap.ensures.array c.pop.ensures.array (omega arith))
     ∙ ap (λ (m : Moved). m.place) (removed_inner xs c.args.place n (omega arith) (omega arith))
 
 pub returns-then-place-last-clause-absent : goal.returns-then-place-last-clause-absent

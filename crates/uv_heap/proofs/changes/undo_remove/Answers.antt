@@ -18,7 +18,8 @@ push-requires-2-clause-absent c =
     let xs = c.args.entries.now.array in
     rw c.go_back.ensures.array
     (avoids_is (returned xs c.args.undo.rest c.args.undo.place) c.args.undo.entry.slot
-    (avoids_returned xs c.args.undo.rest c.args.undo.place c.args.undo.entry.slot (c.requires.rest_within within) within (avoids_from xs c.args.undo.entry.slot c.requires.absent)))
+    (avoids_returned xs c.args.undo.rest c.args.undo.place c.args.undo.entry.slot (c.requires.rest_within within) within
+    (avoids_from xs c.args.undo.entry.slot c.requires.absent)))
 
 -- the length after the entry is there again
 long_after : (xs ys zs : List Entry) (rest place : ℕ) (e : Entry) → ys ≡ returned xs rest place → zs ≡ ys ++ e ∷ [] → length xs < length zs
@@ -28,18 +29,28 @@ long_after xs ys zs rest place e p q =
 
 pub swap-requires-clause-a_within : goal.swap-requires-clause-a_within
 swap-requires-clause-a_within c =
-    omega (arith, c.requires.place_within, long_after c.args.entries.now.array c.go_back.new.entries.array c.push-2.new.self.array c.args.undo.rest c.args.undo.place c.args.undo.entry c.go_back.ensures.array c.push-2.ensures.array)
+    omega (
+      arith,
+      c.requires.place_within,
+      long_after c.args.entries.now.array c.go_back.new.entries.array c.push-2.new.self.array c.args.undo.rest
+          c.args.undo.place c.args.undo.entry c.go_back.ensures.array c.push-2.ensures.array,
+    )
 
 pub swap-requires-clause-b_within : goal.swap-requires-clause-b_within
 swap-requires-clause-b_within c =
     let long = ap length c.as_slice-last.ensures.array in
-    omega (arith, long_after c.args.entries.now.array c.go_back.new.entries.array c.push-2.new.self.array c.args.undo.rest c.args.undo.place c.args.undo.entry c.go_back.ensures.array c.push-2.ensures.array)
+    omega (
+      arith,
+      long_after c.args.entries.now.array c.go_back.new.entries.array c.push-2.new.self.array c.args.undo.rest c.args.undo.place
+          c.args.undo.entry c.go_back.ensures.array c.push-2.ensures.array,
+    )
 
 pub returns-clause-array : goal.returns-clause-array
 returns-clause-array c =
     let long = ap length c.as_slice-last.ensures.array in
     let within : c.args.undo.place < length c.args.entries.now.array = omega (arith, c.requires.place_within) in
     c.swap.ensures.array
-    ∙ ap (λ (ys : List Entry). swap ys c.args.undo.place (length c.as_slice-last.result.now)) (c.push-2.ensures.array ∙ ap (λ (ys : List Entry). ys ++ c.args.undo.entry ∷ []) c.go_back.ensures.array)
+    ∙ ap (λ (ys : List Entry). swap ys c.args.undo.place (length c.as_slice-last.result.now))
+    (c.push-2.ensures.array ∙ ap (λ (ys : List Entry). ys ++ c.args.undo.entry ∷ []) c.go_back.ensures.array)
     ∙ ap (swap (returned c.args.entries.now.array c.args.undo.rest c.args.undo.place ++ c.args.undo.entry ∷ []) c.args.undo.place) long
     ∙ removal_undone_inner c.args.entries.now.array c.args.undo within

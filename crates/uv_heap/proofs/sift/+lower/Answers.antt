@@ -3,13 +3,22 @@ use Rattle.uv_heap.proofs.MoveLemmas.{lowered_more, lowered_end, length-lowered}
 use Rattle.uv_heap.proofs.sift.+lower.Goals as goal
 
 pub swap-requires-clause-a_within : goal.swap-requires-clause-a_within
-swap-requires-clause-a_within t c = rw c.lower.ensures.array (omega (arith, c.requires, c.parent-above.ensures, length-lowered c.parent-above.result c.args.entries.now.array c.args.from c.parent-above.result))
+swap-requires-clause-a_within t c = rw c.lower.ensures.array
+    (omega (
+      arith,
+      c.requires,
+      c.parent-above.ensures,
+      length-lowered c.parent-above.result c.args.entries.now.array c.args.from
+          c.parent-above.result,
+    ))
 
 pub swap-requires-clause-b_within : goal.swap-requires-clause-b_within
-swap-requires-clause-b_within t c = rw c.lower.ensures.array (omega (arith, c.requires, length-lowered c.parent-above.result c.args.entries.now.array c.args.from c.parent-above.result))
+swap-requires-clause-b_within t c = rw c.lower.ensures.array
+    (omega (arith, c.requires, length-lowered c.parent-above.result c.args.entries.now.array c.args.from c.parent-above.result))
 
 pub returns-then-from-to-clause-array : goal.returns-then-from-to-clause-array
-returns-then-from-to-clause-array t c = rw (c.swap.ensures.array, c.lower.ensures.array, c.parent-above.ensures) (sym (lowered_more c.args.entries.now.array c.args.from c.args.to (omega arith)))
+returns-then-from-to-clause-array t c = rw (c.swap.ensures.array, c.lower.ensures.array, c.parent-above.ensures)
+    (sym (lowered_more c.args.entries.now.array c.args.from c.args.to (omega arith)))
 
 pub returns-else-from-to-clause-array : goal.returns-else-from-to-clause-array
 returns-else-from-to-clause-array t c = sym (lowered_end c.args.entries.now.array c.args.from c.args.to (omega arith))

@@ -9,7 +9,8 @@ pub loop-child-smaller : goal.loop-child-smaller
 loop-child-smaller c =
     let below = (child_is c.loop-child.entries.array c.loop-child.place).1 in
     let smaller : length c.swap.new.self.array - c.in-Some.child < length c.loop-child.entries.array - c.loop-child.place =
-    rw (c.swap.ensures.array, length-swap c.loop-child.entries.array c.loop-child.place c.in-Some.child) (omega (arith, c.in-Some.ensures.child, below, c.loop-child.invariant.within)) in
+    rw (c.swap.ensures.array, length-swap c.loop-child.entries.array c.loop-child.place c.in-Some.child)
+    (omega (arith, c.in-Some.ensures.child, below, c.loop-child.invariant.within)) in
     smaller
 
 pub loop-child-preserved : goal.loop-child-preserved
@@ -18,7 +19,8 @@ loop-child-preserved c =
     let within = child_within c.loop-child.entries.array c.loop-child.place greater in
     record {
       within = rw (c.swap.ensures.array, length-swap c.loop-child.entries.array c.loop-child.place c.in-Some.child, c.in-Some.ensures.child) within;
-      rest = rw (c.swap.ensures.array, c.in-Some.ensures.child) (sym (moved_down_more c.loop-child.entries.array c.loop-child.place greater) ∙ c.loop-child.invariant.rest);
+      rest = rw (c.swap.ensures.array, c.in-Some.ensures.child)
+          (sym (moved_down_more c.loop-child.entries.array c.loop-child.place greater) ∙ c.loop-child.invariant.rest);
       room = c.swap.ensures.room ∙ c.loop-child.invariant.room;
     }
 

@@ -6,4 +6,4 @@ use Rattle.uv_engine.proofs.conversation.Conversation.answer.Goals as goal
 pub returns-in_err-extend_from_slice-in-Bad-clause-text : goal.returns-in_err-extend_from_slice-in-Bad-clause-text
 returns-in_err-extend_from_slice-in-Bad-clause-text g c = λ tells.
     let p = err_from_is_err_and c.from_residual.result c.from_residual.ensures.1 in
-    rw (p.1, c.in-Bad.is) (one_fault _ _ _ _ _ _ refl)
+    rw (p.1, c.in-Bad.is) (one_fault _ refl)

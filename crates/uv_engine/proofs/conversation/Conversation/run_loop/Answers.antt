@@ -7,15 +7,16 @@ use Rattle.uv_engine.proofs.conversation.Conversation.run_loop.Goals as goal
 pub returns-in_err-tell-clause-text : goal.returns-in_err-tell-clause-text
 returns-in_err-tell-clause-text g c = λ tells.
     let p = err_from_is_err_and c.from_residual.result c.from_residual.ensures.1 in
-    rw p.1 (cut_here _ _ _ _ _ (c.loop.invariant.text tells))
+    rw p.1 (cut_here (c.loop.invariant.text tells))
 
 pub loop-preserved : goal.loop-preserved
 loop-preserved g c =
     let on = rw c.if-not-branch.false at c.in_ok-tell.ensures.on in
     record {
       text = λ tells.
-          let before = rw (turn_on c.args.n c.loop.counter c.loop.self.session c.tell.new.session c.loop-test.true on) at (c.loop.invariant.text tells) in
-          gathered_by _ _ _ _ [] _ _ _ (gathered_more _ _ _ _ _ _ _ before c.in_ok-tell.ensures.text) (c.in_ok-spill.ensures.text tells);
+          let before = rw (turn_on c.args.n c.loop.counter c.loop.self.session c.tell.new.session c.loop-test.true on) at
+          (c.loop.invariant.text tells) in
+          gathered_by [] (gathered_more _ before c.in_ok-tell.ensures.text) (c.in_ok-spill.ensures.text tells);
       session = sym (turn_after c.args.n c.loop.counter c.loop.self.session c.tell.new.session c.loop-test.true on) ∙ c.loop.invariant.session;
       none_failed = c.in_ok-spill.ensures.writer ∙ c.loop.invariant.none_failed;
     }
@@ -24,7 +25,7 @@ pub returns-then-not-branch-clause-text : goal.returns-then-not-branch-clause-te
 returns-then-not-branch-clause-text g c = λ tells.
     let off = rw c.if-not-branch.true at c.in_ok-tell.ensures.on in
     let before = rw (turn_off c.args.n c.loop.counter c.loop.self.session c.tell.new.session c.loop-test.true off) at (c.loop.invariant.text tells) in
-    gathered_all _ _ _ _ _ (gathered_more _ _ _ _ _ [] _ before c.in_ok-tell.ensures.text)
+    gathered_all _ _ (gathered_more _ {rest = []} before c.in_ok-tell.ensures.text)
 
 pub returns-then-not-branch-clause-session : goal.returns-then-not-branch-clause-session
 returns-then-not-branch-clause-session g c =
@@ -36,11 +37,11 @@ returns-in_err-spill-clause-text g c = λ tells.
     let on = rw c.if-not-branch.false at c.in_ok-tell.ensures.on in
     let before = rw (turn_on c.args.n c.loop.counter c.loop.self.session c.tell.new.session c.loop-test.true on) at (c.loop.invariant.text tells) in
     rw ((err_from_is_err_and c.from_residual-in_err-spill.result c.from_residual-in_err-spill.ensures.1).1)
-    (cut_by _ _ _ _ [] _ _ (gathered_more _ _ _ _ _ _ _ before c.in_ok-tell.ensures.text) (c.in_err-spill.ensures.text tells))
+    (cut_by [] _ (gathered_more _ before c.in_ok-tell.ensures.text) (c.in_err-spill.ensures.text tells))
 
 pub returns-clause-text : goal.returns-clause-text
 returns-clause-text g c = λ tells.
-    gathered_all _ _ _ _ _ (rw (no_turn c.args.n c.loop.counter c.loop.self.session c.loop-test.false) at (c.loop.invariant.text tells))
+    gathered_all _ _ (rw (no_turn c.args.n c.loop.counter c.loop.self.session c.loop-test.false) at (c.loop.invariant.text tells))
 
 pub returns-clause-session : goal.returns-clause-session
 returns-clause-session g c = sym (no_turn_after c.args.n c.loop.counter c.loop.self.session c.loop-test.false) ∙ c.loop.invariant.session

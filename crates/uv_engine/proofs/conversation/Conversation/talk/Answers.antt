@@ -1,55 +1,56 @@
-use Rattle.std.proofs.Common.{ap, ◌∙◌}
+use Rattle.std.proofs.Common.{arith, ap, ◌∙◌}
 use Rattle.std.proofs.lemmas.Result.{err_from_is_err_and}
 use Rattle.uv_script.specs.Lines.{lines_of}
-use Rattle.uv_engine.proofs.Counts.{spends_more}
 use Rattle.uv_engine.proofs.Talking.{can_write, can_answer, can_next, cut_waiting, cut_writing, cut_answer, talk_ends, talk_quits}
 use Rattle.uv_engine.proofs.conversation.Conversation.talk.Goals as goal
 
 pub returns-in_err-write_if_waiting-clause-text : goal.returns-in_err-write_if_waiting-clause-text
 returns-in_err-write_if_waiting-clause-text g c = λ reads tells.
     rw ((err_from_is_err_and c.from_residual.result c.from_residual.ensures.1).1)
-    (cut_writing c.every_line_asks.ensures.some _ _ _ _ _ _ _ _ (c.lines.invariant.text reads tells) (c.in_err-write_if_waiting.ensures.text tells))
+    (cut_writing c.every_line_asks.ensures.some (c.lines.invariant.text reads tells) (c.in_err-write_if_waiting.ensures.text tells))
 
 pub returns-in_err-line-clause-text : goal.returns-in_err-line-clause-text
 returns-in_err-line-clause-text g c = λ reads tells.
-    let written = can_write _ _ _ _ _ _ _ _ _ (c.lines.invariant.text reads tells) (c.in_ok-write_if_waiting.ensures.text tells) in
-    rw ((err_from_is_err_and c.from_residual-in_err-line.result c.from_residual-in_err-line.ensures.1).1) (cut_waiting c.every_line_asks.ensures.some _ _ _ _ _ _ _ written)
+    let written = can_write (c.lines.invariant.text reads tells) (c.in_ok-write_if_waiting.ensures.text tells) in
+    rw ((err_from_is_err_and c.from_residual-in_err-line.result c.from_residual-in_err-line.ensures.1).1)
+    (cut_waiting c.every_line_asks.ensures.some written)
 
 pub returns-in_default-clause-text : goal.returns-in_default-clause-text
 returns-in_default-clause-text g c = λ reads tells.
-    let written = can_write _ _ _ _ _ _ _ _ _ (c.lines.invariant.text reads tells) (c.in_ok-write_if_waiting.ensures.text tells) in
+    let written = can_write (c.lines.invariant.text reads tells) (c.in_ok-write_if_waiting.ensures.text tells) in
     let nothing_left = rw c.in_default.is at (c.in_ok-line.ensures.line reads) in
-    talk_ends c.every_line_asks.ensures.some _ _ _ _ _ _ _ _ _ written (ap lines_of nothing_left) (c.finish.ensures.text tells)
+    talk_ends _ _ c.every_line_asks.ensures.some written (ap lines_of nothing_left) (c.finish.ensures.text tells)
 
 pub returns-then-is_quit-clause-text : goal.returns-then-is_quit-clause-text
 returns-then-is_quit-clause-text g c = λ reads tells.
-    let written = can_write _ _ _ _ _ _ _ _ _ (c.lines.invariant.text reads tells) (c.in_ok-write_if_waiting.ensures.text tells) in
+    let written = can_write (c.lines.invariant.text reads tells) (c.in_ok-write_if_waiting.ensures.text tells) in
     let taken = rw c.in-Some.is at (c.in_ok-line.ensures.line reads) in
-    let before = can_next _ _ _ _ _ _ _ _ _ _ taken written in
+    let before = can_next _ _ _ taken written in
     let asks = rw c.as_slice.ensures.value at c.read_command-asked.ensures.rule in
-    talk_quits c.every_line_asks.ensures.some _ _ _ _ _ _ _ _ _ _ before (rw (← (c.is_quit.ensures.quit c.if-is_quit.true)) asks) (c.finish-then-is_quit.ensures.text tells)
+    talk_quits _ _ c.every_line_asks.ensures.some before (rw (← (c.is_quit.ensures.quit c.if-is_quit.true)) asks)
+    (c.finish-then-is_quit.ensures.text tells)
 
 pub returns-in_err-answer-clause-text : goal.returns-in_err-answer-clause-text
 returns-in_err-answer-clause-text g c = λ reads tells.
-    let written = can_write _ _ _ _ _ _ _ _ _ (c.lines.invariant.text reads tells) (c.in_ok-write_if_waiting.ensures.text tells) in
+    let written = can_write (c.lines.invariant.text reads tells) (c.in_ok-write_if_waiting.ensures.text tells) in
     let taken = rw c.in-Some.is at (c.in_ok-line.ensures.line reads) in
-    let before = can_next _ _ _ _ _ _ _ _ _ _ taken written in
+    let before = can_next _ _ _ taken written in
     let asks = rw c.as_slice.ensures.value at c.read_command-asked.ensures.rule in
     let other = c.is_quit.ensures.other c.if-is_quit.false in
     rw ((err_from_is_err_and c.from_residual-in_err-answer.result c.from_residual-in_err-answer.ensures.1).1)
-    (cut_answer c.every_line_asks.ensures.some _ _ _ _ _ _ _ _ _ _ _ _ before asks other (c.in_err-answer.ensures.text tells))
+    (cut_answer c.every_line_asks.ensures.some before asks other (c.in_err-answer.ensures.text tells))
 
 pub lines-preserved : goal.lines-preserved
 lines-preserved g c = record {
   end = c.in_ok-line.ensures.end;
   text = λ reads tells.
-      let written = can_write _ _ _ _ _ _ _ _ _ (c.lines.invariant.text reads tells) (c.in_ok-write_if_waiting.ensures.text tells) in
+      let written = can_write (c.lines.invariant.text reads tells) (c.in_ok-write_if_waiting.ensures.text tells) in
       let taken = rw c.in-Some.is at (c.in_ok-line.ensures.line reads) in
-      let before = can_next _ _ _ _ _ _ _ _ _ _ taken written in
+      let before = can_next _ _ _ taken written in
       let asks = rw c.as_slice.ensures.value at c.read_command-asked.ensures.rule in
       let other = c.is_quit.ensures.other c.if-is_quit.false in
-      can_answer _ _ _ _ _ _ _ _ _ _ _ _ before asks other (c.in_ok-answer.ensures.text tells) c.in_ok-answer.ensures.session;
-  budget = λ reads. spends_more _ _ _ _ _ _ (c.lines.invariant.budget reads) (c.in_ok-line.ensures.budget reads);
+      can_answer before asks other (c.in_ok-answer.ensures.text tells) c.in_ok-answer.ensures.session;
+  budget = λ reads. omega (arith, c.lines.invariant.budget reads, c.in_ok-line.ensures.budget reads);
   none_read_failed = c.in_ok-line.ensures.reader ∙ c.lines.invariant.none_read_failed;
   none_write_failed = c.in_ok-answer.ensures.writer ∙ c.in_ok-write_if_waiting.ensures.writer ∙ c.lines.invariant.none_write_failed;
 }

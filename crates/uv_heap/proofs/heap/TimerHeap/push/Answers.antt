@@ -13,7 +13,8 @@ pub invariant_of-self : goal.invariant_of-self
 invariant_of-self c = rw c.push-place.ensures.array (heap_pushed c.self.inside.entries.array c.args.entry c.self.invariant)
 
 pub returns-clause-order : goal.returns-clause-order
-returns-clause-order c = λ timers h. rw c.push-place.ensures.array (order_pushed c.self.inside.entries.array timers c.args.entry (rw (ap (λ (heap : Heap). heap.array) c.self.view_is) h))
+returns-clause-order c = λ timers h. rw c.push-place.ensures.array
+    (order_pushed c.self.inside.entries.array timers c.args.entry (rw (ap (λ (heap : Heap). heap.array) c.self.view_is) h))
 
 -- the undo gives back the array
 undone : (xs ys : List Entry) (e : Entry) (place : ℕ) → ys ≡ (pushed xs e).array → place ≡ (pushed xs e).place → push_undone ys place ≡ xs
@@ -25,10 +26,12 @@ returns-clause-can_undo c =
     let long = ap length c.push-place.ensures.array in
     record {
       within = omega (arith, long, length-pushed xs c.args.entry, place-pushed xs c.args.entry, c.push-place.ensures.place);
-      heap_before = rw (undone xs c.push-place.new.entries.array c.args.entry c.push-place.result c.push-place.ensures.array c.push-place.ensures.place) c.self.invariant;
+      heap_before = rw (undone xs c.push-place.new.entries.array c.args.entry c.push-place.result c.push-place.ensures.array
+          c.push-place.ensures.place) c.self.invariant;
     }
 
 pub returns-clause-undone : goal.returns-clause-undone
 returns-clause-undone c =
-    undone c.self.inside.entries.array c.push-place.new.entries.array c.args.entry c.push-place.result c.push-place.ensures.array c.push-place.ensures.place
+    undone c.self.inside.entries.array c.push-place.new.entries.array c.args.entry c.push-place.result c.push-place.ensures.array
+    c.push-place.ensures.place
     ∙ ap (λ (heap : Heap). heap.array) c.self.view_is

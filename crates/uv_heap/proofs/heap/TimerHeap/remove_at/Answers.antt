@@ -22,7 +22,8 @@ returns-clause-order c =
     λ timers h. rw (c.remove.ensures.array, c.remove.ensures.entry) (order_removed c.self.inside.entries.array timers c.args.place within (rw view h))
 
 -- the undo gives back the array
-undone : (xs ys : List Entry) (place : ℕ) (undo : RemoveUndo) → place < length xs → ys ≡ (removed xs place).array → undo.place ≡ place → undo.rest ≡ (removed xs place).place → undo.entry ≡ entry_at xs place → removal_undone ys undo ≡ xs
+undone : (xs ys : List Entry) (place : ℕ) (undo : RemoveUndo) → place < length xs → ys ≡ (removed xs place).array → undo.place ≡ place
+    → undo.rest ≡ (removed xs place).place → undo.entry ≡ entry_at xs place → removal_undone ys undo ≡ xs
 undone xs ys place undo l p q r e =
     ap (λ (zs : List Entry). removal_undone zs undo) (p ∙ ap (λ (k : ℕ). (removed xs k).array) (sym q))
     ∙ removal_undone-removed xs undo (omega arith) (r ∙ ap (λ (k : ℕ). (removed xs k).place) (sym q)) (e ∙ ap (entry_at xs) (sym q))
@@ -38,7 +39,8 @@ returns-clause-can_undo c =
         place_within = omega (arith, c.remove.ensures.place);
         rest_within = λ l. omega (arith, c.remove.ensures.rest, place-removed xs c.args.place (omega (arith, l, c.remove.ensures.place)));
         slot_absent = c.remove.ensures.absent;
-        heap_before = rw (undone xs c.remove.new.entries.array c.args.place c.remove.result within c.remove.ensures.array c.remove.ensures.place c.remove.ensures.rest c.remove.ensures.entry) c.self.invariant;
+        heap_before = rw (undone xs c.remove.new.entries.array c.args.place c.remove.result within c.remove.ensures.array c.remove.ensures.place
+            c.remove.ensures.rest c.remove.ensures.entry) c.self.invariant;
       };
       has_room = c.remove.ensures.has_room;
     }
@@ -47,5 +49,6 @@ pub returns-clause-undone : goal.returns-clause-undone
 returns-clause-undone c =
     let view = ap (λ (heap : Heap). heap.array) c.self.view_is in
     let within : c.args.place < length c.self.inside.entries.array = rw view c.requires in
-    undone c.self.inside.entries.array c.remove.new.entries.array c.args.place c.remove.result within c.remove.ensures.array c.remove.ensures.place c.remove.ensures.rest c.remove.ensures.entry
+    undone c.self.inside.entries.array c.remove.new.entries.array c.args.place c.remove.result within c.remove.ensures.array c.remove.ensures.place
+    c.remove.ensures.rest c.remove.ensures.entry
     ∙ view

@@ -10,7 +10,8 @@ returns-in-Some c =
     let xs = c.self.inside.entries.items in
     let ps = c.self.inside.places.items in
     let view : xs ≡ c.args.self.now.array = ap (λ (h : Heap). h.array) c.self.view_is in
-    let stored : c.in-Some.place.now ≡ get_or ps c.args.slot None = c.in-Some.ensures.lookup.3.1 None ∙ ap (λ (l : List (Option ℕ)). get_or l c.args.slot None) c.deref.ensures.value in
+    let stored : c.in-Some.place.now ≡ get_or ps c.args.slot None = c.in-Some.ensures.lookup.3.1 None
+    ∙ ap (λ (l : List (Option ℕ)). get_or l c.args.slot None) c.deref.ensures.value in
     record {
       place = stored ∙ sym (place_in_is xs ps _ c.args.slot c.self.invariant) ∙ ap (λ (l : List _). place_in l c.args.slot) view;
       within = rw (← view) (stored_within xs ps _ c.args.slot c.in-Some.place.now c.self.invariant stored);

@@ -17,8 +17,10 @@ invariant_of-self c =
     let long = length-swap xs c.args.a c.args.b in
     let swapped = swapped_at xs c.args.a c.args.b a_in b_in in
     let first : c.index.result.now ≡ entry_at xs c.args.b =
-    get_or_read (swap xs c.args.a c.args.b) c.args.a c.index.result.now (omega arith) (rw (← c.swap.ensures.items) c.index.ensures) no_entry ∙ swapped.0 in
+    get_or_read (swap xs c.args.a c.args.b) c.args.a c.index.result.now (omega arith) (rw (← c.swap.ensures.items) c.index.ensures) no_entry
+    ∙ swapped.0 in
     let second : c.index-2.result.now ≡ entry_at xs c.args.a =
-    get_or_read (swap xs c.args.a c.args.b) c.args.b c.index-2.result.now (omega arith) (rw (← c.swap.ensures.items) c.index-2.ensures) no_entry ∙ swapped.1 in
+    get_or_read (swap xs c.args.a c.args.b) c.args.b c.index-2.result.now (omega arith) (rw (← c.swap.ensures.items) c.index-2.ensures) no_entry
+    ∙ swapped.1 in
     rw (c.swap.ensures.items, c.swap.ensures.capacity, first, second)
     (places_swapped xs c.self.inside.places.items _ c.args.a c.args.b a_in b_in c.self.invariant)
