@@ -18,3 +18,6 @@ pub use desk::Desk;
 pub use locked::LockedBook;
 pub use places::Collected;
 pub use shift::{Gate, Shift, worker};
+
+#[cfg(test)]
+mod tests;
