@@ -107,7 +107,18 @@ struct Load {
     cancels: bool,
 }
 
+/// Submits the jobs. The book is closed at the end, after a fault too, so that the workers end.
 fn feed<L: Ledger, R: Abort + Wait>(rt: &R, book: &LockedBook<L>, load: Load) -> Result<(), Fault> {
+    let fed = submit_all(rt, book, load);
+    close(rt, book);
+    fed
+}
+
+fn submit_all<L: Ledger, R: Abort + Wait>(
+    rt: &R,
+    book: &LockedBook<L>,
+    load: Load,
+) -> Result<(), Fault> {
     for slot in 0..load.jobs {
         if slot == load.open {
             book.wait_past(rt, load.open as usize);
@@ -119,7 +130,6 @@ fn feed<L: Ledger, R: Abort + Wait>(rt: &R, book: &LockedBook<L>, load: Load) ->
             book.wake();
         }
     }
-    close(rt, book);
     Ok(())
 }
 
