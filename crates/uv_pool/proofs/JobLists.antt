@@ -16,7 +16,8 @@ pub record Skipped (skipped : ℕ) (xs ys : List (Option Work)) : Type 0 where
 pub none_skipped : (xs : List (Option Work)) → Skipped 0 xs xs
 none_skipped xs = record { rest = refl; jobs = refl }
 
-pub one_skipped : (n : ℕ) (xs ys : List (Option Work)) (x : Option Work) → Skipped n xs ys → 0 < length ys → x ≡ get_or ys 0 x → x ≡ None → Skipped (n + 1) xs (drop 1 ys)
+pub one_skipped : (n : ℕ) (xs ys : List (Option Work)) (x : Option Work) → Skipped n xs ys → 0 < length ys → x ≡ get_or ys 0 x → x ≡ None
+    → Skipped (n + 1) xs (drop 1 ys)
 one_skipped n xs [] x s some front empty = absurd (omega arith)
 one_skipped n xs (None ∷ ys) x s some front empty = record {
   rest = ap (λ (zs : List (Option Work)). drop 1 zs) s.rest ∙ drop-drop 1 n xs;

@@ -6,7 +6,8 @@ use Rattle.uv_pool.specs.Jobs.{jobs_of, Leaves, Pops}
 use Rattle.uv_pool.proofs.Numbers.{number_popped, number_front, number_set, number_dropped}
 
 -- at the front, and then so many empty places
-pub front_pops : (first k : ℕ) (xs rest ys : List (Option Work)) (job : Work) → xs ≡ Some job ∷ rest → ys ≡ drop k rest → k + length ys ≡ length rest → jobs_of ys ≡ jobs_of rest → Pops first xs (Some job) (first + (1 + k)) ys
+pub front_pops : (first k : ℕ) (xs rest ys : List (Option Work)) (job : Work) → xs ≡ Some job ∷ rest → ys ≡ drop k rest
+    → k + length ys ≡ length rest → jobs_of ys ≡ jobs_of rest → Pops first xs (Some job) (first + (1 + k)) ys
 front_pops first k xs rest ys job is cut len jobs =
     let P : List (Option Work) → Type 0 = λ zs. Pops first zs (Some job) (first + (1 + k)) ys in
     let next : first + (1 + k) + length ys ≡ first + suc (length rest) = omega (arith, len) in
@@ -23,7 +24,8 @@ front_pops first k xs rest ys job is cut len jobs =
     )
 
 -- anywhere, and then so many empty places at the front
-pub removal_leaves : (first n k : ℕ) (xs ys : List (Option Work)) → first ≤ n → ys ≡ drop k (set xs (n - first) None) → k + length ys ≡ length xs → Leaves first xs n (first + k) ys
+pub removal_leaves : (first n k : ℕ) (xs ys : List (Option Work)) → first ≤ n → ys ≡ drop k (set xs (n - first) None) → k + length ys ≡ length xs
+    → Leaves first xs n (first + k) ys
 removal_leaves first n k xs ys low cut len = record {
   still = λ m other h.
       let cut_there : at_number (first + k) (drop k (set xs (n - first) None)) m ≡ Some (Some other) = rw (← cut) h in

@@ -19,26 +19,54 @@ pub replays_queue : (c : Contents) (job : Work) → IsReplay c → has (pool_of 
 replays_queue c job h new =
     rw (replay_more (length c.running) c.log (event.Queue job.req), h, new, map-append (λ (j : Work). j.req) c.waiting (job ∷ [])) refl
 
-pub replays_take : (c : Contents) (k : ℕ) (job : Work) (rest : List Work) → IsReplay c → slice_get c.running k ≡ Some None → c.waiting ≡ job ∷ rest → IsReplay (taken c k job rest)
+pub replays_take : (c : Contents) (k : ℕ) (job : Work) (rest : List Work) → IsReplay c → slice_get c.running k ≡ Some None
+    → c.waiting ≡ job ∷ rest → IsReplay (taken c k job rest)
 replays_take c k job rest h idle front =
-    rw (length-set c.running k (Some job), replay_more (length c.running) c.log (event.Take k job.req), h, front, slice_get-map id_run c.running k, idle, same_itself job.req, map-set id_run c.running k (Some job)) refl
+    rw (
+      length-set c.running k (Some job),
+      replay_more (length c.running) c.log (event.Take k job.req),
+      h,
+      front,
+      slice_get-map id_run c.running k,
+      idle,
+      same_itself job.req,
+      map-set id_run c.running k (Some job),
+    ) refl
 
 pub replays_finish : (c : Contents) (k : ℕ) (r : WorkResult) → IsReplay c → slice_get c.running k ≡ Some (Some r.job) → IsReplay (finished c k r)
 replays_finish c k r h runs =
-    rw (length-set c.running k None, replay_more (length c.running) c.log (event.Finish k r.job.req), h, slice_get-map id_run c.running k, runs, same_itself r.job.req, map-set id_run c.running k None, map-append member c.done (record { id = r.job.req; result = Some r } ∷ [])) refl
+    rw (
+      length-set c.running k None,
+      replay_more (length c.running) c.log (event.Finish k r.job.req),
+      h,
+      slice_get-map id_run c.running k,
+      runs,
+      same_itself r.job.req,
+      map-set id_run c.running k None,
+      map-append member c.done (record { id = r.job.req; result = Some r } ∷ []),
+    ) refl
 
 without_mapped : (xs : List Work) (id : Id) → without (map (λ (j : Work). j.req) xs) id ≡ map (λ (j : Work). j.req) (jobs_without xs id)
 without_mapped [] id = refl
 without_mapped (x ∷ xs) id = at (same_id x.req id) (without_mapped xs id) where
-  at : (b : Bool) → without (map (λ (j : Work). j.req) xs) id ≡ map (λ (j : Work). j.req) (jobs_without xs id) → cond b (map (λ (j : Work). j.req) xs) (x.req ∷ without (map (λ (j : Work). j.req) xs) id) ≡ map (λ (j : Work). j.req) (cond b xs (x ∷ jobs_without xs id))
+  at : (b : Bool) → without (map (λ (j : Work). j.req) xs) id ≡ map (λ (j : Work). j.req) (jobs_without xs id)
+      → cond b (map (λ (j : Work). j.req) xs) (x.req ∷ without (map (λ (j : Work). j.req) xs) id) ≡ map (λ (j : Work). j.req)
+      (cond b xs (x ∷ jobs_without xs id))
   at true more = refl
   at false more = ap (λ (ids : List Id). x.req ∷ ids) more
 
 pub replays_cancel : (c : Contents) (id : Id) → IsReplay c → waits (pool_of c).waiting id ≡ true → IsReplay (cancelled c id)
 replays_cancel c id h is =
-    rw (replay_more (length c.running) c.log (event.Cancel id), h, is, without_mapped c.waiting id, map-append member c.done (record { id = id; result = None } ∷ [])) refl
+    rw (
+      replay_more (length c.running) c.log (event.Cancel id),
+      h,
+      is,
+      without_mapped c.waiting id,
+      map-append member c.done (record { id = id; result = None } ∷ []),
+    ) refl
 
-pub replays_collect : (c : Contents) (front : Collected) (rest : List Collected) → IsReplay c → c.done ≡ front ∷ rest → IsReplay (collected c front rest)
+pub replays_collect : (c : Contents) (front : Collected) (rest : List Collected) → IsReplay c → c.done ≡ front ∷ rest
+    → IsReplay (collected c front rest)
 replays_collect c front rest h is =
     rw (replay_more (length c.running) c.log (event.Collect front.id), h, is, same_itself front.id) refl
 

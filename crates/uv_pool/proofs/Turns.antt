@@ -27,7 +27,8 @@ turns_more k (e ∷ more) id h = cc
 
 pub count_turn : (k : ℕ) (xs : List PoolEvent) (id : Id) → finish_count (xs ++ turn k id) ≡ finish_count xs + 1
 count_turn k xs id =
-    let split : xs ++ turn k id ≡ (xs ++ event.Take k id ∷ []) ++ event.Finish k id ∷ [] = sym (append_assoc xs (event.Take k id ∷ []) (event.Finish k id ∷ [])) in
+    let split : xs ++ turn k id ≡ (xs ++ event.Take k id ∷ []) ++ event.Finish k id ∷ [] = sym
+    (append_assoc xs (event.Take k id ∷ []) (event.Finish k id ∷ [])) in
     ap finish_count split ∙ omega (arith, count_more (xs ++ event.Take k id ∷ []) (event.Finish k id), count_more xs (event.Take k id))
 
 -- what lasts from turn to turn: the events are turns, the share counts them, and the bench gained them
@@ -36,7 +37,8 @@ pub record Turned (k n : ℕ) (events before after : List PoolEvent) : Type 0 wh
   pub turns : are_turns k events ≡ true
   pub answered : after ≡ before ++ events
 
-pub served_turns : (k : ℕ) (more : Bool) (b e : List PoolEvent) (n : ℕ) (b' e' : List PoolEvent) (n' : ℕ) (before : List PoolEvent) → more ≡ true → Serves k more b e n b' e' n' → Turned k n e before b → Turned k n' e' before b'
+pub served_turns : (k : ℕ) (more : Bool) (b e : List PoolEvent) (n : ℕ) (b' e' : List PoolEvent) (n' : ℕ) (before : List PoolEvent) → more ≡ true
+    → Serves k more b e n b' e' n' → Turned k n e before b → Turned k n' e' before b'
 served_turns k true b e n b' e' n' before is (id, s0, s1, s2) i = record {
   counted = rw s1 (omega (arith, i.counted, count_turn k e id, s2));
   turns = rw s1 (turns_more k e id i.turns);

@@ -62,7 +62,8 @@ turn k id = event.Take k id ∷ event.Finish k id ∷ []
 
 -- one job more: a Take and a Finish of it; without a job nothing
 abbrev pub Serves : ℕ → Bool → List PoolEvent → List PoolEvent → ℕ → List PoolEvent → List PoolEvent → ℕ → Type 0
-Serves k true bench events amount bench' events' amount' = (id : Id) × (bench' ≡ bench ++ turn k id) × (events' ≡ events ++ turn k id) × (amount' ≡ amount + 1)
+Serves k true bench events amount bench' events' amount' = (id : Id) × (bench' ≡ bench ++ turn k id) × (events' ≡ events ++ turn k id)
+    × (amount' ≡ amount + 1)
 Serves k false bench events amount bench' events' amount' = (bench' ≡ bench) × (events' ≡ events) × (amount' ≡ amount)
 
 -- nothing more, or one job that was taken and not finished

@@ -43,7 +43,8 @@ run_at s k = slice_get s.contents.running k
 
 -- an idle worker gets the job that waited longest; none, and no entry, where nothing waits
 abbrev pub TakesNext : Hold → ℕ → Result (Option Work) Fault → Hold → Type 0
-TakesNext s k (Ok (Some job)) t = (run_at s k ≡ Some None) × (s.contents.waiting ≡ job ∷ t.contents.waiting) × (t.contents ≡ taken s.contents k job t.contents.waiting)
+TakesNext s k (Ok (Some job)) t = (run_at s k ≡ Some None) × (s.contents.waiting ≡ job ∷ t.contents.waiting)
+    × (t.contents ≡ taken s.contents k job t.contents.waiting)
 TakesNext s k (Ok None) t = (run_at s k ≡ Some None) × (s.contents.waiting ≡ []) × (t ≡ s)
 TakesNext s k (Err (fault.Refused why.NoWorker)) t = (run_at s k ≡ None) × (t ≡ s)
 TakesNext s k (Err (fault.Refused why.BusyWorker)) t = ((job : Work) × (run_at s k ≡ Some (Some job))) × (t ≡ s)
@@ -87,7 +88,8 @@ GivesBack r (Err e) P = P (Err e.0) × (e.1 ≡ r)
 -- a worker's share comes off the book's own, which keeps a part
 abbrev pub EnrolsAt : {S : Type 0} → Standing → ℕ → Result S Fault → Standing → Type 0
 EnrolsAt s k (Ok share) t =
-    (k < length s.hold.contents.running) × (1 < s.rest.spare) × (t ≡ record { hold = s.hold; rest = record { closed = s.rest.closed; own = s.rest.own; spare = s.rest.spare - 1 } })
+    (k < length s.hold.contents.running) × (1 < s.rest.spare)
+    × (t ≡ record { hold = s.hold; rest = record { closed = s.rest.closed; own = s.rest.own; spare = s.rest.spare - 1 } })
 EnrolsAt s k (Err (fault.Refused why.NoWorker)) t = (length s.hold.contents.running ≤ k) × (t ≡ s)
 EnrolsAt s k (Err fault.Limit) t = (k < length s.hold.contents.running) × (s.rest.spare ≡ 1) × (t ≡ s)
 EnrolsAt s k (Err _) t = ⊥

@@ -90,7 +90,8 @@ fn serve<L: Ledger, B: Bench<L>, G: Gate>(
     events: &mut Vec<PoolEvent>,
 ) -> Result<bool, Fault>
     requires { share.old.parts ≡ 1 }
-    ensures served { IfOk result (λ more. Serves k more (B.answered bench.old) events.old.items share.old.amount (B.answered bench.new) events.new.items share.new.amount) }
+    ensures served { IfOk result
+        (λ more. Serves k more (B.answered bench.old) events.old.items share.old.amount (B.answered bench.new) events.new.items share.new.amount) }
     ensures parts { share.new.parts ≡ share.old.parts }
     ensures idle { IfOk result (λ more. (more ≡ true → ⊥) → B.idle bench.new) }
     ensures faults { IfErr result IsWorkerFault }

@@ -10,4 +10,5 @@ returns-then-index-len g c =
 pub returns : goal.returns
 returns g c =
     let d = c.args.items.now in
-    number_read c.args.first d.items c.args.number c.len.result c.index.result.now (c.len.ensures ∙ d.ok.0) c.if-number-first.false c.if-index-len.false c.index.ensures
+    number_read c.args.first d.items c.args.number c.len.result c.index.result.now (c.len.ensures ∙ d.ok.0) c.if-number-first.false
+    c.if-index-len.false c.index.ensures

@@ -22,7 +22,9 @@ pub returns-clause-kept : goal.returns-clause-kept
 returns-clause-kept c =
     let s = c.args.self.now in
     let q = c.remove.new.self in
-    kept_cancel s _ c.args.number q.first q.places.items (record { id = c.args.id; result = None }) (s.collected + c.len.result) _ c.requires.kept c.requires.waits c.remove.ensures.left (omega (arith, c.len.ensures, s.done.ok.0)) (search rules) c.push_reserved.ensures.items c.note.ensures
+    kept_cancel s _ c.args.number q.first q.places.items (record { id = c.args.id; result = None }) (s.collected + c.len.result) _
+    c.requires.kept c.requires.waits c.remove.ensures.left (omega (arith, c.len.ensures, s.done.ok.0)) (search rules)
+    c.push_reserved.ensures.items c.note.ensures
 
 pub returns-clause-results : goal.returns-clause-results
 returns-clause-results c =

@@ -19,5 +19,7 @@ pub returns-clause-results : goal.returns-clause-results
 returns-clause-results c =
     let s = c.args.self.now in
     let rest = c.pop_front.new.self.items in
-    let front : s.done.items ≡ c.in_ok-front.front ∷ rest = search rules in
-    (front_result s.done.items rest c.in_ok-front.front front, collect_clears (rows_of s) (place_of s) c.in_ok-front.front rest c.requires.kept.indexed front)
+    let front : s.done.items ≡ c.in_ok-front.front ∷ rest = search rules in (
+      front_result s.done.items rest c.in_ok-front.front front,
+      collect_clears (rows_of s) (place_of s) c.in_ok-front.front rest c.requires.kept.indexed front,
+    )
