@@ -3,7 +3,7 @@
 /// A handle or a request: its slot in the arena, and the slot's generation when it was taken.
 ///
 /// A slot that was freed and taken again has a larger generation, so a stale id is told from a live one (own).
-#[derive(Clone, Copy, Debug, PartialEq, Eq)]
+#[derive(Clone, Copy, Debug, PartialEq, Eq, Hash)]
 pub struct Id {
     pub slot: u32,
     pub generation: u32,

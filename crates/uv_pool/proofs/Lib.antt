@@ -1,0 +1,10 @@
+pub mod Numbers
+pub mod JobLists
+pub mod Leaving
+pub mod Standing
+pub mod Kept
+pub mod Found
+pub mod Results
+pub mod Replays
+pub mod Keeps
+pub mod Turns

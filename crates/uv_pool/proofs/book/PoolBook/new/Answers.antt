@@ -1,0 +1,21 @@
+use Rattle.std.proofs.Common.{◌+◌, Option, None, sym, subst, arith}
+use Rattle.std.proofs.lemmas.List.{length-replicate}
+use Rattle.uv_work.specs.Work.{Work}
+use Rattle.uv_pool.specs.Book.{IsCounted}
+use Rattle.uv_pool.specs.Contents.{Contents, fresh}
+use Rattle.uv_pool.proofs.Replays.{replays_fresh}
+use Rattle.uv_pool.proofs.book.PoolBook.new.Goals as goal
+
+pub invariant_of-result : goal.invariant_of-result
+invariant_of-result g c =
+    let n = c.args.workers in
+    let total = c.open-finishes.result.0.total in
+    let parts = c.split_off-own.result.parts in
+    let i : IsCounted (fresh n) total parts (n + 1) = record {
+      replay = replays_fresh n;
+      count = c.open-finishes.ensures.total;
+      parts = c.split_off-own.ensures.parts;
+      some = omega arith;
+      workers = omega (arith, length-replicate n (let x : Option Work = None in x));
+    } in
+    (c.in-Ok.ensures.1, subst (λ (x : Contents). IsCounted x total parts (n + 1)) (sym c.in-Ok.ensures.0) i)

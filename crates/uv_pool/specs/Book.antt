@@ -1,0 +1,42 @@
+-- What callers see of the pool's book.
+use Rattle.std.specs.Prelude.{◌≡◌, ◌+◌, ◌<◌, ◌≤◌, ℕ, List, Bool, true, false, Some, length, cond}
+use Rattle.std.specs.List.{count_by}
+use Rattle.uv_work.specs.Pool.{replay}
+use Rattle.uv_work.specs.declared.event.PoolEvent.{PoolEvent}
+use Rattle.uv_work.specs.declared.event.PoolEvent.TheVariants as event
+use Rattle.uv_pool.specs.Contents.{Contents, pool_of}
+use Rattle.uv_pool.specs.Hold.{Hold}
+
+-- whether the book is closed; the finishes booked in its own share of the ledger; the parts of that share
+pub record Rest : Type 0 where
+  pub closed : Bool
+  pub own : ℕ
+  pub spare : ℕ
+
+pub record Standing : Type 0 where
+  pub hold : Hold
+  pub rest : Rest
+
+abbrev pub is_finish : PoolEvent → Bool
+is_finish (event.Finish k id) = true
+is_finish _ = false
+
+-- the finishes of a log
+abbrev pub finish_count : List PoolEvent → ℕ
+finish_count log = count_by is_finish log
+
+-- the pool is the replay of the log, so each entry could be at its place
+abbrev pub IsReplay : Contents → Type 0
+IsReplay c = replay (length c.running) c.log ≡ Some (pool_of c)
+
+-- one finish more in the book's own share, where there was one
+abbrev pub booked : Bool → Rest → Rest
+booked ok r = record { closed = r.closed; own = r.own + cond ok 1 0; spare = r.spare }
+
+-- what every book keeps: its pool is the replay of its log, and the ledger's total is the number of finishes
+pub record IsCounted (c : Contents) (total own spare : ℕ) : Type 0 where
+  pub replay : IsReplay c
+  pub count : total ≡ finish_count c.log
+  pub parts : own ≡ spare
+  pub some : 0 < spare
+  pub workers : length c.running ≤ 1024

@@ -1,0 +1,9 @@
+pub mod Rows
+pub mod Jobs
+pub mod Contents
+pub mod Hold
+pub mod Held
+pub mod Book
+pub mod Results
+pub mod Calls
+pub mod Benches

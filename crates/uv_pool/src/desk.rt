@@ -1,0 +1,117 @@
+//! A worker's end of a book that threads share.
+ghost use Rattle.std.specs.Prelude.{◌≡◌, None, false, []};
+
+use crate::bench::Bench;
+use crate::locked::LockedBook;
+use std::alloc::Global;
+use std::marker::Model;
+use std::sync::Wait;
+use std::sync::ledger::{Ledger, Share};
+use uv_ids::{Fault, Why};
+use uv_work::{Job, PoolEvent, WorkResult};
+
+/// A worker's end of a lent book, with the list of events that it answered. `take` waits while nothing waits and the book
+/// is open; it answers none where nothing waits and the book is closed.
+#[derive(Drop)]
+pub struct Desk<'a, R: Wait, L: Ledger> {
+    rt: &'a R,
+    book: &'a LockedBook<L>,
+    events: Vec<PoolEvent>,
+    job: Option<Job>,
+    idle: bool,
+    closed: bool,
+}
+
+impl<'a, R: Wait, L: Ledger> Model for Desk<'a, R, L> {
+    ghost use Rattle.uv_pool.specs.Benches.{AtDesk};
+
+    ghost Value = { AtDesk };
+
+    ghost view = { λ d. record { events = d.events.items; job = d.job; idle = d.idle; closed = d.closed } };
+}
+
+impl<'a, R: Wait, L: Ledger> Desk<'a, R, L> {
+    /// A desk that has answered nothing.
+    pub fn new(rt: &'a R, alloc: Global, book: &'a LockedBook<L>) -> Desk<'a, R, L>
+        ensures { result ≡ record { events = []; job = None; idle = false; closed = false } }
+    {
+        Desk {
+            rt,
+            book,
+            events: Vec::new(alloc),
+            job: None,
+            idle: false,
+            closed: false,
+        }
+    }
+
+    /// The events that it answered.
+    pub fn events(&self) -> &[PoolEvent]
+        ensures { result.now ≡ self.now.events }
+    {
+        self.events.as_slice()
+    }
+}
+
+impl<'a, R: Wait, L: Ledger> Bench<L> for Desk<'a, R, L> {
+    ghost use Rattle.std.specs.Prelude.{◌≡◌, Some, true};
+
+    ghost answered = { λ d. d.events };
+
+    ghost gave = { λ d k job. d.job ≡ Some job };
+
+    ghost idle = { λ d. d.idle ≡ true };
+
+    ghost shut = { λ d. d.closed ≡ true };
+
+    fn enrol(&mut self, k: u16) -> Result<Share<L>, Fault> {
+        self.book.enrol(self.rt, k)
+    }
+
+    fn take(&mut self, k: u16) -> Result<Option<Job>, Fault> {
+        match self.events.reserve(2) {
+            Ok(()) => {}
+            Err(_) => return Err(Fault::Memory),
+        }
+        match self.book.take(self.rt, k) {
+            Ok(Some(job)) => {
+                self.events.push_reserved(PoolEvent::Take(k, job.req()));
+                self.job = Some(job);
+                Ok(Some(job))
+            }
+            Ok(None) => {
+                self.idle = true;
+                Ok(None)
+            }
+            Err(fault) => Err(fault),
+        }
+    }
+
+    fn finish(&mut self, k: u16, work: WorkResult, share: &mut Share<L>) -> Result<(), Fault> {
+        let job = work.job();
+        match self.job {
+            None => return Err(Fault::Refused(Why::NoWork)),
+            Some(given) => {
+                if !given.is(job) {
+                    return Err(Fault::Refused(Why::NoWork));
+                }
+            }
+        }
+        match self.events.reserve(1) {
+            Ok(()) => {}
+            Err(_) => return Err(Fault::Memory),
+        }
+        match self.book.finish(self.rt, k, work, share) {
+            Ok(()) => {}
+            Err(fault) => return Err(fault),
+        }
+        self.events.push_reserved(PoolEvent::Finish(k, job.req()));
+        self.job = None;
+        Ok(())
+    }
+
+    fn close(&mut self) {
+        self.book.close(self.rt);
+        self.closed = true;
+    }
+}

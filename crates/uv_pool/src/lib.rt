@@ -1,0 +1,23 @@
+//! The thread pool: its book, which real threads share under a lock, and its workers (libuv's "Thread pool work
+//! scheduling").
+#![tactic(auto)]
+
+mod bench;
+mod book;
+mod calls;
+mod desk;
+mod held;
+mod locked;
+mod places;
+mod queue;
+mod shift;
+
+pub use bench::Bench;
+pub use book::PoolBook;
+pub use desk::Desk;
+pub use locked::LockedBook;
+pub use places::Collected;
+pub use shift::{Gate, Shift, worker};
+
+#[cfg(test)]
+mod tests;

@@ -1,0 +1,113 @@
+//! The book under its lock.
+ghost use Rattle.std.specs.Prelude.{◌≡◌, ◌+◌, ◌<◌, IfOk, IfErr, cond, is_ok};
+ghost use Rattle.uv_pool.specs.Benches.{IsEnrolFault, IsTakeFault, IsFinishFault};
+
+use crate::book::PoolBook;
+use std::sync::ledger::{Ledger, Share};
+use std::sync::{Condvar, Mutex, MutexGuard, Wait};
+use uv_ids::Fault;
+use uv_work::{Job, WorkResult};
+
+/// A book that threads share. Whoever holds its lock may call the book; whoever has added to the log or closed the book
+/// calls `wake` once it has let the lock go.
+///
+/// A hold is short: it hashes nothing, and it waits for nothing but the room that a call makes.
+#[derive(Drop)]
+pub struct LockedBook<L: Ledger> {
+    book: Mutex<PoolBook<L>>,
+    /// Those who wait for the log to grow.
+    grown: Condvar,
+    /// Workers who wait for a job.
+    queued: Condvar,
+}
+
+impl<L: Ledger> LockedBook<L> {
+    /// Takes a book into a lock.
+    pub fn new(book: PoolBook<L>) -> LockedBook<L> {
+        LockedBook {
+            book: Mutex::new(book),
+            grown: Condvar::new(),
+            queued: Condvar::new(),
+        }
+    }
+
+    /// Waits for the lock.
+    pub fn lock<R: Wait>(&self, rt: &R) -> MutexGuard<'_, PoolBook<L>> {
+        self.book.lock(rt)
+    }
+
+    /// Waits until the log is longer than n, or the book closed.
+    pub fn wait_past<R: Wait>(&self, rt: &R, n: usize) {
+        let mut guard = self.book.lock(rt);
+        for _ in rt.forever() {
+            if guard.log().len() > n || guard.closed() {
+                return;
+            }
+            guard = self.grown.wait(rt, guard);
+        }
+        unreachable!()
+    }
+
+    /// Wakes all that wait: workers, and those in `wait_past`.
+    pub fn wake(&self) {
+        self.queued.notify_all();
+        self.grown.notify_all();
+    }
+
+    /// The book, where nobody shares it any more.
+    pub fn into_book(self) -> PoolBook<L> {
+        self.book.into_inner()
+    }
+
+    pub(crate) fn enrol<R: Wait>(&self, rt: &R, k: u16) -> Result<Share<L>, Fault>
+        ensures faults { IfErr result IsEnrolFault }
+        ensures share { IfOk result (λ share. (share.parts ≡ 1) × (share.amount ≡ 0)) }
+    {
+        self.book.lock(rt).enrol_worker(k)
+    }
+
+    /// Gives a worker a job; waits while nothing waits and the book is open.
+    pub(crate) fn take<R: Wait>(&self, rt: &R, k: u16) -> Result<Option<Job>, Fault>
+        ensures { IfErr result IsTakeFault }
+    {
+        let mut guard = self.book.lock(rt);
+        for _ in rt.forever() {
+            match guard.take(k) {
+                Ok(Some(job)) => {
+                    drop(guard);
+                    self.grown.notify_all();
+                    return Ok(Some(job));
+                }
+                Ok(None) => {}
+                Err(fault) => return Err(fault),
+            }
+            if guard.closed() {
+                return Ok(None);
+            }
+            guard = self.queued.wait(rt, guard);
+        }
+        unreachable!()
+    }
+
+    pub(crate) fn finish<R: Wait>(
+        &self,
+        rt: &R,
+        k: u16,
+        work: WorkResult,
+        share: &mut Share<L>,
+    ) -> Result<(), Fault>
+        requires { 0 < share.old.parts }
+        ensures faults { IfErr result IsFinishFault }
+        ensures parts { share.new.parts ≡ share.old.parts }
+        ensures amount { share.new.amount ≡ share.old.amount + cond (is_ok result) 1 0 }
+    {
+        let answer = self.book.lock(rt).finish_for(k, work, share);
+        self.grown.notify_all();
+        answer
+    }
+
+    pub(crate) fn close<R: Wait>(&self, rt: &R) {
+        self.book.lock(rt).close();
+        self.wake();
+    }
+}
