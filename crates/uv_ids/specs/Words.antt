@@ -17,6 +17,7 @@ kind_word kind.Timer = codes "timer"
 kind_word kind.Idle = codes "idle"
 kind_word kind.Prepare = codes "prepare"
 kind_word kind.Check = codes "check"
+kind_word kind.Async = codes "async"
 
 -- the word names no kind
 abbrev pub IsNoKind : List ℕ → Type 0

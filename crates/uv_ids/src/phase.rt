@@ -13,6 +13,8 @@ pub enum Kind {
     Prepare,
     /// Called once in each iteration, right after the poll (uv_check_t).
     Check,
+    /// Called in the poll after a send, from any thread (uv_async_t).
+    Async,
 }
 
 impl Kind {
@@ -25,6 +27,7 @@ impl Kind {
             Kind::Idle => "idle",
             Kind::Prepare => "prepare",
             Kind::Check => "check",
+            Kind::Async => "async",
         }
     }
 
@@ -38,6 +41,7 @@ impl Kind {
             b"idle" => Some(Kind::Idle),
             b"prepare" => Some(Kind::Prepare),
             b"check" => Some(Kind::Check),
+            b"async" => Some(Kind::Async),
             _ => None,
         }
     }

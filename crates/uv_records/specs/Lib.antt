@@ -1,0 +1,5 @@
+pub mod Handles
+pub mod Lists
+pub mod Refusals
+pub mod Slots
+pub mod Walks

@@ -1,0 +1,12 @@
+//! What the plain loop and the arena share: the records of handles, what each op does to one of them, when it is refused, the
+//! names of the lists, and what a slot holds.
+#![tactic(auto)]
+
+mod handle;
+mod lists;
+mod refusals;
+mod slot;
+
+pub use handle::HandleRecord;
+pub use lists::{ListName, WatcherKind};
+pub use slot::Slot;
