@@ -2,7 +2,7 @@
 use Rattle.std.proofs.Common.{◌≡◌, ◌≢◌, ℕ, zero, suc, ◌-◌, ◌<◌, ◌≤◌, if◌then◌else◌, Bool, true, false, ◌&&◌, List, [], ◌∷◌, length, set, slice_get, Some, None, is_some, option_and_then, refl, sym, ap, ◌∙◌, subst, inl, inr, arith}
 use Rattle.std.proofs.lemmas.Bool.Decides.{eqb_tells}
 use Rattle.std.proofs.lemmas.List.{length-map}
-use Rattle.std.proofs.lemmas.Option.{slice_get_within}
+use Rattle.std.proofs.lemmas.Option.{slice_get_within, slice_get_past}
 use Rattle.uv_ids.specs.declared.id.Id.{Id}
 use Rattle.uv_records.specs.declared.slot.Slot.{Slot}
 use Rattle.uv_records.specs.declared.lists.ListName.{ListName}
@@ -96,6 +96,11 @@ module _ {X : Type 0} where
         sound = sound;
         set = record {
           image = refl;
+          plain = λ i. record {
+            slots = (slots ∙ ap (λ (q : ℕ). set (held_slots m) x (record { generation = q; content = Some new })) (gen ∙ t.3)) i;
+            free = chain_edited x written m FREE i;
+            unused = m.row.capacity - length_edited x written m i;
+          };
           now = held_now n d (record { slot = written; links = c.links }) at (gen ∙ t.3);
           contents = λ e ne. held_other (held_slots m) (held_slots n) x written slots e ne;
           kept = λ e. elim (eqb_tells e.slot x) [
@@ -137,6 +142,7 @@ module _ {X : Type 0} where
         sound = sound;
         inserted = record {
           next = ap (plain.next_id (held_slots m) (m.row.capacity - x)) empty ∙ next_some (length (held_slots m)) (m.row.capacity - x) (omega arith) ∙ (λ i. Some (record { slot = long i; generation = 0 }));
+          vacant = held_by m d None (slice_get_past m.row.items x (omega arith));
           slot = refl;
           plain = (λ i. record { slots = slots_grown new m i; free = (chain_grown new m s.linked FREE (omega arith) ∙ empty) i; unused = left i })
               ∙ (λ i. plain.taken_from [] d new (record { slots = held_slots m; free = sym empty i; unused = m.row.capacity - x }))
@@ -200,6 +206,7 @@ module _ {X : Type 0} where
       let low = name_below v s l in chain_edited x written out (name_at v.names (number l)) ∙ both.0.others (name_at v.names (number l)) (omega arith) (λ e. absurd (omega (arith, low, e))) in
       let inserted : IsInserted v j new d u = record {
         next = ap (plain.next_id (held_slots m) (m.row.capacity - length m.row.items)) is ∙ ap (option_and_then (λ (q : Slot X). Some (plain.id_of x q))) (get-slots m.row.items x c on.1) ∙ (λ i. Some (record { slot = x; generation = sym gen i }));
+        vacant = held_now m d c on.1 (sym gen) ∙ empty;
         slot = refl;
         plain = (λ i. record { slots = slots i; free = (chain_edited x written out FREE ∙ both.0.now) i; unused = m.row.capacity - long i })
             ∙ (λ i. plain.taken_from (sym is i) d new (plain_slots v));

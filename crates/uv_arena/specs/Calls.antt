@@ -3,7 +3,7 @@ use Rattle.std.specs.Prelude.{◌≡◌, ◌≢◌, ℕ, true, false, eqb, List,
 use Rattle.uv_ids.specs.declared.id.Id.{Id}
 use Rattle.uv_records.specs.declared.lists.ListName.{ListName}
 use Rattle.uv_records.specs.Walks.{without}
-use Rattle.uv_records.specs.Slots.{next_free, taken, freed}
+use Rattle.uv_records.specs.Slots.{next_free, taken, freed, with_held}
 use Rattle.uv_arena.specs.declared.links.Place.{Place}
 use Rattle.uv_arena.specs.declared.undo.InsertUndo.{InsertUndo}
 use Rattle.uv_arena.specs.declared.undo.RemoveUndo.{RemoveUndo}
@@ -20,6 +20,7 @@ module _ {X : Type 0} where
   -- what is held under the id now was put there, in the slot that was next
   pub record IsInserted (old new : Image X) (v : X) (d : Id) (u : InsertUndo) : Type 0 where
     pub next : next_free (plain_slots old) ≡ Some d
+    pub vacant : held old d ≡ None
     pub slot : u.slot ≡ d.slot
     pub plain : plain_slots new ≡ taken d v (plain_slots old)
     pub now : held new d ≡ Some v
@@ -45,6 +46,7 @@ module _ {X : Type 0} where
   -- other content is held under the id
   pub record IsSet (old new : Image X) (d : Id) (v was : X) : Type 0 where
     pub image : new ≡ set_undone d.slot v old
+    pub plain : plain_slots new ≡ record (plain_slots old) { slots = with_held (plain_slots old).slots d v }
     pub now : held new d ≡ Some v
     pub contents : (e : Id) → e.slot ≢ d.slot → held new e ≡ held old e
     pub kept : (e : Id) → on_list new e ≡ on_list old e
