@@ -1,5 +1,5 @@
 -- What stands first, last, next and before on a list, and what the next taking gives.
-use Rattle.std.proofs.Common.{◌≡◌, ℕ, ◌-◌, ◌<◌, true, ◌&&◌, List, [], ◌∷◌, ◌++◌, length, Option, Some, None, is_some, option_and_then, refl, sym, ap, ◌∙◌, subst, inr, arith}
+use Rattle.std.proofs.Common.{◌≡◌, ℕ, eqb, ◌-◌, ◌<◌, true, false, ◌&&◌, List, [], ◌∷◌, ◌++◌, length, Option, Some, None, is_some, option_and_then, refl, sym, ap, ◌∙◌, subst, inr, arith}
 use Rattle.std.proofs.lemmas.List.{length-map}
 use Rattle.std.proofs.lemmas.Option.{slice_get_within}
 use Rattle.uv_ids.specs.declared.id.Id.{Id}
@@ -7,14 +7,15 @@ use Rattle.uv_records.specs.declared.slot.Slot.{Slot}
 use Rattle.uv_records.specs.declared.lists.ListName.{ListName}
 use Rattle.uv_records.specs.Lists.{number}
 use Rattle.uv_records.specs.Slots as plain
+use Rattle.uv_records.specs.Walks.{without}
 use Rattle.uv_arena.specs.declared.links.Links.{Links}
 use Rattle.uv_arena.specs.declared.links.Cell.{Cell}
-use Rattle.uv_arena.specs.Chains.{link, first, last, IsIn, IsSegment}
+use Rattle.uv_arena.specs.Chains.{link, first, last, IsIn, IsApart, IsSegment}
 use Rattle.uv_arena.specs.Image.{Image, FREE, name_at, chains, chain, links_in, links_at, slot_in, slot_at, head_at, tail_at, members, held_slots, plain_slots, held, on_list, IsSound}
 use Rattle.uv_arena.specs.Calls.{IsListed, IsFirst, IsLast}
 use Rattle.uv_arena.proofs.Lists.{in_left, in_right, first_is_in, last_is_in, segment_right}
 use Rattle.uv_arena.proofs.Memories.{get-links, get-slots, head_is, tail_is, placed, member_tells}
-use Rattle.uv_arena.proofs.Lookups.{held_now, is_on, member_held, name_below}
+use Rattle.uv_arena.proofs.Lookups.{held_now, is_loose, is_on, member_held, name_below, name_other, without_none, without_one}
 use Rattle.uv_arena.proofs.Changes.{none_first, some_first, next_some, chain_none}
 
 last_none : (x : ℕ) (xs : List ℕ) (q : Option ℕ) → last q (x ∷ xs) ≡ None → ⊥
@@ -63,7 +64,19 @@ module _ {X : Type 0} where
       let k = name_at v.names (number list) in let lt : k < 14 = name_below v s list in
       let is = sym (head_is v.memory s.linked k (omega arith)) ∙ e in
       let cut = some_first (chain v.memory k) x is in let one = is_member v s k x lt (first_is_in (chain v.memory k) x is) in
-      record { slot = one.slot; first = record { rest = cut.0; members = cut.1; listed = one.listed } }
+      let on = member_tells v.memory s.linked k (omega arith) x (first_is_in (chain v.memory k) x is) in
+      record {
+        slot = one.slot;
+        first = record {
+          rest = cut.0;
+          is = cut.1;
+          after = ap (λ l. without eqb l x) cut.1 ∙ without_one [] cut.0 x (subst IsApart cut.1 (s.linked.stands.lists k (omega arith)).apart);
+          others = λ l ne. let low : name_at v.names (number l) < 14 = name_below v s l in without_none (members v l) x (λ i.
+              let c = member_tells v.memory s.linked (name_at v.names (number l)) (omega arith) x i in
+              let same : c.0 ≡ on.0 = cc (c.1, on.1) in name_other v s l list ne (let one : name_at v.names (number l) ≡ k = cc (ap (λ (z : Cell X). z.links.list) same, c.2, on.2) in one));
+          listed = one.listed;
+        };
+      }
 
   pub first_none : (v : Image X) → IsSound v → (list : ListName) → head_at v.memory (name_at v.names (number list)) ≡ None → members v list ≡ []
   first_none v s list e =
@@ -79,7 +92,7 @@ module _ {X : Type 0} where
       let k = name_at v.names (number list) in let lt : k < 14 = name_below v s list in
       let is = sym (tail_is v.memory s.linked k (omega arith)) ∙ e in
       let cut = some_last (chain v.memory k) x is in let one = is_member v s k x lt (last_is_in (chain v.memory k) x is) in
-      record { slot = one.slot; last = record { front = cut.0; members = cut.1; listed = one.listed } }
+      record { slot = one.slot; last = record { front = cut.0; is = cut.1; listed = one.listed } }
 
   pub last_missing : (v : Image X) → IsSound v → (list : ListName) → tail_at v.memory (name_at v.names (number list)) ≡ None → members v list ≡ []
   last_missing v s list e =
@@ -138,3 +151,10 @@ module _ {X : Type 0} where
       let m = v.memory in
       ap (plain.next_id (held_slots m) (m.row.capacity - length m.row.items)) (chain_none m s.linked none) ∙ next_some (length (held_slots m)) (m.row.capacity - length m.row.items) (omega arith)
       ∙ (λ i. Some (record { slot = length-map m.row.items (λ (c : Cell X). c.slot) i; generation = 0 }))
+
+  -- a slot that is on no list is a member of none
+  pub apart_from : (v : Image X) → IsSound v → (d : Id) → is_some (held v d) ≡ true → on_list v d ≡ false → (l : ListName) → without eqb (members v l) d.slot ≡ members v l
+  apart_from v s d h bare l =
+      let k = name_at v.names (number l) in let lt : k < 14 = name_below v s l in
+      without_none (members v l) d.slot (λ i.
+      let c = member_tells v.memory s.linked k (omega arith) d.slot i in cc (is_loose v d h bare c.0 c.1, c.2))

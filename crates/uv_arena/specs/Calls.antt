@@ -97,11 +97,13 @@ module _ {X : Type 0} where
   -- the first of a list
   pub record IsFirst (i : Image X) (list : ListName) (d : Id) : Type 0 where
     pub rest : List ℕ
-    pub members : members i list ≡ d.slot ∷ rest
+    pub is : members i list ≡ d.slot ∷ rest
+    pub after : without eqb (members i list) d.slot ≡ rest
+    pub others : (l : ListName) → l ≢ list → without eqb (members i l) d.slot ≡ members i l
     pub listed : IsListed i d
 
   -- the last of a list
   pub record IsLast (i : Image X) (list : ListName) (d : Id) : Type 0 where
     pub front : List ℕ
-    pub members : members i list ≡ front ++ d.slot ∷ []
+    pub is : members i list ≡ front ++ d.slot ∷ []
     pub listed : IsListed i d

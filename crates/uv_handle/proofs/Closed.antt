@@ -1,10 +1,9 @@
 -- A handle is closed, and a closing one is taken and freed.
-use Rattle.std.proofs.Common.{◌≡◌, ℕ, ◌+◌, ◌∷◌, Option, Some, None, option_and_then, sym, ap, ◌∙◌, subst, arith}
+use Rattle.std.proofs.Common.{◌≡◌, ℕ, ◌+◌, ◌∷◌, Option, Some, option_and_then, sym, ap, ◌∙◌, subst, arith}
 use Rattle.uv_ids.specs.declared.id.Id.{Id}
 use Rattle.uv_records.specs.declared.handle.HandleRecord.{HandleRecord}
-use Rattle.uv_records.specs.declared.lists.ListName.TheVariants.{Closing, ClosingYet}
-use Rattle.uv_records.specs.Handles.{closed}
-use Rattle.uv_records.specs.Refusals.{close_refusal}
+use Rattle.uv_records.specs.declared.lists.ListName.{ListName}
+use Rattle.uv_records.specs.declared.lists.ListName.TheVariants.{ClosingYet}
 use Rattle.uv_records.specs.Count.{one_if, keeps_in, active_count}
 use Rattle.uv_records.specs.Slots as plain
 use Rattle.uv_arena.specs.declared.links.Place.{Place}
@@ -14,7 +13,7 @@ use Rattle.uv_arena.specs.Undo.{remove_undone, unlink_undone, CanUndoUnlink}
 use Rattle.uv_arena.specs.Calls.{IsPushed, IsUnlinked, IsRemoved, IsFirst, SameSlots}
 use Rattle.uv_handle.specs.declared.undo.RecordUndo.{RecordUndo}
 use Rattle.uv_handle.specs.Counted.{counted, alive_count, record_at, record_undone, CanUndoRecord, Fits32}
-use Rattle.uv_handle.specs.Changes.{IsChanged, IsClosed, IsTaken}
+use Rattle.uv_handle.specs.Changes.{IsChanged, IsEnlisted, IsTaken}
 use Rattle.uv_handle.proofs.Counts.{count_below, count_removed}
 
 module _ {X : Type 0} (read : X → Option HandleRecord) (make : HandleRecord → X) where
@@ -22,15 +21,15 @@ module _ {X : Type 0} (read : X → Option HandleRecord) (make : HandleRecord �
   pub same_count : (i j : Image X) → SameSlots i j → alive_count read j ≡ alive_count read i
   same_count i j h = ap (λ (s : plain.Slots X). active_count read s.slots) h.plain
 
-  pub shut_done : (i k j : Image X) (n m : ℕ) (d : Id) (h : HandleRecord) (u : RecordUndo) → record_at read i d ≡ Some h → close_refusal h ≡ None
-      → IsChanged read make (counted i n) (counted k m) d h (closed h) u → IsPushed k j Closing d (d.slot ∷ members k Closing)
-      → IsClosed read make (counted i n) (counted j m) d h (record { changed = u; pushed = record { slot = d.slot } })
-  shut_done i k j n m d h u there allowed c p = record {
+  pub enlist_done : (i k j : Image X) (n m : ℕ) (d : Id) (h new : HandleRecord) (list : ListName) (u : RecordUndo) → record_at read i d ≡ Some h
+      → IsChanged read make (counted i n) (counted k m) d h new u → IsPushed k j list d (d.slot ∷ members k list)
+      → IsEnlisted read make (counted i n) (counted j m) d h new list (record { changed = u; pushed = record { slot = d.slot } })
+  enlist_done i k j n m d h new list u there c p = record {
     there = there;
-    allowed = allowed;
     handle = ap (option_and_then read) (p.slots.contents d) ∙ c.handle;
-    lists = p.lists ∙ ap (λ l. d.slot ∷ l) (c.set.lists Closing);
+    lists = p.lists ∙ ap (λ l. d.slot ∷ l) (c.set.lists list);
     others = λ l ne. p.others l ne ∙ c.set.lists l;
+    listed = p.listed;
     contents = λ e ne. p.slots.contents e ∙ c.set.contents e ne;
     kept = λ e ne. p.kept e ne ∙ c.set.kept e;
     counts = c.counts ∙ sym (same_count k j p.slots);

@@ -1,5 +1,5 @@
 -- What holds after each call that changes a handle.
-use Rattle.std.specs.Prelude.{◌≡◌, ◌≢◌, eqb, ◌∷◌, Option, Some, None}
+use Rattle.std.specs.Prelude.{true, ◌≡◌, ◌≢◌, eqb, ◌∷◌, Option, Some, None}
 use Rattle.uv_ids.specs.declared.id.Id.{Id}
 use Rattle.uv_ids.specs.declared.id.Var.{Var}
 use Rattle.uv_ids.specs.declared.phase.Kind.{Kind}
@@ -15,9 +15,9 @@ use Rattle.uv_arena.specs.Image.{members, held, on_list, plain_slots}
 use Rattle.uv_arena.specs.Calls.{IsInserted, IsSet, IsFirst}
 use Rattle.uv_handle.specs.declared.undo.RecordUndo.{RecordUndo}
 use Rattle.uv_handle.specs.declared.undo.AddUndo.{AddUndo}
-use Rattle.uv_handle.specs.declared.undo.CloseUndo.{CloseUndo}
+use Rattle.uv_handle.specs.declared.undo.ListUndo.{ListUndo}
 use Rattle.uv_handle.specs.declared.undo.TakeUndo.{TakeUndo}
-use Rattle.uv_handle.specs.Counted.{Counted, IsCounted, record_at, found, record_undone, add_undone, close_undone, take_undone, CanUndoRecord, CanUndoAdd, CanUndoClose, CanUndoTake}
+use Rattle.uv_handle.specs.Counted.{Counted, IsCounted, record_at, found, record_undone, add_undone, enlist_undone, take_undone, CanUndoRecord, CanUndoAdd, CanUndoEnlist, CanUndoTake}
 
 module _ {X : Type 0} (read : X → Option HandleRecord) (make : HandleRecord → X) where
   -- a handle as `init` makes it is held under the id, and on no list
@@ -48,18 +48,24 @@ module _ {X : Type 0} (read : X → Option HandleRecord) (make : HandleRecord �
   abbrev pub Refused : (HandleRecord → Option Code) → Counted X → Counted X → Id → Code → Type 0
   Refused why old new d code = (refusal why (found read old.arena d) ≡ Some code) × (new ≡ old)
 
-  -- the handle is closing, at the front of the closing list
-  pub record IsClosed (old new : Counted X) (d : Id) (from : HandleRecord) (u : CloseUndo) : Type 0 where
+  -- the handle has this record now, and is at the front of a list
+  pub record IsEnlisted (old new : Counted X) (d : Id) (from to : HandleRecord) (list : ListName) (u : ListUndo) : Type 0 where
     pub there : record_at read old.arena d ≡ Some from
-    pub allowed : close_refusal from ≡ None
-    pub handle : record_at read new.arena d ≡ Some (closed from)
-    pub lists : members new.arena Closing ≡ d.slot ∷ members old.arena Closing
-    pub others : (l : ListName) → l ≢ Closing → members new.arena l ≡ members old.arena l
+    pub handle : record_at read new.arena d ≡ Some to
+    pub lists : members new.arena list ≡ d.slot ∷ members old.arena list
+    pub others : (l : ListName) → l ≢ list → members new.arena l ≡ members old.arena l
+    pub listed : on_list new.arena d ≡ true
     pub contents : (e : Id) → e.slot ≢ d.slot → held new.arena e ≡ held old.arena e
     pub kept : (e : Id) → e.slot ≢ d.slot → on_list new.arena e ≡ on_list old.arena e
     pub counts : IsCounted read new
-    pub undone : close_undone read make u new ≡ old
-    pub can_undo : CanUndoClose read make new u
+    pub undone : enlist_undone read make u new ≡ old
+    pub can_undo : CanUndoEnlist read make new u
+
+  -- the handle is closing, at the front of the closing list
+  pub record IsClosed (old new : Counted X) (d : Id) (u : ListUndo) : Type 0 where
+    pub from : HandleRecord
+    pub allowed : close_refusal from ≡ None
+    pub enlisted : IsEnlisted old new d from (closed from) Closing u
 
   -- the front of those that have yet to be closed is off its list, and its slot is freed
   pub record IsTaken (old new : Counted X) (d : Id) (content : X) (u : TakeUndo X) : Type 0 where

@@ -7,7 +7,7 @@ use Rattle.uv_arena.specs.Image.{Image, held, held_slots}
 use Rattle.uv_arena.specs.Undo.{set_undone, insert_undone, remove_undone, push_undone, unlink_undone, CanUndoSet, CanUndoInsert, CanUndoRemove, CanUndoPush, CanUndoUnlink}
 use Rattle.uv_handle.specs.declared.undo.RecordUndo.{RecordUndo}
 use Rattle.uv_handle.specs.declared.undo.AddUndo.{AddUndo}
-use Rattle.uv_handle.specs.declared.undo.CloseUndo.{CloseUndo}
+use Rattle.uv_handle.specs.declared.undo.ListUndo.{ListUndo}
 use Rattle.uv_handle.specs.declared.undo.TakeUndo.{TakeUndo}
 
 pub record Counted (X : Type 0) : Type 0 where
@@ -65,10 +65,10 @@ module _ {X : Type 0} (read : X → Option HandleRecord) where
       pub content : CanUndoSet c.arena u.slot (make u.old)
       pub counts : IsCounted (record_undone u c)
 
-    -- a close is taken back: the handle leaves the closing list, and its record is put back
-    abbrev pub close_undone : CloseUndo → Counted X → Counted X
-    close_undone u c = record_undone u.changed (counted (push_undone u.pushed.slot c.arena) c.count)
+    -- the handle leaves the list again, and its record is put back
+    abbrev pub enlist_undone : ListUndo → Counted X → Counted X
+    enlist_undone u c = record_undone u.changed (counted (push_undone u.pushed.slot c.arena) c.count)
 
-    pub record CanUndoClose (c : Counted X) (u : CloseUndo) : Type 0 where
+    pub record CanUndoEnlist (c : Counted X) (u : ListUndo) : Type 0 where
       pub pushed : CanUndoPush c.arena u.pushed.slot
       pub changed : CanUndoRecord (counted (push_undone u.pushed.slot c.arena) c.count) u.changed

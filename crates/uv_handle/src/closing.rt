@@ -9,12 +9,12 @@ ghost use Rattle.uv_records.specs.Refusals.{refusal, no_refusal, close_refusal};
 ghost use Rattle.uv_arena.specs.Image.{members, held, on_list};
 ghost use Rattle.uv_arena.specs.Undo.{splice_undone, CanUndoSplice};
 ghost use Rattle.uv_arena.specs.Calls.{IsFirst, IsSpliced};
-ghost use Rattle.uv_handle.specs.Counted.{counted, record_at, found, IsCounted, close_undone, CanUndoClose, take_undone, CanUndoTake};
-ghost use Rattle.uv_handle.specs.Changes.{Did, Refused, IsClosed, IsTaken};
+ghost use Rattle.uv_handle.specs.Counted.{counted, record_at, found, IsCounted, enlist_undone, CanUndoEnlist, take_undone, CanUndoTake};
+ghost use Rattle.uv_handle.specs.Changes.{Did, Refused, IsEnlisted, IsClosed, IsTaken};
 
 use crate::content::HoldsHandle;
 use crate::handles::{Handles, recounted};
-use crate::undo::{CloseUndo, RecordUndo, TakeUndo};
+use crate::undo::{ListUndo, RecordUndo, TakeUndo};
 use uv_arena::{Slots, SpliceUndo};
 use uv_ids::{Code, Id};
 use uv_records::{HandleRecord, ListName};
@@ -23,6 +23,7 @@ use uv_records::{HandleRecord, ListName};
 pub fn handle_at<T: HoldsHandle>(slots: &Slots<T>, id: Id) -> Result<HandleRecord, Code>
     ensures ok { IfOk result (λ h. (record_at T.held_record slots.now id ≡ Some h) × ((why : HandleRecord → Option Code) → refusal why (found T.held_record slots.now id) ≡ why h)) }
     ensures err { IfErr result (λ code. (why : HandleRecord → Option Code) → refusal why (found T.held_record slots.now id) ≡ Some code) }
+    ensures none { IfErr result (λ code. record_at T.held_record slots.now id ≡ None) }
 {
     match slots.get(id) {
         None => Err(Code::Estale),
@@ -79,43 +80,44 @@ impl Handles {
     }
 
     /// Closes a handle that is on no list: it goes to the front of the closing list (uv_close).
-    pub fn close<T: HoldsHandle>(&mut self, slots: &mut Slots<T>, id: Id) -> Result<CloseUndo, Code>
+    pub fn close<T: HoldsHandle>(&mut self, slots: &mut Slots<T>, id: Id) -> Result<ListUndo, Code>
         requires counts { IsCounted T.held_record (counted slots.old self.old) }
         requires loose { refusal close_refusal (found T.held_record slots.old id) ≡ None → on_list slots.old id ≡ false }
-        ensures ok { IfOk result (λ u. (h : HandleRecord) × IsClosed T.held_record T.of_record (counted slots.old self.old) (counted slots.new self.new) id h u) }
+        ensures ok { IfOk result (λ u. IsClosed T.held_record T.of_record (counted slots.old self.old) (counted slots.new self.new) id u) }
         ensures err { IfErr result (λ code. Refused T.held_record T.of_record close_refusal (counted slots.old self.old) (counted slots.new self.new) id code) }
     {
         match handle_at(slots, id) {
             Err(code) => Err(code),
             Ok(handle) => match handle.close_refusal() {
                 Some(code) => Err(code),
-                None => Ok(self.shut(slots, id, handle)),
+                None => Ok(self.enlist(slots, id, handle, handle.closed(), ListName::Closing)),
             },
         }
     }
 
-    /// Closes a handle that isn't closing yet.
-    fn shut<T: HoldsHandle>(
+    /// Writes another record of a handle that is on no list, and puts it at the front of one.
+    pub fn enlist<T: HoldsHandle>(
         &mut self,
         slots: &mut Slots<T>,
         id: Id,
-        handle: HandleRecord,
-    ) -> CloseUndo
-        requires found { record_at T.held_record slots.old id ≡ Some handle }
-        requires allowed { close_refusal handle ≡ None }
+        old: HandleRecord,
+        new: HandleRecord,
+        list: ListName,
+    ) -> ListUndo
+        requires found { record_at T.held_record slots.old id ≡ Some old }
         requires counts { IsCounted T.held_record (counted slots.old self.old) }
         requires loose { on_list slots.old id ≡ false }
-        ensures { IsClosed T.held_record T.of_record (counted slots.old self.old) (counted slots.new self.new) id handle result }
+        ensures { IsEnlisted T.held_record T.of_record (counted slots.old self.old) (counted slots.new self.new) id old new list result }
     {
-        let changed = self.change(slots, id, handle, handle.closed());
-        let pushed = slots.push_front(ListName::Closing, id);
-        CloseUndo { changed, pushed }
+        let changed = self.change(slots, id, old, new);
+        let pushed = slots.push_front(list, id);
+        ListUndo { changed, pushed }
     }
 
-    /// Takes a close back.
-    pub fn undo_close<T: HoldsHandle>(&mut self, slots: &mut Slots<T>, undo: CloseUndo)
-        requires { CanUndoClose T.held_record T.of_record (counted slots.old self.old) undo }
-        ensures { counted slots.new self.new ≡ close_undone T.held_record T.of_record undo (counted slots.old self.old) }
+    /// Takes back that a handle got another record and was put on a list, as a close does.
+    pub fn undo_enlist<T: HoldsHandle>(&mut self, slots: &mut Slots<T>, undo: ListUndo)
+        requires { CanUndoEnlist T.held_record T.of_record (counted slots.old self.old) undo }
+        ensures { counted slots.new self.new ≡ enlist_undone T.held_record T.of_record undo (counted slots.old self.old) }
     {
         slots.undo_push(undo.pushed);
         self.undo_change(slots, undo.changed);

@@ -7,7 +7,8 @@ mod content;
 mod handles;
 mod undo;
 
+pub use closing::handle_at;
 pub use content::HoldsHandle;
 pub use handles::Handles;
-pub use undo::{AddUndo, CloseUndo, RecordUndo, TakeUndo};
+pub use undo::{AddUndo, ListUndo, RecordUndo, TakeUndo};
 pub use uv_records::HandleRecord;

@@ -17,9 +17,9 @@ pub struct AddUndo {
     pub active: u32,
 }
 
-/// Takes a close back.
+/// Takes back that a handle got another record and was put on a list.
 #[derive(Clone, Copy, Debug, PartialEq, Eq)]
-pub struct CloseUndo {
+pub struct ListUndo {
     pub changed: RecordUndo,
     pub pushed: PushUndo,
 }

@@ -1,9 +1,10 @@
 //! What stands on the lists and in the free list.
-ghost use Rattle.std.specs.Prelude.{◌≡◌, ◌<◌, List, ◌∷◌, ◌++◌, [], None, IfSome, IfNone, length, true, ℕ};
+ghost use Rattle.std.specs.Prelude.{◌≡◌, ◌<◌, List, ◌∷◌, ◌++◌, [], None, IfSome, IfNone, length, true, false, is_some, eqb, ℕ};
 ghost use Rattle.uv_records.specs.declared.lists.ListName.{ListName};
 ghost use Rattle.uv_records.specs.Slots.{next_free};
+ghost use Rattle.uv_records.specs.Walks.{without};
 ghost use Rattle.uv_arena.specs.Chains.{first, last};
-ghost use Rattle.uv_arena.specs.Image.{FREE, chain, head_at, links_at, slot_at, members, plain_slots, on_list};
+ghost use Rattle.uv_arena.specs.Image.{FREE, chain, head_at, links_at, slot_at, members, plain_slots, held, on_list};
 ghost use Rattle.uv_arena.specs.Calls.{IsListed, IsFirst, IsLast, slot_of};
 
 use crate::arena::{FREE, Slots};
@@ -91,6 +92,14 @@ impl<T: Copy> Slots<T> {
 
     /// Whether something is held under an id, and is on a list.
     pub fn on_list(&self, id: Id) -> bool
+        ensures value { result ≡ on_list self.now id }
+        ensures apart { is_some (held self.now id) ≡ true → result ≡ false → (l : ListName) → without eqb (members self.now l) id.slot ≡ members self.now l }
+    {
+        self.is_sound();
+        self.is_linked(id)
+    }
+
+    fn is_linked(&self, id: Id) -> bool
         ensures { result ≡ on_list self.now id }
     {
         self.get(id).is_some() && self.links_or_loose(id.slot).list.is_some()
