@@ -43,7 +43,8 @@ next_some n zero lt = absurd (omega arith)
 next_some n (suc u) lt = refl
 
 module _ {X : Type 0} where
-  held_gone : (m : Memory X) (d : Id) (c : Cell X) → slice_get m.row.items d.slot ≡ Some c → c.slot.generation ≢ d.generation → plain.held (held_slots m) d ≡ None
+  held_gone : (m : Memory X) (d : Id) (c : Cell X) → slice_get m.row.items d.slot ≡ Some c → c.slot.generation ≢ d.generation
+      → plain.held (held_slots m) d ≡ None
   held_gone m d c at n = elim (eqb_tells c.slot.generation d.generation) [
     | inl q ↦ absurd (n q.1)
     | inr q ↦ held_by m d (Some c) at ∙ ap (λ (u : Bool). if u then c.slot.content else None) q.0
@@ -53,13 +54,16 @@ module _ {X : Type 0} where
   held_other ss ts x a e d n = ap (option_and_then (plain.held_in d)) (ap (λ l. slice_get l d.slot) e ∙ get_set ss x d.slot a (λ q. n (sym q)))
 
   -- another generation of a slot whose content changed is held there neither before nor after
-  on_kept : (v j : Image X) (e d : Id) (was new : X) → e.slot ≡ d.slot → held v d ≡ Some was → held j d ≡ Some new → (links_at j.memory e.slot).list ≡ (links_at v.memory e.slot).list → on_list j e ≡ on_list v e
+  on_kept : (v j : Image X) (e d : Id) (was new : X) → e.slot ≡ d.slot → held v d ≡ Some was → held j d ≡ Some new
+      → (links_at j.memory e.slot).list ≡ (links_at v.memory e.slot).list → on_list j e ≡ on_list v e
   on_kept v j e d was new at h k l =
       let old = held_tells v.memory d was h in let now = held_tells j.memory d new k in
       let old_at = ap (slice_get v.memory.row.items) at ∙ old.1 in let now_at = ap (slice_get j.memory.row.items) at ∙ now.1 in
       let same : is_some (held j e) ≡ is_some (held v e) = elim (eqb_tells d.generation e.generation) [
-        | inl q ↦ ap is_some (held_now j.memory e now.0 now_at (now.3 ∙ q.1) ∙ now.2) ∙ sym (ap is_some (held_now v.memory e old.0 old_at (old.3 ∙ q.1) ∙ old.2))
-        | inr q ↦ ap is_some (held_gone j.memory e now.0 now_at (λ z. q.1 (sym now.3 ∙ z))) ∙ sym (ap is_some (held_gone v.memory e old.0 old_at (λ z. q.1 (sym old.3 ∙ z))))
+        | inl q ↦ ap is_some (held_now j.memory e now.0 now_at (now.3 ∙ q.1) ∙ now.2)
+            ∙ sym (ap is_some (held_now v.memory e old.0 old_at (old.3 ∙ q.1) ∙ old.2))
+        | inr q ↦ ap is_some (held_gone j.memory e now.0 now_at (λ z. q.1 (sym now.3 ∙ z)))
+            ∙ sym (ap is_some (held_gone v.memory e old.0 old_at (λ z. q.1 (sym old.3 ∙ z))))
       ] in
       λ i. same i && is_some (l i)
 
@@ -88,7 +92,8 @@ module _ {X : Type 0} where
       let sound : IsSound j = record { linked = linked_edited m s.linked x written; fit = fit; names = s.names; last = s.last } in
       let put : Slot X = record { generation = (slot_at n x).generation; content = Some was } in
       let same : put ≡ c.slot = λ i. record { generation = (ap (λ o. (slot_in o).generation) at ∙ gen) i; content = sym t.2 i } in
-      let back : set_undone x was j ≡ v = ap (λ q. in_memory (edited x q) j) same ∙ ap (λ (q : Memory X). record { memory = q; names = v.names; last = v.last }) (edited_back m x written c t.1) in
+      let back : set_undone x was j ≡ v = ap (λ q. in_memory (edited x q) j) same
+          ∙ ap (λ (q : Memory X). record { memory = q; names = v.names; last = v.last }) (edited_back m x written c t.1) in
       let slots = slots_edited x written m c t.1 in
       record {
         within = slice_get_within m.row.items x c t.1;
@@ -104,7 +109,8 @@ module _ {X : Type 0} where
           now = held_now n d (record { slot = written; links = c.links }) at (gen ∙ t.3);
           contents = λ e ne. held_other (held_slots m) (held_slots n) x written slots e ne;
           kept = λ e. elim (eqb_tells e.slot x) [
-            | inl q ↦ on_kept v j e d was new q.1 is (held_now n d (record { slot = written; links = c.links }) at (gen ∙ t.3)) (ap (λ l. l.list) (list_edited x written m e.slot))
+            | inl q ↦ on_kept v j e d was new q.1 is (held_now n d (record { slot = written; links = c.links }) at (gen
+                ∙ t.3)) (ap (λ l. l.list) (list_edited x written m e.slot))
             | inr q ↦ on_list_by j v e (held_other (held_slots m) (held_slots n) x written slots e q.1) (ap (λ l. l.list) (list_edited x written m e.slot))
           ];
           lists = λ l. chain_edited x written m (name_at v.names (number l));
@@ -121,7 +127,8 @@ module _ {X : Type 0} where
   -- a slot that was never used
   pub record IsGrown (v : Image X) (new : X) : Type 0 where
     pub sound : IsSound (in_memory (grown new) v)
-    pub inserted : IsInserted v (in_memory (grown new) v) new (record { slot = length v.memory.row.items; generation = 0 }) (record { slot = length v.memory.row.items; fresh = true })
+    pub inserted : IsInserted v (in_memory (grown new) v) new (record { slot = length v.memory.row.items; generation = 0 }) (record { slot =
+        length v.memory.row.items; fresh = true })
 
   pub chain_none : (m : Memory X) → IsLinked m → head_at m FREE ≡ None → chain m FREE ≡ []
   chain_none m s e = none_first (chain m FREE) (sym (head_is m s FREE (omega arith)) ∙ e)
@@ -131,17 +138,21 @@ module _ {X : Type 0} where
       let m = v.memory in let x = length m.row.items in let n = grown new m in let j = in_memory (grown new) v in
       let d : Id = record { slot = x; generation = 0 } in let u : InsertUndo = record { slot = x; fresh = true } in
       let cell : Cell X = cell_of new in
-      let sound : IsSound j = record { linked = linked_grown new m s.linked room; fit = fit_grown v.last new m s.fit; names = s.names; last = s.last } in
+      let sound : IsSound j = record { linked = linked_grown new m s.linked room; fit = fit_grown v.last new m s.fit; names = s.names; last =
+          s.last } in
       let at = get_last m.row.items cell in
       let empty = chain_none m s.linked none in
       let long = length-map m.row.items (λ (c : Cell X). c.slot) in
       let now = held_now n d cell at refl in
-      let contents : (e : Id) → e.slot ≢ x → held j e ≡ held v e = λ e ne. ap (option_and_then (plain.held_in e)) (ap (λ l. slice_get l e.slot) (slots_grown new m) ∙ get_other (held_slots m) cell.slot e.slot (λ q. ne (q ∙ long))) in
+      let contents : (e : Id) → e.slot ≢ x → held j e ≡ held v e =
+          λ e ne. ap (option_and_then (plain.held_in e)) (ap (λ l. slice_get l e.slot) (slots_grown new m)
+          ∙ get_other (held_slots m) cell.slot e.slot (λ q. ne (q ∙ long))) in
       let left : n.row.capacity - length n.row.items ≡ m.row.capacity - x - 1 = omega (arith, length_grown new m) in
       record {
         sound = sound;
         inserted = record {
-          next = ap (plain.next_id (held_slots m) (m.row.capacity - x)) empty ∙ next_some (length (held_slots m)) (m.row.capacity - x) (omega arith) ∙ (λ i. Some (record { slot = long i; generation = 0 }));
+          next = ap (plain.next_id (held_slots m) (m.row.capacity - x)) empty
+              ∙ next_some (length (held_slots m)) (m.row.capacity - x) (omega arith) ∙ (λ i. Some (record { slot = long i; generation = 0 }));
           vacant = held_by m d None (slice_get_past m.row.items x (omega arith));
           slot = refl;
           plain = (λ i. record { slots = slots_grown new m i; free = (chain_grown new m s.linked FREE (omega arith) ∙ empty) i; unused = left i })
@@ -165,8 +176,10 @@ module _ {X : Type 0} where
   pub record IsReused (v : Image X) (new : X) (x : ℕ) : Type 0 where
     pub slot : x < length v.memory.row.items
     pub within : IsWithin (place_at v.memory x) (length v.memory.row.items)
-    pub sound : IsSound (in_memory (λ m. edited x (record { generation = (slot_at v.memory x).generation; content = Some new }) (taken_out (place_at v.memory x) m)) v)
-    pub inserted : IsInserted v (in_memory (λ m. edited x (record { generation = (slot_at v.memory x).generation; content = Some new }) (taken_out (place_at v.memory x) m)) v) new
+    pub sound : IsSound (in_memory (λ m. edited x (record { generation = (slot_at v.memory x).generation; content =
+        Some new }) (taken_out (place_at v.memory x) m)) v)
+    pub inserted : IsInserted v (in_memory (λ m. edited x (record { generation = (slot_at v.memory x).generation; content =
+        Some new }) (taken_out (place_at v.memory x) m)) v) new
         (record { slot = x; generation = (slot_at v.memory x).generation }) (record { slot = x; fresh = false })
 
   reused_at : (v : Image X) → IsSound v → (new : X) (x : ℕ) (rest : List ℕ) → chain v.memory FREE ≡ x ∷ rest → IsReused v new x
@@ -193,19 +206,26 @@ module _ {X : Type 0} where
         names = s.names;
         last = s.last;
       } in
-      let slots : held_slots n ≡ set (held_slots m) x written = slots_edited x written out (with_links loose c) at_out ∙ ap (λ l. set l x written) (slots_relinked t t.after t.before loose m) in
+      let slots : held_slots n ≡ set (held_slots m) x written = slots_edited x written out (with_links loose c) at_out
+          ∙ ap (λ l. set l x written) (slots_relinked t t.after t.before loose m) in
       let long : length n.row.items ≡ length m.row.items = length_edited x written out ∙ length_relinked t t.after t.before loose m in
       let contents : (e : Id) → e.slot ≢ x → held j e ≡ held v e = λ e ne. held_other (held_slots m) (held_slots n) x written slots e ne in
       let now = held_now n d (record { slot = written; links = loose }) at refl in
       let put : Slot X = record { generation = (slot_at n x).generation; content = None } in
       let same : put ≡ c.slot = λ i. record { generation = (ap (λ o. (slot_in o).generation) at ∙ gen) i; content = sym empty i } in
-      let front : front_place FREE x n ≡ t = ap (place_of FREE None x) (head_is n sound.linked FREE (omega arith) ∙ ap (λ l. first l None) (chain_edited x written out FREE ∙ both.0.now)) in
-      let back : insert_undone u j ≡ v = ap (λ p. in_memory (λ q. put_in p (edited x put q)) j) front ∙ ap (λ q. in_memory (λ r. put_in t (edited x q r)) j) same
-      ∙ ap (λ (q : Memory X). in_memory (λ r. put_in t q) v) (edited_back out x written (with_links loose c) at_out) ∙ ap (λ (q : Memory X). record { memory = q; names = v.names; last = v.last }) both.1 in
+      let front : front_place FREE x n ≡ t = ap (place_of FREE None x) (head_is n sound.linked FREE (omega arith)
+          ∙ ap (λ l. first l None) (chain_edited x written out FREE ∙ both.0.now)) in
+      let back : insert_undone u j ≡ v = ap (λ p. in_memory (λ q. put_in p (edited x put q)) j) front
+          ∙ ap (λ q. in_memory (λ r. put_in t (edited x q r)) j) same
+      ∙ ap (λ (q : Memory X). in_memory (λ r. put_in t q) v) (edited_back out x written (with_links loose c) at_out)
+          ∙ ap (λ (q : Memory X). record { memory = q; names = v.names; last = v.last }) both.1 in
       let far : (l : ListName) → chain n (name_at v.names (number l)) ≡ chain m (name_at v.names (number l)) = λ l.
-      let low = name_below v s l in chain_edited x written out (name_at v.names (number l)) ∙ both.0.others (name_at v.names (number l)) (omega arith) (λ e. absurd (omega (arith, low, e))) in
+      let low = name_below v s l in chain_edited x written out (name_at v.names (number l))
+          ∙ both.0.others (name_at v.names (number l)) (omega arith) (λ e. absurd (omega (arith, low, e))) in
       let inserted : IsInserted v j new d u = record {
-        next = ap (plain.next_id (held_slots m) (m.row.capacity - length m.row.items)) is ∙ ap (option_and_then (λ (q : Slot X). Some (plain.id_of x q))) (get-slots m.row.items x c on.1) ∙ (λ i. Some (record { slot = x; generation = sym gen i }));
+        next = ap (plain.next_id (held_slots m) (m.row.capacity - length m.row.items)) is
+            ∙ ap (option_and_then (λ (q : Slot X). Some (plain.id_of x q))) (get-slots m.row.items x c on.1)
+            ∙ (λ i. Some (record { slot = x; generation = sym gen i }));
         vacant = held_now m d c on.1 (sym gen) ∙ empty;
         slot = refl;
         plain = (λ i. record { slots = slots i; free = (chain_edited x written out FREE ∙ both.0.now) i; unused = m.row.capacity - long i })
@@ -213,7 +233,8 @@ module _ {X : Type 0} where
         now = now;
         loose = (λ i. is_some (held j d) && is_some (links_in (at i)).list) ∙ and_false (is_some (held j d));
         contents = contents;
-        kept = λ e ne. on_list_by j v e (contents e ne) (ap (λ l. l.list) (list_edited x written out e.slot) ∙ list_relinked t t.after t.before loose m e.slot (λ q. ne (sym q)));
+        kept = λ e ne. on_list_by j v e (contents e ne) (ap (λ l. l.list) (list_edited x written out e.slot)
+            ∙ list_relinked t t.after t.before loose m e.slot (λ q. ne (sym q)));
         lists = far;
         undone = back;
         can_undo = record {
@@ -230,10 +251,13 @@ module _ {X : Type 0} where
       }
 
   pub reuses : (v : Image X) → IsSound v → (new : X) (x : ℕ) → head_at v.memory FREE ≡ Some x → IsReused v new x
-  reuses v s new x e = let cut = some_first (chain v.memory FREE) x (sym (head_is v.memory s.linked FREE (omega arith)) ∙ e) in reused_at v s new x cut.0 cut.1
+  reuses v s new x e = let cut = some_first (chain v.memory FREE) x (sym (head_is v.memory s.linked FREE (omega arith)) ∙ e) in
+      reused_at v s new x cut.0 cut.1
 
   -- no slot is free, and none is unused
-  pub is_full : (v : Image X) → IsSound v → v.memory.row.capacity ≤ length v.memory.row.items → head_at v.memory FREE ≡ None → plain.next_free (plain_slots v) ≡ None
+  pub is_full : (v : Image X) → IsSound v → v.memory.row.capacity ≤ length v.memory.row.items → head_at v.memory FREE ≡ None
+      → plain.next_free (plain_slots v) ≡ None
   is_full v s le none =
       let m = v.memory in let left : m.row.capacity - length m.row.items ≡ 0 = omega arith in
-      ap (plain.next_id (held_slots m) (m.row.capacity - length m.row.items)) (chain_none m s.linked none) ∙ ap (plain.next_unused (length (held_slots m))) left
+      ap (plain.next_id (held_slots m) (m.row.capacity - length m.row.items)) (chain_none m s.linked none)
+          ∙ ap (plain.next_unused (length (held_slots m))) left

@@ -8,7 +8,8 @@ module _ {X : Type 0} where
   get-each f (y ∷ ys) zero x e = let same : y ≡ x = cc in ap (λ v. Some (f 0 v)) same
   get-each f (y ∷ ys) (suc j) x e = get-each (λ i. f (suc i)) ys j x e
 
-  pub get-each_back : (f : ℕ → X → X) (xs : List X) (j : ℕ) (z : X) → slice_get (each f xs) j ≡ Some z → (x : X) × (slice_get xs j ≡ Some x) × (z ≡ f j x)
+  pub get-each_back : (f : ℕ → X → X) (xs : List X) (j : ℕ) (z : X) → slice_get (each f xs) j ≡ Some z
+      → (x : X) × (slice_get xs j ≡ Some x) × (z ≡ f j x)
   get-each_back f [] j z e = cc
   get-each_back f (y ∷ ys) zero z e = (y, refl, cc)
   get-each_back f (y ∷ ys) (suc j) z e = get-each_back (λ i. f (suc i)) ys j z e
@@ -30,7 +31,8 @@ module _ {X : Type 0} where
   length-each f (x ∷ xs) = ap suc (length-each (λ j. f (suc j)) xs)
 
   -- one place is written
-  pub set-as : (xs : List X) (i : ℕ) (x v : X) (f : ℕ → X → X) → slice_get xs i ≡ Some x → f i x ≡ v → ((j : ℕ) (y : X) → i ≢ j → f j y ≡ y) → set xs i v ≡ each f xs
+  pub set-as : (xs : List X) (i : ℕ) (x v : X) (f : ℕ → X → X) → slice_get xs i ≡ Some x → f i x ≡ v → ((j : ℕ) (y : X) → i ≢ j → f j y ≡ y)
+      → set xs i v ≡ each f xs
   set-as [] i x v f g e h = cc
   set-as (y ∷ ys) zero x v f g e h =
       let same : y ≡ x = cc in (λ i. sym e i ∷ ys) ∙ (λ i. f 0 (sym same i) ∷ sym (each-same (λ j. f (suc j)) ys (λ j z w. h (suc j) z (λ q. absurd (omega arith)))) i)

@@ -68,11 +68,13 @@ module _ (ls : List Links) (k : ℕ) where
   segment_right p [] ys n h = h
   segment_right p (x ∷ xs) ys n h = segment_right (Some x) xs ys n h.1
 
-  pub segment_join : (p : Option ℕ) (xs ys : List ℕ) (n : Option ℕ) → IsSegment ls k p xs (first ys n) → IsSegment ls k (last p xs) ys n → IsSegment ls k p (xs ++ ys) n
+  pub segment_join : (p : Option ℕ) (xs ys : List ℕ) (n : Option ℕ) → IsSegment ls k p xs (first ys n) → IsSegment ls k (last p xs) ys n
+      → IsSegment ls k p (xs ++ ys) n
   segment_join p [] ys n a b = b
   segment_join p (x ∷ xs) ys n a b = (a.0 ∙ ap (λ z. Some (link k p z)) (sym (first_append xs ys n)), segment_join (Some x) xs ys n a.1 b)
 
-  pub segment_tells : (p : Option ℕ) (xs : List ℕ) (n : Option ℕ) → IsSegment ls k p xs n → (y : ℕ) → IsIn y xs → (m : Links) × (slice_get ls y ≡ Some m) × (m.list ≡ Some k)
+  pub segment_tells : (p : Option ℕ) (xs : List ℕ) (n : Option ℕ) → IsSegment ls k p xs n → (y : ℕ) → IsIn y xs
+      → (m : Links) × (slice_get ls y ≡ Some m) × (m.list ≡ Some k)
   segment_tells p [] n h y i = absurd i
   segment_tells p (x ∷ xs) n h y i = elim i [
     | inl e ↦ (link k p (first xs n), ap (λ z. slice_get ls z) e ∙ h.0, refl)

@@ -47,17 +47,21 @@ pub without_one : (us vs : List ℕ) (x : ℕ) → IsApart (us ++ x ∷ vs) → 
 without_one [] vs x h = without_first vs x ∙ without_none vs x h.0
 without_one (u ∷ us) vs x h = elim (eqb_tells u x) [
   | inl e ↦ absurd (h.0 (in_right u us (x ∷ vs) (inl e.1)))
-  | inr n ↦ ap (λ (b : Bool). if not b then u ∷ without eqb (us ++ x ∷ vs) x else without eqb (us ++ x ∷ vs) x) n.0 ∙ ap (λ l. u ∷ l) (without_one us vs x h.1)
+  | inr n ↦ ap (λ (b : Bool). if not b then u ∷ without eqb (us ++ x ∷ vs) x else without eqb (us ++ x ∷ vs) x) n.0
+      ∙ ap (λ l. u ∷ l) (without_one us vs x h.1)
 ]
 
 module _ {X : Type 0} where
   -- ---- held
 
   -- what a look-up of an id comes to, by the slot
-  pub held_by : (m : Memory X) (d : Id) (o : Option (Cell X)) → slice_get m.row.items d.slot ≡ o → plain.held (held_slots m) d ≡ option_and_then (plain.held_in d) (option_map (λ c. c.slot) o)
-  held_by m d o e = ap (option_and_then (plain.held_in d)) (slice_get-map (λ (c : Cell X). c.slot) m.row.items d.slot ∙ ap (option_map (λ c. c.slot)) e)
+  pub held_by : (m : Memory X) (d : Id) (o : Option (Cell X)) → slice_get m.row.items d.slot ≡ o
+      → plain.held (held_slots m) d ≡ option_and_then (plain.held_in d) (option_map (λ c. c.slot) o)
+  held_by m d o e = ap (option_and_then (plain.held_in d)) (slice_get-map (λ (c : Cell X). c.slot) m.row.items d.slot
+      ∙ ap (option_map (λ c. c.slot)) e)
 
-  pub held_now : (m : Memory X) (d : Id) (c : Cell X) → slice_get m.row.items d.slot ≡ Some c → c.slot.generation ≡ d.generation → plain.held (held_slots m) d ≡ c.slot.content
+  pub held_now : (m : Memory X) (d : Id) (c : Cell X) → slice_get m.row.items d.slot ≡ Some c → c.slot.generation ≡ d.generation
+      → plain.held (held_slots m) d ≡ c.slot.content
   held_now m d c at e = held_by m d (Some c) at ∙ ap (λ (u : Bool). if u then c.slot.content else None) (eq-eqb c.slot.generation d.generation e)
 
   pub record IsThere (m : Memory X) (d : Id) : Type 0 where
@@ -67,12 +71,14 @@ module _ {X : Type 0} where
     pub holds : cell.slot.content ≡ Some content
     pub generation : cell.slot.generation ≡ d.generation
 
-  pub held_tells : (m : Memory X) (d : Id) (v : X) → plain.held (held_slots m) d ≡ Some v → (c : Cell X) × (slice_get m.row.items d.slot ≡ Some c) × (c.slot.content ≡ Some v) × (c.slot.generation ≡ d.generation)
+  pub held_tells : (m : Memory X) (d : Id) (v : X) → plain.held (held_slots m) d ≡ Some v
+      → (c : Cell X) × (slice_get m.row.items d.slot ≡ Some c) × (c.slot.content ≡ Some v) × (c.slot.generation ≡ d.generation)
   held_tells m d v e = elim (or_none (slice_get m.row.items d.slot)) [
     | inl n ↦ let none : plain.held (held_slots m) d ≡ None = held_by m d None n in cc
     | inr c ↦ elim (eqb_tells c.0.slot.generation d.generation) [
       | inl y ↦ (c.0, c.1, sym (held_now m d c.0 c.1 y.1) ∙ e, y.1)
-      | inr n ↦ let none : plain.held (held_slots m) d ≡ None = held_by m d (Some c.0) c.1 ∙ ap (λ (u : Bool). if u then c.0.slot.content else None) n.0 in cc
+      | inr n ↦ let none : plain.held (held_slots m) d ≡ None = held_by m d (Some c.0) c.1
+          ∙ ap (λ (u : Bool). if u then c.0.slot.content else None) n.0 in cc
     ]
   ]
 
@@ -84,7 +90,8 @@ module _ {X : Type 0} where
   -- ---- on a list
 
   -- a slot that isn't on a list is held there by no links
-  pub is_loose : (v : Image X) (d : Id) → is_some (held v d) ≡ true → on_list v d ≡ false → (c : Cell X) → slice_get v.memory.row.items d.slot ≡ Some c → c.links.list ≡ None
+  pub is_loose : (v : Image X) (d : Id) → is_some (held v d) ≡ true → on_list v d ≡ false → (c : Cell X)
+      → slice_get v.memory.row.items d.slot ≡ Some c → c.links.list ≡ None
   is_loose v d h bare c at =
       let off : is_some (links_at v.memory d.slot).list ≡ false = ap (λ u. u && is_some (links_at v.memory d.slot).list) (sym h) ∙ bare in
       none_is c.links.list (ap (λ o. is_some (links_in o).list) (sym at) ∙ off)
@@ -99,13 +106,15 @@ module _ {X : Type 0} where
   pub is_on : (v : Image X) → IsSound v → (d : Id) → on_list v d ≡ true → IsThereOn v.memory d
   is_on v s d h =
       let t = is_there v.memory d (both_left (is_some (held v d)) (is_some (links_at v.memory d.slot).list) h) in
-      let on = some_is t.cell.links.list (ap (λ o. is_some (links_in o).list) (sym t.at) ∙ both_right (is_some (held v d)) (is_some (links_at v.memory d.slot).list) h) in
+      let on = some_is t.cell.links.list (ap (λ o. is_some (links_in o).list) (sym t.at)
+          ∙ both_right (is_some (held v d)) (is_some (links_at v.memory d.slot).list) h) in
       let lt = (placed v.memory s.linked on.0 d.slot t.cell t.at on.1).0 in
       let fit = s.fit d.slot t.cell t.at in
       let busy : on.0 ≢ FREE = λ e. cc (fit.free (on.1 ∙ ap Some e), t.holds) in
       record { there = t; list = on.0; on = on.1; below = omega (arith, lt, busy) }
 
-  pub on_list_by : (i j : Image X) (d : Id) → held i d ≡ held j d → (links_at i.memory d.slot).list ≡ (links_at j.memory d.slot).list → on_list i d ≡ on_list j d
+  pub on_list_by : (i j : Image X) (d : Id) → held i d ≡ held j d → (links_at i.memory d.slot).list ≡ (links_at j.memory d.slot).list
+      → on_list i d ≡ on_list j d
   on_list_by i j d e f = λ k. is_some (e k) && is_some (f k)
 
   -- ---- lists by name

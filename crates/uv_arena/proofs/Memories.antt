@@ -44,11 +44,13 @@ module _ {X : Type 0} where
   get-slots (y ∷ ys) (suc j) c e = get-slots ys j c e
 
   -- a function that leaves what is read off each
-  map-kept : {B : Type 0} (read : Cell X → B) (f : ℕ → Cell X → Cell X) (cs : List (Cell X)) → ((j : ℕ) (c : Cell X) → read (f j c) ≡ read c) → map read (each f cs) ≡ map read cs
+  map-kept : {B : Type 0} (read : Cell X → B) (f : ℕ → Cell X → Cell X) (cs : List (Cell X)) → ((j : ℕ) (c : Cell X) → read (f j c) ≡ read c)
+      → map read (each f cs) ≡ map read cs
   map-kept read f [] h = refl
   map-kept read f (c ∷ cs) h = λ i. h 0 c i ∷ map-kept read (λ j. f (suc j)) cs (λ j z. h (suc j) z) i
 
-  map-each : (f : ℕ → Links → Links) (cs : List (Cell X)) → map (λ c. c.links) (each (λ j c. with_links (f j c.links) c) cs) ≡ each f (map (λ c. c.links) cs)
+  map-each : (f : ℕ → Links → Links) (cs : List (Cell X)) → map (λ c. c.links) (each (λ j c. with_links (f j c.links) c) cs)
+      ≡ each f (map (λ c. c.links) cs)
   map-each f [] = refl
   map-each f (c ∷ cs) = ap (λ l. f 0 c.links ∷ l) (map-each (λ j. f (suc j)) cs)
 
@@ -84,13 +86,16 @@ module _ {X : Type 0} where
 
   pub own_relinked : (t : Place) (a b : Option ℕ) (l : Links) (m : Memory X) (c : Cell X) → slice_get m.row.items t.slot ≡ Some c
       → slice_get (relinked_memory t a b l m).row.items t.slot ≡ Some (with_links l c)
-  own_relinked t a b l m c e = get-each (relink_at t a b l) m.row.items t.slot c e ∙ ap (λ (z : Links). Some (with_links z c)) (own_links t a b l c.links)
+  own_relinked t a b l m c e = get-each (relink_at t a b l) m.row.items t.slot c e
+      ∙ ap (λ (z : Links). Some (with_links z c)) (own_links t a b l c.links)
 
   -- another slot stays on the chain that it is on
-  pub list_relinked : (t : Place) (a b : Option ℕ) (l : Links) (m : Memory X) (y : ℕ) → t.slot ≢ y → (links_at (relinked_memory t a b l m) y).list ≡ (links_at m y).list
+  pub list_relinked : (t : Place) (a b : Option ℕ) (l : Links) (m : Memory X) (y : ℕ) → t.slot ≢ y
+      → (links_at (relinked_memory t a b l m) y).list ≡ (links_at m y).list
   list_relinked t a b l m y n = elim (or_none (slice_get m.row.items y)) [
     | inl e ↦ ap (λ o. (links_in o).list) (get-each_none (relink_at t a b l) m.row.items y e ∙ sym e)
-    | inr c ↦ ap (λ o. (links_in o).list) (get-each (relink_at t a b l) m.row.items y c.0 c.1) ∙ same_list t a b l y c.0.links n ∙ ap (λ o. (links_in o).list) (sym c.1)
+    | inr c ↦ ap (λ o. (links_in o).list) (get-each (relink_at t a b l) m.row.items y c.0 c.1) ∙ same_list t a b l y c.0.links n
+        ∙ ap (λ o. (links_in o).list) (sym c.1)
   ]
 
   -- what is known after a chain became new
@@ -105,11 +110,13 @@ module _ {X : Type 0} where
       let tells = segment_tells (chains m).links k None (chain m k) None (s.stands.lists k lt).segment y h in
       subst (λ n. y < n) (length-map m.row.items (λ z. z.links)) (slice_get_within (chains m).links y tells.0 tells.1)
 
-  last_below : (m : Memory X) → IsLinked m → (k : ℕ) → k < 15 → (us vs : List ℕ) → chain m k ≡ us ++ vs → (o : Option ℕ) → o ≡ last None us → IsBelow o (length m.row.items)
+  last_below : (m : Memory X) → IsLinked m → (k : ℕ) → k < 15 → (us vs : List ℕ) → chain m k ≡ us ++ vs → (o : Option ℕ) → o ≡ last None us
+      → IsBelow o (length m.row.items)
   last_below m s k lt us vs is None e = tt
   last_below m s k lt us vs is (Some y) e = below m s k lt y (subst (IsIn y) (sym is) (in_left y us vs (last_is_in us y (sym e))))
 
-  first_below : (m : Memory X) → IsLinked m → (k : ℕ) → k < 15 → (us vs : List ℕ) → chain m k ≡ us ++ vs → (o : Option ℕ) → o ≡ first vs None → IsBelow o (length m.row.items)
+  first_below : (m : Memory X) → IsLinked m → (k : ℕ) → k < 15 → (us vs : List ℕ) → chain m k ≡ us ++ vs → (o : Option ℕ) → o ≡ first vs None
+      → IsBelow o (length m.row.items)
   first_below m s k lt us vs is None e = tt
   first_below m s k lt us vs is (Some y) e = below m s k lt y (subst (IsIn y) (sym is) (in_right y us vs (first_is_in vs y (sym e))))
 
@@ -131,14 +138,17 @@ module _ {X : Type 0} where
         others = λ k lt ne. walked (chains n) k (xs k) (st'.lists k lt) ∙ ap (λ u. cond u new (chain m k)) (eqb_no t.list k (λ e. ne (sym e)));
       }
 
-  pub put_made : (m : Memory X) → IsLinked m → (k x : ℕ) (us vs : List ℕ) → k < 15 → chain m k ≡ us ++ vs → (c : Cell X) → slice_get m.row.items x ≡ Some c → c.links.list ≡ None
-      → IsMade m (put_in (between k us x vs) m) (between k us x vs) (us ++ x ∷ vs) × (taken_out (between k us x vs) (put_in (between k us x vs) m) ≡ m)
+  pub put_made : (m : Memory X) → IsLinked m → (k x : ℕ) (us vs : List ℕ) → k < 15 → chain m k ≡ us ++ vs → (c : Cell X)
+      → slice_get m.row.items x ≡ Some c → c.links.list ≡ None
+      → IsMade m (put_in (between k us x vs) m) (between k us x vs) (us ++ x ∷ vs)
+          × (taken_out (between k us x vs) (put_in (between k us x vs) m) ≡ m)
   put_made m s k x us vs lt is c at free =
       let t = between k us x vs in
       let got = get-links m.row.items x c at in
       let bare = got ∙ ap Some (s.stands.rest x c.links got free) in
       let both = link_stands (chains m) (chain m) s.stands k x us vs lt is bare in
-      let within : IsWithin t (length m.row.items) = (lt, last_below m s k lt us vs is (last None us) refl, slice_get_within m.row.items x c at, first_below m s k lt us vs is (first vs None) refl) in (
+      let within : IsWithin t (length m.row.items) = (lt, last_below m s k lt us vs is (last None us) refl, slice_get_within m.row.items x c at,
+          first_below m s k lt us vs is (first vs None) refl) in (
         made m s t (Some x) (Some x) (link k (last None us) (first vs None)) (us ++ x ∷ vs) within both.0,
         memory_back t (Some x) (Some x) (first vs None) (last None us) (link k (last None us) (first vs None)) loose m both.1,
       )
@@ -181,12 +191,14 @@ module _ {X : Type 0} where
   no_links (c ∷ cs) (suc y) l n e = no_links cs y l n e
 
   -- a slot that is a member of a chain says so
-  pub member_tells : (m : Memory X) → IsLinked m → (k : ℕ) → k < 15 → (x : ℕ) → IsIn x (chain m k) → (c : Cell X) × (slice_get m.row.items x ≡ Some c) × (c.links.list ≡ Some k)
+  pub member_tells : (m : Memory X) → IsLinked m → (k : ℕ) → k < 15 → (x : ℕ) → IsIn x (chain m k)
+      → (c : Cell X) × (slice_get m.row.items x ≡ Some c) × (c.links.list ≡ Some k)
   member_tells m s k lt x h =
       let tells = segment_tells (chains m).links k None (chain m k) None (s.stands.lists k lt).segment x h in
       elim (or_none (slice_get m.row.items x)) [
         | inl n ↦ absurd (no_links m.row.items x tells.0 n tells.1)
-        | inr c ↦ let same : c.0.links ≡ tells.0 = cc (get-links m.row.items x c.0 c.1, tells.1) in (c.0, c.1, ap (λ (z : Links). z.list) same ∙ tells.2)
+        | inr c ↦ let same : c.0.links ≡ tells.0 = cc (get-links m.row.items x c.0 c.1, tells.1) in
+            (c.0, c.1, ap (λ (z : Links). z.list) same ∙ tells.2)
       ]
 
   -- ---- what a slot holds is written
@@ -212,8 +224,10 @@ module _ {X : Type 0} where
     few = h.few;
   }
 
-  pub own_edited : (x : ℕ) (s : Slot X) (m : Memory X) (c : Cell X) → slice_get m.row.items x ≡ Some c → slice_get (edited x s m).row.items x ≡ Some (record { slot = s; links = c.links })
-  own_edited x s m c at = get-each (edit_at x s) m.row.items x c at ∙ ap (λ (u : Bool). Some (cond u (record { slot = s; links = c.links }) c)) (eq-eqb x x refl)
+  pub own_edited : (x : ℕ) (s : Slot X) (m : Memory X) (c : Cell X) → slice_get m.row.items x ≡ Some c
+      → slice_get (edited x s m).row.items x ≡ Some (record { slot = s; links = c.links })
+  own_edited x s m c at = get-each (edit_at x s) m.row.items x c at
+      ∙ ap (λ (u : Bool). Some (cond u (record { slot = s; links = c.links }) c)) (eq-eqb x x refl)
 
   other_edited : (x : ℕ) (s : Slot X) (y : ℕ) (c : Cell X) → x ≢ y → edit_at x s y c ≡ c
   other_edited x s y c n = ap (λ (u : Bool). cond u (record { slot = s; links = c.links }) c) (eqb_no x y n)
@@ -225,10 +239,12 @@ module _ {X : Type 0} where
   ]
 
   -- the plain slots are written too
-  pub slots_edited : (x : ℕ) (s : Slot X) (m : Memory X) (c : Cell X) → slice_get m.row.items x ≡ Some c → held_slots (edited x s m) ≡ set (held_slots m) x s
+  pub slots_edited : (x : ℕ) (s : Slot X) (m : Memory X) (c : Cell X) → slice_get m.row.items x ≡ Some c
+      → held_slots (edited x s m) ≡ set (held_slots m) x s
   slots_edited x s m c at =
       let new : Cell X = record { slot = s; links = c.links } in
-      let written = set-as m.row.items x c new (edit_at x s) at (ap (λ (u : Bool). cond u (record { slot = s; links = c.links }) c) (eq-eqb x x refl)) (λ j z n. other_edited x s j z n) in
+      let written = set-as m.row.items x c new (edit_at x s) at (ap (λ (u : Bool). cond u (record { slot = s; links =
+          c.links }) c) (eq-eqb x x refl)) (λ j z n. other_edited x s j z n) in
       ap (map (λ z. z.slot)) (sym written) ∙ map-set (λ (z : Cell X). z.slot) m.row.items x new
 
   edit_twice : (u : Bool) (s s' : Slot X) (c : Cell X) → (let r : Cell X = cond u (record { slot = s; links = c.links }) c in
@@ -257,7 +273,8 @@ module _ {X : Type 0} where
   pub others_fit : (last x : ℕ) (cs : List (Cell X)) → AreFit last cs → OthersFit last x cs
   others_fit last x cs h y c n at = h y c at
 
-  pub fit_relinked : (last : ℕ) (t : Place) (a b : Option ℕ) (l : Links) (m : Memory X) → OthersFit last t.slot m.row.items → OthersFit last t.slot (relinked_memory t a b l m).row.items
+  pub fit_relinked : (last : ℕ) (t : Place) (a b : Option ℕ) (l : Links) (m : Memory X) → OthersFit last t.slot m.row.items
+      → OthersFit last t.slot (relinked_memory t a b l m).row.items
   fit_relinked last t a b l m h y z n at =
       let was = get-each_back (relink_at t a b l) m.row.items y z at in
       subst (λ (q : Cell X). Fits last q.links.list q.slot) (sym was.2)
@@ -268,7 +285,8 @@ module _ {X : Type 0} where
       let was = get-each_back (edit_at x s) m.row.items y z at in
       subst (λ (q : Cell X). Fits last q.links.list q.slot) (sym (was.2 ∙ other_edited x s y was.0 n)) (h y was.0 n was.1)
 
-  pub all_fit : (last x : ℕ) (cs : List (Cell X)) → OthersFit last x cs → (c : Cell X) → slice_get cs x ≡ Some c → Fits last c.links.list c.slot → AreFit last cs
+  pub all_fit : (last x : ℕ) (cs : List (Cell X)) → OthersFit last x cs → (c : Cell X) → slice_get cs x ≡ Some c → Fits last c.links.list c.slot
+      → AreFit last cs
   all_fit last x cs h c at own y z q = elim (eqb_tells x y) [
     | inl e ↦ let same : c ≡ z = cc (at, ap (slice_get cs) e.1 ∙ q) in subst (λ (w : Cell X). Fits last w.links.list w.slot) same own
     | inr n ↦ h y z n.1 q

@@ -94,7 +94,8 @@ module _ (ns : List ℕ) (a b : ℕ) (la : a < length ns) (lb : b < length ns) w
   moved_below k j (inr (inr p)) lt = subst (λ n. n < length ns) (sym p.2) lt
 
   -- list a is what list b was, and the other way; the others stay
-  pub swapped_names : (name_at (swap ns a b) a ≡ name_at ns b) × (name_at (swap ns a b) b ≡ name_at ns a) × ((k : ℕ) → k ≢ a → k ≢ b → name_at (swap ns a b) k ≡ name_at ns k)
+  pub swapped_names : (name_at (swap ns a b) a ≡ name_at ns b) × (name_at (swap ns a b) b ≡ name_at ns a)
+      × ((k : ℕ) → k ≢ a → k ≢ b → name_at (swap ns a b) k ≡ name_at ns k)
   swapped_names = swapped_from_swap ns (swap ns a b) a b 0 la lb refl
 
 pub swap_twice : (ns : List ℕ) (a b : ℕ) → a < length ns → b < length ns → swap (swap ns a b) a b ≡ ns
@@ -108,7 +109,8 @@ swap_twice ns a b la lb =
 pub names_swapped : (ns : List ℕ) → AreNames ns → (a b : ℕ) → a < 14 → b < 14 → AreNames (swap ns a b)
 names_swapped ns h a b la lb =
     let la' : a < length ns = subst (λ n. a < n) (sym h.all) la in let lb' : b < length ns = subst (λ n. b < n) (sym h.all) lb in
-    let below : (k j : ℕ) → Moves a b k j → k < 14 → j < 14 = λ k j m lt. subst (λ n. j < n) h.all (moved_below ns a b la' lb' k j m (subst (λ n. k < n) (sym h.all) lt)) in
+    let below : (k j : ℕ) → Moves a b k j → k < 14 → j < 14 =
+        λ k j m lt. subst (λ n. j < n) h.all (moved_below ns a b la' lb' k j m (subst (λ n. k < n) (sym h.all) lt)) in
     record {
       all = length-swap ns a b ∙ h.all;
       below = λ k lt. let one = moved ns a b la' lb' k in subst (λ n. n < 14) (sym one.2) (h.below one.0 (below k one.0 one.1 lt));

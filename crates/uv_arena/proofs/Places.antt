@@ -9,13 +9,15 @@ use Rattle.uv_arena.proofs.Lists.{in_left, in_right, in_either, last_in, last_is
 use Rattle.uv_arena.proofs.Relinking.{own_links, before_kept, after_kept, IsThere, undone}
 use Rattle.uv_arena.proofs.Stand.{ends_put, with_list, IsRelinked, relinked_stands}
 
-segment_end : (ls : List Links) (k : ℕ) (p : Option ℕ) (xs : List ℕ) (n : Option ℕ) → IsSegment ls k p xs n → (i : ℕ) (m : Links) → last None xs ≡ Some i → slice_get ls i ≡ Some m → m.next ≡ n
+segment_end : (ls : List Links) (k : ℕ) (p : Option ℕ) (xs : List ℕ) (n : Option ℕ) → IsSegment ls k p xs n → (i : ℕ) (m : Links)
+    → last None xs ≡ Some i → slice_get ls i ≡ Some m → m.next ≡ n
 segment_end ls k p [] n h i m e g = cc
 segment_end ls k p (x ∷ []) n h i m e g =
     let same : x ≡ i = cc in let is : m ≡ link k p n = cc (ap (slice_get ls) same, h.0, g) in ap (λ (z : Links). z.next) is
 segment_end ls k p (x ∷ y ∷ ys) n h i m e g = segment_end ls k (Some x) (y ∷ ys) n h.1 i m e g
 
-segment_start : (ls : List Links) (k : ℕ) (p : Option ℕ) (xs : List ℕ) (n : Option ℕ) → IsSegment ls k p xs n → (i : ℕ) (m : Links) → first xs None ≡ Some i → slice_get ls i ≡ Some m → m.prev ≡ p
+segment_start : (ls : List Links) (k : ℕ) (p : Option ℕ) (xs : List ℕ) (n : Option ℕ) → IsSegment ls k p xs n → (i : ℕ) (m : Links)
+    → first xs None ≡ Some i → slice_get ls i ≡ Some m → m.prev ≡ p
 segment_start ls k p [] n h i m e g = cc
 segment_start ls k p (x ∷ xs) n h i m e g =
     let same : x ≡ i = cc in let is : m ≡ link k p (first xs n) = cc (ap (slice_get ls) same, h.0, g) in ap (λ (z : Links). z.prev) is
@@ -58,11 +60,13 @@ tail_own us (v ∷ vs) x e = cc
 
 module _ (c : Chains) (xs : ℕ → List ℕ) (s : Stands c xs) (k x : ℕ) (us vs : List ℕ) (lt : k < 15) where
   -- x, on no list, is put between us and vs
-  pub link_stands : xs k ≡ us ++ vs → slice_get c.links x ≡ Some loose → Stands (linked (between k us x vs) c) (with_list k (us ++ x ∷ vs) xs) × (unlinked (between k us x vs) (linked (between k us x vs) c) ≡ c)
+  pub link_stands : xs k ≡ us ++ vs → slice_get c.links x ≡ Some loose
+      → Stands (linked (between k us x vs) c) (with_list k (us ++ x ∷ vs) xs) × (unlinked (between k us x vs) (linked (between k us x vs) c) ≡ c)
   link_stands is bare =
       let t : Place = between k us x vs in
       let old : IsList c k (us ++ vs) = subst (IsList c k) is (s.lists k lt) in
-      let out : IsIn x (us ++ vs) → ⊥ = λ i. let on = segment_tells c.links k None (us ++ vs) None old.segment x i in let same : on.0 ≡ loose = cc (on.1, bare) in cc (ap (λ (z : Links). z.list) same, on.2) in
+      let out : IsIn x (us ++ vs) → ⊥ = λ i. let on = segment_tells c.links k None (us ++ vs) None old.segment x i in
+          let same : on.0 ≡ loose = cc (on.1, bare) in cc (ap (λ (z : Links). z.list) same, on.2) in
       let apart_u = apart_left us vs old.apart in let apart_v = apart_right us vs old.apart in let across = apart_across us vs old.apart in
       let b = last None us in let n = first vs None in let l : Links = link k b n in let X : Option ℕ = Some x in
       let left = before_kept t X X l c.links k None us n refl apart_u (λ i. out (in_left x us vs i)) (λ y i e. across y i (first_is_in vs y e)) (segment_left c.links k None us vs None old.segment) in
@@ -70,8 +74,10 @@ module _ (c : Chains) (xs : ℕ → List ℕ) (s : Stands c xs) (k x : ℕ) (us 
       let own = get-each (new_links t X X l) c.links x loose bare ∙ ap Some (own_links t X X l loose) in
       let made : IsList (linked t c) k (us ++ x ∷ vs) = record {
         segment = segment_join (linked t c).links k None us (x ∷ vs) None left (own, right);
-        apart = apart_join us (x ∷ vs) apart_u (λ i. out (in_right x us vs i), apart_v) (λ y i r. elim r [ inl e ↦ out (in_left x us vs (subst (λ z. IsIn z us) e i)) | inr q ↦ across y i q ]);
-        ends = ends_put t X X c (ends_of (us ++ vs)) old.ends ∙ ap Some (ends_at (none_or b X (first (us ++ vs) None)) (none_or n X (last None (us ++ vs))) (us ++ x ∷ vs) (head_with us vs x) (tail_with us vs x));
+        apart = apart_join us (x ∷ vs) apart_u (λ i. out (in_right x us vs i),
+            apart_v) (λ y i r. elim r [ inl e ↦ out (in_left x us vs (subst (λ z. IsIn z us) e i)) | inr q ↦ across y i q ]);
+        ends = ends_put t X X c (ends_of (us ++ vs)) old.ends
+            ∙ ap Some (ends_at (none_or b X (first (us ++ vs) None)) (none_or n X (last None (us ++ vs))) (us ++ x ∷ vs) (head_with us vs x) (tail_with us vs x));
       } in
       let r : IsRelinked c xs t X X l (us ++ x ∷ vs) = record {
         below = lt;
@@ -93,11 +99,13 @@ module _ (c : Chains) (xs : ℕ → List ℕ) (s : Stands c xs) (k x : ℕ) (us 
       (relinked_stands c xs s t X X l (us ++ x ∷ vs) r, undone t X X n b l loose c there)
 
   -- x is taken out from between us and vs
-  pub unlink_stands : xs k ≡ us ++ x ∷ vs → Stands (unlinked (between k us x vs) c) (with_list k (us ++ vs) xs) × (linked (between k us x vs) (unlinked (between k us x vs) c) ≡ c)
+  pub unlink_stands : xs k ≡ us ++ x ∷ vs → Stands (unlinked (between k us x vs) c) (with_list k (us ++ vs) xs)
+      × (linked (between k us x vs) (unlinked (between k us x vs) c) ≡ c)
   unlink_stands is =
       let t : Place = between k us x vs in
       let old : IsList c k (us ++ x ∷ vs) = subst (IsList c k) is (s.lists k lt) in
-      let apart_u = apart_left us (x ∷ vs) old.apart in let apart_w = apart_right us (x ∷ vs) old.apart in let across = apart_across us (x ∷ vs) old.apart in
+      let apart_u = apart_left us (x ∷ vs) old.apart in let apart_w = apart_right us (x ∷ vs) old.apart in
+          let across = apart_across us (x ∷ vs) old.apart in
       let b = last None us in let n = first vs None in let X : Option ℕ = Some x in
       let seg_u = segment_left c.links k None us (x ∷ vs) None old.segment in let seg_w = segment_right c.links k None us (x ∷ vs) None old.segment in
       let left = before_kept t n b loose c.links k None us X refl apart_u (λ i. across x i (inl refl)) (λ y i e. across y i (inr (first_is_in vs y e))) seg_u in
@@ -105,7 +113,8 @@ module _ (c : Chains) (xs : ℕ → List ℕ) (s : Stands c xs) (k x : ℕ) (us 
       let made : IsList (unlinked t c) k (us ++ vs) = record {
         segment = segment_join (unlinked t c).links k None us vs None left right;
         apart = apart_join us vs apart_u apart_w.1 (λ y i r. across y i (inr r));
-        ends = ends_put t n b c (ends_of (us ++ x ∷ vs)) old.ends ∙ ap Some (ends_at (none_or b n (first (us ++ x ∷ vs) None)) (none_or n b (last None (us ++ x ∷ vs))) (us ++ vs) (head_without us vs x) (tail_without us vs x));
+        ends = ends_put t n b c (ends_of (us ++ x ∷ vs)) old.ends
+            ∙ ap Some (ends_at (none_or b n (first (us ++ x ∷ vs) None)) (none_or n b (last None (us ++ x ∷ vs))) (us ++ vs) (head_without us vs x) (tail_without us vs x));
       } in
       let r : IsRelinked c xs t n b loose (us ++ vs) = record {
         below = lt;

@@ -27,7 +27,8 @@ module _ {X : Type 0} where
   -- ---- the parts that both share
 
   -- the plain slots, once the free list and the number of slots are as before
-  pub plain_same : (v j : Image X) → held_slots j.memory ≡ held_slots v.memory → chain j.memory FREE ≡ chain v.memory FREE → length j.memory.row.items ≡ length v.memory.row.items
+  pub plain_same : (v j : Image X) → held_slots j.memory ≡ held_slots v.memory → chain j.memory FREE ≡ chain v.memory FREE
+      → length j.memory.row.items ≡ length v.memory.row.items
       → j.memory.row.capacity ≡ v.memory.row.capacity → plain_slots j ≡ plain_slots v
   plain_same v j e f g h = λ k. record { slots = e k; free = f k; unused = h k - g k }
 
@@ -42,7 +43,8 @@ module _ {X : Type 0} where
     pub sound : IsSound (in_memory (put_in t) v)
     pub pushed : IsPushed v (in_memory (put_in t) v) list d now
 
-  put_between : (v : Image X) → IsSound v → (list : ListName) (d : Id) → is_some (held v d) ≡ true → on_list v d ≡ false → (us vs : List ℕ) → members v list ≡ us ++ vs
+  put_between : (v : Image X) → IsSound v → (list : ListName) (d : Id) → is_some (held v d) ≡ true → on_list v d ≡ false → (us vs : List ℕ)
+      → members v list ≡ us ++ vs
       → IsPut v list d (between (name_at v.names (number list)) us d.slot vs) (us ++ d.slot ∷ vs)
   put_between v s list d h bare us vs is =
       let k = name_at v.names (number list) in let x = d.slot in let m = v.memory in
@@ -61,14 +63,16 @@ module _ {X : Type 0} where
       }) in
       let stands : place_at n x ≡ t = ap (λ o. place_of (list_or_first (links_in o).list) (links_in o).prev x (links_in o).next) at in
       let slots = slots_relinked t (Some x) (Some x) own m in
-      let back : push_undone x j ≡ v = ap (λ p. in_memory (taken_out p) j) stands ∙ ap (λ (q : Memory X). record { memory = q; names = v.names; last = v.last }) both.1 in
+      let back : push_undone x j ≡ v = ap (λ p. in_memory (taken_out p) j) stands
+          ∙ ap (λ (q : Memory X). record { memory = q; names = v.names; last = v.last }) both.1 in
       record {
         within = subst (IsWithin t) long both.0.within;
         sound = record { linked = both.0.linked; fit = fit; names = s.names; last = s.last };
         pushed = record {
           lists = both.0.now;
           others = λ l ne. both.0.others (name_at v.names (number l)) (let low = name_below v s l in omega arith) (name_other v s l list ne);
-          slots = record { plain = plain_same v j slots (both.0.others FREE (omega arith) (λ e. absurd (omega (arith, e, lt)))) long refl; contents = held_same m n slots };
+          slots = record { plain = plain_same v j slots (both.0.others FREE (omega arith) (λ e. absurd (omega (arith, e, lt)))) long refl;
+              contents = held_same m n slots };
           listed = (λ i. is_some (held_same m n slots d i) && is_some (links_in (at i)).list) ∙ ap (λ u. u && true) h;
           kept = λ e ne. on_list_by j v e (held_same m n slots e) (list_relinked t (Some x) (Some x) own m e.slot (λ q. ne (sym q)));
           undone = back;
@@ -102,7 +106,8 @@ module _ {X : Type 0} where
     pub unlinked : IsUnlinked v (in_memory (taken_out (place_at v.memory d.slot)) v) d (place_at v.memory d.slot)
 
   taken_between : (v : Image X) → IsSound v → (d : Id) (on : IsThereOn v.memory d) (us vs : List ℕ) → chain v.memory on.list ≡ us ++ d.slot ∷ vs
-      → (let t = between on.list us d.slot vs in IsWithin t (length v.memory.row.items) × IsSound (in_memory (taken_out t) v) × IsUnlinked v (in_memory (taken_out t) v) d t)
+      → (let t = between on.list us d.slot vs in IsWithin t (length v.memory.row.items) × IsSound (in_memory (taken_out t) v)
+          × IsUnlinked v (in_memory (taken_out t) v) d t)
   taken_between v s d on us vs is =
       let k = on.list in let x = d.slot in let m = v.memory in let lt : k < 14 = on.below in
       let there = on.there in let c = there.cell in
@@ -122,16 +127,19 @@ module _ {X : Type 0} where
       let listed : (l : ListName) → members j l ≡ without eqb (members v l) x = λ l.
       let low : name_at v.names (number l) < 14 = name_below v s l in
       elim (eqb_tells (name_at v.names (number l)) k) [
-        | inl e ↦ ap (chain n) e.1 ∙ both.0.now ∙ sym (ap (λ q. without eqb q x) (ap (chain m) e.1 ∙ is) ∙ without_one us vs x (subst IsApart is (s.linked.stands.lists k (omega arith)).apart))
+        | inl e ↦ ap (chain n) e.1 ∙ both.0.now ∙ sym (ap (λ q. without eqb q x) (ap (chain m) e.1 ∙ is)
+            ∙ without_one us vs x (subst IsApart is (s.linked.stands.lists k (omega arith)).apart))
         | inr ne ↦ both.0.others (name_at v.names (number l)) (omega arith) ne.1
-            ∙ sym (without_none (members v l) x (λ i. let tells = member_tells m s.linked (name_at v.names (number l)) (omega arith) x i in ne.1 (let same : tells.0 ≡ c = cc (tells.1, there.at) in cc (ap (λ (z : Cell X). z.links.list) same, tells.2, on.on))))
+            ∙ sym (without_none (members v l) x (λ i. let tells = member_tells m s.linked (name_at v.names (number l)) (omega arith) x i in
+                ne.1 (let same : tells.0 ≡ c = cc (tells.1, there.at) in cc (ap (λ (z : Cell X). z.links.list) same, tells.2, on.on))))
       ] in (
         subst (IsWithin t) long both.0.within,
         record { linked = both.0.linked; fit = fit; names = s.names; last = s.last },
         record {
           slot = refl;
           lists = listed;
-          slots = record { plain = plain_same v j slots (both.0.others FREE (omega arith) (λ e. absurd (omega (arith, e, lt)))) long refl; contents = held_same m n slots };
+          slots = record { plain = plain_same v j slots (both.0.others FREE (omega arith) (λ e. absurd (omega (arith, e, lt)))) long refl;
+              contents = held_same m n slots };
           loose = (λ i. is_some (held j d) && is_some (links_in (at i)).list) ∙ and_false (is_some (held j d));
           kept = λ e ne. on_list_by j v e (held_same m n slots e) (list_relinked t t.after t.before loose m e.slot (λ q. ne (sym q)));
           undone = back;

@@ -59,7 +59,8 @@ module _ {X : Type 0} where
     pub slot : x < length v.memory.row.items
     pub first : IsFirst v list (id_at v x)
 
-  pub first_listed : (v : Image X) → IsSound v → (list : ListName) (x : ℕ) → head_at v.memory (name_at v.names (number list)) ≡ Some x → HeadIs v list x
+  pub first_listed : (v : Image X) → IsSound v → (list : ListName) (x : ℕ) → head_at v.memory (name_at v.names (number list)) ≡ Some x
+      → HeadIs v list x
   first_listed v s list x e =
       let k = name_at v.names (number list) in let lt : k < 14 = name_below v s list in
       let is = sym (head_is v.memory s.linked k (omega arith)) ∙ e in
@@ -73,7 +74,8 @@ module _ {X : Type 0} where
           after = ap (λ l. without eqb l x) cut.1 ∙ without_one [] cut.0 x (subst IsApart cut.1 (s.linked.stands.lists k (omega arith)).apart);
           others = λ l ne. let low : name_at v.names (number l) < 14 = name_below v s l in without_none (members v l) x (λ i.
               let c = member_tells v.memory s.linked (name_at v.names (number l)) (omega arith) x i in
-              let same : c.0 ≡ on.0 = cc (c.1, on.1) in name_other v s l list ne (let one : name_at v.names (number l) ≡ k = cc (ap (λ (z : Cell X). z.links.list) same, c.2, on.2) in one));
+              let same : c.0 ≡ on.0 = cc (c.1, on.1) in name_other v s l list ne (let one : name_at v.names (number l) ≡ k =
+                  cc (ap (λ (z : Cell X). z.links.list) same, c.2, on.2) in one));
           listed = one.listed;
         };
       }
@@ -87,7 +89,8 @@ module _ {X : Type 0} where
     pub slot : x < length v.memory.row.items
     pub last : IsLast v list (id_at v x)
 
-  pub last_listed : (v : Image X) → IsSound v → (list : ListName) (x : ℕ) → tail_at v.memory (name_at v.names (number list)) ≡ Some x → TailIs v list x
+  pub last_listed : (v : Image X) → IsSound v → (list : ListName) (x : ℕ) → tail_at v.memory (name_at v.names (number list)) ≡ Some x
+      → TailIs v list x
   last_listed v s list x e =
       let k = name_at v.names (number list) in let lt : k < 14 = name_below v s list in
       let is = sym (tail_is v.memory s.linked k (omega arith)) ∙ e in
@@ -113,7 +116,8 @@ module _ {X : Type 0} where
       let m = v.memory in let x = d.slot in let on = is_on v s d h in let c = on.there.cell in
       let cut = placed m s.linked on.list x c on.there.at on.on in let us = cut.1.0 in let vs = cut.1.1 in
       let own : links_at m x ≡ c.links = ap links_in on.there.at in
-      let by : (l : ListName) (ys zs : List ℕ) → members v l ≡ ys ++ x ∷ zs → (c.links.next ≡ first zs None) × (c.links.prev ≡ last None ys) = λ l ys zs is.
+      let by : (l : ListName) (ys zs : List ℕ) → members v l ≡ ys ++ x ∷ zs
+          → (c.links.next ≡ first zs None) × (c.links.prev ≡ last None ys) = λ l ys zs is.
       let k = name_at v.names (number l) in let lt : k < 14 = name_below v s l in
       let seg = segment_right (chains m).links k None ys (x ∷ zs) None (subst (λ q. IsSegment (chains m).links k None q None) is (s.linked.stands.lists k (omega arith)).segment) in
       let got = get-links m.row.items x c on.there.at in
@@ -149,11 +153,13 @@ module _ {X : Type 0} where
       → plain.next_free (plain_slots v) ≡ Some (record { slot = length v.memory.row.items; generation = 0 })
   next_unused v s none room =
       let m = v.memory in
-      ap (plain.next_id (held_slots m) (m.row.capacity - length m.row.items)) (chain_none m s.linked none) ∙ next_some (length (held_slots m)) (m.row.capacity - length m.row.items) (omega arith)
+      ap (plain.next_id (held_slots m) (m.row.capacity - length m.row.items)) (chain_none m s.linked none)
+          ∙ next_some (length (held_slots m)) (m.row.capacity - length m.row.items) (omega arith)
       ∙ (λ i. Some (record { slot = length-map m.row.items (λ (c : Cell X). c.slot) i; generation = 0 }))
 
   -- a slot that is on no list is a member of none
-  pub apart_from : (v : Image X) → IsSound v → (d : Id) → is_some (held v d) ≡ true → on_list v d ≡ false → (l : ListName) → without eqb (members v l) d.slot ≡ members v l
+  pub apart_from : (v : Image X) → IsSound v → (d : Id) → is_some (held v d) ≡ true → on_list v d ≡ false → (l : ListName)
+      → without eqb (members v l) d.slot ≡ members v l
   apart_from v s d h bare l =
       let k = name_at v.names (number l) in let lt : k < 14 = name_below v s l in
       without_none (members v l) d.slot (λ i.

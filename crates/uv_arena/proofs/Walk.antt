@@ -26,18 +26,22 @@ is_in q (x ∷ xs) e = elim (eqb_tells q x) [
 ]
 
 pub short : (ls : List Links) (k : ℕ) (xs : List ℕ) → IsApart xs → IsSegment ls k None xs None → length xs ≤ length ls
-short ls k xs apart h = length-le_from_distinct_below xs (length ls) (distinct xs apart) (λ q e. let on = segment_tells ls k None xs None h q (is_in q xs e) in slice_get_within ls q on.0 on.1)
+short ls k xs apart h = length-le_from_distinct_below xs (length ls) (distinct xs apart) (λ q e. let on =
+    segment_tells ls k None xs None h q (is_in q xs e) in slice_get_within ls q on.0 on.1)
 
-walk_segment : (ls : List Links) (k : ℕ) (f : ℕ) (p : Option ℕ) (xs : List ℕ) → length xs ≤ f → IsSegment ls k p xs None → walk ls f (first xs None) ≡ xs
+walk_segment : (ls : List Links) (k : ℕ) (f : ℕ) (p : Option ℕ) (xs : List ℕ) → length xs ≤ f → IsSegment ls k p xs None
+    → walk ls f (first xs None) ≡ xs
 unfolding walk
 walk_segment ls k zero p [] le h = refl
 walk_segment ls k zero p (x ∷ xs) le h = absurd (omega arith)
 walk_segment ls k (suc f) p [] le h = refl
-walk_segment ls k (suc f) p (x ∷ xs) le h = ap (λ o. x ∷ walk ls f (next_of o)) h.0 ∙ ap (λ l. x ∷ l) (walk_segment ls k f (Some x) xs (omega arith) h.1)
+walk_segment ls k (suc f) p (x ∷ xs) le h = ap (λ o. x ∷ walk ls f (next_of o)) h.0
+    ∙ ap (λ l. x ∷ l) (walk_segment ls k f (Some x) xs (omega arith) h.1)
 
 pub walked : (c : Chains) (k : ℕ) (xs : List ℕ) → IsList c k xs → list_of c k ≡ xs
 unfolding list_of
-walked c k xs h = ap (λ o. walk c.links (length c.links) (head_of o)) h.ends ∙ walk_segment c.links k (length c.links) None xs (short c.links k xs h.apart h.segment) h.segment
+walked c k xs h = ap (λ o. walk c.links (length c.links) (head_of o)) h.ends
+    ∙ walk_segment c.links k (length c.links) None xs (short c.links k xs h.apart h.segment) h.segment
 
 -- what stands for some lists stands for those that are walked
 pub stands_walked : (c : Chains) (xs : ℕ → List ℕ) → Stands c xs → Stands c (list_of c)

@@ -64,7 +64,8 @@ module _ {X : Type 0} (read : X → Option HandleRecord) where
       let long = length-map i.memory.row.items (λ (c : Cell X). c.slot) in let le = count_le (held_slots i.memory) in
       let within = s.linked.within in let few = s.linked.few in omega (arith, long, le, within, few)
 
-  pub count_changed : (i j : Image X) (d : Id) (new was : X) → held i d ≡ Some was → IsSet i j d new was → alive_count read j + one_if (keeps_in (read was)) ≡ alive_count read i + one_if (keeps_in (read new))
+  pub count_changed : (i j : Image X) (d : Id) (new was : X) → held i d ≡ Some was → IsSet i j d new was
+      → alive_count read j + one_if (keeps_in (read was)) ≡ alive_count read i + one_if (keeps_in (read new))
   count_changed i j d new was e h =
       let s = slot_tells (held_slots i.memory) d was e in let t : Slot X = record { generation = d.generation; content = Some new } in
       ap (λ l. active_count read l + one_if (keeps_in (read was))) (ap (λ (q : plain.Slots X). q.slots) h.plain)
@@ -80,28 +81,43 @@ module _ {X : Type 0} (read : X → Option HandleRecord) where
         let is : plain.id_of n q.0 ≡ d = cc (ap (option_and_then (λ (z : Slot X). Some (plain.id_of n z))) q.1, next) in
         let at : slice_get s.slots d.slot ≡ Some q.0 = ap (λ (z : Id). slice_get s.slots z.slot) (sym is) ∙ q.1 in
         let gen : q.0.generation ≡ d.generation = ap (λ (z : Id). z.generation) is in
-        let empty : q.0.content ≡ None = sym (ap (option_and_then (plain.held_in d)) at ∙ ap (λ (u : Bool). if u then q.0.content else None) (eq-eqb q.0.generation d.generation gen)) ∙ none in
+        let empty : q.0.content ≡ None = sym (ap (option_and_then (plain.held_in d)) at
+        ∙ ap (λ (u : Bool). if u then q.0.content else None) (eq-eqb q.0.generation d.generation gen)) ∙ none in
         let set = count_set s.slots d.slot q.0 (record { generation = d.generation; content = Some v }) at in
         let zero_was = ap (λ o. one_if (content_keeps read o)) empty in
         omega (arith, set, zero_was)
   ]
 
-  pub count_inserted : (i j : Image X) (v : X) (d : Id) (u : InsertUndo) → IsInserted i j v d u → alive_count read j ≡ alive_count read i + one_if (keeps_in (read v))
+  pub count_inserted : (i j : Image X) (v : X) (d : Id) (u : InsertUndo) → IsInserted i j v d u
+      → alive_count read j ≡ alive_count read i + one_if (keeps_in (read v))
   count_inserted i j v d u h =
       ap (active_count read) (ap (λ (q : plain.Slots X). q.slots) h.plain) ∙ count_taken (plain_slots i) (plain_slots i).free d v h.next h.vacant
 
-  count_freed : (last : ℕ) (d : Id) (s : plain.Slots X) (v : X) → plain.held s.slots d ≡ Some v → active_count read (plain.freed last d s).slots + one_if (keeps_in (read v)) ≡ active_count read s.slots
+  count_freed : (last : ℕ) (d : Id) (s : plain.Slots X) (v : X) → plain.held s.slots d ≡ Some v
+      → active_count read (plain.freed last d s).slots + one_if (keeps_in (read v)) ≡ active_count read s.slots
   count_freed last d s v e =
-      let way : Bool → plain.Slots X = λ b. if b then record { slots = set s.slots d.slot (record { generation = d.generation; content = None }); free = s.free; unused = s.unused }
-      else record { slots = set s.slots d.slot (record { generation = d.generation + 1; content = None }); free = d.slot ∷ s.free; unused = s.unused } in
+      let way : Bool → plain.Slots X = λ b. if b then record {
+        slots = set s.slots d.slot (record { generation = d.generation; content = None });
+        free = s.free;
+        unused = s.unused;
+      }
+      else record {
+        slots = set s.slots d.slot (record { generation = d.generation + 1; content = None });
+        free = d.slot ∷ s.free;
+        unused =
+            s.unused;
+      } in
       let t = slot_tells s.slots d v e in
       let was = ap (λ o. one_if (content_keeps read o)) t.2 in
-      let out : (g : ℕ) → active_count read (set s.slots d.slot (record { generation = g; content = None })) + one_if (keeps_in (read v)) ≡ active_count read s.slots = λ g.
+      let out : (g : ℕ) → active_count read (set s.slots d.slot (record { generation = g; content = None })) + one_if (keeps_in (read v))
+      ≡ active_count read s.slots = λ g.
       let one = count_set s.slots d.slot t.0 (record { generation = g; content = None }) t.1 in omega (arith, one, was) in
       elim (eqb_tells d.generation last) [
         | inl q ↦ ap (λ (b : Bool). active_count read (way b).slots + one_if (keeps_in (read v))) q.0 ∙ out d.generation
         | inr q ↦ ap (λ (b : Bool). active_count read (way b).slots + one_if (keeps_in (read v))) q.0 ∙ out (d.generation + 1)
       ]
 
-  pub count_removed : (i j : Image X) (d : Id) (v : X) (u : RemoveUndo X) → IsRemoved i j d v u → alive_count read j + one_if (keeps_in (read v)) ≡ alive_count read i
-  count_removed i j d v u h = ap (λ l. active_count read l + one_if (keeps_in (read v))) (ap (λ (q : plain.Slots X). q.slots) h.plain) ∙ count_freed i.last d (plain_slots i) v h.was
+  pub count_removed : (i j : Image X) (d : Id) (v : X) (u : RemoveUndo X) → IsRemoved i j d v u
+      → alive_count read j + one_if (keeps_in (read v)) ≡ alive_count read i
+  count_removed i j d v u h = ap (λ l. active_count read l + one_if (keeps_in (read v))) (ap (λ (q : plain.Slots X). q.slots) h.plain)
+      ∙ count_freed i.last d (plain_slots i) v h.was

@@ -24,7 +24,8 @@ module _ (E : El) where
 
 module _ (E : El) {M : Type 1} {𝓤 : Ura M} {𝓛 : Logic 𝓤} {K : Type 0} {Γ : List (Item 𝓤)} {G : Goal 𝓤 𝓛.H} where
   pub room_had : K → (d : (Room E).Denot) (vs : List Val)
-      → ((b o : ℕ) → d.start ≡ block_ptr b o → vs ≡ word (block_ptr b o) ∷ [] → length d.places * size E < 2 ^ 63 → Seq K 𝓛 (‵ (held (R E) b o d.places) ∷ Γ) G)
+      → ((b o : ℕ) → d.start ≡ block_ptr b o → vs ≡ word (block_ptr b o) ∷ [] → length d.places * size E < 2 ^ 63
+      → Seq K 𝓛 (‵ (held (R E) b o d.places) ∷ Γ) G)
       → Seq K 𝓛 (‵ ((Room E).own_val d vs) ∷ Γ) G
   room_had t d vs k =
       fsplit t $ fpick t (λ vss. fsplit t $ feq_l t (λ all. fsplit t $ feq_l t (λ e. drop t $
@@ -35,8 +36,12 @@ module _ (E : El) {M : Type 1} {𝓤 : Ura M} {𝓛 : Logic 𝓤} {K : Type 0} {
       → Step K 𝓛 (‵ ((Room E).own_val d (word (block_ptr b o) ∷ [])) ∷ Γ) G (‵ (held (R E) b o d.places) ∷ Γ) G
   room_made t d b o at fit = step (λ s.
       flt_i t (length d.places * size E) (2 ^ 63) fit $ fjoin t $
-      nothing t $ feq_i t (List Val) (ptr_val (block_ptr b o) ∷ []) (ptr_val (block_ptr b o) ∷ []) refl $ fjoin t $ feq_i t (List Val) (word (block_ptr b o) ∷ []) (word (block_ptr b o) ∷ []) refl $ fjoin t $
-      fpack t (Valss (shape (C.the_type (R E))).fields) (within (shape (C.the_type (R E))) (block_ptr b o, tt) (word (block_ptr b o) ∷ [])) (ptr_val (block_ptr b o) ∷ [], tt) $ fjoin t $
+      nothing t $ feq_i t (List Val) (ptr_val (block_ptr b o) ∷ []) (ptr_val (block_ptr b o) ∷ []) refl $ fjoin t $
+      feq_i t (List Val) (word (block_ptr b o) ∷ []) (word (block_ptr b o) ∷ []) refl $ fjoin t $
+      fpack t (Valss (shape (C.the_type (R E))).fields) (within (shape (C.the_type (R E))) (
+        block_ptr b o,
+        tt,
+      ) (word (block_ptr b o) ∷ [])) (ptr_val (block_ptr b o) ∷ [], tt) $ fjoin t $
       rewrite t 0 (λ (p : Ptr). ‵ (fsep ((Data E).own_val (p, tt) (word (block_ptr b o) ∷ [])) (room_owns (R E) p d.places))) (sym at) refl $ s)
 
 module _ (E : El) {M : Type 1} {𝓤 : Ura M} {𝓛 : Logic 𝓤} {K : Type 0} {Γ : List (Item 𝓤)} {G : Goal 𝓤 𝓛.H} where
@@ -48,10 +53,12 @@ module _ (E : El) {M : Type 1} {𝓤 : Ura M} {𝓛 : Logic 𝓤} {K : Type 0} {
   room_opens t z d rb ro k = opens t z (Room E) {h = d} rb ro (λ vs. move t (1 ∷ []) $ room_had E t d vs (λ b o at is fit.
       rewrite t 1 (λ (ws : List Val). ‵ (cell_at full_share (Room E).mir ws rb ro)) is refl $ k b o at fit))
 
-  pub room_closes : K → Soaks G → {κ : Lft} {q : Share} {u v : Gv} {γ : GName} (d : (Room E).Denot) (b o rb ro : ℕ) → d.start ≡ block_ptr b o → length d.places * size E < 2 ^ 63
+  pub room_closes : K → Soaks G → {κ : Lft} {q : Share} {u v : Gv} {γ : GName} (d : (Room E).Denot) (b o rb ro : ℕ) → d.start ≡ block_ptr b o
+      → length d.places * size E < 2 ^ 63
       → Step K 𝓛 (‵ (fobs γ ((Room E).coded.code d)) ∷ ‵ (fbor κ (Borrowed (mem (Room E)) rb ro γ)) ∷ ‵ (flft κ q) ∷ Γ) G
       (‵ (held (R E) b o d.places) ∷ ‵ (cell_at full_share (Room E).mir (word (block_ptr b o) ∷ []) rb ro) ∷ ‵ (fobor κ q (Borrowed (mem (Room E)) rb ro γ)) ∷ ‵ (fobs γ u) ∷ ‵ (fauth γ v) ∷ Γ) G
-  room_closes t z d b o rb ro at fit = step (λ s. room_made E t d b o at fit $ move t (1 ∷ 0 ∷ []) $ closes t z (Room E) d (word (block_ptr b o) ∷ []) rb ro $ s)
+  room_closes t z d b o rb ro at fit = step (λ s. room_made E t d b o at fit $ move t (1 ∷ 0 ∷ []) $
+      closes t z (Room E) d (word (block_ptr b o) ∷ []) rb ro $ s)
 
 -- What a `&` shows: the pointer, and the values.
 pub room_seen : (E : El) {M : Type 1} {𝓤 : Ura M} (𝓛 : Logic 𝓤) (κ : Lft) (d : (Room E).Denot) (b o : ℕ)

@@ -22,7 +22,8 @@ lists_apart watcher.Check e = cc
 lists_apart watcher.Async e = cc
 
 module _ {X : Type 0} (read : X → Option HandleRecord) (make : HandleRecord → X) where
-  pub moved_done : (i k l j : Image X) (n m : ℕ) (w : WatcherKind) (d : Id) (t : Place) (pending : Bool) (u : Option RecordUndo) → IsFirst i (yet_of w) d → IsUnlinked i k d t
+  pub moved_done : (i k l j : Image X) (n m : ℕ) (w : WatcherKind) (d : Id) (t : Place) (pending : Bool) (u : Option RecordUndo)
+      → IsFirst i (yet_of w) d → IsUnlinked i k d t
       → IsPushed k l (list_of w) d (members k (list_of w) ++ d.slot ∷ []) → IsWoken read make (counted l n) (counted j m) d pending u
       → IsMovedOn read make (counted i n) (counted j m) w d pending (record { unlinked = t; pushed = record { slot = d.slot }; woken = u })
   moved_done i k l j n m w d t pending u f a b c =

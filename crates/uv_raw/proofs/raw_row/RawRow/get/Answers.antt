@@ -5,4 +5,5 @@ pub get-requires : goal.get-requires
 get-requires g c = let r = read_block c.self.inside c.args.self.now c.self.view_is c.self.invariant c.args.index c.requires in (r.0, r.1)
 
 pub returns : goal.returns
-returns g c = let r = read_block c.self.inside c.args.self.now c.self.view_is c.self.invariant c.args.index c.requires in let at = r.1 in let is = r.2 in let got = c.get.ensures in cc
+returns g c = let r = read_block c.self.inside c.args.self.now c.self.view_is c.self.invariant c.args.index c.requires in let at = r.1 in
+    let is = r.2 in let got = c.get.ensures in cc

@@ -9,4 +9,11 @@ pub invariant_of-self : goal.invariant_of-self
 invariant_of-self g c = (pop_block c.self.inside c.args.self.now c.self.view_is c.self.invariant c.get.result.now _ c.requires c.get.ensures (refl, refl, refl)).0
 
 pub returns-clause-items : goal.returns-clause-items
-returns-clause-items g c = (pop_block c.self.inside c.args.self.now c.self.view_is c.self.invariant c.get.result.now (record { room = c.self.inside.room; capacity = c.self.inside.capacity; len = c.self.inside.len - 1; alloc = c.self.inside.alloc }) c.requires c.get.ensures (refl, refl, refl)).1
+returns-clause-items g c = (pop_block c.self.inside c.args.self.now c.self.view_is c.self.invariant c.get.result.now (record {
+  room =
+      c.self.inside.room;
+  capacity = c.self.inside.capacity;
+  len = c.self.inside.len - 1;
+  alloc =
+      c.self.inside.alloc;
+}) c.requires c.get.ensures (refl, refl, refl)).1
