@@ -84,7 +84,9 @@ module _ {X : Type 0} where
       let n = edited x written m in let j = set_undone x new v in
       let at = own_edited x written m c t.1 in
       let old = s.fit x c t.1 in
-      let fit : AreFit v.last n.row.items = all_fit v.last x n.row.items (fit_edited v.last x written m (others_fit v.last x m.row.items s.fit)) (record { slot = written; links = c.links }) at (record {
+      let fit : AreFit v.last n.row.items =
+      all_fit v.last x n.row.items (fit_edited v.last x written m (others_fit v.last x m.row.items s.fit))
+      (record { slot = written; links = c.links }) at (record {
         below = subst (λ q. q ≤ v.last) (sym gen) old.below;
         free = λ e. cc (old.free e, t.2);
         empty = λ e. cc;
@@ -93,7 +95,7 @@ module _ {X : Type 0} where
       let put : Slot X = record { generation = (slot_at n x).generation; content = Some was } in
       let same : put ≡ c.slot = λ i. record { generation = (ap (λ o. (slot_in o).generation) at ∙ gen) i; content = sym t.2 i } in
       let back : set_undone x was j ≡ v = ap (λ q. in_memory (edited x q) j) same
-          ∙ ap (λ (q : Memory X). record { memory = q; names = v.names; last = v.last }) (edited_back m x written c t.1) in
+      ∙ ap (λ (q : Memory X). record { memory = q; names = v.names; last = v.last }) (edited_back m x written c t.1) in
       let slots = slots_edited x written m c t.1 in
       record {
         within = slice_get_within m.row.items x c t.1;
@@ -111,7 +113,8 @@ module _ {X : Type 0} where
           kept = λ e. elim (eqb_tells e.slot x) [
             | inl q ↦ on_kept v j e d was new q.1 is (held_now n d (record { slot = written; links = c.links }) at (gen
                 ∙ t.3)) (ap (λ l. l.list) (list_edited x written m e.slot))
-            | inr q ↦ on_list_by j v e (held_other (held_slots m) (held_slots n) x written slots e q.1) (ap (λ l. l.list) (list_edited x written m e.slot))
+            | inr q ↦ on_list_by j v e (held_other (held_slots m) (held_slots n) x written slots e q.1)
+                (ap (λ l. l.list) (list_edited x written m e.slot))
           ];
           lists = λ l. chain_edited x written m (name_at v.names (number l));
           undone = back;
@@ -127,8 +130,11 @@ module _ {X : Type 0} where
   -- a slot that was never used
   pub record IsGrown (v : Image X) (new : X) : Type 0 where
     pub sound : IsSound (in_memory (grown new) v)
-    pub inserted : IsInserted v (in_memory (grown new) v) new (record { slot = length v.memory.row.items; generation = 0 }) (record { slot =
-        length v.memory.row.items; fresh = true })
+    pub inserted : IsInserted v (in_memory (grown new) v) new (record { slot = length v.memory.row.items; generation = 0 }) (record {
+      slot =
+          length v.memory.row.items;
+      fresh = true;
+    })
 
   pub chain_none : (m : Memory X) → IsLinked m → head_at m FREE ≡ None → chain m FREE ≡ []
   chain_none m s e = none_first (chain m FREE) (sym (head_is m s FREE (omega arith)) ∙ e)
@@ -138,15 +144,20 @@ module _ {X : Type 0} where
       let m = v.memory in let x = length m.row.items in let n = grown new m in let j = in_memory (grown new) v in
       let d : Id = record { slot = x; generation = 0 } in let u : InsertUndo = record { slot = x; fresh = true } in
       let cell : Cell X = cell_of new in
-      let sound : IsSound j = record { linked = linked_grown new m s.linked room; fit = fit_grown v.last new m s.fit; names = s.names; last =
-          s.last } in
+      let sound : IsSound j = record {
+        linked = linked_grown new m s.linked room;
+        fit = fit_grown v.last new m s.fit;
+        names = s.names;
+        last =
+            s.last;
+      } in
       let at = get_last m.row.items cell in
       let empty = chain_none m s.linked none in
       let long = length-map m.row.items (λ (c : Cell X). c.slot) in
       let now = held_now n d cell at refl in
       let contents : (e : Id) → e.slot ≢ x → held j e ≡ held v e =
-          λ e ne. ap (option_and_then (plain.held_in e)) (ap (λ l. slice_get l e.slot) (slots_grown new m)
-          ∙ get_other (held_slots m) cell.slot e.slot (λ q. ne (q ∙ long))) in
+      λ e ne. ap (option_and_then (plain.held_in e)) (ap (λ l. slice_get l e.slot) (slots_grown new m)
+      ∙ get_other (held_slots m) cell.slot e.slot (λ q. ne (q ∙ long))) in
       let left : n.row.capacity - length n.row.items ≡ m.row.capacity - x - 1 = omega (arith, length_grown new m) in
       record {
         sound = sound;
@@ -176,10 +187,16 @@ module _ {X : Type 0} where
   pub record IsReused (v : Image X) (new : X) (x : ℕ) : Type 0 where
     pub slot : x < length v.memory.row.items
     pub within : IsWithin (place_at v.memory x) (length v.memory.row.items)
-    pub sound : IsSound (in_memory (λ m. edited x (record { generation = (slot_at v.memory x).generation; content =
-        Some new }) (taken_out (place_at v.memory x) m)) v)
-    pub inserted : IsInserted v (in_memory (λ m. edited x (record { generation = (slot_at v.memory x).generation; content =
-        Some new }) (taken_out (place_at v.memory x) m)) v) new
+    pub sound : IsSound (in_memory (λ m. edited x (record {
+      generation = (slot_at v.memory x).generation;
+      content =
+          Some new;
+    }) (taken_out (place_at v.memory x) m)) v)
+    pub inserted : IsInserted v (in_memory (λ m. edited x (record {
+      generation = (slot_at v.memory x).generation;
+      content =
+          Some new;
+    }) (taken_out (place_at v.memory x) m)) v) new
         (record { slot = x; generation = (slot_at v.memory x).generation }) (record { slot = x; fresh = false })
 
   reused_at : (v : Image X) → IsSound v → (new : X) (x : ℕ) (rest : List ℕ) → chain v.memory FREE ≡ x ∷ rest → IsReused v new x
@@ -201,27 +218,29 @@ module _ {X : Type 0} where
       let d : Id = record { slot = x; generation = (slot_at m x).generation } in let u : InsertUndo = record { slot = x; fresh = false } in
       let sound : IsSound j = record {
         linked = linked_edited out both.0.linked x written;
-        fit = all_fit v.last x n.row.items (fit_edited v.last x written out (fit_relinked v.last t t.after t.before loose m (others_fit v.last x m.row.items s.fit))) (record { slot = written; links = loose }) at
+        fit = all_fit v.last x n.row.items
+            (fit_edited v.last x written out (fit_relinked v.last t t.after t.before loose m (others_fit v.last x m.row.items s.fit)))
+            (record { slot = written; links = loose }) at
             (record { below = subst (λ q. q ≤ v.last) (sym gen) (s.fit x c on.1).below; free = λ e. cc; empty = λ e. cc });
         names = s.names;
         last = s.last;
       } in
       let slots : held_slots n ≡ set (held_slots m) x written = slots_edited x written out (with_links loose c) at_out
-          ∙ ap (λ l. set l x written) (slots_relinked t t.after t.before loose m) in
+      ∙ ap (λ l. set l x written) (slots_relinked t t.after t.before loose m) in
       let long : length n.row.items ≡ length m.row.items = length_edited x written out ∙ length_relinked t t.after t.before loose m in
       let contents : (e : Id) → e.slot ≢ x → held j e ≡ held v e = λ e ne. held_other (held_slots m) (held_slots n) x written slots e ne in
       let now = held_now n d (record { slot = written; links = loose }) at refl in
       let put : Slot X = record { generation = (slot_at n x).generation; content = None } in
       let same : put ≡ c.slot = λ i. record { generation = (ap (λ o. (slot_in o).generation) at ∙ gen) i; content = sym empty i } in
       let front : front_place FREE x n ≡ t = ap (place_of FREE None x) (head_is n sound.linked FREE (omega arith)
-          ∙ ap (λ l. first l None) (chain_edited x written out FREE ∙ both.0.now)) in
+      ∙ ap (λ l. first l None) (chain_edited x written out FREE ∙ both.0.now)) in
       let back : insert_undone u j ≡ v = ap (λ p. in_memory (λ q. put_in p (edited x put q)) j) front
-          ∙ ap (λ q. in_memory (λ r. put_in t (edited x q r)) j) same
+      ∙ ap (λ q. in_memory (λ r. put_in t (edited x q r)) j) same
       ∙ ap (λ (q : Memory X). in_memory (λ r. put_in t q) v) (edited_back out x written (with_links loose c) at_out)
-          ∙ ap (λ (q : Memory X). record { memory = q; names = v.names; last = v.last }) both.1 in
+      ∙ ap (λ (q : Memory X). record { memory = q; names = v.names; last = v.last }) both.1 in
       let far : (l : ListName) → chain n (name_at v.names (number l)) ≡ chain m (name_at v.names (number l)) = λ l.
       let low = name_below v s l in chain_edited x written out (name_at v.names (number l))
-          ∙ both.0.others (name_at v.names (number l)) (omega arith) (λ e. absurd (omega (arith, low, e))) in
+      ∙ both.0.others (name_at v.names (number l)) (omega arith) (λ e. absurd (omega (arith, low, e))) in
       let inserted : IsInserted v j new d u = record {
         next = ap (plain.next_id (held_slots m) (m.row.capacity - length m.row.items)) is
             ∙ ap (option_and_then (λ (q : Slot X). Some (plain.id_of x q))) (get-slots m.row.items x c on.1)
@@ -239,13 +258,15 @@ module _ {X : Type 0} where
         undone = back;
         can_undo = record {
           slot = subst (λ q. x < q) (sym long) (slice_get_within m.row.items x c on.1);
-          place = λ e. subst (λ p. IsWithin p (length n.row.items)) (sym front) (subst (IsWithin t) (sym (length_edited x written out)) both.0.within);
+          place = λ e. subst (λ p. IsWithin p (length n.row.items)) (sym front)
+              (subst (IsWithin t) (sym (length_edited x written out)) both.0.within);
           sound = subst IsSound (sym back) s;
         };
       } in
       record {
         slot = slice_get_within m.row.items x c on.1;
-        within = subst (λ p. IsWithin p (length m.row.items)) (sym stands) (subst (IsWithin t) (length_relinked t t.after t.before loose m) both.0.within);
+        within = subst (λ p. IsWithin p (length m.row.items)) (sym stands)
+            (subst (IsWithin t) (length_relinked t t.after t.before loose m) both.0.within);
         sound = subst (λ p. IsSound (in_memory (λ q. edited x written (taken_out p q)) v)) (sym stands) sound;
         inserted = subst (λ p. IsInserted v (in_memory (λ q. edited x written (taken_out p q)) v) new d u) (sym stands) inserted;
       }
@@ -260,4 +281,4 @@ module _ {X : Type 0} where
   is_full v s le none =
       let m = v.memory in let left : m.row.capacity - length m.row.items ≡ 0 = omega arith in
       ap (plain.next_id (held_slots m) (m.row.capacity - length m.row.items)) (chain_none m s.linked none)
-          ∙ ap (plain.next_unused (length (held_slots m))) left
+      ∙ ap (plain.next_unused (length (held_slots m))) left

@@ -35,6 +35,7 @@ module _ {X : Type 0} where
       → set xs i v ≡ each f xs
   set-as [] i x v f g e h = cc
   set-as (y ∷ ys) zero x v f g e h =
-      let same : y ≡ x = cc in (λ i. sym e i ∷ ys) ∙ (λ i. f 0 (sym same i) ∷ sym (each-same (λ j. f (suc j)) ys (λ j z w. h (suc j) z (λ q. absurd (omega arith)))) i)
+      let same : y ≡ x = cc in (λ i. sym e i ∷ ys)
+      ∙ (λ i. f 0 (sym same i) ∷ sym (each-same (λ j. f (suc j)) ys (λ j z w. h (suc j) z (λ q. absurd (omega arith)))) i)
   set-as (y ∷ ys) (suc i) x v f g e h =
       (λ k. sym (h 0 y (λ q. absurd (omega arith))) k ∷ set-as ys i x v (λ j. f (suc j)) g e (λ j z n. h (suc j) z (λ q. n (omega arith))) k)

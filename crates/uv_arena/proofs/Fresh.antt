@@ -45,8 +45,11 @@ segment_more ls m k p (x ∷ xs) n h = (get_more ls m x (link k p (first xs n)) 
 
 stands_more : (c : Chains) (xs : ℕ → List ℕ) → Stands c xs → Stands (record { links = c.links ++ loose ∷ []; ends = c.ends }) xs
 stands_more c xs s = record {
-  lists = λ k lt. let old = s.lists k lt in record { segment = segment_more c.links loose k None (xs k) None old.segment; apart = old.apart;
-      ends = old.ends };
+  lists = λ k lt. let old = s.lists k lt in record {
+    segment = segment_more c.links loose k None (xs k) None old.segment;
+    apart = old.apart;
+    ends = old.ends;
+  };
   listed = λ y m k g is. elim (get_less c.links loose y m g) [ inl was ↦ s.listed y m k was is | inr new ↦ cc (ap (λ (z : Links). z.list) new, is) ];
   rest = λ y m g is. elim (get_less c.links loose y m g) [ inl was ↦ s.rest y m was is | inr new ↦ new ];
 }
@@ -132,5 +135,7 @@ module _ {X : Type 0} where
   shrunk_grown v m =
       let n = length m.row.items in let long = length_grown v m in
       let same : length (grown v m).row.items - 1 ≡ n = omega (arith, long) in
-      λ k. record { row = row ((ap (λ i. take i (grown v m).row.items) same ∙ take-append_seam m.row.items (cell_of v ∷ [])) k) m.row.capacity;
-          ends = m.ends }
+      λ k. record {
+        row = row ((ap (λ i. take i (grown v m).row.items) same ∙ take-append_seam m.row.items (cell_of v ∷ [])) k) m.row.capacity;
+        ends = m.ends;
+      }

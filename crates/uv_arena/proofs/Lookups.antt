@@ -107,7 +107,7 @@ module _ {X : Type 0} where
   is_on v s d h =
       let t = is_there v.memory d (both_left (is_some (held v d)) (is_some (links_at v.memory d.slot).list) h) in
       let on = some_is t.cell.links.list (ap (λ o. is_some (links_in o).list) (sym t.at)
-          ∙ both_right (is_some (held v d)) (is_some (links_at v.memory d.slot).list) h) in
+      ∙ both_right (is_some (held v d)) (is_some (links_at v.memory d.slot).list) h) in
       let lt = (placed v.memory s.linked on.0 d.slot t.cell t.at on.1).0 in
       let fit = s.fit d.slot t.cell t.at in
       let busy : on.0 ≢ FREE = λ e. cc (fit.free (on.1 ∙ ap Some e), t.holds) in

@@ -141,14 +141,18 @@ module _ {X : Type 0} where
   pub put_made : (m : Memory X) → IsLinked m → (k x : ℕ) (us vs : List ℕ) → k < 15 → chain m k ≡ us ++ vs → (c : Cell X)
       → slice_get m.row.items x ≡ Some c → c.links.list ≡ None
       → IsMade m (put_in (between k us x vs) m) (between k us x vs) (us ++ x ∷ vs)
-          × (taken_out (between k us x vs) (put_in (between k us x vs) m) ≡ m)
+      × (taken_out (between k us x vs) (put_in (between k us x vs) m) ≡ m)
   put_made m s k x us vs lt is c at free =
       let t = between k us x vs in
       let got = get-links m.row.items x c at in
       let bare = got ∙ ap Some (s.stands.rest x c.links got free) in
       let both = link_stands (chains m) (chain m) s.stands k x us vs lt is bare in
-      let within : IsWithin t (length m.row.items) = (lt, last_below m s k lt us vs is (last None us) refl, slice_get_within m.row.items x c at,
-          first_below m s k lt us vs is (first vs None) refl) in (
+      let within : IsWithin t (length m.row.items) = (
+        lt,
+        last_below m s k lt us vs is (last None us) refl,
+        slice_get_within m.row.items x c at,
+        first_below m s k lt us vs is (first vs None) refl,
+      ) in (
         made m s t (Some x) (Some x) (link k (last None us) (first vs None)) (us ++ x ∷ vs) within both.0,
         memory_back t (Some x) (Some x) (first vs None) (last None us) (link k (last None us) (first vs None)) loose m both.1,
       )
@@ -182,7 +186,8 @@ module _ {X : Type 0} where
       let g = get-links m.row.items x c at in
       let on = s.stands.listed x c.links k g is in
       let cut = split_at x (chain m k) on.1 in
-      let seg = segment_right (chains m).links k None cut.0 (x ∷ cut.1) None (subst (λ l. IsSegment (chains m).links k None l None) cut.2 (s.stands.lists k on.0).segment) in
+      let seg = segment_right (chains m).links k None cut.0 (x ∷ cut.1) None
+      (subst (λ l. IsSegment (chains m).links k None l None) cut.2 (s.stands.lists k on.0).segment) in
       (on.0, (cut.0, cut.1, cut.2, cc (g, seg.0)))
 
   no_links : (cs : List (Cell X)) (y : ℕ) (l : Links) → slice_get cs y ≡ None → slice_get (map (λ c. c.links) cs) y ≡ Some l → ⊥
@@ -243,8 +248,11 @@ module _ {X : Type 0} where
       → held_slots (edited x s m) ≡ set (held_slots m) x s
   slots_edited x s m c at =
       let new : Cell X = record { slot = s; links = c.links } in
-      let written = set-as m.row.items x c new (edit_at x s) at (ap (λ (u : Bool). cond u (record { slot = s; links =
-          c.links }) c) (eq-eqb x x refl)) (λ j z n. other_edited x s j z n) in
+      let written = set-as m.row.items x c new (edit_at x s) at (ap (λ (u : Bool). cond u (record {
+        slot = s;
+        links =
+            c.links;
+      }) c) (eq-eqb x x refl)) (λ j z n. other_edited x s j z n) in
       ap (map (λ z. z.slot)) (sym written) ∙ map-set (λ (z : Cell X). z.slot) m.row.items x new
 
   edit_twice : (u : Bool) (s s' : Slot X) (c : Cell X) → (let r : Cell X = cond u (record { slot = s; links = c.links }) c in

@@ -110,7 +110,7 @@ pub names_swapped : (ns : List ℕ) → AreNames ns → (a b : ℕ) → a < 14 �
 names_swapped ns h a b la lb =
     let la' : a < length ns = subst (λ n. a < n) (sym h.all) la in let lb' : b < length ns = subst (λ n. b < n) (sym h.all) lb in
     let below : (k j : ℕ) → Moves a b k j → k < 14 → j < 14 =
-        λ k j m lt. subst (λ n. j < n) h.all (moved_below ns a b la' lb' k j m (subst (λ n. k < n) (sym h.all) lt)) in
+    λ k j m lt. subst (λ n. j < n) h.all (moved_below ns a b la' lb' k j m (subst (λ n. k < n) (sym h.all) lt)) in
     record {
       all = length-swap ns a b ∙ h.all;
       below = λ k lt. let one = moved ns a b la' lb' k in subst (λ n. n < 14) (sym one.2) (h.below one.0 (below k one.0 one.1 lt));

@@ -66,18 +66,23 @@ module _ (c : Chains) (xs : ℕ → List ℕ) (s : Stands c xs) (k x : ℕ) (us 
       let t : Place = between k us x vs in
       let old : IsList c k (us ++ vs) = subst (IsList c k) is (s.lists k lt) in
       let out : IsIn x (us ++ vs) → ⊥ = λ i. let on = segment_tells c.links k None (us ++ vs) None old.segment x i in
-          let same : on.0 ≡ loose = cc (on.1, bare) in cc (ap (λ (z : Links). z.list) same, on.2) in
+      let same : on.0 ≡ loose = cc (on.1, bare) in cc (ap (λ (z : Links). z.list) same, on.2) in
       let apart_u = apart_left us vs old.apart in let apart_v = apart_right us vs old.apart in let across = apart_across us vs old.apart in
       let b = last None us in let n = first vs None in let l : Links = link k b n in let X : Option ℕ = Some x in
-      let left = before_kept t X X l c.links k None us n refl apart_u (λ i. out (in_left x us vs i)) (λ y i e. across y i (first_is_in vs y e)) (segment_left c.links k None us vs None old.segment) in
-      let right = after_kept t X X l c.links k b vs refl apart_v (λ i. out (in_right x us vs i)) (λ y i e. across y (last_is_in us y e) i) (segment_right c.links k None us vs None old.segment) in
+      let left = before_kept t X X l c.links k None us n refl apart_u (λ i. out (in_left x us vs i)) (λ y i e. across y i (first_is_in vs y e))
+      (segment_left c.links k None us vs None old.segment) in
+      let right = after_kept t X X l c.links k b vs refl apart_v (λ i. out (in_right x us vs i)) (λ y i e. across y (last_is_in us y e) i)
+      (segment_right c.links k None us vs None old.segment) in
       let own = get-each (new_links t X X l) c.links x loose bare ∙ ap Some (own_links t X X l loose) in
       let made : IsList (linked t c) k (us ++ x ∷ vs) = record {
         segment = segment_join (linked t c).links k None us (x ∷ vs) None left (own, right);
-        apart = apart_join us (x ∷ vs) apart_u (λ i. out (in_right x us vs i),
-            apart_v) (λ y i r. elim r [ inl e ↦ out (in_left x us vs (subst (λ z. IsIn z us) e i)) | inr q ↦ across y i q ]);
+        apart = apart_join us (x ∷ vs) apart_u (
+          λ i. out (in_right x us vs i),
+          apart_v,
+        ) (λ y i r. elim r [ inl e ↦ out (in_left x us vs (subst (λ z. IsIn z us) e i)) | inr q ↦ across y i q ]);
         ends = ends_put t X X c (ends_of (us ++ vs)) old.ends
-            ∙ ap Some (ends_at (none_or b X (first (us ++ vs) None)) (none_or n X (last None (us ++ vs))) (us ++ x ∷ vs) (head_with us vs x) (tail_with us vs x));
+            ∙ ap Some (ends_at (none_or b X (first (us ++ vs) None)) (none_or n X (last None (us ++ vs))) (us ++ x ∷ vs) (head_with us vs x)
+            (tail_with us vs x));
       } in
       let r : IsRelinked c xs t X X l (us ++ x ∷ vs) = record {
         below = lt;
@@ -105,16 +110,18 @@ module _ (c : Chains) (xs : ℕ → List ℕ) (s : Stands c xs) (k x : ℕ) (us 
       let t : Place = between k us x vs in
       let old : IsList c k (us ++ x ∷ vs) = subst (IsList c k) is (s.lists k lt) in
       let apart_u = apart_left us (x ∷ vs) old.apart in let apart_w = apart_right us (x ∷ vs) old.apart in
-          let across = apart_across us (x ∷ vs) old.apart in
+      let across = apart_across us (x ∷ vs) old.apart in
       let b = last None us in let n = first vs None in let X : Option ℕ = Some x in
       let seg_u = segment_left c.links k None us (x ∷ vs) None old.segment in let seg_w = segment_right c.links k None us (x ∷ vs) None old.segment in
-      let left = before_kept t n b loose c.links k None us X refl apart_u (λ i. across x i (inl refl)) (λ y i e. across y i (inr (first_is_in vs y e))) seg_u in
+      let left = before_kept t n b loose c.links k None us X refl apart_u (λ i. across x i (inl refl))
+      (λ y i e. across y i (inr (first_is_in vs y e))) seg_u in
       let right = after_kept t n b loose c.links k X vs refl apart_w.1 apart_w.0 (λ y i e. across y (last_is_in us y e) (inr i)) seg_w.1 in
       let made : IsList (unlinked t c) k (us ++ vs) = record {
         segment = segment_join (unlinked t c).links k None us vs None left right;
         apart = apart_join us vs apart_u apart_w.1 (λ y i r. across y i (inr r));
         ends = ends_put t n b c (ends_of (us ++ x ∷ vs)) old.ends
-            ∙ ap Some (ends_at (none_or b n (first (us ++ x ∷ vs) None)) (none_or n b (last None (us ++ x ∷ vs))) (us ++ vs) (head_without us vs x) (tail_without us vs x));
+            ∙ ap Some (ends_at (none_or b n (first (us ++ x ∷ vs) None)) (none_or n b (last None (us ++ x ∷ vs))) (us ++ vs)
+            (head_without us vs x) (tail_without us vs x));
       } in
       let r : IsRelinked c xs t n b loose (us ++ vs) = record {
         below = lt;
@@ -124,7 +131,10 @@ module _ (c : Chains) (xs : ℕ → List ℕ) (s : Stands c xs) (k x : ℕ) (us 
         after = λ y e. subst (IsIn y) (sym is) (in_right y us (x ∷ vs) (inr (first_is_in vs y e)));
         own = λ j e. cc;
         bare = λ e. refl;
-        kept = λ y ne i. elim (in_either y us (x ∷ vs) (subst (IsIn y) is i)) [ inl p ↦ in_left y us vs p | inr q ↦ elim q [ inl e ↦ absurd (ne (sym e)) | inr z ↦ in_right y us vs z ] ];
+        kept = λ y ne i. elim (in_either y us (x ∷ vs) (subst (IsIn y) is i)) [
+          | inl p ↦ in_left y us vs p
+          | inr q ↦ elim q [ inl e ↦ absurd (ne (sym e)) | inr z ↦ in_right y us vs z ]
+        ];
       } in
       let there : IsThere t X X (link k b n) c = record {
         own = λ m g. cc (g, seg_w.0);

@@ -56,7 +56,9 @@ module _ {X : Type 0} where
       let long = length_relinked t (Some x) (Some x) own m in
       let at = own_relinked t (Some x) (Some x) own m c there.at in
       let old = s.fit x c there.at in
-      let fit : AreFit v.last n.row.items = all_fit v.last x n.row.items (fit_relinked v.last t (Some x) (Some x) own m (others_fit v.last x m.row.items s.fit)) (with_links own c) at (record {
+      let fit : AreFit v.last n.row.items =
+      all_fit v.last x n.row.items (fit_relinked v.last t (Some x) (Some x) own m (others_fit v.last x m.row.items s.fit))
+      (with_links own c) at (record {
         below = old.below;
         free = λ e. let same : k ≡ FREE = cc in absurd (omega (arith, same, lt));
         empty = λ e. cc (e, there.holds);
@@ -64,15 +66,17 @@ module _ {X : Type 0} where
       let stands : place_at n x ≡ t = ap (λ o. place_of (list_or_first (links_in o).list) (links_in o).prev x (links_in o).next) at in
       let slots = slots_relinked t (Some x) (Some x) own m in
       let back : push_undone x j ≡ v = ap (λ p. in_memory (taken_out p) j) stands
-          ∙ ap (λ (q : Memory X). record { memory = q; names = v.names; last = v.last }) both.1 in
+      ∙ ap (λ (q : Memory X). record { memory = q; names = v.names; last = v.last }) both.1 in
       record {
         within = subst (IsWithin t) long both.0.within;
         sound = record { linked = both.0.linked; fit = fit; names = s.names; last = s.last };
         pushed = record {
           lists = both.0.now;
           others = λ l ne. both.0.others (name_at v.names (number l)) (let low = name_below v s l in omega arith) (name_other v s l list ne);
-          slots = record { plain = plain_same v j slots (both.0.others FREE (omega arith) (λ e. absurd (omega (arith, e, lt)))) long refl;
-              contents = held_same m n slots };
+          slots = record {
+            plain = plain_same v j slots (both.0.others FREE (omega arith) (λ e. absurd (omega (arith, e, lt)))) long refl;
+            contents = held_same m n slots;
+          };
           listed = (λ i. is_some (held_same m n slots d i) && is_some (links_in (at i)).list) ∙ ap (λ u. u && true) h;
           kept = λ e ne. on_list_by j v e (held_same m n slots e) (list_relinked t (Some x) (Some x) own m e.slot (λ q. ne (sym q)));
           undone = back;
@@ -107,7 +111,7 @@ module _ {X : Type 0} where
 
   taken_between : (v : Image X) → IsSound v → (d : Id) (on : IsThereOn v.memory d) (us vs : List ℕ) → chain v.memory on.list ≡ us ++ d.slot ∷ vs
       → (let t = between on.list us d.slot vs in IsWithin t (length v.memory.row.items) × IsSound (in_memory (taken_out t) v)
-          × IsUnlinked v (in_memory (taken_out t) v) d t)
+      × IsUnlinked v (in_memory (taken_out t) v) d t)
   taken_between v s d on us vs is =
       let k = on.list in let x = d.slot in let m = v.memory in let lt : k < 14 = on.below in
       let there = on.there in let c = there.cell in
@@ -117,7 +121,9 @@ module _ {X : Type 0} where
       let long = length_relinked t t.after t.before loose m in
       let at = own_relinked t t.after t.before loose m c there.at in
       let old = s.fit x c there.at in
-      let fit : AreFit v.last n.row.items = all_fit v.last x n.row.items (fit_relinked v.last t t.after t.before loose m (others_fit v.last x m.row.items s.fit)) (with_links loose c) at (record {
+      let fit : AreFit v.last n.row.items =
+      all_fit v.last x n.row.items (fit_relinked v.last t t.after t.before loose m (others_fit v.last x m.row.items s.fit))
+      (with_links loose c) at (record {
         below = old.below;
         free = λ e. cc;
         empty = λ e. cc (e, there.holds);
@@ -131,15 +137,17 @@ module _ {X : Type 0} where
             ∙ without_one us vs x (subst IsApart is (s.linked.stands.lists k (omega arith)).apart))
         | inr ne ↦ both.0.others (name_at v.names (number l)) (omega arith) ne.1
             ∙ sym (without_none (members v l) x (λ i. let tells = member_tells m s.linked (name_at v.names (number l)) (omega arith) x i in
-                ne.1 (let same : tells.0 ≡ c = cc (tells.1, there.at) in cc (ap (λ (z : Cell X). z.links.list) same, tells.2, on.on))))
+            ne.1 (let same : tells.0 ≡ c = cc (tells.1, there.at) in cc (ap (λ (z : Cell X). z.links.list) same, tells.2, on.on))))
       ] in (
         subst (IsWithin t) long both.0.within,
         record { linked = both.0.linked; fit = fit; names = s.names; last = s.last },
         record {
           slot = refl;
           lists = listed;
-          slots = record { plain = plain_same v j slots (both.0.others FREE (omega arith) (λ e. absurd (omega (arith, e, lt)))) long refl;
-              contents = held_same m n slots };
+          slots = record {
+            plain = plain_same v j slots (both.0.others FREE (omega arith) (λ e. absurd (omega (arith, e, lt)))) long refl;
+            contents = held_same m n slots;
+          };
           loose = (λ i. is_some (held j d) && is_some (links_in (at i)).list) ∙ and_false (is_some (held j d));
           kept = λ e ne. on_list_by j v e (held_same m n slots e) (list_relinked t t.after t.before loose m e.slot (λ q. ne (sym q)));
           undone = back;

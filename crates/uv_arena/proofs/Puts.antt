@@ -28,14 +28,17 @@ no_ends_set es f k same = sym (each-same (λ j y. f (eqb k j) y) es (λ j y e. s
 both_ends : (t : Place) (a b : Option ℕ) (u : Bool) (e : Ends)
     → let r : Ends = cond u (record { head = none_or t.before a e.head; tail = e.tail }) e in
     cond u (record { head = r.head; tail = none_or t.after b r.tail }) r
-        ≡ cond u (record { head = none_or t.before a e.head; tail = none_or t.after b e.tail }) e
+    ≡ cond u (record { head = none_or t.before a e.head; tail = none_or t.after b e.tail }) e
 both_ends t a b true e = refl
 both_ends t a b false e = refl
 
 pub ends_joined : (t : Place) (a b : Option ℕ) (es : List Ends)
-    → each (λ j e. cond (eqb t.list j) (record { head = e.head; tail =
-        none_or t.after b e.tail }) e) (each (λ j e. cond (eqb t.list j) (record { head = none_or t.before a e.head; tail = e.tail }) e) es)
-        ≡ each (new_ends t a b) es
+    → each (λ j e. cond (eqb t.list j) (record {
+      head = e.head;
+      tail =
+          none_or t.after b e.tail;
+    }) e) (each (λ j e. cond (eqb t.list j) (record { head = none_or t.before a e.head; tail = e.tail }) e) es)
+    ≡ each (new_ends t a b) es
 ends_joined t a b es =
     let f : ℕ → Ends → Ends = λ j e. cond (eqb t.list j) (record { head = none_or t.before a e.head; tail = e.tail }) e in
     let g : ℕ → Ends → Ends = λ j e. cond (eqb t.list j) (record { head = e.head; tail = none_or t.after b e.tail }) e in
@@ -51,13 +54,19 @@ same_tail o b i is false e = refl
 
 head_kept : (n : ℕ) (o a : Option ℕ) (i : ℕ) (es : List Ends) → o ≡ Some i
     → es ≡ each (λ j e. cond (eqb n j) (record { head = none_or o a e.head; tail = e.tail }) e) es
-head_kept n o a i es is = no_ends_set es (λ (u : Bool) (e : Ends). cond u (record { head = none_or o a e.head; tail =
-    e.tail }) e) n (same_head o a i is)
+head_kept n o a i es is = no_ends_set es (λ (u : Bool) (e : Ends). cond u (record {
+  head = none_or o a e.head;
+  tail =
+      e.tail;
+}) e) n (same_head o a i is)
 
 tail_kept : (n : ℕ) (o b : Option ℕ) (i : ℕ) (es : List Ends) → o ≡ Some i
     → es ≡ each (λ j e. cond (eqb n j) (record { head = e.head; tail = none_or o b e.tail }) e) es
-tail_kept n o b i es is = no_ends_set es (λ (u : Bool) (e : Ends). cond u (record { head = e.head; tail =
-    none_or o b e.tail }) e) n (same_tail o b i is)
+tail_kept n o b i es is = no_ends_set es (λ (u : Bool) (e : Ends). cond u (record {
+  head = e.head;
+  tail =
+      none_or o b e.tail;
+}) e) n (same_tail o b i is)
 
 module _ {X : Type 0} where
   abbrev pub next_is : Option ℕ → Option ℕ → ℕ → Cell X → Cell X
@@ -68,7 +77,7 @@ module _ {X : Type 0} where
 
   pub cells_joined : (t : Place) (a b : Option ℕ) (l : Links) (cs : List (Cell X))
       → each (λ j c. with_links (cond (eqb t.slot j) l c.links) c) (each (prev_is t.after b) (each (next_is t.before a) cs))
-          ≡ relinked_cells t a b l cs
+      ≡ relinked_cells t a b l cs
   cells_joined t a b l cs =
       let h : ℕ → Cell X → Cell X = λ j c. with_links (cond (eqb t.slot j) l c.links) c in
       ap (each h) (each-each (next_is t.before a) (prev_is t.after b) cs) ∙ each-each (λ j c. prev_is t.after b j (next_is t.before a j c)) h cs
@@ -81,28 +90,40 @@ module _ {X : Type 0} where
 
   -- a slot before or after a place is written, or the end of the chain where there is none
   pub before_written : (k : ℕ) (o v : Option ℕ) (m : Memory X) (at : ℕ) → o ≡ Some at
-      → with_cells (next_is (Some at) v) m ≡ with_ends (λ j e. cond (eqb k j) (record { head = none_or o v e.head; tail =
-          e.tail }) e) (with_cells (next_is o v) m)
-  before_written k o v m at is = λ i. record { row = row (each (next_is (sym is i) v) m.row.items) m.row.capacity; ends =
-      head_kept k o v at m.ends is i }
+      → with_cells (next_is (Some at) v) m ≡ with_ends (λ j e. cond (eqb k j) (record {
+        head = none_or o v e.head;
+        tail =
+            e.tail;
+      }) e) (with_cells (next_is o v) m)
+  before_written k o v m at is = λ i. record {
+    row = row (each (next_is (sym is i) v) m.row.items) m.row.capacity;
+    ends =
+        head_kept k o v at m.ends is i;
+  }
 
   pub head_written : (k : ℕ) (o v : Option ℕ) (m : Memory X) → o ≡ None
       → with_ends (λ j e. cond (eqb k j) (record { head = v; tail = e.tail }) e) m
-          ≡ with_ends (λ j e. cond (eqb k j) (record { head = none_or o v e.head; tail = e.tail }) e) (with_cells (next_is o v) m)
+      ≡ with_ends (λ j e. cond (eqb k j) (record { head = none_or o v e.head; tail = e.tail }) e) (with_cells (next_is o v) m)
   head_written k o v m is = λ i. record {
     row = row (next_kept m.row.items o v is i) m.row.capacity;
     ends = each (λ j e. cond (eqb k j) (record { head = none_or (sym is i) v e.head; tail = e.tail }) e) m.ends;
   }
 
   pub after_written : (k : ℕ) (o v : Option ℕ) (m : Memory X) (at : ℕ) → o ≡ Some at
-      → with_cells (prev_is (Some at) v) m ≡ with_ends (λ j e. cond (eqb k j) (record { head = e.head; tail =
-          none_or o v e.tail }) e) (with_cells (prev_is o v) m)
-  after_written k o v m at is = λ i. record { row = row (each (prev_is (sym is i) v) m.row.items) m.row.capacity; ends =
-      tail_kept k o v at m.ends is i }
+      → with_cells (prev_is (Some at) v) m ≡ with_ends (λ j e. cond (eqb k j) (record {
+        head = e.head;
+        tail =
+            none_or o v e.tail;
+      }) e) (with_cells (prev_is o v) m)
+  after_written k o v m at is = λ i. record {
+    row = row (each (prev_is (sym is i) v) m.row.items) m.row.capacity;
+    ends =
+        tail_kept k o v at m.ends is i;
+  }
 
   pub tail_written : (k : ℕ) (o v : Option ℕ) (m : Memory X) → o ≡ None
       → with_ends (λ j e. cond (eqb k j) (record { head = e.head; tail = v }) e) m
-          ≡ with_ends (λ j e. cond (eqb k j) (record { head = e.head; tail = none_or o v e.tail }) e) (with_cells (prev_is o v) m)
+      ≡ with_ends (λ j e. cond (eqb k j) (record { head = e.head; tail = none_or o v e.tail }) e) (with_cells (prev_is o v) m)
   tail_written k o v m is = λ i. record {
     row = row (prev_kept m.row.items o v is i) m.row.capacity;
     ends = each (λ j e. cond (eqb k j) (record { head = e.head; tail = none_or (sym is i) v e.tail }) e) m.ends;

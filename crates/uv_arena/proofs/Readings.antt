@@ -75,7 +75,7 @@ module _ {X : Type 0} where
           others = λ l ne. let low : name_at v.names (number l) < 14 = name_below v s l in without_none (members v l) x (λ i.
               let c = member_tells v.memory s.linked (name_at v.names (number l)) (omega arith) x i in
               let same : c.0 ≡ on.0 = cc (c.1, on.1) in name_other v s l list ne (let one : name_at v.names (number l) ≡ k =
-                  cc (ap (λ (z : Cell X). z.links.list) same, c.2, on.2) in one));
+              cc (ap (λ (z : Cell X). z.links.list) same, c.2, on.2) in one));
           listed = one.listed;
         };
       }
@@ -117,16 +117,22 @@ module _ {X : Type 0} where
       let cut = placed m s.linked on.list x c on.there.at on.on in let us = cut.1.0 in let vs = cut.1.1 in
       let own : links_at m x ≡ c.links = ap links_in on.there.at in
       let by : (l : ListName) (ys zs : List ℕ) → members v l ≡ ys ++ x ∷ zs
-          → (c.links.next ≡ first zs None) × (c.links.prev ≡ last None ys) = λ l ys zs is.
+      → (c.links.next ≡ first zs None) × (c.links.prev ≡ last None ys) = λ l ys zs is.
       let k = name_at v.names (number l) in let lt : k < 14 = name_below v s l in
-      let seg = segment_right (chains m).links k None ys (x ∷ zs) None (subst (λ q. IsSegment (chains m).links k None q None) is (s.linked.stands.lists k (omega arith)).segment) in
+      let seg = segment_right (chains m).links k None ys (x ∷ zs) None
+      (subst (λ q. IsSegment (chains m).links k None q None) is (s.linked.stands.lists k (omega arith)).segment) in
       let got = get-links m.row.items x c on.there.at in
       let same : c.links ≡ link k (last None ys) (first zs None) = cc (got, seg.0) in
       (ap (λ (q : Links). q.next) same, ap (λ (q : Links). q.prev) same) in
       record {
         slot = slice_get_within m.row.items x c on.there.at;
-        next = λ y e. is_member v s on.list y on.below (subst (IsIn y) (sym cut.1.2) (in_right y us (x ∷ vs) (inr (first_is_in vs y (sym (ap (λ (l : Links). l.next) cut.1.3) ∙ sym (ap (λ (l : Links). l.next) own) ∙ e)))));
-        prev = λ y e. is_member v s on.list y on.below (subst (IsIn y) (sym cut.1.2) (in_left y us (x ∷ vs) (last_is_in us y (sym (ap (λ (l : Links). l.prev) cut.1.3) ∙ sym (ap (λ (l : Links). l.prev) own) ∙ e))));
+        next = λ y e. is_member v s on.list y on.below
+            (subst (IsIn y) (sym cut.1.2)
+            (in_right y us (x ∷ vs) (inr (first_is_in vs y (sym (ap (λ (l : Links). l.next) cut.1.3) ∙ sym (ap (λ (l : Links). l.next) own)
+            ∙ e)))));
+        prev = λ y e. is_member v s on.list y on.below
+            (subst (IsIn y) (sym cut.1.2)
+            (in_left y us (x ∷ vs) (last_is_in us y (sym (ap (λ (l : Links). l.prev) cut.1.3) ∙ sym (ap (λ (l : Links). l.prev) own) ∙ e))));
         after = λ l ys zs is. ap (λ (q : Links). q.next) own ∙ (by l ys zs is).0;
         before = λ l ys zs is. ap (λ (q : Links). q.prev) own ∙ (by l ys zs is).1;
       }
@@ -154,7 +160,7 @@ module _ {X : Type 0} where
   next_unused v s none room =
       let m = v.memory in
       ap (plain.next_id (held_slots m) (m.row.capacity - length m.row.items)) (chain_none m s.linked none)
-          ∙ next_some (length (held_slots m)) (m.row.capacity - length m.row.items) (omega arith)
+      ∙ next_some (length (held_slots m)) (m.row.capacity - length m.row.items) (omega arith)
       ∙ (λ i. Some (record { slot = length-map m.row.items (λ (c : Cell X). c.slot) i; generation = 0 }))
 
   -- a slot that is on no list is a member of none

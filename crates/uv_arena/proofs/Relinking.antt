@@ -47,9 +47,11 @@ module _ (t : Place) (a b : Option ℕ) (l : Links) where
     pub frame : (p : Option ℕ) (xs : List ℕ) (n : Option ℕ) → ((y : ℕ) → IsIn y xs → IsFar y) → IsSegment ls k p xs n
         → IsSegment (each (new_links t a b l) ls) k p xs n
     frame p [] n far h = tt
-    frame p (x ∷ xs) n far h =
-        (get-each (new_links t a b l) ls x (link k p (first xs n)) h.0
-            ∙ ap Some (untouched x (link k p (first xs n)) (far x (inl refl))), frame (Some x) xs n (λ y i. far y (inr i)) h.1)
+    frame p (x ∷ xs) n far h = (
+      get-each (new_links t a b l) ls x (link k p (first xs n)) h.0
+          ∙ ap Some (untouched x (link k p (first xs n)) (far x (inl refl))),
+      frame (Some x) xs n (λ y i. far y (inr i)) h.1,
+    )
 
     pub before_kept : (p : Option ℕ) (xs : List ℕ) (n : Option ℕ) → last p xs ≡ t.before → IsApart xs → (IsIn t.slot xs → ⊥)
         → ((y : ℕ) → IsIn y xs → t.after ≡ Some y → ⊥)
@@ -58,7 +60,8 @@ module _ (t : Place) (a b : Option ℕ) (l : Links) where
     before_kept p (x ∷ []) n is apart own past h =
         let other : t.slot ≢ x = λ e. own (inl e) in (
           get-each (new_links t a b l) ls x (link k p n) h.0
-              ∙ ap Some (new_links_as x (link k p n) false true false (eqb_no t.slot x other) (at_yes t.before x (sym is)) (at_no t.after x (past x (inl refl)))),
+              ∙ ap Some (new_links_as x (link k p n) false true false (eqb_no t.slot x other) (at_yes t.before x (sym is))
+              (at_no t.after x (past x (inl refl)))),
           tt,
         )
     before_kept p (x ∷ y ∷ ys) n is apart own past h =
@@ -76,16 +79,21 @@ module _ (t : Place) (a b : Option ℕ) (l : Links) where
     after_kept p (x ∷ xs) is apart own past h =
         let other : t.slot ≢ x = λ e. own (inl e) in (
           get-each (new_links t a b l) ls x (link k p (first xs None)) h.0
-              ∙ ap Some (new_links_as x (link k p (first xs None)) false false true (eqb_no t.slot x other) (at_no t.before x (past x (inl refl))) (at_yes t.after x (sym is))),
-          frame (Some x) xs None (λ y i. (λ e. own (inr (subst (λ z. IsIn z xs) (sym e) i)), past y (inr i), λ e. let same : y ≡ x = cc in
-              apart.0 (subst (λ z. IsIn z xs) same i))) h.1,
+              ∙ ap Some (new_links_as x (link k p (first xs None)) false false true (eqb_no t.slot x other) (at_no t.before x (past x (inl refl)))
+              (at_yes t.after x (sym is))),
+          frame (Some x) xs None (λ y i. (
+            λ e. own (inr (subst (λ z. IsIn z xs) (sym e) i)),
+            past y (inr i),
+            λ e. let same : y ≡ x = cc in
+                apart.0 (subst (λ z. IsIn z xs) same i),
+          )) h.1,
         )
 
 -- a second relinking of a place overwrites the first
 module _ (t : Place) (a b a' b' : Option ℕ) (l l' : Links) where
   once : (u v w : Bool) (m : Links) → let r : Links = cond u l (record { list = m.list; prev = cond w b m.prev; next = cond v a m.next }) in
       cond u l' (record { list = r.list; prev = cond w b' r.prev; next = cond v a' r.next })
-          ≡ cond u l' (record { list = m.list; prev = cond w b' m.prev; next = cond v a' m.next })
+      ≡ cond u l' (record { list = m.list; prev = cond w b' m.prev; next = cond v a' m.next })
   once true v w m = refl
   once false true true m = refl
   once false true false m = refl
@@ -98,16 +106,17 @@ module _ (t : Place) (a b a' b' : Option ℕ) (l l' : Links) where
 
   ends_once : (u : Bool) (e : Ends) → let r : Ends = cond u (record { head = none_or t.before a e.head; tail = none_or t.after b e.tail }) e in
       cond u (record { head = none_or t.before a' r.head; tail = none_or t.after b' r.tail }) r
-          ≡ cond u (record { head = none_or t.before a' e.head; tail = none_or t.after b' e.tail }) e
+      ≡ cond u (record { head = none_or t.before a' e.head; tail = none_or t.after b' e.tail }) e
   ends_once true e = λ i. record { head = head_once t.before a a' e.head i; tail = head_once t.after b b' e.tail i }
   ends_once false e = refl
 
   pub relinked_twice : (c : Chains) → relinked t a' b' l' (relinked t a b l c) ≡ relinked t a' b' l' c
   relinked_twice c =
       let one = each-each (new_links t a b l) (new_links t a' b' l') c.links
-          ∙ each-agree (λ j m. new_links t a' b' l' j (new_links t a b l j m)) (new_links t a' b' l') c.links (λ j m e. once (eqb t.slot j) (is_at t.before j) (is_at t.after j) m) in
+      ∙ each-agree (λ j m. new_links t a' b' l' j (new_links t a b l j m)) (new_links t a' b' l') c.links
+      (λ j m e. once (eqb t.slot j) (is_at t.before j) (is_at t.after j) m) in
       let two = each-each (new_ends t a b) (new_ends t a' b') c.ends
-          ∙ each-agree (λ j m. new_ends t a' b' j (new_ends t a b j m)) (new_ends t a' b') c.ends (λ j m e. ends_once (eqb t.list j) m) in
+      ∙ each-agree (λ j m. new_ends t a' b' j (new_ends t a b j m)) (new_ends t a' b') c.ends (λ j m e. ends_once (eqb t.list j) m) in
       λ i. record { links = one i; ends = two i }
 
 -- a relinking that puts in what is there changes nothing
@@ -129,9 +138,9 @@ module _ (t : Place) (a b : Option ℕ) (l : Links) (c : Chains) (h : IsThere t 
         | inl y ↦ new_links_as t a b l j m true (is_at t.before j) (is_at t.after j) y.0 refl refl ∙ sym (h.own m (ap (slice_get c.links) y.1 ∙ e))
         | inr n ↦
             let next : (v : Bool) × (is_at t.before j ≡ v) × (cond v a m.next ≡ m.next) =
-                elim (at_either t.before j) [ inl y ↦ (true, y.0, sym (h.next j m y.1 e)) | inr z ↦ (false, z.0, refl) ] in
+            elim (at_either t.before j) [ inl y ↦ (true, y.0, sym (h.next j m y.1 e)) | inr z ↦ (false, z.0, refl) ] in
             let prev : (w : Bool) × (is_at t.after j ≡ w) × (cond w b m.prev ≡ m.prev) =
-                elim (at_either t.after j) [ inl y ↦ (true, y.0, sym (h.prev j m y.1 e)) | inr z ↦ (false, z.0, refl) ] in
+            elim (at_either t.after j) [ inl y ↦ (true, y.0, sym (h.prev j m y.1 e)) | inr z ↦ (false, z.0, refl) ] in
             new_links_as t a b l j m false next.0 prev.0 n.0 next.1 prev.1 ∙ (λ i. record { list = m.list; prev = prev.2 i; next = next.2 i })
       ]
 
@@ -139,8 +148,11 @@ module _ (t : Place) (a b : Option ℕ) (l : Links) (c : Chains) (h : IsThere t 
   same_ends j e g =
       elim (eqb_tells t.list j) [
         | inl y ↦ ap (λ (u : Bool). cond u (record { head = none_or t.before a e.head; tail = none_or t.after b e.tail }) e) y.0
-            ∙ (λ i. record { head = kept_or t.before a e.head (λ z. h.head e z (ap (slice_get c.ends) y.1 ∙ g)) i; tail =
-                kept_or t.after b e.tail (λ z. h.tail e z (ap (slice_get c.ends) y.1 ∙ g)) i })
+            ∙ (λ i. record {
+              head = kept_or t.before a e.head (λ z. h.head e z (ap (slice_get c.ends) y.1 ∙ g)) i;
+              tail =
+                  kept_or t.after b e.tail (λ z. h.tail e z (ap (slice_get c.ends) y.1 ∙ g)) i;
+            })
         | inr n ↦ ap (λ (u : Bool). cond u (record { head = none_or t.before a e.head; tail = none_or t.after b e.tail }) e) n.0
       ]
 

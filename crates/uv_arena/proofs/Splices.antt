@@ -10,8 +10,13 @@ use Rattle.uv_arena.proofs.Names.{number_apart, number_below, swapped_names, swa
 
 module _ {X : Type 0} where
   pub spliced_sound : (v : Image X) → IsSound v → (a b : ListName) → IsSound (spliced a b v)
-  spliced_sound v s a b = record { linked = s.linked; fit = s.fit; names =
-      names_swapped v.names s.names (number a) (number b) (number_below a) (number_below b); last = s.last }
+  spliced_sound v s a b = record {
+    linked = s.linked;
+    fit = s.fit;
+    names =
+        names_swapped v.names s.names (number a) (number b) (number_below a) (number_below b);
+    last = s.last;
+  }
 
   pub splices : (v : Image X) → IsSound v → (a b : ListName) → members v b ≡ [] → IsSpliced v (spliced a b v) a b (record { from = a; to = b })
   splices v s a b empty =
@@ -19,8 +24,12 @@ module _ {X : Type 0} where
       let lb : number b < length v.names = subst (λ n. number b < n) (sym s.names.all) (number_below b) in
       let all = swapped_names v.names (number a) (number b) la lb in
       let u : SpliceUndo = record { from = a; to = b } in
-      let back : splice_undone u (spliced a b v) ≡ v = ap (λ ns. record { memory = v.memory; names = ns; last =
-          v.last }) (swap_twice v.names (number a) (number b) la lb) in
+      let back : splice_undone u (spliced a b v) ≡ v = ap (λ ns. record {
+        memory = v.memory;
+        names = ns;
+        last =
+            v.last;
+      }) (swap_twice v.names (number a) (number b) la lb) in
       record {
         moved = ap (chain v.memory) all.1;
         rest = λ n. ap (chain v.memory) all.0 ∙ empty;

@@ -34,16 +34,19 @@ pub record IsRelinked (c : Chains) (xs : ℕ → List ℕ) (t : Place) (a b : Op
   pub bare : l.list ≡ None → l ≡ loose
   pub kept : (y : ℕ) → t.slot ≢ y → IsIn y (xs t.list) → IsIn y new
 
-module _ (c : Chains) (xs : ℕ → List ℕ) (s : Stands c xs) (t : Place) (a b : Option ℕ) (l : Links) (new : List ℕ) (r : IsRelinked c xs t a b l new) where
+module _ (c : Chains) (xs : ℕ → List ℕ) (s : Stands c xs) (t : Place) (a b : Option ℕ) (l : Links) (new : List ℕ)
+    (r : IsRelinked c xs t a b l new) where
   here : (y : ℕ) → IsIn y (xs t.list) → (m : Links) → slice_get c.links y ≡ Some m → m.list ≡ Some t.list
   here y i m g = let on = segment_tells c.links t.list None (xs t.list) None (s.lists t.list r.below).segment y i in
       let same : on.0 ≡ m = cc (on.1, g) in ap (λ (z : Links). z.list) (sym same) ∙ on.2
 
   far_from : (j : ℕ) → t.list ≢ j → (y : ℕ) (m : Links) → slice_get c.links y ≡ Some m → m.list ≡ Some j → IsFar t a b l y
   far_from j n y m g is =
-      let off : m.list ≡ Some t.list → ⊥ = λ e. let same : t.list ≡ j = cc (e, is) in n same in
-      (λ e. elim (r.slot m (ap (slice_get c.links) e ∙ g)) [ inl h ↦ cc (h, is) | inr h ↦ off h ], λ e. off (here y (r.before y e) m g),
-          λ e. off (here y (r.after y e) m g))
+      let off : m.list ≡ Some t.list → ⊥ = λ e. let same : t.list ≡ j = cc (e, is) in n same in (
+        λ e. elim (r.slot m (ap (slice_get c.links) e ∙ g)) [ inl h ↦ cc (h, is) | inr h ↦ off h ],
+        λ e. off (here y (r.before y e) m g),
+        λ e. off (here y (r.after y e) m g),
+      )
 
   bare_far : (y : ℕ) (m : Links) → slice_get c.links y ≡ Some m → m.list ≡ None → t.slot ≢ y → IsFar t a b l y
   bare_far y m g is n = (n, λ e. cc (here y (r.before y e) m g, is), λ e. cc (here y (r.after y e) m g, is))
@@ -58,7 +61,8 @@ module _ (c : Chains) (xs : ℕ → List ℕ) (s : Stands c xs) (t : Place) (a b
 
   all_lists : (j : ℕ) → j < 15 → IsList (relinked t a b l c) j (with_list t.list new xs j)
   all_lists j lt = elim (eqb_tells t.list j) [
-    | inl y ↦ subst (λ (u : Bool). IsList (relinked t a b l c) j (cond u new (xs j))) (sym y.0) (subst (λ (i : ℕ). IsList (relinked t a b l c) i new) y.1 r.made)
+    | inl y ↦ subst (λ (u : Bool). IsList (relinked t a b l c) j (cond u new (xs j))) (sym y.0)
+        (subst (λ (i : ℕ). IsList (relinked t a b l c) i new) y.1 r.made)
     | inr n ↦ subst (λ (u : Bool). IsList (relinked t a b l c) j (cond u new (xs j))) (sym n.0) (other_list j lt n.1)
   ]
 
@@ -68,8 +72,10 @@ module _ (c : Chains) (xs : ℕ → List ℕ) (s : Stands c xs) (t : Place) (a b
       let back = get-each_back (new_links t a b l) c.links y m g in
       elim (eqb_tells t.slot y) [
         | inl e ↦ let put : m ≡ l = back.2 ∙ ap (λ z. new_links t a b l z back.0) (sym e.1) ∙ own_links t a b l back.0 in
-            let on = r.own k (ap (λ (z : Links). z.list) (sym put) ∙ is) in
-            (subst (λ i. i < 15) (sym on.0) r.below, subst (λ (u : Bool). IsIn y (cond u new (xs k))) (sym (eq-eqb t.list k (sym on.0))) (subst (λ z. IsIn z new) e.1 on.1))
+            let on = r.own k (ap (λ (z : Links). z.list) (sym put) ∙ is) in (
+              subst (λ i. i < 15) (sym on.0) r.below,
+              subst (λ (u : Bool). IsIn y (cond u new (xs k))) (sym (eq-eqb t.list k (sym on.0))) (subst (λ z. IsIn z new) e.1 on.1),
+            )
         | inr n ↦ let was : back.0.list ≡ Some k = sym (same_list t a b l y back.0 n.1) ∙ ap (λ (z : Links). z.list) (sym back.2) ∙ is in
             let on = s.listed y back.0 k back.1 was in (
               on.0,

@@ -88,8 +88,12 @@ list_of c k = walk c.links (length c.links) (head_of (slice_get c.ends k))
 
 -- what a relinking puts in: the next of the slot before, the previous of the slot after, and the slot's own links
 abbrev pub new_links : Place → Option ℕ → Option ℕ → Links → ℕ → Links → Links
-new_links t a b l j m = cond (eqb t.slot j) l (record { list = m.list; prev = cond (is_at t.after j) b m.prev; next =
-    cond (is_at t.before j) a m.next })
+new_links t a b l j m = cond (eqb t.slot j) l (record {
+  list = m.list;
+  prev = cond (is_at t.after j) b m.prev;
+  next =
+      cond (is_at t.before j) a m.next;
+})
 
 -- where there is no slot before, a is the list's head; where there is none after, b is its tail
 abbrev pub none_or : Option ℕ → Option ℕ → Option ℕ → Option ℕ

@@ -97,8 +97,14 @@ module _ {X : Type 0} where
 
   -- one slot more, that was never used
   abbrev pub grown : X → Memory X → Memory X
-  grown v m = record { row = row (m.row.items ++ record { slot = record { generation = 0; content = Some v }; links =
-      loose } ∷ []) m.row.capacity; ends = m.ends }
+  grown v m = record {
+    row = row (m.row.items ++ record {
+      slot = record { generation = 0; content = Some v };
+      links =
+          loose;
+    } ∷ []) m.row.capacity;
+    ends = m.ends;
+  }
 
   -- without the last slot
   abbrev pub shrunk : Memory X → Memory X

@@ -23,8 +23,11 @@ module _ {X : Type 0} where
   abbrev pub insert_undone : InsertUndo → Image X → Image X
   insert_undone u i =
       if u.fresh then in_memory shrunk i
-      else in_memory (λ m. put_in (front_place FREE u.slot m) (edited u.slot (record { generation = (slot_at m u.slot).generation; content =
-          None }) m)) i
+      else in_memory (λ m. put_in (front_place FREE u.slot m) (edited u.slot (record {
+        generation = (slot_at m u.slot).generation;
+        content =
+            None;
+      }) m)) i
 
   pub record CanUndoInsert (i : Image X) (u : InsertUndo) : Type 0 where
     pub slot : u.slot < length i.memory.row.items

@@ -17,7 +17,8 @@ pub(crate) struct Memory<T: Copy> {
 impl<T: Copy> Memory<T> {
     fn set_next(&mut self, at: u32, next: Option<u32>)
         requires { at < length self.old.row.items }
-        ensures { self.new ≡ with_cells (λ j c. with_links (record { list = c.links.list; prev = c.links.prev; next = cond (eqb at j) next c.links.next }) c) self.old }
+        ensures { self.new ≡ with_cells (λ j c. with_links
+            (record { list = c.links.list; prev = c.links.prev; next = cond (eqb at j) next c.links.next }) c) self.old }
     {
         let cell = self.row.get(at as usize);
         let links = Links { next, ..cell.links };
@@ -26,7 +27,8 @@ impl<T: Copy> Memory<T> {
 
     fn set_prev(&mut self, at: u32, prev: Option<u32>)
         requires { at < length self.old.row.items }
-        ensures { self.new ≡ with_cells (λ j c. with_links (record { list = c.links.list; prev = cond (eqb at j) prev c.links.prev; next = c.links.next }) c) self.old }
+        ensures { self.new ≡ with_cells (λ j c. with_links
+            (record { list = c.links.list; prev = cond (eqb at j) prev c.links.prev; next = c.links.next }) c) self.old }
     {
         let cell = self.row.get(at as usize);
         let links = Links { prev, ..cell.links };
@@ -62,7 +64,9 @@ impl<T: Copy> Memory<T> {
         requires list { place.list < 15 }
         requires all { length self.old.ends ≡ 15 }
         requires before { IsBelow place.before (length self.old.row.items) }
-        ensures { self.new ≡ with_ends (λ j e. cond (eqb place.list j) (record { head = none_or place.before next e.head; tail = e.tail }) e) (with_cells (λ j c. with_links (record { list = c.links.list; prev = c.links.prev; next = cond (is_at place.before j) next c.links.next }) c) self.old) }
+        ensures { self.new ≡ with_ends (λ j e. cond (eqb place.list j) (record { head = none_or place.before next e.head; tail = e.tail }) e)
+            (with_cells (λ j c. with_links
+            (record { list = c.links.list; prev = c.links.prev; next = cond (is_at place.before j) next c.links.next }) c) self.old) }
     {
         match place.before {
             Some(at) => self.set_next(at, next),
@@ -75,7 +79,9 @@ impl<T: Copy> Memory<T> {
         requires list { place.list < 15 }
         requires all { length self.old.ends ≡ 15 }
         requires after { IsBelow place.after (length self.old.row.items) }
-        ensures { self.new ≡ with_ends (λ j e. cond (eqb place.list j) (record { head = e.head; tail = none_or place.after prev e.tail }) e) (with_cells (λ j c. with_links (record { list = c.links.list; prev = cond (is_at place.after j) prev c.links.prev; next = c.links.next }) c) self.old) }
+        ensures { self.new ≡ with_ends (λ j e. cond (eqb place.list j) (record { head = e.head; tail = none_or place.after prev e.tail }) e)
+            (with_cells (λ j c. with_links
+            (record { list = c.links.list; prev = cond (is_at place.after j) prev c.links.prev; next = c.links.next }) c) self.old) }
     {
         match place.after {
             Some(at) => self.set_prev(at, prev),

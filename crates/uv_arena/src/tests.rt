@@ -137,14 +137,32 @@ fn takes_a_reused_slot_back(rt: HostRuntime) {
 #[test]
 fn lists_read_both_ways(rt: HostRuntime) -> Result<(), Fail> {
     let mut slots = listed(rt.alloc())?;
-    assert_eq!(rt; members(rt.alloc(), &slots, ListName::Idle)?.as_slice(), [2, 0, 1, 3].as_slice());
-    assert_eq!(rt; turned(rt.alloc(), &slots, ListName::Idle)?.as_slice(), [3, 1, 0, 2].as_slice());
+    assert_eq!(rt;
+        members(rt.alloc(), &slots, ListName::Idle)?.as_slice(),
+        [2, 0, 1, 3].as_slice()
+    );
+    assert_eq!(rt;
+        turned(rt.alloc(), &slots, ListName::Idle)?.as_slice(),
+        [3, 1, 0, 2].as_slice()
+    );
     unlink_and_back(&mut slots, live(0));
-    assert_eq!(rt; members(rt.alloc(), &slots, ListName::Idle)?.as_slice(), [2, 0, 1, 3].as_slice());
+    assert_eq!(rt;
+        members(rt.alloc(), &slots, ListName::Idle)?.as_slice(),
+        [2, 0, 1, 3].as_slice()
+    );
     splice(&mut slots, ListName::Idle, ListName::IdleYet);
-    assert_eq!(rt; members(rt.alloc(), &slots, ListName::IdleYet)?.as_slice(), [2, 0, 1, 3].as_slice());
-    assert_eq!(rt; members(rt.alloc(), &slots, ListName::Idle)?.as_slice(), [0u32; 0].as_slice());
+    assert_eq!(rt;
+        members(rt.alloc(), &slots, ListName::IdleYet)?.as_slice(),
+        [2, 0, 1, 3].as_slice()
+    );
+    assert_eq!(rt;
+        members(rt.alloc(), &slots, ListName::Idle)?.as_slice(),
+        [0u32; 0].as_slice()
+    );
     push(&mut slots, ListName::Idle, live(1), true);
-    assert_eq!(rt; members(rt.alloc(), &slots, ListName::Idle)?.as_slice(), [0u32; 0].as_slice());
+    assert_eq!(rt;
+        members(rt.alloc(), &slots, ListName::Idle)?.as_slice(),
+        [0u32; 0].as_slice()
+    );
     Ok(())
 }

@@ -21,7 +21,8 @@ use uv_records::{HandleRecord, ListName};
 
 /// The record of a handle. ESTALE if nothing is held under the id, EKIND if it is no handle.
 pub fn handle_at<T: HoldsHandle>(slots: &Slots<T>, id: Id) -> Result<HandleRecord, Code>
-    ensures ok { IfOk result (λ h. (record_at T.held_record slots.now id ≡ Some h) × ((why : HandleRecord → Option Code) → refusal why (found T.held_record slots.now id) ≡ why h)) }
+    ensures ok { IfOk result (λ h. (record_at T.held_record slots.now id ≡ Some h)
+        × ((why : HandleRecord → Option Code) → refusal why (found T.held_record slots.now id) ≡ why h)) }
     ensures err { IfErr result (λ code. (why : HandleRecord → Option Code) → refusal why (found T.held_record slots.now id) ≡ Some code) }
     ensures none { IfErr result (λ code. record_at T.held_record slots.now id ≡ None) }
 {
@@ -53,8 +54,10 @@ impl Handles {
         referenced: bool,
     ) -> Result<RecordUndo, Code>
         requires { IsCounted T.held_record (counted slots.old self.old) }
-        ensures ok { IfOk result (λ u. Did T.held_record T.of_record no_refusal (referenced_as referenced) (counted slots.old self.old) (counted slots.new self.new) id u) }
-        ensures err { IfErr result (λ code. Refused T.held_record T.of_record no_refusal (counted slots.old self.old) (counted slots.new self.new) id code) }
+        ensures ok { IfOk result (λ u. Did T.held_record T.of_record no_refusal (referenced_as referenced)
+            (counted slots.old self.old) (counted slots.new self.new) id u) }
+        ensures err { IfErr result (λ code. Refused T.held_record T.of_record no_refusal
+            (counted slots.old self.old) (counted slots.new self.new) id code) }
     {
         match handle_at(slots, id) {
             Err(code) => Err(code),
@@ -70,8 +73,10 @@ impl Handles {
         active: bool,
     ) -> Result<RecordUndo, Code>
         requires { IsCounted T.held_record (counted slots.old self.old) }
-        ensures ok { IfOk result (λ u. Did T.held_record T.of_record no_refusal (active_as active) (counted slots.old self.old) (counted slots.new self.new) id u) }
-        ensures err { IfErr result (λ code. Refused T.held_record T.of_record no_refusal (counted slots.old self.old) (counted slots.new self.new) id code) }
+        ensures ok { IfOk result (λ u. Did T.held_record T.of_record no_refusal (active_as active)
+            (counted slots.old self.old) (counted slots.new self.new) id u) }
+        ensures err { IfErr result (λ code. Refused T.held_record T.of_record no_refusal
+            (counted slots.old self.old) (counted slots.new self.new) id code) }
     {
         match handle_at(slots, id) {
             Err(code) => Err(code),
@@ -84,7 +89,8 @@ impl Handles {
         requires counts { IsCounted T.held_record (counted slots.old self.old) }
         requires loose { refusal close_refusal (found T.held_record slots.old id) ≡ None → on_list slots.old id ≡ false }
         ensures ok { IfOk result (λ u. IsClosed T.held_record T.of_record (counted slots.old self.old) (counted slots.new self.new) id u) }
-        ensures err { IfErr result (λ code. Refused T.held_record T.of_record close_refusal (counted slots.old self.old) (counted slots.new self.new) id code) }
+        ensures err { IfErr result (λ code. Refused T.held_record T.of_record close_refusal
+            (counted slots.old self.old) (counted slots.new self.new) id code) }
     {
         match handle_at(slots, id) {
             Err(code) => Err(code),

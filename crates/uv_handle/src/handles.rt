@@ -54,7 +54,8 @@ impl Handles {
         kind: Kind,
     ) -> Result<(Id, AddUndo), Full>
         requires { IsCounted T.held_record (counted slots.old self.old) }
-        ensures ok { IfOk result (λ r. IsAdded T.held_record T.of_record (counted slots.old self.old) (counted slots.new self.new) name kind r.0 r.1) }
+        ensures ok { IfOk result (λ r. IsAdded T.held_record T.of_record
+            (counted slots.old self.old) (counted slots.new self.new) name kind r.0 r.1) }
         ensures full { IfErr result (λ _. (next_free (plain_slots slots.old) ≡ None) × (slots.new ≡ slots.old) × (self.new ≡ self.old)) }
     {
         let handle = HandleRecord::new(name, kind);

@@ -60,7 +60,8 @@ module _ (E : El) {M : Type 1} {𝓤 : Ura M} (𝓛 : Logic 𝓤) (b : ℕ) wher
       split ! $ frame ! $ move ! (1 ∷ 0 ∷ []) $ done !
 
   pub place_in : (cs : Places E) (i o at : ℕ) (x : el_x E) (v : Val) → i < length cs → at ≡ i * s + o
-      → ent 𝓤 (sep 𝓤 (H.at full_share (elτ E) b at v) (sep 𝓤 (sem 𝓛 (E.row.own_val x (v ∷ []))) (sem 𝓛 (others E b o cs i)))) (sem 𝓛 (row (R E) b o (set cs i (Some x))))
+      → ent 𝓤 (sep 𝓤 (H.at full_share (elτ E) b at v) (sep 𝓤 (sem 𝓛 (E.row.own_val x (v ∷ []))) (sem 𝓛 (others E b o cs i))))
+          (sem 𝓛 (row (R E) b o (set cs i (Some x))))
   place_in [] i o at x v l e = absurd (not-suc-le-zero l)
   place_in (c ∷ cs) zero o at x v l e = qed 𝓛 (‵ (fat full_share (elτ E) b at v) ∷ ‵ (E.row.own_val x (v ∷ [])) ∷ ‵ (row (R E) b (o + s) cs) ∷ []) ∵
       use2 𝓛 (‵ (part_at (R E) full_share x b at)) (part_in 𝓛 (R E) refl full_share x b at v) $

@@ -46,6 +46,7 @@ module _ {X : Type 0} (read : X → Option HandleRecord) (make : HandleRecord �
         can_undo = record {
           woken = c.can_undo;
           pushed = subst (λ (z : Counted X). CanUndoPush z.arena d.slot) (sym c.undone) b.can_undo;
-          unlinked = subst (λ (z : Counted X). CanUndoUnlink (push_undone d.slot z.arena) t) (sym c.undone) (subst (λ z. CanUndoUnlink z t) (sym b.undone) a.can_undo);
+          unlinked = subst (λ (z : Counted X). CanUndoUnlink (push_undone d.slot z.arena) t) (sym c.undone)
+              (subst (λ z. CanUndoUnlink z t) (sym b.undone) a.can_undo);
         };
       }

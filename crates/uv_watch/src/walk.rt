@@ -39,7 +39,8 @@ pub fn take<T: HoldsHandle>(
 ) -> Option<(Id, bool, WalkUndo)>
     requires { IsCounted T.held_record (counted slots.old handles.old) }
     ensures none { IfNone result ((members slots.old (yet_of kind) ≡ []) × (counted slots.new handles.new ≡ counted slots.old handles.old)) }
-    ensures some { IfSome result (λ r. IsMovedOn T.held_record T.of_record (counted slots.old handles.old) (counted slots.new handles.new) kind r.0 r.1 r.2) }
+    ensures some { IfSome result (λ r. IsMovedOn T.held_record T.of_record
+        (counted slots.old handles.old) (counted slots.new handles.new) kind r.0 r.1 r.2) }
 {
     match slots.first(kind.yet()) {
         None => None,

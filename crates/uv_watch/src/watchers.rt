@@ -23,9 +23,11 @@ pub fn start<T: HoldsHandle>(
     id: Id,
 ) -> Result<Option<ListUndo>, Code>
     requires counts { IsCounted T.held_record (counted slots.old handles.old) }
-    requires loose { (h : HandleRecord) → record_at T.held_record slots.old id ≡ Some h → start_watcher_refusal h ≡ None → h.active ≡ false → on_list slots.old id ≡ false }
+    requires loose { (h : HandleRecord) → record_at T.held_record slots.old id ≡ Some h → start_watcher_refusal h ≡ None → h.active ≡ false
+        → on_list slots.old id ≡ false }
     ensures ok { IfOk result (λ o. Starts T.held_record T.of_record (counted slots.old handles.old) (counted slots.new handles.new) id o) }
-    ensures err { IfErr result (λ code. Refused T.held_record T.of_record start_watcher_refusal (counted slots.old handles.old) (counted slots.new handles.new) id code) }
+    ensures err { IfErr result (λ code. Refused T.held_record T.of_record start_watcher_refusal
+        (counted slots.old handles.old) (counted slots.new handles.new) id code) }
 {
     match handle_at(slots, id) {
         Err(code) => Err(code),
@@ -77,8 +79,10 @@ pub fn stop<T: HoldsHandle>(
 ) -> Result<StopUndo, Code>
     requires counts { IsCounted T.held_record (counted slots.old handles.old) }
     requires no_timer { (h : HandleRecord) → record_at T.held_record slots.old id ≡ Some h → is_timer h.kind ≡ false }
-    ensures ok { IfOk result (λ u. (h : HandleRecord) × (stop_refusal h ≡ None) × IsStopped T.held_record T.of_record (counted slots.old handles.old) (counted slots.new handles.new) id h u) }
-    ensures err { IfErr result (λ code. Refused T.held_record T.of_record stop_refusal (counted slots.old handles.old) (counted slots.new handles.new) id code) }
+    ensures ok { IfOk result (λ u. (h : HandleRecord) × (stop_refusal h ≡ None) × IsStopped T.held_record T.of_record
+        (counted slots.old handles.old) (counted slots.new handles.new) id h u) }
+    ensures err { IfErr result (λ code. Refused T.held_record T.of_record stop_refusal
+        (counted slots.old handles.old) (counted slots.new handles.new) id code) }
 {
     match handle_at(slots, id) {
         Err(code) => Err(code),
@@ -135,8 +139,10 @@ pub fn send<T: HoldsHandle>(
     id: Id,
 ) -> Result<RecordUndo, Code>
     requires { IsCounted T.held_record (counted slots.old handles.old) }
-    ensures ok { IfOk result (λ u. Did T.held_record T.of_record send_refusal sent (counted slots.old handles.old) (counted slots.new handles.new) id u) }
-    ensures err { IfErr result (λ code. Refused T.held_record T.of_record send_refusal (counted slots.old handles.old) (counted slots.new handles.new) id code) }
+    ensures ok { IfOk result (λ u. Did T.held_record T.of_record send_refusal sent
+        (counted slots.old handles.old) (counted slots.new handles.new) id u) }
+    ensures err { IfErr result (λ code. Refused T.held_record T.of_record send_refusal
+        (counted slots.old handles.old) (counted slots.new handles.new) id code) }
 {
     match handle_at(slots, id) {
         Err(code) => Err(code),

@@ -93,7 +93,8 @@ impl<T: Copy> Slots<T> {
     /// Whether something is held under an id, and is on a list.
     pub fn on_list(&self, id: Id) -> bool
         ensures value { result ≡ on_list self.now id }
-        ensures apart { is_some (held self.now id) ≡ true → result ≡ false → (l : ListName) → without eqb (members self.now l) id.slot ≡ members self.now l }
+        ensures apart { is_some (held self.now id) ≡ true → result ≡ false
+            → (l : ListName) → without eqb (members self.now l) id.slot ≡ members self.now l }
     {
         self.is_sound();
         self.is_linked(id)

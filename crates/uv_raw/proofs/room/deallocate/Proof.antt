@@ -31,7 +31,8 @@ deallocate_spec 𝓤 𝓛 𝓜 𝓡 wired X L =
     let κ = z.0.0.0 in let κ₁ = z.0.0.1.0 in let q = z.0.1.0 in let q₁ = z.0.1.1.0 in let vss = z.0.4 in let a = z.0.3.0.now in
     let d : (Room E).Denot = z.0.3.1.0 in let n : ℕ = z.0.3.1.1.0 in let s : ℕ = size E in let fits : n < 2 ^ 64 = are.1.1.0.1 in
     let p : ℕ × ℕ = z.0.3.0.ref_ptr in let Post : Val → SProp 𝓤 = (walk_of 𝓛 En hs c).post z in let al : ℕ = capped (align (elτ E)) in
-    qed 𝓛 (((‵ (flft κ q) ⊛ ‵ (flft κ₁ q₁) ⊛ ‵ ftrue) ⊛ ‵ (owns (types_at En.signature.params z.0.0) z.0.3 vss)) ∷ (raw (fact 𝓤 (κ₁ ⊑ X.lives)) ⊛ raw (fact 𝓤 (n ≡ length d.places))) ∷ []) ∵
+    qed 𝓛 (((‵ (flft κ q) ⊛ ‵ (flft κ₁ q₁) ⊛ ‵ ftrue) ⊛ ‵ (owns (types_at En.signature.params z.0.0) z.0.3 vss)) ∷
+        (raw (fact 𝓤 (κ₁ ⊑ X.lives)) ⊛ raw (fact 𝓤 (n ≡ length d.places))) ∷ []) ∵
     move ! (1 ∷ []) $ split ! $ drop ! $ heard ! (n ≡ length d.places) (λ count.
     split ! $ split ! $ move ! (2 ∷ []) $ fsplit3 ! $ fsplit ! $ move ! (2 ∷ []) $ room_had E ! d vss.1.0 (λ b o at word_is fit. fsplit ! $
     let small : n * s < 2 ^ 63 = subst (λ (k : ℕ). k * s < 2 ^ 63) (sym count) fit in let bytes : n * s < 2 ^ 64 = omega arith in

@@ -8,5 +8,5 @@ pub put-requires-clause-within : goal.put-requires-clause-within
 put-requires-clause-within g c =
     let X = g.row.T.Denot in let t = c.args.place in let m : Memory X = c.self.inside.memory in
     let long = ap (λ (n : Memory X). length n.row.items) c.edit.ensures ∙ length_edited t.slot c.args.slot m
-        ∙ ap (λ (i : Image X). length i.memory.row.items) c.self.view_is in
+    ∙ ap (λ (i : Image X). length i.memory.row.items) c.self.view_is in
     subst (IsWithin t) (sym long) c.requires.within

@@ -13,14 +13,20 @@ edit_and_put-requires-clause-within g c =
 pub edit_and_put-requires-clause-sound : goal.edit_and_put-requires-clause-sound
 edit_and_put-requires-clause-sound g c =
     let v = c.args.self.now in
-    subst (λ p. IsSound (in_memory (λ m. put_in p (edited p.slot (record { generation = c.args.id.generation + 1; content =
-        None }) m)) v)) (sym c.front_place-place.ensures)
+    subst (λ p. IsSound (in_memory (λ m. put_in p (edited p.slot (record {
+      generation = c.args.id.generation + 1;
+      content =
+          None;
+    }) m)) v)) (sym c.front_place-place.ensures)
     (frees v c.is_sound.ensures c.args.id c.args.content c.requires.held c.requires.loose c.requires.more).sound
 
 pub returns : goal.returns
 returns g c =
     let v = c.args.self.now in
     subst (λ j. IsRemoved v j c.args.id c.args.content (record { slot = c.args.id.slot; retired = false; content = c.args.content }))
-    (sym (c.edit_and_put.ensures ∙ ap (λ p. in_memory (λ m. put_in p (edited p.slot (record { generation = c.args.id.generation + 1; content =
-        None }) m)) v) c.front_place-place.ensures))
+    (sym (c.edit_and_put.ensures ∙ ap (λ p. in_memory (λ m. put_in p (edited p.slot (record {
+      generation = c.args.id.generation + 1;
+      content =
+          None;
+    }) m)) v) c.front_place-place.ensures))
     (frees v c.is_sound.ensures c.args.id c.args.content c.requires.held c.requires.loose c.requires.more).removed

@@ -15,21 +15,33 @@ place-place-requires g c = (reuses c.args.self.now c.is_sound.ensures c.args.con
 pub take_and_edit-requires-clause-within : goal.take_and_edit-requires-clause-within
 take_and_edit-requires-clause-within g c =
     let v = c.args.self.now in
-    subst (λ p. IsWithin p (length v.memory.row.items)) (sym c.place-place.ensures) (reuses v c.is_sound.ensures c.args.content c.args.slot c.requires).within
+    subst (λ p. IsWithin p (length v.memory.row.items)) (sym c.place-place.ensures)
+    (reuses v c.is_sound.ensures c.args.content c.args.slot c.requires).within
 
 pub take_and_edit-requires-clause-sound : goal.take_and_edit-requires-clause-sound
 take_and_edit-requires-clause-sound g c =
     let v = c.args.self.now in let X = g.row.T.Denot in
-    subst (λ (r : Place × Slot X). IsSound (in_memory (λ m. edited r.0.slot (record { generation = r.1.generation; content =
-        Some c.args.content }) (taken_out r.0 m)) v))
+    subst (λ (r : Place × Slot X). IsSound (in_memory (λ m. edited r.0.slot (record {
+      generation = r.1.generation;
+      content =
+          Some c.args.content;
+    }) (taken_out r.0 m)) v))
     (λ i. (sym c.place-place.ensures i, sym c.slot_at-generation.ensures i)) (reuses v c.is_sound.ensures c.args.content c.args.slot c.requires).sound
 
 pub returns : goal.returns
 returns g c =
     let v = c.args.self.now in let X = g.row.T.Denot in let slot = c.args.slot in
-    let is = c.take_and_edit.ensures ∙ (λ i. in_memory (λ m. edited (c.place-place.ensures i).slot (record { generation =
-        (c.slot_at-generation.ensures i).generation; content = Some c.args.content }) (taken_out (c.place-place.ensures i) m)) v) in
-    subst (λ (s : Slot X). IsInserted v c.take_and_edit.new.self c.args.content (record { slot = slot; generation =
-        s.generation }) (record { slot = slot; fresh = false })) (sym c.slot_at-generation.ensures)
-    (subst (λ j. IsInserted v j c.args.content (record { slot = slot; generation = (slot_at v.memory slot).generation }) (record { slot = slot;
-        fresh = false })) (sym is) (reuses v c.is_sound.ensures c.args.content slot c.requires).inserted)
+    let is = c.take_and_edit.ensures ∙ (λ i. in_memory (λ m. edited (c.place-place.ensures i).slot (record {
+      generation =
+          (c.slot_at-generation.ensures i).generation;
+      content = Some c.args.content;
+    }) (taken_out (c.place-place.ensures i) m)) v) in
+    subst (λ (s : Slot X). IsInserted v c.take_and_edit.new.self c.args.content (record {
+      slot = slot;
+      generation =
+          s.generation;
+    }) (record { slot = slot; fresh = false })) (sym c.slot_at-generation.ensures)
+    (subst (λ j. IsInserted v j c.args.content (record { slot = slot; generation = (slot_at v.memory slot).generation }) (record {
+      slot = slot;
+      fresh = false;
+    })) (sym is) (reuses v c.is_sound.ensures c.args.content slot c.requires).inserted)

@@ -9,8 +9,14 @@ grow-requires-clause-sound g c = (grows c.args.self.now c.is_sound.ensures c.arg
 pub returns-clause-ok : goal.returns-clause-ok
 returns-clause-ok g c =
     let v = c.args.self.now in
-    subst (λ n. IsInserted v c.grow.new.self c.args.content (record { slot = n; generation = 0 }) (record { slot = n; fresh =
-        true })) (sym c.used-slot.ensures.used)
-    (subst (λ j. IsInserted v j c.args.content (record { slot = length v.memory.row.items; generation = 0 }) (record { slot =
-        length v.memory.row.items; fresh = true })) (sym c.grow.ensures)
+    subst (λ n. IsInserted v c.grow.new.self c.args.content (record { slot = n; generation = 0 }) (record {
+      slot = n;
+      fresh =
+          true;
+    })) (sym c.used-slot.ensures.used)
+    (subst (λ j. IsInserted v j c.args.content (record { slot = length v.memory.row.items; generation = 0 }) (record {
+      slot =
+          length v.memory.row.items;
+      fresh = true;
+    })) (sym c.grow.ensures)
     (grows v c.is_sound.ensures c.args.content (omega arith) c.requires).inserted)

@@ -12,6 +12,10 @@ edit-requires-clause-sound g c = (retires c.args.self.now c.is_sound.ensures c.a
 pub returns : goal.returns
 returns g c =
     let v = c.args.self.now in
-    subst (λ j. IsRemoved v j c.args.id c.args.content (record { slot = c.args.id.slot; retired = true; content =
-        c.args.content })) (sym c.edit.ensures)
+    subst (λ j. IsRemoved v j c.args.id c.args.content (record {
+      slot = c.args.id.slot;
+      retired = true;
+      content =
+          c.args.content;
+    })) (sym c.edit.ensures)
     (retires v c.is_sound.ensures c.args.id c.args.content c.requires.held c.requires.loose c.requires.last).removed

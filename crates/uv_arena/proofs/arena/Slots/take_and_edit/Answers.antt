@@ -9,5 +9,5 @@ pub edit-requires : goal.edit-requires
 edit-requires g c =
     let X = g.row.T.Denot in let t = c.args.place in let m : Memory X = c.self.inside.memory in
     let long = ap (λ (n : Memory X). length n.row.items) c.take.ensures ∙ length_relinked t t.after t.before loose m
-        ∙ ap (λ (i : Image X). length i.memory.row.items) c.self.view_is in
+    ∙ ap (λ (i : Image X). length i.memory.row.items) c.self.view_is in
     subst (λ n. t.slot < n) (sym long) c.requires.within.2

@@ -21,4 +21,5 @@ pub returns-clause-unlinked : goal.returns-clause-unlinked
 returns-clause-unlinked g c =
     let v = c.args.self.now in
     subst (λ j. IsUnlinked v j c.args.id c.place-place.result) (sym c.take.ensures)
-    (subst (λ p. IsUnlinked v (in_memory (taken_out p) v) c.args.id p) (sym c.place-place.ensures) (take_off v c.is_sound.ensures c.args.id c.requires).unlinked)
+    (subst (λ p. IsUnlinked v (in_memory (taken_out p) v) c.args.id p) (sym c.place-place.ensures)
+    (take_off v c.is_sound.ensures c.args.id c.requires).unlinked)

@@ -13,18 +13,21 @@ relink_after-requires-clause-all g c =
 pub relink_after-requires-clause-after : goal.relink_after-requires-clause-after
 relink_after-requires-clause-after g c =
     subst (IsBelow c.args.place.after) (sym (ap (λ (m : Memory g.row.T.Denot). length m.row.items) c.relink_before.ensures
-        ∙ length-each _ c.args.self.now.row.items)) c.requires.within.3
+    ∙ length-each _ c.args.self.now.row.items)) c.requires.within.3
 
 pub set_links-requires : goal.set_links-requires
 set_links-requires g c =
     subst (λ n. c.args.place.slot < n)
     (sym (ap (λ (m : Memory g.row.T.Denot). length m.row.items) c.relink_after.ensures ∙ length-each _ c.relink_before.new.self.row.items
-        ∙ ap (λ (m : Memory g.row.T.Denot). length m.row.items) c.relink_before.ensures ∙ length-each _ c.args.self.now.row.items))
+    ∙ ap (λ (m : Memory g.row.T.Denot). length m.row.items) c.relink_before.ensures ∙ length-each _ c.args.self.now.row.items))
     c.requires.within.2
 
 pub returns : goal.returns
 returns g c =
     let m : Memory g.row.T.Denot = c.args.self.now in let t = c.args.place in
     rw (c.set_links.ensures, c.relink_after.ensures, c.relink_before.ensures)
-    (λ i. record { row = row (cells_joined t c.args.next c.args.prev c.args.own m.row.items i) m.row.capacity; ends =
-        ends_joined t c.args.next c.args.prev m.ends i })
+    (λ i. record {
+      row = row (cells_joined t c.args.next c.args.prev c.args.own m.row.items i) m.row.capacity;
+      ends =
+          ends_joined t c.args.next c.args.prev m.ends i;
+    })

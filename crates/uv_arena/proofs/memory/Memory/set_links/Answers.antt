@@ -10,4 +10,8 @@ pub returns : goal.returns
 returns g c =
     let m : Memory g.row.T.Denot = c.args.self.now in
     let f : Bool → Cell g.row.T.Denot → Cell g.row.T.Denot = λ u z. with_links (cond u c.args.links z.links) z in
-    λ i. record { row = (c.set.ensures.new ∙ ap (λ l. row l m.row.capacity) (put_at m.row.items c.args.at c.get-cell.result c.get-cell.ensures f (λ y. refl))) i; ends = m.ends }
+    λ i. record {
+      row = (c.set.ensures.new
+          ∙ ap (λ l. row l m.row.capacity) (put_at m.row.items c.args.at c.get-cell.result c.get-cell.ensures f (λ y. refl))) i;
+      ends = m.ends;
+    }

@@ -15,7 +15,8 @@ recounted-self-inside-requires g c =
       sym c.keeps_alive.ensures k,
       sym c.keeps_alive-2.ensures k,
     ))
-    (change_fits H.held_record H.of_record K.gives_back K.only_that i d c.args.old c.requires.found j c.self.inside.active c.args.new (c.self.view_is ∙ c.requires.counts) set c.is_sound-2.ensures)
+    (change_fits H.held_record H.of_record K.gives_back K.only_that i d c.args.old c.requires.found j c.self.inside.active c.args.new
+    (c.self.view_is ∙ c.requires.counts) set c.is_sound-2.ensures)
 
 pub returns : goal.returns
 returns g c =

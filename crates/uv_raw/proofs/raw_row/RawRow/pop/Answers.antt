@@ -6,7 +6,8 @@ pub get-requires : goal.get-requires
 get-requires g c = last_block c.self.inside c.args.self.now c.self.view_is c.self.invariant c.requires
 
 pub invariant_of-self : goal.invariant_of-self
-invariant_of-self g c = (pop_block c.self.inside c.args.self.now c.self.view_is c.self.invariant c.get.result.now _ c.requires c.get.ensures (refl, refl, refl)).0
+invariant_of-self g c = (pop_block c.self.inside c.args.self.now c.self.view_is c.self.invariant c.get.result.now _ c.requires c.get.ensures
+    (refl, refl, refl)).0
 
 pub returns-clause-items : goal.returns-clause-items
 returns-clause-items g c = (pop_block c.self.inside c.args.self.now c.self.view_is c.self.invariant c.get.result.now (record {

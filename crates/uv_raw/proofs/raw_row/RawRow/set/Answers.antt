@@ -6,7 +6,8 @@ pub get-old-requires : goal.get-old-requires
 get-old-requires g c = let r = read_block c.self.inside c.args.self.now c.self.view_is c.self.invariant c.args.index c.requires in (r.0, r.1)
 
 pub invariant_of-self : goal.invariant_of-self
-invariant_of-self g c = (set_block c.self.inside c.args.self.now c.self.view_is c.self.invariant c.args.index c.args.item _ c.requires (c.put.ensures, refl, refl)).0
+invariant_of-self g c = (set_block c.self.inside c.args.self.now c.self.view_is c.self.invariant c.args.index c.args.item _ c.requires
+    (c.put.ensures, refl, refl)).0
 
 pub returns-clause-old : goal.returns-clause-old
 returns-clause-old g c = let r = read_block c.self.inside c.args.self.now c.self.view_is c.self.invariant c.args.index c.requires in
