@@ -27,11 +27,11 @@ pub struct Taken {
 }
 
 impl Taken {
-    fn none() -> Taken {
+    pub fn none() -> Taken {
         Taken { nanos: 0, calls: 0 }
     }
 
-    fn add(&mut self, from: Instant, to: Instant, calls: u32) {
+    pub fn add(&mut self, from: Instant, to: Instant, calls: u32) {
         let time = to.duration_since(from);
         let nanos = time
             .as_secs()

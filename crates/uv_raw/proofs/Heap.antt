@@ -73,7 +73,7 @@ module _ {M : Type 1} {𝓤 : Ura M} (𝓛 : Logic 𝓤) (at_mem : Memory → SP
 
     pub Gives-goes : HasLayout τ n al → n < 2 ^ 64 → al < 2 ^ 64
         → ent 𝓤 (sep 𝓤 (H.room τ b o) (sep 𝓤 (sem 𝓛 (heap_token τ (block_ptr b o)))
-            (sep 𝓤 (sem 𝓛 (hidden_shr Heap.the_row κ a p.0 p.1)) (A.lft κ q)))) (Gives.pre at_gives)
+        (sep 𝓤 (sem 𝓛 (hidden_shr Heap.the_row κ a p.0 p.1)) (A.lft κ q)))) (Gives.pre at_gives)
     Gives-goes fits fn fa = qed 𝓛 (‵ (froom τ b o) ∷ ‵ (heap_token τ (block_ptr b o)) ∷ ‵ (hidden_shr Heap.the_row κ a p.0 p.1) ∷ ‵
         (flft κ q) ∷ []) ∵ fjoin ! $
         use0 𝓛 (raw (fact 𝓤 (HasLayout τ n al))) (fact_i 𝓤 (HasLayout τ n al) (emp 𝓤) fits) $ join ! $

@@ -49,7 +49,7 @@ module _ (E : El) {M : Type 1} {𝓤 : Ura M} {𝓛 : Logic 𝓤} {K : Type 0} {
   pub room_opens : K → Soaks G → {κ : Lft} {q : Share} {γ : GName} (d : (Room E).Denot) (rb ro : ℕ)
       → ((b o : ℕ) → d.start ≡ block_ptr b o → length d.places * size E < 2 ^ 63
       → Seq K 𝓛 (‵ (held (R E) b o d.places) ∷ ‵ (cell_at full_share (Room E).mir (word (block_ptr b o) ∷ []) rb ro) ∷ ‵
-          (fobor κ q (Borrowed (mem (Room E)) rb ro γ)) ∷ ‵ (fobs γ ((Room E).coded.code d)) ∷ ‵ (fauth γ ((Room E).coded.code d)) ∷ Γ) G)
+      (fobor κ q (Borrowed (mem (Room E)) rb ro γ)) ∷ ‵ (fobs γ ((Room E).coded.code d)) ∷ ‵ (fauth γ ((Room E).coded.code d)) ∷ Γ) G)
       → Seq K 𝓛 (‵ (fobs γ ((Room E).coded.code d)) ∷ ‵ (fbor κ (Borrowed (mem (Room E)) rb ro γ)) ∷ ‵ (flft κ q) ∷ Γ) G
   room_opens t z d rb ro k = opens t z (Room E) {h = d} rb ro (λ vs. move t (1 ∷ []) $ room_had E t d vs (λ b o at is fit.
       rewrite t 1 (λ (ws : List Val). ‵ (cell_at full_share (Room E).mir ws rb ro)) is refl $ k b o at fit))
@@ -58,15 +58,15 @@ module _ (E : El) {M : Type 1} {𝓤 : Ura M} {𝓛 : Logic 𝓤} {K : Type 0} {
       → length d.places * size E < 2 ^ 63
       → Step K 𝓛 (‵ (fobs γ ((Room E).coded.code d)) ∷ ‵ (fbor κ (Borrowed (mem (Room E)) rb ro γ)) ∷ ‵ (flft κ q) ∷ Γ) G
       (‵ (held (R E) b o d.places) ∷ ‵ (cell_at full_share (Room E).mir (word (block_ptr b o) ∷ []) rb ro) ∷ ‵
-          (fobor κ q (Borrowed (mem (Room E)) rb ro γ)) ∷ ‵ (fobs γ u) ∷ ‵ (fauth γ v) ∷ Γ) G
+      (fobor κ q (Borrowed (mem (Room E)) rb ro γ)) ∷ ‵ (fobs γ u) ∷ ‵ (fauth γ v) ∷ Γ) G
   room_closes t z d b o rb ro at fit = step (λ s. room_made E t d b o at fit $ move t (1 ∷ 0 ∷ []) $
       closes t z (Room E) d (word (block_ptr b o) ∷ []) rb ro $ s)
 
 -- What a `&` shows: the pointer, and the values.
 pub room_seen : (E : El) {M : Type 1} {𝓤 : Ura M} (𝓛 : Logic 𝓤) (κ : Lft) (d : (Room E).Denot) (b o : ℕ)
     → ent 𝓤 (sem 𝓛 (hidden_shr (Room E) κ d b o))
-        (sep 𝓤 (sem 𝓛 (hidden_shr RawPtr κ d.start b (o + 0))) (sem 𝓛 (room_shares (R E) d.start d.places κ)))
+    (sep 𝓤 (sem 𝓛 (hidden_shr RawPtr κ d.start b (o + 0))) (sem 𝓛 (room_shares (R E) d.start d.places κ)))
 room_seen E 𝓛 κ d b o = qed 𝓛 (‵ (hidden_shr (Room E) κ d b o) ∷ []) ∵
     use1 𝓛 (‵ (hidden_shr (Data E) κ (d.start, tt) b o) ⊛ ‵ (fhide (C.the_lent (R E) d d.start κ)))
-        (lent_out 𝓛 (C.struct (R E)) (C.the_codes (el_x E) (R E).coded) (C.the_heap (R E)) (C.the_lent (R E)) κ d b o) $ split ! $
+    (lent_out 𝓛 (C.struct (R E)) (C.the_codes (el_x E) (R E).coded) (C.the_heap (R E)) (C.the_lent (R E)) κ d b o) $ split ! $
     unhide ! $ fsplit ! $ fsplit ! $ keep ! (0 ∷ 3 ∷ []) $ done !

@@ -2,7 +2,7 @@
 --     others               the places of a row but the i-th
 --     place_out, place_in  the i-th place as room, whatever it held, and back with a value
 --     place_seen           the value that a `&` to the row shows there
---     of_room, to_room     room for n items is n empty places, and any n places are room
+--     cut_up, put_together  room for n items is n empty places, and any n places are room
 use mathlib.Core.Path.{◌≡◌, refl}
 use Prim.Native.Nat.{ℕ, zero, suc, ◌+◌, ◌*◌, ◌<◌}
 use native.Mathlib.Omega.{arith}
@@ -61,7 +61,7 @@ module _ (E : El) {M : Type 1} {𝓤 : Ura M} (𝓛 : Logic 𝓤) (b : ℕ) wher
 
   pub place_in : (cs : Places E) (i o at : ℕ) (x : el_x E) (v : Val) → i < length cs → at ≡ i * s + o
       → ent 𝓤 (sep 𝓤 (H.at full_share (elτ E) b at v) (sep 𝓤 (sem 𝓛 (E.row.own_val x (v ∷ []))) (sem 𝓛 (others E b o cs i))))
-          (sem 𝓛 (row (R E) b o (set cs i (Some x))))
+      (sem 𝓛 (row (R E) b o (set cs i (Some x))))
   place_in [] i o at x v l e = absurd (not-suc-le-zero l)
   place_in (c ∷ cs) zero o at x v l e = qed 𝓛 (‵ (fat full_share (elτ E) b at v) ∷ ‵ (E.row.own_val x (v ∷ [])) ∷ ‵ (row (R E) b (o + s) cs) ∷ []) ∵
       use2 𝓛 (‵ (part_at (R E) full_share x b at)) (part_in 𝓛 (R E) refl full_share x b at v) $
@@ -80,15 +80,24 @@ module _ (E : El) {M : Type 1} {𝓤 : Ura M} (𝓛 : Logic 𝓤) (b : ℕ) wher
   place_seen κ (c ∷ cs) (suc i) o at x is e = qed 𝓛 (‵ (row_shared (R E) b o (c ∷ cs) κ) ∷ []) ∵ fsplit ! $ keep ! (1 ∷ []) $
       by ! (place_seen κ cs i (o + s) at x is (omega (arith, suc-mul i s)))
 
-  pub of_room : (n o : ℕ) → ent 𝓤 (H.room (ty_array (elτ E) n) b o) (sem 𝓛 (row (R E) b o (replicate n None)))
-  of_room zero o = qed 𝓛 (‵ (froom (ty_array (elτ E) 0) b o) ∷ []) ∵ keep ! [] $ done !
-  of_room (suc n) o = qed 𝓛 (‵ (froom (ty_array (elτ E) (suc n)) b o) ∷ []) ∵
-      use1 𝓛 (‵ (froom (elτ E) b o) ⊛ ‵ (froom (ty_array (elτ E) n) b (o + s))) (𝓛.laws.room_uncons (elτ E) n b o) $ split ! $
-      use1 𝓛 (‵ (place (R E) b o None)) (𝓛.laws.room-raw (elτ E) b o) $ frame ! $ by ! (of_room n (o + s))
+  -- room for one item more is an empty place, and room for the others behind it
+  one_cut_off : (n o : ℕ)
+      → ent 𝓤 (H.room (ty_array (elτ E) (suc n)) b o) (sep 𝓤 (sem 𝓛 (place (R E) b o None)) (H.room (ty_array (elτ E) n) b (o + s)))
+  one_cut_off n o =
+      let block = ‵ (froom (ty_array (elτ E) (suc n)) b o) in let rest = ‵ (froom (ty_array (elτ E) n) b (o + s)) in
+      qed 𝓛 (block ∷ []) ∵ use1 𝓛 (‵ (froom (elτ E) b o) ⊛ rest) (𝓛.laws.room_uncons (elτ E) n b o) $ split ! $
+      use1 𝓛 (‵ (place (R E) b o None)) (𝓛.laws.room-raw (elτ E) b o) $ done !
 
-  pub to_room : (cs : Places E) (o : ℕ) → ent 𝓤 (sem 𝓛 (row (R E) b o cs)) (H.room (ty_array (elτ E) (length cs)) b o)
-  to_room [] o = 𝓛.laws.room_nil (elτ E) b o
-  to_room (c ∷ cs) o = qed 𝓛 (‵ (place (R E) b o c) ∷ ‵ (row (R E) b (o + s) cs) ∷ []) ∵
+  -- so room for n items is n empty places
+  pub cut_up : (n o : ℕ) → ent 𝓤 (H.room (ty_array (elτ E) n) b o) (sem 𝓛 (row (R E) b o (replicate n None)))
+  cut_up zero o = qed 𝓛 (‵ (froom (ty_array (elτ E) 0) b o) ∷ []) ∵ keep ! ([]) $ done !
+  cut_up (suc n) o = qed 𝓛 (‵ (froom (ty_array (elτ E) (suc n)) b o) ∷ []) ∵
+      use1 𝓛 (‵ (place (R E) b o None) ⊛ ‵ (froom (ty_array (elτ E) n) b (o + s))) (one_cut_off n o) $
+      split ! $ frame ! $ by ! (cut_up n (o + s))
+
+  pub put_together : (cs : Places E) (o : ℕ) → ent 𝓤 (sem 𝓛 (row (R E) b o cs)) (H.room (ty_array (elτ E) (length cs)) b o)
+  put_together [] o = 𝓛.laws.room_nil (elτ E) b o
+  put_together (c ∷ cs) o = qed 𝓛 (‵ (place (R E) b o c) ∷ ‵ (row (R E) b (o + s) cs) ∷ []) ∵
       use1 𝓛 (‵ (froom (elτ E) b o)) (vacated c o) $ move ! (1 ∷ []) $
-      use1 𝓛 (‵ (froom (ty_array (elτ E) (length cs)) b (o + s))) (to_room cs (o + s)) $ move ! (1 ∷ []) $
+      use1 𝓛 (‵ (froom (ty_array (elτ E) (length cs)) b (o + s))) (put_together cs (o + s)) $ move ! (1 ∷ []) $
       by ! (𝓛.laws.room_cons (elτ E) (length cs) b o)

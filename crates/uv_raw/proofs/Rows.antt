@@ -78,7 +78,7 @@ module _ {X : Type 0} where
         → IsRow d × (row_of d ≡ row (v.items ++ x ∷ []) v.capacity)
     push_block x d l w =
         let room : b.len < b.capacity = subst (λ (k : ℕ). k < b.capacity) (sym ok.size)
-            (subst (λ (r : Row X). length r.items < r.capacity) (sym is) l) in
+        (subst (λ (r : Row X). length r.items < r.capacity) (sym is) l) in
         let got = firsts_push b.len b.room.places x ok.filled (subst (λ (k : ℕ). b.len < k) ok.capacity room) in
         let old = firsts b.len b.room.places in
         let len_is : d.len ≡ suc b.len = omega (arith, w.2) in

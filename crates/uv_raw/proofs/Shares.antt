@@ -36,7 +36,7 @@ module _ {M : Type 1} {𝓤 : Ura M} (𝓛 : Logic 𝓤) (R : RattleType) (l : L
   Lends-row b o [] = Lends-nothing 𝓛 ftrue l
   Lends-row b o (c ∷ cs) = let next = o + type_size R in
       Lends-both 𝓛 (place R b o c) (row R b next cs) (place_shared R b o c) (row_shared R b next cs) l (Lends-place b o c)
-          (Lends-row b (o + type_size R) cs)
+      (Lends-row b (o + type_size R) cs)
 
   pub Lends-room : (p : Ptr) (cs : List (Option R.Denot)) → Lends 𝓛 (room_owns R p cs) (room_shares R p cs) l
   Lends-room (block_ptr b o) cs = Lends-both 𝓛 (fits R cs) (held R b o cs) (said (fits R cs)) (row_shared R b o cs) l (Lends-said 𝓛 (fits R cs) tt l)

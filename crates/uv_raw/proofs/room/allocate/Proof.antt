@@ -20,7 +20,7 @@ use Rattle.std_heap.proofs.GlobalAllocator.allocate.Met as callee
 use types.Kit.{rewrite}
 use Rattle.uv_raw.specs.Ownership.{heap_token, row, block}
 use Rattle.uv_raw.proofs.Heap.{Takes, at_takes, Takes-goes, Took, answers}
-use Rattle.uv_raw.proofs.Places.{size, of_room}
+use Rattle.uv_raw.proofs.Places.{size, cut_up}
 use Rattle.uv_raw.proofs.Opened.{Room, room_made}
 use Rattle.uv_raw.specs.contracts.room.allocate.{ended, clauses}
 use Rattle.uv_raw.specs.contracts.room.allocate.Key.{name as #self}
@@ -50,7 +50,7 @@ allocate_spec 𝓤 𝓛 𝓜 𝓡 wired T L =
     suffices ! _ (ends_at 𝓛 En hs c z v r (tt, (tt, tt)) (tt, (tt, tt))) $ says ! said $
     move ! (1 ∷ 2 ∷ []) $ join ! $ nothing ! $ nothing ! $ fjoin ! $ nothing ! $ fjoin ! $ move ! (1 ∷ 0 ∷ 2 ∷ []) $ done ! in
     qed 𝓛 (((‵ (flft κ q) ⊛ ‵ (flft κ₁ q₁) ⊛ ‵ ftrue) ⊛ ‵ (owns (types_at En.signature.params z.0.0) z.0.3 vss)) ∷
-        (raw (fact 𝓤 (κ₁ ⊑ T.lives)) ⊛ raw (fact 𝓤 (FitsInBlock (R E) n))) ∷ []) ∵
+    (raw (fact 𝓤 (κ₁ ⊑ T.lives)) ⊛ raw (fact 𝓤 (FitsInBlock (R E) n))) ∷ []) ∵
     move ! (1 ∷ []) $ split ! $ drop ! $ heard ! (FitsInBlock (R E) n) (λ asked. let small : n * s < 2 ^ 63 = asked.0 in
     let bytes : n * s < 2 ^ 64 = omega arith in
     split ! $ split ! $ move ! (2 ∷ []) $ fsplit ! $ fsplit ! $ keep ! (1 ∷ 3 ∷ 4 ∷ []) $
@@ -86,7 +86,7 @@ allocate_spec 𝓤 𝓛 𝓜 𝓡 wired T L =
     sets ! (agg ! (and_then ! (get ! refl) (no_more !))) refl typed $
     sets_last ! (agg ! (and_then ! (lit ! tt) (and_then ! (get ! refl) (no_more !)))) refl ok $
     exec ! 𝓣.C 𝓣.Λ Ev (after 3 fn.body) (at_ret Ev Post) $ sets ! (of_opd ! (get ! refl)) refl ok $
-    as_written ! (ty_array (elτ E) n) b o $ use1 𝓛 (‵ (row (R E) b o room.places)) (of_room E 𝓛 b n o) $
+    as_written ! (ty_array (elτ E) n) b o $ use1 𝓛 (‵ (row (R E) b o room.places)) (cut_up E 𝓛 b n o) $
     move ! (1 ∷ []) $ rewrite ! 0 (λ (k : ℕ). ‵ (heap_token (block (R E) k) (block_ptr b o))) (sym (length-replicate n None)) refl $
     move ! (1 ∷ 0 ∷ []) $ fjoin ! $
     room_made E ! room b o refl (subst (λ (k : ℕ). k * s < 2 ^ 63) (sym (length-replicate n None)) small) $

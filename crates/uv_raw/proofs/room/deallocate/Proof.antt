@@ -8,7 +8,7 @@ use Rattle.std_heap.specs.contracts.Global as Heap
 use Rattle.std_heap.proofs.GlobalAllocator.deallocate.Met as callee
 use Rattle.uv_raw.specs.Ownership.{heap_token, block}
 use Rattle.uv_raw.proofs.Heap.{Gives, at_gives, Gives-goes, Gave}
-use Rattle.uv_raw.proofs.Places.{size, to_room}
+use Rattle.uv_raw.proofs.Places.{size, put_together}
 use Rattle.uv_raw.proofs.Opened.{Room, room_had}
 use Rattle.uv_raw.specs.contracts.room.deallocate.{ended, clauses}
 use Rattle.uv_raw.specs.contracts.room.deallocate.Key.{name as #self}
@@ -32,12 +32,12 @@ deallocate_spec 𝓤 𝓛 𝓜 𝓡 wired X L =
     let d : (Room E).Denot = z.0.3.1.0 in let n : ℕ = z.0.3.1.1.0 in let s : ℕ = size E in let fits : n < 2 ^ 64 = are.1.1.0.1 in
     let p : ℕ × ℕ = z.0.3.0.ref_ptr in let Post : Val → SProp 𝓤 = (walk_of 𝓛 En hs c).post z in let al : ℕ = capped (align (elτ E)) in
     qed 𝓛 (((‵ (flft κ q) ⊛ ‵ (flft κ₁ q₁) ⊛ ‵ ftrue) ⊛ ‵ (owns (types_at En.signature.params z.0.0) z.0.3 vss)) ∷
-        (raw (fact 𝓤 (κ₁ ⊑ X.lives)) ⊛ raw (fact 𝓤 (n ≡ length d.places))) ∷ []) ∵
+    (raw (fact 𝓤 (κ₁ ⊑ X.lives)) ⊛ raw (fact 𝓤 (n ≡ length d.places))) ∷ []) ∵
     move ! (1 ∷ []) $ split ! $ drop ! $ heard ! (n ≡ length d.places) (λ count.
     split ! $ split ! $ move ! (2 ∷ []) $ fsplit3 ! $ fsplit ! $ move ! (2 ∷ []) $ room_had E ! d vss.1.0 (λ b o at word_is fit. fsplit ! $
     let small : n * s < 2 ^ 63 = subst (λ (k : ℕ). k * s < 2 ^ 63) (sym count) fit in let bytes : n * s < 2 ^ 64 = omega arith in
     let w : Val = word (block_ptr b o) in
-    use1 𝓛 (‵ (froom (ty_array (elτ E) (length d.places)) b o)) (to_room E 𝓛 b d.places o) $
+    use1 𝓛 (‵ (froom (ty_array (elτ E) (length d.places)) b o)) (put_together E 𝓛 b d.places o) $
     rewrite ! 0 (λ (k : ℕ). ‵ (froom (ty_array (elτ E) k) b o)) (sym count) refl $ as_raw ! (ty_array (elτ E) n) b o $
     rewrite ! 1 (λ (k : ℕ). ‵ (heap_token (block (R E) k) (block_ptr b o))) (sym count) refl $ keep ! (0 ∷ 1 ∷ 3 ∷ 5 ∷ 6 ∷ []) $
     -- [the room; the right to free it; the heap; its token; the other token]

@@ -28,7 +28,7 @@ get_spec 𝓤 𝓛 𝓜 𝓡 wired T L =
     let s : ℕ = size E in
     let Post : Val → SProp 𝓤 = (walk_of 𝓛 En hs c).post z in let Asked : Type 0 = (x : el_x E) × (slice_get d.places i ≡ Some (Some x)) in
     qed 𝓛 (((‵ (flft κ q) ⊛ ‵ (flft κ₁ q₁) ⊛ ‵ ftrue) ⊛ ‵ (owns (types_at En.signature.params z.0.0) z.0.3 vss)) ∷
-        (raw (fact 𝓤 (κ₁ ⊑ T.lives)) ⊛ raw (fact 𝓤 Asked)) ∷ []) ∵
+    (raw (fact 𝓤 (κ₁ ⊑ T.lives)) ⊛ raw (fact 𝓤 Asked)) ∷ []) ∵
     move ! (1 ∷ []) $ split ! $ drop ! $ heard ! Asked (λ asked. let x = asked.0 in let within = slice_get_within d.places i (Some x) asked.1 in
     split ! $ split ! $ move ! (2 ∷ []) $ fsplit ! $ fsplit ! $ drop ! $
     use1 𝓛 (‵ (hidden_shr RawPtr κ d.start rb (ro + 0)) ⊛ ‵ (room_shares (R E) d.start d.places κ)) (room_seen E 𝓛 κ d rb ro) $ split ! $
@@ -41,8 +41,8 @@ get_spec 𝓤 𝓛 𝓜 𝓡 wired T L =
     regoal ! (λ (us : List Val). prop (WpFn 𝓤 𝓛.H 𝓣.C 𝓣.Λ fn us Post)) (λ j. are.0.0 j ++ (are.1.0.0 j ++ [])) refl $
     enter ! 𝓣.C 𝓣.Λ fn (vptr rb ro ∷ vint w64 i ∷ []) Post $ alloc_all ! (λ l. pass_all ! refl ((tt, tt), ((tt, record { fits = fi }), tt)) $
     first ! $ blocks ! $ pointer_in ! tt d.start b o at rb (ro + 0)
-        (λ q'. sets ! (of_opd ! (load ! (through ! refl (fld ! refl (stop !))) (look ! 0 refl))) refl (tt, tt) $
-        pointer_out ! tt d.start b o at rb (ro + 0) $
+    (λ q'. sets ! (of_opd ! (load ! (through ! refl (fld ! refl (stop !))) (look ! 0 refl))) refl (tt, tt) $
+    pointer_out ! tt d.start b o at rb (ro + 0) $
     sets ! (bin ! (get ! refl) (size_lit ! (record { fits = tiny })) (record { fits = far })) refl (tt, record { fits = far }) $
     sets ! (bin ! (get ! refl) (get ! refl) tt) refl (tt, tt) $
     sets_last ! (addr ! (through ! refl (stop !))) refl (tt, tt) $

@@ -28,7 +28,7 @@ put_spec 𝓤 𝓛 𝓜 𝓡 wired T L =
     let got = one E vss.1.1.0 ((lawful E 𝓛).typed x vss.1.1.0 are.1.1.0) in let v : Val = got.0 in let fi : i < 2 ^ 64 = are.1.0.1 in
     let new : (Room E).Denot = record { start = d.start; places = set d.places i (Some x) } in
     qed 𝓛 (((‵ (flft κ q) ⊛ ‵ (flft κ₁ q₁) ⊛ ‵ ftrue) ⊛ ‵ (owns (types_at En.signature.params z.0.0) z.0.3 vss)) ∷
-        (raw (fact 𝓤 (κ₁ ⊑ T.lives)) ⊛ raw (fact 𝓤 (i < length d.places))) ∷ []) ∵
+    (raw (fact 𝓤 (κ₁ ⊑ T.lives)) ⊛ raw (fact 𝓤 (i < length d.places))) ∷ []) ∵
     move ! (1 ∷ []) $ split ! $ drop ! $ heard ! (i < length d.places) (λ within. split ! $ split ! $ move ! (2 ∷ []) $ fsplit3 ! $ fsplit3 ! $
     move ! (4 ∷ []) $ fsplit ! $ keep ! (3 ∷ 4 ∷ 6 ∷ 0 ∷ 7 ∷ []) $
     rewrite ! 3 (λ (us : List Val). ‵ (T.own_val x us)) got.1 refl $
