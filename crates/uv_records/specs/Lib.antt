@@ -1,3 +1,4 @@
+pub mod Count
 pub mod Handles
 pub mod Lists
 pub mod Refusals

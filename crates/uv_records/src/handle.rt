@@ -5,6 +5,7 @@ ghost use Rattle.uv_records.specs.Handles.{
   inited,
   stopped,
   activated,
+  active_as,
   begun_at,
   repeating,
   referenced_as,
@@ -107,6 +108,17 @@ impl HandleRecord {
         ensures { result ≡ referenced_as referenced self }
     {
         HandleRecord { referenced, ..self }
+    }
+
+    /// The handle, active or stopped.
+    pub fn active_as(self, active: bool) -> HandleRecord
+        ensures { result ≡ active_as active self }
+    {
+        if active {
+            self.activated()
+        } else {
+            self.stopped()
+        }
     }
 
     /// The handle, closing: stopped, and no send pending.

@@ -1,0 +1,16 @@
+pub mod Changes
+pub mod Each
+pub mod Fresh
+pub mod Lists
+pub mod Lookups
+pub mod Memories
+pub mod Names
+pub mod Places
+pub mod Pushes
+pub mod Puts
+pub mod Readings
+pub mod Relinking
+pub mod Removals
+pub mod Splices
+pub mod Stand
+pub mod Walk

@@ -1,0 +1,171 @@
+-- A slot is put on a list, or taken off it.
+use Rattle.std.proofs.Common.{◌≡◌, ℕ, ◌-◌, ◌<◌, Bool, true, false, ◌&&◌, eqb, List, [], ◌∷◌, ◌++◌, length, Some, None, is_some, refl, sym, ap, ◌∙◌, subst, inl, inr, arith, append-nil}
+use Rattle.std.proofs.lemmas.Bool.Decides.{eqb_tells}
+use Rattle.std.proofs.lemmas.Option.{slice_get_within}
+use Rattle.uv_ids.specs.declared.id.Id.{Id}
+use Rattle.uv_records.specs.declared.lists.ListName.{ListName}
+use Rattle.uv_records.specs.Lists.{number}
+use Rattle.uv_records.specs.Slots as plain
+use Rattle.uv_records.specs.Walks.{without}
+use Rattle.uv_arena.specs.declared.links.Links.{Links}
+use Rattle.uv_arena.specs.declared.links.Place.{Place}
+use Rattle.uv_arena.specs.declared.links.Cell.{Cell}
+use Rattle.uv_arena.specs.declared.memory.Memory.{Memory}
+use Rattle.uv_arena.specs.Chains.{link, loose, first, last, IsApart}
+use Rattle.uv_arena.specs.Image.{Image, FREE, IsWithin, list_or_first, name_at, chain, links_in, links_at, place_at, put_in, taken_out, with_links, in_memory, front_place, back_place, members, held_slots, plain_slots, held, on_list, IsSound, AreFit}
+use Rattle.uv_arena.specs.Undo.{push_undone, unlink_undone}
+use Rattle.uv_arena.specs.Calls.{IsPushed, IsUnlinked}
+use Rattle.uv_arena.proofs.Memories.{place_of, put_made, take_made, placed, head_is, tail_is, slots_relinked, length_relinked, own_relinked, list_relinked, others_fit, fit_relinked, all_fit, member_tells}
+use Rattle.uv_arena.proofs.Places.{between}
+use Rattle.uv_arena.proofs.Lookups.{is_there, is_loose, is_on, IsThereOn, on_list_by, name_below, name_other, without_none, without_one}
+
+pub and_false : (b : Bool) → (b && false) ≡ false
+and_false true = refl
+and_false false = refl
+
+module _ {X : Type 0} where
+  -- ---- the parts that both share
+
+  -- the plain slots, once the free list and the number of slots are as before
+  pub plain_same : (v j : Image X) → held_slots j.memory ≡ held_slots v.memory → chain j.memory FREE ≡ chain v.memory FREE
+      → length j.memory.row.items ≡ length v.memory.row.items
+      → j.memory.row.capacity ≡ v.memory.row.capacity → plain_slots j ≡ plain_slots v
+  plain_same v j e f g h = λ k. record { slots = e k; free = f k; unused = h k - g k }
+
+  pub held_same : (i j : Memory X) → held_slots j ≡ held_slots i → (d : Id) → plain.held (held_slots j) d ≡ plain.held (held_slots i) d
+  held_same i j e d = ap (λ s. plain.held s d) e
+
+  -- ---- pushes
+
+  -- what is known once a slot stands in a place
+  pub record IsPut (v : Image X) (list : ListName) (d : Id) (t : Place) (now : List ℕ) : Type 0 where
+    pub within : IsWithin t (length v.memory.row.items)
+    pub sound : IsSound (in_memory (put_in t) v)
+    pub pushed : IsPushed v (in_memory (put_in t) v) list d now
+
+  put_between : (v : Image X) → IsSound v → (list : ListName) (d : Id) → is_some (held v d) ≡ true → on_list v d ≡ false → (us vs : List ℕ)
+      → members v list ≡ us ++ vs
+      → IsPut v list d (between (name_at v.names (number list)) us d.slot vs) (us ++ d.slot ∷ vs)
+  put_between v s list d h bare us vs is =
+      let k = name_at v.names (number list) in let x = d.slot in let m = v.memory in
+      let lt : k < 14 = name_below v s list in
+      let there = is_there m d h in let c = there.cell in
+      let both = put_made m s.linked k x us vs (omega arith) is c there.at (is_loose v d h bare c there.at) in
+      let t = between k us x vs in let own = link k (last None us) (first vs None) in
+      let n = put_in t m in let j = in_memory (put_in t) v in
+      let long = length_relinked t (Some x) (Some x) own m in
+      let at = own_relinked t (Some x) (Some x) own m c there.at in
+      let old = s.fit x c there.at in
+      let fit : AreFit v.last n.row.items =
+      all_fit v.last x n.row.items (fit_relinked v.last t (Some x) (Some x) own m (others_fit v.last x m.row.items s.fit))
+      (with_links own c) at (record {
+        below = old.below;
+        free = λ e. let same : k ≡ FREE = cc in absurd (omega (arith, same, lt));
+        empty = λ e. cc (e, there.holds);
+      }) in
+      let stands : place_at n x ≡ t = ap (λ o. place_of (list_or_first (links_in o).list) (links_in o).prev x (links_in o).next) at in
+      let slots = slots_relinked t (Some x) (Some x) own m in
+      let back : push_undone x j ≡ v = ap (λ p. in_memory (taken_out p) j) stands
+      ∙ ap (λ (q : Memory X). record { memory = q; names = v.names; last = v.last }) both.1 in
+      record {
+        within = subst (IsWithin t) long both.0.within;
+        sound = record { linked = both.0.linked; fit = fit; names = s.names; last = s.last };
+        pushed = record {
+          lists = both.0.now;
+          others = λ l ne. both.0.others (name_at v.names (number l)) (let low = name_below v s l in omega arith) (name_other v s l list ne);
+          slots = record {
+            plain = plain_same v j slots (both.0.others FREE (omega arith) (λ e. absurd (omega (arith, e, lt)))) long refl;
+            contents = held_same m n slots;
+          };
+          listed = (λ i. is_some (held_same m n slots d i) && is_some (links_in (at i)).list) ∙ ap (λ u. u && true) h;
+          kept = λ e ne. on_list_by j v e (held_same m n slots e) (list_relinked t (Some x) (Some x) own m e.slot (λ q. ne (sym q)));
+          undone = back;
+          can_undo = record {
+            place = subst (λ p. IsWithin p (length n.row.items)) (sym stands) both.0.within;
+            sound = subst IsSound (sym back) s;
+          };
+        };
+      }
+
+  pub put_front : (v : Image X) → IsSound v → (list : ListName) (d : Id) → is_some (held v d) ≡ true → on_list v d ≡ false
+      → IsPut v list d (front_place (name_at v.names (number list)) d.slot v.memory) (d.slot ∷ members v list)
+  put_front v s list d h bare =
+      let k = name_at v.names (number list) in let lt : k < 14 = name_below v s list in
+      subst (λ o. IsPut v list d (place_of k None d.slot o) (d.slot ∷ members v list)) (sym (head_is v.memory s.linked k (omega arith)))
+      (put_between v s list d h bare [] (members v list) refl)
+
+  pub put_back : (v : Image X) → IsSound v → (list : ListName) (d : Id) → is_some (held v d) ≡ true → on_list v d ≡ false
+      → IsPut v list d (back_place (name_at v.names (number list)) d.slot v.memory) (members v list ++ d.slot ∷ [])
+  put_back v s list d h bare =
+      let k = name_at v.names (number list) in let lt : k < 14 = name_below v s list in
+      subst (λ o. IsPut v list d (place_of k o d.slot None) (members v list ++ d.slot ∷ [])) (sym (tail_is v.memory s.linked k (omega arith)))
+      (put_between v s list d h bare (members v list) [] (sym (append-nil (members v list))))
+
+  -- ---- unlinking
+
+  pub record IsTaken (v : Image X) (d : Id) : Type 0 where
+    pub slot : d.slot < length v.memory.row.items
+    pub within : IsWithin (place_at v.memory d.slot) (length v.memory.row.items)
+    pub sound : IsSound (in_memory (taken_out (place_at v.memory d.slot)) v)
+    pub unlinked : IsUnlinked v (in_memory (taken_out (place_at v.memory d.slot)) v) d (place_at v.memory d.slot)
+
+  taken_between : (v : Image X) → IsSound v → (d : Id) (on : IsThereOn v.memory d) (us vs : List ℕ) → chain v.memory on.list ≡ us ++ d.slot ∷ vs
+      → (let t = between on.list us d.slot vs in IsWithin t (length v.memory.row.items) × IsSound (in_memory (taken_out t) v)
+      × IsUnlinked v (in_memory (taken_out t) v) d t)
+  taken_between v s d on us vs is =
+      let k = on.list in let x = d.slot in let m = v.memory in let lt : k < 14 = on.below in
+      let there = on.there in let c = there.cell in
+      let both = take_made m s.linked k x us vs (omega arith) is in
+      let t = between k us x vs in
+      let n = taken_out t m in let j = in_memory (taken_out t) v in
+      let long = length_relinked t t.after t.before loose m in
+      let at = own_relinked t t.after t.before loose m c there.at in
+      let old = s.fit x c there.at in
+      let fit : AreFit v.last n.row.items =
+      all_fit v.last x n.row.items (fit_relinked v.last t t.after t.before loose m (others_fit v.last x m.row.items s.fit))
+      (with_links loose c) at (record {
+        below = old.below;
+        free = λ e. cc;
+        empty = λ e. cc (e, there.holds);
+      }) in
+      let slots = slots_relinked t t.after t.before loose m in
+      let back : unlink_undone t j ≡ v = ap (λ (q : Memory X). record { memory = q; names = v.names; last = v.last }) both.1 in
+      let listed : (l : ListName) → members j l ≡ without eqb (members v l) x = λ l.
+      let low : name_at v.names (number l) < 14 = name_below v s l in
+      elim (eqb_tells (name_at v.names (number l)) k) [
+        | inl e ↦ ap (chain n) e.1 ∙ both.0.now ∙ sym (ap (λ q. without eqb q x) (ap (chain m) e.1 ∙ is)
+            ∙ without_one us vs x (subst IsApart is (s.linked.stands.lists k (omega arith)).apart))
+        | inr ne ↦ both.0.others (name_at v.names (number l)) (omega arith) ne.1
+            ∙ sym (without_none (members v l) x (λ i. let tells = member_tells m s.linked (name_at v.names (number l)) (omega arith) x i in
+            ne.1 (let same : tells.0 ≡ c = cc (tells.1, there.at) in cc (ap (λ (z : Cell X). z.links.list) same, tells.2, on.on))))
+      ] in (
+        subst (IsWithin t) long both.0.within,
+        record { linked = both.0.linked; fit = fit; names = s.names; last = s.last },
+        record {
+          slot = refl;
+          lists = listed;
+          slots = record {
+            plain = plain_same v j slots (both.0.others FREE (omega arith) (λ e. absurd (omega (arith, e, lt)))) long refl;
+            contents = held_same m n slots;
+          };
+          loose = (λ i. is_some (held j d) && is_some (links_in (at i)).list) ∙ and_false (is_some (held j d));
+          kept = λ e ne. on_list_by j v e (held_same m n slots e) (list_relinked t t.after t.before loose m e.slot (λ q. ne (sym q)));
+          undone = back;
+          can_undo = record { place = both.0.within; sound = subst IsSound (sym back) s };
+        },
+      )
+
+  pub take_off : (v : Image X) → IsSound v → (d : Id) → on_list v d ≡ true → IsTaken v d
+  take_off v s d h =
+      let on = is_on v s d h in let c = on.there.cell in let m = v.memory in
+      let cut = placed m s.linked on.list d.slot c on.there.at on.on in let us = cut.1.0 in let vs = cut.1.1 in
+      let t = between on.list us d.slot vs in
+      let own : links_at m d.slot ≡ link on.list (last None us) (first vs None) = ap links_in on.there.at ∙ cut.1.3 in
+      let stands : place_at m d.slot ≡ t = ap (λ (l : Links). place_of (list_or_first l.list) l.prev d.slot l.next) own in
+      let all = taken_between v s d on us vs cut.1.2 in
+      record {
+        slot = slice_get_within m.row.items d.slot c on.there.at;
+        within = subst (λ p. IsWithin p (length m.row.items)) (sym stands) all.0;
+        sound = subst (λ p. IsSound (in_memory (taken_out p) v)) (sym stands) all.1;
+        unlinked = subst (λ p. IsUnlinked v (in_memory (taken_out p) v) d p) (sym stands) all.2;
+      }

@@ -1,0 +1,22 @@
+use Rattle.std.proofs.Common.{Bool, cond, refl, ap, ◌∙◌}
+use Rattle.uv_raw.specs.Row.{row}
+use Rattle.uv_arena.specs.declared.links.Cell.{Cell}
+use Rattle.uv_arena.specs.declared.memory.Memory.{Memory}
+use Rattle.uv_arena.specs.Image.{with_links}
+use Rattle.uv_arena.proofs.Puts.{put_at}
+use Rattle.uv_arena.proofs.memory.Memory.set_next.Goals as goal
+
+pub returns : goal.returns
+returns g c =
+    let m : Memory g.row.T.Denot = c.args.self.now in
+    let f : Bool → Cell g.row.T.Denot → Cell g.row.T.Denot = λ u z. with_links (record {
+      list = z.links.list;
+      prev = z.links.prev;
+      next =
+          cond u c.args.next z.links.next;
+    }) z in
+    λ i. record {
+      row = (c.set.ensures.new
+          ∙ ap (λ l. row l m.row.capacity) (put_at m.row.items c.args.at c.get-cell.result c.get-cell.ensures f (λ y. refl))) i;
+      ends = m.ends;
+    }

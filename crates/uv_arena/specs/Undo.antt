@@ -1,0 +1,80 @@
+-- What takes a change of the arena back, and when that may be asked: where the arena is as the change left it.
+use Rattle.std.specs.Prelude.{◌≡◌, ℕ, ◌-◌, ◌<◌, false, length, Some, None, if◌then◌else◌}
+use Rattle.std.specs.List.{swap}
+use Rattle.uv_records.specs.declared.lists.ListName.{ListName}
+use Rattle.uv_records.specs.Lists.{number}
+use Rattle.uv_arena.specs.declared.links.Place.{Place}
+use Rattle.uv_arena.specs.declared.memory.Memory.{Memory}
+use Rattle.uv_arena.specs.declared.undo.InsertUndo.{InsertUndo}
+use Rattle.uv_arena.specs.declared.undo.RemoveUndo.{RemoveUndo}
+use Rattle.uv_arena.specs.declared.undo.SpliceUndo.{SpliceUndo}
+use Rattle.uv_arena.specs.Image.{Image, FREE, IsWithin, put_in, taken_out, edited, shrunk, slot_at, place_at, front_place, in_memory, IsSound}
+
+-- the two lists change places
+abbrev pub spliced : {X : Type 0} → ListName → ListName → Image X → Image X
+spliced a b i = record { memory = i.memory; names = swap i.names (number a) (number b); last = i.last }
+
+module _ {X : Type 0} where
+  -- a slot with other content
+  abbrev pub holding : ℕ → X → Memory X → Memory X
+  holding x v m = edited x (record { generation = (slot_at m x).generation; content = Some v }) m
+
+  -- an insert is taken back: a slot that was never used before is unused again, another one is at the front of the free list again
+  abbrev pub insert_undone : InsertUndo → Image X → Image X
+  insert_undone u i =
+      if u.fresh then in_memory shrunk i
+      else in_memory (λ m. put_in (front_place FREE u.slot m) (edited u.slot (record {
+        generation = (slot_at m u.slot).generation;
+        content =
+            None;
+      }) m)) i
+
+  pub record CanUndoInsert (i : Image X) (u : InsertUndo) : Type 0 where
+    pub slot : u.slot < length i.memory.row.items
+    pub place : u.fresh ≡ false → IsWithin (front_place FREE u.slot i.memory) (length i.memory.row.items)
+    pub sound : IsSound (insert_undone u i)
+
+  -- a removal is taken back: the slot leaves the front of the free list, or is no longer retired; its generation and content are
+  -- put back
+  abbrev pub remove_undone : RemoveUndo X → Image X → Image X
+  remove_undone u i =
+      if u.retired then in_memory (holding u.slot u.content) i
+      else in_memory
+      (λ m. edited u.slot (record { generation = (slot_at m u.slot).generation - 1; content = Some u.content }) (taken_out (place_at m u.slot) m)) i
+
+  pub record CanUndoRemove (i : Image X) (u : RemoveUndo X) : Type 0 where
+    pub slot : u.slot < length i.memory.row.items
+    pub generation : u.retired ≡ false → 0 < (slot_at i.memory u.slot).generation
+    pub place : u.retired ≡ false → IsWithin (place_at i.memory u.slot) (length i.memory.row.items)
+    pub sound : IsSound (remove_undone u i)
+
+  -- a change of content is taken back
+  abbrev pub set_undone : ℕ → X → Image X → Image X
+  set_undone x v i = in_memory (holding x v) i
+
+  pub record CanUndoSet (i : Image X) (x : ℕ) (v : X) : Type 0 where
+    pub slot : x < length i.memory.row.items
+    pub sound : IsSound (set_undone x v i)
+
+  -- a push is taken back: the slot is taken out of the place where it stands
+  abbrev pub push_undone : ℕ → Image X → Image X
+  push_undone x i = in_memory (λ m. taken_out (place_at m x) m) i
+
+  pub record CanUndoPush (i : Image X) (x : ℕ) : Type 0 where
+    pub place : IsWithin (place_at i.memory x) (length i.memory.row.items)
+    pub sound : IsSound (push_undone x i)
+
+  -- an unlinking is taken back: the slot is put between its two old neighbours
+  abbrev pub unlink_undone : Place → Image X → Image X
+  unlink_undone t i = in_memory (put_in t) i
+
+  pub record CanUndoUnlink (i : Image X) (t : Place) : Type 0 where
+    pub place : IsWithin t (length i.memory.row.items)
+    pub sound : IsSound (unlink_undone t i)
+
+  -- a splice is taken back: the two lists change places again
+  abbrev pub splice_undone : SpliceUndo → Image X → Image X
+  splice_undone u i = spliced u.from u.to i
+
+  abbrev pub CanUndoSplice : Image X → SpliceUndo → Type 0
+  CanUndoSplice i u = IsSound (splice_undone u i)

@@ -1,0 +1,75 @@
+//! The fourteen lists: putting a slot on one, taking it off, and moving a whole list.
+ghost use Rattle.std.specs.Prelude.{◌≡◌, ◌<◌, ◌∷◌, ◌++◌, [], true, false, is_some};
+ghost use Rattle.uv_records.specs.Lists.{number};
+ghost use Rattle.uv_arena.specs.Image.{name_at, front_place, back_place, place_at, put_in, taken_out, in_memory, members, held, on_list};
+ghost use Rattle.uv_arena.specs.Undo.{spliced};
+ghost use Rattle.uv_arena.specs.Calls.{IsPushed, IsUnlinked, IsSpliced};
+
+use crate::arena::Slots;
+use crate::links::Place;
+use crate::undo::{PushUndo, SpliceUndo};
+use uv_ids::Id;
+use uv_records::ListName;
+
+impl<T: Copy> Slots<T> {
+    /// Puts the slot of an id, which is on no list, at the front of one.
+    pub fn push_front(&mut self, list: ListName, id: Id) -> PushUndo
+        requires held { is_some (held self.old id) ≡ true }
+        requires loose { on_list self.old id ≡ false }
+        ensures token { result.slot ≡ id.slot }
+        ensures image { self.new ≡ in_memory (put_in (front_place (name_at self.old.names (number list)) id.slot self.old.memory)) self.old }
+        ensures pushed { IsPushed self.old self.new list id (id.slot ∷ members self.old list) }
+    {
+        self.is_sound();
+        let place = self.front_place(self.chain(list), id.slot);
+        self.put(place);
+        PushUndo { slot: id.slot }
+    }
+
+    /// Puts the slot of an id, which is on no list, at the end of one.
+    pub fn push_back(&mut self, list: ListName, id: Id) -> PushUndo
+        requires held { is_some (held self.old id) ≡ true }
+        requires loose { on_list self.old id ≡ false }
+        ensures token { result.slot ≡ id.slot }
+        ensures image { self.new ≡ in_memory (put_in (back_place (name_at self.old.names (number list)) id.slot self.old.memory)) self.old }
+        ensures pushed { IsPushed self.old self.new list id (members self.old list ++ id.slot ∷ []) }
+    {
+        self.is_sound();
+        let place = self.back_place(self.chain(list), id.slot);
+        self.put(place);
+        PushUndo { slot: id.slot }
+    }
+
+    /// Takes the slot of an id off its list; the place where it stood.
+    pub fn unlink(&mut self, id: Id) -> Place
+        requires { on_list self.old id ≡ true }
+        ensures token { result ≡ place_at self.old.memory id.slot }
+        ensures image { self.new ≡ in_memory (taken_out result) self.old }
+        ensures unlinked { IsUnlinked self.old self.new id result }
+    {
+        self.is_sound();
+        let place = self.place(id.slot);
+        self.take(place);
+        place
+    }
+
+    /// Moves all that is on one list to another one, which is empty. Takes as long for a long list as for a short one.
+    pub fn splice(&mut self, from: ListName, to: ListName) -> SpliceUndo
+        requires { members self.old to ≡ [] }
+        ensures token { result ≡ record { from = from; to = to } }
+        ensures image { self.new ≡ spliced from to self.old }
+        ensures spliced { IsSpliced self.old self.new from to result }
+    {
+        self.is_sound();
+        self.exchange(from, to);
+        SpliceUndo { from, to }
+    }
+
+    /// Two lists change places.
+    pub(super) fn exchange(&mut self, from: ListName, to: ListName)
+        ensures { self.new ≡ spliced from to self.old }
+    {
+        self.names
+            .swap(from.number() as usize, to.number() as usize);
+    }
+}

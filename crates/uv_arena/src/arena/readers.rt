@@ -1,0 +1,145 @@
+//! What stands on the lists and in the free list.
+ghost use Rattle.std.specs.Prelude.{◌≡◌, ◌<◌, List, ◌∷◌, ◌++◌, [], None, IfSome, IfNone, length, true, false, is_some, eqb, ℕ};
+ghost use Rattle.uv_records.specs.declared.lists.ListName.{ListName};
+ghost use Rattle.uv_records.specs.Slots.{next_free};
+ghost use Rattle.uv_records.specs.Walks.{without};
+ghost use Rattle.uv_arena.specs.Chains.{first, last};
+ghost use Rattle.uv_arena.specs.Image.{FREE, chain, head_at, links_at, slot_at, members, plain_slots, held, on_list};
+ghost use Rattle.uv_arena.specs.Calls.{IsListed, IsFirst, IsLast, slot_of};
+
+use crate::arena::{FREE, Slots};
+use crate::links::{LOOSE, Links};
+use uv_ids::Id;
+use uv_records::ListName;
+
+impl<T: Copy> Slots<T> {
+    /// The id that the next insert gives. None where no slot is free or unused.
+    pub fn next_free(&self) -> Option<Id>
+        ensures { result ≡ next_free (plain_slots self.now) }
+    {
+        self.is_sound();
+        match self.head(FREE) {
+            Some(slot) => Some(self.id_at(slot)),
+            None => self.next_unused(),
+        }
+    }
+
+    fn next_unused(&self) -> Option<Id>
+        requires { head_at self.now.memory FREE ≡ None }
+        ensures { result ≡ next_free (plain_slots self.now) }
+    {
+        self.is_sound();
+        let slot = self.used();
+        if slot < self.capacity() {
+            Some(Id {
+                slot,
+                generation: 0,
+            })
+        } else {
+            None
+        }
+    }
+
+    /// The first of a list.
+    pub fn first(&self, list: ListName) -> Option<Id>
+        ensures none { IfNone result (members self.now list ≡ []) }
+        ensures some { IfSome result (λ d. IsFirst self.now list d) }
+    {
+        self.is_sound();
+        match self.head(self.chain(list)) {
+            Some(slot) => Some(self.id_at(slot)),
+            None => None,
+        }
+    }
+
+    /// The last of a list.
+    pub fn last(&self, list: ListName) -> Option<Id>
+        ensures none { IfNone result (members self.now list ≡ []) }
+        ensures some { IfSome result (λ d. IsLast self.now list d) }
+    {
+        self.is_sound();
+        match self.tail(self.chain(list)) {
+            Some(slot) => Some(self.id_at(slot)),
+            None => None,
+        }
+    }
+
+    /// The one after an id on its list.
+    pub fn next(&self, id: Id) -> Option<Id>
+        requires { on_list self.now id ≡ true }
+        ensures next { (l : ListName) (us : List ℕ) (vs : List ℕ) → members self.now l ≡ us ++ id.slot ∷ vs → slot_of result ≡ first vs None }
+        ensures listed { IfSome result (λ d. IsListed self.now d) }
+    {
+        self.is_sound();
+        match self.links(id.slot).next {
+            Some(slot) => Some(self.id_at(slot)),
+            None => None,
+        }
+    }
+
+    /// The one before an id on its list.
+    pub fn prev(&self, id: Id) -> Option<Id>
+        requires { on_list self.now id ≡ true }
+        ensures prev { (l : ListName) (us : List ℕ) (vs : List ℕ) → members self.now l ≡ us ++ id.slot ∷ vs → slot_of result ≡ last None us }
+        ensures listed { IfSome result (λ d. IsListed self.now d) }
+    {
+        self.is_sound();
+        match self.links(id.slot).prev {
+            Some(slot) => Some(self.id_at(slot)),
+            None => None,
+        }
+    }
+
+    /// Whether something is held under an id, and is on a list.
+    pub fn on_list(&self, id: Id) -> bool
+        ensures value { result ≡ on_list self.now id }
+        ensures apart { is_some (held self.now id) ≡ true → result ≡ false
+            → (l : ListName) → without eqb (members self.now l) id.slot ≡ members self.now l }
+    {
+        self.is_sound();
+        self.is_linked(id)
+    }
+
+    fn is_linked(&self, id: Id) -> bool
+        ensures { result ≡ on_list self.now id }
+    {
+        self.get(id).is_some() && self.links_or_loose(id.slot).list.is_some()
+    }
+
+    fn links_or_loose(&self, slot: u32) -> Links
+        ensures { result ≡ links_at self.now.memory slot }
+    {
+        if slot < self.used() {
+            self.links(slot)
+        } else {
+            LOOSE
+        }
+    }
+
+    /// The first free slot.
+    pub fn first_free(&self) -> Option<u32>
+        ensures { result ≡ first (chain self.now.memory FREE) None }
+    {
+        self.is_sound();
+        self.head(FREE)
+    }
+
+    /// The last free slot.
+    pub fn last_free(&self) -> Option<u32>
+        ensures { result ≡ last None (chain self.now.memory FREE) }
+    {
+        self.is_sound();
+        self.tail(FREE)
+    }
+
+    /// The id of what a slot holds.
+    fn id_at(&self, slot: u32) -> Id
+        requires { slot < length self.now.memory.row.items }
+        ensures { result ≡ record { slot = slot; generation = (slot_at self.now.memory slot).generation } }
+    {
+        Id {
+            slot,
+            generation: self.slot_at(slot).generation,
+        }
+    }
+}

@@ -1,0 +1,15 @@
+//! The slots of handles and requests in one allocation, each on at most one doubly linked list, and every change with an undo
+//! that gives back the very links that stood before.
+#![tactic(auto)]
+
+mod arena;
+mod links;
+mod memory;
+mod undo;
+
+pub use arena::{Full, Slots};
+pub use links::{Cell, Ends, Links, Place};
+pub use undo::{InsertUndo, PushUndo, RemoveUndo, SpliceUndo};
+
+#[cfg(test)]
+mod tests;

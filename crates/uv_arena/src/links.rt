@@ -1,0 +1,40 @@
+//! How slots are linked into lists.
+use uv_records::Slot;
+
+/// The list that a slot is on, and its two neighbours there.
+#[derive(Clone, Copy, Debug, PartialEq, Eq)]
+pub struct Links {
+    pub list: Option<u8>,
+    pub prev: Option<u32>,
+    pub next: Option<u32>,
+}
+
+/// The first and the last slot of a list.
+#[derive(Clone, Copy, Debug, PartialEq, Eq)]
+pub struct Ends {
+    pub head: Option<u32>,
+    pub tail: Option<u32>,
+}
+
+/// A slot with its links.
+#[derive(Clone, Copy, Debug, PartialEq, Eq)]
+pub struct Cell<T> {
+    pub slot: Slot<T>,
+    pub links: Links,
+}
+
+/// A place of a list, between two neighbours or at an end: where a slot is put in or taken out.
+#[derive(Clone, Copy, Debug, PartialEq, Eq)]
+pub struct Place {
+    pub list: u8,
+    pub before: Option<u32>,
+    pub slot: u32,
+    pub after: Option<u32>,
+}
+
+/// The links of a slot on no list.
+pub(crate) const LOOSE: Links = Links {
+    list: None,
+    prev: None,
+    next: None,
+};

@@ -1,0 +1,204 @@
+//! The slots with their links in one row, and the ends of the chains: relinking one place.
+ghost use Rattle.std.specs.Prelude.{◌≡◌, ◌<◌, ℕ, cond, eqb, length, Option, None, Some};
+ghost use Rattle.uv_arena.specs.Chains.{each, is_at, none_or, link, loose};
+ghost use Rattle.uv_arena.specs.Image.{with_links, with_cells, with_ends, relinked_memory, IsBelow, IsWithin, put_in, taken_out, edited, links_at, slot_at, head_at, tail_at, place_at, grown, shrunk};
+
+use crate::links::{Cell, Ends, LOOSE, Links, Place};
+use uv_raw::RawRow;
+use uv_records::Slot;
+
+/// The slots that were ever used with their links, and the ends of the fifteen chains.
+#[derive(Drop)]
+pub(crate) struct Memory<T: Copy> {
+    pub(crate) row: RawRow<Cell<T>>,
+    pub(crate) ends: [Ends; 15],
+}
+
+impl<T: Copy> Memory<T> {
+    fn set_next(&mut self, at: u32, next: Option<u32>)
+        requires { at < length self.old.row.items }
+        ensures { self.new ≡ with_cells (λ j c. with_links
+            (record { list = c.links.list; prev = c.links.prev; next = cond (eqb at j) next c.links.next }) c) self.old }
+    {
+        let cell = self.row.get(at as usize);
+        let links = Links { next, ..cell.links };
+        self.row.set(at as usize, Cell { links, ..cell });
+    }
+
+    fn set_prev(&mut self, at: u32, prev: Option<u32>)
+        requires { at < length self.old.row.items }
+        ensures { self.new ≡ with_cells (λ j c. with_links
+            (record { list = c.links.list; prev = cond (eqb at j) prev c.links.prev; next = c.links.next }) c) self.old }
+    {
+        let cell = self.row.get(at as usize);
+        let links = Links { prev, ..cell.links };
+        self.row.set(at as usize, Cell { links, ..cell });
+    }
+
+    fn set_links(&mut self, at: u32, links: Links)
+        requires { at < length self.old.row.items }
+        ensures { self.new ≡ with_cells (λ j c. with_links (cond (eqb at j) links c.links) c) self.old }
+    {
+        let cell = self.row.get(at as usize);
+        self.row.set(at as usize, Cell { links, ..cell });
+    }
+
+    fn set_head(&mut self, list: u8, head: Option<u32>)
+        requires list { list < 15 }
+        requires all { length self.old.ends ≡ 15 }
+        ensures { self.new ≡ with_ends (λ j e. cond (eqb list j) (record { head = head; tail = e.tail }) e) self.old }
+    {
+        self.ends[list as usize].head = head;
+    }
+
+    fn set_tail(&mut self, list: u8, tail: Option<u32>)
+        requires list { list < 15 }
+        requires all { length self.old.ends ≡ 15 }
+        ensures { self.new ≡ with_ends (λ j e. cond (eqb list j) (record { head = e.head; tail = tail }) e) self.old }
+    {
+        self.ends[list as usize].tail = tail;
+    }
+
+    /// Writes what comes after the slot before a place.
+    fn relink_before(&mut self, place: Place, next: Option<u32>)
+        requires list { place.list < 15 }
+        requires all { length self.old.ends ≡ 15 }
+        requires before { IsBelow place.before (length self.old.row.items) }
+        ensures { self.new ≡ with_ends (λ j e. cond (eqb place.list j) (record { head = none_or place.before next e.head; tail = e.tail }) e)
+            (with_cells (λ j c. with_links
+            (record { list = c.links.list; prev = c.links.prev; next = cond (is_at place.before j) next c.links.next }) c) self.old) }
+    {
+        match place.before {
+            Some(at) => self.set_next(at, next),
+            None => self.set_head(place.list, next),
+        }
+    }
+
+    /// Writes what comes before the slot after a place.
+    fn relink_after(&mut self, place: Place, prev: Option<u32>)
+        requires list { place.list < 15 }
+        requires all { length self.old.ends ≡ 15 }
+        requires after { IsBelow place.after (length self.old.row.items) }
+        ensures { self.new ≡ with_ends (λ j e. cond (eqb place.list j) (record { head = e.head; tail = none_or place.after prev e.tail }) e)
+            (with_cells (λ j c. with_links
+            (record { list = c.links.list; prev = cond (is_at place.after j) prev c.links.prev; next = c.links.next }) c) self.old) }
+    {
+        match place.after {
+            Some(at) => self.set_prev(at, prev),
+            None => self.set_tail(place.list, prev),
+        }
+    }
+
+    /// Writes the next of the slot before, the previous of the slot after, and the slot's own links.
+    fn relink(&mut self, place: Place, next: Option<u32>, prev: Option<u32>, own: Links)
+        requires all { length self.old.ends ≡ 15 }
+        requires within { IsWithin place (length self.old.row.items) }
+        ensures { self.new ≡ relinked_memory place next prev own self.old }
+    {
+        self.relink_before(place, next);
+        self.relink_after(place, prev);
+        self.set_links(place.slot, own);
+    }
+
+    /// Puts a slot in a place.
+    pub(crate) fn put(&mut self, place: Place)
+        requires all { length self.old.ends ≡ 15 }
+        requires within { IsWithin place (length self.old.row.items) }
+        ensures { self.new ≡ put_in place self.old }
+    {
+        let own = Links {
+            list: Some(place.list),
+            prev: place.before,
+            next: place.after,
+        };
+        self.relink(place, Some(place.slot), Some(place.slot), own);
+    }
+
+    /// Takes a slot out of a place.
+    pub(crate) fn take(&mut self, place: Place)
+        requires all { length self.old.ends ≡ 15 }
+        requires within { IsWithin place (length self.old.row.items) }
+        ensures { self.new ≡ taken_out place self.old }
+    {
+        self.relink(place, place.after, place.before, LOOSE);
+    }
+
+    /// Writes what a slot holds.
+    pub(crate) fn edit(&mut self, at: u32, slot: Slot<T>)
+        requires { at < length self.old.row.items }
+        ensures { self.new ≡ edited at slot self.old }
+    {
+        let cell = self.row.get(at as usize);
+        self.row.set(at as usize, Cell { slot, ..cell });
+    }
+
+    /// The links of a slot.
+    pub(crate) fn links(&self, at: u32) -> Links
+        requires { at < length self.now.row.items }
+        ensures { result ≡ links_at self.now at }
+    {
+        self.row.get(at as usize).links
+    }
+
+    /// What a slot holds.
+    pub(crate) fn slot(&self, at: u32) -> Slot<T>
+        requires { at < length self.now.row.items }
+        ensures { result ≡ slot_at self.now at }
+    {
+        self.row.get(at as usize).slot
+    }
+
+    /// The first slot of a chain.
+    pub(crate) fn head(&self, list: u8) -> Option<u32>
+        requires list { list < 15 }
+        requires all { length self.now.ends ≡ 15 }
+        ensures { result ≡ head_at self.now list }
+    {
+        self.ends[list as usize].head
+    }
+
+    /// The last slot of a chain.
+    pub(crate) fn tail(&self, list: u8) -> Option<u32>
+        requires list { list < 15 }
+        requires all { length self.now.ends ≡ 15 }
+        ensures { result ≡ tail_at self.now list }
+    {
+        self.ends[list as usize].tail
+    }
+
+    /// Where a slot stands.
+    pub(crate) fn place(&self, at: u32) -> Place
+        requires { at < length self.now.row.items }
+        ensures { result ≡ place_at self.now at }
+    {
+        let links = self.links(at);
+        Place {
+            list: links.list.unwrap_or(0),
+            before: links.prev,
+            slot: at,
+            after: links.next,
+        }
+    }
+
+    /// Puts this in the next slot that was never used.
+    pub(crate) fn grow(&mut self, content: T)
+        requires { length self.old.row.items < self.old.row.capacity }
+        ensures { self.new ≡ grown content self.old }
+    {
+        self.row.push(Cell {
+            slot: Slot {
+                generation: 0,
+                content: Some(content),
+            },
+            links: LOOSE,
+        });
+    }
+
+    /// Makes the last slot unused again.
+    pub(crate) fn shrink(&mut self)
+        requires { 0 < length self.old.row.items }
+        ensures { self.new ≡ shrunk self.old }
+    {
+        self.row.pop();
+    }
+}

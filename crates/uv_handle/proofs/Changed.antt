@@ -1,0 +1,82 @@
+-- A handle is added, or gets another record.
+use Rattle.std.proofs.Common.{◌≡◌, ℕ, ◌+◌, Option, Some, None, IfSome, IfNone, option_and_then, refl, sym, ap, ◌∙◌, subst, arith}
+use Rattle.uv_ids.specs.declared.id.Id.{Id}
+use Rattle.uv_ids.specs.declared.id.Var.{Var}
+use Rattle.uv_ids.specs.declared.phase.Kind.{Kind}
+use Rattle.uv_records.specs.declared.handle.HandleRecord.{HandleRecord}
+use Rattle.uv_records.specs.Handles.{inited, keeps_alive}
+use Rattle.uv_records.specs.Count.{one_if, keeps_in}
+use Rattle.uv_arena.specs.declared.undo.InsertUndo.{InsertUndo}
+use Rattle.uv_arena.specs.Image.{Image, held, IsSound}
+use Rattle.uv_arena.specs.Calls.{IsInserted, IsSet}
+use Rattle.uv_handle.specs.Counted.{counted, alive_count, record_at, Fits32}
+use Rattle.uv_handle.specs.Changes.{IsAdded, IsChanged}
+use Rattle.uv_handle.proofs.Counts.{content_of, count_below, count_changed, count_inserted}
+
+module _ {X : Type 0} (read : X → Option HandleRecord) (make : HandleRecord → X) (gives_back : (r : HandleRecord) → read (make r) ≡ Some r) where
+  abbrev kept : Option HandleRecord → ℕ
+  kept o = one_if (keeps_in o)
+
+  -- ---- added
+
+  add_count : (i j : Image X) (n : ℕ) (h : HandleRecord) (d : Id) (u : InsertUndo) → n ≡ alive_count read i → IsInserted i j (make h) d u
+      → alive_count read j ≡ n + one_if (keeps_alive h)
+  add_count i j n h d u is ins = let c = count_inserted read i j (make h) d u ins in let same = ap kept (gives_back h) in omega (arith, c, same, is)
+
+  pub add_fits : (i j : Image X) (n : ℕ) (h : HandleRecord) (d : Id) (u : InsertUndo) → n ≡ alive_count read i → IsInserted i j (make h) d u
+      → IsSound j → Fits32 n 0 (one_if (keeps_alive h))
+  add_fits i j n h d u is ins s =
+      let c = add_count i j n h d u is ins in let below = count_below read j s in
+      (alive_count read j, omega (arith, c), omega (arith, below))
+
+  pub added : (i j : Image X) (n m : ℕ) (name : Var) (kind : Kind) (d : Id) (u : InsertUndo) → n ≡ alive_count read i
+      → IsInserted i j (make (inited name kind)) d u
+      → m + 0 ≡ n + one_if (keeps_alive (inited name kind)) → IsAdded read make (counted i n) (counted j m) name kind d (record {
+        inserted = u;
+        active = n;
+      })
+  added i j n m name kind d u is ins e =
+      let c = add_count i j n (inited name kind) d u is ins in
+      record {
+        inserted = ins;
+        handle = ap (option_and_then read) ins.now ∙ gives_back (inited name kind);
+        counts = omega (arith, c, e);
+        undone = ap (λ z. counted z n) ins.undone;
+        can_undo = record { inserted = ins.can_undo; counts = is ∙ ap (alive_count read) (sym ins.undone) };
+      }
+
+  -- ---- another record
+
+  module _ (only_that : (t : X) (r : HandleRecord) → read t ≡ Some r
+      → t ≡ make r) (i : Image X) (d : Id) (old : HandleRecord) (there : record_at read i d ≡ Some old) where
+    pub content_is : held i d ≡ Some (make old)
+    content_is = let x = content_of read i d old there in x.1 ∙ ap Some (only_that x.0 old x.2)
+
+    pub set_done : (j : Image X) (new : X) (o : Option X) → IfNone o ((held i d ≡ None) × (j ≡ i))
+        → IfSome o (λ was. (held i d ≡ Some was) × IsSet i j d new was) → IsSet i j d new (make old)
+    set_done j new None none some = cc (none.0, content_is)
+    set_done j new (Some was) none some = let same : was ≡ make old = cc (some.0, content_is) in subst (IsSet i j d new) same some.1
+
+    change_count : (j : Image X) (n : ℕ) (new : HandleRecord) → n ≡ alive_count read i → IsSet i j d (make new) (make old)
+        → alive_count read j + one_if (keeps_alive old) ≡ n + one_if (keeps_alive new)
+    change_count j n new is set =
+        let c = count_changed read i j d (make new) (make old) content_is set in let one = ap kept (gives_back old) in
+        let two = ap kept (gives_back new) in omega (arith, c, one, two, is)
+
+    pub change_fits : (j : Image X) (n : ℕ) (new : HandleRecord) → n ≡ alive_count read i → IsSet i j d (make new) (make old) → IsSound j
+        → Fits32 n (one_if (keeps_alive old)) (one_if (keeps_alive new))
+    change_fits j n new is set s = let below = count_below read j s in (alive_count read j, change_count j n new is set, omega (arith, below))
+
+    pub changed : (j : Image X) (n m : ℕ) (new : HandleRecord) → n ≡ alive_count read i → IsSet i j d (make new) (make old)
+        → m + one_if (keeps_alive old) ≡ n + one_if (keeps_alive new)
+        → IsChanged read make (counted i n) (counted j m) d old new (record { slot = d.slot; active = n; old = old })
+    changed j n m new is set e =
+        let c = change_count j n new is set in
+        record {
+          set = set;
+          handle = ap (option_and_then read) set.now ∙ gives_back new;
+          slot = refl;
+          counts = omega (arith, c, e);
+          undone = ap (λ z. counted z n) set.undone;
+          can_undo = record { content = set.can_undo; counts = is ∙ ap (alive_count read) (sym set.undone) };
+        }

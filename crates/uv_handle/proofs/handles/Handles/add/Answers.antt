@@ -1,0 +1,30 @@
+use Rattle.std.proofs.Common.{◌≡◌, ◌+◌, sym, ap, ◌∙◌, subst}
+use Rattle.uv_records.specs.Handles.{inited, keeps_alive}
+use Rattle.uv_records.specs.Count.{one_if}
+use Rattle.uv_arena.specs.Calls.{IsInserted}
+use Rattle.uv_handle.specs.Counted.{counted, Fits32}
+use Rattle.uv_handle.specs.Changes.{IsAdded}
+use Rattle.uv_handle.proofs.Changed.{add_fits, added}
+use Rattle.uv_handle.proofs.handles.Handles.add.Goals as goal
+
+pub recounted-self-inside-requires : goal.recounted-self-inside-requires
+recounted-self-inside-requires g c =
+    let H = g.T.HoldsHandle in let K = g.met.T.HoldsHandle in let i = c.args.slots.now in let j = c.insert.new.self in
+    let h = inited c.args.name c.args.kind in
+    let ins = subst (λ x. IsInserted i j x c.in-Ok.id c.in-Ok.inserted) (c.of.ensures ∙ ap H.of_record c.new-handle.ensures) c.in-Ok.ensures.ok in
+    subst (λ b. Fits32 c.self.inside.active 0 (one_if b)) (sym (c.keeps_alive.ensures ∙ ap keeps_alive c.new-handle.ensures))
+    (add_fits H.held_record H.of_record K.gives_back i j c.self.inside.active h c.in-Ok.id c.in-Ok.inserted (c.self.view_is
+    ∙ c.requires) ins c.is_sound.ensures)
+
+pub returns-in-Ok-clause-ok : goal.returns-in-Ok-clause-ok
+returns-in-Ok-clause-ok g c =
+    let H = g.T.HoldsHandle in let K = g.met.T.HoldsHandle in let i = c.args.slots.now in let j = c.insert.new.self in let n = c.self.inside.active in
+    let ins = subst (λ x. IsInserted i j x c.in-Ok.id c.in-Ok.inserted) (c.of.ensures ∙ ap H.of_record c.new-handle.ensures) c.in-Ok.ensures.ok in
+    let m = c.recounted-self-inside.result in
+    let count = subst (λ b. m + 0 ≡ n + one_if b) (c.keeps_alive.ensures ∙ ap keeps_alive c.new-handle.ensures) c.recounted-self-inside.ensures in
+    subst (λ q. IsAdded H.held_record H.of_record (counted i q) (counted j m) c.args.name c.args.kind c.in-Ok.id (record {
+      inserted =
+          c.in-Ok.inserted;
+      active = n;
+    })) c.self.view_is
+    (added H.held_record H.of_record K.gives_back i j n m c.args.name c.args.kind c.in-Ok.id c.in-Ok.inserted (c.self.view_is ∙ c.requires) ins count)

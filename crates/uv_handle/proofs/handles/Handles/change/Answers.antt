@@ -1,0 +1,39 @@
+use Rattle.std.proofs.Common.{◌≡◌, ◌+◌, Bool, sym, ◌∙◌, subst}
+use Rattle.uv_records.specs.Count.{one_if}
+use Rattle.uv_arena.specs.Calls.{IsSet}
+use Rattle.uv_handle.specs.Counted.{counted, Fits32}
+use Rattle.uv_handle.specs.Changes.{IsChanged}
+use Rattle.uv_handle.proofs.Changed.{set_done, change_fits, changed}
+use Rattle.uv_handle.proofs.handles.Handles.change.Goals as goal
+
+pub recounted-self-inside-requires : goal.recounted-self-inside-requires
+recounted-self-inside-requires g c =
+    let H = g.T.HoldsHandle in let K = g.met.T.HoldsHandle in let i = c.args.slots.now in let j = c.set.new.self in let d = c.args.id in
+    let done = set_done H.held_record H.of_record K.gives_back K.only_that i d c.args.old c.requires.found j c.of.result c.set.result c.set.ensures.none c.set.ensures.some in
+    let set = subst (λ x. IsSet i j d x (H.of_record c.args.old)) c.of.ensures done in
+    subst (λ (b : Bool × Bool). Fits32 c.self.inside.active (one_if b.0) (one_if b.1)) (λ k. (
+      sym c.keeps_alive.ensures k,
+      sym c.keeps_alive-2.ensures k,
+    ))
+    (change_fits H.held_record H.of_record K.gives_back K.only_that i d c.args.old c.requires.found j c.self.inside.active c.args.new
+    (c.self.view_is ∙ c.requires.counts) set c.is_sound-2.ensures)
+
+pub returns : goal.returns
+returns g c =
+    let H = g.T.HoldsHandle in let K = g.met.T.HoldsHandle in let i = c.args.slots.now in let j = c.set.new.self in let d = c.args.id in
+    let n = c.self.inside.active in
+    let done = set_done H.held_record H.of_record K.gives_back K.only_that i d c.args.old c.requires.found j c.of.result c.set.result c.set.ensures.none c.set.ensures.some in
+    let set = subst (λ x. IsSet i j d x (H.of_record c.args.old)) c.of.ensures done in
+    let m = c.recounted-self-inside.result in
+    let count = subst (λ (b : Bool × Bool). m + one_if b.0 ≡ n + one_if b.1) (λ k. (
+      c.keeps_alive.ensures k,
+      c.keeps_alive-2.ensures k,
+    )) c.recounted-self-inside.ensures in
+    subst (λ q. IsChanged H.held_record H.of_record (counted i q) (counted j m) d c.args.old c.args.new (record {
+      slot = d.slot;
+      active = n;
+      old =
+          c.args.old;
+    })) c.self.view_is
+    (changed H.held_record H.of_record K.gives_back K.only_that i d c.args.old c.requires.found j n m c.args.new (c.self.view_is
+    ∙ c.requires.counts) set count)

@@ -1,0 +1,80 @@
+-- What holds after each call that changes a handle.
+use Rattle.std.specs.Prelude.{true, ◌≡◌, ◌≢◌, eqb, ◌∷◌, Option, Some, None}
+use Rattle.uv_ids.specs.declared.id.Id.{Id}
+use Rattle.uv_ids.specs.declared.id.Var.{Var}
+use Rattle.uv_ids.specs.declared.phase.Kind.{Kind}
+use Rattle.uv_ids.specs.declared.code.Code.{Code}
+use Rattle.uv_records.specs.declared.handle.HandleRecord.{HandleRecord}
+use Rattle.uv_records.specs.declared.lists.ListName.{ListName}
+use Rattle.uv_records.specs.declared.lists.ListName.TheVariants.{Closing, ClosingYet}
+use Rattle.uv_records.specs.Handles.{inited, closed}
+use Rattle.uv_records.specs.Refusals.{refusal, close_refusal}
+use Rattle.uv_records.specs.Slots.{freed}
+use Rattle.uv_records.specs.Walks.{without}
+use Rattle.uv_arena.specs.Image.{members, held, on_list, plain_slots}
+use Rattle.uv_arena.specs.Calls.{IsInserted, IsSet, IsFirst}
+use Rattle.uv_handle.specs.declared.undo.RecordUndo.{RecordUndo}
+use Rattle.uv_handle.specs.declared.undo.AddUndo.{AddUndo}
+use Rattle.uv_handle.specs.declared.undo.ListUndo.{ListUndo}
+use Rattle.uv_handle.specs.declared.undo.TakeUndo.{TakeUndo}
+use Rattle.uv_handle.specs.Counted.{Counted, IsCounted, record_at, found, record_undone, add_undone, enlist_undone, take_undone, CanUndoRecord, CanUndoAdd, CanUndoEnlist, CanUndoTake}
+
+module _ {X : Type 0} (read : X → Option HandleRecord) (make : HandleRecord → X) where
+  -- a handle as `init` makes it is held under the id, and on no list
+  pub record IsAdded (old new : Counted X) (name : Var) (kind : Kind) (d : Id) (u : AddUndo) : Type 0 where
+    pub inserted : IsInserted old.arena new.arena (make (inited name kind)) d u.inserted
+    pub handle : record_at read new.arena d ≡ Some (inited name kind)
+    pub counts : IsCounted read new
+    pub undone : add_undone read u new ≡ old
+    pub can_undo : CanUndoAdd read new u
+
+  -- the handle has this record now
+  pub record IsChanged (old new : Counted X) (d : Id) (from to : HandleRecord) (u : RecordUndo) : Type 0 where
+    pub set : IsSet old.arena new.arena d (make to) (make from)
+    pub handle : record_at read new.arena d ≡ Some to
+    pub slot : u.slot ≡ d.slot
+    pub counts : IsCounted read new
+    pub undone : record_undone read make u new ≡ old
+    pub can_undo : CanUndoRecord read make new u
+
+  -- an op that isn't refused gave the handle another record
+  pub record Did (why : HandleRecord → Option Code) (row : HandleRecord → HandleRecord) (old new : Counted X) (d : Id) (u : RecordUndo) : Type 0 where
+    pub from : HandleRecord
+    pub there : record_at read old.arena d ≡ Some from
+    pub allowed : why from ≡ None
+    pub changed : IsChanged old new d from (row from) u
+
+  -- a refused op changes nothing
+  abbrev pub Refused : (HandleRecord → Option Code) → Counted X → Counted X → Id → Code → Type 0
+  Refused why old new d code = (refusal why (found read old.arena d) ≡ Some code) × (new ≡ old)
+
+  -- the handle has this record now, and is at the front of a list
+  pub record IsEnlisted (old new : Counted X) (d : Id) (from to : HandleRecord) (list : ListName) (u : ListUndo) : Type 0 where
+    pub there : record_at read old.arena d ≡ Some from
+    pub handle : record_at read new.arena d ≡ Some to
+    pub lists : members new.arena list ≡ d.slot ∷ members old.arena list
+    pub others : (l : ListName) → l ≢ list → members new.arena l ≡ members old.arena l
+    pub listed : on_list new.arena d ≡ true
+    pub contents : (e : Id) → e.slot ≢ d.slot → held new.arena e ≡ held old.arena e
+    pub kept : (e : Id) → e.slot ≢ d.slot → on_list new.arena e ≡ on_list old.arena e
+    pub counts : IsCounted read new
+    pub undone : enlist_undone read make u new ≡ old
+    pub can_undo : CanUndoEnlist read make new u
+
+  -- the handle is closing, at the front of the closing list
+  pub record IsClosed (old new : Counted X) (d : Id) (u : ListUndo) : Type 0 where
+    pub from : HandleRecord
+    pub allowed : close_refusal from ≡ None
+    pub enlisted : IsEnlisted old new d from (closed from) Closing u
+
+  -- the front of those that have yet to be closed is off its list, and its slot is freed
+  pub record IsTaken (old new : Counted X) (d : Id) (content : X) (u : TakeUndo X) : Type 0 where
+    pub first : IsFirst old.arena ClosingYet d
+    pub was : held old.arena d ≡ Some content
+    pub plain : plain_slots new.arena ≡ freed old.arena.last d (plain_slots old.arena)
+    pub lists : (l : ListName) → members new.arena l ≡ without eqb (members old.arena l) d.slot
+    pub contents : (e : Id) → e.slot ≢ d.slot → held new.arena e ≡ held old.arena e
+    pub kept : (e : Id) → e.slot ≢ d.slot → on_list new.arena e ≡ on_list old.arena e
+    pub counts : IsCounted read new
+    pub undone : take_undone read u new ≡ old
+    pub can_undo : CanUndoTake read new u

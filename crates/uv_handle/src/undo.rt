@@ -1,0 +1,33 @@
+//! What takes a change of a handle back.
+use uv_arena::{InsertUndo, Place, PushUndo, RemoveUndo};
+use uv_records::HandleRecord;
+
+/// Takes a change of a record back: its slot, the count of active referenced handles, and the record from before.
+#[derive(Clone, Copy, Debug, PartialEq, Eq)]
+pub struct RecordUndo {
+    pub slot: u32,
+    pub active: u32,
+    pub old: HandleRecord,
+}
+
+/// Takes a new handle back: its slot, and the count from before.
+#[derive(Clone, Copy, Debug, PartialEq, Eq)]
+pub struct AddUndo {
+    pub inserted: InsertUndo,
+    pub active: u32,
+}
+
+/// Takes back that a handle got another record and was put on a list.
+#[derive(Clone, Copy, Debug, PartialEq, Eq)]
+pub struct ListUndo {
+    pub changed: RecordUndo,
+    pub pushed: PushUndo,
+}
+
+/// Takes back that a closing handle was taken off its list and freed.
+#[derive(Clone, Copy, Debug, PartialEq, Eq)]
+pub struct TakeUndo<T> {
+    pub unlinked: Place,
+    pub removed: RemoveUndo<T>,
+    pub active: u32,
+}

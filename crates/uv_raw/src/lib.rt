@@ -1,0 +1,9 @@
+//! A row of `Copy` items in one allocation, which is made once and never grows.
+#![tactic(auto)]
+
+mod raw_row;
+mod room;
+#[cfg(test)]
+mod tests;
+
+pub use raw_row::RawRow;

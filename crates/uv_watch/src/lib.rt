@@ -1,0 +1,11 @@
+//! The watchers in the arena: the idle, prepare, check and async lists, how a section walks one, and sends. Every change has an
+//! exact undo.
+#![tactic(auto)]
+
+mod undo;
+mod walk;
+mod watchers;
+
+pub use undo::{StopUndo, WalkUndo};
+pub use walk::{begin, take, undo_begin, undo_take};
+pub use watchers::{halt, send, start, stop, undo_send, undo_start, undo_stop};

@@ -1,0 +1,105 @@
+//! How a section walks a list: all of it is yet to run, and each goes to the end of the list as it is called.
+ghost use Rattle.std.specs.Prelude.{◌≡◌, ℕ, Option, Some, None, IfSome, IfNone, Bool, option_map, []};
+ghost use Rattle.uv_records.specs.Lists.{list_of, yet_of};
+ghost use Rattle.uv_arena.specs.Image.{members};
+ghost use Rattle.uv_arena.specs.Undo.{splice_undone, CanUndoSplice};
+ghost use Rattle.uv_arena.specs.Calls.{IsFirst};
+ghost use Rattle.uv_handle.specs.Counted.{counted, record_at, IsCounted};
+ghost use Rattle.uv_watch.specs.Undo.{walk_undone, CanUndoWalk};
+ghost use Rattle.uv_watch.specs.Watch.{IsBegun, IsMovedOn, IsWoken};
+
+use crate::undo::WalkUndo;
+use uv_arena::{Slots, SpliceUndo};
+use uv_handle::{Handles, HoldsHandle, RecordUndo, handle_at};
+use uv_ids::Id;
+use uv_records::WatcherKind;
+
+/// Begins a section: the whole list is yet to run.
+pub fn begin<T: HoldsHandle>(slots: &mut Slots<T>, kind: WatcherKind) -> SpliceUndo
+    requires { members slots.old (yet_of kind) ≡ [] }
+    ensures { IsBegun slots.old slots.new kind result }
+{
+    slots.splice(kind.list(), kind.yet())
+}
+
+/// Takes the beginning of a section back.
+pub fn undo_begin<T: HoldsHandle>(slots: &mut Slots<T>, undo: SpliceUndo)
+    requires { CanUndoSplice slots.old undo }
+    ensures { slots.new ≡ splice_undone undo slots.old }
+{
+    slots.undo_splice(undo);
+}
+
+/// Moves the front of those yet to run to the end of its list: its id, and whether a callback was due by a send. None, and nothing
+/// changed, where there is none.
+pub fn take<T: HoldsHandle>(
+    handles: &mut Handles,
+    slots: &mut Slots<T>,
+    kind: WatcherKind,
+) -> Option<(Id, bool, WalkUndo)>
+    requires { IsCounted T.held_record (counted slots.old handles.old) }
+    ensures none { IfNone result ((members slots.old (yet_of kind) ≡ []) × (counted slots.new handles.new ≡ counted slots.old handles.old)) }
+    ensures some { IfSome result (λ r. IsMovedOn T.held_record T.of_record
+        (counted slots.old handles.old) (counted slots.new handles.new) kind r.0 r.1 r.2) }
+{
+    match slots.first(kind.yet()) {
+        None => None,
+        Some(id) => Some(move_on(handles, slots, kind, id)),
+    }
+}
+
+fn move_on<T: HoldsHandle>(
+    handles: &mut Handles,
+    slots: &mut Slots<T>,
+    kind: WatcherKind,
+    id: Id,
+) -> (Id, bool, WalkUndo)
+    requires counts { IsCounted T.held_record (counted slots.old handles.old) }
+    requires first { IsFirst slots.old (yet_of kind) id }
+    ensures id { result.0 ≡ id }
+    ensures moved { IsMovedOn T.held_record T.of_record (counted slots.old handles.old) (counted slots.new handles.new) kind id result.1 result.2 }
+{
+    let unlinked = slots.unlink(id);
+    let pushed = slots.push_back(kind.list(), id);
+    let (pending, woken) = wake(handles, slots, id);
+    let undo = WalkUndo {
+        unlinked,
+        pushed,
+        woken,
+    };
+    (id, pending, undo)
+}
+
+/// Wakes a handle, if it waits for its callback.
+fn wake<T: HoldsHandle>(
+    handles: &mut Handles,
+    slots: &mut Slots<T>,
+    id: Id,
+) -> (bool, Option<RecordUndo>)
+    requires { IsCounted T.held_record (counted slots.old handles.old) }
+    ensures { IsWoken T.held_record T.of_record (counted slots.old handles.old) (counted slots.new handles.new) id result.0 result.1 }
+{
+    match handle_at(slots, id) {
+        Err(_) => (false, None),
+        Ok(handle) => {
+            if handle.pending {
+                let changed = handles.change(slots, id, handle, handle.woken());
+                (true, Some(changed))
+            } else {
+                (false, None)
+            }
+        }
+    }
+}
+
+/// Takes one step of a walk back.
+pub fn undo_take<T: HoldsHandle>(handles: &mut Handles, slots: &mut Slots<T>, undo: WalkUndo)
+    requires { CanUndoWalk T.held_record T.of_record (counted slots.old handles.old) undo }
+    ensures { counted slots.new handles.new ≡ walk_undone T.held_record T.of_record undo (counted slots.old handles.old) }
+{
+    if let Some(woken) = undo.woken {
+        handles.undo_change(slots, woken);
+    }
+    slots.undo_push(undo.pushed);
+    slots.undo_unlink(undo.unlinked);
+}

@@ -1,0 +1,162 @@
+//! Starting and stopping watchers, and sends.
+ghost use Rattle.std.specs.Prelude.{◌≡◌, ℕ, Option, Some, None, IfOk, IfErr, false};
+ghost use Rattle.uv_records.specs.declared.handle.HandleRecord.{HandleRecord};
+ghost use Rattle.uv_records.specs.Handles.{sent, is_timer};
+ghost use Rattle.uv_records.specs.Refusals.{refusal, start_watcher_refusal, stop_refusal, send_refusal};
+ghost use Rattle.uv_arena.specs.Image.{on_list};
+ghost use Rattle.uv_handle.specs.Counted.{counted, record_at, found, IsCounted, record_undone, enlist_undone, CanUndoRecord, CanUndoEnlist};
+ghost use Rattle.uv_handle.specs.Changes.{Did, Refused};
+ghost use Rattle.uv_watch.specs.Undo.{stop_undone, CanUndoStop};
+ghost use Rattle.uv_watch.specs.Watch.{Starts, IsStarted, IsStopped};
+
+use crate::undo::StopUndo;
+use uv_arena::{Place, Slots};
+use uv_handle::{HandleRecord, Handles, HoldsHandle, ListUndo, RecordUndo, handle_at};
+use uv_ids::{Code, Id};
+use uv_records::WatcherKind;
+
+/// Starts an idle, prepare or check handle: it goes to the front of its list. One that is active stays as it is, and the token
+/// is None (uv_idle_start and the like).
+pub fn start<T: HoldsHandle>(
+    handles: &mut Handles,
+    slots: &mut Slots<T>,
+    id: Id,
+) -> Result<Option<ListUndo>, Code>
+    requires counts { IsCounted T.held_record (counted slots.old handles.old) }
+    requires loose { (h : HandleRecord) → record_at T.held_record slots.old id ≡ Some h → start_watcher_refusal h ≡ None → h.active ≡ false
+        → on_list slots.old id ≡ false }
+    ensures ok { IfOk result (λ o. Starts T.held_record T.of_record (counted slots.old handles.old) (counted slots.new handles.new) id o) }
+    ensures err { IfErr result (λ code. Refused T.held_record T.of_record start_watcher_refusal
+        (counted slots.old handles.old) (counted slots.new handles.new) id code) }
+{
+    match handle_at(slots, id) {
+        Err(code) => Err(code),
+        Ok(handle) => match handle.start_watcher_refusal() {
+            Some(code) => Err(code),
+            None => {
+                if handle.active {
+                    Ok(None)
+                } else {
+                    Ok(Some(enlist(handles, slots, id, handle)))
+                }
+            }
+        },
+    }
+}
+
+fn enlist<T: HoldsHandle>(
+    handles: &mut Handles,
+    slots: &mut Slots<T>,
+    id: Id,
+    handle: HandleRecord,
+) -> ListUndo
+    requires counts { IsCounted T.held_record (counted slots.old handles.old) }
+    requires found { record_at T.held_record slots.old id ≡ Some handle }
+    requires allowed { start_watcher_refusal handle ≡ None }
+    requires inactive { handle.active ≡ false }
+    requires loose { on_list slots.old id ≡ false }
+    ensures { IsStarted T.held_record T.of_record (counted slots.old handles.old) (counted slots.new handles.new) id result }
+{
+    match WatcherKind::from_kind(handle.kind) {
+        Some(kind) => handles.enlist(slots, id, handle, handle.activated(), kind.list()),
+        None => unreachable!(),
+    }
+}
+
+/// Takes a start back.
+pub fn undo_start<T: HoldsHandle>(handles: &mut Handles, slots: &mut Slots<T>, undo: ListUndo)
+    requires { CanUndoEnlist T.held_record T.of_record (counted slots.old handles.old) undo }
+    ensures { counted slots.new handles.new ≡ enlist_undone T.held_record T.of_record undo (counted slots.old handles.old) }
+{
+    handles.undo_enlist(slots, undo);
+}
+
+/// Stops an idle, prepare or check handle: it is taken off its lists, and is run no more (uv_idle_stop and the like).
+pub fn stop<T: HoldsHandle>(
+    handles: &mut Handles,
+    slots: &mut Slots<T>,
+    id: Id,
+) -> Result<StopUndo, Code>
+    requires counts { IsCounted T.held_record (counted slots.old handles.old) }
+    requires no_timer { (h : HandleRecord) → record_at T.held_record slots.old id ≡ Some h → is_timer h.kind ≡ false }
+    ensures ok { IfOk result (λ u. (h : HandleRecord) × (stop_refusal h ≡ None) × IsStopped T.held_record T.of_record
+        (counted slots.old handles.old) (counted slots.new handles.new) id h u) }
+    ensures err { IfErr result (λ code. Refused T.held_record T.of_record stop_refusal
+        (counted slots.old handles.old) (counted slots.new handles.new) id code) }
+{
+    match handle_at(slots, id) {
+        Err(code) => Err(code),
+        Ok(handle) => match handle.stop_refusal() {
+            Some(code) => Err(code),
+            None => Ok(halt(handles, slots, id, handle)),
+        },
+    }
+}
+
+/// Takes a handle that isn't a timer off its list, and makes it inactive, as a stop or a close does. A closing handle stays on the
+/// closing list.
+pub fn halt<T: HoldsHandle>(
+    handles: &mut Handles,
+    slots: &mut Slots<T>,
+    id: Id,
+    handle: HandleRecord,
+) -> StopUndo
+    requires counts { IsCounted T.held_record (counted slots.old handles.old) }
+    requires found { record_at T.held_record slots.old id ≡ Some handle }
+    ensures { IsStopped T.held_record T.of_record (counted slots.old handles.old) (counted slots.new handles.new) id handle result }
+{
+    if handle.closing || !slots.on_list(id) {
+        let changed = handles.change(slots, id, handle, handle.stopped());
+        StopUndo {
+            unlinked: None,
+            changed,
+        }
+    } else {
+        let place = slots.unlink(id);
+        let changed = handles.change(slots, id, handle, handle.stopped());
+        StopUndo {
+            unlinked: Some(place),
+            changed,
+        }
+    }
+}
+
+/// Takes a stop back.
+pub fn undo_stop<T: HoldsHandle>(handles: &mut Handles, slots: &mut Slots<T>, undo: StopUndo)
+    requires { CanUndoStop T.held_record T.of_record (counted slots.old handles.old) undo }
+    ensures { counted slots.new handles.new ≡ stop_undone T.held_record T.of_record undo (counted slots.old handles.old) }
+{
+    handles.undo_change(slots, undo.changed);
+    if let Some(place) = undo.unlinked {
+        slots.undo_unlink(place);
+    }
+}
+
+/// Sends to an async handle: its callback is due. Sends before the callback coalesce (uv_async_send).
+pub fn send<T: HoldsHandle>(
+    handles: &mut Handles,
+    slots: &mut Slots<T>,
+    id: Id,
+) -> Result<RecordUndo, Code>
+    requires { IsCounted T.held_record (counted slots.old handles.old) }
+    ensures ok { IfOk result (λ u. Did T.held_record T.of_record send_refusal sent
+        (counted slots.old handles.old) (counted slots.new handles.new) id u) }
+    ensures err { IfErr result (λ code. Refused T.held_record T.of_record send_refusal
+        (counted slots.old handles.old) (counted slots.new handles.new) id code) }
+{
+    match handle_at(slots, id) {
+        Err(code) => Err(code),
+        Ok(handle) => match handle.send_refusal() {
+            Some(code) => Err(code),
+            None => Ok(handles.change(slots, id, handle, handle.sent())),
+        },
+    }
+}
+
+/// Takes a send back.
+pub fn undo_send<T: HoldsHandle>(handles: &mut Handles, slots: &mut Slots<T>, undo: RecordUndo)
+    requires { CanUndoRecord T.held_record T.of_record (counted slots.old handles.old) undo }
+    ensures { counted slots.new handles.new ≡ record_undone T.held_record T.of_record undo (counted slots.old handles.old) }
+{
+    handles.undo_change(slots, undo);
+}
