@@ -274,11 +274,3 @@ module _ {X : Type 0} where
   pub reuses : (v : Image X) → IsSound v → (new : X) (x : ℕ) → head_at v.memory FREE ≡ Some x → IsReused v new x
   reuses v s new x e = let cut = some_first (chain v.memory FREE) x (sym (head_is v.memory s.linked FREE (omega arith)) ∙ e) in
       reused_at v s new x cut.0 cut.1
-
-  -- no slot is free, and none is unused
-  pub is_full : (v : Image X) → IsSound v → v.memory.row.capacity ≤ length v.memory.row.items → head_at v.memory FREE ≡ None
-      → plain.next_free (plain_slots v) ≡ None
-  is_full v s le none =
-      let m = v.memory in let left : m.row.capacity - length m.row.items ≡ 0 = omega arith in
-      ap (plain.next_id (held_slots m) (m.row.capacity - length m.row.items)) (chain_none m s.linked none)
-      ∙ ap (plain.next_unused (length (held_slots m))) left

@@ -1,22 +1,19 @@
 -- What stands first, last, next and before on a list, and what the next taking gives.
-use Rattle.std.proofs.Common.{◌≡◌, ℕ, eqb, ◌-◌, ◌<◌, true, false, ◌&&◌, List, [], ◌∷◌, ◌++◌, length, Option, Some, None, is_some, option_and_then, refl, sym, ap, ◌∙◌, subst, inr, arith}
-use Rattle.std.proofs.lemmas.List.{length-map}
+use Rattle.std.proofs.Common.{◌≡◌, ℕ, eqb, ◌<◌, true, false, ◌&&◌, List, [], ◌∷◌, ◌++◌, length, Option, Some, None, is_some, refl, sym, ap, ◌∙◌, subst, inr, arith}
 use Rattle.std.proofs.lemmas.Option.{slice_get_within}
 use Rattle.uv_ids.specs.declared.id.Id.{Id}
-use Rattle.uv_records.specs.declared.slot.Slot.{Slot}
 use Rattle.uv_records.specs.declared.lists.ListName.{ListName}
 use Rattle.uv_records.specs.Lists.{number}
-use Rattle.uv_records.specs.Slots as plain
 use Rattle.uv_records.specs.Walks.{without}
 use Rattle.uv_arena.specs.declared.links.Links.{Links}
 use Rattle.uv_arena.specs.declared.links.Cell.{Cell}
 use Rattle.uv_arena.specs.Chains.{link, first, last, IsIn, IsApart, IsSegment}
-use Rattle.uv_arena.specs.Image.{Image, FREE, name_at, chains, chain, links_in, links_at, slot_in, slot_at, head_at, tail_at, members, held_slots, plain_slots, held, on_list, IsSound}
+use Rattle.uv_arena.specs.Image.{Image, name_at, chains, chain, links_in, links_at, slot_in, slot_at, head_at, tail_at, members, held, on_list, IsSound}
 use Rattle.uv_arena.specs.Calls.{IsListed, IsFirst, IsLast}
 use Rattle.uv_arena.proofs.Lists.{in_left, in_right, first_is_in, last_is_in, segment_right}
-use Rattle.uv_arena.proofs.Memories.{get-links, get-slots, head_is, tail_is, placed, member_tells}
+use Rattle.uv_arena.proofs.Memories.{get-links, head_is, tail_is, placed, member_tells}
 use Rattle.uv_arena.proofs.Lookups.{held_now, is_loose, is_on, member_held, name_below, name_other, without_none, without_one}
-use Rattle.uv_arena.proofs.Changes.{none_first, some_first, next_some, chain_none}
+use Rattle.uv_arena.proofs.Changes.{some_first}
 
 last_none : (x : ℕ) (xs : List ℕ) (q : Option ℕ) → last q (x ∷ xs) ≡ None → ⊥
 last_none x [] q e = cc
@@ -80,11 +77,6 @@ module _ {X : Type 0} where
         };
       }
 
-  pub first_none : (v : Image X) → IsSound v → (list : ListName) → head_at v.memory (name_at v.names (number list)) ≡ None → members v list ≡ []
-  first_none v s list e =
-      let k = name_at v.names (number list) in let lt : k < 14 = name_below v s list in
-      none_first (chain v.memory k) (sym (head_is v.memory s.linked k (omega arith)) ∙ e)
-
   pub record TailIs (v : Image X) (list : ListName) (x : ℕ) : Type 0 where
     pub slot : x < length v.memory.row.items
     pub last : IsLast v list (id_at v x)
@@ -136,32 +128,6 @@ module _ {X : Type 0} where
         after = λ l ys zs is. ap (λ (q : Links). q.next) own ∙ (by l ys zs is).0;
         before = λ l ys zs is. ap (λ (q : Links). q.prev) own ∙ (by l ys zs is).1;
       }
-
-  -- ---- the next taking
-
-  pub record NextIs (v : Image X) (x : ℕ) : Type 0 where
-    pub slot : x < length v.memory.row.items
-    pub next : plain.next_free (plain_slots v) ≡ Some (id_at v x)
-
-  pub next_reused : (v : Image X) → IsSound v → (x : ℕ) → head_at v.memory FREE ≡ Some x → NextIs v x
-  next_reused v s x e =
-      let m = v.memory in let is = sym (head_is m s.linked FREE (omega arith)) ∙ e in
-      let cut = some_first (chain m FREE) x is in
-      let on = member_tells m s.linked FREE (omega arith) x (first_is_in (chain m FREE) x is) in
-      record {
-        slot = slice_get_within m.row.items x on.0 on.1;
-        next = ap (plain.next_id (held_slots m) (m.row.capacity - length m.row.items)) cut.1
-            ∙ ap (option_and_then (λ (q : Slot X). Some (plain.id_of x q))) (get-slots m.row.items x on.0 on.1)
-            ∙ ap (λ o. Some (plain.id_of x (slot_in o))) (sym on.1);
-      }
-
-  pub next_unused : (v : Image X) → IsSound v → head_at v.memory FREE ≡ None → length v.memory.row.items < v.memory.row.capacity
-      → plain.next_free (plain_slots v) ≡ Some (record { slot = length v.memory.row.items; generation = 0 })
-  next_unused v s none room =
-      let m = v.memory in
-      ap (plain.next_id (held_slots m) (m.row.capacity - length m.row.items)) (chain_none m s.linked none)
-      ∙ next_some (length (held_slots m)) (m.row.capacity - length m.row.items) (omega arith)
-      ∙ (λ i. Some (record { slot = length-map m.row.items (λ (c : Cell X). c.slot) i; generation = 0 }))
 
   -- a slot that is on no list is a member of none
   pub apart_from : (v : Image X) → IsSound v → (d : Id) → is_some (held v d) ≡ true → on_list v d ≡ false → (l : ListName)

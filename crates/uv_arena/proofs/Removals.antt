@@ -1,5 +1,5 @@
 -- A slot is freed, or retired.
-use Rattle.std.proofs.Common.{◌≡◌, ◌≢◌, ◌+◌, ◌-◌, ◌<◌, ◌≤◌, ◌==◌, if◌then◌else◌, Bool, true, false, eq-eqb, [], ◌∷◌, length, set, Some, None, is_some, refl, sym, ap, ◌∙◌, subst, inl, inr, arith}
+use Rattle.std.proofs.Common.{◌≡◌, ◌≢◌, ◌+◌, ◌-◌, ◌<◌, ◌==◌, if◌then◌else◌, Bool, true, false, eq-eqb, [], ◌∷◌, length, set, Some, None, is_some, refl, sym, ap, ◌∙◌, subst, inl, inr, arith}
 use Rattle.std.proofs.lemmas.Bool.Decides.{eqb_tells}
 use Rattle.std.proofs.lemmas.Option.{slice_get_within}
 use Rattle.uv_ids.specs.declared.id.Id.{Id}
@@ -176,7 +176,3 @@ module _ {X : Type 0} where
   frees v s d was is bare more =
       subst (λ o. IsFreed v d was (place_of FREE None d.slot o)) (sym (head_is v.memory s.linked FREE (omega arith)))
       (freed_at v s d was is bare more)
-
-  -- the generation of what is held is at most the last one
-  pub held_below : (v : Image X) → IsSound v → (d : Id) (was : X) → held v d ≡ Some was → d.generation ≤ v.last
-  held_below v s d was is = let h = held_tells v.memory d was is in subst (λ q. q ≤ v.last) h.3 (s.fit d.slot h.0 h.1).below
