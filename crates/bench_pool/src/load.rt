@@ -91,7 +91,9 @@ fn feed<L: Ledger, R: Clock + Wait>(
         if collected >= load.jobs {
             break;
         }
-        book.wait_past(rt, seen);
+        if more == 0 {
+            book.wait_past(rt, seen);
+        }
     }
     Ok(nanos(start, now(rt)?))
 }
