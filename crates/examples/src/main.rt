@@ -5,13 +5,14 @@ use std::{fs, io};
 use uv_engine::{Reader, Writer, converse};
 use uv_model::PlainLoop;
 
-const EXAMPLES: [&str; 6] = [
+const EXAMPLES: [&str; 7] = [
     "two-timers",
     "falls-behind",
     "step-back",
     "run-ends-early",
     "watcher-waits",
     "poll-does-not-block",
+    "loop-is-busy",
 ];
 
 fn main(rt: HostRuntime) -> io::Result<()> {

@@ -100,10 +100,12 @@ holds_more m n (Some x) l h = λ t a. omega (arith, h t a)
 drawn_more : (m n : ℕ) (slots : List (Slot Content)) → m ≤ n → Drawn m slots → Drawn n slots
 drawn_more m n slots l h = λ k d w. holds_more m n _ l (h k d w)
 
-drawn_set : (n : ℕ) (slots : List (Slot Content)) (i : ℕ) (x : Slot Content) → Drawn n slots → HoldsBefore n (handle_in x.content) → Drawn n (slice_set slots i x)
+drawn_set : (n : ℕ) (slots : List (Slot Content)) (i : ℕ) (x : Slot Content) → Drawn n slots → HoldsBefore n (handle_in x.content)
+    → Drawn n (slice_set slots i x)
 drawn_set n slots i x h b = grind (arith, elements, h)
 
-drawn_push : (n : ℕ) (slots : List (Slot Content)) (x : Slot Content) → Drawn n slots → HoldsBefore n (handle_in x.content) → Drawn n (slots ++ x ∷ [])
+drawn_push : (n : ℕ) (slots : List (Slot Content)) (x : Slot Content) → Drawn n slots → HoldsBefore n (handle_in x.content)
+    → Drawn n (slots ++ x ∷ [])
 drawn_push n slots x h b = grind (arith, elements, h)
 
 never : (n : ℕ) (h : HandleRecord) → h.active ≡ false → StartsBefore n h
@@ -135,7 +137,8 @@ slot_before n slots i slot e h = grind (arith, elements, h)
 found_before : (n : ℕ) (all : List (Slot Content)) (id : Id) (x : Option (Slot Content)) → slice_get all id.slot ≡ x → Drawn n all →
     HoldsBefore n (handle_in (option_and_then (slots.held_in id) x))
 found_before n all id None e h = tt
-found_before n all id (Some slot) e h = if_keeps (λ (c : Option Content). HoldsBefore n (handle_in c)) (slot.generation == id.generation) slot.content None
+found_before n all id (Some slot) e h = if_keeps (λ (c : Option Content). HoldsBefore n (handle_in c)) (slot.generation == id.generation)
+    slot.content None
     (slot_before n all id.slot slot e h) tt
 
 with_id_before : (n : ℕ) (id : Id) (x : Option HandleRecord) → HoldsBefore n x → LiveBefore n (with_id id x)
@@ -153,15 +156,27 @@ live_before s v h = live_id_before s.next_start s (named s v).id h
 -- ---- the changes of a state
 
 more : (n : ℕ) (s : State) → IsBounded n s → IsBounded (suc n) s
-more n s h = record { counts = counts_more n s.names h.counts; starts = omega arith; drawn = h.drawn; time = h.time; clock = h.clock;
-    line = omega arith }
+more n s h = record {
+  counts = counts_more n s.names h.counts;
+  starts = omega arith;
+  drawn = h.drawn;
+  time = h.time;
+  clock = h.clock;
+  line = omega arith;
+}
 
 placed : (n : ℕ) (s : State) (place : Place) → IsBounded n s → line_of place ≤ n → IsBounded n (record s { place = place })
 placed n s place h l = record { counts = h.counts; starts = h.starts; drawn = h.drawn; time = h.time; clock = h.clock; line = l }
 
 renamed : (n : ℕ) (s : State) (v : Var) (x : Named) → IsBounded n s → AreUpTo n x.calls → IsBounded n (with_named s v x)
-renamed n s v x h l = record { counts = counts_set n s.names v.0 x h.counts l; starts = h.starts; drawn = h.drawn; time = h.time; clock = h.clock;
-    line = h.line }
+renamed n s v x h l = record {
+  counts = counts_set n s.names v.0 x h.counts l;
+  starts = h.starts;
+  drawn = h.drawn;
+  time = h.time;
+  clock = h.clock;
+  line = h.line;
+}
 
 listed : (n : ℕ) (s : State) (ts : List (Due × Id)) (ready : List Id) → IsBounded n s → IsBounded n (record s { timers = ts; ready = ready })
 listed n s ts ready h = record { counts = h.counts; starts = h.starts; drawn = h.drawn; time = h.time; clock = h.clock; line = h.line }
@@ -170,8 +185,14 @@ off_bounded : (n : ℕ) (s : State) (id : Id) (x : HandleRecord) → IsBounded n
 off_bounded n s id x h = record { counts = h.counts; starts = h.starts; drawn = h.drawn; time = h.time; clock = h.clock; line = h.line }
 
 kept_in : (n : ℕ) (s : State) (id : Id) (x : HandleRecord) → IsBounded n s → StartsBefore s.next_start x → IsBounded n (with_handle s id x)
-kept_in n s id x h b = record { counts = h.counts; starts = h.starts; drawn = drawn_set s.next_start s.arena.slots id.slot _ h.drawn b; time = h.time;
-    clock = h.clock; line = h.line }
+kept_in n s id x h b = record {
+  counts = h.counts;
+  starts = h.starts;
+  drawn = drawn_set s.next_start s.arena.slots id.slot _ h.drawn b;
+  time = h.time;
+  clock = h.clock;
+  line = h.line;
+}
 
 at_clock : (n : ℕ) (s : State) → IsBounded n s → IsBounded n (refreshed s)
 at_clock n s h = record { counts = h.counts; starts = h.starts; drawn = h.drawn; time = h.clock; clock = h.clock; line = h.line }
@@ -181,11 +202,30 @@ flagged n s stop_flag idled h = record { counts = h.counts; starts = h.starts; d
 
 watched_bounded : (n : ℕ) (s : State) (kind : WatcherKind) (w : Walk Id) → IsBounded n s → IsBounded n (with_watched s kind w)
 watched_bounded n s watcher.Idle w h = record { counts = h.counts; starts = h.starts; drawn = h.drawn; time = h.time; clock = h.clock; line = h.line }
-watched_bounded n s watcher.Prepare w h = record { counts = h.counts; starts = h.starts; drawn = h.drawn; time = h.time; clock = h.clock;
-    line = h.line }
-watched_bounded n s watcher.Check w h = record { counts = h.counts; starts = h.starts; drawn = h.drawn; time = h.time; clock = h.clock;
-    line = h.line }
-watched_bounded n s watcher.Async w h = record { counts = h.counts; starts = h.starts; drawn = h.drawn; time = h.time; clock = h.clock; line = h.line }
+watched_bounded n s watcher.Prepare w h = record {
+  counts = h.counts;
+  starts = h.starts;
+  drawn = h.drawn;
+  time = h.time;
+  clock = h.clock;
+  line = h.line;
+}
+watched_bounded n s watcher.Check w h = record {
+  counts = h.counts;
+  starts = h.starts;
+  drawn = h.drawn;
+  time = h.time;
+  clock = h.clock;
+  line = h.line;
+}
+watched_bounded n s watcher.Async w h = record {
+  counts = h.counts;
+  starts = h.starts;
+  drawn = h.drawn;
+  time = h.time;
+  clock = h.clock;
+  line = h.line;
+}
 
 watched_names : (n : ℕ) (s : State) (kind : WatcherKind) (w : Walk Id) → Counts n s.names → Counts n (with_watched s kind w).names
 watched_names n s watcher.Idle w h = h
@@ -194,9 +234,11 @@ watched_names n s watcher.Check w h = h
 watched_names n s watcher.Async w h = h
 
 stopped_bounded : (n : ℕ) (s : State) (id : Id) (x : HandleRecord) → IsBounded n s → IsBounded n (stopped s id x)
-stopped_bounded n s id x h = kept_in n (taken_off s id x) id (records.stopped x) (off_bounded n s id x h) (never s.next_start (records.stopped x) refl)
+stopped_bounded n s id x h = kept_in n (taken_off s id x) id (records.stopped x) (off_bounded n s id x h)
+    (never s.next_start (records.stopped x) refl)
 
-started_bounded : (n : ℕ) (s : State) (id : Id) (x : HandleRecord) (timeout repeat : ℕ) → IsBounded n s → IsBounded (suc n) (started s id x timeout repeat)
+started_bounded : (n : ℕ) (s : State) (id : Id) (x : HandleRecord) (timeout repeat : ℕ) → IsBounded n s
+    → IsBounded (suc n) (started s id x timeout repeat)
 started_bounded n s id x timeout repeat h = record {
   counts = counts_more n s.names h.counts;
   starts = omega arith;
@@ -236,9 +278,11 @@ new_bounded n s v kind id h =
     } in
     let counts = counts_at n s v h.counts in
     renamed (suc n) (ops.listed_last u kind id) v (record (named s v) { id = Some id })
-        (if_keeps (IsBounded (suc n)) (is_async kind) _ u (watched_bounded (suc n) u watcher.Async _ wide) wide) (omega (arith, counts.0), omega (arith, counts.1))
+    (if_keeps (IsBounded (suc n)) (is_async kind) _ u (watched_bounded (suc n) u watcher.Async _ wide) wide)
+    (omega (arith, counts.0), omega (arith, counts.1))
 
-init_bounded : (n : ℕ) (s : State) (v : Var) (kind : Kind) (t : Option (Id × HandleRecord)) → IsBounded n s → IsBounded (suc n) (ops.init s v kind t).state
+init_bounded : (n : ℕ) (s : State) (v : Var) (kind : Kind) (t : Option (Id × HandleRecord)) → IsBounded n s
+    → IsBounded (suc n) (ops.init s v kind t).state
 init_bounded n s v kind (Some t) h = more n s h
 init_bounded n s v kind None h = found_both (next_free s.arena) _ _ (λ (d : ops.Done). IsBounded (suc n) d.state)
     (λ id e. new_bounded n s v kind id h) (λ e. more n s h)
@@ -284,7 +328,14 @@ closed_bounded : (n : ℕ) (s : State) (id : Id) (x : HandleRecord) → IsBounde
 closed_bounded n s id x h =
     let off = off_bounded n s id x h in
     let u = record (taken_off s id x) { closing = with_first s.closing id } in
-    let b : IsBounded n u = record { counts = off.counts; starts = off.starts; drawn = off.drawn; time = off.time; clock = off.clock; line = off.line } in
+    let b : IsBounded n u = record {
+      counts = off.counts;
+      starts = off.starts;
+      drawn = off.drawn;
+      time = off.time;
+      clock = off.clock;
+      line = off.line;
+    } in
     kept_in n u id (records.closed x) b (never s.next_start (records.closed x) refl)
 
 sent_bounded : (n : ℕ) (s : State) (v : Var) → IsBounded n s → IsBounded (suc n) (ops.send s (live s v)).state
@@ -333,7 +384,7 @@ iteration_bounded n s run h l =
 enter_bounded : (n : ℕ) (s : State) (run : Run) → IsBounded n s → run.line ≤ n → StaysBounded (suc n) (enter s run)
 enter_bounded n s run h l = if_keeps (StaysBounded (suc n)) (goes s) _ _
     (if_keeps (StaysBounded (suc n)) (is_default run.mode) _ _
-        (run_at n s (record run { stage = Timers timers_of.Entry Collecting; body = None }) h l) (iteration_bounded n s run h l))
+    (run_at n s (record run { stage = Timers timers_of.Entry Collecting; body = None }) h l) (iteration_bounded n s run h l))
     (ends_bounded n s run h l)
 
 leave_bounded : (n : ℕ) (s : State) (run : Run) (part : TimersOf) → IsBounded n s → run.line ≤ n → StaysBounded (suc n) (leave_timers s run part)
@@ -351,7 +402,7 @@ calls_bounded p n s run kind v what h counts l =
     let x : Named = record (named s v) { calls = counted kind (named s v).calls } in
     let t = with_named s v x in
     placed (suc n) t (Running (record run { body = body_from p kind v (count_of kind x.calls) 0 }))
-        (renamed (suc n) s v x h (counted_up n kind (named s v).calls (counts_at n s v counts))) (omega arith)
+    (renamed (suc n) s v x h (counted_up n kind (named s v).calls (counts_at n s v counts))) (omega arith)
 
 restarted_names : (n : ℕ) (s : State) (id : Id) (x : HandleRecord) → Counts n s.names → Counts n (restarted s id x).names
 restarted_names n s id x h = if_keeps (λ (t : State). Counts n t.names) (x.repeat == 0) s (started s id x x.repeat x.repeat) h h
@@ -360,8 +411,8 @@ fire_bounded : (p : Program) (n : ℕ) (s : State) (run : Run) (part : TimersOf)
     StaysBounded (suc n) (fire p s run part)
 fire_bounded p n s run part h l = found_both (front s s.ready) _ _ (StaysBounded (suc n))
     (λ t e. let u = record s { ready = drop 1 s.ready } in
-      calls_bounded p n (restarted u t.0 t.1) (record run { stage = Timers part Firing }) callback.Handle t.1.name (seen.Call t.1.name t.0)
-      (restarted_bounded n u t.0 t.1 (listed n s s.timers (drop 1 s.ready) h)) (restarted_names n u t.0 t.1 h.counts) l)
+    calls_bounded p n (restarted u t.0 t.1) (record run { stage = Timers part Firing }) callback.Handle t.1.name (seen.Call t.1.name t.0)
+    (restarted_bounded n u t.0 t.1 (listed n s s.timers (drop 1 s.ready) h)) (restarted_names n u t.0 t.1 h.counts) l)
     (λ e. leave_bounded n s run part h l)
 
 collected_bounded : (n : ℕ) (s : State) (id : Id) (x : HandleRecord) → IsBounded n s → IsBounded n (collected s id x)
@@ -377,7 +428,8 @@ timers_bounded p n s run part Collecting h l = found_both (first_due s s.timers)
     (λ e. fire_bounded p n s run part h l)
 timers_bounded p n s run part Firing h l = fire_bounded p n s run part h l
 
-begin_walk_bounded : (n : ℕ) (s : State) (run : Run) (kind : WatcherKind) → IsBounded n s → run.line ≤ n → StaysBounded (suc n) (begin_walk s run kind)
+begin_walk_bounded : (n : ℕ) (s : State) (run : Run) (kind : WatcherKind) → IsBounded n s → run.line ≤ n
+    → StaysBounded (suc n) (begin_walk s run kind)
 begin_walk_bounded n s run kind h l =
     let w = all_yet (watched s kind) in
     run_at n (with_watched s kind w) (record run { stage = stage_of kind; body = None }) (watched_bounded n s kind w h) l
@@ -385,17 +437,20 @@ begin_walk_bounded n s run kind h l =
 closing_bounded : (n : ℕ) (s : State) (w : Walk Id) → IsBounded n s → IsBounded n (record s { closing = w })
 closing_bounded n s w h = record { counts = h.counts; starts = h.starts; drawn = h.drawn; time = h.time; clock = h.clock; line = h.line }
 
-after_walk_bounded : (n : ℕ) (s : State) (run : Run) (kind : WatcherKind) → IsBounded n s → run.line ≤ n → StaysBounded (suc n) (after_walk s run kind)
+after_walk_bounded : (n : ℕ) (s : State) (run : Run) (kind : WatcherKind) → IsBounded n s → run.line ≤ n
+    → StaysBounded (suc n) (after_walk s run kind)
 after_walk_bounded n s run watcher.Idle h l = begin_walk_bounded n s run watcher.Prepare h l
 after_walk_bounded n s run watcher.Prepare h l = run_at n s (record run { stage = _; body = None }) h l
 after_walk_bounded n s run watcher.Check h l =
     run_at n (record s { closing = all_yet s.closing }) (record run { stage = Closing; body = None }) (closing_bounded n s (all_yet s.closing) h) l
 after_walk_bounded n s run watcher.Async h l = begin_walk_bounded n s run watcher.Check h l
 
-walk_bounded : (p : Program) (n : ℕ) (s : State) (run : Run) (kind : WatcherKind) → IsBounded n s → run.line ≤ n → StaysBounded (suc n) (walk p s run kind)
+walk_bounded : (p : Program) (n : ℕ) (s : State) (run : Run) (kind : WatcherKind) → IsBounded n s → run.line ≤ n
+    → StaysBounded (suc n) (walk p s run kind)
 walk_bounded p n s run kind h l = found_both (front s (watched s kind).yet) _ _ (StaysBounded (suc n))
     (λ t e. let u = front_moved s kind t.0 in
-      calls_bounded p n u run callback.Handle t.1.name (seen.Call t.1.name t.0) (more n u (watched_bounded n s kind _ h)) (watched_names n s kind _ h.counts) l)
+    calls_bounded p n u run callback.Handle t.1.name (seen.Call t.1.name t.0) (more n u (watched_bounded n s kind _ h))
+    (watched_names n s kind _ h.counts) l)
     (λ e. after_walk_bounded n s run kind h l)
 
 front_before : (n : ℕ) (s : State) (ids : List Id) (t : Id × HandleRecord) → front s ids ≡ Some t → Drawn n s.arena.slots → StartsBefore n t.1
@@ -405,21 +460,30 @@ front_before n s (id ∷ ids) t e h = subst (LiveBefore n) e (live_id_before n s
 async_bounded : (p : Program) (n : ℕ) (s : State) (run : Run) → IsBounded n s → run.line ≤ n → StaysBounded (suc n) (walk_async p s run)
 async_bounded p n s run h l = found_both (front s s.async.yet) _ _ (StaysBounded (suc n))
     (λ t e. let u = front_moved s watcher.Async t.0 in
-      let b = watched_bounded n s watcher.Async _ h in
-      let x = with_handle u t.0 (records.woken t.1) in
-      if_keeps (StaysBounded (suc n)) t.1.pending _ _
-      (calls_bounded p n x run callback.Handle t.1.name (seen.Call t.1.name t.0) (more n x (kept_in n u t.0 (records.woken t.1) b (front_before s.next_start s s.async.yet t e h.drawn))) h.counts l)
-      (run_at n u (record run { stage = Async; body = None }) b l))
+    let b = watched_bounded n s watcher.Async _ h in
+    let x = with_handle u t.0 (records.woken t.1) in
+    if_keeps (StaysBounded (suc n)) t.1.pending _ _
+    (calls_bounded p n x run callback.Handle t.1.name (seen.Call t.1.name t.0)
+    (more n x (kept_in n u t.0 (records.woken t.1) b (front_before s.next_start s s.async.yet t e h.drawn))) h.counts l)
+    (run_at n u (record run { stage = Async; body = None }) b l))
     (λ e. after_walk_bounded n s run watcher.Async h l)
 
 freed_drawn : (n : ℕ) (last : ℕ) (id : Id) (s : Slots Content) → Drawn n s.slots → Drawn n (freed last id s).slots
-freed_drawn n last id s h = if_keeps (λ (u : Slots Content). Drawn n u.slots) (id.generation == last) _ _ (drawn_set n s.slots id.slot _ h tt) (drawn_set n s.slots id.slot _ h tt)
+freed_drawn n last id s h = if_keeps (λ (u : Slots Content). Drawn n u.slots) (id.generation == last) _ _ (drawn_set n s.slots id.slot _ h tt)
+    (drawn_set n s.slots id.slot _ h tt)
 
 close_bounded : (p : Program) (n : ℕ) (s : State) (run : Run) → IsBounded n s → run.line ≤ n → StaysBounded (suc n) (close_front p s run)
 close_bounded p n s run h l = found_both (front s s.closing.yet) _ _ (StaysBounded (suc n))
     (λ t e. let u = record s { arena = freed LAST_GENERATION t.0 s.arena; closing = record s.closing { yet = drop 1 s.closing.yet } } in
-      let b : IsBounded n u = record { counts = h.counts; starts = h.starts; drawn = freed_drawn s.next_start LAST_GENERATION t.0 s.arena h.drawn; time = h.time; clock = h.clock; line = h.line } in
-      calls_bounded p n u run callback.Close t.1.name (seen.Closed t.1.name t.0) (more n u b) h.counts l)
+    let b : IsBounded n u = record {
+      counts = h.counts;
+      starts = h.starts;
+      drawn = freed_drawn s.next_start LAST_GENERATION t.0 s.arena h.drawn;
+      time = h.time;
+      clock = h.clock;
+      line = h.line;
+    } in
+    calls_bounded p n u run callback.Close t.1.name (seen.Closed t.1.name t.0) (more n u b) h.counts l)
     (λ e. run_at n (refreshed s) (record run { stage = Timers timers_of.Iteration Collecting; body = None }) (at_clock n s h) l)
 
 stage_bounded : (p : Program) (n : ℕ) (s : State) (run : Run) (stage : Stage) → IsBounded n s → run.line ≤ n →
@@ -461,7 +525,7 @@ place_bounded p n s (Running run) h l = run_bounded p n s run run.body h l
 tick_bounded : (n : ℕ) (s : State) (ms : ℕ) → IsBounded n s → StaysBounded (suc n) (tick s ms)
 tick_bounded n s ms h = cond_both (nat_le (s.clock + ms) (2 ^ 62)) _ _ (StaysBounded (suc n))
     (λ e. let m = more n s h in let small : s.clock + ms ≤ 2 ^ 62 = grind
-        (arith, nat_tests, e) in record { counts = m.counts; starts = m.starts; drawn = m.drawn; time = m.time; clock = small; line = m.line })
+    (arith, nat_tests, e) in record { counts = m.counts; starts = m.starts; drawn = m.drawn; time = m.time; clock = small; line = m.line })
     (λ e. tt)
 
 sent_to_bounded : (n : ℕ) (s : State) (v : Var) → IsBounded n s → StaysBounded (suc n) (sent_to s v)
@@ -494,12 +558,27 @@ fresh_names n = grind (arith, elements)
 after_bounded : (p : Program) (es : List Event) → IsBounded (length es) (after p es)
 unfolding after
 after_bounded p es = rw (← zero-add (length es))
-    (goes_on_bounded p 0 (fresh p) es (record { counts = fresh_names (length p.callbacks); starts = omega arith; drawn = λ k d l. absurd
-    (omega arith); time = omega arith; clock = omega arith; line = omega arith }))
+    (goes_on_bounded p 0 (fresh p) es (record {
+      counts = fresh_names (length p.callbacks);
+      starts = omega arith;
+      drawn = λ k d l. absurd
+          (omega arith);
+      time = omega arith;
+      clock = omega arith;
+      line = omega arith;
+    }))
 
 -- after few steps the numbers fit, and the timers' keys are apart
 pub after_able : (p : Program) (es : List Event) → length es ≤ 2 ^ 24 → CanStep (after p es)
 after_able p es l =
     let h = after_bounded p es in
-    record { small = record { counts = λ k d i. omega
-        (arith, h.counts k d i); starts = omega arith; time = omega arith; line = omega arith }; drawn = h.drawn }
+    record {
+      small = record {
+        counts = λ k d i. omega
+            (arith, h.counts k d i);
+        starts = omega arith;
+        time = omega arith;
+        line = omega arith;
+      };
+      drawn = h.drawn;
+    }

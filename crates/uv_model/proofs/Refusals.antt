@@ -1,5 +1,5 @@
--- Which steps are refused: those past the main program's end, those in a poll that can't be left yet, sends to names that aren't there, and a clock past
--- its limit. All others are taken.
+-- Which steps are refused: those past the main program's end, those in a poll that can't be left yet, sends to names
+-- that aren't there, and a clock past its limit. All others are taken.
 use Rattle.std.proofs.Common.{◌≡◌, ℕ, ◌&&◌, Option, Some, None, List, slice_get, refl, if◌then◌else◌}
 use Rattle.std.proofs.lemmas.Bool.{cond_both}
 use Rattle.uv_ids.specs.declared.id.Id.{Id}

@@ -19,7 +19,7 @@ use Rattle.uv_model.proofs.Order.{without-with_timer, another}
 swapped : (ts : List (Due × Id)) (active : Bool) (old new : Due) (id : Id) → IsStrictlySortedBy due_cmp (keys_of ts) →
     (active ≡ true → old.start < new.start) →
     (if active then without_timer (with_timer ts new id) old else with_timer ts new id) ≡ with_timer
-        (if active then without_timer ts old else ts) new id
+    (if active then without_timer ts old else ts) new id
 swapped ts true old new id s l = without-with_timer ts old new id s (another old new (l refl))
 swapped ts false old new id s l = refl
 
@@ -30,7 +30,8 @@ both_true a b e = rw e refl
 abbrev pub drawn_one : State → State
 drawn_one s = record s { next_start = s.next_start + 1 }
 
-pub started_again : (s : State) (id : Id) (h : HandleRecord) (timeout repeat : ℕ) → IsStrictlySortedBy due_cmp (keys_of s.timers) → is_timer h.kind ≡ true →
+pub started_again : (s : State) (id : Id) (h : HandleRecord) (timeout repeat : ℕ) → IsStrictlySortedBy due_cmp (keys_of s.timers)
+    → is_timer h.kind ≡ true →
     StartsBefore s.next_start h →
     with_handle
     (drawn_one (taken_off (record s { timers = with_timer s.timers (due_after s timeout) id }) id h))
@@ -40,6 +41,7 @@ pub started_again : (s : State) (id : Id) (h : HandleRecord) (timeout repeat : �
 started_again s id h timeout repeat sorted timer before =
     let u = taken_off s id h in
     rw (both_true (is_timer h.kind) h.active timer) (
-    ap₂ (λ (ts : List (Due × Id)) (slots : List (Slot Content)). record u { timers = ts; next_start = s.next_start + 1; arena = record s.arena { slots = slots } })
+    ap₂ (λ (ts : List (Due × Id)) (slots : List (Slot Content)). record u
+    { timers = ts; next_start = s.next_start + 1; arena = record s.arena { slots = slots } })
     (swapped s.timers h.active h.due (due_after s timeout) id sorted (before timer))
     (sym (set-set s.arena.slots id.slot _ _)))

@@ -126,7 +126,8 @@ abbrev pub calls : Program → State → Run → Callback → Var → Seen → N
 calls p s run kind v line =
     let counts = counted kind (named s v).calls in
     Moves
-    (record (with_named s v (record (named s v) { calls = counts })) { place = Running (record run { body = body_from p kind v (count_of kind counts) 0 }) })
+    (record (with_named s v (record (named s v) { calls = counts }))
+    { place = Running (record run { body = body_from p kind v (count_of kind counts) 0 }) })
     (Some line)
 
 -- the callback of a handle begins
@@ -194,17 +195,17 @@ walk p s run kind = found_or (front s (watched s kind).yet)
 abbrev pub walk_async : Program → State → Run → Next
 walk_async p s run = found_or (front s s.async.yet)
     (λ t.
-      let moved = front_moved s watcher.Async t.0 in
-      if t.1.pending then call p (with_handle moved t.0 (records.woken t.1)) run t.0 t.1.name
-      else Moves (at moved run Async) None)
+    let moved = front_moved s watcher.Async t.0 in
+    if t.1.pending then call p (with_handle moved t.0 (records.woken t.1)) run t.0 t.1.name
+    else Moves (at moved run Async) None)
     (after_walk s run watcher.Async)
 
 -- the front of the closing handles leaves its list, its slot is freed and its close callback begins; with none the timers begin
 abbrev pub close_front : Program → State → Run → Next
 close_front p s run = found_or (front s s.closing.yet)
     (λ t.
-      let gone = record s { arena = freed LAST_GENERATION t.0 s.arena; closing = record s.closing { yet = drop 1 s.closing.yet } } in
-      calls p gone run callback.Close t.1.name (seen.Closed t.1.name t.0))
+    let gone = record s { arena = freed LAST_GENERATION t.0 s.arena; closing = record s.closing { yet = drop 1 s.closing.yet } } in
+    calls p gone run callback.Close t.1.name (seen.Closed t.1.name t.0))
     (begin_timers s run)
 
 -- what a run does next where no body is under way

@@ -115,7 +115,10 @@ impl LoopState {
     fn named(&self, name: Var) -> Named
         ensures { result ≡ named self.now name }
     {
-        self.names.get(name.0 as usize).copied().unwrap_or(Named::unbound())
+        self.names
+            .get(name.0 as usize)
+            .copied()
+            .unwrap_or(Named::unbound())
     }
 
     fn set_named(&mut self, name: Var, named: Named)

@@ -37,14 +37,17 @@ found : (kind : Callback) (v : Var) (call n : ℕ) (lines left : List CallbackLi
 found kind v call n lines [] e = refl
 found kind v call n lines (x ∷ xs) e = let f = first_left n lines x xs e in let same : n + 1 ≡ suc n = omega arith in let behind : drop
     (n + 1) lines ≡ xs = ap (λ (k : ℕ). drop k lines) same ∙ f.1 in at (is_for call x.call) f.0 behind (found kind v call (n + 1) lines xs behind)
-        where
-  at : (b : Bool) → slice_get lines n ≡ Some x → drop (n + 1) lines ≡ xs →
-      Found lines kind v call (next_line call (n + 1) xs) (sites_from kind v call (n + 1) xs) →
-      Found lines kind v call (if b then Some n else next_line call (n + 1) xs)
-      (if b then site.In kind v n ∷ sites_from kind v call (n + 1) xs else sites_from kind v call (n + 1) xs)
-  at true a b rest = record { line = x; there = a;
-      are = ap (λ (ls : List CallbackLine). site.In kind v n ∷ sites_from kind v call (n + 1) ls) (sym b) }
-  at false a b rest = rest
+  where
+    at : (b : Bool) → slice_get lines n ≡ Some x → drop (n + 1) lines ≡ xs →
+        Found lines kind v call (next_line call (n + 1) xs) (sites_from kind v call (n + 1) xs) →
+        Found lines kind v call (if b then Some n else next_line call (n + 1) xs)
+        (if b then site.In kind v n ∷ sites_from kind v call (n + 1) xs else sites_from kind v call (n + 1) xs)
+    at true a b rest = record {
+      line = x;
+      there = a;
+      are = ap (λ (ls : List CallbackLine). site.In kind v n ∷ sites_from kind v call (n + 1) ls) (sym b);
+    }
+    at false a b rest = rest
 
 as_body : (p : Program) (kind : Callback) (v : Var) (call : ℕ) (o : Option ℕ) (sites : List Site) → Found (lines_in p kind v) kind v call o sites →
     IsBody p (body_at kind v call o) sites

@@ -42,8 +42,10 @@ none_told callback.Handle v = refl
 none_told callback.Close v = refl
 
 pub counted_fresh : (p : Program) → Counted p (fresh p).names nothing_told
-counted_fresh p = record { long = replicate_long (length p.callbacks);
-    calls = λ kind v l. no_calls kind (length p.callbacks) v.0 ∙ sym (none_told kind v) }
+counted_fresh p = record {
+  long = replicate_long (length p.callbacks);
+  calls = λ kind v l. no_calls kind (length p.callbacks) v.0 ∙ sym (none_told kind v);
+}
 
 set_here : (names : List Named) (i : ℕ) (x : Named) → i < length names → (unwrap_or (slice_get (slice_set names i x) i) unbound).calls ≡ x.calls
 set_here [] i x l = absurd (omega arith)
@@ -88,13 +90,13 @@ counted_call p names told kind v x e k = record { long = set_long names v.0 x �
       let here : v.0 ≡ u.0 = eqb-true v.0 u.0 f in
       let within : v.0 < length names = rw (here, k.long) l in
       let one : count_of other (counts_in names v) ≡ times (told_of other told) u =
-          ap (λ (i : ℕ). count_of other (unwrap_or (slice_get names i) unbound).calls) here ∙ k.calls other u l in
+      ap (λ (i : ℕ). count_of other (unwrap_or (slice_get names i) unbound).calls) here ∙ k.calls other u l in
       ap (λ (i : ℕ). count_of other (unwrap_or (slice_get (slice_set names v.0 x) i) unbound).calls) (sym here)
       ∙ ap (count_of other) (set_here names v.0 x within ∙ e) ∙ told_more kind other v u told (counts_in names v) f one
   at other u l false f =
       let apart : u.0 ≡ v.0 → ⊥ = λ g. both_ways (v.0 == u.0) f (eq-eqb v.0 u.0 (sym g)) in
       ap (λ (o : Option Named). count_of other (unwrap_or o unbound).calls) (set_there names v.0 u.0 x apart) ∙ k.calls other u l ∙ sym (told_same
-          kind other v u told f)
+      kind other v u told f)
 
 -- a name without lines has the same body in each call
 past : (all : List Callbacks) (i : ℕ) → length all ≤ i → unwrap_or (slice_get all i) no_callbacks ≡ no_callbacks
@@ -116,7 +118,7 @@ no_body p kind v call e = rw e refl
 pub next_body : (p : Program) (names : List Named) (told : Told) (kind : Callback) (v : Var) (call : ℕ) → call ≡ count_of kind (counts_in names v) +
     1 →
     Counted p names told → IsBody p (body_from p kind v call 0) (body_of p kind v (next_call told kind v))
-next_body p names told kind v call e k = elim (cases_lt v.0 (length p.callbacks)) [ | inl l ↦ within l | inr l ↦ beyond l ] where
+next_body p names told kind v call e k = elim (cases_lt v.0 (length p.callbacks)) [ inl l ↦ within l | inr l ↦ beyond l ] where
   within : v.0 < length p.callbacks → IsBody p (body_from p kind v call 0) (body_of p kind v (next_call told kind v))
   within l = subst (λ (n : ℕ). IsBody p (body_from p kind v call 0) (body_of p kind v n)) (e ∙ ap (λ (n : ℕ). n + 1) (k.calls kind v l)) (whole_body
       p kind v call)

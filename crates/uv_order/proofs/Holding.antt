@@ -139,7 +139,7 @@ emptied_other slots id i h generation e d = by (i.slot == id.slot) refl where
       let here : i.slot ≡ id.slot = eqb-true i.slot id.slot f in
       let apart : k.slot.generation ≡ i.generation → ⊥ = λ g. d (same i id (ids_alike i id here (sym g ∙ k.generation))) in
       let after : slice_get (emptied slots id generation) i.slot ≡ Some (record { generation = generation; content = None }) =
-          rw here (get_set_same slots id.slot (record { generation = generation; content = None }) k.slot k.there) in
+      rw here (get_set_same slots id.slot (record { generation = generation; content = None }) k.slot k.there) in
       let before : slice_get slots i.slot ≡ Some k.slot = rw here k.there in
       ap (look i) after ∙ nothing_in i generation ∙ sym (ap (look i) before ∙ other_generation i k.slot apart)
 
@@ -172,10 +172,15 @@ none_at_end [] = refl
 none_at_end (s ∷ slots) = none_at_end slots
 
 -- the next unused slot
-pub grown_push : (slots : List (Slot Content)) (x : HandleRecord) → Grown slots (slots ++ slot_of (record { slot = length slots;
-    generation = 0 }) x ∷ []) (record { slot = length slots; generation = 0 }) x
-grown_push slots x = record { here = ap (look id) (at_end slots y) ∙ in_slot id y refl;
-    others = λ i d. by i d (slice_get slots i.slot) refl (slice_get (slots ++ y ∷ []) i.slot) refl; new = ap (look id) (none_at_end slots) } where
+pub grown_push : (slots : List (Slot Content)) (x : HandleRecord) → Grown slots (slots ++ slot_of (record {
+  slot = length slots;
+  generation = 0;
+}) x ∷ []) (record { slot = length slots; generation = 0 }) x
+grown_push slots x = record {
+  here = ap (look id) (at_end slots y) ∙ in_slot id y refl;
+  others = λ i d. by i d (slice_get slots i.slot) refl (slice_get (slots ++ y ∷ []) i.slot) refl;
+  new = ap (look id) (none_at_end slots);
+} where
   id : Id
   id = record { slot = length slots; generation = 0 }
 
@@ -190,7 +195,7 @@ grown_push slots x = record { here = ap (look id) (at_end slots y) ∙ in_slot i
   by i d None e (Some z) f =
       let end = past_end slots y z i.slot e f in
       let apart : z.generation ≡ i.generation → ⊥ = λ g. d (same i id (ids_alike i id end.0 (sym g ∙ ap (λ (s : Slot Content). s.generation) (sym
-          end.1)))) in
+      end.1)))) in
       ap (look i) f ∙ other_generation i z apart ∙ sym (ap (look i) e)
 
 -- an empty slot that was used
@@ -219,8 +224,12 @@ pub fits_put : (slots : List (Slot Content)) (P : HandleRecord → Type 0) (id :
     Fits slots P i → Fits (put slots id x) P i
 fits_put slots P id h x e f i k = at (same_id i id) refl where
   at : (b : Bool) → same_id i id ≡ b → Fits (put slots id x) P i
-  at true s = let is = same i id s in record { handle = x; holds = ap (held_at (put slots id x)) is ∙ put_same slots id h x e; fits = f
-      (its_handle slots P id h e (subst (Fits slots P) is k)) }
+  at true s = let is = same i id s in record {
+    handle = x;
+    holds = ap (held_at (put slots id x)) is ∙ put_same slots id h x e;
+    fits = f
+        (its_handle slots P id h e (subst (Fits slots P) is k));
+  }
   at false s = record { handle = k.handle; holds = put_other slots id i h x e (other i id s) ∙ k.holds; fits = k.fits }
 
 pub fits_other : (slots : List (Slot Content)) (P : HandleRecord → Type 0) (id : Id) (h x : HandleRecord) → held_at slots id ≡ Some h → (i : Id) →
@@ -242,8 +251,12 @@ fits_back slots P id h x e g i l = at (same_id i id) refl where
   at : (b : Bool) → same_id i id ≡ b → Fits slots P i
   at true s =
       let is = same i id s in
-      record { handle = h; holds = ap (held_at slots) is ∙ e; fits = g
-          (its_handle (put slots id x) P id x (put_same slots id h x e) (subst (Fits (put slots id x) P) is l)) }
+      record {
+        handle = h;
+        holds = ap (held_at slots) is ∙ e;
+        fits = g
+            (its_handle (put slots id x) P id x (put_same slots id h x e) (subst (Fits (put slots id x) P) is l));
+      }
   at false s = fitted slots P id h x e i (other i id s) l
 
 -- ---- lists of such ids, on which none stands twice
@@ -255,14 +268,20 @@ pub record Lists (slots : List (Slot Content)) (P : HandleRecord → Type 0) (id
 pub lists_put : (slots : List (Slot Content)) (P : HandleRecord → Type 0) (id : Id) (h x : HandleRecord) (ids : List Id) → held_at slots id ≡ Some h
     → (P h → P x) →
     Lists slots P ids → Lists (put slots id x) P ids
-lists_put slots P id h x ids e f k = record { each = each_mapped (Fits slots P) (Fits (put slots id x) P)
-    (fits_put slots P id h x e f) ids k.each; distinct = k.distinct }
+lists_put slots P id h x ids e f k = record {
+  each = each_mapped (Fits slots P) (Fits (put slots id x) P)
+      (fits_put slots P id h x e f) ids k.each;
+  distinct = k.distinct;
+}
 
 pub lists_without : (slots : List (Slot Content)) (P : HandleRecord → Type 0) (id : Id) (h x : HandleRecord) (ids : List Id) → held_at slots id ≡
     Some h →
     Lists slots P ids → Lists (put slots id x) P (without_id ids id)
-lists_without slots P id h x ids e k = record { each = each_without (Fits slots P) (Fits (put slots id x) P) id
-    (λ i d f. fits_other slots P id h x e i d f) ids k.each; distinct = distinct_without ids id k.distinct }
+lists_without slots P id h x ids e k = record {
+  each = each_without (Fits slots P) (Fits (put slots id x) P) id
+      (λ i d f. fits_other slots P id h x e i d f) ids k.each;
+  distinct = distinct_without ids id k.distinct;
+}
 
 -- a handle that doesn't fit is on no such list
 pub not_listed : (slots : List (Slot Content)) (P : HandleRecord → Type 0) (id : Id) (h : HandleRecord) (ids : List Id) → held_at slots id ≡ Some h
@@ -280,15 +299,21 @@ pub record Everyone (slots : List (Slot Content)) (P : HandleRecord → Type 0) 
 pub everyone_put : (slots : List (Slot Content)) (P : HandleRecord → Type 0) (id : Id) (h x : HandleRecord) (ids : List Id) → held_at slots id ≡
     Some h →
     (P h → P x) → (P x → P h) → Everyone slots P ids → Everyone (put slots id x) P ids
-everyone_put slots P id h x ids e f g k = record { lists = lists_put slots P id h x ids e f k.lists; all = λ i l. k.all i
-    (fits_back slots P id h x e g i l) }
+everyone_put slots P id h x ids e f g k = record {
+  lists = lists_put slots P id h x ids e f k.lists;
+  all = λ i l. k.all i
+      (fits_back slots P id h x e g i l);
+}
 
 -- one that doesn't fit any more is taken off
 pub everyone_without : (slots : List (Slot Content)) (P : HandleRecord → Type 0) (id : Id) (h x : HandleRecord) (ids : List Id) → held_at slots id ≡
     Some h →
     (P x → ⊥) → Everyone slots P ids → Everyone (put slots id x) P (without_id ids id)
-everyone_without slots P id h x ids e g k = record { lists = lists_without slots P id h x ids e k.lists; all = λ i l. at i l
-    (same_id i id) refl } where
+everyone_without slots P id h x ids e g k = record {
+  lists = lists_without slots P id h x ids e k.lists;
+  all = λ i l. at i l
+      (same_id i id) refl;
+} where
   at : (i : Id) → Fits (put slots id x) P i → (b : Bool) → same_id i id ≡ b → has_id (without_id ids id) i ≡ true
   at i l true s = absurd (g (its_handle (put slots id x) P id x (put_same slots id h x e) (subst (Fits (put slots id x) P) (same i id s) l)))
   at i l false s = still_there ids id i s (k.all i (fitted slots P id h x e i (other i id s) l))
@@ -300,21 +325,24 @@ pub everyone_front : (slots : List (Slot Content)) (P : HandleRecord → Type 0)
 everyone_front slots P id h x ids e f g k =
     let away : has_id ids id ≡ false = not_listed slots P id h ids e f k.lists in
     let rest : Lists (put slots id x) P ids = subst (Lists (put slots id x) P) (without_absent ids id away)
-        (lists_without slots P id h x ids e k.lists) in
+    (lists_without slots P id h x ids e k.lists) in
     record {
       lists = record { each = (record { handle = x; holds = put_same slots id h x e; fits = g }, rest.each); distinct = (away, rest.distinct) };
       all = λ i l. at i l (same_id i id) refl;
     } where
-  at : (i : Id) → Fits (put slots id x) P i → (b : Bool) → same_id i id ≡ b → has_id (id ∷ ids) i ≡ true
-  at i l true s = rw (turned id i, s) refl
-  at i l false s = rw (turned id i, s) (k.all i (fitted slots P id h x e i (other i id s) l))
+      at : (i : Id) → Fits (put slots id x) P i → (b : Bool) → same_id i id ≡ b → has_id (id ∷ ids) i ≡ true
+      at i l true s = rw (turned id i, s) refl
+      at i l false s = rw (turned id i, s) (k.all i (fitted slots P id h x e i (other i id s) l))
 
 -- ---- one handle more, or one less
 
 pub fits_grown : (slots more : List (Slot Content)) (P : HandleRecord → Type 0) (id : Id) (x : HandleRecord) → Grown slots more id x → (i : Id) →
     Fits slots P i → Fits more P i
-fits_grown slots more P id x g i k = record { handle = k.handle; holds = g.others i (λ e. clash (ap (held_at slots) (sym e) ∙ k.holds)) ∙ k.holds;
-    fits = k.fits } where
+fits_grown slots more P id x g i k = record {
+  handle = k.handle;
+  holds = g.others i (λ e. clash (ap (held_at slots) (sym e) ∙ k.holds)) ∙ k.holds;
+  fits = k.fits;
+} where
   clash : held_at slots id ≡ Some k.handle → ⊥
   clash e = cc (sym g.new ∙ e)
 
@@ -330,15 +358,17 @@ fitted_grown slots more P id x g i l = by (same_id i id) refl where
 pub lists_grown : (slots more : List (Slot Content)) (P : HandleRecord → Type 0) (id : Id) (x : HandleRecord) (ids : List Id) → Grown slots more id
     x →
     Lists slots P ids → Lists more P ids
-lists_grown slots more P id x ids g k = record { each = each_mapped (Fits slots P) (Fits more P) (fits_grown slots more P id x g) ids k.each;
-    distinct = k.distinct }
+lists_grown slots more P id x ids g k = record {
+  each = each_mapped (Fits slots P) (Fits more P) (fits_grown slots more P id x g) ids k.each;
+  distinct = k.distinct;
+}
 
 pub everyone_grown : (slots more : List (Slot Content)) (P : HandleRecord → Type 0) (id : Id) (x : HandleRecord) (ids : List Id) → Grown slots more
     id x → (P x → ⊥) →
     Everyone slots P ids → Everyone more P ids
 everyone_grown slots more P id x ids g d k = record {
   lists = lists_grown slots more P id x ids g k.lists;
-  all = λ i l. elim (fitted_grown slots more P id x g i l) [ | inl new ↦ absurd (d new.1) | inr old ↦ k.all i old ];
+  all = λ i l. elim (fitted_grown slots more P id x g i l) [ inl new ↦ absurd (d new.1) | inr old ↦ k.all i old ];
 }
 
 -- the new one is listed, anywhere
@@ -347,8 +377,11 @@ pub everyone_listed : (slots more : List (Slot Content)) (P : HandleRecord → T
     Everyone slots P (xs ++ ys) → Everyone more P (xs ++ id ∷ ys)
 everyone_listed slots more P id x xs ys g fits k = record {
   lists = record {
-    each = each_middle (Fits more P) xs ys id (record { handle = x; holds = g.here;
-        fits = fits }) (lists_grown slots more P id x (xs ++ ys) g k.lists).each;
+    each = each_middle (Fits more P) xs ys id (record {
+      handle = x;
+      holds = g.here;
+      fits = fits;
+    }) (lists_grown slots more P id x (xs ++ ys) g k.lists).each;
     distinct = distinct_middle xs ys id k.lists.distinct (absent (Fits slots P) id (λ f. clash f.handle f.holds) (xs ++ ys) k.lists.each);
   };
   all = λ i l. elim (fitted_grown slots more P id x g i l) [
@@ -368,8 +401,14 @@ fits_emptied slots P id h n e i d k = record { handle = k.handle; holds = emptie
 pub fitted_emptied : (slots : List (Slot Content)) (P : HandleRecord → Type 0) (id : Id) (h : HandleRecord) (n : ℕ) → held_at slots id ≡ Some h → (i
     : Id) →
     Fits (emptied slots id n) P i → (i ≡ id → ⊥) × Fits slots P i
-fitted_emptied slots P id h n e i l = (apart, record { handle = l.handle; holds = sym (emptied_other slots id i h n e apart) ∙ l.holds;
-    fits = l.fits }) where
+fitted_emptied slots P id h n e i l = (
+  apart,
+  record {
+    handle = l.handle;
+    holds = sym (emptied_other slots id i h n e apart) ∙ l.holds;
+    fits = l.fits;
+  },
+) where
   clash : held_at (emptied slots id n) id ≡ Some l.handle → ⊥
   clash f = cc (sym (emptied_same slots id h n e) ∙ f)
 
@@ -388,8 +427,10 @@ lists_emptied slots P id h n ids e d k = record {
 pub everyone_emptied : (slots : List (Slot Content)) (P : HandleRecord → Type 0) (id : Id) (h : HandleRecord) (n : ℕ) (ids : List Id) → held_at
     slots id ≡ Some h → (P h → ⊥) →
     Everyone slots P ids → Everyone (emptied slots id n) P ids
-everyone_emptied slots P id h n ids e d k = record { lists = lists_emptied slots P id h n ids e d k.lists;
-    all = λ i l. k.all i (fitted_emptied slots P id h n e i l).1 }
+everyone_emptied slots P id h n ids e d k = record {
+  lists = lists_emptied slots P id h n ids e d k.lists;
+  all = λ i l. k.all i (fitted_emptied slots P id h n e i l).1;
+}
 
 -- the one whose slot is emptied is the first of a list, and leaves it
 pub everyone_rest : (slots : List (Slot Content)) (P : HandleRecord → Type 0) (id : Id) (h : HandleRecord) (n : ℕ) (xs ys : List Id) → held_at slots
@@ -433,9 +474,11 @@ pub times_without : (slots : List (Slot Content)) (drawn : ℕ) (ts : List (Due 
 times_without slots drawn ts key id h x e a off k = record {
   each = λ other_key i l.
       let m = had ts key other_key i k.sorted l in
-      let n = k.each other_key i m.0 in
-      (fits_other slots (IsSet other_key) id h x e i
-          (λ is. m.1 (sym (its_handle slots (IsSet other_key) id h e (subst (Fits slots (IsSet other_key)) is n.0)).due ∙ a.due)) n.0, n.1);
+      let n = k.each other_key i m.0 in (
+        fits_other slots (IsSet other_key) id h x e i
+            (λ is. m.1 (sym (its_handle slots (IsSet other_key) id h e (subst (Fits slots (IsSet other_key)) is n.0)).due ∙ a.due)) n.0,
+        n.1,
+      );
   all = λ other_key i l. let d = not_it other_key i l in still_has ts key other_key i
       (k.all other_key i (fitted slots (IsSet other_key) id h x e i d l))
       (λ same_key. d (one_id ts key i id k.sorted
@@ -451,9 +494,11 @@ times_without slots drawn ts key id h x e a off k = record {
 pub times_rest : (slots : List (Slot Content)) (drawn : ℕ) (t : Due × Id) (ts : List (Due × Id)) (h x : HandleRecord) → held_at slots t.1 ≡ Some h →
     x.active ≡ false → Times slots drawn (t ∷ ts) → Times (put slots t.1 x) drawn ts
 times_rest slots drawn t ts h x e off k = record {
-  each = λ key i l. let n = k.each key i (inr l) in
-      (fits_other slots (IsSet key) t.1 h x e i
-      (λ is. not_before_itself t.0 key (same_key key i is n.0) (before_each ts t.0 key i k.sorted.0 l)) n.0, n.1);
+  each = λ key i l. let n = k.each key i (inr l) in (
+    fits_other slots (IsSet key) t.1 h x e i
+        (λ is. not_before_itself t.0 key (same_key key i is n.0) (before_each ts t.0 key i k.sorted.0 l)) n.0,
+    n.1,
+  );
   all = λ key i l. behind key i (not_it key i l) (k.all key i (fitted slots (IsSet key) t.1 h x e i (not_it key i l) l));
   sorted = k.sorted.1;
 } where
@@ -478,9 +523,12 @@ pub times_with : (slots : List (Slot Content)) (drawn more : ℕ) (ts : List (Du
     h.active ≡ false → IsSet key x → key.start ≡ drawn → drawn < more → Times slots drawn ts → Times (put slots id x) more (with_timer ts key id)
 times_with slots drawn more ts key id h x e off a number less k = record {
   each = λ other_key i l. elim (new_or_old ts key other_key id i fresh l) [
-    | inl new ↦ (subst (Fits (put slots id x) (IsSet other_key)) new.1
-        (record { handle = x; holds = put_same slots id h x e; fits = subst (λ (q : Due). IsSet q x) new.0 a }), subst
-        (λ (q : Due). q.start < more) new.0 (rw number less))
+    | inl new ↦ (
+      subst (Fits (put slots id x) (IsSet other_key)) new.1
+          (record { handle = x; holds = put_same slots id h x e; fits = subst (λ (q : Due). IsSet q x) new.0 a }),
+      subst
+          (λ (q : Due). q.start < more) new.0 (rw number less),
+    )
     | inr old ↦ let m = k.each other_key i old in
         (fits_put slots (IsSet other_key) id h x e (λ b. absurd (on_and_off h b.active off)) i m.0, omega (arith, m.1, less))
   ];
@@ -497,9 +545,9 @@ times_with slots drawn more ts key id h x e off a number less k = record {
   at other_key i l true s =
       let is = same i id s in
       let due : x.due ≡ other_key = (its_handle (put slots id x) (IsSet other_key) id x (put_same slots id h x e)
-          (subst (Fits (put slots id x) (IsSet other_key)) is l)).due in
+      (subst (Fits (put slots id x) (IsSet other_key)) is l)).due in
       subst (λ (q : Due). Has (with_timer ts key id) q i) (sym a.due ∙ due)
-          (subst (Has (with_timer ts key id) key) (sym is) (has_new ts key id fresh))
+      (subst (Has (with_timer ts key id) key) (sym is) (has_new ts key id fresh))
   at other_key i l false s = has_old ts key other_key id i fresh (k.all other_key i (fitted slots (IsSet other_key) id h x e i (other i id s) l))
 
 -- one handle more, which is no active timer
@@ -508,7 +556,7 @@ pub times_grown : (slots more : List (Slot Content)) (drawn : ℕ) (ts : List (D
     Times slots drawn ts → Times more drawn ts
 times_grown slots more drawn ts id x g d k = record {
   each = λ key i l. let m = k.each key i l in (fits_grown slots more (IsSet key) id x g i m.0, m.1);
-  all = λ key i l. elim (fitted_grown slots more (IsSet key) id x g i l) [ | inl new ↦ absurd (d key new.1) | inr old ↦ k.all key i old ];
+  all = λ key i l. elim (fitted_grown slots more (IsSet key) id x g i l) [ inl new ↦ absurd (d key new.1) | inr old ↦ k.all key i old ];
   sorted = k.sorted;
 }
 
@@ -518,9 +566,10 @@ pub times_emptied : (slots : List (Slot Content)) (drawn : ℕ) (ts : List (Due 
     ((key : Due) → IsSet key h → ⊥) → Times slots drawn ts → Times (emptied slots id n) drawn ts
 times_emptied slots drawn ts id h n e d k = record {
   each = λ key i l.
-      let m = k.each key i l in
-      (fits_emptied slots (IsSet key) id h n e i (λ is. d key (its_handle slots (IsSet key) id h e (subst (Fits slots (IsSet key)) is m.0))) m.0,
-          m.1);
+      let m = k.each key i l in (
+        fits_emptied slots (IsSet key) id h n e i (λ is. d key (its_handle slots (IsSet key) id h e (subst (Fits slots (IsSet key)) is m.0))) m.0,
+        m.1,
+      );
   all = λ key i l. k.all key i (fitted_emptied slots (IsSet key) id h n e i l).1;
   sorted = k.sorted;
 }

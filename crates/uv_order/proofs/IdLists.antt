@@ -270,5 +270,12 @@ first_left (id ∷ ids) off first more h = at (has_id off id) refl h (first_left
   at false e rest later =
       let one : id ≡ first = cc rest in
       let others : left_of ids off ≡ more = cc rest in
-      record { passed = []; behind = ids; list = ap (λ (i : Id). i ∷ ids) one; off = tt; on = ap (λ (i : Id). has_id off i) (sym one)
-          ∙ e; rest = sym others }
+      record {
+        passed = [];
+        behind = ids;
+        list = ap (λ (i : Id). i ∷ ids) one;
+        off = tt;
+        on = ap (λ (i : Id). has_id off i) (sym one)
+            ∙ e;
+        rest = sym others;
+      }

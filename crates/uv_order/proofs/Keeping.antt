@@ -163,8 +163,11 @@ filled slots id h n e k g =
 
 empty_put : (slots : List (Slot Content)) (id : Id) (h x : HandleRecord) (n : ℕ) → held_at slots id ≡ Some h → IsEmpty slots n → IsEmpty (put slots
     id x) n
-empty_put slots id h x n e k = record { slot = k.slot;
-    there = get_set_other slots id.slot n (slot_of id x) (λ g. filled slots id h n e k g) ∙ k.there; empty = k.empty }
+empty_put slots id h x n e k = record {
+  slot = k.slot;
+  there = get_set_other slots id.slot n (slot_of id x) (λ g. filled slots id h n e k g) ∙ k.there;
+  empty = k.empty;
+}
 
 free_put : (slots : List (Slot Content)) (id : Id) (h x : HandleRecord) (free : List ℕ) → held_at slots id ≡ Some h → AreFree slots free → AreFree
     (put slots id x) free
@@ -173,18 +176,30 @@ free_put slots id h x (n ∷ ns) e k = (empty_put slots id h x n e k.0, k.1, fre
 
 free_push : (slots : List (Slot Content)) (y : Slot Content) (free : List ℕ) → AreFree slots free → AreFree (slots ++ y ∷ []) free
 free_push slots y [] k = tt
-free_push slots y (n ∷ ns) k = (record { slot = k.0.slot; there = get_push slots y k.0.slot n k.0.there;
-    empty = k.0.empty }, k.1, free_push slots y ns k.2)
+free_push slots y (n ∷ ns) k = (
+  record {
+    slot = k.0.slot;
+    there = get_push slots y k.0.slot n k.0.there;
+    empty = k.0.empty;
+  },
+  k.1,
+  free_push slots y ns k.2,
+)
 
 -- a slot that isn't one of these is changed
 free_set : (slots : List (Slot Content)) (i : ℕ) (y : Slot Content) (free : List ℕ) → has_number free i ≡ false → AreFree slots free → AreFree
     (slice_set slots i y) free
 free_set slots i y [] d k = tt
 free_set slots i y (n ∷ ns) d k =
-    let parts = or_parts (n == i) (has_number ns i) d in
-    (record { slot = k.0.slot; there = get_set_other slots i n y (λ g. both_ways (n == i) parts.0 (eq-eqb n i g)) ∙ k.0.there;
-        empty = k.0.empty }, k.1,
-    free_set slots i y ns parts.1 k.2)
+    let parts = or_parts (n == i) (has_number ns i) d in (
+      record {
+        slot = k.0.slot;
+        there = get_set_other slots i n y (λ g. both_ways (n == i) parts.0 (eq-eqb n i g)) ∙ k.0.there;
+        empty = k.0.empty;
+      },
+      k.1,
+      free_set slots i y ns parts.1 k.2,
+    )
 
 -- a slot that holds something isn't free
 not_free : (slots : List (Slot Content)) (id : Id) (h : HandleRecord) (free : List ℕ) → held_at slots id ≡ Some h → AreFree slots free → has_number
@@ -317,8 +332,10 @@ others_ready s id h x q e t d k = lists_put s.arena.slots Rests id h x s.ready e
 in_front : (s : State) (id : Id) (h x : HandleRecord) (q : Kind) (ids : List Id) → handle s id ≡ Some h → h.active ≡ false → x.kind ≡ q → x.active ≡
     true →
     Everyone s.arena.slots (Watches q) ids → Everyone (put s.arena.slots id x) (Watches q) (id ∷ ids)
-in_front s id h x q ids e off u on l = everyone_front s.arena.slots (Watches q) id h x ids e (λ w. on_off h w.active off) (record { kind = u;
-    active = on }) l
+in_front s id h x q ids e off u on l = everyone_front s.arena.slots (Watches q) id h x ids e (λ w. on_off h w.active off) (record {
+  kind = u;
+  active = on;
+}) l
 
 -- what a watcher's start leaves of all but the lists
 abbrev StillSound : State → Id → HandleRecord → Type 0
@@ -329,7 +346,8 @@ activated_sound : (s : State) (id : Id) (h : HandleRecord) → handle s id ≡ S
 activated_sound s id h e stays k = (
   sound_put s.arena.slots id h (activated h) e (λ shut. absurd (open_shut h shut stays)) k.sound,
   free_put s.arena.slots id h (activated h) s.arena.free e k.free,
-  everyone_put s.arena.slots Closes id h (activated h) (members s.closing) e (λ shut. shut) (λ shut. shut) k.closing)
+  everyone_put s.arena.slots Closes id h (activated h) (members s.closing) e (λ shut. shut) (λ shut. shut) k.closing,
+)
 
 pub watcher_started_kept : (s : State) (k : WatcherKind) (id : Id) (h : HandleRecord) → handle s id ≡ Some h → h.kind ≡ kind_as k → h.active ≡ false →
     h.closing ≡ false → Kept s → Kept (ops.watcher_started s k id h)
@@ -471,10 +489,12 @@ new_kept s v kind.Async id e k =
     let x = inited v kind.Async in
     let t = takes s.arena s.arena.free id x refl k.free e in
     let more = (taken id (content.Handle x) s.arena).slots in
-    let listed = everyone_listed s.arena.slots more (Watches kind.Async) id x s.async.list s.async.yet t.0 (record { kind = refl;
-        active = refl }) k.async in
+    let listed = everyone_listed s.arena.slots more (Watches kind.Async) id x s.async.list s.async.yet t.0 (record {
+      kind = refl;
+      active = refl;
+    }) k.async in
     new_by s v kind.Async id (with_last s.async id) t (subst (Everyone more (Watches kind.Async)) (sym (append_assoc s.async.list (id ∷ [])
-        s.async.yet)) listed) k
+    s.async.yet)) listed) k
 
 -- ---- the ops
 
@@ -582,8 +602,15 @@ leave_kept s run timers_of.Iteration k = cond_both (is_default run.mode && goes 
 
 with_ready : (s : State) (ids : List Id) → Lists s.arena.slots Rests ids → Kept s → Kept (record s { ready = ids })
 with_ready s ids l k = record {
-  sound = k.sound; free = k.free; timers = k.timers; ready = l; idle = k.idle; prepare = k.prepare; check = k.check; async = k.async;
-      closing = k.closing;
+  sound = k.sound;
+  free = k.free;
+  timers = k.timers;
+  ready = l;
+  idle = k.idle;
+  prepare = k.prepare;
+  check = k.check;
+  async = k.async;
+  closing = k.closing;
 }
 
 -- the front of the ready list leaves it
@@ -618,8 +645,11 @@ collected_kept s t f k =
     let stays : t.1.closing ≡ false = opened t.1 set.active (k.sound t.0 t.1 f.holds) in
     let away : has_id s.ready t.0 ≡ false = not_listed s.arena.slots Rests t.0 t.1 s.ready f.holds (λ r. on_off t.1 set.active r.inactive) k.ready in
     let ready : Lists (put s.arena.slots t.0 x) Rests s.ready = off_list s.arena.slots Rests t.0 t.1 x s.ready f.holds away k.ready in
-    let last : Fits (put s.arena.slots t.0 x) Rests t.0 = record { handle = x; holds = put_same s.arena.slots t.0 t.1 x f.holds;
-        fits = record { kind = set.kind; inactive = refl; stays = stays } } in
+    let last : Fits (put s.arena.slots t.0 x) Rests t.0 = record {
+      handle = x;
+      holds = put_same s.arena.slots t.0 t.1 x f.holds;
+      fits = record { kind = set.kind; inactive = refl; stays = stays };
+    } in
     record {
       sound = sound_put s.arena.slots t.0 t.1 x f.holds (λ shut. refl) k.sound;
       free = free_put s.arena.slots t.0 t.1 x s.arena.free f.holds k.free;
@@ -711,7 +741,7 @@ moved_listed : (s : State) (P : HandleRecord → Type 0) (w : Walk Id) (t : Id �
     Everyone s.arena.slots P (members (moved_on w t.0 (drop 1 w.yet)))
 moved_listed s P w t f l =
     let moved : members w ≡ (w.list ++ t.0 ∷ []) ++ f.rest = ap (λ (ids : List Id). w.list ++ ids) f.are ∙ sym (append_assoc w.list (t.0 ∷ [])
-        f.rest) in
+    f.rest) in
     subst (Everyone s.arena.slots P) (moved ∙ ap (λ (ids : List Id). (w.list ++ t.0 ∷ []) ++ ids) (sym f.behind)) l
 
 front_moved_kept : (s : State) (q : WatcherKind) (t : Id × HandleRecord) → FrontOf s (watched s q).yet t → Kept s → Kept (front_moved s q t.0)
@@ -781,24 +811,32 @@ woken_kept s t f k = put_kept (front_moved s watcher.Async t.0) t.0 t.1 (records
 async_kept : (p : Program) (s : State) (run : Run) → s.check.yet ≡ [] → Kept s → StaysKept (walk_async p s run)
 async_kept p s run r k = found_both (front s s.async.yet) _ _ StaysKept
     (λ t e. let f = front_of s s.async.yet t e in
-      cond_both t.1.pending _ _ StaysKept (λ on. woken_kept s t f k) (λ off. front_moved_kept s watcher.Async t f k))
+    cond_both t.1.pending _ _ StaysKept (λ on. woken_kept s t f k) (λ off. front_moved_kept s watcher.Async t f k))
     (λ e. begin_kept s run watcher.Check r k)
 
 -- the front of the closing handles leaves, and its slot is freed
 gone_kept : (s : State) (t : Id × HandleRecord) (rest : List Id) (n : ℕ) (free : List ℕ) → handle s t.0 ≡ Some t.1 → s.closing.yet ≡ t.0 ∷ rest →
     AreFree (emptied s.arena.slots t.0 n) free → Kept s →
-    Agree (record s.arena { slots = emptied s.arena.slots t.0 n;
-        free = free }) s.next_start s.timers s.ready s.idle s.prepare s.check s.async (record s.closing { yet = rest })
+    Agree (record s.arena {
+      slots = emptied s.arena.slots t.0 n;
+      free = free;
+    }) s.next_start s.timers s.ready s.idle s.prepare s.check s.async (record s.closing { yet = rest })
 gone_kept s t rest n free e are f k =
     let l : Everyone s.arena.slots Closes (s.closing.list ++ t.0 ∷ rest) = subst (λ (ids : List Id). Everyone s.arena.slots Closes (s.closing.list
-        ++ ids)) are k.closing in
+    ++ ids)) are k.closing in
     let shut : t.1.closing ≡ true = its_handle s.arena.slots Closes t.0 t.1 e (member (Fits s.arena.slots Closes) (s.closing.list ++ t.0 ∷ rest)
-        l.lists.each t.0 (has_new_middle s.closing.list rest t.0)) in
+    l.lists.each t.0 (has_new_middle s.closing.list rest t.0)) in
     let off : t.1.active ≡ false = k.sound t.0 t.1 e shut in
     record {
-      sound = λ i y h. k.sound i y ((fitted_emptied s.arena.slots (λ x. x ≡ y) t.0 t.1 n e i (record { handle = y; holds = h;
-          fits = refl })).1.holds ∙ ap Some ((fitted_emptied s.arena.slots (λ x. x ≡ y) t.0 t.1 n e i (record { handle = y; holds = h;
-              fits = refl })).1.fits));
+      sound = λ i y h. k.sound i y ((fitted_emptied s.arena.slots (λ x. x ≡ y) t.0 t.1 n e i (record {
+        handle = y;
+        holds = h;
+        fits = refl;
+      })).1.holds ∙ ap Some ((fitted_emptied s.arena.slots (λ x. x ≡ y) t.0 t.1 n e i (record {
+        handle = y;
+        holds = h;
+        fits = refl;
+      })).1.fits));
       free = f;
       timers = times_emptied s.arena.slots s.next_start s.timers t.0 t.1 n e (λ key a. on_off t.1 a.active off) k.timers;
       ready = lists_emptied s.arena.slots Rests t.0 t.1 n s.ready e (λ r. open_shut t.1 shut r.stays) k.ready;
@@ -815,24 +853,38 @@ freed_free : (slots : List (Slot Content)) (id : Id) (h : HandleRecord) (n : ℕ
 freed_free slots id h n free e k =
     let away = not_free slots id h free e k in
     let rest = free_set slots id.slot (record { generation = n; content = None }) free away k in
-    let at = (holds slots id h e).at in
-    (rest, (record { slot = record { generation = n; content = None }; there = get_set_same slots id.slot (record { generation = n;
-        content = None }) at.slot at.there; empty = refl }, away, rest))
+    let at = (holds slots id h e).at in (
+      rest,
+      (
+        record {
+          slot = record { generation = n; content = None };
+          there = get_set_same slots id.slot (record {
+            generation = n;
+            content = None;
+          }) at.slot at.there;
+          empty = refl;
+        },
+        away,
+        rest,
+      ),
+    )
 
 close_kept : (p : Program) (s : State) (run : Run) → Kept s → StaysKept (close_front p s run)
 close_kept p s run k = found_both (front s s.closing.yet) _ _ StaysKept (λ t e. gone t (front_of s s.closing.yet t e)) (λ e. k) where
   gone : (t : Id × HandleRecord) → FrontOf s s.closing.yet t →
-      Agree (freed LAST_GENERATION t.0 s.arena) s.next_start s.timers s.ready s.idle s.prepare s.check s.async (record s.closing { yet = drop 1
-          s.closing.yet })
+      Agree (freed LAST_GENERATION t.0 s.arena) s.next_start s.timers s.ready s.idle s.prepare s.check s.async (record s.closing {
+        yet = drop 1
+            s.closing.yet;
+      })
   gone t f = subst (λ (rest : List Id). Agree (freed LAST_GENERATION t.0 s.arena) s.next_start s.timers s.ready s.idle s.prepare s.check s.async
       (record s.closing { yet = rest }))
       (sym f.behind)
       (cond_both (t.0.generation == LAST_GENERATION) _ _ (λ (u : Slots Content). Agree u s.next_start s.timers s.ready s.idle s.prepare s.check
-          s.async (record s.closing { yet = f.rest }))
+      s.async (record s.closing { yet = f.rest }))
       (λ last. gone_kept s t f.rest t.0.generation s.arena.free f.holds f.are (freed_free s.arena.slots t.0 t.1 t.0.generation s.arena.free f.holds
-          k.free).0 k)
+      k.free).0 k)
       (λ more. gone_kept s t f.rest (t.0.generation + 1) (t.0.slot ∷ s.arena.free) f.holds f.are (freed_free s.arena.slots t.0 t.1 (t.0.generation +
-          1) s.arena.free f.holds k.free).1 k))
+      1) s.arena.free f.holds k.free).1 k))
 
 stage_kept : (p : Program) (s : State) (run : Run) (stage : Stage) → IsRested stage s → Kept s → StaysKept (stage_step p s run stage)
 stage_kept p s run Entry r k = enter_kept s run k

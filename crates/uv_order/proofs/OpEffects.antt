@@ -210,17 +210,23 @@ start_effect : (s : State) (v : Var) (timeout repeat : ℕ) (t : Id × HandleRec
     Effect s (op.Start v timeout repeat) (ops.start s timeout repeat t.0 t.1)
 start_effect s v timeout repeat t e is k =
     timer_effect s (started (stopped s t.0 t.1) t.0 t.1 timeout repeat) (op.Start v timeout repeat) v t e is k
-        (start_off v timeout repeat) refl refl refl
+    (start_off v timeout repeat) refl refl refl
     (record { ready = refl; idle = refl; prepare = refl; check = refl; async = refl; closing = refl })
 
 again_effect : (s : State) (v : Var) (t : Id × HandleRecord) → live s v ≡ Some t → t.1.kind ≡ kind.Timer → Kept s → Effect s (op.Again v) (ops.again
     s t.0 t.1)
 again_effect s v t e is k =
     cond_both (t.1.repeat == 0) (stopped s t.0 t.1) (started (stopped s t.0 t.1) t.0 t.1 t.1.repeat t.1.repeat) (λ (u : State). Effect s (op.Again
-        v) (ops.succeeds u))
+    v) (ops.succeeds u))
     (λ z. by (stopped s t.0 t.1) refl refl (record { ready = refl; idle = refl; prepare = refl; check = refl; async = refl; closing = refl }))
-    (λ z. by (started (stopped s t.0 t.1) t.0 t.1 t.1.repeat t.1.repeat) refl refl (record { ready = refl; idle = refl; prepare = refl;
-        check = refl; async = refl; closing = refl }))
+    (λ z. by (started (stopped s t.0 t.1) t.0 t.1 t.1.repeat t.1.repeat) refl refl (record {
+      ready = refl;
+      idle = refl;
+      prepare = refl;
+      check = refl;
+      async = refl;
+      closing = refl;
+    }))
   where
     by : (u : State) → lasting u ≡ lasting s → u.names ≡ s.names → SameLists u (stopped s t.0 t.1) → Effect s (op.Again v) (ops.succeeds u)
     by u same names lists = timer_effect s u (op.Again v) v t e is k (λ word. refl) refl same names lists
@@ -287,20 +293,44 @@ start_watcher_effect : (s : State) (v : Var) (id : Id) (h : HandleRecord) → Ef
 start_watcher_effect s v id h = cond_both h.active s _ (λ (u : State). Effect s (op.StartWatcher v) (ops.succeeds u))
     (λ on. by s refl (same_calls s.names) (same_lists s))
     (λ off. found_both (watcher_kind h.kind) _ s (λ (u : State). Effect s (op.StartWatcher v) (ops.succeeds u)) (λ q is. put q) (λ none. by s refl
-        (same_calls s.names) (same_lists s)))
+    (same_calls s.names) (same_lists s)))
   where
     by : (u : State) → lasting u ≡ lasting s → SameCalls u.names s.names → SameLists u s → Effect s (op.StartWatcher v) (ops.succeeds u)
     by u = still s (op.StartWatcher v) (ops.succeeds u) (by_word (op.StartWatcher v) refl refl refl refl refl refl refl refl)
 
     put : (k : WatcherKind) → Effect s (op.StartWatcher v) (ops.succeeds (ops.watcher_started s k id h))
-    put watcher.Idle = by _ refl (same_calls s.names) (record { ready = refl; idle = refl; prepare = refl; check = refl; async = refl;
-        closing = refl })
-    put watcher.Prepare = by _ refl (same_calls s.names) (record { ready = refl; idle = refl; prepare = refl; check = refl; async = refl;
-        closing = refl })
-    put watcher.Check = by _ refl (same_calls s.names) (record { ready = refl; idle = refl; prepare = refl; check = refl; async = refl;
-        closing = refl })
-    put watcher.Async = by _ refl (same_calls s.names) (record { ready = refl; idle = refl; prepare = refl; check = refl; async = refl;
-        closing = refl })
+    put watcher.Idle = by _ refl (same_calls s.names) (record {
+      ready = refl;
+      idle = refl;
+      prepare = refl;
+      check = refl;
+      async = refl;
+      closing = refl;
+    })
+    put watcher.Prepare = by _ refl (same_calls s.names) (record {
+      ready = refl;
+      idle = refl;
+      prepare = refl;
+      check = refl;
+      async = refl;
+      closing = refl;
+    })
+    put watcher.Check = by _ refl (same_calls s.names) (record {
+      ready = refl;
+      idle = refl;
+      prepare = refl;
+      check = refl;
+      async = refl;
+      closing = refl;
+    })
+    put watcher.Async = by _ refl (same_calls s.names) (record {
+      ready = refl;
+      idle = refl;
+      prepare = refl;
+      check = refl;
+      async = refl;
+      closing = refl;
+    })
 
 -- such an op changes one record, or nothing
 simple : (s : State) (o : Op) (d : ops.Done) → Harmless o → lasting d.state ≡ after_op o s → d.state.names ≡ s.names → SameLists d.state s →
@@ -309,8 +339,14 @@ simple s o d harmless lasts names lists = still s o d harmless lasts (rw names (
 
 pub send_effect : (s : State) (v : Var) → Effect s (op.Send v) (ops.says_code (ops.send s (live s v)))
 send_effect s v = send_both s v (λ (c : ops.Coded). Effect s (op.Send v) (ops.says_code c)) (refused_effect s (op.Send v) refl)
-    (λ t e stays. simple s (op.Send v) _ (by_word (op.Send v) refl refl refl refl refl refl refl refl) refl refl (record { ready = refl;
-        idle = refl; prepare = refl; check = refl; async = refl; closing = refl }))
+    (λ t e stays. simple s (op.Send v) _ (by_word (op.Send v) refl refl refl refl refl refl refl refl) refl refl (record {
+      ready = refl;
+      idle = refl;
+      prepare = refl;
+      check = refl;
+      async = refl;
+      closing = refl;
+    }))
 
 pub op_effect : (s : State) (o : Op) → Kept s → Effect s o (do_op s o)
 op_effect s (op.Init v q) k = init_effect s v q (live s v)
@@ -328,16 +364,34 @@ op_effect s (op.Close v) k = on_handle_both s v close_refusal _ (Effect s (op.Cl
     is. close_effect s v t e)
 op_effect s (op.SetRepeat v n) k = on_handle_both s v timer_refusal _ (Effect s (op.SetRepeat v n)) refuses_timer (refused_effect s (op.SetRepeat v
     n) refl)
-    (λ t e is. simple s (op.SetRepeat v n) _ (by_word (op.SetRepeat v n) refl refl refl refl refl refl refl refl) refl refl (record { ready = refl;
-        idle = refl; prepare = refl; check = refl; async = refl; closing = refl }))
+    (λ t e is. simple s (op.SetRepeat v n) _ (by_word (op.SetRepeat v n) refl refl refl refl refl refl refl refl) refl refl (record {
+      ready = refl;
+      idle = refl;
+      prepare = refl;
+      check = refl;
+      async = refl;
+      closing = refl;
+    }))
 op_effect s (op.DueIn v) k = on_handle_both s v timer_refusal _ (Effect s (op.DueIn v)) refuses_timer (refused_effect s (op.DueIn v) refl)
     (λ t e is. simple s (op.DueIn v) _ (by_word (op.DueIn v) refl refl refl refl refl refl refl refl) refl refl (same_lists s))
 op_effect s (op.Ref v) k = on_handle_both s v no_refusal _ (Effect s (op.Ref v)) refuses_none (refused_effect s (op.Ref v) refl)
-    (λ t e is. simple s (op.Ref v) _ (by_word (op.Ref v) refl refl refl refl refl refl refl refl) refl refl (record { ready = refl; idle = refl;
-        prepare = refl; check = refl; async = refl; closing = refl }))
+    (λ t e is. simple s (op.Ref v) _ (by_word (op.Ref v) refl refl refl refl refl refl refl refl) refl refl (record {
+      ready = refl;
+      idle = refl;
+      prepare = refl;
+      check = refl;
+      async = refl;
+      closing = refl;
+    }))
 op_effect s (op.Unref v) k = on_handle_both s v no_refusal _ (Effect s (op.Unref v)) refuses_none (refused_effect s (op.Unref v) refl)
-    (λ t e is. simple s (op.Unref v) _ (by_word (op.Unref v) refl refl refl refl refl refl refl refl) refl refl (record { ready = refl; idle = refl;
-        prepare = refl; check = refl; async = refl; closing = refl }))
+    (λ t e is. simple s (op.Unref v) _ (by_word (op.Unref v) refl refl refl refl refl refl refl refl) refl refl (record {
+      ready = refl;
+      idle = refl;
+      prepare = refl;
+      check = refl;
+      async = refl;
+      closing = refl;
+    }))
 op_effect s (op.HasRef v) k = on_handle_both s v no_refusal _ (Effect s (op.HasRef v)) refuses_none (refused_effect s (op.HasRef v) refl)
     (λ t e is. simple s (op.HasRef v) _ (by_word (op.HasRef v) refl refl refl refl refl refl refl refl) refl refl (same_lists s))
 op_effect s (op.IsActive v) k = on_handle_both s v no_refusal _ (Effect s (op.IsActive v)) refuses_none (refused_effect s (op.IsActive v) refl)
@@ -345,10 +399,23 @@ op_effect s (op.IsActive v) k = on_handle_both s v no_refusal _ (Effect s (op.Is
 op_effect s (op.IsClosing v) k = on_handle_both s v no_refusal _ (Effect s (op.IsClosing v)) refuses_none (refused_effect s (op.IsClosing v) refl)
     (λ t e is. simple s (op.IsClosing v) _ (by_word (op.IsClosing v) refl refl refl refl refl refl refl refl) refl refl (same_lists s))
 op_effect s (op.Send v) k = send_effect s v
-op_effect s op.StopLoop k = simple s op.StopLoop _ (by_word op.StopLoop refl refl refl refl refl refl refl refl) refl refl (record { ready = refl;
-    idle = refl; prepare = refl; check = refl; async = refl; closing = refl })
-op_effect s op.UpdateTime k = simple s op.UpdateTime _ (by_word op.UpdateTime refl refl refl refl refl refl refl refl) refl refl (record { ready =
-    refl; idle = refl; prepare = refl; check = refl; async = refl; closing = refl })
+op_effect s op.StopLoop k = simple s op.StopLoop _ (by_word op.StopLoop refl refl refl refl refl refl refl refl) refl refl (record {
+  ready = refl;
+  idle = refl;
+  prepare = refl;
+  check = refl;
+  async = refl;
+  closing = refl;
+})
+op_effect s op.UpdateTime k = simple s op.UpdateTime _ (by_word op.UpdateTime refl refl refl refl refl refl refl refl) refl refl (record {
+  ready =
+      refl;
+  idle = refl;
+  prepare = refl;
+  check = refl;
+  async = refl;
+  closing = refl;
+})
 op_effect s op.Now k = simple s op.Now _ (by_word op.Now refl refl refl refl refl refl refl refl) refl refl (same_lists s)
 op_effect s op.IsAlive k = simple s op.IsAlive _ (by_word op.IsAlive refl refl refl refl refl refl refl refl) refl refl (same_lists s)
 op_effect s op.Timeout k = simple s op.Timeout _ (by_word op.Timeout refl refl refl refl refl refl refl refl) refl refl (same_lists s)

@@ -287,14 +287,17 @@ are_timers s ts drawn k = record {
 due_distinct : (s : State) (time : ℕ) → Kept s → AreDistinct (due_ids time s.timers)
 due_distinct s time k = distinct_due time s.timers k.timers.sorted
     (λ a b id h l. one_due a b id (k.timers.each a id h).0 (k.timers.each b id l).0) where
-  one_due : (a b : Due) (id : Id) → Fits s.arena.slots (IsSet a) id → Fits s.arena.slots (IsSet b) id → a ≡ b
-  one_due a b id f g = sym f.fits.due ∙ (its_handle s.arena.slots (IsSet b) id f.handle f.holds g).due
+      one_due : (a b : Due) (id : Id) → Fits s.arena.slots (IsSet a) id → Fits s.arena.slots (IsSet b) id → a ≡ b
+      one_due a b id f g = sym f.fits.due ∙ (its_handle s.arena.slots (IsSet b) id f.handle f.holds g).due
 
 -- where nobody is yet to run, the list has all active handles of its kind
 are_active : (s : State) (q : Kind) (w : Listed Id) → w.yet ≡ [] → Everyone s.arena.slots (Watches q) (members w) → AreActive s q w.list
-are_active s q w e k = record { each = λ id h. active id (member (Fits s.arena.slots (Watches q)) w.list all.lists.each id h);
-    all = λ id a. all.all id
-    (fits id a); distinct = all.lists.distinct } where
+are_active s q w e k = record {
+  each = λ id h. active id (member (Fits s.arena.slots (Watches q)) w.list all.lists.each id h);
+  all = λ id a. all.all id
+      (fits id a);
+  distinct = all.lists.distinct;
+} where
   all : Everyone s.arena.slots (Watches q) w.list
   all = subst (Everyone s.arena.slots (Watches q)) (ap (λ (ids : List Id). w.list ++ ids) e ∙ append-nil w.list) k
 
@@ -320,8 +323,11 @@ opens_bare : (word : Phase) (l : Line) → doc.HasList word l [] → Opens word 
 opens_bare word l h = record { list = h; off = refl; body = refl }
 
 are_closing : (s : State) → s.closing.yet ≡ [] → Kept s → AreClosing s s.closing.list
-are_closing s e k = record { each = λ id h. closes id (member (Fits s.arena.slots Closes) s.closing.list all.lists.each id h);
-    all = λ id a. all.all id (fits id a); distinct = all.lists.distinct } where
+are_closing s e k = record {
+  each = λ id h. closes id (member (Fits s.arena.slots Closes) s.closing.list all.lists.each id h);
+  all = λ id a. all.all id (fits id a);
+  distinct = all.lists.distinct;
+} where
   all : Everyone s.arena.slots Closes s.closing.list
   all = subst (Everyone s.arena.slots Closes) (ap (λ (ids : List Id). s.closing.list ++ ids) e ∙ append-nil s.closing.list) k.closing
 
@@ -340,20 +346,48 @@ enter_follows p told s run k c e = cond_both (goes s) _ _ (Follows p told (Runni
     (λ d. record {
       to = Running run.mode run.line (Within Entry (begun_with (due_now s)));
       goes = doc.section Entry tt (start_default run.mode (goes s) g d) refl (record { list = due_list; off = refl; body = refl }) refl;
-      stands = record { stands = running (collects refl) (record { timers = ap (λ (ids : List Id). ids ++ due_now s) e.timers ∙ sym (none_off
-          (due_now s)); idle = e.idle; prepare = e.prepare; check = e.check; async = e.async; closing = e.closing }); counted = c };
+      stands = record {
+        stands = running (collects refl) (record {
+          timers = ap (λ (ids : List Id). ids ++ due_now s) e.timers ∙ sym (none_off
+              (due_now s));
+          idle = e.idle;
+          prepare = e.prepare;
+          check = e.check;
+          async = e.async;
+          closing = e.closing;
+        });
+        counted = c;
+      };
     })
     (λ d. record {
       to = Running run.mode run.line (Within (In phase.Pending) bare);
       goes = doc.section (In phase.Pending) tt (start_other run.mode (goes s) g d) refl (opens_bare phase.Pending _ refl) refl;
-      stands = record { stands = running pending (record { timers = e.timers; idle = e.idle; prepare = e.prepare; check = e.check; async = e.async;
-          closing = e.closing }); counted = c };
+      stands = record {
+        stands = running pending (record {
+          timers = e.timers;
+          idle = e.idle;
+          prepare = e.prepare;
+          check = e.check;
+          async = e.async;
+          closing = e.closing;
+        });
+        counted = c;
+      };
     }))
     (λ g. record {
       to = Between (run.line + 1);
       goes = doc.ends tt (start_end run.mode (goes s) g) refl refl;
-      stands = record { stands = between (record { timers = e.timers; idle = e.idle; prepare = e.prepare; check = e.check; async = e.async;
-          closing = e.closing }); counted = c };
+      stands = record {
+        stands = between (record {
+          timers = e.timers;
+          idle = e.idle;
+          prepare = e.prepare;
+          check = e.check;
+          async = e.async;
+          closing = e.closing;
+        });
+        counted = c;
+      };
     })
   where
     due_list : AreDue (record s { place = place.Running (record run { stage = stage.Timers timers_of.Entry Collecting; body = None }) }) (due_now s)
@@ -361,13 +395,22 @@ enter_follows p told s run k c e = cond_both (goes s) _ _ (Follows p told (Runni
 
 goes_iteration : (p : Program) (told : Told) (s : State) (run : Run) (part : TimersOf) (w : Walk) →
     part_after run.mode (goes s) (doc.Of (section_of part)) ≡ doc.Of (In phase.Pending) → IsOver (word_of (section_of part)) w → Counted p s.names
-        told →
+    told →
     NobodyLeft (rest s.ready s) → Follows p told (Running run.mode run.line (Within (section_of part) w)) s (step.new_iteration s run)
 goes_iteration p told s run part w d over c e = record {
   to = Running run.mode run.line (Within (In phase.Pending) bare);
   goes = doc.section (In phase.Pending) over d refl (opens_bare phase.Pending _ refl) refl;
-  stands = record { stands = running pending (record { timers = e.timers; idle = e.idle; prepare = e.prepare; check = e.check; async = e.async;
-      closing = e.closing }); counted = c };
+  stands = record {
+    stands = running pending (record {
+      timers = e.timers;
+      idle = e.idle;
+      prepare = e.prepare;
+      check = e.check;
+      async = e.async;
+      closing = e.closing;
+    });
+    counted = c;
+  };
 }
 
 goes_end : (p : Program) (told : Told) (s : State) (run : Run) (part : TimersOf) (w : Walk) → part_after run.mode (goes s) (doc.Of (section_of
@@ -377,8 +420,17 @@ goes_end : (p : Program) (told : Told) (s : State) (run : Run) (part : TimersOf)
 goes_end p told s run part w d over c e = record {
   to = Between (run.line + 1);
   goes = doc.ends over d refl refl;
-  stands = record { stands = between (record { timers = e.timers; idle = e.idle; prepare = e.prepare; check = e.check; async = e.async;
-      closing = e.closing }); counted = c };
+  stands = record {
+    stands = between (record {
+      timers = e.timers;
+      idle = e.idle;
+      prepare = e.prepare;
+      check = e.check;
+      async = e.async;
+      closing = e.closing;
+    });
+    counted = c;
+  };
 }
 
 leave_follows : (p : Program) (told : Told) (s : State) (run : Run) (part : TimersOf) (w : Walk) → IsOver (word_of (section_of part)) w → Counted p
@@ -407,8 +459,14 @@ record NextCall (w : Walk) (id : Id) (more : List Id) : Type 0 where
   left : more ≡ left_of behind w.off
 
 next_of : (w : Walk) (id : Id) (more : List Id) → left_of w.ahead w.off ≡ id ∷ more → NextCall w id more
-next_of w id more e = let f = first_left w.ahead w.off id more e in record { behind = f.behind; passed = f.passed; list = f.list; off = f.off;
-    on = f.on; left = f.rest }
+next_of w id more e = let f = first_left w.ahead w.off id more e in record {
+  behind = f.behind;
+  passed = f.passed;
+  list = f.list;
+  off = f.off;
+  on = f.on;
+  left = f.rest;
+}
 
 -- the names after a call
 abbrev called_names : State → Callback → Var → List Named
@@ -439,16 +497,40 @@ record OnlyReady (r : Rest) (w : Walk) : Type 0 where
   closing : r.closing ≡ []
 
 timers_left : (part : TimersOf) (r : Rest) (w : Walk) → OnlyReady r w → Leaves r (Within (section_of part) w)
-timers_left timers_of.Entry r w o = record { timers = o.ready; idle = o.idle; prepare = o.prepare; check = o.check; async = o.async;
-    closing = o.closing }
-timers_left timers_of.Iteration r w o = record { timers = o.ready; idle = o.idle; prepare = o.prepare; check = o.check; async = o.async;
-    closing = o.closing }
+timers_left timers_of.Entry r w o = record {
+  timers = o.ready;
+  idle = o.idle;
+  prepare = o.prepare;
+  check = o.check;
+  async = o.async;
+  closing = o.closing;
+}
+timers_left timers_of.Iteration r w o = record {
+  timers = o.ready;
+  idle = o.idle;
+  prepare = o.prepare;
+  check = o.check;
+  async = o.async;
+  closing = o.closing;
+}
 
 left_timers : (part : TimersOf) (r : Rest) (w : Walk) → Leaves r (Within (section_of part) w) → OnlyReady r w
-left_timers timers_of.Entry r w l = record { ready = l.timers; idle = l.idle; prepare = l.prepare; check = l.check; async = l.async;
-    closing = l.closing }
-left_timers timers_of.Iteration r w l = record { ready = l.timers; idle = l.idle; prepare = l.prepare; check = l.check; async = l.async;
-    closing = l.closing }
+left_timers timers_of.Entry r w l = record {
+  ready = l.timers;
+  idle = l.idle;
+  prepare = l.prepare;
+  check = l.check;
+  async = l.async;
+  closing = l.closing;
+}
+left_timers timers_of.Iteration r w l = record {
+  ready = l.timers;
+  idle = l.idle;
+  prepare = l.prepare;
+  check = l.check;
+  async = l.async;
+  closing = l.closing;
+}
 
 timers_word : (part : TimersOf) → callback_in (word_of (section_of part)) ≡ callback.Handle
 timers_word timers_of.Entry = refl
@@ -460,17 +542,30 @@ timers_over timers_of.Iteration w b o = record { done = b; may_pass = o }
 
 timers_call : (part : TimersOf) (s : State) (w : Walk) (id : Id) (more : List Id) (n : NextCall w id more) → w.body ≡ [] → CallsNext (word_of
     (section_of part)) s w id n.behind
-timers_call timers_of.Entry s w id more n b = record { done = b; passed = n.passed; list = n.list; may_pass = n.off; may_call = record { on = n.on;
-    called = refl } }
-timers_call timers_of.Iteration s w id more n b = record { done = b; passed = n.passed; list = n.list; may_pass = n.off;
-    may_call = record { on = n.on; called = refl } }
+timers_call timers_of.Entry s w id more n b = record {
+  done = b;
+  passed = n.passed;
+  list = n.list;
+  may_pass = n.off;
+  may_call = record {
+    on = n.on;
+    called = refl;
+  };
+}
+timers_call timers_of.Iteration s w id more n b = record {
+  done = b;
+  passed = n.passed;
+  list = n.list;
+  may_pass = n.off;
+  may_call = record { on = n.on; called = refl };
+}
 
 -- a timer is called from the ready list, in a state that may have started it again
 call_timer : (p : Program) (told : Told) (s u : State) (run : Run) (part : TimersOf) (w : Walk) (t : Id × HandleRecord) (more : List Id) → handle s
     t.0 ≡ Some t.1 →
     u.names ≡ s.names → lasting u ≡ lasting s → OnlyReady (rest (t.0 ∷ more) u) w → u.ready ≡ more → w.body ≡ [] → Counted p s.names told →
     Follows p told (Running run.mode run.line (Within (section_of part) w)) s (call p u (record run { stage = stage.Timers part Firing }) t.0
-        t.1.name)
+    t.1.name)
 call_timer p told s u run part w t more h names lasts o ready b c =
     let v = t.1.name in
     let next = next_of w t.0 more (sym o.ready) in
@@ -488,14 +583,14 @@ call_timer p told s u run part w t more h names lasts o ready b c =
 
 fire_follows : (p : Program) (told : Told) (s : State) (run : Run) (part : TimersOf) (w : Walk) → Kept s → Counted p s.names told →
     Leaves (rest s.ready s) (Within (section_of part) w) → w.body ≡ [] → Follows p told (Running run.mode run.line (Within (section_of part) w)) s
-        (step.fire p s run part)
+    (step.fire p s run part)
 fire_follows p told s run part w k c l b =
     let o = left_timers part (rest s.ready s) w l in
     found_both (front s s.ready) _ _ (Follows p told (Running run.mode run.line (Within (section_of part) w)) s)
     (λ t e. fired o t (front_of s s.ready t e))
     (λ e. let none : s.ready ≡ [] = no_front s Rests s.ready k.ready.each e in
-      leave_follows p told s run part w (timers_over part w b (all_off w.ahead w.off (sym o.ready ∙ none))) c
-      (record { timers = none; idle = o.idle; prepare = o.prepare; check = o.check; async = o.async; closing = o.closing }))
+    leave_follows p told s run part w (timers_over part w b (all_off w.ahead w.off (sym o.ready ∙ none))) c
+    (record { timers = none; idle = o.idle; prepare = o.prepare; check = o.check; async = o.async; closing = o.closing }))
   where
     fired : OnlyReady (rest s.ready s) w → (t : Id × HandleRecord) → FrontOf s s.ready t →
         Follows p told (Running run.mode run.line (Within (section_of part) w)) s
@@ -503,10 +598,12 @@ fire_follows p told s run part w k c l b =
     fired o t f =
         let u : State = record s { ready = drop 1 s.ready } in
         let only : OnlyReady (rest (t.0 ∷ f.rest) u) w =
-            record { ready = sym f.are ∙ o.ready; idle = o.idle; prepare = o.prepare; check = o.check; async = o.async; closing = o.closing } in
+        record { ready = sym f.are ∙ o.ready; idle = o.idle; prepare = o.prepare; check = o.check; async = o.async; closing = o.closing } in
         cond_both (t.1.repeat == 0) u (started u t.0 t.1 t.1.repeat t.1.repeat)
-        (λ (x : State). Follows p told (Running run.mode run.line (Within (section_of part) w)) s (call p x (record run { stage = stage.Timers part
-            Firing }) t.0 t.1.name))
+        (λ (x : State). Follows p told (Running run.mode run.line (Within (section_of part) w)) s (call p x (record run {
+          stage = stage.Timers part
+              Firing;
+        }) t.0 t.1.name))
         (λ z. call_timer p told s u run part w t f.rest f.holds refl refl only f.behind b c)
         (λ z. call_timer p told s (started u t.0 t.1 t.1.repeat t.1.repeat) run part w t f.rest f.holds refl refl only f.behind b c)
 
@@ -533,22 +630,26 @@ collect_follows p told s run part w k c l b =
     found_both (first_due s s.timers) _ _ (Follows p told (Running run.mode run.line (Within (section_of part) w)) s)
     (λ t e. moved o t (first_of s s.timers t e))
     (λ e. fire_follows p told s run part w k c (timers_left part (rest s.ready s) w (record {
-        ready = sym (append-nil s.ready) ∙ ap (λ (ids : List Id). s.ready ++ ids) (sym (late_due s s.timers s.next_start k.timers e)) ∙ o.ready;
-        idle = o.idle; prepare = o.prepare; check = o.check; async = o.async; closing = o.closing;
-      })) b)
+      ready = sym (append-nil s.ready) ∙ ap (λ (ids : List Id). s.ready ++ ids) (sym (late_due s s.timers s.next_start k.timers e)) ∙ o.ready;
+      idle = o.idle;
+      prepare = o.prepare;
+      check = o.check;
+      async = o.async;
+      closing = o.closing;
+    })) b)
   where
     moved : OnlyReady (rest (s.ready ++ due_now s) s) w → (t : Id × HandleRecord) → FirstOf s s.timers t →
         Follows p told (Running run.mode run.line (Within (section_of part) w)) s (Moves (step.at (collected s t.0 t.1) run (stage.Timers part
-            Collecting)) None)
+        Collecting)) None)
     moved o t f =
         let later : List (Due × Id) = drop 1 s.timers in
         let all : due_now s ≡ t.0 ∷ due_ids s.time later =
-            ap (due_ids s.time) f.are ∙ one_more s.time (f.key, t.0) f.rest f.due ∙ ap (λ (ts : List (Due × Id)). t.0 ∷ due_ids s.time ts) (sym
-                f.behind) in
+        ap (due_ids s.time) f.are ∙ one_more s.time (f.key, t.0) f.rest f.due ∙ ap (λ (ts : List (Due × Id)). t.0 ∷ due_ids s.time ts) (sym
+        f.behind) in
         let same : (s.ready ++ t.0 ∷ []) ++ due_ids s.time later ≡ left_of w.ahead w.off =
-            append_assoc s.ready (t.0 ∷ []) (due_ids s.time later) ∙ ap (λ (ids : List Id). s.ready ++ ids) (sym all) ∙ o.ready in
+        append_assoc s.ready (t.0 ∷ []) (due_ids s.time later) ∙ ap (λ (ids : List Id). s.ready ++ ids) (sym all) ∙ o.ready in
         let only : OnlyReady (rest ((s.ready ++ t.0 ∷ []) ++ due_ids s.time later) (collected s t.0 t.1)) w =
-            record { ready = same; idle = o.idle; prepare = o.prepare; check = o.check; async = o.async; closing = o.closing } in
+        record { ready = same; idle = o.idle; prepare = o.prepare; check = o.check; async = o.async; closing = o.closing } in
         (record { stands = running (collects b) (timers_left part _ w only); counted = c }, refl)
 
 -- ---- sections of watchers, and of async handles
@@ -567,26 +668,62 @@ begin_follows : (p : Program) (told : Told) (s : State) (run : Run) (q : Watcher
 begin_follows p told s run watcher.Idle at over next k c e = record {
   to = Running run.mode run.line (Within (In phase.Idle) (begun_with s.idle.list));
   goes = doc.section (In phase.Idle) over (next run.mode (goes s)) refl (opens_watched s _ watcher.Idle k e.idle) refl;
-  stands = record { stands = running (idle refl) (record { timers = e.timers; idle = sym (none_off s.idle.list); prepare = e.prepare;
-      check = e.check; async = e.async; closing = e.closing }); counted = c };
+  stands = record {
+    stands = running (idle refl) (record {
+      timers = e.timers;
+      idle = sym (none_off s.idle.list);
+      prepare = e.prepare;
+      check = e.check;
+      async = e.async;
+      closing = e.closing;
+    });
+    counted = c;
+  };
 }
 begin_follows p told s run watcher.Prepare at over next k c e = record {
   to = Running run.mode run.line (Within (In phase.Prepare) (begun_with s.prepare.list));
   goes = doc.section (In phase.Prepare) over (next run.mode (goes s)) refl (opens_watched s _ watcher.Prepare k e.prepare) refl;
-  stands = record { stands = running (prepare refl) (record { timers = e.timers; idle = e.idle; prepare = sym (none_off s.prepare.list);
-      check = e.check; async = e.async; closing = e.closing }); counted = c };
+  stands = record {
+    stands = running (prepare refl) (record {
+      timers = e.timers;
+      idle = e.idle;
+      prepare = sym (none_off s.prepare.list);
+      check = e.check;
+      async = e.async;
+      closing = e.closing;
+    });
+    counted = c;
+  };
 }
 begin_follows p told s run watcher.Check at over next k c e = record {
   to = Running run.mode run.line (Within (In phase.Check) (begun_with s.check.list));
   goes = doc.section (In phase.Check) over (next run.mode (goes s)) refl (opens_watched s _ watcher.Check k e.check) refl;
-  stands = record { stands = running (check refl) (record { timers = e.timers; idle = e.idle; prepare = e.prepare;
-      check = sym (none_off s.check.list); async = e.async; closing = e.closing }); counted = c };
+  stands = record {
+    stands = running (check refl) (record {
+      timers = e.timers;
+      idle = e.idle;
+      prepare = e.prepare;
+      check = sym (none_off s.check.list);
+      async = e.async;
+      closing = e.closing;
+    });
+    counted = c;
+  };
 }
 begin_follows p told s run watcher.Async at over next k c e = record {
   to = Running run.mode run.line (Within (In phase.Async) (begun_with s.async.list));
   goes = doc.section (In phase.Async) over (next run.mode (goes s)) refl (opens_watched s _ watcher.Async k e.async) refl;
-  stands = record { stands = running (async refl) (record { timers = e.timers; idle = e.idle; prepare = e.prepare; check = e.check;
-      async = record { gone = []; behind = s.async.list; all = refl; left = sym (none_off s.async.list) }; closing = e.closing }); counted = c };
+  stands = record {
+    stands = running (async refl) (record {
+      timers = e.timers;
+      idle = e.idle;
+      prepare = e.prepare;
+      check = e.check;
+      async = record { gone = []; behind = s.async.list; all = refl; left = sym (none_off s.async.list) };
+      closing = e.closing;
+    });
+    counted = c;
+  };
 }
 
 -- a section without callbacks begins behind a part that may be left
@@ -609,8 +746,17 @@ poll_follows p told s run w over k c e = record {
   to = Running run.mode run.line (Polling (deadline_of s (poll_timeout s run.mode)));
   goes = doc.poll (poll_timeout s run.mode) over (poll_next run.mode (goes s))
       (record { timers = s.timers; are = are_timers s s.timers s.next_start k.timers; is = refl }) refl refl;
-  stands = record { stands = running polls (record { timers = e.timers; idle = e.idle; prepare = e.prepare; check = e.check; async = e.async;
-      closing = e.closing }); counted = c };
+  stands = record {
+    stands = running polls (record {
+      timers = e.timers;
+      idle = e.idle;
+      prepare = e.prepare;
+      check = e.check;
+      async = e.async;
+      closing = e.closing;
+    });
+    counted = c;
+  };
 }
 
 -- the closing section begins
@@ -621,8 +767,17 @@ closing_begins p told s run w over k c e = record {
   to = Running run.mode run.line (Within (In phase.Closing) (begun_with s.closing.list));
   goes = doc.section (In phase.Closing) over (closing_next run.mode (goes s)) refl
       (record { list = (refl, are_closing s e.closing k); off = refl; body = refl }) refl;
-  stands = record { stands = running (closing refl) (record { timers = e.timers; idle = e.idle; prepare = e.prepare; check = e.check;
-      async = e.async; closing = sym (none_off s.closing.list) }); counted = c };
+  stands = record {
+    stands = running (closing refl) (record {
+      timers = e.timers;
+      idle = e.idle;
+      prepare = e.prepare;
+      check = e.check;
+      async = e.async;
+      closing = sym (none_off s.closing.list);
+    });
+    counted = c;
+  };
 }
 
 after_follows : (p : Program) (told : Told) (s : State) (run : Run) (q : WatcherKind) (w : Walk) → IsOver (phase_of q) w → Kept s → Counted p
@@ -650,11 +805,25 @@ call_watcher p told s run watcher.Idle w t d st f l b c =
     record {
       to = Running run.mode run.line (Within (In phase.Idle) (called p told callback.Handle w next.behind v));
       goes = doc.call callback.Handle v t.0 next.behind refl
-          (record { done = b; passed = next.passed; list = next.list; may_pass = next.off; may_call = record { on = next.on;
-              called = refl } }) (named_of s t f.holds) refl refl;
+          (record {
+            done = b;
+            passed = next.passed;
+            list = next.list;
+            may_pass = next.off;
+            may_call = record {
+              on = next.on;
+              called = refl;
+            };
+          }) (named_of s t f.holds) refl refl;
       stands = record {
-        stands = rw st (running (idle (its_body p told s callback.Handle v c)) (record { timers = l.timers; idle = f.behind ∙ next.left;
-            prepare = l.prepare; check = l.check; async = l.async; closing = l.closing }));
+        stands = rw st (running (idle (its_body p told s callback.Handle v c)) (record {
+          timers = l.timers;
+          idle = f.behind ∙ next.left;
+          prepare = l.prepare;
+          check = l.check;
+          async = l.async;
+          closing = l.closing;
+        }));
         counted = call_counted p told s callback.Handle v c;
       };
     }
@@ -664,11 +833,25 @@ call_watcher p told s run watcher.Prepare w t d st f l b c =
     record {
       to = Running run.mode run.line (Within (In phase.Prepare) (called p told callback.Handle w next.behind v));
       goes = doc.call callback.Handle v t.0 next.behind refl
-          (record { done = b; passed = next.passed; list = next.list; may_pass = next.off; may_call = record { on = next.on;
-              called = refl } }) (named_of s t f.holds) refl refl;
+          (record {
+            done = b;
+            passed = next.passed;
+            list = next.list;
+            may_pass = next.off;
+            may_call = record {
+              on = next.on;
+              called = refl;
+            };
+          }) (named_of s t f.holds) refl refl;
       stands = record {
-        stands = rw st (running (prepare (its_body p told s callback.Handle v c)) (record { timers = l.timers; idle = l.idle;
-            prepare = f.behind ∙ next.left; check = l.check; async = l.async; closing = l.closing }));
+        stands = rw st (running (prepare (its_body p told s callback.Handle v c)) (record {
+          timers = l.timers;
+          idle = l.idle;
+          prepare = f.behind ∙ next.left;
+          check = l.check;
+          async = l.async;
+          closing = l.closing;
+        }));
         counted = call_counted p told s callback.Handle v c;
       };
     }
@@ -678,11 +861,25 @@ call_watcher p told s run watcher.Check w t d st f l b c =
     record {
       to = Running run.mode run.line (Within (In phase.Check) (called p told callback.Handle w next.behind v));
       goes = doc.call callback.Handle v t.0 next.behind refl
-          (record { done = b; passed = next.passed; list = next.list; may_pass = next.off; may_call = record { on = next.on;
-              called = refl } }) (named_of s t f.holds) refl refl;
+          (record {
+            done = b;
+            passed = next.passed;
+            list = next.list;
+            may_pass = next.off;
+            may_call = record {
+              on = next.on;
+              called = refl;
+            };
+          }) (named_of s t f.holds) refl refl;
       stands = record {
-        stands = rw st (running (check (its_body p told s callback.Handle v c)) (record { timers = l.timers; idle = l.idle; prepare = l.prepare;
-            check = f.behind ∙ next.left; async = l.async; closing = l.closing }));
+        stands = rw st (running (check (its_body p told s callback.Handle v c)) (record {
+          timers = l.timers;
+          idle = l.idle;
+          prepare = l.prepare;
+          check = f.behind ∙ next.left;
+          async = l.async;
+          closing = l.closing;
+        }));
         counted = call_counted p told s callback.Handle v c;
       };
     }
@@ -718,25 +915,31 @@ everyone s watcher.Async k = k.async
 walk_follows : (p : Program) (told : Told) (s : State) (run : Run) (q : WatcherKind) (w : Walk) → IsPlain q → run.stage ≡ step.stage_of q → Kept s →
     Counted p s.names told →
     Leaves (rest s.ready s) (Within (In (phase_of q)) w) → w.body ≡ [] → Follows p told (Running run.mode run.line (Within (In (phase_of q)) w)) s
-        (step.walk p s run q)
+    (step.walk p s run q)
 walk_follows p told s run q w d st k c l b = found_both (front s (watched s q).yet) _ _ (Follows p told (Running run.mode run.line (Within (In
     (phase_of q)) w)) s)
     (λ t e. call_watcher p told s run q w t d st (front_of s (watched s q).yet t e) l b c)
     (λ e. let each = each_back (Fits s.arena.slots (Watches (kind_as q))) (watched s q).list (watched s q).yet (everyone s q k).lists.each in
-      let none : (watched s q).yet ≡ [] = no_front s (Watches (kind_as q)) (watched s q).yet each e in
-      after_follows p told s run q w (plain_over q w d b (all_off w.ahead w.off (sym (own_list s q w d l) ∙ none))) k c (none_own s q w d none l))
+    let none : (watched s q).yet ≡ [] = no_front s (Watches (kind_as q)) (watched s q).yet each e in
+    after_follows p told s run q w (plain_over q w d b (all_off w.ahead w.off (sym (own_list s q w d l) ∙ none))) k c (none_own s q w d none l))
 
 -- an async handle is called, or passed by without a line
 async_follows : (p : Program) (told : Told) (s : State) (run : Run) (w : Walk) → run.stage ≡ stage.Async → Kept s → Counted p s.names told →
     Leaves (rest s.ready s) (Within (In phase.Async) w) → w.body ≡ [] → Follows p told (Running run.mode run.line (Within (In phase.Async) w)) s
-        (step.walk_async p s run)
+    (step.walk_async p s run)
 async_follows p told s run w st k c l b = found_both (front s s.async.yet) _ _ (Follows p told (Running run.mode run.line (Within (In phase.Async)
     w)) s)
     (λ t e. at t (front_of s s.async.yet t e))
     (λ e. let each = each_back (Fits s.arena.slots (Watches kind.Async)) s.async.list s.async.yet k.async.lists.each in
-      let none : s.async.yet ≡ [] = no_front s (Watches kind.Async) s.async.yet each e in
-      after_follows p told s run watcher.Async w (record { done = b; may_pass = tt }) k c (record { timers = l.timers; idle = l.idle;
-          prepare = l.prepare; check = l.check; async = none; closing = l.closing }))
+    let none : s.async.yet ≡ [] = no_front s (Watches kind.Async) s.async.yet each e in
+    after_follows p told s run watcher.Async w (record { done = b; may_pass = tt }) k c (record {
+      timers = l.timers;
+      idle = l.idle;
+      prepare = l.prepare;
+      check = l.check;
+      async = none;
+      closing = l.closing;
+    }))
   where
     at : (t : Id × HandleRecord) → FrontOf s s.async.yet t → Follows p told (Running run.mode run.line (Within (In phase.Async) w)) s
         (if t.1.pending then call p (with_handle (front_moved s watcher.Async t.0) t.0 (records.woken t.1)) run t.0 t.1.name
@@ -746,29 +949,60 @@ async_follows p told s run w st k c l b = found_both (front s s.async.yet) _ _ (
         let later : Walk = record w { ahead = a.behind } in
         let next = next_of later t.0 f.rest (sym a.left ∙ f.are) in
         let all : w.ahead ≡ (a.gone ++ next.passed) ++ t.0 ∷ next.behind =
-            a.all ∙ ap (λ (ids : List Id). a.gone ++ ids) next.list ∙ sym (append_assoc a.gone next.passed (t.0 ∷ next.behind)) in
+        a.all ∙ ap (λ (ids : List Id). a.gone ++ ids) next.list ∙ sym (append_assoc a.gone next.passed (t.0 ∷ next.behind)) in
         cond_both t.1.pending _ _ (Follows p told (Running run.mode run.line (Within (In phase.Async) w)) s)
         (λ on. let v = t.1.name in
+        record {
+          to = Running run.mode run.line (Within (In phase.Async) (called p told callback.Handle w next.behind v));
+          goes = doc.call callback.Handle v t.0 next.behind refl
+              (record {
+                done = b;
+                passed = a.gone ++ next.passed;
+                list = all;
+                may_pass = tt;
+                may_call = record {
+                  on = next.on;
+                  called = ap doc.pends_in f.holds ∙ on;
+                };
+              })
+              (named_of s t f.holds) refl refl;
+          stands = record {
+            stands = rw st (running (async (its_body p told s callback.Handle v c))
+                (record {
+                  timers = l.timers;
+                  idle = l.idle;
+                  prepare = l.prepare;
+                  check = l.check;
+                  async = record {
+                    gone = [];
+                    behind = next.behind;
+                    all = refl;
+                    left = f.behind ∙ next.left;
+                  };
+                  closing = l.closing;
+                }));
+            counted = call_counted p told s callback.Handle v c;
+          };
+        })
+        (λ off. (
           record {
-            to = Running run.mode run.line (Within (In phase.Async) (called p told callback.Handle w next.behind v));
-            goes = doc.call callback.Handle v t.0 next.behind refl
-                (record { done = b; passed = a.gone ++ next.passed; list = all; may_pass = tt; may_call = record { on = next.on;
-                    called = ap doc.pends_in f.holds ∙ on } })
-                (named_of s t f.holds) refl refl;
-            stands = record {
-              stands = rw st (running (async (its_body p told s callback.Handle v c))
-                  (record { timers = l.timers; idle = l.idle; prepare = l.prepare; check = l.check; async = record { gone = [];
-                      behind = next.behind; all = refl; left = f.behind ∙ next.left }; closing = l.closing }));
-              counted = call_counted p told s callback.Handle v c;
-            };
-          })
-        (λ off. (record {
-          stands = running (async b) (record { timers = l.timers; idle = l.idle; prepare = l.prepare; check = l.check;
-              async = record { gone = (a.gone ++ next.passed) ++ t.0 ∷ []; behind = next.behind;
-                  all = all ∙ sym (append_assoc (a.gone ++ next.passed) (t.0 ∷ []) next.behind); left = f.behind ∙ next.left };
-                      closing = l.closing });
-          counted = c;
-        }, refl))
+            stands = running (async b) (record {
+              timers = l.timers;
+              idle = l.idle;
+              prepare = l.prepare;
+              check = l.check;
+              async = record {
+                gone = (a.gone ++ next.passed) ++ t.0 ∷ [];
+                behind = next.behind;
+                all = all ∙ sym (append_assoc (a.gone ++ next.passed) (t.0 ∷ []) next.behind);
+                left = f.behind ∙ next.left;
+              };
+              closing = l.closing;
+            });
+            counted = c;
+          },
+          refl,
+        ))
 
 -- ---- the closing section
 
@@ -780,40 +1014,73 @@ timers_begin p told s run w over k c e = record {
   to = Running run.mode run.line (Within (In phase.Timers) (begun_with (due_ids s.clock s.timers)));
   goes = doc.section (In phase.Timers) over (timers_after run.mode (goes s)) refl (record { list = due_list; off = refl; body = refl }) refl;
   stands = record {
-    stands = running (collects refl) (record { timers = ap (λ (ids : List Id). ids ++ due_ids s.clock s.timers) e.timers ∙ sym (none_off (due_ids
-        s.clock s.timers)); idle = e.idle; prepare = e.prepare; check = e.check; async = e.async; closing = e.closing });
+    stands = running (collects refl) (record {
+      timers = ap (λ (ids : List Id). ids ++ due_ids s.clock s.timers) e.timers ∙ sym (none_off (due_ids
+          s.clock s.timers));
+      idle = e.idle;
+      prepare = e.prepare;
+      check = e.check;
+      async = e.async;
+      closing = e.closing;
+    });
     counted = c;
   };
 } where
-  due_list : AreDue (record (refreshed s) { place = place.Running (record run { stage = stage.Timers timers_of.Iteration Collecting;
-      body = None }) }) (due_ids s.clock s.timers)
+  due_list : AreDue (record (refreshed s) {
+    place = place.Running (record run {
+      stage = stage.Timers timers_of.Iteration Collecting;
+      body = None;
+    });
+  }) (due_ids s.clock s.timers)
   due_list = record { timers = s.timers; are = are_timers _ s.timers s.next_start k.timers; due = refl; distinct = due_distinct s s.clock k }
 
 closing_follows : (p : Program) (told : Told) (s : State) (run : Run) (w : Walk) → run.stage ≡ stage.Closing → Kept s → Counted p s.names told →
     Leaves (rest s.ready s) (Within (In phase.Closing) w) → w.body ≡ [] → Follows p told (Running run.mode run.line (Within (In phase.Closing) w)) s
-        (step.close_front p s run)
+    (step.close_front p s run)
 closing_follows p told s run w st k c l b = found_both (front s s.closing.yet) _ _ (Follows p told (Running run.mode run.line (Within (In
     phase.Closing) w)) s)
     (λ t e. at t (front_of s s.closing.yet t e))
     (λ e. let each = each_back (Fits s.arena.slots Closes) s.closing.list s.closing.yet k.closing.lists.each in
-      let none : s.closing.yet ≡ [] = no_front s Closes s.closing.yet each e in
-      timers_begin p told s run w (record { done = b; may_pass = all_off w.ahead w.off (sym l.closing ∙ none) }) k c (record { timers = l.timers;
-          idle = l.idle; prepare = l.prepare; check = l.check; async = l.async; closing = none }))
+    let none : s.closing.yet ≡ [] = no_front s Closes s.closing.yet each e in
+    timers_begin p told s run w (record { done = b; may_pass = all_off w.ahead w.off (sym l.closing ∙ none) }) k c (record {
+      timers = l.timers;
+      idle = l.idle;
+      prepare = l.prepare;
+      check = l.check;
+      async = l.async;
+      closing = none;
+    }))
   where
     at : (t : Id × HandleRecord) → FrontOf s s.closing.yet t → Follows p told (Running run.mode run.line (Within (In phase.Closing) w)) s
-        (calls p (record s { arena = freed LAST_GENERATION t.0 s.arena;
-            closing = record s.closing { yet = drop 1 s.closing.yet } }) run callback.Close t.1.name (seen.Closed t.1.name t.0))
+        (calls p (record s {
+          arena = freed LAST_GENERATION t.0 s.arena;
+          closing = record s.closing { yet = drop 1 s.closing.yet };
+        }) run callback.Close t.1.name (seen.Closed t.1.name t.0))
     at t f =
         let v = t.1.name in
         let next = next_of w t.0 f.rest (sym l.closing ∙ f.are) in
         record {
           to = Running run.mode run.line (Within (In phase.Closing) (called p told callback.Close w next.behind v));
           goes = doc.call callback.Close v t.0 next.behind refl
-              (record { done = b; passed = next.passed; list = next.list; may_pass = next.off; may_call = record { on = next.on;
-                  called = refl } }) (named_of s t f.holds) refl refl;
+              (record {
+                done = b;
+                passed = next.passed;
+                list = next.list;
+                may_pass = next.off;
+                may_call = record {
+                  on = next.on;
+                  called = refl;
+                };
+              }) (named_of s t f.holds) refl refl;
           stands = record {
-            stands = rw st (running (closing (its_body p told s callback.Close v c)) (record { timers = l.timers; idle = l.idle;
-                prepare = l.prepare; check = l.check; async = l.async; closing = f.behind ∙ next.left }));
+            stands = rw st (running (closing (its_body p told s callback.Close v c)) (record {
+              timers = l.timers;
+              idle = l.idle;
+              prepare = l.prepare;
+              check = l.check;
+              async = l.async;
+              closing = f.behind ∙ next.left;
+            }));
             counted = call_counted p told s callback.Close v c;
           };
         }
@@ -825,24 +1092,48 @@ left_poll : (p : Program) (told : Told) (s : State) (run : Run) (deadline : Opti
     Follows p told (Running run.mode run.line (Polling deadline)) s (step.poll s run deadline)
 left_poll p told s run deadline c e = cond_both (may_leave s deadline) _ _ (Follows p told (Running run.mode run.line (Polling deadline)) s)
     (λ h. bare_follows p told s (refreshed s) run stage.Done phase.Done (Polling deadline) h done_next (opens_bare phase.Done _ refl) refl done
-        (record { timers = e.timers; idle = e.idle; prepare = e.prepare; check = e.check; async = e.async; closing = e.closing }) c)
+    (record { timers = e.timers; idle = e.idle; prepare = e.prepare; check = e.check; async = e.async; closing = e.closing }) c)
     (λ h. tt)
 
 stage_follows : (p : Program) (told : Told) (s : State) (run : Run) (x : Stage) (at : Standing) → run.stage ≡ x → Kept s → Counted p s.names told →
     StandsIn p None x at → Leaves (rest (waiting x s.ready (due_now s)) s) at → Follows p told (Running run.mode run.line at) s (step.stage_step p s
-        run x)
-stage_follows p told s run stage.Entry at st k c begun l = enter_follows p told s run k c (record { timers = l.timers; idle = l.idle;
-    prepare = l.prepare; check = l.check; async = l.async; closing = l.closing })
+    run x)
+stage_follows p told s run stage.Entry at st k c begun l = enter_follows p told s run k c (record {
+  timers = l.timers;
+  idle = l.idle;
+  prepare = l.prepare;
+  check = l.check;
+  async = l.async;
+  closing = l.closing;
+})
 stage_follows p told s run stage.Pending at st k c pending l =
-    begin_follows p told s run watcher.Idle (Within (In phase.Pending) bare) (bare_over phase.Pending) idle_next k c (record { timers = l.timers;
-        idle = l.idle; prepare = l.prepare; check = l.check; async = l.async; closing = l.closing })
+    begin_follows p told s run watcher.Idle (Within (In phase.Pending) bare) (bare_over phase.Pending) idle_next k c (record {
+      timers = l.timers;
+      idle = l.idle;
+      prepare = l.prepare;
+      check = l.check;
+      async = l.async;
+      closing = l.closing;
+    })
 stage_follows p told s run stage.Idle at st k c (idle b) l = walk_follows p told s run watcher.Idle _ tt st k c l b
 stage_follows p told s run stage.Prepare at st k c (prepare b) l = walk_follows p told s run watcher.Prepare _ tt st k c l b
-stage_follows p told s run (stage.Poll deadline) at st k c polls l = left_poll p told s run deadline c (record { timers = l.timers; idle = l.idle;
-    prepare = l.prepare; check = l.check; async = l.async; closing = l.closing })
+stage_follows p told s run (stage.Poll deadline) at st k c polls l = left_poll p told s run deadline c (record {
+  timers = l.timers;
+  idle = l.idle;
+  prepare = l.prepare;
+  check = l.check;
+  async = l.async;
+  closing = l.closing;
+})
 stage_follows p told s run stage.Done at st k c done l =
-    begin_follows p told s run watcher.Async (Within (In phase.Done) bare) (bare_over phase.Done) async_next k c (record { timers = l.timers;
-        idle = l.idle; prepare = l.prepare; check = l.check; async = l.async; closing = l.closing })
+    begin_follows p told s run watcher.Async (Within (In phase.Done) bare) (bare_over phase.Done) async_next k c (record {
+      timers = l.timers;
+      idle = l.idle;
+      prepare = l.prepare;
+      check = l.check;
+      async = l.async;
+      closing = l.closing;
+    })
 stage_follows p told s run stage.Async at st k c (async b) l = async_follows p told s run _ st k c l b
 stage_follows p told s run stage.Check at st k c (check b) l = walk_follows p told s run watcher.Check _ tt st k c l b
 stage_follows p told s run stage.Closing at st k c (closing b) l = closing_follows p told s run _ st k c l b
@@ -927,8 +1218,12 @@ async_left s o w more k l =
       idle = still_none _ s.idle.yet _ f.idle l.idle;
       prepare = still_none _ s.prepare.yet _ f.prepare l.prepare;
       check = still_none _ s.check.yet _ f.check l.check;
-      async = record { gone = l.async.gone; behind = l.async.behind; all = l.async.all;
-          left = more_left l.async.behind w.off _ s.async.yet _ f.async l.async.left };
+      async = record {
+        gone = l.async.gone;
+        behind = l.async.behind;
+        all = l.async.all;
+        left = more_left l.async.behind w.off _ s.async.yet _ f.async l.async.left;
+      };
       closing = f.closing ∙ l.closing;
     }
 
@@ -986,29 +1281,35 @@ nothing_there e f = cc (e, f)
 
 -- the state after an op of a body
 abbrev after_body : Program → State → Run → Body → Op → State
-after_body p s run body o = record (do_op s o).state { place = place.Running (record run { body = body_from p body.callback body.name body.call
-    (body.next + 1) }) }
+after_body p s run body o = record (do_op s o).state {
+  place = place.Running (record run {
+    body = body_from p body.callback body.name body.call
+        (body.next + 1);
+  });
+}
 
 -- the next op of a body, in any section
 op_follows : (p : Program) (told : Told) (s : State) (run : Run) (body : Body) (part : Section) (w : Walk) (x : CallbackLine) →
     slice_get (lines_in p body.callback body.name) body.next ≡ Some x → Kept s → Counted p s.names told → (b : IsBody p (Some body) w.body) →
     ((more : List Site) → IsBody p (body_from p body.callback body.name body.call (body.next + 1)) more →
-      StandsAt p (after_body p s run body x.op) (after_body p s run body x.op).place (Running run.mode run.line (Within part (done_one s x.op part w
-          more)))) →
+    StandsAt p (after_body p s run body x.op) (after_body p s run body x.op).place (Running run.mode run.line (Within part (done_one s x.op part w
+    more)))) →
     Follows p told (Running run.mode run.line (Within part w)) s (step.body_step p s run body (Some x))
 op_follows p told s run body part w x e k c b stands = record {
   to = _;
   goes = doc.body_op (site.In body.callback body.name body.next) _ x.op _ b.are (ap (option_map (λ (l : CallbackLine). l.op)) e) refl (op_effect s
       x.op k).lasts;
-  stands = record { stands = stands _ (is_body p body.callback body.name body.call (body.next + 1));
-      counted = counted_kept p _ s.names told (op_effect s x.op k).calls c };
+  stands = record {
+    stands = stands _ (is_body p body.callback body.name body.call (body.next + 1));
+    counted = counted_kept p _ s.names told (op_effect s x.op k).calls c;
+  };
 }
 
 body_follows : (p : Program) (told : Told) (s : State) (run : Run) (body : Body) (x : Stage) (at : Standing) (l : Option CallbackLine) → run.stage ≡
     x →
     slice_get (lines_in p body.callback body.name) body.next ≡ l → Kept s → Counted p s.names told →
     StandsIn p (Some body) x at → Leaves (rest (waiting x s.ready (due_now s)) s) at → Follows p told (Running run.mode run.line at) s
-        (step.body_step p s run body l)
+    (step.body_step p s run body l)
 body_follows p told s run body x at None st e k c (idle b) l = absurd (nothing_there e b.there)
 body_follows p told s run body x at None st e k c (prepare b) l = absurd (nothing_there e b.there)
 body_follows p told s run body x at None st e k c (check b) l = absurd (nothing_there e b.there)
@@ -1039,17 +1340,53 @@ main_follows : (p : Program) (told : Told) (s : State) (i : ℕ) (x : Option Mai
     NobodyLeft (rest s.ready s) →
     Follows p told (Between i) s (step.main_step s i x)
 main_follows p told s i None e k c l = tt
-main_follows p told s i (Some (main.Run m)) e k c l = record { to = Running m i Begun; goes = doc.run m e refl (run_lasts m s);
-    stands = begun_run m } where
+main_follows p told s i (Some (main.Run m)) e k c l = record {
+  to = Running m i Begun;
+  goes = doc.run m e refl (run_lasts m s);
+  stands = begun_run m;
+} where
   begun_run : (x : Mode) →
-      Stands p told (record (if is_default x then refreshed s else s) { place = place.Running (record { mode = m; line = i; stage = stage.Entry;
-          body = None }) }) (Running m i Begun)
-  begun_run Default = record { stands = running begun (record { timers = l.timers; idle = l.idle; prepare = l.prepare; check = l.check;
-      async = l.async; closing = l.closing }); counted = c }
-  begun_run Once = record { stands = running begun (record { timers = l.timers; idle = l.idle; prepare = l.prepare; check = l.check;
-      async = l.async; closing = l.closing }); counted = c }
-  begun_run Nowait = record { stands = running begun (record { timers = l.timers; idle = l.idle; prepare = l.prepare; check = l.check;
-      async = l.async; closing = l.closing }); counted = c }
+      Stands p told (record (if is_default x then refreshed s else s) {
+        place = place.Running (record {
+          mode = m;
+          line = i;
+          stage = stage.Entry;
+          body = None;
+        });
+      }) (Running m i Begun)
+  begun_run Default = record {
+    stands = running begun (record {
+      timers = l.timers;
+      idle = l.idle;
+      prepare = l.prepare;
+      check = l.check;
+      async = l.async;
+      closing = l.closing;
+    });
+    counted = c;
+  }
+  begun_run Once = record {
+    stands = running begun (record {
+      timers = l.timers;
+      idle = l.idle;
+      prepare = l.prepare;
+      check = l.check;
+      async = l.async;
+      closing = l.closing;
+    });
+    counted = c;
+  }
+  begun_run Nowait = record {
+    stands = running begun (record {
+      timers = l.timers;
+      idle = l.idle;
+      prepare = l.prepare;
+      check = l.check;
+      async = l.async;
+      closing = l.closing;
+    });
+    counted = c;
+  }
 main_follows p told s i (Some (main.Op o)) e k c l = record {
   to = Between (i + 1);
   goes = doc.main_line o _ (ap main_op e) refl (op_effect s o k).lasts;
@@ -1058,7 +1395,7 @@ main_follows p told s i (Some (main.Op o)) e k c l = record {
 
 run_follows : (p : Program) (told : Told) (s : State) (run : Run) (body : Option Body) (at : Standing) → Kept s → Counted p s.names told →
     StandsIn p body run.stage at → Leaves (rest (waiting run.stage s.ready (due_now s)) s) at → Follows p told (Running run.mode run.line at) s
-        (step.run_step p s run body)
+    (step.run_step p s run body)
 run_follows p told s run None at k c h l = stage_follows p told s run run.stage at refl k c h l
 run_follows p told s run (Some body) at k c h l =
     body_follows p told s run body run.stage at (slice_get (lines_in p body.callback body.name) body.next) refl refl k c h l
@@ -1079,9 +1416,15 @@ tick_follows p told s at ms h = cond_both (nat_le (s.clock + ms) 461168601842738
 send_follows : (p : Program) (told : Told) (s : State) (at : Position) (v : Var) → Stands p told s at → Follows p told at s (step.sent_to s v)
 send_follows p told s at v h = cond_both (nat_lt v.0 (length s.names)) _ _ (Follows p told at s)
     (λ e. send_both s v (λ (c : ops.Coded). FollowsLine p told at s (seen.Send v c.code) c.state)
-      (λ c no_success. record { to = at; goes = doc.sent v c refl refl; stands = record { stands = h.stands; counted = h.counted } })
-      (λ t f stays. record { to = at; goes = doc.sent v code.Ok refl refl; stands = record { stands = moved t s.place at h.stands;
-          counted = h.counted } }))
+    (λ c no_success. record { to = at; goes = doc.sent v c refl refl; stands = record { stands = h.stands; counted = h.counted } })
+    (λ t f stays. record {
+      to = at;
+      goes = doc.sent v code.Ok refl refl;
+      stands = record {
+        stands = moved t s.place at h.stands;
+        counted = h.counted;
+      };
+    }))
     (λ e. tt)
   where
     moved : (t : Id × HandleRecord) (x : Place) (y : Position) → StandsAt p s x y → StandsAt p (with_handle s t.0 (records.sent t.1)) x y
@@ -1119,7 +1462,7 @@ one_step : (p : Program) (told : Told) (s : State) (at : Position) (es : List Ev
     StaysKept n →
     Stands p told s at → Follows p told at s n →
     ((told' : Told) (t : State) (to : Position) (now : Lasting) → lasting t ≡ now → Kept t → Stands p told' t to → GoesOn p to told' now
-        (history_from p t es)) →
+    (history_from p t es)) →
     GoesOn p at told was (line_of_step s n ++ history_from p (state_of s n) es)
 one_step p told s at es (Moves t (Some what)) was l k j h f more = line l f.goes (more (told_with told what) t f.to (lasting t) refl j f.stands)
 one_step p told s at es (Moves t None) was l k j h f more = more told t at was (f.1 ∙ l) j f.0
@@ -1135,5 +1478,7 @@ goes_on p (e ∷ es) told s at was l k h =
 pub documented : (p : Program) (es : List Event) → Documented p (history p es)
 unfolding history
 documented p es = goes_on p es nothing_told (fresh p) (Between 0) at_first refl (fresh_kept p)
-    (record { stands = between (record { timers = refl; idle = refl; prepare = refl; check = refl; async = refl; closing = refl });
-        counted = counted_fresh p })
+    (record {
+      stands = between (record { timers = refl; idle = refl; prepare = refl; check = refl; async = refl; closing = refl });
+      counted = counted_fresh p;
+    })

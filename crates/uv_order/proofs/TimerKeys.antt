@@ -42,7 +42,7 @@ pub equal_key : (a b : Due) → due_cmp a b ≡ Equal → a ≡ b
 equal_key a b e =
     let parts = equal_parts (nat_cmp a.at b.at) (nat_cmp a.start b.start) e in
     same_parts a b (equal_number a.at b.at (nat_cmp a.at b.at) (says a.at b.at) parts.0)
-        (equal_number a.start b.start (nat_cmp a.start b.start) (says a.start b.start) parts.1)
+    (equal_number a.start b.start (nat_cmp a.start b.start) (says a.start b.start) parts.1)
 
 is_equal : (o : Ordering) → is_eq o ≡ true → o ≡ Equal
 is_equal Less e = cc e
@@ -191,8 +191,11 @@ in_order_with (t ∷ ts) key id s = at (due_cmp key t.0) refl (in_order_with ts 
 -- a key whose start number was not yet drawn is new
 pub is_new : (ts : List (Due × Id)) (key : Due) → ((other : Due) (id : Id) → Has ts other id → other.start < key.start) → IsNew key ts
 is_new [] key h = tt
-is_new (t ∷ ts) key h = (turned_other (due_cmp t.0 key) (another t.0 key (h t.0 t.1 (inl (refl, refl))))
-    (due_cmp_total.antisymm key t.0), is_new ts key (λ other id k. h other id (inr k))) where
+is_new (t ∷ ts) key h = (
+  turned_other (due_cmp t.0 key) (another t.0 key (h t.0 t.1 (inl (refl, refl))))
+      (due_cmp_total.antisymm key t.0),
+  is_new ts key (λ other id k. h other id (inr k)),
+) where
   turned_other : (o : Ordering) → is_eq o ≡ false → due_cmp key t.0 ≡ ordering_reverse o → is_eq (due_cmp key t.0) ≡ false
   turned_other Less e f = ap is_eq f
   turned_other Equal e f = cc e
@@ -232,6 +235,9 @@ distinct_due time [] s one = tt
 distinct_due time (t ∷ ts) s one = at (nat_le t.0.at time) (distinct_due time ts s.1 (λ a b id h k. one a b id (inr h) (inr k))) where
   at : (b : Bool) → AreDistinct (due_ids time ts) → AreDistinct
       (map (λ (u : Due × Id). u.1) (cond b (t ∷ filter (λ (u : Due × Id). nat_le u.0.at time) ts) (filter (λ (u : Due × Id). nat_le u.0.at time) ts)))
-  at true rest = (due_has time ts t.1 (λ key k. not_before_itself t.0 key (one t.0 key t.1 (inl (refl, refl)) (inr k))
-      (before_each ts t.0 key t.1 s.0 k)), rest)
+  at true rest = (
+    due_has time ts t.1 (λ key k. not_before_itself t.0 key (one t.0 key t.1 (inl (refl, refl)) (inr k))
+        (before_each ts t.0 key t.1 s.0 k)),
+    rest,
+  )
   at false rest = rest

@@ -373,8 +373,10 @@ pub data Goes (p : Program) (told : Told) : Position → Line → Position → T
       → IsOf l.before id v
       → l.seen ≡ call_line kind v id
       → lasting l.after ≡ lasting l.before
-      → Goes p told (Running m i (Within part w)) l (Running m i (Within part (record w { ahead = behind;
-          body = body_of p kind v (next_call told kind v) })))
+      → Goes p told (Running m i (Within part w)) l (Running m i (Within part (record w {
+        ahead = behind;
+        body = body_of p kind v (next_call told kind v);
+      })))
   -- the next op of its body
   body_op : {l : Line} {m : Mode} {i : ℕ} {part : Section} {w : Walk} (place : Site) (rest : List Site) (o : Op) (a : Answer)
       → w.body ≡ place ∷ rest
@@ -382,7 +384,7 @@ pub data Goes (p : Program) (told : Told) : Position → Line → Position → T
       → l.seen ≡ seen.Op place a
       → lasting l.after ≡ after_op o l.before
       → Goes p told (Running m i (Within part w)) l
-          (Running m i (Within part (record w { off = taken_off (word_of part) l.before o a ++ w.off; body = rest })))
+      (Running m i (Within part (record w { off = taken_off (word_of part) l.before o a ++ w.off; body = rest })))
   -- steps from outside stand anywhere
   sent : {l : Line} {at : Position} (v : Var) (code : Code)
       → l.seen ≡ seen.Send v code

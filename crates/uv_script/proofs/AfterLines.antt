@@ -93,8 +93,13 @@ pub after_complete : (p q : Program) (line : List ℕ) → AreDistinct p.names �
 unfolding after_line
 after_complete p q line distinct (skips is skipped) = rw ((is_line_decides line).1 is, (is_skipped_decides line).1 skipped) refl
 after_complete p q line distinct (says s is said room) =
-    rw ((is_line_decides line).1 is, says_no_skip p.names line s said, statement_complete p.names
-        (fields_of line) s distinct said, room_complete p s room) refl
+    rw (
+      (is_line_decides line).1 is,
+      says_no_skip p.names line s said,
+      statement_complete p.names
+          (fields_of line) s distinct said,
+      room_complete p s room,
+    ) refl
 
 -- the names of a script are distinct
 distinct_push : (p : Program) (s : Statement) → AreDistinct p.names → IsSound p s → AreDistinct (with_statement p s).names
@@ -139,7 +144,7 @@ lines_few (b ∷ bs) =
     let onto = onto_length b (lines_of bs) in
     let both : length (cond (b == 10) ([] ∷ lines_of bs) (onto_first b (lines_of bs))) ≤ length bs + 1 =
     cond_both (b == 10) ([] ∷ lines_of bs) (onto_first b (lines_of bs)) (λ (ls : List (List ℕ)). length ls ≤ length bs + 1) (λ e. omega arith)
-        (λ e. omega arith) in
+    (λ e. omega arith) in
     omega arith
 
 -- in a loop over lines, what a line and the lines behind it say of their number

@@ -53,7 +53,7 @@ init_sound names fields o e =
     let z = none_is word.0.1 end.0 end.1 in
     subst (IsOp names (codes "init" ∷ fields)) (same_Some _ _ end.2)
     (init name.0.0 v.0 kind.0 (ap (λ r. codes "init" ∷ r)
-        (a ∙ ap (λ r. name.0.0 ∷ r) (b ∙ ap (λ w. w ∷ word.0.1) k ∙ ap (λ r. kind_word kind.0 ∷ r) z)))
+    (a ∙ ap (λ r. name.0.0 ∷ r) (b ∙ ap (λ w. w ∷ word.0.1) k ∙ ap (λ r. kind_word kind.0 ∷ r) z)))
     (place_of-sound names name.0.0 v.0 v.1))
 
 timer_start_sound : (names : List (List ℕ)) (name : List ℕ) (v : Var) (timeout : List ℕ) (fields : List (List ℕ)) (o : Op) → IsDeclared names name v →
@@ -181,7 +181,8 @@ run_sound names fields s e =
     subst (Says names (codes "main" ∷ codes "run" ∷ fields)) (same_Some _ _ end.2)
     (runs m.0 (ap (λ r. codes "main" ∷ codes "run" ∷ r) (a ∙ ap (λ r. word.0.0 ∷ r) z ∙ ap (λ v. v ∷ []) w)))
 
-close_loop_sound : (names fields : List (List ℕ)) (s : Statement) → close_loop_of fields ≡ Some s → Says names (codes "main" ∷ codes "closeloop" ∷ fields) s
+close_loop_sound : (names fields : List (List ℕ)) (s : Statement) → close_loop_of fields ≡ Some s
+    → Says names (codes "main" ∷ codes "closeloop" ∷ fields) s
 unfolding close_loop_of
 close_loop_sound names fields s e =
     let end = bound _ (none_left fields) s e in
@@ -346,7 +347,8 @@ unfolding op_of start_of short_op_of bare_op named_op name_alone
 named_parts names o word name v place e = at o e
   where
     by : (x : Op) (this : List ℕ) (w : Var) → ◌≡◌ {A = Option (List ℕ × Var)} (Some (this, w)) (Some (word, v)) →
-        bytes_eq this (codes "run") ≡ false → bytes_eq this (codes "closeloop") ≡ false → marked this ≡ None → (place_of names name ≡ Some w → op_of names this (name ∷ []) ≡ Some x) →
+        bytes_eq this (codes "run") ≡ false → bytes_eq this (codes "closeloop") ≡ false → marked this ≡ None
+        → (place_of names name ≡ Some w → op_of names this (name ∷ []) ≡ Some x) →
         OpParts names (word ∷ name ∷ []) x
     by x this w said no_run no_close no_mark reads =
         let same = same_Some _ _ said in
@@ -380,7 +382,8 @@ bare_parts : (names : List (List ℕ)) (o : Op) (word : List ℕ) → bare_word 
 unfolding op_of short_op_of bare_op
 bare_parts names o word e = at o e
   where
-    by : (x : Op) (this : List ℕ) → Some this ≡ Some word → bytes_eq this (codes "run") ≡ false → bytes_eq this (codes "closeloop") ≡ false → marked this ≡ None → op_of names this [] ≡ Some x →
+    by : (x : Op) (this : List ℕ) → Some this ≡ Some word → bytes_eq this (codes "run") ≡ false → bytes_eq this (codes "closeloop") ≡ false
+        → marked this ≡ None → op_of names this [] ≡ Some x →
         OpParts names (word ∷ []) x
     by x this said no_run no_close no_mark reads =
         subst (λ (w : List ℕ). OpParts names (w ∷ []) x) (same_Some _ _ said)
@@ -461,7 +464,8 @@ unfolding callback_of calls_of in_call_of in_calls_of
 in_call_complete names kind name v digits k rest o distinct is call p = rw (place_complete names name v distinct is, call, p.parts, p.reads) refl
 
 -- a callback's line, by its word
-by_word : (names : List (List ℕ)) (kind : Callback) (fields : List (List ℕ)) → statement_of names (callback_word kind ∷ fields) ≡ callback_of names kind fields
+by_word : (names : List (List ℕ)) (kind : Callback) (fields : List (List ℕ))
+    → statement_of names (callback_word kind ∷ fields) ≡ callback_of names kind fields
 unfolding statement_of
 by_word names callback.Handle fields = refl
 by_word names callback.Close fields = refl
@@ -478,4 +482,5 @@ statement_complete names fields s distinct (in_callback kind name v rest op e de
     ∙ callback_complete names kind name v rest op distinct declared (op_parts names rest op distinct is)
 statement_complete names fields s distinct (in_call kind name v number k rest op e declared is first last op_is) =
     ap (statement_of names) e ∙ by_word names kind (name ∷ (64 ∷ number) ∷ rest)
-    ∙ in_call_complete names kind name v number k rest op distinct declared (call_complete number k is first last) (op_parts names rest op distinct op_is)
+    ∙ in_call_complete names kind name v number k rest op distinct declared (call_complete number k is first last)
+    (op_parts names rest op distinct op_is)

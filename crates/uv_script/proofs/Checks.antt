@@ -45,9 +45,12 @@ name_parts : (b : ℕ) (bs : List ℕ) → IsName (b ∷ bs) → IsLetter b × (
 name_parts b bs h =
     let e = h.is in
     let first : h.first ≡ b = cc in
-    let rest : h.rest ≡ bs = cc in
-    (subst IsLetter first h.letter, subst (λ (s : List ℕ). length s ≤ 31) rest h.short, subst
-        (All (λ c. IsLetter c ⊎ (IsDigit c ⊎ (c ≡ 95)))) rest h.others)
+    let rest : h.rest ≡ bs = cc in (
+      subst IsLetter first h.letter,
+      subst (λ (s : List ℕ). length s ≤ 31) rest h.short,
+      subst
+          (All (λ c. IsLetter c ⊎ (IsDigit c ⊎ (c ≡ 95)))) rest h.others,
+    )
 
 pub is_name_decides : (name : List ℕ) → Decides (is_name name) (IsName name)
 is_name_decides [] = (λ e. absurd (both_ways false refl e), λ h. absurd (no_name h))
@@ -152,7 +155,7 @@ pub number_parse : (E : Type 0) (text : List ℕ) (n : ℕ) → is_canonical tex
 number_parse E text n front p =
     let plain = (is_canonical_decides text).0 front in
     let q : (all_ascii_digits text ≡ true × (0 < length text) × (digits_value 10 text < 2 ^ 64)) ×
-        (n ≡ digits_value 10 text) = parse_plain own {E = E} 64 text (Ok n) p plain.no_plus in
+    (n ≡ digits_value 10 text) = parse_plain own {E = E} 64 text (Ok n) p plain.no_plus in
     let e : decimal (digits_value 10 text) ≡ text = decimal-digits_value own text q.0.0 q.0.1
-        (λ z. let short = plain.no_zero z in omega arith) q.0.2 in
+    (λ z. let short = plain.no_zero z in omega arith) q.0.2 in
     subst (IsNumber text) (sym q.1) (record { is = sym e; fits = q.0.2 })

@@ -18,7 +18,7 @@ lines_append : (before after : List ℕ) → AreNot 10 before → lines_of (befo
 lines_append [] after h = refl
 lines_append (b ∷ before) after h =
     ap (λ t. cond t ([] ∷ lines_of (before ++ 10 ∷ after)) (onto_first b (lines_of (before ++ 10 ∷ after))))
-        (All-head (λ c. (c == 10) ≡ false) b before h)
+    (All-head (λ c. (c == 10) ≡ false) b before h)
     ∙ ap (onto_first b) (lines_append before after (All-tail (λ c. (c == 10) ≡ false) b before h))
 
 pub lines-cut : (text before after : List ℕ) → IsCut 10 text before after → lines_of text ≡ before ∷ lines_of after

@@ -48,7 +48,7 @@ one_script text p q a b = all_one blank p q (lines_of text) distinct_none a b
 pub no_bad_line : (text : List ℕ) → HasNoBadLine text
 no_bad_line text p number script bad =
     stops bad.before bad.after bad.line bad.script p bad.read bad.refused
-        (subst (λ (lines : List (List ℕ)). ReadsAll blank lines p) bad.lines_are script)
+    (subst (λ (lines : List (List ℕ)). ReadsAll blank lines p) bad.lines_are script)
 
 -- of two cuts of a list the longer one has the other's element
 record GoesPast (before longer : List (List ℕ)) (line : List ℕ) : Type 0 where
@@ -70,7 +70,7 @@ not_past : (text : List ℕ) (m n : ℕ) (a : IsBadLine text m) (b : IsBadLine t
 not_past text m n a b less =
     let past = goes_past a.before b.before a.after b.after a.line b.line (sym a.lines_are ∙ b.lines_are) less in
     stops a.before past.between a.line a.script b.script a.read a.refused
-        (subst (λ (lines : List (List ℕ)). ReadsAll blank lines b.script) past.is b.read)
+    (subst (λ (lines : List (List ℕ)). ReadsAll blank lines b.script) past.is b.read)
 
 pub one_bad_line : (text : List ℕ) → HasOneBadLine text
 one_bad_line text m n a b =

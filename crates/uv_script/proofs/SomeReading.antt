@@ -13,10 +13,21 @@ reading_from : (text : List ℕ) (p : Program) (before lines : List (List ℕ)) 
 reading_from text p before [] e read = inl (p, subst (λ (ls : List (List ℕ)). ReadsAll blank ls p) (sym (append-nil before) ∙ sym e) read)
 reading_from text p before (line ∷ rest) e read = at (after_line p line) refl
     (λ q r. reading_from text q (before ++ line ∷ []) rest (e ∙ sym (append_assoc before (line ∷ []) rest)) r) where
-  at : (o : Option Program) → after_line p line ≡ o → ((q : Program) → ReadsAll blank (before ++ line ∷ []) q → HasReading text) → HasReading text
-  at (Some q) f onward = onward q (ReadsAll-push blank p q before line read (after_sound p q line f))
-  at None f onward = inr (length before + 1, record { before = before; line = line; after = rest; lines_are = e; counted = refl; script = p;
-      read = read; refused = refused_line p before line read f })
+      at : (o : Option Program) → after_line p line ≡ o → ((q : Program) → ReadsAll blank (before ++ line ∷ []) q → HasReading text) → HasReading text
+      at (Some q) f onward = onward q (ReadsAll-push blank p q before line read (after_sound p q line f))
+      at None f onward = inr (
+        length before + 1,
+        record {
+          before = before;
+          line = line;
+          after = rest;
+          lines_are = e;
+          counted = refl;
+          script = p;
+          read = read;
+          refused = refused_line p before line read f;
+        },
+      )
 
 pub some_reading : (text : List ℕ) → HasReading text
 some_reading text = reading_from text blank [] (lines_of text) refl none

@@ -55,7 +55,10 @@ fn reads_a_script(rt: HostRuntime) -> Result<(), Fail> {
         call: None,
         op: Op::Init(a_1, Kind::Timer),
     };
-    assert_eq!(rt; script.lines_in(Callback::Handle, tick), [last, each].as_slice());
+    assert_eq!(rt;
+        script.lines_in(Callback::Handle, tick),
+        [last, each].as_slice()
+    );
     assert_eq!(rt; script.lines_in(Callback::Handle, a_1).len(), 1);
     assert_eq!(rt; script.lines_in(Callback::Handle, Var(2)).len(), 0);
     Ok(())

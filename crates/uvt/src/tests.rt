@@ -56,7 +56,7 @@ struct Outside {
     errors: &'static str,
 }
 
-const OUTSIDE: [Outside; 13] = [
+const OUTSIDE: [Outside; 15] = [
     Outside {
         what: "a name that is not declared",
         input: b"var a\nmain start b 1 0\nbegin\n",
@@ -74,6 +74,20 @@ const OUTSIDE: [Outside; 13] = [
     Outside {
         what: "a number out of range in the script",
         input: b"var a\nmain start a 18446744073709551616 0\nbegin\n",
+        output: "",
+        status: 2,
+        errors: "uvt: bad script line 2\n",
+    },
+    Outside {
+        what: "a close callback of a name that is not declared",
+        input: b"var a\nclosed a close b\nbegin\n",
+        output: "",
+        status: 2,
+        errors: "uvt: bad script line 2\n",
+    },
+    Outside {
+        what: "the loop is closed in a callback",
+        input: b"var a\non a closeloop\nbegin\n",
         output: "",
         status: 2,
         errors: "uvt: bad script line 2\n",

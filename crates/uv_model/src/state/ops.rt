@@ -51,9 +51,9 @@ impl LoopState {
     #[tactic(auto, using(crate::proofs::Lists::popped))]
     fn add(&mut self, name: Var, kind: Kind, id: Id) -> Result<(), AllocError>
         requires { next_free self.old.arena ≡ Some id }
-        ensures ok {
-            OnOk result (self.new ≡ listed_last (record self.old { arena = taken id (content.Handle (inited name kind)) self.old.arena }) kind id)
-        }
+        ensures ok { OnOk result (
+            self.new ≡ listed_last (record self.old { arena = taken id (content.Handle (inited name kind)) self.old.arena }) kind id
+            ) }
         ensures err { OnErr result (self.new ≡ self.old) }
     {
         let content = Content::Handle(HandleRecord::new(name, kind));
@@ -214,10 +214,8 @@ impl LoopState {
 
     /// References a handle, or doesn't (uv_ref, uv_unref).
     fn set_referenced(&mut self, name: Var, referenced: bool) -> Answer
-        ensures {
-            on_handle self.old (live self.old name) no_refusal (set_referenced self.old referenced)
-            ≡ record { state = self.new; answer = result }
-        }
+        ensures { on_handle self.old (live self.old name) no_refusal (set_referenced self.old referenced)
+            ≡ record { state = self.new; answer = result } }
     {
         let Some((id, handle)) = self.live(name) else {
             return Answer::Code(Code::Estale);

@@ -6,8 +6,8 @@ ghost use Rattle.uv_model.specs.Bounds.{CanStep, AreBelow};
 ghost use Rattle.uv_model.specs.Next.{Moves, next_line, body_at, body_from, begins, new_iteration, ends, goes, enter, begin_poll, poll, begin_timers, leave_timers, calls, call, fire, first_due, collect, timers, stage_step, body_step, main_step, sent_to, tick, next};
 ghost use Rattle.uv_model.specs.Steps.{Steps, Falls};
 
-use crate::named::Named;
 use crate::machine::Outcome;
+use crate::named::Named;
 use crate::place::{Body, Place, Run, Stage, TimersOf, Timing};
 use crate::state::LoopState;
 use std::alloc::AllocError;
@@ -95,7 +95,11 @@ impl LoopState {
         if !self.goes() {
             self.end(run)
         } else if matches!(run.mode, Mode::Default) {
-            self.begin(run, Stage::Timers(TimersOf::Entry, Timing::Collecting), Phase::Timers)
+            self.begin(
+                run,
+                Stage::Timers(TimersOf::Entry, Timing::Collecting),
+                Phase::Timers,
+            )
         } else {
             self.new_iteration(run)
         }
@@ -132,7 +136,11 @@ impl LoopState {
         ensures { begin_timers self.old run ≡ Moves self.new result.seen }
     {
         self.refresh();
-        self.begin(run, Stage::Timers(TimersOf::Iteration, Timing::Collecting), Phase::Timers)
+        self.begin(
+            run,
+            Stage::Timers(TimersOf::Iteration, Timing::Collecting),
+            Phase::Timers,
+        )
     }
 
     /// From the timers to the next iteration, or to the end of the run.
@@ -276,7 +284,8 @@ impl LoopState {
     fn in_body(&mut self, script: &Script, run: Run, body: Body) -> Result<Outcome, Fault>
         requires able { CanStep self.old }
         requires line { run.line < 2 ^ 63 }
-        ensures { Steps (body_step script.now self.old run body (slice_get (lines_in script.now body.callback body.name) body.next)) self.old result self.new }
+        ensures { Steps (body_step script.now self.old run body (slice_get (lines_in script.now body.callback body.name) body.next))
+            self.old result self.new }
     {
         let lines = script.lines_in(body.callback, body.name);
         let Some(line) = lines.get(body.next).copied() else {

@@ -13,10 +13,8 @@ use uv_records::HandleRecord;
 
 /// Takes a timer off the order, if it is active.
 fn remove_timer(timers: &mut BTreeMap<Due, Id>, handle: HandleRecord)
-    ensures {
-        timers.new.entries
-        ≡ (if is_timer handle.kind && handle.active then without_timer timers.old.entries handle.due else timers.old.entries)
-    }
+    ensures { timers.new.entries
+        ≡ (if is_timer handle.kind && handle.active then without_timer timers.old.entries handle.due else timers.old.entries) }
 {
     if handle.is_timer() && handle.active {
         timers.remove(&handle.due);

@@ -7,7 +7,7 @@ pub struct Conversation {
     pub output: &'static str,
 }
 
-pub const CONVERSATIONS: [Conversation; 12] = [
+pub const CONVERSATIONS: [Conversation; 14] = [
     Conversation {
         what: "a loop with nothing to do ends at once",
         input: "begin\n\
@@ -367,5 +367,98 @@ pub const CONVERSATIONS: [Conversation; 12] = [
          refused ended\n\
          at 0\n\
          refused range\n",
+    },
+    Conversation {
+        what: "a close callback closes another handle and makes a third",
+        input: "var a\n\
+         var b\n\
+         var c\n\
+         main init a timer\n\
+         main init b timer\n\
+         main close a\n\
+         main run default\n\
+         main stop a\n\
+         closed a close b\n\
+         closed a init c timer\n\
+         begin\n\
+         loop 100\n",
+        output: "init a timer = 0.0\n\
+         init b timer = 1.0\n\
+         close a = ok\n\
+         run default\n\
+         timers\n\
+         pending\n\
+         idle\n\
+         prepare\n\
+         poll 0\n\
+         done\n\
+         async\n\
+         check\n\
+         closing\n\
+         closed a 0.0\n\
+         close b = ok\n\
+         init c timer = 0.1\n\
+         timers\n\
+         pending\n\
+         idle\n\
+         prepare\n\
+         poll 0\n\
+         done\n\
+         async\n\
+         check\n\
+         closing\n\
+         closed b 1.0\n\
+         timers\n\
+         end 0\n\
+         stop a = ESTALE\n\
+         refused ended\n",
+    },
+    Conversation {
+        what: "a loop with a handle that closes is busy",
+        input: "var a\n\
+         var t\n\
+         main init a check\n\
+         main init t timer\n\
+         main start t 5 0\n\
+         main close a\n\
+         main run once\n\
+         main closeloop\n\
+         main close t\n\
+         main run once\n\
+         main closeloop\n\
+         begin\n\
+         loop 100\n",
+        output: "init a check = 0.0\n\
+         init t timer = 1.0\n\
+         start t 5 0 = ok\n\
+         close a = ok\n\
+         run once\n\
+         pending\n\
+         idle\n\
+         prepare\n\
+         poll 0\n\
+         done\n\
+         async\n\
+         check\n\
+         closing\n\
+         closed a 0.0\n\
+         timers\n\
+         end 1\n\
+         closeloop = EBUSY\n\
+         close t = ok\n\
+         run once\n\
+         pending\n\
+         idle\n\
+         prepare\n\
+         poll 0\n\
+         done\n\
+         async\n\
+         check\n\
+         closing\n\
+         closed t 1.0\n\
+         timers\n\
+         end 0\n\
+         closeloop = ok\n\
+         refused ended\n",
     },
 ];

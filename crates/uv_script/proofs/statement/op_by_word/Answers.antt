@@ -8,4 +8,4 @@ pub returns-in-repeat : goal.returns-in-repeat
 unfolding op_of
 returns-in-repeat c =
     c.set_repeat.ensures ∙ ap (λ word. op_of c.args.names.now word c.args.fields)
-        (sym (spelled c.args.word.now (codes "repeat") (omega arith) (search rules)))
+    (sym (spelled c.args.word.now (codes "repeat") (omega arith) (search rules)))

@@ -27,7 +27,7 @@ returns-in_default-parse-clause-value c =
 pub returns-clause-some : goal.returns-clause-some
 returns-clause-some c =
     number_parse ℕ c.args.field.now c.in-Ok-parse.number (sym c.if-not-is_canonical.ensures)
-        (rw c.in-Ok.ensures.cases.0 at c.in-Ok-parse.ensures.value.0)
+    (rw c.in-Ok.ensures.cases.0 at c.in-Ok-parse.ensures.value.0)
 
 pub returns-clause-value : goal.returns-clause-value
 returns-clause-value c =

@@ -17,7 +17,7 @@ pub overflow_add-number : goal.overflow_add-number
 overflow_add-number c =
     let loop = c.loop-line in
     let n = line_number (λ line. line.now) c.args.text.now loop.yielded c.in-Some.line.now loop.line-iterator c.next.new.self loop.invariant.rest
-        c.in-Some.ensures.steps in
+    c.in-Some.ensures.steps in
     omega (arith, loop.invariant.counted)
 
 pub loop-line-preserved : goal.loop-line-preserved
@@ -36,5 +36,5 @@ pub returns-in-Err : goal.returns-in-Err
 returns-in-Err c =
     let loop = c.loop-line in
     line_fault (λ line. line.now) c.args.text.now
-        (loop.number + 1) loop.script c.read_line.new.self loop.yielded c.in-Some.line loop.line-iterator c.next.new.self c.in-Err.fault
+    (loop.number + 1) loop.script c.read_line.new.self loop.yielded c.in-Some.line loop.line-iterator c.next.new.self c.in-Err.fault
     loop.invariant.read loop.invariant.rest c.in-Some.ensures.steps (ap (λ n. n + 1) loop.invariant.counted) c.in-Err.ensures
