@@ -8,7 +8,7 @@ use Rattle.uv_ids.specs.declared.due.Due.{Due}
 use Rattle.uv_ids.specs.declared.phase.Kind.TheVariants as kind
 use Rattle.uv_records.specs.declared.handle.HandleRecord.{HandleRecord}
 use Rattle.uv_records.specs.declared.slot.Slot.{Slot}
-use Rattle.uv_records.specs.Slots.{held_in, held, with_held}
+use Rattle.uv_records.specs.Slots.{held_in}
 use Rattle.uv_model.specs.declared.content.Content.{Content}
 use Rattle.uv_model.specs.declared.content.Content.TheVariants as content
 use Rattle.uv_model.specs.Content.{handle_in}

@@ -4,7 +4,11 @@ mod Holding
 pub mod Histories
 mod OpCases
 mod Keeping
+mod KeptSteps
 mod Bodies
 mod OpEffects
 mod Counted
-pub mod Standing
+mod Standing
+mod TimersFollow
+mod WatchersFollow
+pub mod Follows

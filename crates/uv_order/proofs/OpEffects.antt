@@ -1,5 +1,5 @@
 -- What an op leaves of the lists that a section walks, of the counts of calls, and of what lasts from line to line.
-use Rattle.std.proofs.Common.{◌≡◌, ℕ, ◌==◌, List, [], ◌∷◌, ◌++◌, Bool, true, false, Option, Some, None, length, slice_get, slice_set, unwrap_or, refl, ap, sym, ◌∙◌, zero, suc}
+use Rattle.std.proofs.Common.{◌≡◌, ℕ, ◌==◌, List, [], ◌∷◌, false, Option, Some, None, length, slice_get, slice_set, unwrap_or, refl, ap, sym, ◌∙◌, zero, suc}
 use Rattle.std.proofs.lemmas.Bool.{cond_both}
 use Rattle.uv_ids.specs.declared.id.Id.{Id}
 use Rattle.uv_ids.specs.declared.id.Var.{Var}
@@ -17,13 +17,12 @@ use Rattle.uv_records.specs.declared.handle.HandleRecord.{HandleRecord}
 use Rattle.uv_model.specs.declared.named.Named.{Named}
 use Rattle.uv_records.specs.declared.lists.WatcherKind.{WatcherKind}
 use Rattle.uv_records.specs.declared.lists.WatcherKind.TheVariants as watcher
-use Rattle.uv_records.specs.Handles as records
 use Rattle.uv_records.specs.Lists.{watcher_kind}
 use Rattle.uv_records.specs.Refusals.{no_refusal, timer_refusal, start_timer_refusal, start_watcher_refusal, stop_refusal, again_refusal, close_refusal}
 use Rattle.uv_records.specs.Slots.{next_free}
 use Rattle.uv_records.specs.Walks.{Walk}
 use Rattle.uv_model.specs.Ids.{without_id}
-use Rattle.uv_model.specs.State.{State, handle, live, named, unbound}
+use Rattle.uv_model.specs.State.{State, handle, live, unbound}
 use Rattle.uv_model.specs.Timers.{stopped, started}
 use Rattle.uv_model.specs.Ops as ops
 use Rattle.uv_model.specs.Ops.{do_op}

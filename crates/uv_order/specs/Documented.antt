@@ -31,7 +31,7 @@ use Rattle.uv_model.specs.Ids.{has_some}
 use Rattle.uv_model.specs.State.{State, handle, named}
 use Rattle.uv_model.specs.Timeout.{is_alive, has_pending, poll_timeout_by, deadline_of, has_passed}
 use Rattle.uv_order.specs.Line.{Line}
-use Rattle.uv_order.specs.Active.{has_id, AreDistinct, AreActive, AreClosing, AreTimers, AreDue}
+use Rattle.uv_order.specs.Active.{has_id, AreActive, AreClosing, AreTimers, AreDue}
 
 -- ---- what lasts from line to line
 

@@ -10,7 +10,7 @@ use Rattle.uv_script.specs.Program.{Program}
 use Rattle.uv_model.specs.After.{seen_by, lines}
 use Rattle.uv_model.proofs.Runs.{length-seen_by}
 use Rattle.uv_order.proofs.Histories.{lines-history}
-use Rattle.uv_order.proofs.Standing.{documented}
+use Rattle.uv_order.proofs.Follows.{documented}
 use Rattle.uv_session.specs.Shown.{Shown, IsDocumented}
 
 -- the lines that are there

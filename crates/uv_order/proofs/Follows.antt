@@ -1,0 +1,451 @@
+-- A whole step goes on from where the state stands, and so does every list of them.
+use Rattle.std.proofs.Common.{◌≡◌, ℕ, ◌+◌, List, [], ◌∷◌, ◌++◌, Option, Some, None, length, slice_get, nat_le, nat_lt, refl, ap, sym, ◌∙◌, if◌then◌else◌}
+use Rattle.std.specs.Prelude.{option_map}
+use Rattle.std.proofs.lemmas.Bool.{cond_both}
+use Rattle.uv_ids.specs.declared.id.Id.{Id}
+use Rattle.uv_ids.specs.declared.id.Var.{Var}
+use Rattle.uv_ids.specs.declared.event.Event.{Event}
+use Rattle.uv_ids.specs.declared.event.Event.TheVariants.{Loop, Send, Tick}
+use Rattle.uv_ids.specs.declared.code.Code.TheVariants as code
+use Rattle.uv_ids.specs.declared.code.Answer.{Answer}
+use Rattle.uv_ids.specs.declared.code.Answer.TheVariants as answer
+use Rattle.uv_ids.specs.declared.phase.Mode.{Mode}
+use Rattle.uv_ids.specs.declared.phase.Mode.TheVariants.{Default, Once, Nowait}
+use Rattle.uv_ids.specs.declared.phase.Phase.TheVariants as phase
+use Rattle.uv_ids.specs.declared.seen.Seen.TheVariants as seen
+use Rattle.uv_ids.specs.declared.seen.Site.{Site}
+use Rattle.uv_ids.specs.declared.seen.Site.TheVariants as site
+use Rattle.uv_script.specs.declared.op.Op.{Op}
+use Rattle.uv_script.specs.declared.op.MainOp.{MainOp}
+use Rattle.uv_script.specs.declared.op.MainOp.TheVariants as main
+use Rattle.uv_script.specs.declared.op.CallbackLine.{CallbackLine}
+use Rattle.uv_script.specs.Program.{Program, lines_in, main_op}
+use Rattle.uv_records.specs.declared.handle.HandleRecord.{HandleRecord}
+use Rattle.uv_model.specs.declared.place.Body.{Body}
+use Rattle.uv_model.specs.declared.place.Run.{Run}
+use Rattle.uv_model.specs.declared.place.Stage.{Stage}
+use Rattle.uv_model.specs.declared.place.Stage.TheVariants as stage
+use Rattle.uv_model.specs.declared.place.TimersOf.{TimersOf}
+use Rattle.uv_model.specs.declared.place.TimersOf.TheVariants as timers_of
+use Rattle.uv_model.specs.declared.place.Timing.TheVariants.{Collecting, Firing}
+use Rattle.uv_model.specs.declared.place.Place.{Place}
+use Rattle.uv_model.specs.declared.place.Place.TheVariants as place
+use Rattle.uv_records.specs.declared.lists.WatcherKind.TheVariants as watcher
+use Rattle.uv_records.specs.Handles as records
+use Rattle.uv_model.specs.State.{State, fresh, with_handle, refreshed}
+use Rattle.uv_model.specs.Ops as ops
+use Rattle.uv_model.specs.Ops.{do_op}
+use Rattle.uv_model.specs.Next as step
+use Rattle.uv_model.specs.Next.{Next, Moves, Refuses, next, goes, is_default, call, calls, first_due, collected, front_moved, may_leave, body_from}
+use Rattle.uv_model.specs.After.{state_of}
+use Rattle.uv_order.specs.History.{line_of_step, history_from, history}
+use Rattle.uv_order.specs.Documented as doc
+use Rattle.uv_order.specs.Documented.{Told, nothing_told, told_of, told_with, Lasting, lasting, at_first, Section, Entry, In, word_of, part_after, part_of, Walk, Opens, IsOver, CallsNext, MayCall, is_called, callback_in, call_line, Standing, Begun, Within, Polling, MayLeave, PollsFor, Position, Between, Running, Goes, GoesOn, cut, line, Documented, body_of, next_call, taken_off}
+use Rattle.uv_order.proofs.IdLists.{left_of, more_off}
+use Rattle.uv_order.proofs.OpCases.{send_both}
+use Rattle.uv_order.proofs.Keeping.{Kept}
+use Rattle.uv_order.proofs.KeptSteps.{StaysKept, next_kept, fresh_kept, IsRestedAt, IsRestedIn}
+use Rattle.uv_order.proofs.Bodies.{IsBody, is_body}
+use Rattle.uv_order.proofs.OpEffects.{Effect, op_effect}
+use Rattle.uv_order.proofs.Counted.{Counted, counted_kept, counted_fresh}
+use Rattle.uv_order.proofs.Standing.{bare, section_of, StandsIn, waiting, rest, Leaves, NobodyLeft, due_now, StandsAt, Stands, FollowsLine, Follows, idle_next, done_next, async_next, bare_over, opens_bare, begun, pending, idle, prepare, polls, done, async, check, closing, collects, fires, between, running}
+use Rattle.uv_order.proofs.TimersFollow.{enter_follows, timers_left, left_timers, fire_follows, collect_follows}
+use Rattle.uv_order.proofs.WatchersFollow.{begin_follows, bare_follows, walk_follows, async_follows, closing_follows}
+
+-- ---- a stage
+
+-- the poll is left where it may be
+pub left_poll : (p : Program) (told : Told) (s : State) (run : Run) (deadline : Option ℕ) → Counted p s.names told → NobodyLeft (rest s.ready s) →
+    Follows p told (Running run.mode run.line (Polling deadline)) s (step.poll s run deadline)
+left_poll p told s run deadline c e = cond_both (may_leave s deadline) _ _ (Follows p told (Running run.mode run.line (Polling deadline)) s)
+    (λ h. bare_follows p told s (refreshed s) run stage.Done phase.Done (Polling deadline) h done_next (opens_bare phase.Done _ refl) refl done
+    (record { timers = e.timers; idle = e.idle; prepare = e.prepare; check = e.check; async = e.async; closing = e.closing }) c)
+    (λ h. tt)
+
+pub stage_follows : (p : Program) (told : Told) (s : State) (run : Run) (x : Stage) (at : Standing) → run.stage ≡ x → Kept s → Counted p s.names told →
+    StandsIn p None x at → Leaves (rest (waiting x s.ready (due_now s)) s) at → Follows p told (Running run.mode run.line at) s (step.stage_step p s
+    run x)
+stage_follows p told s run stage.Entry at st k c begun l = enter_follows p told s run k c (record {
+  timers = l.timers;
+  idle = l.idle;
+  prepare = l.prepare;
+  check = l.check;
+  async = l.async;
+  closing = l.closing;
+})
+stage_follows p told s run stage.Pending at st k c pending l =
+    begin_follows p told s run watcher.Idle (Within (In phase.Pending) bare) (bare_over phase.Pending) idle_next k c (record {
+      timers = l.timers;
+      idle = l.idle;
+      prepare = l.prepare;
+      check = l.check;
+      async = l.async;
+      closing = l.closing;
+    })
+stage_follows p told s run stage.Idle at st k c (idle b) l = walk_follows p told s run watcher.Idle _ tt st k c l b
+stage_follows p told s run stage.Prepare at st k c (prepare b) l = walk_follows p told s run watcher.Prepare _ tt st k c l b
+stage_follows p told s run (stage.Poll deadline) at st k c polls l = left_poll p told s run deadline c (record {
+  timers = l.timers;
+  idle = l.idle;
+  prepare = l.prepare;
+  check = l.check;
+  async = l.async;
+  closing = l.closing;
+})
+stage_follows p told s run stage.Done at st k c done l =
+    begin_follows p told s run watcher.Async (Within (In phase.Done) bare) (bare_over phase.Done) async_next k c (record {
+      timers = l.timers;
+      idle = l.idle;
+      prepare = l.prepare;
+      check = l.check;
+      async = l.async;
+      closing = l.closing;
+    })
+stage_follows p told s run stage.Async at st k c (async b) l = async_follows p told s run _ st k c l b
+stage_follows p told s run stage.Check at st k c (check b) l = walk_follows p told s run watcher.Check _ tt st k c l b
+stage_follows p told s run stage.Closing at st k c (closing b) l = closing_follows p told s run _ st k c l b
+stage_follows p told s run (stage.Timers part Collecting) at st k c (collects b) l = collect_follows p told s run part _ k c l b
+stage_follows p told s run (stage.Timers part Firing) at st k c (fires b) l = fire_follows p told s run part _ k c l b
+
+-- ---- a body
+
+-- what an op leaves of a list, where that was left
+pub more_left : (ids off now was taken : List Id) → now ≡ left_of was taken → was ≡ left_of ids off → now ≡ left_of ids (taken ++ off)
+more_left ids off now was taken e h = e ∙ ap (λ (is : List Id). left_of is taken) h ∙ more_off ids off taken
+
+-- nobody, where nobody was
+pub still_none : (now was taken : List Id) → now ≡ left_of was taken → was ≡ [] → now ≡ []
+still_none now was taken e h = e ∙ ap (λ (is : List Id). left_of is taken) h
+
+-- the walk with the first op of the body done
+abbrev pub done_one : State → Op → Section → Walk → List Site → Walk
+done_one s o part w rest_of_body = record w { off = taken_off (word_of part) s o (do_op s o).answer ++ w.off; body = rest_of_body }
+
+pub none_left : (s : State) (o : Op) → Kept s → NobodyLeft (rest s.ready s) → NobodyLeft (rest (do_op s o).state.ready (do_op s o).state)
+none_left s o k l =
+    let f = op_effect s o k in
+    record {
+      timers = still_none _ s.ready _ f.ready l.timers;
+      idle = still_none _ s.idle.yet _ f.idle l.idle;
+      prepare = still_none _ s.prepare.yet _ f.prepare l.prepare;
+      check = still_none _ s.check.yet _ f.check l.check;
+      async = still_none _ s.async.yet _ f.async l.async;
+      closing = f.closing ∙ l.closing;
+    }
+
+-- who is left after an op, in each section that calls
+abbrev pub LeavesAfter : State → Op → Section → Walk → List Site → Type 0
+LeavesAfter s o part w more = Leaves (rest (do_op s o).state.ready (do_op s o).state) (Within part (done_one s o part w more))
+
+pub idle_left : (s : State) (o : Op) (w : Walk) (more : List Site) → Kept s → Leaves (rest s.ready s) (Within (In phase.Idle) w) → LeavesAfter s o (In
+    phase.Idle) w more
+idle_left s o w more k l =
+    let f = op_effect s o k in
+    record {
+      timers = still_none _ s.ready _ f.ready l.timers;
+      idle = more_left w.ahead w.off _ s.idle.yet _ f.idle l.idle;
+      prepare = still_none _ s.prepare.yet _ f.prepare l.prepare;
+      check = still_none _ s.check.yet _ f.check l.check;
+      async = still_none _ s.async.yet _ f.async l.async;
+      closing = f.closing ∙ l.closing;
+    }
+
+pub prepare_left : (s : State) (o : Op) (w : Walk) (more : List Site) → Kept s → Leaves (rest s.ready s) (Within (In phase.Prepare) w) → LeavesAfter s o
+    (In phase.Prepare) w more
+prepare_left s o w more k l =
+    let f = op_effect s o k in
+    record {
+      timers = still_none _ s.ready _ f.ready l.timers;
+      idle = still_none _ s.idle.yet _ f.idle l.idle;
+      prepare = more_left w.ahead w.off _ s.prepare.yet _ f.prepare l.prepare;
+      check = still_none _ s.check.yet _ f.check l.check;
+      async = still_none _ s.async.yet _ f.async l.async;
+      closing = f.closing ∙ l.closing;
+    }
+
+pub check_left : (s : State) (o : Op) (w : Walk) (more : List Site) → Kept s → Leaves (rest s.ready s) (Within (In phase.Check) w) → LeavesAfter s o (In
+    phase.Check) w more
+check_left s o w more k l =
+    let f = op_effect s o k in
+    record {
+      timers = still_none _ s.ready _ f.ready l.timers;
+      idle = still_none _ s.idle.yet _ f.idle l.idle;
+      prepare = still_none _ s.prepare.yet _ f.prepare l.prepare;
+      check = more_left w.ahead w.off _ s.check.yet _ f.check l.check;
+      async = still_none _ s.async.yet _ f.async l.async;
+      closing = f.closing ∙ l.closing;
+    }
+
+pub async_left : (s : State) (o : Op) (w : Walk) (more : List Site) → Kept s → Leaves (rest s.ready s) (Within (In phase.Async) w) → LeavesAfter s o (In
+    phase.Async) w more
+async_left s o w more k l =
+    let f = op_effect s o k in
+    record {
+      timers = still_none _ s.ready _ f.ready l.timers;
+      idle = still_none _ s.idle.yet _ f.idle l.idle;
+      prepare = still_none _ s.prepare.yet _ f.prepare l.prepare;
+      check = still_none _ s.check.yet _ f.check l.check;
+      async = record {
+        gone = l.async.gone;
+        behind = l.async.behind;
+        all = l.async.all;
+        left = more_left l.async.behind w.off _ s.async.yet _ f.async l.async.left;
+      };
+      closing = f.closing ∙ l.closing;
+    }
+
+-- no op takes a handle off the closing list
+pub closing_takes_none : (s : State) (o : Op) (a : Answer) → taken_off phase.Closing s o a ≡ []
+closing_takes_none s o (answer.Code code.Ok) = refl
+closing_takes_none s o (answer.Code code.Einval) = refl
+closing_takes_none s o (answer.Code code.Ebusy) = refl
+closing_takes_none s o (answer.Code code.Ecanceled) = refl
+closing_takes_none s o (answer.Code code.Ebound) = refl
+closing_takes_none s o (answer.Code code.Efull) = refl
+closing_takes_none s o (answer.Code code.Estale) = refl
+closing_takes_none s o (answer.Code code.Ekind) = refl
+closing_takes_none s o (answer.Id id) = refl
+closing_takes_none s o (answer.Number n) = refl
+closing_takes_none s o (answer.Flag b) = refl
+closing_takes_none s o (answer.Timeout t) = refl
+
+pub closing_left : (s : State) (o : Op) (w : Walk) (more : List Site) → Kept s → Leaves (rest s.ready s) (Within (In phase.Closing) w) → LeavesAfter s o
+    (In phase.Closing) w more
+closing_left s o w more k l =
+    let f = op_effect s o k in
+    record {
+      timers = still_none _ s.ready _ f.ready l.timers;
+      idle = still_none _ s.idle.yet _ f.idle l.idle;
+      prepare = still_none _ s.prepare.yet _ f.prepare l.prepare;
+      check = still_none _ s.check.yet _ f.check l.check;
+      async = still_none _ s.async.yet _ f.async l.async;
+      closing = f.closing ∙ l.closing
+          ∙ ap (λ (off : List Id). left_of w.ahead (off ++ w.off)) (sym (closing_takes_none s o (do_op s o).answer));
+    }
+
+pub timers_after_op : (s : State) (o : Op) (part : TimersOf) (w : Walk) (more : List Site) → Kept s → Leaves (rest s.ready s) (Within (section_of part)
+    w) →
+    LeavesAfter s o (section_of part) w more
+timers_after_op s o part w more k l =
+    let f = op_effect s o k in
+    let left = left_timers part (rest s.ready s) w l in
+    timers_left part _ (done_one s o (section_of part) w more) (record {
+      ready = ready part f left.ready;
+      idle = still_none _ s.idle.yet _ f.idle left.idle;
+      prepare = still_none _ s.prepare.yet _ f.prepare left.prepare;
+      check = still_none _ s.check.yet _ f.check left.check;
+      async = still_none _ s.async.yet _ f.async left.async;
+      closing = f.closing ∙ left.closing;
+    })
+  where
+    ready : (x : TimersOf) → Effect s o (do_op s o) → s.ready ≡ left_of w.ahead w.off → (do_op s o).state.ready ≡ left_of w.ahead (done_one s o
+        (section_of x) w more).off
+    ready timers_of.Entry f e = more_left w.ahead w.off _ s.ready _ f.ready e
+    ready timers_of.Iteration f e = more_left w.ahead w.off _ s.ready _ f.ready e
+
+pub nothing_there : {A : Type 0} {o : Option A} {x : A} → o ≡ None → o ≡ Some x → ⊥
+nothing_there e f = cc (e, f)
+
+-- the state after an op of a body
+abbrev pub after_body : Program → State → Run → Body → Op → State
+after_body p s run body o = record (do_op s o).state {
+  place = place.Running (record run {
+    body = body_from p body.callback body.name body.call
+        (body.next + 1);
+  });
+}
+
+-- the next op of a body, in any section
+pub op_follows : (p : Program) (told : Told) (s : State) (run : Run) (body : Body) (part : Section) (w : Walk) (x : CallbackLine) →
+    slice_get (lines_in p body.callback body.name) body.next ≡ Some x → Kept s → Counted p s.names told → (b : IsBody p (Some body) w.body) →
+    ((more : List Site) → IsBody p (body_from p body.callback body.name body.call (body.next + 1)) more →
+    StandsAt p (after_body p s run body x.op) (after_body p s run body x.op).place (Running run.mode run.line (Within part (done_one s x.op part w
+    more)))) →
+    Follows p told (Running run.mode run.line (Within part w)) s (step.body_step p s run body (Some x))
+op_follows p told s run body part w x e k c b stands = record {
+  to = _;
+  goes = doc.body_op (site.In body.callback body.name body.next) _ x.op _ b.are (ap (option_map (λ (l : CallbackLine). l.op)) e) refl (op_effect s
+      x.op k).lasts;
+  stands = record {
+    stands = stands _ (is_body p body.callback body.name body.call (body.next + 1));
+    counted = counted_kept p _ s.names told (op_effect s x.op k).calls c;
+  };
+}
+
+pub body_follows : (p : Program) (told : Told) (s : State) (run : Run) (body : Body) (x : Stage) (at : Standing) (l : Option CallbackLine) → run.stage ≡
+    x →
+    slice_get (lines_in p body.callback body.name) body.next ≡ l → Kept s → Counted p s.names told →
+    StandsIn p (Some body) x at → Leaves (rest (waiting x s.ready (due_now s)) s) at → Follows p told (Running run.mode run.line at) s
+    (step.body_step p s run body l)
+body_follows p told s run body x at None st e k c (idle b) l = absurd (nothing_there e b.there)
+body_follows p told s run body x at None st e k c (prepare b) l = absurd (nothing_there e b.there)
+body_follows p told s run body x at None st e k c (check b) l = absurd (nothing_there e b.there)
+body_follows p told s run body x at None st e k c (async b) l = absurd (nothing_there e b.there)
+body_follows p told s run body x at None st e k c (closing b) l = absurd (nothing_there e b.there)
+body_follows p told s run body x at None st e k c (fires b) l = absurd (nothing_there e b.there)
+body_follows p told s run body x at (Some y) st e k c (idle {w = w} b) l =
+    op_follows p told s run body (In phase.Idle) w y e k c b (λ more is. rw st (running (idle is) (idle_left s y.op w more k l)))
+body_follows p told s run body x at (Some y) st e k c (prepare {w = w} b) l =
+    op_follows p told s run body (In phase.Prepare) w y e k c b (λ more is. rw st (running (prepare is) (prepare_left s y.op w more k l)))
+body_follows p told s run body x at (Some y) st e k c (check {w = w} b) l =
+    op_follows p told s run body (In phase.Check) w y e k c b (λ more is. rw st (running (check is) (check_left s y.op w more k l)))
+body_follows p told s run body x at (Some y) st e k c (async {w = w} b) l =
+    op_follows p told s run body (In phase.Async) w y e k c b (λ more is. rw st (running (async is) (async_left s y.op w more k l)))
+body_follows p told s run body x at (Some y) st e k c (closing {w = w} b) l =
+    op_follows p told s run body (In phase.Closing) w y e k c b (λ more is. rw st (running (closing is) (closing_left s y.op w more k l)))
+body_follows p told s run body x at (Some y) st e k c (fires {part = part} {w = w} b) l =
+    op_follows p told s run body (section_of part) w y e k c b (λ more is. rw st (running (fires is) (timers_after_op s y.op part w more k l)))
+
+-- ---- the main program, and a whole step
+
+pub run_lasts : (m : Mode) (s : State) → lasting (if is_default m then refreshed s else s) ≡ doc.after_run m s
+run_lasts Default s = refl
+run_lasts Once s = refl
+run_lasts Nowait s = refl
+
+pub main_follows : (p : Program) (told : Told) (s : State) (i : ℕ) (x : Option MainOp) → slice_get p.main i ≡ x → Kept s → Counted p s.names told →
+    NobodyLeft (rest s.ready s) →
+    Follows p told (Between i) s (step.main_step s i x)
+main_follows p told s i None e k c l = tt
+main_follows p told s i (Some (main.Run m)) e k c l = record {
+  to = Running m i Begun;
+  goes = doc.run m e refl (run_lasts m s);
+  stands = begun_run m;
+} where
+  begun_run : (x : Mode) →
+      Stands p told (record (if is_default x then refreshed s else s) {
+        place = place.Running (record {
+          mode = m;
+          line = i;
+          stage = stage.Entry;
+          body = None;
+        });
+      }) (Running m i Begun)
+  begun_run Default = record {
+    stands = running begun (record {
+      timers = l.timers;
+      idle = l.idle;
+      prepare = l.prepare;
+      check = l.check;
+      async = l.async;
+      closing = l.closing;
+    });
+    counted = c;
+  }
+  begun_run Once = record {
+    stands = running begun (record {
+      timers = l.timers;
+      idle = l.idle;
+      prepare = l.prepare;
+      check = l.check;
+      async = l.async;
+      closing = l.closing;
+    });
+    counted = c;
+  }
+  begun_run Nowait = record {
+    stands = running begun (record {
+      timers = l.timers;
+      idle = l.idle;
+      prepare = l.prepare;
+      check = l.check;
+      async = l.async;
+      closing = l.closing;
+    });
+    counted = c;
+  }
+main_follows p told s i (Some (main.Op o)) e k c l = record {
+  to = Between (i + 1);
+  goes = doc.main_line o _ (ap main_op e) refl (op_effect s o k).lasts;
+  stands = record { stands = between (none_left s o k l); counted = counted_kept p _ s.names told (op_effect s o k).calls c };
+}
+
+pub run_follows : (p : Program) (told : Told) (s : State) (run : Run) (body : Option Body) (at : Standing) → Kept s → Counted p s.names told →
+    StandsIn p body run.stage at → Leaves (rest (waiting run.stage s.ready (due_now s)) s) at → Follows p told (Running run.mode run.line at) s
+    (step.run_step p s run body)
+run_follows p told s run None at k c h l = stage_follows p told s run run.stage at refl k c h l
+run_follows p told s run (Some body) at k c h l =
+    body_follows p told s run body run.stage at (slice_get (lines_in p body.callback body.name) body.next) refl refl k c h l
+
+pub place_follows : (p : Program) (told : Told) (s : State) (x : Place) (at : Position) → Kept s → Counted p s.names told → StandsAt p s x at → Follows
+    p told at s (step.loop_step p s x)
+place_follows p told s (place.Main i) at k c (between e) = main_follows p told s i (slice_get p.main i) refl k c e
+place_follows p told s (place.Running run) at k c (running h l) = run_follows p told s run run.body _ k c h l
+
+pub tick_follows : (p : Program) (told : Told) (s : State) (at : Position) (ms : ℕ) → Stands p told s at → Follows p told at s (step.tick s ms)
+tick_follows p told s at ms h = cond_both (nat_le (s.clock + ms) 4611686018427387904) _ _ (Follows p told at s)
+    (λ e. record { to = at; goes = doc.outside ms refl refl; stands = record { stands = moved s.place at h.stands; counted = h.counted } }) (λ e. tt)
+  where
+    moved : (x : Place) (y : Position) → StandsAt p s x y → StandsAt p (record s { clock = s.clock + ms }) x y
+    moved (place.Main i) y (between e) = between e
+    moved (place.Running run) y (running a l) = running a l
+
+pub send_follows : (p : Program) (told : Told) (s : State) (at : Position) (v : Var) → Stands p told s at → Follows p told at s (step.sent_to s v)
+send_follows p told s at v h = cond_both (nat_lt v.0 (length s.names)) _ _ (Follows p told at s)
+    (λ e. send_both s v (λ (c : ops.Coded). FollowsLine p told at s (seen.Send v c.code) c.state)
+    (λ c no_success. record { to = at; goes = doc.sent v c refl refl; stands = record { stands = h.stands; counted = h.counted } })
+    (λ t f stays. record {
+      to = at;
+      goes = doc.sent v code.Ok refl refl;
+      stands = record {
+        stands = moved t s.place at h.stands;
+        counted = h.counted;
+      };
+    }))
+    (λ e. tt)
+  where
+    moved : (t : Id × HandleRecord) (x : Place) (y : Position) → StandsAt p s x y → StandsAt p (with_handle s t.0 (records.sent t.1)) x y
+    moved t (place.Main i) y (between e) = between e
+    moved t (place.Running run) y (running a l) = running a l
+
+pub follows : (p : Program) (told : Told) (s : State) (at : Position) (e : Event) → Kept s → Stands p told s at → Follows p told at s (next p s e)
+unfolding next
+follows p told s at Loop k h = place_follows p told s s.place at k h.counted h.stands
+follows p told s at (Send v) k h = send_follows p told s at v h
+follows p told s at (Tick ms) k h = tick_follows p told s at ms h
+
+-- ---- all steps
+
+-- a section begins only where none of its list is yet to run
+pub rested_in : (p : Program) (s : State) (body : Option Body) (x : Stage) (at : Standing) → StandsIn p body x at →
+    Leaves (rest (waiting x s.ready (due_now s)) s) at → IsRestedIn body x s
+rested_in p s (Some body) x at h l = tt
+rested_in p s None stage.Entry at h l = tt
+rested_in p s None stage.Pending at pending l = l.idle
+rested_in p s None stage.Idle at (idle b) l = l.prepare
+rested_in p s None stage.Prepare at h l = tt
+rested_in p s None (stage.Poll deadline) at h l = tt
+rested_in p s None stage.Done at done l = l.async
+rested_in p s None stage.Async at (async b) l = l.check
+rested_in p s None stage.Check at (check b) l = l.closing
+rested_in p s None stage.Closing at h l = tt
+rested_in p s None (stage.Timers part timing) at h l = tt
+
+pub rested_at : (p : Program) (s : State) (x : Place) (at : Position) → StandsAt p s x at → IsRestedAt x s
+rested_at p s (place.Main i) at h = tt
+rested_at p s (place.Running run) at (running h l) = rested_in p s run.body run.stage _ h l
+
+pub one_step : (p : Program) (told : Told) (s : State) (at : Position) (es : List Event) (n : Next) (was : Lasting) → lasting s ≡ was → Kept s →
+    StaysKept n →
+    Stands p told s at → Follows p told at s n →
+    ((told' : Told) (t : State) (to : Position) (now : Lasting) → lasting t ≡ now → Kept t → Stands p told' t to → GoesOn p to told' now
+    (history_from p t es)) →
+    GoesOn p at told was (line_of_step s n ++ history_from p (state_of s n) es)
+one_step p told s at es (Moves t (Some what)) was l k j h f more = line l f.goes (more (told_with told what) t f.to (lasting t) refl j f.stands)
+one_step p told s at es (Moves t None) was l k j h f more = more told t at was (f.1 ∙ l) j f.0
+one_step p told s at es (Refuses why) was l k j h f more = more told s at was l k h
+
+pub goes_on : (p : Program) (es : List Event) (told : Told) (s : State) (at : Position) (was : Lasting) → lasting s ≡ was → Kept s → Stands p told s at →
+    GoesOn p at told was (history_from p s es)
+goes_on p [] told s at was l k h = cut
+goes_on p (e ∷ es) told s at was l k h =
+    one_step p told s at es (next p s e) was l k (next_kept p s e (rested_at p s s.place at h.stands) k) h (follows p told s at e k h) (goes_on p es)
+
+-- the lines of any events are in the documented order
+pub documented : (p : Program) (es : List Event) → Documented p (history p es)
+unfolding history
+documented p es = goes_on p es nothing_told (fresh p) (Between 0) at_first refl (fresh_kept p)
+    (record {
+      stands = between (record { timers = refl; idle = refl; prepare = refl; check = refl; async = refl; closing = refl });
+      counted = counted_fresh p;
+    })

@@ -1,0 +1,350 @@
+-- The timers of the entry and of an iteration, and callbacks: each step goes on from where the state stands.
+use Rattle.std.proofs.Common.{◌≡◌, inl, ℕ, ◌+◌, ◌==◌, ◌&&◌, List, [], ◌∷◌, ◌++◌, Bool, true, false, drop, Option, Some, None, nat_le, refl, ap, sym, ◌∙◌, append_assoc, append-nil, if◌then◌else◌}
+use Rattle.std.specs.Prelude.{option_map}
+use Rattle.std.proofs.lemmas.Bool.{cond_both}
+use Rattle.uv_ids.specs.declared.id.Id.{Id}
+use Rattle.uv_ids.specs.declared.id.Var.{Var}
+use Rattle.uv_ids.specs.declared.due.Due.{Due}
+use Rattle.uv_ids.specs.declared.phase.Phase.TheVariants as phase
+use Rattle.uv_ids.specs.declared.seen.Callback.{Callback}
+use Rattle.uv_ids.specs.declared.seen.Callback.TheVariants as callback
+use Rattle.uv_script.specs.Program.{Program}
+use Rattle.uv_records.specs.declared.handle.HandleRecord.{HandleRecord}
+use Rattle.uv_model.specs.declared.named.Named.{Named}
+use Rattle.uv_model.specs.declared.place.Run.{Run}
+use Rattle.uv_model.specs.declared.place.Stage.TheVariants as stage
+use Rattle.uv_model.specs.declared.place.TimersOf.{TimersOf}
+use Rattle.uv_model.specs.declared.place.TimersOf.TheVariants as timers_of
+use Rattle.uv_model.specs.declared.place.Timing.TheVariants.{Collecting, Firing}
+use Rattle.uv_model.specs.declared.place.Place.TheVariants as place
+use Rattle.uv_model.specs.State.{State, handle, with_id, front, named, with_named, counted, count_of}
+use Rattle.uv_model.specs.Timers.{started, restarted}
+use Rattle.uv_model.specs.Next as step
+use Rattle.uv_model.specs.Next.{Next, Moves, Refuses, next, goes, is_default, call, calls, first_due, collected, front_moved, may_leave, body_from}
+use Rattle.uv_order.specs.Active.{AreDue, has_id}
+use Rattle.uv_order.specs.Documented as doc
+use Rattle.uv_order.specs.Documented.{Told, nothing_told, told_of, told_with, Lasting, lasting, at_first, Section, Entry, In, word_of, part_after, part_of, Walk, Opens, IsOver, CallsNext, MayCall, is_called, callback_in, call_line, Standing, Begun, Within, Polling, MayLeave, PollsFor, Position, Between, Running, Goes, GoesOn, cut, line, Documented, body_of, next_call, taken_off}
+use Rattle.uv_model.proofs.Found.{found_both}
+use Rattle.uv_order.proofs.IdLists.{left_of, none_off, all_off, first_left}
+use Rattle.uv_order.proofs.TimerKeys.{due_ids, none_due}
+use Rattle.uv_order.proofs.Holding.{Fits, IsSet, Times}
+use Rattle.uv_order.proofs.Keeping.{Kept, Rests}
+use Rattle.uv_order.proofs.KeptSteps.{FrontOf, front_of, no_front, FirstOf, first_of}
+use Rattle.uv_order.proofs.Bodies.{IsBody}
+use Rattle.uv_order.proofs.Counted.{Counted, counted_call, told_call, next_body}
+use Rattle.uv_order.proofs.Standing.{bare, begun_with, section_of, Rest, rest, Leaves, NobodyLeft, due_now, Follows, start_default, start_other, start_end, entry_next, entry_end, timers_next, timers_end, are_timers, due_distinct, opens_bare, pending, collects, fires, between, running}
+
+-- ---- the timers of the entry, and the end of timers
+
+pub enter_follows : (p : Program) (told : Told) (s : State) (run : Run) → Kept s → Counted p s.names told → NobodyLeft (rest s.ready s) →
+    Follows p told (Running run.mode run.line Begun) s (step.enter s run)
+enter_follows p told s run k c e = cond_both (goes s) _ _ (Follows p told (Running run.mode run.line Begun) s)
+    (λ g. cond_both (is_default run.mode) _ _ (Follows p told (Running run.mode run.line Begun) s)
+    (λ d. record {
+      to = Running run.mode run.line (Within Entry (begun_with (due_now s)));
+      goes = doc.section Entry tt (start_default run.mode (goes s) g d) refl (record { list = due_list; off = refl; body = refl }) refl;
+      stands = record {
+        stands = running (collects refl) (record {
+          timers = ap (λ (ids : List Id). ids ++ due_now s) e.timers ∙ sym (none_off
+              (due_now s));
+          idle = e.idle;
+          prepare = e.prepare;
+          check = e.check;
+          async = e.async;
+          closing = e.closing;
+        });
+        counted = c;
+      };
+    })
+    (λ d. record {
+      to = Running run.mode run.line (Within (In phase.Pending) bare);
+      goes = doc.section (In phase.Pending) tt (start_other run.mode (goes s) g d) refl (opens_bare phase.Pending _ refl) refl;
+      stands = record {
+        stands = running pending (record {
+          timers = e.timers;
+          idle = e.idle;
+          prepare = e.prepare;
+          check = e.check;
+          async = e.async;
+          closing = e.closing;
+        });
+        counted = c;
+      };
+    }))
+    (λ g. record {
+      to = Between (run.line + 1);
+      goes = doc.ends tt (start_end run.mode (goes s) g) refl refl;
+      stands = record {
+        stands = between (record {
+          timers = e.timers;
+          idle = e.idle;
+          prepare = e.prepare;
+          check = e.check;
+          async = e.async;
+          closing = e.closing;
+        });
+        counted = c;
+      };
+    })
+  where
+    due_list : AreDue (record s { place = place.Running (record run { stage = stage.Timers timers_of.Entry Collecting; body = None }) }) (due_now s)
+    due_list = record { timers = s.timers; are = are_timers _ s.timers s.next_start k.timers; due = refl; distinct = due_distinct s s.time k }
+
+pub goes_iteration : (p : Program) (told : Told) (s : State) (run : Run) (part : TimersOf) (w : Walk) →
+    part_after run.mode (goes s) (doc.Of (section_of part)) ≡ doc.Of (In phase.Pending) → IsOver (word_of (section_of part)) w → Counted p s.names
+    told →
+    NobodyLeft (rest s.ready s) → Follows p told (Running run.mode run.line (Within (section_of part) w)) s (step.new_iteration s run)
+goes_iteration p told s run part w d over c e = record {
+  to = Running run.mode run.line (Within (In phase.Pending) bare);
+  goes = doc.section (In phase.Pending) over d refl (opens_bare phase.Pending _ refl) refl;
+  stands = record {
+    stands = running pending (record {
+      timers = e.timers;
+      idle = e.idle;
+      prepare = e.prepare;
+      check = e.check;
+      async = e.async;
+      closing = e.closing;
+    });
+    counted = c;
+  };
+}
+
+pub goes_end : (p : Program) (told : Told) (s : State) (run : Run) (part : TimersOf) (w : Walk) → part_after run.mode (goes s) (doc.Of (section_of
+    part)) ≡ doc.End →
+    IsOver (word_of (section_of part)) w → Counted p s.names told → NobodyLeft (rest s.ready s) →
+    Follows p told (Running run.mode run.line (Within (section_of part) w)) s (step.ends s run)
+goes_end p told s run part w d over c e = record {
+  to = Between (run.line + 1);
+  goes = doc.ends over d refl refl;
+  stands = record {
+    stands = between (record {
+      timers = e.timers;
+      idle = e.idle;
+      prepare = e.prepare;
+      check = e.check;
+      async = e.async;
+      closing = e.closing;
+    });
+    counted = c;
+  };
+}
+
+pub leave_follows : (p : Program) (told : Told) (s : State) (run : Run) (part : TimersOf) (w : Walk) → IsOver (word_of (section_of part)) w → Counted p
+    s.names told →
+    NobodyLeft (rest s.ready s) → Follows p told (Running run.mode run.line (Within (section_of part) w)) s (step.leave_timers s run part)
+leave_follows p told s run timers_of.Entry w over c e = cond_both (goes s) _ _ (Follows p told (Running run.mode run.line (Within Entry w)) s)
+    (λ g. goes_iteration p told s run timers_of.Entry w (entry_next run.mode (goes s) g) over c e)
+    (λ g. goes_end p told s run timers_of.Entry w (entry_end run.mode (goes s) g) over c e)
+leave_follows p told s run timers_of.Iteration w over c e =
+    cond_both (is_default run.mode && goes s) _ _ (Follows p told (Running run.mode run.line (Within (In phase.Timers) w)) s)
+    (λ g. goes_iteration p told s run timers_of.Iteration w (timers_next run.mode (goes s) g) over c e)
+    (λ g. goes_end p told s run timers_of.Iteration w (timers_end run.mode (goes s) g) over c e)
+
+-- ---- callbacks
+
+pub named_of : (s : State) (t : Id × HandleRecord) → handle s t.0 ≡ Some t.1 → option_map (λ (h : HandleRecord). h.name) (handle s t.0) ≡ Some t.1.name
+named_of s t e = ap (option_map (λ (h : HandleRecord). h.name)) e
+
+-- the walk with the first that is left called
+pub record NextCall (w : Walk) (id : Id) (more : List Id) : Type 0 where
+  pub behind : List Id
+  pub passed : List Id
+  pub list : w.ahead ≡ passed ++ id ∷ behind
+  pub off : doc.AllOff w.off passed
+  pub on : has_id w.off id ≡ false
+  pub left : more ≡ left_of behind w.off
+
+pub next_of : (w : Walk) (id : Id) (more : List Id) → left_of w.ahead w.off ≡ id ∷ more → NextCall w id more
+next_of w id more e = let f = first_left w.ahead w.off id more e in record {
+  behind = f.behind;
+  passed = f.passed;
+  list = f.list;
+  off = f.off;
+  on = f.on;
+  left = f.rest;
+}
+
+-- the names after a call
+abbrev pub called_names : State → Callback → Var → List Named
+called_names s kind v = (with_named s v (record (named s v) { calls = counted kind (named s v).calls })).names
+
+pub call_counted : (p : Program) (told : Told) (s : State) (kind : Callback) (v : Var) → Counted p s.names told → Counted p (called_names s kind v)
+    (told_call kind v told)
+call_counted p told s kind v c = counted_call p s.names told kind v (record (named s v) { calls = counted kind (named s v).calls }) refl c
+
+pub its_body : (p : Program) (told : Told) (s : State) (kind : Callback) (v : Var) → Counted p s.names told →
+    IsBody p (body_from p kind v (count_of kind (counted kind (named s v).calls)) 0) (body_of p kind v (next_call told kind v))
+its_body p told s callback.Handle v c = next_body p s.names told callback.Handle v ((named s v).calls.handle + 1) refl c
+its_body p told s callback.Close v c = next_body p s.names told callback.Close v ((named s v).calls.close + 1) refl c
+
+-- the walk with a member called
+abbrev pub called : Program → Told → Callback → Walk → List Id → Var → Walk
+called p told kind w behind v = record w { ahead = behind; body = body_of p kind v (next_call told kind v) }
+
+-- ---- timers
+
+-- those that are ready are left, and nobody else
+pub record OnlyReady (r : Rest) (w : Walk) : Type 0 where
+  pub ready : r.ready ≡ left_of w.ahead w.off
+  pub idle : r.idle ≡ []
+  pub prepare : r.prepare ≡ []
+  pub check : r.check ≡ []
+  pub async : r.async ≡ []
+  pub closing : r.closing ≡ []
+
+pub timers_left : (part : TimersOf) (r : Rest) (w : Walk) → OnlyReady r w → Leaves r (Within (section_of part) w)
+timers_left timers_of.Entry r w o = record {
+  timers = o.ready;
+  idle = o.idle;
+  prepare = o.prepare;
+  check = o.check;
+  async = o.async;
+  closing = o.closing;
+}
+timers_left timers_of.Iteration r w o = record {
+  timers = o.ready;
+  idle = o.idle;
+  prepare = o.prepare;
+  check = o.check;
+  async = o.async;
+  closing = o.closing;
+}
+
+pub left_timers : (part : TimersOf) (r : Rest) (w : Walk) → Leaves r (Within (section_of part) w) → OnlyReady r w
+left_timers timers_of.Entry r w l = record {
+  ready = l.timers;
+  idle = l.idle;
+  prepare = l.prepare;
+  check = l.check;
+  async = l.async;
+  closing = l.closing;
+}
+left_timers timers_of.Iteration r w l = record {
+  ready = l.timers;
+  idle = l.idle;
+  prepare = l.prepare;
+  check = l.check;
+  async = l.async;
+  closing = l.closing;
+}
+
+pub timers_word : (part : TimersOf) → callback_in (word_of (section_of part)) ≡ callback.Handle
+timers_word timers_of.Entry = refl
+timers_word timers_of.Iteration = refl
+
+pub timers_over : (part : TimersOf) (w : Walk) → w.body ≡ [] → doc.AllOff w.off w.ahead → IsOver (word_of (section_of part)) w
+timers_over timers_of.Entry w b o = record { done = b; may_pass = o }
+timers_over timers_of.Iteration w b o = record { done = b; may_pass = o }
+
+pub timers_call : (part : TimersOf) (s : State) (w : Walk) (id : Id) (more : List Id) (n : NextCall w id more) → w.body ≡ [] → CallsNext (word_of
+    (section_of part)) s w id n.behind
+timers_call timers_of.Entry s w id more n b = record {
+  done = b;
+  passed = n.passed;
+  list = n.list;
+  may_pass = n.off;
+  may_call = record {
+    on = n.on;
+    called = refl;
+  };
+}
+timers_call timers_of.Iteration s w id more n b = record {
+  done = b;
+  passed = n.passed;
+  list = n.list;
+  may_pass = n.off;
+  may_call = record { on = n.on; called = refl };
+}
+
+-- a timer is called from the ready list, in a state that may have started it again
+pub call_timer : (p : Program) (told : Told) (s u : State) (run : Run) (part : TimersOf) (w : Walk) (t : Id × HandleRecord) (more : List Id) → handle s
+    t.0 ≡ Some t.1 →
+    u.names ≡ s.names → lasting u ≡ lasting s → OnlyReady (rest (t.0 ∷ more) u) w → u.ready ≡ more → w.body ≡ [] → Counted p s.names told →
+    Follows p told (Running run.mode run.line (Within (section_of part) w)) s (call p u (record run { stage = stage.Timers part Firing }) t.0
+    t.1.name)
+call_timer p told s u run part w t more h names lasts o ready b c =
+    let v = t.1.name in
+    let next = next_of w t.0 more (sym o.ready) in
+    let cu : Counted p u.names told = rw names c in
+    record {
+      to = Running run.mode run.line (Within (section_of part) (called p told callback.Handle w next.behind v));
+      goes = doc.call callback.Handle v t.0 next.behind (timers_word part) (timers_call part s w t.0 more next b) (named_of s t h) refl lasts;
+      stands = record {
+        stands = running (fires (its_body p told u callback.Handle v cu))
+            (timers_left part (rest u.ready u) (called p told callback.Handle w next.behind v)
+            (record { ready = ready ∙ next.left; idle = o.idle; prepare = o.prepare; check = o.check; async = o.async; closing = o.closing }));
+        counted = call_counted p told u callback.Handle v cu;
+      };
+    }
+
+pub fire_follows : (p : Program) (told : Told) (s : State) (run : Run) (part : TimersOf) (w : Walk) → Kept s → Counted p s.names told →
+    Leaves (rest s.ready s) (Within (section_of part) w) → w.body ≡ [] → Follows p told (Running run.mode run.line (Within (section_of part) w)) s
+    (step.fire p s run part)
+fire_follows p told s run part w k c l b =
+    let o = left_timers part (rest s.ready s) w l in
+    found_both (front s s.ready) _ _ (Follows p told (Running run.mode run.line (Within (section_of part) w)) s)
+    (λ t e. fired o t (front_of s s.ready t e))
+    (λ e. let none : s.ready ≡ [] = no_front s Rests s.ready k.ready.each e in
+    leave_follows p told s run part w (timers_over part w b (all_off w.ahead w.off (sym o.ready ∙ none))) c
+    (record { timers = none; idle = o.idle; prepare = o.prepare; check = o.check; async = o.async; closing = o.closing }))
+  where
+    fired : OnlyReady (rest s.ready s) w → (t : Id × HandleRecord) → FrontOf s s.ready t →
+        Follows p told (Running run.mode run.line (Within (section_of part) w)) s
+        (call p (restarted (record s { ready = drop 1 s.ready }) t.0 t.1) (record run { stage = stage.Timers part Firing }) t.0 t.1.name)
+    fired o t f =
+        let u : State = record s { ready = drop 1 s.ready } in
+        let only : OnlyReady (rest (t.0 ∷ f.rest) u) w =
+        record { ready = sym f.are ∙ o.ready; idle = o.idle; prepare = o.prepare; check = o.check; async = o.async; closing = o.closing } in
+        cond_both (t.1.repeat == 0) u (started u t.0 t.1 t.1.repeat t.1.repeat)
+        (λ (x : State). Follows p told (Running run.mode run.line (Within (section_of part) w)) s (call p x (record run {
+          stage = stage.Timers part
+              Firing;
+        }) t.0 t.1.name))
+        (λ z. call_timer p told s u run part w t f.rest f.holds refl refl only f.behind b c)
+        (λ z. call_timer p told s (started u t.0 t.1 t.1.repeat t.1.repeat) run part w t f.rest f.holds refl refl only f.behind b c)
+
+pub one_more : (time : ℕ) (t : Due × Id) (ts : List (Due × Id)) → nat_le t.0.at time ≡ true → due_ids time (t ∷ ts) ≡ t.1 ∷ due_ids time ts
+one_more time t ts e = rw e refl
+
+-- with no first timer due, none is
+pub late_due : (s : State) (ts : List (Due × Id)) (drawn : ℕ) → Times s.arena.slots drawn ts → first_due s ts ≡ None → due_ids s.time ts ≡ []
+late_due s [] drawn k e = refl
+late_due s (t ∷ ts) drawn k e = at (nat_le t.0.at s.time) refl e where
+  is_held : Fits s.arena.slots (IsSet t.0) t.1
+  is_held = (k.each t.0 t.1 (inl (refl, refl))).0
+
+  at : (b : Bool) → nat_le t.0.at s.time ≡ b → ◌≡◌ {A = Option (Id × HandleRecord)} (if b then with_id t.1 (handle s t.1) else None) None → due_ids
+      s.time (t ∷ ts) ≡ []
+  at true due f = cc (ap (with_id t.1) (sym is_held.holds) ∙ f)
+  at false late f = none_due s.time t ts k.sorted late
+
+pub collect_follows : (p : Program) (told : Told) (s : State) (run : Run) (part : TimersOf) (w : Walk) → Kept s → Counted p s.names told →
+    Leaves (rest (s.ready ++ due_now s) s) (Within (section_of part) w) → w.body ≡ [] →
+    Follows p told (Running run.mode run.line (Within (section_of part) w)) s (step.collect p s run part)
+collect_follows p told s run part w k c l b =
+    let o = left_timers part (rest (s.ready ++ due_now s) s) w l in
+    found_both (first_due s s.timers) _ _ (Follows p told (Running run.mode run.line (Within (section_of part) w)) s)
+    (λ t e. moved o t (first_of s s.timers t e))
+    (λ e. fire_follows p told s run part w k c (timers_left part (rest s.ready s) w (record {
+      ready = sym (append-nil s.ready) ∙ ap (λ (ids : List Id). s.ready ++ ids) (sym (late_due s s.timers s.next_start k.timers e)) ∙ o.ready;
+      idle = o.idle;
+      prepare = o.prepare;
+      check = o.check;
+      async = o.async;
+      closing = o.closing;
+    })) b)
+  where
+    moved : OnlyReady (rest (s.ready ++ due_now s) s) w → (t : Id × HandleRecord) → FirstOf s s.timers t →
+        Follows p told (Running run.mode run.line (Within (section_of part) w)) s (Moves (step.at (collected s t.0 t.1) run (stage.Timers part
+        Collecting)) None)
+    moved o t f =
+        let later : List (Due × Id) = drop 1 s.timers in
+        let all : due_now s ≡ t.0 ∷ due_ids s.time later =
+        ap (due_ids s.time) f.are ∙ one_more s.time (f.key, t.0) f.rest f.due ∙ ap (λ (ts : List (Due × Id)). t.0 ∷ due_ids s.time ts) (sym
+        f.behind) in
+        let same : (s.ready ++ t.0 ∷ []) ++ due_ids s.time later ≡ left_of w.ahead w.off =
+        append_assoc s.ready (t.0 ∷ []) (due_ids s.time later) ∙ ap (λ (ids : List Id). s.ready ++ ids) (sym all) ∙ o.ready in
+        let only : OnlyReady (rest ((s.ready ++ t.0 ∷ []) ++ due_ids s.time later) (collected s t.0 t.1)) w =
+        record { ready = same; idle = o.idle; prepare = o.prepare; check = o.check; async = o.async; closing = o.closing } in
+        (record { stands = running (collects b) (timers_left part _ w only); counted = c }, refl)

@@ -1,0 +1,472 @@
+-- The sections of watchers, of async handles and of closing ones: each step goes on from where the state stands.
+use Rattle.std.proofs.Common.{◌≡◌, List, [], ◌∷◌, ◌++◌, drop, None, refl, ap, sym, ◌∙◌, append_assoc, if◌then◌else◌}
+use Rattle.std.proofs.lemmas.Bool.{cond_both}
+use Rattle.uv_ids.specs.declared.id.Id.{Id}
+use Rattle.uv_ids.specs.declared.phase.Kind.TheVariants as kind
+use Rattle.uv_ids.specs.declared.phase.Phase.{Phase}
+use Rattle.uv_ids.specs.declared.phase.Phase.TheVariants as phase
+use Rattle.uv_ids.specs.declared.seen.Seen.TheVariants as seen
+use Rattle.uv_ids.specs.declared.seen.Callback.TheVariants as callback
+use Rattle.uv_script.specs.Program.{Program}
+use Rattle.uv_records.specs.declared.handle.HandleRecord.{HandleRecord}
+use Rattle.uv_model.specs.declared.place.Run.{Run}
+use Rattle.uv_model.specs.declared.place.Stage.{Stage}
+use Rattle.uv_model.specs.declared.place.Stage.TheVariants as stage
+use Rattle.uv_model.specs.declared.place.TimersOf.TheVariants as timers_of
+use Rattle.uv_model.specs.declared.place.Timing.TheVariants.{Collecting}
+use Rattle.uv_model.specs.declared.place.Place.TheVariants as place
+use Rattle.uv_records.specs.declared.lists.WatcherKind.{WatcherKind}
+use Rattle.uv_records.specs.declared.lists.WatcherKind.TheVariants as watcher
+use Rattle.uv_records.specs.Handles as records
+use Rattle.uv_records.specs.Lists.{phase_of}
+use Rattle.uv_records.specs.Slots.{freed}
+use Rattle.uv_model.specs.State.{State, LAST_GENERATION, with_handle, front, watched, refreshed}
+use Rattle.uv_model.specs.Timeout.{poll_timeout, deadline_of}
+use Rattle.uv_model.specs.Next as step
+use Rattle.uv_model.specs.Next.{Next, Moves, Refuses, next, goes, is_default, call, calls, first_due, collected, front_moved, may_leave, body_from}
+use Rattle.uv_order.specs.Active.{AreDue}
+use Rattle.uv_order.specs.Documented as doc
+use Rattle.uv_order.specs.Documented.{Told, nothing_told, told_of, told_with, Lasting, lasting, at_first, Section, Entry, In, word_of, part_after, part_of, Walk, Opens, IsOver, CallsNext, MayCall, is_called, callback_in, call_line, Standing, Begun, Within, Polling, MayLeave, PollsFor, Position, Between, Running, Goes, GoesOn, cut, line, Documented, body_of, next_call, taken_off}
+use Rattle.uv_model.proofs.Found.{found_both}
+use Rattle.uv_order.proofs.IdLists.{left_of, none_off, all_off, each_back}
+use Rattle.uv_order.proofs.TimerKeys.{due_ids}
+use Rattle.uv_order.proofs.Holding.{Fits, Everyone}
+use Rattle.uv_order.proofs.OpCases.{kind_as}
+use Rattle.uv_order.proofs.Keeping.{Kept, Watches, Closes, members}
+use Rattle.uv_order.proofs.KeptSteps.{FrontOf, front_of, no_front}
+use Rattle.uv_order.proofs.Counted.{Counted}
+use Rattle.uv_order.proofs.Standing.{bare, begun_with, StandsIn, waiting, rest, Leaves, NobodyLeft, due_now, Follows, IsNext, prepare_next, poll_next, check_next, closing_next, timers_after, are_timers, due_distinct, are_active, are_closing, idle, prepare, polls, async, check, closing, collects, running}
+use Rattle.uv_order.proofs.TimersFollow.{named_of, next_of, call_counted, its_body, called}
+
+-- ---- sections of watchers, and of async handles
+
+pub opens_watched : (s t : State) (q : WatcherKind) → Kept s → (watched s q).yet ≡ [] →
+    Opens (phase_of q) (record { before = s; seen = seen.Section (phase_of q); after = t }) (begun_with (watched s q).list)
+opens_watched s t watcher.Idle k e = record { list = (refl, are_active s kind.Idle s.idle e k.idle); off = refl; body = refl }
+opens_watched s t watcher.Prepare k e = record { list = (refl, are_active s kind.Prepare s.prepare e k.prepare); off = refl; body = refl }
+opens_watched s t watcher.Check k e = record { list = (refl, are_active s kind.Check s.check e k.check); off = refl; body = refl }
+opens_watched s t watcher.Async k e = record { list = (refl, are_active s kind.Async s.async e k.async); off = refl; body = refl }
+
+-- such a section begins behind a part that may be left
+pub begin_follows : (p : Program) (told : Told) (s : State) (run : Run) (q : WatcherKind) (at : Standing) → MayLeave s at → IsNext (part_of at) (doc.Of
+    (In (phase_of q))) →
+    Kept s → Counted p s.names told → NobodyLeft (rest s.ready s) → Follows p told (Running run.mode run.line at) s (step.begin_walk s run q)
+begin_follows p told s run watcher.Idle at over next k c e = record {
+  to = Running run.mode run.line (Within (In phase.Idle) (begun_with s.idle.list));
+  goes = doc.section (In phase.Idle) over (next run.mode (goes s)) refl (opens_watched s _ watcher.Idle k e.idle) refl;
+  stands = record {
+    stands = running (idle refl) (record {
+      timers = e.timers;
+      idle = sym (none_off s.idle.list);
+      prepare = e.prepare;
+      check = e.check;
+      async = e.async;
+      closing = e.closing;
+    });
+    counted = c;
+  };
+}
+begin_follows p told s run watcher.Prepare at over next k c e = record {
+  to = Running run.mode run.line (Within (In phase.Prepare) (begun_with s.prepare.list));
+  goes = doc.section (In phase.Prepare) over (next run.mode (goes s)) refl (opens_watched s _ watcher.Prepare k e.prepare) refl;
+  stands = record {
+    stands = running (prepare refl) (record {
+      timers = e.timers;
+      idle = e.idle;
+      prepare = sym (none_off s.prepare.list);
+      check = e.check;
+      async = e.async;
+      closing = e.closing;
+    });
+    counted = c;
+  };
+}
+begin_follows p told s run watcher.Check at over next k c e = record {
+  to = Running run.mode run.line (Within (In phase.Check) (begun_with s.check.list));
+  goes = doc.section (In phase.Check) over (next run.mode (goes s)) refl (opens_watched s _ watcher.Check k e.check) refl;
+  stands = record {
+    stands = running (check refl) (record {
+      timers = e.timers;
+      idle = e.idle;
+      prepare = e.prepare;
+      check = sym (none_off s.check.list);
+      async = e.async;
+      closing = e.closing;
+    });
+    counted = c;
+  };
+}
+begin_follows p told s run watcher.Async at over next k c e = record {
+  to = Running run.mode run.line (Within (In phase.Async) (begun_with s.async.list));
+  goes = doc.section (In phase.Async) over (next run.mode (goes s)) refl (opens_watched s _ watcher.Async k e.async) refl;
+  stands = record {
+    stands = running (async refl) (record {
+      timers = e.timers;
+      idle = e.idle;
+      prepare = e.prepare;
+      check = e.check;
+      async = record { gone = []; behind = s.async.list; all = refl; left = sym (none_off s.async.list) };
+      closing = e.closing;
+    });
+    counted = c;
+  };
+}
+
+-- a section without callbacks begins behind a part that may be left
+pub bare_follows : (p : Program) (told : Told) (s t : State) (run : Run) (x : Stage) (word : Phase) (at : Standing) → MayLeave s at → IsNext (part_of
+    at) (doc.Of (In word)) →
+    Opens word (record { before = s; seen = seen.Section word; after = step.at t run x }) bare → lasting t ≡ doc.after_line word s →
+    StandsIn p None x (Within (In word) bare) → Leaves (rest (waiting x t.ready (due_now t)) t) (Within (In word) bare) → Counted p t.names told →
+    Follows p told (Running run.mode run.line at) s (step.begins t run x word)
+bare_follows p told s t run x word at over next opens lasts stands left c = record {
+  to = Running run.mode run.line (Within (In word) bare);
+  goes = doc.section (In word) over (next run.mode (goes s)) refl opens lasts;
+  stands = record { stands = running stands left; counted = c };
+}
+
+-- the poll begins
+pub poll_follows : (p : Program) (told : Told) (s : State) (run : Run) (w : Walk) → IsOver phase.Prepare w → Kept s → Counted p s.names told →
+    NobodyLeft (rest s.ready s) →
+    Follows p told (Running run.mode run.line (Within (In phase.Prepare) w)) s (step.begin_poll s run)
+poll_follows p told s run w over k c e = record {
+  to = Running run.mode run.line (Polling (deadline_of s (poll_timeout s run.mode)));
+  goes = doc.poll (poll_timeout s run.mode) over (poll_next run.mode (goes s))
+      (record { timers = s.timers; are = are_timers s s.timers s.next_start k.timers; is = refl }) refl refl;
+  stands = record {
+    stands = running polls (record {
+      timers = e.timers;
+      idle = e.idle;
+      prepare = e.prepare;
+      check = e.check;
+      async = e.async;
+      closing = e.closing;
+    });
+    counted = c;
+  };
+}
+
+-- the closing section begins
+pub closing_begins : (p : Program) (told : Told) (s : State) (run : Run) (w : Walk) → IsOver phase.Check w → Kept s → Counted p s.names told →
+    NobodyLeft (rest s.ready s) →
+    Follows p told (Running run.mode run.line (Within (In phase.Check) w)) s (step.begin_closing s run)
+closing_begins p told s run w over k c e = record {
+  to = Running run.mode run.line (Within (In phase.Closing) (begun_with s.closing.list));
+  goes = doc.section (In phase.Closing) over (closing_next run.mode (goes s)) refl
+      (record { list = (refl, are_closing s e.closing k); off = refl; body = refl }) refl;
+  stands = record {
+    stands = running (closing refl) (record {
+      timers = e.timers;
+      idle = e.idle;
+      prepare = e.prepare;
+      check = e.check;
+      async = e.async;
+      closing = sym (none_off s.closing.list);
+    });
+    counted = c;
+  };
+}
+
+pub after_follows : (p : Program) (told : Told) (s : State) (run : Run) (q : WatcherKind) (w : Walk) → IsOver (phase_of q) w → Kept s → Counted p
+    s.names told →
+    NobodyLeft (rest s.ready s) → Follows p told (Running run.mode run.line (Within (In (phase_of q)) w)) s (step.after_walk s run q)
+after_follows p told s run watcher.Idle w over k c e = begin_follows p told s run watcher.Prepare (Within (In phase.Idle) w) over prepare_next k c e
+after_follows p told s run watcher.Prepare w over k c e = poll_follows p told s run w over k c e
+after_follows p told s run watcher.Check w over k c e = closing_begins p told s run w over k c e
+after_follows p told s run watcher.Async w over k c e = begin_follows p told s run watcher.Check (Within (In phase.Async) w) over check_next k c e
+
+-- an idle, prepare or check handle
+abbrev pub IsPlain : WatcherKind → Type 0
+IsPlain watcher.Async = ⊥
+IsPlain q = Unit {0}
+
+-- the next watcher is called
+pub call_watcher : (p : Program) (told : Told) (s : State) (run : Run) (q : WatcherKind) (w : Walk) (t : Id × HandleRecord) → IsPlain q → run.stage ≡
+    step.stage_of q →
+    FrontOf s (watched s q).yet t → Leaves (rest s.ready s) (Within (In (phase_of q)) w) → w.body ≡ [] → Counted p s.names told →
+    Follows p told (Running run.mode run.line (Within (In (phase_of q)) w)) s (call p (front_moved s q t.0) run t.0 t.1.name)
+call_watcher p told s run watcher.Async w t d st f l b c = absurd d
+call_watcher p told s run watcher.Idle w t d st f l b c =
+    let v = t.1.name in
+    let next = next_of w t.0 f.rest (sym l.idle ∙ f.are) in
+    record {
+      to = Running run.mode run.line (Within (In phase.Idle) (called p told callback.Handle w next.behind v));
+      goes = doc.call callback.Handle v t.0 next.behind refl
+          (record {
+            done = b;
+            passed = next.passed;
+            list = next.list;
+            may_pass = next.off;
+            may_call = record {
+              on = next.on;
+              called = refl;
+            };
+          }) (named_of s t f.holds) refl refl;
+      stands = record {
+        stands = rw st (running (idle (its_body p told s callback.Handle v c)) (record {
+          timers = l.timers;
+          idle = f.behind ∙ next.left;
+          prepare = l.prepare;
+          check = l.check;
+          async = l.async;
+          closing = l.closing;
+        }));
+        counted = call_counted p told s callback.Handle v c;
+      };
+    }
+call_watcher p told s run watcher.Prepare w t d st f l b c =
+    let v = t.1.name in
+    let next = next_of w t.0 f.rest (sym l.prepare ∙ f.are) in
+    record {
+      to = Running run.mode run.line (Within (In phase.Prepare) (called p told callback.Handle w next.behind v));
+      goes = doc.call callback.Handle v t.0 next.behind refl
+          (record {
+            done = b;
+            passed = next.passed;
+            list = next.list;
+            may_pass = next.off;
+            may_call = record {
+              on = next.on;
+              called = refl;
+            };
+          }) (named_of s t f.holds) refl refl;
+      stands = record {
+        stands = rw st (running (prepare (its_body p told s callback.Handle v c)) (record {
+          timers = l.timers;
+          idle = l.idle;
+          prepare = f.behind ∙ next.left;
+          check = l.check;
+          async = l.async;
+          closing = l.closing;
+        }));
+        counted = call_counted p told s callback.Handle v c;
+      };
+    }
+call_watcher p told s run watcher.Check w t d st f l b c =
+    let v = t.1.name in
+    let next = next_of w t.0 f.rest (sym l.check ∙ f.are) in
+    record {
+      to = Running run.mode run.line (Within (In phase.Check) (called p told callback.Handle w next.behind v));
+      goes = doc.call callback.Handle v t.0 next.behind refl
+          (record {
+            done = b;
+            passed = next.passed;
+            list = next.list;
+            may_pass = next.off;
+            may_call = record {
+              on = next.on;
+              called = refl;
+            };
+          }) (named_of s t f.holds) refl refl;
+      stands = record {
+        stands = rw st (running (check (its_body p told s callback.Handle v c)) (record {
+          timers = l.timers;
+          idle = l.idle;
+          prepare = l.prepare;
+          check = f.behind ∙ next.left;
+          async = l.async;
+          closing = l.closing;
+        }));
+        counted = call_counted p told s callback.Handle v c;
+      };
+    }
+
+-- the list of a kind is the one that its section walks
+pub own_list : (s : State) (q : WatcherKind) (w : Walk) → IsPlain q → Leaves (rest s.ready s) (Within (In (phase_of q)) w) → (watched s q).yet ≡ left_of
+    w.ahead w.off
+own_list s watcher.Idle w d l = l.idle
+own_list s watcher.Prepare w d l = l.prepare
+own_list s watcher.Check w d l = l.check
+own_list s watcher.Async w d l = absurd d
+
+-- with none of its own left, nobody is left
+pub none_own : (s : State) (q : WatcherKind) (w : Walk) → IsPlain q → (watched s q).yet ≡ [] → Leaves (rest s.ready s) (Within (In (phase_of q)) w) →
+    NobodyLeft (rest s.ready s)
+none_own s watcher.Idle w d e l = record { timers = l.timers; idle = e; prepare = l.prepare; check = l.check; async = l.async; closing = l.closing }
+none_own s watcher.Prepare w d e l = record { timers = l.timers; idle = l.idle; prepare = e; check = l.check; async = l.async; closing = l.closing }
+none_own s watcher.Check w d e l = record { timers = l.timers; idle = l.idle; prepare = l.prepare; check = e; async = l.async; closing = l.closing }
+none_own s watcher.Async w d e l = absurd d
+
+pub plain_over : (q : WatcherKind) (w : Walk) → IsPlain q → w.body ≡ [] → doc.AllOff w.off w.ahead → IsOver (phase_of q) w
+plain_over watcher.Idle w d b o = record { done = b; may_pass = o }
+plain_over watcher.Prepare w d b o = record { done = b; may_pass = o }
+plain_over watcher.Check w d b o = record { done = b; may_pass = o }
+plain_over watcher.Async w d b o = absurd d
+
+pub everyone : (s : State) (q : WatcherKind) → Kept s → Everyone s.arena.slots (Watches (kind_as q)) (members (watched s q))
+everyone s watcher.Idle k = k.idle
+everyone s watcher.Prepare k = k.prepare
+everyone s watcher.Check k = k.check
+everyone s watcher.Async k = k.async
+
+pub walk_follows : (p : Program) (told : Told) (s : State) (run : Run) (q : WatcherKind) (w : Walk) → IsPlain q → run.stage ≡ step.stage_of q → Kept s →
+    Counted p s.names told →
+    Leaves (rest s.ready s) (Within (In (phase_of q)) w) → w.body ≡ [] → Follows p told (Running run.mode run.line (Within (In (phase_of q)) w)) s
+    (step.walk p s run q)
+walk_follows p told s run q w d st k c l b = found_both (front s (watched s q).yet) _ _ (Follows p told (Running run.mode run.line (Within (In
+    (phase_of q)) w)) s)
+    (λ t e. call_watcher p told s run q w t d st (front_of s (watched s q).yet t e) l b c)
+    (λ e. let each = each_back (Fits s.arena.slots (Watches (kind_as q))) (watched s q).list (watched s q).yet (everyone s q k).lists.each in
+    let none : (watched s q).yet ≡ [] = no_front s (Watches (kind_as q)) (watched s q).yet each e in
+    after_follows p told s run q w (plain_over q w d b (all_off w.ahead w.off (sym (own_list s q w d l) ∙ none))) k c (none_own s q w d none l))
+
+-- an async handle is called, or passed by without a line
+pub async_follows : (p : Program) (told : Told) (s : State) (run : Run) (w : Walk) → run.stage ≡ stage.Async → Kept s → Counted p s.names told →
+    Leaves (rest s.ready s) (Within (In phase.Async) w) → w.body ≡ [] → Follows p told (Running run.mode run.line (Within (In phase.Async) w)) s
+    (step.walk_async p s run)
+async_follows p told s run w st k c l b = found_both (front s s.async.yet) _ _ (Follows p told (Running run.mode run.line (Within (In phase.Async)
+    w)) s)
+    (λ t e. at t (front_of s s.async.yet t e))
+    (λ e. let each = each_back (Fits s.arena.slots (Watches kind.Async)) s.async.list s.async.yet k.async.lists.each in
+    let none : s.async.yet ≡ [] = no_front s (Watches kind.Async) s.async.yet each e in
+    after_follows p told s run watcher.Async w (record { done = b; may_pass = tt }) k c (record {
+      timers = l.timers;
+      idle = l.idle;
+      prepare = l.prepare;
+      check = l.check;
+      async = none;
+      closing = l.closing;
+    }))
+  where
+    at : (t : Id × HandleRecord) → FrontOf s s.async.yet t → Follows p told (Running run.mode run.line (Within (In phase.Async) w)) s
+        (if t.1.pending then call p (with_handle (front_moved s watcher.Async t.0) t.0 (records.woken t.1)) run t.0 t.1.name
+        else Moves (step.at (front_moved s watcher.Async t.0) run stage.Async) None)
+    at t f =
+        let a = l.async in
+        let later : Walk = record w { ahead = a.behind } in
+        let next = next_of later t.0 f.rest (sym a.left ∙ f.are) in
+        let all : w.ahead ≡ (a.gone ++ next.passed) ++ t.0 ∷ next.behind =
+        a.all ∙ ap (λ (ids : List Id). a.gone ++ ids) next.list ∙ sym (append_assoc a.gone next.passed (t.0 ∷ next.behind)) in
+        cond_both t.1.pending _ _ (Follows p told (Running run.mode run.line (Within (In phase.Async) w)) s)
+        (λ on. let v = t.1.name in
+        record {
+          to = Running run.mode run.line (Within (In phase.Async) (called p told callback.Handle w next.behind v));
+          goes = doc.call callback.Handle v t.0 next.behind refl
+              (record {
+                done = b;
+                passed = a.gone ++ next.passed;
+                list = all;
+                may_pass = tt;
+                may_call = record {
+                  on = next.on;
+                  called = ap doc.pends_in f.holds ∙ on;
+                };
+              })
+              (named_of s t f.holds) refl refl;
+          stands = record {
+            stands = rw st (running (async (its_body p told s callback.Handle v c))
+                (record {
+                  timers = l.timers;
+                  idle = l.idle;
+                  prepare = l.prepare;
+                  check = l.check;
+                  async = record {
+                    gone = [];
+                    behind = next.behind;
+                    all = refl;
+                    left = f.behind ∙ next.left;
+                  };
+                  closing = l.closing;
+                }));
+            counted = call_counted p told s callback.Handle v c;
+          };
+        })
+        (λ off. (
+          record {
+            stands = running (async b) (record {
+              timers = l.timers;
+              idle = l.idle;
+              prepare = l.prepare;
+              check = l.check;
+              async = record {
+                gone = (a.gone ++ next.passed) ++ t.0 ∷ [];
+                behind = next.behind;
+                all = all ∙ sym (append_assoc (a.gone ++ next.passed) (t.0 ∷ []) next.behind);
+                left = f.behind ∙ next.left;
+              };
+              closing = l.closing;
+            });
+            counted = c;
+          },
+          refl,
+        ))
+
+-- ---- the closing section
+
+-- the timers of an iteration begin
+pub timers_begin : (p : Program) (told : Told) (s : State) (run : Run) (w : Walk) → IsOver phase.Closing w → Kept s → Counted p s.names told →
+    NobodyLeft (rest s.ready s) →
+    Follows p told (Running run.mode run.line (Within (In phase.Closing) w)) s (step.begin_timers s run)
+timers_begin p told s run w over k c e = record {
+  to = Running run.mode run.line (Within (In phase.Timers) (begun_with (due_ids s.clock s.timers)));
+  goes = doc.section (In phase.Timers) over (timers_after run.mode (goes s)) refl (record { list = due_list; off = refl; body = refl }) refl;
+  stands = record {
+    stands = running (collects refl) (record {
+      timers = ap (λ (ids : List Id). ids ++ due_ids s.clock s.timers) e.timers ∙ sym (none_off (due_ids
+          s.clock s.timers));
+      idle = e.idle;
+      prepare = e.prepare;
+      check = e.check;
+      async = e.async;
+      closing = e.closing;
+    });
+    counted = c;
+  };
+} where
+  due_list : AreDue (record (refreshed s) {
+    place = place.Running (record run {
+      stage = stage.Timers timers_of.Iteration Collecting;
+      body = None;
+    });
+  }) (due_ids s.clock s.timers)
+  due_list = record { timers = s.timers; are = are_timers _ s.timers s.next_start k.timers; due = refl; distinct = due_distinct s s.clock k }
+
+pub closing_follows : (p : Program) (told : Told) (s : State) (run : Run) (w : Walk) → run.stage ≡ stage.Closing → Kept s → Counted p s.names told →
+    Leaves (rest s.ready s) (Within (In phase.Closing) w) → w.body ≡ [] → Follows p told (Running run.mode run.line (Within (In phase.Closing) w)) s
+    (step.close_front p s run)
+closing_follows p told s run w st k c l b = found_both (front s s.closing.yet) _ _ (Follows p told (Running run.mode run.line (Within (In
+    phase.Closing) w)) s)
+    (λ t e. at t (front_of s s.closing.yet t e))
+    (λ e. let each = each_back (Fits s.arena.slots Closes) s.closing.list s.closing.yet k.closing.lists.each in
+    let none : s.closing.yet ≡ [] = no_front s Closes s.closing.yet each e in
+    timers_begin p told s run w (record { done = b; may_pass = all_off w.ahead w.off (sym l.closing ∙ none) }) k c (record {
+      timers = l.timers;
+      idle = l.idle;
+      prepare = l.prepare;
+      check = l.check;
+      async = l.async;
+      closing = none;
+    }))
+  where
+    at : (t : Id × HandleRecord) → FrontOf s s.closing.yet t → Follows p told (Running run.mode run.line (Within (In phase.Closing) w)) s
+        (calls p (record s {
+          arena = freed LAST_GENERATION t.0 s.arena;
+          closing = record s.closing { yet = drop 1 s.closing.yet };
+        }) run callback.Close t.1.name (seen.Closed t.1.name t.0))
+    at t f =
+        let v = t.1.name in
+        let next = next_of w t.0 f.rest (sym l.closing ∙ f.are) in
+        record {
+          to = Running run.mode run.line (Within (In phase.Closing) (called p told callback.Close w next.behind v));
+          goes = doc.call callback.Close v t.0 next.behind refl
+              (record {
+                done = b;
+                passed = next.passed;
+                list = next.list;
+                may_pass = next.off;
+                may_call = record {
+                  on = next.on;
+                  called = refl;
+                };
+              }) (named_of s t f.holds) refl refl;
+          stands = record {
+            stands = rw st (running (closing (its_body p told s callback.Close v c)) (record {
+              timers = l.timers;
+              idle = l.idle;
+              prepare = l.prepare;
+              check = l.check;
+              async = l.async;
+              closing = f.behind ∙ next.left;
+            }));
+            counted = call_counted p told s callback.Close v c;
+          };
+        }
