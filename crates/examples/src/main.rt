@@ -5,7 +5,7 @@ use std::{fs, io};
 use uv_engine::{Reader, Writer, converse};
 use uv_model::PlainLoop;
 
-const EXAMPLES: [&str; 7] = [
+const EXAMPLES: [&str; 10] = [
     "two-timers",
     "falls-behind",
     "step-back",
@@ -13,6 +13,9 @@ const EXAMPLES: [&str; 7] = [
     "watcher-waits",
     "poll-does-not-block",
     "loop-is-busy",
+    "who-keeps-it-alive",
+    "closed-handle",
+    "sends-are-one",
 ];
 
 fn main(rt: HostRuntime) -> io::Result<()> {
