@@ -1,5 +1,8 @@
 //! What no clause says: a worked example of the closing list, and each call once with ample memory.
+ghost use Rattle.std.specs.Prelude.{◌≡◌, Some, None};
+ghost use Rattle.uv_handle.specs.Counted.{alive_count};
 ghost use Rattle.uv_handle.specs.declared.tests.Content.{Content};
+ghost use Rattle.uv_handle.specs.declared.tests.Content.TheVariants.{Handle as handle, Request as request};
 
 use super::*;
 use std::alloc::{AllocError, Global};
@@ -97,6 +100,10 @@ impl Counted {
         }
     }
 
+    fn add_request(&mut self, number: u32) -> Option<Id> {
+        put_request(&mut self.slots, number)
+    }
+
     /// Adds a handle and takes it back: its id, and what was seen in between.
     fn add_and_back(&mut self, name: u32, kind: Kind) -> Option<(Id, Seen)> {
         match self.handles.add(&mut self.slots, Var(name), kind) {
@@ -126,6 +133,18 @@ impl Counted {
     /// References a handle, or not, and takes that back: what was seen in between.
     fn set_ref_and_back(&mut self, id: Id, referenced: bool) -> Result<Seen, Code> {
         match self.handles.set_ref(&mut self.slots, id, referenced) {
+            Ok(undo) => {
+                let seen = self.seen(id);
+                self.handles.undo_change(&mut self.slots, undo);
+                Ok(seen)
+            }
+            Err(code) => Err(code),
+        }
+    }
+
+    /// Makes a handle active, or stopped, and takes that back: what was seen in between.
+    fn set_active_and_back(&mut self, id: Id, active: bool) -> Result<Seen, Code> {
+        match self.handles.set_active(&mut self.slots, id, active) {
             Ok(undo) => {
                 let seen = self.seen(id);
                 self.handles.undo_change(&mut self.slots, undo);
@@ -215,6 +234,20 @@ impl Counted {
     }
 }
 
+/// Puts a request in a slot, which is no handle.
+fn put_request(slots: &mut Slots<Content>, number: u32) -> Option<Id>
+    ensures { alive_count (λ (x : Content). elim x [ handle r ↦ Some r | request n ↦ None ]) slots.new
+        ≡ alive_count (λ (x : Content). elim x [ handle r ↦ Some r | request n ↦ None ]) slots.old }
+{
+    match slots.insert(Content::Request(number)) {
+        Ok((id, inserted)) => {
+            let _ = inserted;
+            Some(id)
+        }
+        Err(_) => None,
+    }
+}
+
 fn id(slot: u32) -> Id {
     Id {
         slot,
@@ -276,6 +309,15 @@ fn a_change_is_taken_back(rt: HostRuntime) -> Result<(), Fail> {
     assert_eq!(rt; counted.seen(id(0)), gone);
     assert_eq!(rt; counted.add(7, Kind::Async), Some(id(0)));
     assert_eq!(rt; counted.set_ref_and_back(id(0), false), Ok(unreferenced));
+    assert_eq!(rt; counted.seen(id(0)), made);
+    let stopped = Seen {
+        handle: Ok(HandleRecord {
+            active: false,
+            ..inited(7, Kind::Async)
+        }),
+        active: 0,
+    };
+    assert_eq!(rt; counted.set_active_and_back(id(0), false), Ok(stopped));
     assert_eq!(rt; counted.seen(id(0)), made);
     Ok(())
 }
@@ -342,8 +384,17 @@ fn what_is_refused(rt: HostRuntime) -> Result<(), Fail> {
 
 #[test]
 fn a_request_is_no_handle(rt: HostRuntime) -> Result<(), Fail> {
-    let mut slots = Slots::new(rt.alloc(), 1, 9)?;
-    assert!(rt; slots.insert(Content::Request(5)).is_ok());
-    assert_eq!(rt; handle_at(&slots, id(0)), Err(Code::Ekind));
+    let mut counted = Counted::new(rt.alloc(), 2)?;
+    counted.add(0, Kind::Async);
+    assert_eq!(rt; counted.add_request(5), Some(id(1)));
+    let seen = Seen {
+        handle: Err(Code::Ekind),
+        active: 1,
+    };
+    assert_eq!(rt; counted.seen(id(1)), seen);
+    assert_eq!(rt; counted.set_ref(id(1), false), Err(Code::Ekind));
+    assert_eq!(rt; counted.set_active(id(1), true), Err(Code::Ekind));
+    assert_eq!(rt; counted.close(id(1)), Some(Err(Code::Ekind)));
+    assert_eq!(rt; counted.seen(id(1)), seen);
     Ok(())
 }
