@@ -1,5 +1,8 @@
 //! What no clause says: worked examples of the sections, and each call once with ample memory.
+ghost use Rattle.std.specs.Prelude.{◌≡◌, Some, None};
+ghost use Rattle.uv_handle.specs.Counted.{alive_count};
 ghost use Rattle.uv_watch.specs.declared.tests.Content.{Content};
+ghost use Rattle.uv_watch.specs.declared.tests.Content.TheVariants.{Handle as handle, Request as request};
 
 use super::*;
 use std::alloc::{AllocError, Global};
@@ -98,6 +101,10 @@ impl Counted {
             Ok((id, _)) => Some(id),
             Err(_) => None,
         }
+    }
+
+    fn add_request(&mut self, number: u32) -> Option<Id> {
+        put_request(&mut self.slots, number)
     }
 
     /// Adds an async handle, at the end of its list.
@@ -260,6 +267,20 @@ impl Counted {
     }
 }
 
+/// Puts a request in a slot, which is no handle.
+fn put_request(slots: &mut Slots<Content>, number: u32) -> Option<Id>
+    ensures { alive_count (λ (x : Content). elim x [ handle r ↦ Some r | request n ↦ None ]) slots.new
+        ≡ alive_count (λ (x : Content). elim x [ handle r ↦ Some r | request n ↦ None ]) slots.old }
+{
+    match slots.insert(Content::Request(number)) {
+        Ok((id, inserted)) => {
+            let _ = inserted;
+            Some(id)
+        }
+        Err(_) => None,
+    }
+}
+
 fn id(slot: u32) -> Id {
     Id {
         slot,
@@ -410,5 +431,15 @@ fn a_closing_handle_is_refused(rt: HostRuntime) -> Result<(), Fail> {
     assert_eq!(rt; counted.send(id(1)), Err(Code::Einval));
     assert_eq!(rt; counted.stop(id(0)), Ok(()));
     assert!(rt; counted.seen(id(0)).on_list);
+    Ok(())
+}
+
+#[test]
+fn a_request_is_no_watcher(rt: HostRuntime) -> Result<(), Fail> {
+    let mut counted = Counted::new(rt.alloc(), 1)?;
+    assert_eq!(rt; counted.add_request(5), Some(id(0)));
+    assert_eq!(rt; counted.start(id(0)), Some(Err(Code::Ekind)));
+    assert_eq!(rt; counted.stop(id(0)), Err(Code::Ekind));
+    assert_eq!(rt; counted.send(id(0)), Err(Code::Ekind));
     Ok(())
 }
