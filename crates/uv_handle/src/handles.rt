@@ -19,6 +19,7 @@ use uv_ids::{Id, Kind, Var};
 use uv_records::HandleRecord;
 
 /// The count of active referenced handles of an arena.
+#[derive(Drop)]
 pub struct Handles {
     active: u32,
 }

@@ -12,3 +12,6 @@ pub use content::HoldsHandle;
 pub use handles::Handles;
 pub use undo::{AddUndo, ListUndo, RecordUndo, TakeUndo};
 pub use uv_records::HandleRecord;
+
+#[cfg(test)]
+mod tests;

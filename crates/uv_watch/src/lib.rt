@@ -9,3 +9,6 @@ mod watchers;
 pub use undo::{StopUndo, WalkUndo};
 pub use walk::{begin, take, undo_begin, undo_take};
 pub use watchers::{halt, send, start, stop, undo_send, undo_start, undo_stop};
+
+#[cfg(test)]
+mod tests;

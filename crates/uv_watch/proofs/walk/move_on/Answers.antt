@@ -11,7 +11,8 @@ returns-clause-moved g c =
     let H = g.T.HoldsHandle in let i = c.args.slots.now in let k = c.unlink-unlinked.new.self in let l = c.push_back-pushed.new.self in
     let j = c.wake-pending.new.slots in
     let n = c.args.handles.now in let m = c.wake-pending.new.handles in let d = c.args.id in let w = c.args.kind in
-    let t = c.unlink-unlinked.result in
+    let t = c.unlink-unlinked.result in let b = c.wake-pending.result.0 in let u = c.wake-pending.result.1 in
+    let unlinked = c.unlink-unlinked.ensures.unlinked in
     let pushed = subst (λ q. IsPushed k l q d (members k q ++ d.slot ∷ [])) c.list.ensures c.push_back-pushed.ensures.pushed in
     subst (λ q. IsMovedOn H.held_record H.of_record (counted i n) (counted j m) w d c.wake-pending.result.0 (record {
       unlinked = t;
@@ -20,4 +21,4 @@ returns-clause-moved g c =
       woken = c.wake-pending.result.1;
     }))
     (sym c.push_back-pushed.ensures.token)
-    (moved_done H.held_record H.of_record i k l j n m w d t c.wake-pending.result.0 c.wake-pending.result.1 c.requires.first c.unlink-unlinked.ensures.unlinked pushed c.wake-pending.ensures)
+    (moved_done H.held_record H.of_record i k l j n m w d t b u c.requires.first unlinked pushed c.wake-pending.ensures)

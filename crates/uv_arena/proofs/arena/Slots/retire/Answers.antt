@@ -4,10 +4,12 @@ use Rattle.uv_arena.proofs.Removals.{retires}
 use Rattle.uv_arena.proofs.arena.Slots.retire.Goals as goal
 
 pub edit-requires-clause-within : goal.edit-requires-clause-within
-edit-requires-clause-within g c = (retires c.args.self.now c.is_sound.ensures c.args.id c.args.content c.requires.held c.requires.loose c.requires.last).slot
+edit-requires-clause-within g c =
+    (retires c.args.self.now c.is_sound.ensures c.args.id c.args.content c.requires.held c.requires.loose c.requires.last).slot
 
 pub edit-requires-clause-sound : goal.edit-requires-clause-sound
-edit-requires-clause-sound g c = (retires c.args.self.now c.is_sound.ensures c.args.id c.args.content c.requires.held c.requires.loose c.requires.last).sound
+edit-requires-clause-sound g c =
+    (retires c.args.self.now c.is_sound.ensures c.args.id c.args.content c.requires.held c.requires.loose c.requires.last).sound
 
 pub returns : goal.returns
 returns g c =

@@ -9,7 +9,9 @@ use Rattle.uv_handle.proofs.handles.Handles.change.Goals as goal
 pub recounted-self-inside-requires : goal.recounted-self-inside-requires
 recounted-self-inside-requires g c =
     let H = g.T.HoldsHandle in let K = g.met.T.HoldsHandle in let i = c.args.slots.now in let j = c.set.new.self in let d = c.args.id in
-    let done = set_done H.held_record H.of_record K.gives_back K.only_that i d c.args.old c.requires.found j c.of.result c.set.result c.set.ensures.none c.set.ensures.some in
+    let was = c.args.old in let found = c.requires.found in let x = c.of.result in let r = c.set.result in
+    let none = c.set.ensures.none in let some = c.set.ensures.some in
+    let done = set_done H.held_record H.of_record K.gives_back K.only_that i d was found j x r none some in
     let set = subst (λ x. IsSet i j d x (H.of_record c.args.old)) c.of.ensures done in
     subst (λ (b : Bool × Bool). Fits32 c.self.inside.active (one_if b.0) (one_if b.1)) (λ k. (
       sym c.keeps_alive.ensures k,
@@ -22,7 +24,9 @@ pub returns : goal.returns
 returns g c =
     let H = g.T.HoldsHandle in let K = g.met.T.HoldsHandle in let i = c.args.slots.now in let j = c.set.new.self in let d = c.args.id in
     let n = c.self.inside.active in
-    let done = set_done H.held_record H.of_record K.gives_back K.only_that i d c.args.old c.requires.found j c.of.result c.set.result c.set.ensures.none c.set.ensures.some in
+    let was = c.args.old in let found = c.requires.found in let x = c.of.result in let r = c.set.result in
+    let none = c.set.ensures.none in let some = c.set.ensures.some in
+    let done = set_done H.held_record H.of_record K.gives_back K.only_that i d was found j x r none some in
     let set = subst (λ x. IsSet i j d x (H.of_record c.args.old)) c.of.ensures done in
     let m = c.recounted-self-inside.result in
     let count = subst (λ (b : Bool × Bool). m + one_if b.0 ≡ n + one_if b.1) (λ k. (
