@@ -112,7 +112,7 @@ pub distinct_reads : (p q : Program) (line : List ℕ) → AreDistinct p.names �
 distinct_reads p q line distinct (skips is skipped) = distinct
 distinct_reads p q line distinct (says s is said room) = distinct_push p s distinct (says_sound p (fields_of line) s said)
 
-distinct_all : (p q : Program) (lines : List (List ℕ)) → AreDistinct p.names → ReadsAll p lines q → AreDistinct q.names
+pub distinct_all : (p q : Program) (lines : List (List ℕ)) → AreDistinct p.names → ReadsAll p lines q → AreDistinct q.names
 distinct_all p q [] distinct none = distinct
 distinct_all p q (line ∷ lines) distinct (one {q = r} first rest) = distinct_all r q lines (distinct_reads p r line distinct first) rest
 

@@ -313,10 +313,10 @@ one_place names name i j distinct a b =
       ]
     ]
 
-declared_contains : (names : List (List ℕ)) (name : List ℕ) (v : Var) → IsDeclared names name v → Contains names name
+pub declared_contains : (names : List (List ℕ)) (name : List ℕ) (v : Var) → IsDeclared names name v → Contains names name
 declared_contains names name v is = (v.0, slice_get_within names v.0 name is, get_or_from_slice_get names v.0 name name is)
 
-place_complete : (names : List (List ℕ)) (name : List ℕ) (v : Var) → AreDistinct names → IsDeclared names name v → place_of names name ≡ Some v
+pub place_complete : (names : List (List ℕ)) (name : List ℕ) (v : Var) → AreDistinct names → IsDeclared names name v → place_of names name ≡ Some v
 place_complete names name v distinct is = by (place_of names name) refl
   where
     by : (o : Option Var) → place_of names name ≡ o → o ≡ Some v

@@ -2,12 +2,12 @@
 use Rattle.std.proofs.Common.{◌≡◌, inl, inr, ℕ, ◌+◌, ◌<◌, List, [], ◌∷◌, ◌++◌, length, refl, ap, sym, subst, ◌∙◌, arith}
 use Rattle.std.proofs.lemmas.Bool.{cases_order}
 use Rattle.std.proofs.lemmas.Option.{same_Some}
-use Rattle.uv_script.specs.Grammar.{Reads, ReadsAll, none, one, blank, IsBadLine}
+use Rattle.uv_script.specs.Grammar.{Reads, ReadsAll, none, one, blank, IsScript, IsBadLine}
 use Rattle.uv_script.specs.Laws.{HasOneScript, HasNoBadLine, HasOneBadLine}
 use Rattle.uv_script.specs.Lines.{lines_of}
 use Rattle.uv_script.specs.Program.{Program}
 use Rattle.uv_script.proofs.Agrees.{AreDistinct}
-use Rattle.uv_script.proofs.AfterLines.{after_complete, distinct_reads, distinct_none}
+use Rattle.uv_script.proofs.AfterLines.{after_complete, distinct_reads, distinct_all, distinct_none}
 
 reads_one : (p q r : Program) (line : List ℕ) → AreDistinct p.names → Reads p line q → Reads p line r → q ≡ r
 reads_one p q r line distinct a b = same_Some q r (sym (after_complete p q line distinct a) ∙ after_complete p r line distinct b)
@@ -41,6 +41,10 @@ stops before after line script q read refused all =
     let same = all_one blank parts.middle script before distinct_none parts.read read in
     let first = first_of_rest parts.middle q line after parts.left in
     refused first.0 (subst (λ (m : Program). Reads m line first.0) same first.1)
+
+-- the names of a script are distinct
+pub distinct_names : (text : List ℕ) (p : Program) → IsScript text p → AreDistinct p.names
+distinct_names text p is = distinct_all blank p (lines_of text) distinct_none is
 
 pub one_script : (text : List ℕ) → HasOneScript text
 one_script text p q a b = all_one blank p q (lines_of text) distinct_none a b

@@ -1,11 +1,12 @@
 //! The commands of a conversation.
-ghost use Rattle.std.specs.Prelude.{◌≡◌, ℕ, List};
+ghost use Rattle.std.specs.Prelude.{◌≡◌, ◌≢◌, ℕ, List, AllPairs};
 ghost use Rattle.uv_text.specs.declared.command.Asked.{Asked};
 ghost use Rattle.uv_text.specs.Commands.{Asks, MOST};
-ghost use Rattle.uv_text.specs.Reading.{asked_of, command_of, command_alone, command_with, loops, goes_back};
+ghost use Rattle.uv_text.specs.Reading.{asked_of, command_of, command_alone, command_by, command_with, loops, goes_back};
 
+use uv_ids::Var;
 use uv_model::STEPS;
-use uv_script::{Fields, is_line, is_skipped, number};
+use uv_script::{Fields, Names, is_line, is_skipped, number};
 
 /// What a line of a conversation asks for.
 #[derive(Clone, Copy, Debug, PartialEq, Eq)]
@@ -14,6 +15,8 @@ pub enum Command {
     Loop(u32),
     /// `tick MS`: the clock goes on.
     Tick(u64),
+    /// `send NAME`: sends to an async handle, from outside.
+    Send(Var),
     /// `back n`: takes so many steps back, 0 to 2^24.
     Back(u32),
     /// `trace`: shows the lines of the standing steps.
@@ -35,17 +38,17 @@ pub enum Asked {
 /// The most steps that one command names (own): as many as there may be.
 const MOST: u64 = STEPS as u64;
 
-/// Reads a line, without its line feed.
+/// Reads a line, without its line feed, where these names are declared.
 #[tactic(auto, using(crate::proofs::Commands::reading))]
-pub fn read_command(line: &[u8]) -> Asked
-    ensures rule { Asks line.now result }
-    ensures test { result ≡ asked_of line.now }
+pub fn read_command(names: &Names, line: &[u8]) -> Asked
+    ensures rule { Asks names.now line.now result }
+    ensures test { result ≡ asked_of names.now line.now }
 {
-    read(line)
+    read(names, line)
 }
 
-fn read(line: &[u8]) -> Asked
-    ensures { result ≡ asked_of line.now }
+fn read(names: &Names, line: &[u8]) -> Asked
+    ensures { result ≡ asked_of names.now line.now }
 {
     if !is_line(line) {
         return Asked::Bad;
@@ -53,21 +56,21 @@ fn read(line: &[u8]) -> Asked
     if is_skipped(line) {
         return Asked::Nothing;
     }
-    match read_fields(Fields::of(line)) {
+    match read_fields(names, Fields::of(line)) {
         Some(command) => Asked::Do(command),
         None => Asked::Bad,
     }
 }
 
-fn read_fields(mut fields: Fields) -> Option<Command>
-    ensures { result ≡ command_of fields.entry }
+fn read_fields(names: &Names, mut fields: Fields) -> Option<Command>
+    ensures { result ≡ command_of names.now fields.entry }
 {
     let word = fields.next()?;
     let Some(argument) = fields.next() else {
         return alone(word);
     };
     match fields.next() {
-        None => with_number(word, number(argument)),
+        None => with_argument(names, word, argument),
         Some(_) => None,
     }
 }
@@ -86,8 +89,20 @@ fn alone(word: &[u8]) -> Option<Command>
     }
 }
 
+fn with_argument(names: &Names, word: &[u8], argument: &[u8]) -> Option<Command>
+    ensures { result ≡ command_with names.now word.now argument.now }
+{
+    if word != b"send".as_slice() {
+        return with_number(word, number(argument));
+    }
+    match names.number(argument) {
+        Some(name) => Some(Command::Send(name)),
+        None => None,
+    }
+}
+
 fn with_number(word: &[u8], number: Option<u64>) -> Option<Command>
-    ensures { result ≡ command_with word.now number }
+    ensures { result ≡ command_by word.now number }
 {
     let n = number?;
     if word == b"loop".as_slice() {
@@ -121,9 +136,10 @@ fn goes_back(n: u64) -> Option<Command>
     }
 }
 
-/// Every line asks for something, and for one thing alone.
+/// Every line asks for something, and for one thing alone where no name is declared twice.
 #[tactic(auto, using(crate::proofs::Commands::reading))]
 pub fn every_line_asks()
-    ensures some { (line : List ℕ) → Asks line (asked_of line) }
-    ensures one { (line : List ℕ) (a b : Asked) → Asks line a → Asks line b → a ≡ b }
+    ensures some { (names : List (List ℕ)) (line : List ℕ) → Asks names line (asked_of names line) }
+    ensures one { (names : List (List ℕ)) (line : List ℕ) (a b : Asked) → AllPairs (λ x y. x ≢ y) names → Asks names line a → Asks names line b
+        → a ≡ b }
 {}
