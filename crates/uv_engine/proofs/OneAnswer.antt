@@ -1,21 +1,28 @@
 -- An input has one answer.
 use Rattle.std.proofs.Common.{◌≡◌, ℕ, ◌==◌, List, [], ◌∷◌, ◌++◌, false, refl, ap, sym, subst, ◌∙◌}
-use Rattle.std.specs.Prelude.{codes}
+use Rattle.std.specs.Prelude.{zero, suc, length, nat_lt, nat_le, codes}
+use Rattle.std.proofs.lemmas.Bool.{cond_both}
+use Rattle.uv_ids.specs.declared.event.Event.{Event}
+use Rattle.uv_ids.specs.declared.event.Event.TheVariants as event
+use Rattle.uv_model.specs.Next.{Next, Moves, Refuses, next}
+use Rattle.uv_model.specs.After.{after}
 use Rattle.std.proofs.lemmas.List.Elements.{All-head, All-tail, All-from_recursion}
 use Rattle.uv_script.specs.Lines.{lines_of}
 use Rattle.uv_script.specs.Grammar.{IsScript, IsBadLine}
 use Rattle.uv_script.specs.Program.{Program}
 use Rattle.uv_script.proofs.SomeReading.{some_reading}
-use Rattle.uv_script.proofs.OneReading.{one_script, no_bad_line, one_bad_line}
-use Rattle.uv_session.specs.Shown.{Shown}
+use Rattle.uv_script.proofs.OneReading.{distinct_names, one_script, no_bad_line, one_bad_line}
+use Rattle.uv_script.proofs.Agrees.{AreDistinct}
+use Rattle.uv_session.specs.Shown.{Shown, moved_back}
 use Rattle.uv_text.specs.declared.command.Command.{Command}
-use Rattle.uv_text.specs.declared.command.Command.TheVariants.{Loop, Tick, Back, Trace, Quit}
+use Rattle.uv_text.specs.declared.command.Command.TheVariants.{Loop, Tick, Send, Back, Trace, Quit}
 use Rattle.uv_text.specs.declared.command.Asked.{Asked}
 use Rattle.uv_text.specs.declared.command.Asked.TheVariants.{Nothing, Do, Bad}
 use Rattle.uv_text.proofs.Commands.{asks, asks_one}
 use Rattle.uv_engine.specs.declared.conversation.Ended.{Ended}
 use Rattle.uv_engine.specs.Input.{NoFeed}
 use Rattle.uv_engine.specs.Out.{IsAnswer, asked_after, Talks, input_ends, quits, goes_on, Begins, here, here_at_end, later, NeverBegins, nothing, last_line, one_line, fresh_session, Ends, BadScript, talks, bad_line, no_begin, bad_input, HasAnswer, HasOneAnswer}
+use Rattle.uv_engine.specs.Reply.{Reply, Full, reply, reply_to, reply_after, on_after, loop_after, back_after}
 use Rattle.uv_engine.proofs.Starting.{some_out}
 
 -- ---- the commands
@@ -23,6 +30,7 @@ use Rattle.uv_engine.proofs.Starting.{some_out}
 prints_one : (c : Command) (s : Shown) (a b : List ℕ) → IsAnswer (Do c) s a → IsAnswer (Do c) s b → a ≡ b
 prints_one (Loop n) s a b h k = h ∙ sym k
 prints_one (Tick ms) s a b h k = h ∙ sym k
+prints_one (Send v) s a b h k = h ∙ sym k
 prints_one (Back n) s a b h k = h ∙ sym k
 prints_one Trace s a b h k = h ∙ sym k
 prints_one Quit s a b h k = h ∙ sym k
@@ -37,14 +45,62 @@ record Same (a b : List ℕ) (x y : Ended) : Type 0 where
   text : a ≡ b
   end : x ≡ y
 
-talks_one : (lines : List (List ℕ)) (s : Shown) (a b : List ℕ) (x y : Ended) → Talks lines s a x → Talks lines s b y → Same a b x y
-talks_one [] s a b x y input_ends input_ends = record { text = refl; end = refl }
-talks_one (line ∷ lines) s a b x y (quits q) (quits r) = record { text = refl; end = refl }
-talks_one (line ∷ lines) s a b x y (quits q) (goes_on asked text rest r other h k) = absurd (other (asks_one line asked (Do Quit) r q))
-talks_one (line ∷ lines) s a b x y (goes_on asked text rest r other h k) (quits q) = absurd (other (asks_one line asked (Do Quit) r q))
-talks_one (line ∷ lines) s a b x y (goes_on asked text rest r other h k) (goes_on asked' text' rest' r' other' h' k') =
-    let same = asks_one line asked' asked r' r in
-    let more = talks_one lines (asked_after asked s) rest rest' x y k (subst (λ (z : Asked). Talks lines (asked_after z s) rest' y) same k') in
+-- ---- no command declares a name
+
+step_program : (s : Shown) (e : Event) (n : Next) → (reply_after s (reply_to s e n)).program ≡ s.program
+step_program s e (Moves t seen) = refl
+step_program s e (Refuses why) = refl
+
+reply_program : (s : Shown) (e : Event) → (reply_after s (reply s e)).program ≡ s.program
+reply_program s e =
+    let n = next s.program (after s.program s.standing) e in
+    cond_both (nat_lt (length s.standing) s.limit) (reply_to s e n) Full (λ (r : Reply). (reply_after s r).program ≡ s.program)
+    (λ _. step_program s e n) (λ _. refl)
+
+-- the steps behind one of the loop
+abbrev OnProgram : ℕ → Shown → Reply → Type 0
+OnProgram n s r = (on_after s r (loop_after n)).program ≡ s.program
+
+on_program : (n : ℕ) (s : Shown) (m : Next) → ((t : Shown) → (loop_after n t).program ≡ t.program) → OnProgram n s (reply_to s event.Loop m)
+on_program n s (Moves t seen) more = more (record s { standing = s.standing ++ event.Loop ∷ []; taken_back = [] })
+on_program n s (Refuses why) more = refl
+
+loop_program : (n : ℕ) (s : Shown) → (loop_after n s).program ≡ s.program
+unfolding loop_after
+loop_program zero s = refl
+loop_program (suc n) s =
+    let m = next s.program (after s.program s.standing) event.Loop in
+    cond_both (nat_lt (length s.standing) s.limit) (reply_to s event.Loop m) Full (OnProgram n s)
+    (λ _. on_program n s m (λ t. loop_program n t)) (λ _. refl)
+
+back_program : (n : ℕ) (s : Shown) → (back_after n s).program ≡ s.program
+back_program n s = cond_both (nat_le n (length s.standing)) (moved_back n s) s (λ (t : Shown). t.program ≡ s.program) (λ _. refl) (λ _. refl)
+
+same_program : (asked : Asked) (s : Shown) → (asked_after asked s).program ≡ s.program
+same_program Nothing s = refl
+same_program Bad s = refl
+same_program (Do (Loop n)) s = loop_program n s
+same_program (Do (Tick ms)) s = reply_program s (event.Tick ms)
+same_program (Do (Send v)) s = reply_program s (event.Send v)
+same_program (Do (Back n)) s = back_program n s
+same_program (Do Trace) s = refl
+same_program (Do Quit) s = refl
+
+still_distinct : (asked : Asked) (s : Shown) → AreDistinct s.program.names → AreDistinct (asked_after asked s).program.names
+still_distinct asked s distinct = subst (λ (p : Program). AreDistinct p.names) (sym (same_program asked s)) distinct
+
+talks_one : (lines : List (List ℕ)) (s : Shown) (a b : List ℕ) (x y : Ended) → AreDistinct s.program.names → Talks lines s a x → Talks lines s b y
+    → Same a b x y
+talks_one [] s a b x y distinct input_ends input_ends = record { text = refl; end = refl }
+talks_one (line ∷ lines) s a b x y distinct (quits q) (quits r) = record { text = refl; end = refl }
+talks_one (line ∷ lines) s a b x y distinct (quits q) (goes_on asked text rest r other h k) = absurd
+    (other (asks_one s.program.names line asked (Do Quit) distinct r q))
+talks_one (line ∷ lines) s a b x y distinct (goes_on asked text rest r other h k) (quits q) = absurd
+    (other (asks_one s.program.names line asked (Do Quit) distinct r q))
+talks_one (line ∷ lines) s a b x y distinct (goes_on asked text rest r other h k) (goes_on asked' text' rest' r' other' h' k') =
+    let same = asks_one s.program.names line asked' asked distinct r' r in
+    let more = talks_one lines (asked_after asked s) rest rest' x y (still_distinct asked s distinct) k
+    (subst (λ (z : Asked). Talks lines (asked_after z s) rest' y) same k') in
     let first = answers_one asked s text text' h (subst (λ (z : Asked). IsAnswer z s text') same h') in
     record { text = ap (λ (t : List ℕ). t ++ rest) first ∙ ap (λ (t : List ℕ). text' ++ t) more.text; end = more.end }
 
@@ -130,7 +186,7 @@ one_answer input a b x y (talks {end = f} script commands p begins is talk) (tal
     let same = one_script script p p' is (subst (λ (z : List ℕ). IsScript z p') (sym one.script) is') in
     let there = subst (λ (z : Program). Talks (lines_of commands) (fresh_session z) b g) (sym same)
     (subst (λ (z : List ℕ). Talks (lines_of z) (fresh_session p') b g) (sym one.commands) talk') in
-    let more = talks_one (lines_of commands) (fresh_session p) a b f g talk there in
+    let more = talks_one (lines_of commands) (fresh_session p) a b f g (distinct_names script p is) talk there in
     record { text = more.text; end = ap Ends more.end }
 one_answer input a b x y (talks script commands p begins is talk) (bad_line {number = m} script' commands' begins' bad) =
     let one = begins_one input input script script' commands commands' refl begins begins' in

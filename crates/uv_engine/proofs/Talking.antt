@@ -2,7 +2,7 @@
 use Rattle.std.proofs.Common.{◌≡◌, ◌≢◌, ℕ, List, [], ◌∷◌, ◌++◌, Result, Ok, Err, suc, ◌==◌, arith, Bool, true, false, refl, ap, sym, ◌∙◌, subst, append_assoc, append-nil}
 use Rattle.uv_ids.specs.declared.fault.Fault.{Fault}
 use Rattle.uv_session.specs.Shown.{Shown}
-use Rattle.uv_text.specs.declared.command.Command.TheVariants.{Loop, Tick, Back, Trace, Quit}
+use Rattle.uv_text.specs.declared.command.Command.TheVariants.{Loop, Tick, Send, Back, Trace, Quit}
 use Rattle.uv_text.specs.declared.command.Asked.{Asked}
 use Rattle.uv_text.specs.declared.command.Asked.TheVariants.{Nothing, Do, Bad}
 use Rattle.uv_text.specs.Commands.{Asks}
@@ -29,7 +29,7 @@ can_begin lines s old = record { part = []; grown = grown_none old; said = refl;
 
 -- every line asks for something
 abbrev pub EveryLine : Type 0
-EveryLine = (line : List ℕ) → Asks line (asked_of line)
+EveryLine = (names : List (List ℕ)) (line : List ℕ) → Asks names line (asked_of names line)
 
 -- some answers to the lines
 pub record SomeTalk (lines : List (List ℕ)) (s : Shown) : Type 0 where
@@ -37,18 +37,19 @@ pub record SomeTalk (lines : List (List ℕ)) (s : Shown) : Type 0 where
   pub end : Ended
   pub is : Talks lines s text end
 
-on_line : (line : List ℕ) (lines : List (List ℕ)) (s : Shown) (asked : Asked) (text : List ℕ) → Asks line asked → asked ≢ Do Quit
-    → IsAnswer asked s text → SomeTalk lines (asked_after asked s) → SomeTalk (line ∷ lines) s
+on_line : (line : List ℕ) (lines : List (List ℕ)) (s : Shown) (asked : Asked) (text : List ℕ)
+    → Asks s.program.names line asked → asked ≢ Do Quit → IsAnswer asked s text → SomeTalk lines (asked_after asked s) → SomeTalk (line ∷ lines) s
 on_line line lines s asked text a q h k = record { text = text ++ k.text; end = k.end; is = goes_on asked text k.text a q h k.is }
 
 pub some_talk : EveryLine → (lines : List (List ℕ)) (s : Shown) → SomeTalk lines s
 some_talk every [] s = record { text = []; end = ended.Input; is = input_ends }
-some_talk every (line ∷ lines) s = at (asked_of line) (every line) (λ t. some_talk every lines t) where
-  at : (asked : Asked) → Asks line asked → ((t : Shown) → SomeTalk lines t) → SomeTalk (line ∷ lines) s
+some_talk every (line ∷ lines) s = at (asked_of s.program.names line) (every s.program.names line) (λ t. some_talk every lines t) where
+  at : (asked : Asked) → Asks s.program.names line asked → ((t : Shown) → SomeTalk lines t) → SomeTalk (line ∷ lines) s
   at Nothing a k = on_line line lines s Nothing [] a (λ e. cc e) refl (k s)
   at Bad a k = on_line line lines s Bad _ a (λ e. cc e) refl (k s)
   at (Do (Loop n)) a k = on_line line lines s (Do (Loop n)) _ a (λ e. cc e) refl (k _)
   at (Do (Tick ms)) a k = on_line line lines s (Do (Tick ms)) _ a (λ e. cc e) refl (k _)
+  at (Do (Send v)) a k = on_line line lines s (Do (Send v)) _ a (λ e. cc e) refl (k _)
   at (Do (Back n)) a k = on_line line lines s (Do (Back n)) _ a (λ e. cc e) refl (k _)
   at (Do Trace) a k = on_line line lines s (Do Trace) _ a (λ e. cc e) refl (k s)
   at (Do Quit) a k = record { text = []; end = ended.Quit; is = quits a }
@@ -101,7 +102,7 @@ can_write {all} {s0} {lines} {s} {old} {w} {t} {v} {u} h k = record {
 
 -- a line was answered
 pub can_answer : {all : List (List ℕ)} {s0 : Shown} {line : List ℕ} {lines : List (List ℕ)} {s r : Shown} {asked : Asked} {old w t v u : List ℕ}
-    → CanTalkOn all s0 (line ∷ lines) s old w t → Asks line asked → asked ≢ Do Quit → GathersOne (IsAnswer asked s) (Ok tt) w t v u
+    → CanTalkOn all s0 (line ∷ lines) s old w t → Asks s.program.names line asked → asked ≢ Do Quit → GathersOne (IsAnswer asked s) (Ok tt) w t v u
     → r ≡ asked_after asked s → CanTalkOn all s0 lines r old v u
 can_answer {all} {s0} {line} {lines} {s} {r} {asked} {old} {w} {t} {v} {u} h a q k e = record {
   part = h.part ++ k.text;
@@ -132,7 +133,7 @@ cut_writing {all} {s0} {lines} {s} {old} {w} {t} {v} every h k =
 
 -- an answer was cut off
 pub cut_answer : {all : List (List ℕ)} {s0 : Shown} {line : List ℕ} {lines : List (List ℕ)} {s : Shown} {asked : Asked} {f : Fault}
-    {old w t v u : List ℕ} → EveryLine → CanTalkOn all s0 (line ∷ lines) s old w t → Asks line asked → asked ≢ Do Quit
+    {old w t v u : List ℕ} → EveryLine → CanTalkOn all s0 (line ∷ lines) s old w t → Asks s.program.names line asked → asked ≢ Do Quit
     → GathersOne (IsAnswer asked s) (Err f) w t v u → TalksCut all s0 old v
 cut_answer {all} {s0} {line} {lines} {s} {asked} {f} {old} {w} {t} {v} {u} every h a q k =
     let some = some_talk every lines (asked_after asked s) in
@@ -167,7 +168,7 @@ talk_ends {all} {s0} {lines} {s} {old} {w} {t} v r every h e k = finish_talk all
 
 -- `quit` was read
 pub talk_quits : {all : List (List ℕ)} {s0 : Shown} {line : List ℕ} {lines : List (List ℕ)} {s : Shown} {old w t : List ℕ} (v : List ℕ)
-    (r : Result Ended Fault) → EveryLine → CanTalkOn all s0 (line ∷ lines) s old w t → Asks line (Do Quit) → Finishes r ended.Quit w t v
+    (r : Result Ended Fault) → EveryLine → CanTalkOn all s0 (line ∷ lines) s old w t → Asks s.program.names line (Do Quit) → Finishes r ended.Quit w t v
     → TalksOn all s0 r old v
 talk_quits {all} {s0} {line} {lines} {s} {old} {w} {t} v r every h a k = finish_talk all s0 (line ∷ lines) s old w t v ended.Quit r every h
     (quits a) k

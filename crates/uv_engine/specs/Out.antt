@@ -9,7 +9,7 @@ use Rattle.uv_script.specs.Grammar.{IsScript, IsBadLine}
 use Rattle.uv_model.specs.After.{STEPS}
 use Rattle.uv_session.specs.Shown.{Shown}
 use Rattle.uv_text.specs.declared.command.Command.{Command}
-use Rattle.uv_text.specs.declared.command.Command.TheVariants.{Loop, Tick, Back, Trace, Quit}
+use Rattle.uv_text.specs.declared.command.Command.TheVariants.{Loop, Tick, Send, Back, Trace, Quit}
 use Rattle.uv_text.specs.declared.command.Asked.{Asked}
 use Rattle.uv_text.specs.declared.command.Asked.TheVariants.{Nothing, Do, Bad}
 use Rattle.uv_text.specs.Commands.{Asks}
@@ -23,6 +23,7 @@ use Rattle.uv_engine.specs.Reply.{reply, reply_text, reply_after, loop_text, loo
 abbrev pub Prints : Command → Shown → List ℕ → Type 0
 Prints (Loop n) s text = text ≡ loop_text n s
 Prints (Tick ms) s text = text ≡ reply_text s.program (reply s (event.Tick ms))
+Prints (Send v) s text = text ≡ reply_text s.program (reply s (event.Send v))
 Prints (Back n) s text = text ≡ back_text n s
 Prints Trace s text = text ≡ trace_text s
 Prints Quit s text = text ≡ []
@@ -31,6 +32,7 @@ Prints Quit s text = text ≡ []
 abbrev pub command_after : Command → Shown → Shown
 command_after (Loop n) s = loop_after n s
 command_after (Tick ms) s = reply_after s (reply s (event.Tick ms))
+command_after (Send v) s = reply_after s (reply s (event.Send v))
 command_after (Back n) s = back_after n s
 command_after Trace s = s
 command_after Quit s = s
@@ -49,9 +51,9 @@ asked_after Bad s = s
 -- what these lines print, one after another, up to `quit` or the last one
 pub data Talks : List (List ℕ) → Shown → List ℕ → Ended → Type 0 where
   input_ends : {s : Shown} → Talks [] s [] ended.Input
-  quits : {line : List ℕ} {lines : List (List ℕ)} {s : Shown} → Asks line (Do Quit) → Talks (line ∷ lines) s [] ended.Quit
-  goes_on : {line : List ℕ} {lines : List (List ℕ)} {s : Shown} {end : Ended} (asked : Asked) (text rest : List ℕ) → Asks line asked → asked ≢ Do Quit
-      → IsAnswer asked s text → Talks lines (asked_after asked s) rest end → Talks (line ∷ lines) s (text ++ rest) end
+  quits : {line : List ℕ} {lines : List (List ℕ)} {s : Shown} → Asks s.program.names line (Do Quit) → Talks (line ∷ lines) s [] ended.Quit
+  goes_on : {line : List ℕ} {lines : List (List ℕ)} {s : Shown} {end : Ended} (asked : Asked) (text rest : List ℕ)
+      → Asks s.program.names line asked → asked ≢ Do Quit → IsAnswer asked s text → Talks lines (asked_after asked s) rest end → Talks (line ∷ lines) s (text ++ rest) end
 
 -- the line `begin` cuts an input: the bytes before it are the script, and those after it the commands
 pub data Begins : List ℕ → List ℕ → List ℕ → Type 0 where

@@ -168,6 +168,10 @@ impl<M: Machine> Conversation<M> {
                 tell(&mut self.session, &mut self.text, Event::Tick(ms))?;
                 Ok(())
             }
+            Command::Send(name) => {
+                tell(&mut self.session, &mut self.text, Event::Send(name))?;
+                Ok(())
+            }
             Command::Back(n) => {
                 go_back(&mut self.session, &mut self.text, n)?;
                 Ok(())

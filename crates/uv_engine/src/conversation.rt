@@ -82,7 +82,8 @@ impl<M: Machine> Conversation<M> {
             let Some(line) = input.next_line(reader)? else {
                 return self.finish(writer, Ended::Input);
             };
-            let asked = read_command(line.text.as_slice());
+            let names = self.session.machine().script().names();
+            let asked = read_command(names, line.text.as_slice());
             if is_quit(asked) {
                 return self.finish(writer, Ended::Quit);
             }

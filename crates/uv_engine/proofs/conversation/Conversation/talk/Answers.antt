@@ -1,6 +1,7 @@
 use Rattle.std.proofs.Common.{arith, ap, ◌∙◌}
 use Rattle.std.proofs.lemmas.Result.{err_from_is_err_and}
 use Rattle.uv_script.specs.Lines.{lines_of}
+use Rattle.uv_script.specs.Program.{Program}
 use Rattle.uv_engine.proofs.Talking.{can_write, can_answer, can_next, cut_waiting, cut_writing, cut_answer, talk_ends, talk_quits}
 use Rattle.uv_engine.proofs.conversation.Conversation.talk.Goals as goal
 
@@ -26,7 +27,8 @@ returns-then-is_quit-clause-text g c = λ reads tells.
     let written = can_write (c.lines.invariant.text reads tells) (c.in_ok-write_if_waiting.ensures.text tells) in
     let taken = rw c.in-Some.is at (c.in_ok-line.ensures.line reads) in
     let before = can_next _ _ _ taken written in
-    let asks = rw c.as_slice.ensures.value at c.read_command-asked.ensures.rule in
+    let names = c.names-names.ensures.names ∙ ap (λ (p : Program). p.names) (c.script.ensures ∙ c.machine.ensures.program) in
+    let asks = rw (c.as_slice.ensures.value, names) at c.read_command-asked.ensures.rule in
     talk_quits _ _ c.every_line_asks.ensures.some before (rw (← (c.is_quit.ensures.quit c.if-is_quit.true)) asks)
     (c.finish-then-is_quit.ensures.text tells)
 
@@ -35,7 +37,8 @@ returns-in_err-answer-clause-text g c = λ reads tells.
     let written = can_write (c.lines.invariant.text reads tells) (c.in_ok-write_if_waiting.ensures.text tells) in
     let taken = rw c.in-Some.is at (c.in_ok-line.ensures.line reads) in
     let before = can_next _ _ _ taken written in
-    let asks = rw c.as_slice.ensures.value at c.read_command-asked.ensures.rule in
+    let names = c.names-names.ensures.names ∙ ap (λ (p : Program). p.names) (c.script.ensures ∙ c.machine.ensures.program) in
+    let asks = rw (c.as_slice.ensures.value, names) at c.read_command-asked.ensures.rule in
     let other = c.is_quit.ensures.other c.if-is_quit.false in
     rw ((err_from_is_err_and c.from_residual-in_err-answer.result c.from_residual-in_err-answer.ensures.1).1)
     (cut_answer c.every_line_asks.ensures.some before asks other (c.in_err-answer.ensures.text tells))
@@ -47,7 +50,8 @@ lines-preserved g c = record {
       let written = can_write (c.lines.invariant.text reads tells) (c.in_ok-write_if_waiting.ensures.text tells) in
       let taken = rw c.in-Some.is at (c.in_ok-line.ensures.line reads) in
       let before = can_next _ _ _ taken written in
-      let asks = rw c.as_slice.ensures.value at c.read_command-asked.ensures.rule in
+      let names = c.names-names.ensures.names ∙ ap (λ (p : Program). p.names) (c.script.ensures ∙ c.machine.ensures.program) in
+      let asks = rw (c.as_slice.ensures.value, names) at c.read_command-asked.ensures.rule in
       let other = c.is_quit.ensures.other c.if-is_quit.false in
       can_answer before asks other (c.in_ok-answer.ensures.text tells) c.in_ok-answer.ensures.session;
   budget = λ reads. omega (arith, c.lines.invariant.budget reads, c.in_ok-line.ensures.budget reads);
