@@ -7,7 +7,7 @@ pub struct Conversation {
     pub output: &'static str,
 }
 
-pub const CONVERSATIONS: [Conversation; 14] = [
+pub const CONVERSATIONS: [Conversation; 15] = [
     Conversation {
         what: "a loop with nothing to do ends at once",
         input: "begin\n\
@@ -459,6 +459,58 @@ pub const CONVERSATIONS: [Conversation; 14] = [
          timers\n\
          end 0\n\
          closeloop = ok\n\
+         refused ended\n",
+    },
+    Conversation {
+        what: "sends from outside are one call, and none reaches a handle that closes",
+        input: "var a\n\
+         main init a async\n\
+         main run default\n\
+         on a @2 close a\n\
+         begin\n\
+         loop 100\n\
+         send a\n\
+         send a\n\
+         send a\n\
+         send a\n\
+         send a\n\
+         loop 100\n\
+         send a\n\
+         loop 100\n",
+        output: "init a async = 0.0\n\
+         run default\n\
+         timers\n\
+         pending\n\
+         idle\n\
+         prepare\n\
+         poll infinite\n\
+         refused blocked\n\
+         out send a = ok\n\
+         out send a = ok\n\
+         out send a = ok\n\
+         out send a = ok\n\
+         out send a = ok\n\
+         done\n\
+         async\n\
+         call a 0.0\n\
+         check\n\
+         closing\n\
+         timers\n\
+         pending\n\
+         idle\n\
+         prepare\n\
+         poll infinite\n\
+         refused blocked\n\
+         out send a = ok\n\
+         done\n\
+         async\n\
+         call a 0.0\n\
+         close a = ok\n\
+         check\n\
+         closing\n\
+         closed a 0.0\n\
+         timers\n\
+         end 0\n\
          refused ended\n",
     },
 ];
