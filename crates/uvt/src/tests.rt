@@ -56,7 +56,7 @@ struct Outside {
     errors: &'static str,
 }
 
-const OUTSIDE: [Outside; 15] = [
+const OUTSIDE: [Outside; 16] = [
     Outside {
         what: "a name that is not declared",
         input: b"var a\nmain start b 1 0\nbegin\n",
@@ -124,6 +124,13 @@ const OUTSIDE: [Outside; 15] = [
         what: "a command's number out of range",
         input: b"begin\nloop 0\nloop 16777217\nback 16777217\ntick 01\ntick 18446744073709551616\n",
         output: "bad command\nbad command\nbad command\nbad command\nbad command\n",
+        status: 0,
+        errors: "",
+    },
+    Outside {
+        what: "a send to a name that is not declared, and to one that has no handle",
+        input: b"var a\nbegin\nsend b\nsend\nsend a a\nsend a\n",
+        output: "bad command\nbad command\nbad command\nout send a = ESTALE\n",
         status: 0,
         errors: "",
     },
