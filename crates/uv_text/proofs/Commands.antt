@@ -1,5 +1,6 @@
 -- The tests of the code decide which commands there are.
-use Rattle.std.proofs.Common.{if◌then◌else◌, Bool, ◌≡◌, ℕ, List, [], ◌∷◌, true, false, ◌&&◌, nat_le, Option, Some, None, option_map, codes, refl, ap, sym, ◌∙◌, arith}
+use Rattle.std.proofs.Common.{if◌then◌else◌, Bool, ◌≡◌, ℕ, List, [], ◌∷◌, true, false, ◌&&◌, nat_le, Option, Some, None, option_map}
+use Rattle.std.proofs.Common.{codes, refl, ap, sym, ◌∙◌, arith}
 use Rattle.std.specs.Str.{bytes_eq}
 use Rattle.std.proofs.lemmas.Slice.Eq.{bytes_eq-Decides}
 use Rattle.std.proofs.lemmas.Bool.{and_parts, and_from, cond_both, leb-true, le-leb, both_ways}
@@ -37,7 +38,8 @@ second : {a b c d : List ℕ} {xs ys : List (List ℕ)} → a ∷ b ∷ xs ≡ c
 second e = cc e
 
 -- ---- a word alone
-none_alone : (names : List (List ℕ)) (word : List ℕ) → bytes_eq word (codes "loop") ≡ false → bytes_eq word (codes "trace") ≡ false → bytes_eq word (codes "quit") ≡ false
+none_alone : (names : List (List ℕ)) (word : List ℕ) → bytes_eq word (codes "loop") ≡ false
+    → bytes_eq word (codes "trace") ≡ false → bytes_eq word (codes "quit") ≡ false
     → IsNoCommand names (word ∷ [])
 none_alone names word a b d c (one_step e) = other _ _ a (first e)
 none_alone names word a b d c (steps number n e h l m) = cc e
@@ -74,7 +76,8 @@ same_value : (number argument : List ℕ) (m n : ℕ) → number ≡ argument �
 same_value number argument m n e h k = let x = number_of-complete number m h in let y = number_of-complete argument n k in let z = ap number_of e in
     cc (x, y, z)
 
-none_loops : (names : List (List ℕ)) (word argument : List ℕ) (n : ℕ) → word ≡ codes "loop" → IsNumber argument n → (nat_le 1 n && nat_le n MOST) ≡ false
+none_loops : (names : List (List ℕ)) (word argument : List ℕ) (n : ℕ) → word ≡ codes "loop" → IsNumber argument n
+    → (nat_le 1 n && nat_le n MOST) ≡ false
     → IsNoCommand names (word ∷ argument ∷ [])
 none_loops names word argument n w k z c (one_step e) = cc e
 none_loops names word argument n w k z c (steps number m e h l u) =
@@ -86,7 +89,8 @@ none_loops names word argument n w k z c (back number m e h l) = other (codes "l
 none_loops names word argument n w k z c (trace e) = cc e
 none_loops names word argument n w k z c (quit e) = cc e
 
-none_back : (names : List (List ℕ)) (word argument : List ℕ) (n : ℕ) → word ≡ codes "back" → IsNumber argument n → nat_le n MOST ≡ false → IsNoCommand names (word ∷ argument ∷ [])
+none_back : (names : List (List ℕ)) (word argument : List ℕ) (n : ℕ) → word ≡ codes "back" → IsNumber argument n
+    → nat_le n MOST ≡ false → IsNoCommand names (word ∷ argument ∷ [])
 none_back names word argument n w k z c (one_step e) = cc e
 none_back names word argument n w k z c (steps number m e h l u) = other (codes "back") (codes "loop") refl (sym w ∙ first e)
 none_back names word argument n w k z c (tick number ms e h) = other (codes "back") (codes "tick") refl (sym w ∙ first e)
@@ -96,7 +100,8 @@ none_back names word argument n w k z c (back number m e h l) = let same_n = sam
 none_back names word argument n w k z c (trace e) = cc e
 none_back names word argument n w k z c (quit e) = cc e
 
-none_with : (names : List (List ℕ)) (word argument : List ℕ) → bytes_eq word (codes "send") ≡ false → bytes_eq word (codes "loop") ≡ false → bytes_eq word (codes "tick") ≡ false
+none_with : (names : List (List ℕ)) (word argument : List ℕ) → bytes_eq word (codes "send") ≡ false
+    → bytes_eq word (codes "loop") ≡ false → bytes_eq word (codes "tick") ≡ false
     → bytes_eq word (codes "back") ≡ false → IsNoCommand names (word ∷ argument ∷ [])
 none_with names word argument x a b d c (one_step e) = cc e
 none_with names word argument x a b d c (steps number n e h l u) = other _ _ a (first e)
