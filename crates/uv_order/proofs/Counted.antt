@@ -51,7 +51,7 @@ set_here [] i x l = absurd (omega arith)
 set_here (n ∷ names) zero x l = refl
 set_here (n ∷ names) (suc i) x l = set_here names i x (omega arith)
 
-set_there : (names : List Named) (i j : ℕ) (x : Named) → (j ≡ i → ⊥) → slice_get (slice_set names i x) j ≡ slice_get names j
+pub set_there : (names : List Named) (i j : ℕ) (x : Named) → (j ≡ i → ⊥) → slice_get (slice_set names i x) j ≡ slice_get names j
 set_there [] i j x d = refl
 set_there (n ∷ names) zero zero x d = absurd (d refl)
 set_there (n ∷ names) zero (suc j) x d = refl

@@ -441,11 +441,14 @@ goes_on p [] told s at was l k h = cut
 goes_on p (e ∷ es) told s at was l k h =
     one_step p told s at es (next p s e) was l k (next_kept p s e (rested_at p s s.place at h.stands) k) h (follows p told s at e k h) (goes_on p es)
 
+-- where every script begins
+pub stands_fresh : (p : Program) → Stands p nothing_told (fresh p) (Between 0)
+stands_fresh p = record {
+  stands = between (record { timers = refl; idle = refl; prepare = refl; check = refl; async = refl; closing = refl });
+  counted = counted_fresh p;
+}
+
 -- the lines of any events are in the documented order
 pub documented : (p : Program) (es : List Event) → Documented p (history p es)
 unfolding history
-documented p es = goes_on p es nothing_told (fresh p) (Between 0) at_first refl (fresh_kept p)
-    (record {
-      stands = between (record { timers = refl; idle = refl; prepare = refl; check = refl; async = refl; closing = refl });
-      counted = counted_fresh p;
-    })
+documented p es = goes_on p es nothing_told (fresh p) (Between 0) at_first refl (fresh_kept p) (stands_fresh p)

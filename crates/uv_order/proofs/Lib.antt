@@ -12,3 +12,6 @@ mod Standing
 mod TimersFollow
 mod WatchersFollow
 pub mod Follows
+mod Gone
+mod Known
+pub mod ClosesOnce
