@@ -61,7 +61,7 @@ use Rattle.uv_model.specs.After.{state_of, lines}
 use Rattle.uv_model.proofs.Found.{found_both}
 use Rattle.uv_order.specs.Line.{Line}
 use Rattle.uv_order.specs.History.{line_of_step, history_from, history}
-use Rattle.uv_order.specs.Documented.{Told, nothing_told, told_with, Position, Between}
+use Rattle.uv_order.specs.Documented.{Told, nothing_told, told_by, Position, Between}
 use Rattle.uv_order.specs.Once.{MayFollow, OnceFrom, Once}
 use Rattle.uv_order.proofs.IdLists.{Each, each_back}
 use Rattle.uv_order.proofs.Holding.{slot_of, put, put_same, Grown, Fits, its_handle, Everyone}
@@ -69,6 +69,7 @@ use Rattle.uv_order.proofs.OpCases.{live_held, live_bound, IsRefusal, refuses_no
 use Rattle.uv_order.proofs.Keeping.{has_number, AreFree, Watches, Closes, Rests, Kept, members, takes, not_free}
 use Rattle.uv_order.proofs.KeptSteps.{FrontOf, front_of, first_of, opened, next_kept, fresh_kept, StaysKept}
 use Rattle.uv_order.proofs.Histories.{lines-history}
+use Rattle.uv_order.proofs.Sends.{SentAt, SentFollows, next_sent, sent_fresh}
 use Rattle.uv_order.proofs.Standing as order
 use Rattle.uv_order.proofs.Standing.{Stands}
 use Rattle.uv_order.proofs.Follows.{follows, rested_at, stands_fresh}
@@ -502,22 +503,22 @@ seens ls = map (λ (l : Line). l.seen) ls
 
 -- the lines from a state on, by those of its next step and those from the state after it
 one_more : (p : Program) (told : Told) (past : List Seen) (s : State) (at : Position) (n : Next) (es : List Event) → Kept s → StaysKept n →
-    Stands p told s at → order.Follows p told at s n → KnownAt p past s → Follows p past n →
-    ((told' : Told) (before : List Seen) (t : State) (to : Position) → Kept t → Stands p told' t to → KnownAt p before t →
+    SentAt told.sent s → SentFollows p told s n → Stands p told s at → order.Follows p told at s n → KnownAt p past s → Follows p past n →
+    ((told' : Told) (before : List Seen) (t : State) (to : Position) → Kept t → SentAt told'.sent t → Stands p told' t to → KnownAt p before t →
     OnceFrom p before (seens (history_from p t es))) → OnceFrom p past (seens (line_of_step s n ++ history_from p (state_of s n) es))
-one_more p told past s at (Moves t (Some l)) es kept j h f k g more = (g.0, more (told_with told l) (l ∷ past) t f.to j f.stands g.1)
-one_more p told past s at (Moves t None) es kept j h f k g more = more told past t at j f.0 g
-one_more p told past s at (Refuses why) es kept j h f k g more = more told past s at kept h k
+one_more p told past s at (Moves t (Some l)) es kept j a i h f k g more = (g.0, more (told_by p told s l) (l ∷ past) t f.to j i f.stands g.1)
+one_more p told past s at (Moves t None) es kept j a i h f k g more = more told past t at j i f.0 g
+one_more p told past s at (Refuses why) es kept j a i h f k g more = more told past s at kept a h k
 
-once_from : (p : Program) (es : List Event) (told : Told) (past : List Seen) (s : State) (at : Position) → Kept s → Stands p told s at →
-    KnownAt p past s → OnceFrom p past (seens (history_from p s es))
-once_from p [] told past s at kept h k = tt
-once_from p (e ∷ es) told past s at kept h k =
-    one_more p told past s at (next p s e) es kept (next_kept p s e (rested_at p s s.place at h.stands) kept) h (follows p told s at e kept h) k
-    (next_known p past s e kept k) (once_from p es)
+once_from : (p : Program) (es : List Event) (told : Told) (past : List Seen) (s : State) (at : Position) → Kept s → SentAt told.sent s →
+    Stands p told s at → KnownAt p past s → OnceFrom p past (seens (history_from p s es))
+once_from p [] told past s at kept sent h k = tt
+once_from p (e ∷ es) told past s at kept sent h k =
+    one_more p told past s at (next p s e) es kept (next_kept p s e (rested_at p s s.place at h.stands) kept) sent (next_sent p told s e kept sent) h
+    (follows p told s at e kept sent h) k (next_known p past s e kept k) (once_from p es)
 
 -- by the lines of any events each handle closes once
 pub once : (p : Program) (es : List Event) → Once p (lines p es)
 unfolding history
 once p es = subst (Once p) (sym (lines-history p es))
-    (once_from p es nothing_told [] (fresh p) (Between 0) (fresh_kept p) (stands_fresh p) (known_fresh p))
+    (once_from p es nothing_told [] (fresh p) (Between 0) (fresh_kept p) (sent_fresh p) (stands_fresh p) (known_fresh p))

@@ -64,7 +64,8 @@ pub start_watcher_kept : (s : State) (id : Id) (h : HandleRecord) → handle s i
 start_watcher_kept s id h e stays k = cond_both h.active s _ Kept (λ on. k)
     (λ off. found_both (watcher_kind h.kind) _ s Kept (λ q is. watcher_started_kept s q id h e (as_watcher h.kind q is) off stays k) (λ none. k))
 
-pub referenced_kept : (s : State) (id : Id) (h : HandleRecord) (flag : Bool) → handle s id ≡ Some h → Kept s → Kept (ops.set_referenced s flag id h).state
+pub referenced_kept : (s : State) (id : Id) (h : HandleRecord) (flag : Bool) → handle s id ≡ Some h → Kept s →
+    Kept (ops.set_referenced s flag id h).state
 referenced_kept s id h flag e k = put_kept s id h (referenced_as flag h) e refl refl refl refl k
 
 pub send_kept : (s : State) (v : Var) → Kept s → Kept (ops.send s (live s v)).state
@@ -290,7 +291,8 @@ begin_closing_kept s e k = record {
 }
 
 -- the front of those yet to run goes to the end of the list
-pub moved_listed : (s : State) (P : HandleRecord → Type 0) (w : Walk Id) (t : Id × HandleRecord) → FrontOf s w.yet t → Everyone s.arena.slots P (members
+pub moved_listed : (s : State) (P : HandleRecord → Type 0) (w : Walk Id) (t : Id × HandleRecord) → FrontOf s w.yet t →
+    Everyone s.arena.slots P (members
     w) →
     Everyone s.arena.slots P (members (moved_on w t.0 (drop 1 w.yet)))
 moved_listed s P w t f l =
