@@ -1,5 +1,5 @@
 -- A state's numbers are no larger than the number of its steps, and its times no later than the clock's limit.
-use Rattle.std.proofs.Common.{◌≡◌, ℕ, zero, suc, ◌+◌, ◌<◌, ◌≤◌, ◌^◌, List, [], ◌∷◌, ◌++◌, length, drop, Bool, true, false, Option, Some, None, if◌then◌else◌, nat_le, nat_lt, ◌==◌, ◌&&◌, option_and_then, slice_get, slice_set, All, refl, arith, subst, replicate, add-zero, zero-add}
+use Rattle.std.proofs.Common.{◌≡◌, ℕ, zero, suc, ◌+◌, ◌≤◌, ◌^◌, List, [], ◌∷◌, ◌++◌, length, drop, Bool, true, false, Option, Some, None, if◌then◌else◌, nat_le, nat_lt, ◌==◌, ◌&&◌, option_and_then, slice_get, slice_set, All, refl, arith, subst, replicate, add-zero, zero-add}
 use Rattle.std.proofs.lemmas.Grind.{elements}
 use Rattle.std.proofs.lemmas.Bool.{cond_both, eqb-true}
 use Rattle.std.proofs.lemmas.Option.{none-some, same_Some}
@@ -9,7 +9,6 @@ use Rattle.uv_ids.specs.declared.id.Var.{Var}
 use Rattle.uv_ids.specs.declared.due.Due.{Due}
 use Rattle.uv_ids.specs.declared.phase.Kind.{Kind}
 use Rattle.uv_ids.specs.declared.phase.Kind.TheVariants as kind
-use Rattle.uv_ids.specs.declared.code.Code.TheVariants.{Ekind}
 use Rattle.uv_ids.specs.declared.event.Event.{Event}
 use Rattle.uv_ids.specs.declared.event.Event.TheVariants.{Loop, Send, Tick}
 use Rattle.uv_script.specs.declared.op.Op.{Op}
@@ -49,13 +48,12 @@ use Rattle.uv_model.specs.declared.place.Timing.TheVariants.{Collecting, Firing}
 use Rattle.uv_model.specs.declared.place.Place.{Place}
 use Rattle.uv_model.specs.declared.place.Place.TheVariants.{Main, Running}
 use Rattle.uv_model.specs.Ids.{has_some}
-use Rattle.uv_model.specs.Found.{found_or}
 use Rattle.uv_model.specs.Content.{handle_in}
 use Rattle.uv_model.specs.State.{State, unbound, fresh, named, handle, with_handle, with_named, counted, count_of, with_id, live_id, live, front, watched, with_watched, refreshed}
 use Rattle.uv_model.specs.Timers.{taken_off, stopped, started, restarted}
 use Rattle.uv_model.specs.Ops as ops
 use Rattle.uv_model.specs.Ops.{do_op, refuses}
-use Rattle.uv_model.specs.Next.{Next, Moves, Refuses, next, loop_step, main_step, run_step, body_step, stage_step, tick, sent_to, timers, collect, collected, first_due, fire, leave_timers, enter, ends, new_iteration, calls, may_leave, is_default, body_from, goes, begin_walk, begin_closing, after_walk, front_moved, walk, walk_async, close_front, stage_of}
+use Rattle.uv_model.specs.Next.{Next, Moves, Refuses, next, loop_step, main_step, run_step, body_step, stage_step, tick, sent_to, timers, collected, first_due, fire, leave_timers, enter, ends, new_iteration, calls, may_leave, is_default, body_from, goes, begin_walk, after_walk, front_moved, walk, walk_async, close_front, stage_of}
 use Rattle.uv_model.specs.After.{after, goes_on, state_of}
 use Rattle.uv_model.specs.Bounds.{line_of, HoldsBefore, StartsBefore, AreBelow, CanStep}
 use Rattle.uv_model.proofs.Calls.{at_name}
@@ -214,10 +212,26 @@ renamed n s v x h l = record {
 }
 
 listed : (n : ℕ) (s : State) (ts : List (Due × Id)) (ready : List Id) → IsBounded n s → IsBounded n (record s { timers = ts; ready = ready })
-listed n s ts ready h = record { counts = h.counts; starts = h.starts; drawn = h.drawn; time = h.time; clock = h.clock; line = h.line; freed = h.freed }
+listed n s ts ready h = record {
+  counts = h.counts;
+  starts = h.starts;
+  drawn = h.drawn;
+  time = h.time;
+  clock = h.clock;
+  line = h.line;
+  freed = h.freed;
+}
 
 off_bounded : (n : ℕ) (s : State) (id : Id) (x : HandleRecord) → IsBounded n s → IsBounded n (taken_off s id x)
-off_bounded n s id x h = record { counts = h.counts; starts = h.starts; drawn = h.drawn; time = h.time; clock = h.clock; line = h.line; freed = h.freed }
+off_bounded n s id x h = record {
+  counts = h.counts;
+  starts = h.starts;
+  drawn = h.drawn;
+  time = h.time;
+  clock = h.clock;
+  line = h.line;
+  freed = h.freed;
+}
 
 kept_in : (n : ℕ) (s : State) (id : Id) (x : HandleRecord) → IsBounded n s → IsHeld s.next_start n id x → IsBounded n (with_handle s id x)
 kept_in n s id x h b = record {
@@ -238,10 +252,26 @@ at_clock : (n : ℕ) (s : State) → IsBounded n s → IsBounded n (refreshed s)
 at_clock n s h = record { counts = h.counts; starts = h.starts; drawn = h.drawn; time = h.clock; clock = h.clock; line = h.line; freed = h.freed }
 
 flagged : (n : ℕ) (s : State) (stop_flag idled : Bool) → IsBounded n s → IsBounded n (record s { stop_flag = stop_flag; idled = idled })
-flagged n s stop_flag idled h = record { counts = h.counts; starts = h.starts; drawn = h.drawn; time = h.time; clock = h.clock; line = h.line; freed = h.freed }
+flagged n s stop_flag idled h = record {
+  counts = h.counts;
+  starts = h.starts;
+  drawn = h.drawn;
+  time = h.time;
+  clock = h.clock;
+  line = h.line;
+  freed = h.freed;
+}
 
 watched_bounded : (n : ℕ) (s : State) (kind : WatcherKind) (w : Walk Id) → IsBounded n s → IsBounded n (with_watched s kind w)
-watched_bounded n s watcher.Idle w h = record { counts = h.counts; starts = h.starts; drawn = h.drawn; time = h.time; clock = h.clock; line = h.line; freed = h.freed }
+watched_bounded n s watcher.Idle w h = record {
+  counts = h.counts;
+  starts = h.starts;
+  drawn = h.drawn;
+  time = h.time;
+  clock = h.clock;
+  line = h.line;
+  freed = h.freed;
+}
 watched_bounded n s watcher.Prepare w h = record {
   counts = h.counts;
   starts = h.starts;
@@ -414,7 +444,8 @@ sent_bounded n s v h = at (live s v) (live_before n s v h) where
 
 op_bounded : (n : ℕ) (s : State) (x : Op) → IsBounded n s → IsBounded (suc n) (do_op s x).state
 op_bounded n s (op.Init v kind) h = init_bounded n s v kind (live s v) h
-op_bounded n s (op.Start v timeout repeat) h = on_handle_bounded n s v start_timer_refusal _ h (λ id x b e. start_bounded n s timeout repeat id x h b.freed)
+op_bounded n s (op.Start v timeout repeat) h = on_handle_bounded n s v start_timer_refusal _ h
+    (λ id x b e. start_bounded n s timeout repeat id x h b.freed)
 op_bounded n s (op.StartWatcher v) h = on_handle_bounded n s v start_watcher_refusal _ h (λ id x b e. start_watcher_bounded n s id x h b.freed)
 op_bounded n s (op.Stop v) h = on_handle_bounded n s v stop_refusal _ h (λ id x b e. more n (stopped s id x) (stopped_bounded n s id x h b.freed))
 op_bounded n s (op.Again v) h = on_handle_bounded n s v again_refusal _ h (λ id x b e. again_bounded n s id x h b.freed)
@@ -482,8 +513,9 @@ fire_bounded : (p : Program) (n : ℕ) (s : State) (run : Run) (part : TimersOf)
     StaysBounded (suc n) (fire p s run part)
 fire_bounded p n s run part h l = found_both (front s s.ready) _ _ (StaysBounded (suc n))
     (λ t e. let u = record s { ready = drop 1 s.ready } in
+    let few = (front_before n s s.ready t e h).freed in
     calls_bounded p n (restarted u t.0 t.1) (record run { stage = Timers part Firing }) callback.Handle t.1.name (seen.Call t.1.name t.0)
-    (restarted_bounded n u t.0 t.1 (listed n s s.timers (drop 1 s.ready) h) (front_before n s s.ready t e h).freed) (restarted_names n u t.0 t.1 h.counts) l)
+    (restarted_bounded n u t.0 t.1 (listed n s s.timers (drop 1 s.ready) h) few) (restarted_names n u t.0 t.1 h.counts) l)
     (λ e. leave_bounded n s run part h l)
 
 collected_bounded : (n : ℕ) (s : State) (id : Id) (x : HandleRecord) → IsBounded n s → id.generation ≤ n → IsBounded n (collected s id x)
@@ -506,7 +538,8 @@ first_due_before n s (u ∷ ts) t e h =
 timers_bounded : (p : Program) (n : ℕ) (s : State) (run : Run) (part : TimersOf) (timing : Timing) → IsBounded n s → run.line ≤ n →
     StaysBounded (suc n) (timers p s run part timing)
 timers_bounded p n s run part Collecting h l = found_both (first_due s s.timers) _ _ (StaysBounded (suc n))
-    (λ t e. run_at n (collected s t.0 t.1) (record run { stage = Timers part Collecting; body = None }) (collected_bounded n s t.0 t.1 h (first_due_before n s s.timers t e h).freed) l)
+    (λ t e. let few = (first_due_before n s s.timers t e h).freed in
+    run_at n (collected s t.0 t.1) (record run { stage = Timers part Collecting; body = None }) (collected_bounded n s t.0 t.1 h few) l)
     (λ e. fire_bounded p n s run part h l)
 timers_bounded p n s run part Firing h l = fire_bounded p n s run part h l
 
@@ -517,7 +550,15 @@ begin_walk_bounded n s run kind h l =
     run_at n (with_watched s kind w) (record run { stage = stage_of kind; body = None }) (watched_bounded n s kind w h) l
 
 closing_bounded : (n : ℕ) (s : State) (w : Walk Id) → IsBounded n s → IsBounded n (record s { closing = w })
-closing_bounded n s w h = record { counts = h.counts; starts = h.starts; drawn = h.drawn; time = h.time; clock = h.clock; line = h.line; freed = h.freed }
+closing_bounded n s w h = record {
+  counts = h.counts;
+  starts = h.starts;
+  drawn = h.drawn;
+  time = h.time;
+  clock = h.clock;
+  line = h.line;
+  freed = h.freed;
+}
 
 after_walk_bounded : (n : ℕ) (s : State) (run : Run) (kind : WatcherKind) → IsBounded n s → run.line ≤ n
     → StaysBounded (suc n) (after_walk s run kind)

@@ -36,7 +36,7 @@ use Rattle.uv_records.specs.declared.lists.WatcherKind.TheVariants as watcher
 use Rattle.uv_records.specs.Handles as records
 use Rattle.uv_records.specs.Lists.{phase_of}
 use Rattle.uv_records.specs.Slots.{freed}
-use Rattle.uv_records.specs.Walks.{Walk, all_yet, moved_on}
+use Rattle.uv_records.specs.Walks.{all_yet, moved_on}
 use Rattle.uv_model.specs.Found.{found_or}
 use Rattle.uv_model.specs.Ids.{has_some}
 use Rattle.uv_model.specs.State.{State, live, handle, with_id, with_handle, named, with_named, count_of, counted, front, watched, with_watched, refreshed}
