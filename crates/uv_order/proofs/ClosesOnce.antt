@@ -25,7 +25,7 @@ use Rattle.uv_script.specs.declared.op.MainOp.{MainOp}
 use Rattle.uv_script.specs.declared.op.MainOp.TheVariants as main
 use Rattle.uv_script.specs.declared.op.Op.{Op}
 use Rattle.uv_script.specs.declared.op.Op.TheVariants as op
-use Rattle.uv_script.specs.Program.{Program, lines_in, op_at, main_op}
+use Rattle.uv_script.specs.Program.{Program, arena_size, lines_in, op_at, main_op}
 use Rattle.uv_records.specs.declared.handle.HandleRecord.{HandleRecord}
 use Rattle.uv_records.specs.declared.lists.WatcherKind.{WatcherKind}
 use Rattle.uv_records.specs.declared.lists.WatcherKind.TheVariants as watcher
@@ -51,7 +51,7 @@ use Rattle.uv_model.specs.declared.place.Place.TheVariants.{Main, Running}
 use Rattle.uv_records.specs.Walks.{Walk, all_yet}
 use Rattle.uv_model.specs.Ids.{has_some}
 use Rattle.uv_model.specs.Timeout.{is_alive, poll_timeout}
-use Rattle.uv_model.specs.State.{State, unbound, LAST_GENERATION, fresh, handle, live, with_handle, front, watched, with_watched, refreshed}
+use Rattle.uv_model.specs.State.{State, unbound, fresh, handle, live, with_handle, front, watched, with_watched, refreshed}
 use Rattle.uv_model.specs.Timers.{stopped, started, restarted}
 use Rattle.uv_model.specs.Ops as ops
 use Rattle.uv_model.specs.Ops.{do_op}
@@ -386,8 +386,8 @@ async_known p past s run kept k = found_both (front s s.async.yet) _ _ (Follows 
 
 -- its line, and its slot
 freed_known : (p : Program) (past : List Seen) (s : State) (t : Id × HandleRecord) → handle s t.0 ≡ Some t.1 → Kept s → KnownAt p past s →
-    Known p (seen.Closed t.1.name t.0 ∷ past) (freed LAST_GENERATION t.0 s.arena) s.names
-freed_known p past s t e kept k = cond_both (t.0.generation == LAST_GENERATION) _ _
+    Known p (seen.Closed t.1.name t.0 ∷ past) (freed (arena_size p).last_generation t.0 s.arena) s.names
+freed_known p past s t e kept k = cond_both (t.0.generation == (arena_size p).last_generation) _ _
     (λ (u : Slots Content). Known p (seen.Closed t.1.name t.0 ∷ past) u s.names)
     (λ last. known_gone p past t.1.name s.arena s.arena.free s.names t.0 t.1 t.0.generation e (omega arith)
     (inr (not_free s.arena.slots t.0 t.1 s.arena.free e kept.free)) (λ m d f. f) k)
@@ -407,14 +407,14 @@ close_front_known p past s run kept k = found_both (front s s.closing.yet) _ _ (
   where
     gone : (t : Id × HandleRecord) → FrontOf s s.closing.yet t →
         Follows p past (calls p (record s {
-          arena = freed LAST_GENERATION t.0 s.arena;
+          arena = freed (arena_size p).last_generation t.0 s.arena;
           closing = record s.closing { yet = drop 1 s.closing.yet };
         }) run callback.Close t.1.name (seen.Closed t.1.name t.0))
     gone t f =
         let yet = each_back (Fits s.arena.slots Closes) s.closing.list s.closing.yet kept.closing.lists.each in
         let its : Fits s.arena.slots Closes t.0 = (subst (Each (Fits s.arena.slots Closes)) f.are yet).0 in (
           (k.closing t.0 its, not_over p past s.arena s.names t.0 t.1 f.holds k),
-          known_names p (seen.Closed t.1.name t.0 ∷ past) (freed LAST_GENERATION t.0 s.arena) _ s.names
+          known_names p (seen.Closed t.1.name t.0 ∷ past) (freed (arena_size p).last_generation t.0 s.arena) _ s.names
               (counted_ids s.names t.1.name _ refl) (freed_known p past s t f.holds kept k),
         )
 

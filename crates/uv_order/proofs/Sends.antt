@@ -19,7 +19,7 @@ use Rattle.uv_script.specs.declared.op.MainOp.{MainOp}
 use Rattle.uv_script.specs.declared.op.MainOp.TheVariants as main
 use Rattle.uv_script.specs.declared.op.Op.{Op}
 use Rattle.uv_script.specs.declared.op.Op.TheVariants as op
-use Rattle.uv_script.specs.Program.{Program, lines_in, main_op}
+use Rattle.uv_script.specs.Program.{Program, arena_size, lines_in, main_op}
 use Rattle.uv_records.specs.declared.handle.HandleRecord.{HandleRecord}
 use Rattle.uv_records.specs.declared.lists.WatcherKind.{WatcherKind}
 use Rattle.uv_records.specs.declared.lists.WatcherKind.TheVariants as watcher
@@ -43,7 +43,7 @@ use Rattle.uv_model.specs.declared.place.Timing.TheVariants.{Collecting, Firing}
 use Rattle.uv_model.specs.declared.place.Place.{Place}
 use Rattle.uv_model.specs.declared.place.Place.TheVariants.{Main, Running}
 use Rattle.uv_model.specs.Ids.{same_id, without_id}
-use Rattle.uv_model.specs.State.{State, LAST_GENERATION, fresh, handle, live, front, watched, refreshed}
+use Rattle.uv_model.specs.State.{State, fresh, handle, live, front, watched, refreshed}
 use Rattle.uv_model.specs.Timers.{stopped, started, restarted}
 use Rattle.uv_model.specs.Ops as ops
 use Rattle.uv_model.specs.Ops.{do_op}
@@ -409,12 +409,12 @@ close_front_sent : (p : Program) (told : Told) (s : State) (run : Run) → Kept 
 close_front_sent p told s run kept k = found_both (front s s.closing.yet) _ _ (SentFollows p told s)
     (λ t e. gone t (front_of s s.closing.yet t e)) (λ e. k)
   where
-    gone : (t : Id × HandleRecord) → FrontOf s s.closing.yet t → Sent told.sent (freed LAST_GENERATION t.0 s.arena).slots
+    gone : (t : Id × HandleRecord) → FrontOf s s.closing.yet t → Sent told.sent (freed (arena_size p).last_generation t.0 s.arena).slots
     gone t f =
         let yet = each_back (Fits s.arena.slots Closes) s.closing.list s.closing.yet kept.closing.lists.each in
         let its : Fits s.arena.slots Closes t.0 = (subst (Each (Fits s.arena.slots Closes)) f.are yet).0 in
         let shut = its_handle s.arena.slots Closes t.0 t.1 f.holds its in
-        cond_both (t.0.generation == LAST_GENERATION) _ _ (λ (u : Slots Content). Sent told.sent u.slots)
+        cond_both (t.0.generation == (arena_size p).last_generation) _ _ (λ (u : Slots Content). Sent told.sent u.slots)
         (λ last. sent_gone told.sent s.arena.slots t.0 t.1 t.0.generation f.holds shut k)
         (λ more. sent_gone told.sent s.arena.slots t.0 t.1 (t.0.generation + 1) f.holds shut k)
 

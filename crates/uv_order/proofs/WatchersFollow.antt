@@ -8,7 +8,7 @@ use Rattle.uv_ids.specs.declared.phase.Phase.{Phase}
 use Rattle.uv_ids.specs.declared.phase.Phase.TheVariants as phase
 use Rattle.uv_ids.specs.declared.seen.Seen.TheVariants as seen
 use Rattle.uv_ids.specs.declared.seen.Callback.TheVariants as callback
-use Rattle.uv_script.specs.Program.{Program}
+use Rattle.uv_script.specs.Program.{Program, arena_size}
 use Rattle.uv_records.specs.declared.handle.HandleRecord.{HandleRecord}
 use Rattle.uv_model.specs.declared.place.Run.{Run}
 use Rattle.uv_model.specs.declared.place.Stage.{Stage}
@@ -24,7 +24,7 @@ use Rattle.uv_records.specs.Slots.{freed}
 use Rattle.uv_records.specs.declared.slot.Slot.{Slot}
 use Rattle.uv_model.specs.declared.content.Content.{Content}
 use Rattle.uv_model.specs.Ids.{same_id}
-use Rattle.uv_model.specs.State.{State, LAST_GENERATION, with_handle, front, watched, refreshed}
+use Rattle.uv_model.specs.State.{State, with_handle, front, watched, refreshed}
 use Rattle.uv_model.specs.Timeout.{poll_timeout, deadline_of}
 use Rattle.uv_model.specs.Next as step
 use Rattle.uv_model.specs.Next.{Next, Moves, Refuses, next, goes, is_default, call, calls, first_due, collected, front_moved, may_leave, body_from}
@@ -515,7 +515,7 @@ closing_follows p told s run w st k c l b = found_both (front s s.closing.yet) _
   where
     at : (t : Id × HandleRecord) → FrontOf s s.closing.yet t → Follows p told (Running run.mode run.line (Within (In phase.Closing) w)) s
         (calls p (record s {
-          arena = freed LAST_GENERATION t.0 s.arena;
+          arena = freed (arena_size p).last_generation t.0 s.arena;
           closing = record s.closing { yet = drop 1 s.closing.yet };
         }) run callback.Close t.1.name (seen.Closed t.1.name t.0))
     at t f =
