@@ -5,7 +5,7 @@ use std::{fs, io};
 use uv_engine::{Reader, Writer, converse};
 use uv_model::PlainLoop;
 
-const EXAMPLES: [&str; 10] = [
+const EXAMPLES: [&str; 13] = [
     "two-timers",
     "falls-behind",
     "step-back",
@@ -16,6 +16,9 @@ const EXAMPLES: [&str; 10] = [
     "who-keeps-it-alive",
     "closed-handle",
     "sends-are-one",
+    "closed-twice",
+    "lost-send",
+    "stale-name",
 ];
 
 fn main(rt: HostRuntime) -> io::Result<()> {

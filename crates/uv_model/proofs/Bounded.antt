@@ -1,14 +1,14 @@
 -- A state's numbers are no larger than the number of its steps, and its times no later than the clock's limit.
-use Rattle.std.proofs.Common.{◌≡◌, ℕ, suc, ◌+◌, ◌<◌, ◌≤◌, ◌^◌, List, [], ◌∷◌, ◌++◌, length, drop, Bool, true, false, Option, Some, None, if◌then◌else◌, nat_le, nat_lt, ◌==◌, ◌&&◌, option_and_then, slice_get, slice_set, All, refl, arith, subst, replicate, add-zero, zero-add}
+use Rattle.std.proofs.Common.{◌≡◌, ℕ, zero, suc, ◌+◌, ◌≤◌, ◌^◌, List, [], ◌∷◌, ◌++◌, length, drop, Bool, true, false, Option, Some, None, if◌then◌else◌, nat_le, nat_lt, ◌==◌, ◌&&◌, option_and_then, slice_get, slice_set, All, refl, arith, subst, replicate, add-zero, zero-add}
 use Rattle.std.proofs.lemmas.Grind.{elements}
-use Rattle.std.proofs.lemmas.Bool.{cond_both}
+use Rattle.std.proofs.lemmas.Bool.{cond_both, eqb-true}
+use Rattle.std.proofs.lemmas.Option.{none-some, same_Some}
 use Rattle.std.proofs.lemmas.Bool.Decides.{nat_tests}
 use Rattle.uv_ids.specs.declared.id.Id.{Id}
 use Rattle.uv_ids.specs.declared.id.Var.{Var}
 use Rattle.uv_ids.specs.declared.due.Due.{Due}
 use Rattle.uv_ids.specs.declared.phase.Kind.{Kind}
 use Rattle.uv_ids.specs.declared.phase.Kind.TheVariants as kind
-use Rattle.uv_ids.specs.declared.code.Code.TheVariants.{Ekind}
 use Rattle.uv_ids.specs.declared.event.Event.{Event}
 use Rattle.uv_ids.specs.declared.event.Event.TheVariants.{Loop, Send, Tick}
 use Rattle.uv_script.specs.declared.op.Op.{Op}
@@ -16,7 +16,7 @@ use Rattle.uv_script.specs.declared.op.Op.TheVariants as op
 use Rattle.uv_script.specs.declared.op.MainOp.{MainOp}
 use Rattle.uv_script.specs.declared.op.MainOp.TheVariants as main
 use Rattle.uv_script.specs.declared.op.CallbackLine.{CallbackLine}
-use Rattle.uv_script.specs.Program.{Program}
+use Rattle.uv_script.specs.Program.{Program, arena_size}
 use Rattle.uv_ids.specs.declared.code.Code.{Code}
 use Rattle.uv_ids.specs.declared.seen.Seen.{Seen}
 use Rattle.uv_ids.specs.declared.seen.Seen.TheVariants as seen
@@ -48,13 +48,12 @@ use Rattle.uv_model.specs.declared.place.Timing.TheVariants.{Collecting, Firing}
 use Rattle.uv_model.specs.declared.place.Place.{Place}
 use Rattle.uv_model.specs.declared.place.Place.TheVariants.{Main, Running}
 use Rattle.uv_model.specs.Ids.{has_some}
-use Rattle.uv_model.specs.Found.{found_or}
 use Rattle.uv_model.specs.Content.{handle_in}
-use Rattle.uv_model.specs.State.{State, unbound, LAST_GENERATION, fresh, named, handle, with_handle, with_named, counted, count_of, with_id, live_id, live, front, watched, with_watched, refreshed}
+use Rattle.uv_model.specs.State.{State, unbound, fresh, named, handle, with_handle, with_named, counted, count_of, with_id, live_id, live, front, watched, with_watched, refreshed}
 use Rattle.uv_model.specs.Timers.{taken_off, stopped, started, restarted}
 use Rattle.uv_model.specs.Ops as ops
 use Rattle.uv_model.specs.Ops.{do_op, refuses}
-use Rattle.uv_model.specs.Next.{Next, Moves, Refuses, next, loop_step, main_step, run_step, body_step, stage_step, tick, sent_to, timers, collect, collected, first_due, fire, leave_timers, enter, ends, new_iteration, calls, may_leave, is_default, body_from, goes, begin_walk, begin_closing, after_walk, front_moved, walk, walk_async, close_front, stage_of}
+use Rattle.uv_model.specs.Next.{Next, Moves, Refuses, next, loop_step, main_step, run_step, body_step, stage_step, tick, sent_to, timers, collected, first_due, fire, leave_timers, enter, ends, new_iteration, calls, may_leave, is_default, body_from, goes, begin_walk, after_walk, front_moved, walk, walk_async, close_front, stage_of}
 use Rattle.uv_model.specs.After.{after, goes_on, state_of}
 use Rattle.uv_model.specs.Bounds.{line_of, HoldsBefore, StartsBefore, AreBelow, CanStep}
 use Rattle.uv_model.proofs.Calls.{at_name}
@@ -69,6 +68,10 @@ Counts n names = All (λ (x : Named). AreUpTo n x.calls) names
 abbrev pub Drawn : ℕ → List (Slot Content) → Type 0
 Drawn n slots = All (λ (x : Slot Content). HoldsBefore n (handle_in x.content)) slots
 
+-- each slot was freed so often at most
+abbrev pub Freed : ℕ → List (Slot Content) → Type 0
+Freed n slots = All (λ (x : Slot Content). x.generation ≤ n) slots
+
 pub record IsBounded (n : ℕ) (s : State) : Type 0 where
   pub counts : Counts n s.names
   pub starts : s.next_start ≤ n
@@ -76,6 +79,7 @@ pub record IsBounded (n : ℕ) (s : State) : Type 0 where
   pub time : s.time ≤ 2 ^ 62
   pub clock : s.clock ≤ 2 ^ 62
   pub line : line_of s.place ≤ n
+  pub freed : Freed n s.arena.slots
 
 abbrev pub StaysBounded : ℕ → Next → Type 0
 StaysBounded n (Moves t seen) = IsBounded n t
@@ -108,6 +112,19 @@ drawn_push : (n : ℕ) (slots : List (Slot Content)) (x : Slot Content) → Draw
     → Drawn n (slots ++ x ∷ [])
 drawn_push n slots x h b = grind (arith, elements, h)
 
+freed_more : (n : ℕ) (slots : List (Slot Content)) → Freed n slots → Freed (suc n) slots
+freed_more n slots h = λ k d w. let few = h k d w in omega arith
+
+freed_set : (n : ℕ) (slots : List (Slot Content)) (i : ℕ) (x : Slot Content) → Freed n slots → x.generation ≤ n → Freed n (slice_set slots i x)
+freed_set n slots i x h b = grind (arith, elements, h)
+
+freed_push : (n : ℕ) (slots : List (Slot Content)) (x : Slot Content) → Freed n slots → x.generation ≤ n → Freed n (slots ++ x ∷ [])
+freed_push n slots x h b = grind (arith, elements, h)
+
+slot_freed : (n : ℕ) (slots : List (Slot Content)) (i : ℕ) (slot : Slot Content) → slice_get slots i ≡ Some slot → Freed n slots →
+    slot.generation ≤ n
+slot_freed n slots i slot e h = grind (arith, elements, h)
+
 never : (n : ℕ) (h : HandleRecord) → h.active ≡ false → StartsBefore n h
 never n h e = λ t a. cc (a, e)
 
@@ -126,32 +143,46 @@ counts_at n s v h =
 
 -- ---- a live handle
 
-abbrev LiveBefore : ℕ → Option (Id × HandleRecord) → Type 0
-LiveBefore n None = Unit {0}
-LiveBefore n (Some t) = StartsBefore n t.1
+-- what is known of a handle that is held
+record IsHeld (m n : ℕ) (id : Id) (x : HandleRecord) : Type 0 where
+  starts : StartsBefore m x
+  freed : id.generation ≤ n
+
+abbrev LiveBefore : ℕ → ℕ → Option (Id × HandleRecord) → Type 0
+LiveBefore m n None = Unit {0}
+LiveBefore m n (Some t) = IsHeld m n t.0 t.1
+
+-- what is known of what is held under an id
+record ContentBefore (m n : ℕ) (id : Id) (c : Option Content) : Type 0 where
+  starts : HoldsBefore m (handle_in c)
+  freed : (x : Content) → c ≡ Some x → id.generation ≤ n
 
 slot_before : (n : ℕ) (slots : List (Slot Content)) (i : ℕ) (slot : Slot Content) → slice_get slots i ≡ Some slot → Drawn n slots →
     HoldsBefore n (handle_in slot.content)
 slot_before n slots i slot e h = grind (arith, elements, h)
 
-found_before : (n : ℕ) (all : List (Slot Content)) (id : Id) (x : Option (Slot Content)) → slice_get all id.slot ≡ x → Drawn n all →
-    HoldsBefore n (handle_in (option_and_then (slots.held_in id) x))
-found_before n all id None e h = tt
-found_before n all id (Some slot) e h = if_keeps (λ (c : Option Content). HoldsBefore n (handle_in c)) (slot.generation == id.generation)
-    slot.content None
-    (slot_before n all id.slot slot e h) tt
+found_before : (m n : ℕ) (all : List (Slot Content)) (id : Id) (x : Option (Slot Content)) → slice_get all id.slot ≡ x → Drawn m all → Freed n all →
+    ContentBefore m n id (option_and_then (slots.held_in id) x)
+found_before m n all id None e h f = record { starts = tt; freed = λ x none. absurd (none-some x none) }
+found_before m n all id (Some slot) e h f =
+    cond_both (slot.generation == id.generation) slot.content None (ContentBefore m n id)
+    (λ same. record {
+      starts = slot_before m all id.slot slot e h;
+      freed = λ x some. subst (λ (g : ℕ). g ≤ n) (eqb-true slot.generation id.generation same) (slot_freed n all id.slot slot e f);
+    })
+    (λ other. record { starts = tt; freed = λ x none. absurd (none-some x none) })
 
-with_id_before : (n : ℕ) (id : Id) (x : Option HandleRecord) → HoldsBefore n x → LiveBefore n (with_id id x)
-with_id_before n id None h = tt
-with_id_before n id (Some x) h = h
+with_id_before : (m n : ℕ) (id : Id) (c : Option Content) → ContentBefore m n id c → LiveBefore m n (with_id id (handle_in c))
+with_id_before m n id None h = tt
+with_id_before m n id (Some (content.Handle x)) h = record { starts = h.starts; freed = h.freed (content.Handle x) refl }
 
-live_id_before : (n : ℕ) (s : State) (id : Option Id) → Drawn n s.arena.slots → LiveBefore n (live_id s id)
-live_id_before n s None h = tt
-live_id_before n s (Some id) h =
-    with_id_before n id (handle s id) (found_before n s.arena.slots id (slice_get s.arena.slots id.slot) refl h)
+live_id_before : (m n : ℕ) (s : State) (id : Option Id) → Drawn m s.arena.slots → Freed n s.arena.slots → LiveBefore m n (live_id s id)
+live_id_before m n s None h f = tt
+live_id_before m n s (Some id) h f =
+    with_id_before m n id _ (found_before m n s.arena.slots id (slice_get s.arena.slots id.slot) refl h f)
 
-live_before : (s : State) (v : Var) → Drawn s.next_start s.arena.slots → LiveBefore s.next_start (live s v)
-live_before s v h = live_id_before s.next_start s (named s v).id h
+live_before : (n : ℕ) (s : State) (v : Var) → IsBounded n s → LiveBefore s.next_start n (live s v)
+live_before n s v h = live_id_before s.next_start n s (named s v).id h.drawn h.freed
 
 -- ---- the changes of a state
 
@@ -163,10 +194,11 @@ more n s h = record {
   time = h.time;
   clock = h.clock;
   line = omega arith;
+  freed = freed_more n s.arena.slots h.freed;
 }
 
 placed : (n : ℕ) (s : State) (place : Place) → IsBounded n s → line_of place ≤ n → IsBounded n (record s { place = place })
-placed n s place h l = record { counts = h.counts; starts = h.starts; drawn = h.drawn; time = h.time; clock = h.clock; line = l }
+placed n s place h l = record { counts = h.counts; starts = h.starts; drawn = h.drawn; time = h.time; clock = h.clock; line = l; freed = h.freed }
 
 renamed : (n : ℕ) (s : State) (v : Var) (x : Named) → IsBounded n s → AreUpTo n x.calls → IsBounded n (with_named s v x)
 renamed n s v x h l = record {
@@ -176,32 +208,70 @@ renamed n s v x h l = record {
   time = h.time;
   clock = h.clock;
   line = h.line;
+  freed = h.freed;
 }
 
 listed : (n : ℕ) (s : State) (ts : List (Due × Id)) (ready : List Id) → IsBounded n s → IsBounded n (record s { timers = ts; ready = ready })
-listed n s ts ready h = record { counts = h.counts; starts = h.starts; drawn = h.drawn; time = h.time; clock = h.clock; line = h.line }
-
-off_bounded : (n : ℕ) (s : State) (id : Id) (x : HandleRecord) → IsBounded n s → IsBounded n (taken_off s id x)
-off_bounded n s id x h = record { counts = h.counts; starts = h.starts; drawn = h.drawn; time = h.time; clock = h.clock; line = h.line }
-
-kept_in : (n : ℕ) (s : State) (id : Id) (x : HandleRecord) → IsBounded n s → StartsBefore s.next_start x → IsBounded n (with_handle s id x)
-kept_in n s id x h b = record {
+listed n s ts ready h = record {
   counts = h.counts;
   starts = h.starts;
-  drawn = drawn_set s.next_start s.arena.slots id.slot _ h.drawn b;
+  drawn = h.drawn;
   time = h.time;
   clock = h.clock;
   line = h.line;
+  freed = h.freed;
 }
 
+off_bounded : (n : ℕ) (s : State) (id : Id) (x : HandleRecord) → IsBounded n s → IsBounded n (taken_off s id x)
+off_bounded n s id x h = record {
+  counts = h.counts;
+  starts = h.starts;
+  drawn = h.drawn;
+  time = h.time;
+  clock = h.clock;
+  line = h.line;
+  freed = h.freed;
+}
+
+kept_in : (n : ℕ) (s : State) (id : Id) (x : HandleRecord) → IsBounded n s → IsHeld s.next_start n id x → IsBounded n (with_handle s id x)
+kept_in n s id x h b = record {
+  counts = h.counts;
+  starts = h.starts;
+  drawn = drawn_set s.next_start s.arena.slots id.slot _ h.drawn b.starts;
+  time = h.time;
+  clock = h.clock;
+  line = h.line;
+  freed = freed_set n s.arena.slots id.slot _ h.freed b.freed;
+}
+
+-- so is one that isn't active any more
+rested_in : (n : ℕ) (s : State) (id : Id) (x : HandleRecord) → IsBounded n s → id.generation ≤ n → x.active ≡ false → IsBounded n (with_handle s id x)
+rested_in n s id x h few idle = kept_in n s id x h (record { starts = never s.next_start x idle; freed = few })
+
 at_clock : (n : ℕ) (s : State) → IsBounded n s → IsBounded n (refreshed s)
-at_clock n s h = record { counts = h.counts; starts = h.starts; drawn = h.drawn; time = h.clock; clock = h.clock; line = h.line }
+at_clock n s h = record { counts = h.counts; starts = h.starts; drawn = h.drawn; time = h.clock; clock = h.clock; line = h.line; freed = h.freed }
 
 flagged : (n : ℕ) (s : State) (stop_flag idled : Bool) → IsBounded n s → IsBounded n (record s { stop_flag = stop_flag; idled = idled })
-flagged n s stop_flag idled h = record { counts = h.counts; starts = h.starts; drawn = h.drawn; time = h.time; clock = h.clock; line = h.line }
+flagged n s stop_flag idled h = record {
+  counts = h.counts;
+  starts = h.starts;
+  drawn = h.drawn;
+  time = h.time;
+  clock = h.clock;
+  line = h.line;
+  freed = h.freed;
+}
 
 watched_bounded : (n : ℕ) (s : State) (kind : WatcherKind) (w : Walk Id) → IsBounded n s → IsBounded n (with_watched s kind w)
-watched_bounded n s watcher.Idle w h = record { counts = h.counts; starts = h.starts; drawn = h.drawn; time = h.time; clock = h.clock; line = h.line }
+watched_bounded n s watcher.Idle w h = record {
+  counts = h.counts;
+  starts = h.starts;
+  drawn = h.drawn;
+  time = h.time;
+  clock = h.clock;
+  line = h.line;
+  freed = h.freed;
+}
 watched_bounded n s watcher.Prepare w h = record {
   counts = h.counts;
   starts = h.starts;
@@ -209,6 +279,7 @@ watched_bounded n s watcher.Prepare w h = record {
   time = h.time;
   clock = h.clock;
   line = h.line;
+  freed = h.freed;
 }
 watched_bounded n s watcher.Check w h = record {
   counts = h.counts;
@@ -217,6 +288,7 @@ watched_bounded n s watcher.Check w h = record {
   time = h.time;
   clock = h.clock;
   line = h.line;
+  freed = h.freed;
 }
 watched_bounded n s watcher.Async w h = record {
   counts = h.counts;
@@ -225,6 +297,7 @@ watched_bounded n s watcher.Async w h = record {
   time = h.time;
   clock = h.clock;
   line = h.line;
+  freed = h.freed;
 }
 
 watched_names : (n : ℕ) (s : State) (kind : WatcherKind) (w : Walk Id) → Counts n s.names → Counts n (with_watched s kind w).names
@@ -233,13 +306,12 @@ watched_names n s watcher.Prepare w h = h
 watched_names n s watcher.Check w h = h
 watched_names n s watcher.Async w h = h
 
-stopped_bounded : (n : ℕ) (s : State) (id : Id) (x : HandleRecord) → IsBounded n s → IsBounded n (stopped s id x)
-stopped_bounded n s id x h = kept_in n (taken_off s id x) id (records.stopped x) (off_bounded n s id x h)
-    (never s.next_start (records.stopped x) refl)
+stopped_bounded : (n : ℕ) (s : State) (id : Id) (x : HandleRecord) → IsBounded n s → id.generation ≤ n → IsBounded n (stopped s id x)
+stopped_bounded n s id x h few = rested_in n (taken_off s id x) id (records.stopped x) (off_bounded n s id x h) few refl
 
-started_bounded : (n : ℕ) (s : State) (id : Id) (x : HandleRecord) (timeout repeat : ℕ) → IsBounded n s
-    → IsBounded (suc n) (started s id x timeout repeat)
-started_bounded n s id x timeout repeat h = record {
+started_bounded : (n : ℕ) (s : State) (id : Id) (x : HandleRecord) (timeout repeat : ℕ) → IsBounded n s → id.generation ≤ n →
+    IsBounded (suc n) (started s id x timeout repeat)
+started_bounded n s id x timeout repeat h few = record {
   counts = counts_more n s.names h.counts;
   starts = omega arith;
   drawn = drawn_set (s.next_start + 1) s.arena.slots id.slot _ (drawn_more s.next_start (s.next_start + 1) s.arena.slots (omega arith) h.drawn)
@@ -247,6 +319,7 @@ started_bounded n s id x timeout repeat h = record {
   time = h.time;
   clock = h.clock;
   line = omega arith;
+  freed = freed_set (suc n) s.arena.slots id.slot _ (freed_more n s.arena.slots h.freed) (omega arith);
 }
 
 -- ---- the ops
@@ -264,8 +337,24 @@ taken_drawn : (n : ℕ) (free : List ℕ) (id : Id) (x : HandleRecord) (s : Slot
 taken_drawn n [] id x s h b = drawn_push n s.slots _ h b
 taken_drawn n (i ∷ is) id x s h b = drawn_set n s.slots id.slot _ h b
 
-new_bounded : (n : ℕ) (s : State) (v : Var) (kind : Kind) (id : Id) → IsBounded n s → IsBounded (suc n) (ops.with_new s v kind id)
-new_bounded n s v kind id h =
+taken_freed : (n : ℕ) (free : List ℕ) (id : Id) (x : Content) (s : Slots Content) → Freed n s.slots → id.generation ≤ n →
+    Freed n (taken_from free id x s).slots
+taken_freed n [] id x s h few = freed_push n s.slots _ h (omega arith)
+taken_freed n (i ∷ is) id x s h few = freed_set n s.slots id.slot _ h few
+
+-- the slot that is taken next was freed as often as its id says
+next_freed : (n : ℕ) (all : List (Slot Content)) (unused : ℕ) (free : List ℕ) (id : Id) → Freed n all → slots.next_id all unused free ≡ Some id →
+    id.generation ≤ n
+next_freed n all zero [] id h e = cc e
+next_freed n all (suc unused) [] id h e = subst (λ (i : Id). i.generation ≤ n) (same_Some _ _ e) (omega arith)
+next_freed n all unused (i ∷ is) id h e = at (slice_get all i) refl e where
+  at : (x : Option (Slot Content)) → slice_get all i ≡ x → option_and_then (λ slot. Some (slots.id_of i slot)) x ≡ Some id → id.generation ≤ n
+  at None f g = cc g
+  at (Some slot) f g = subst (λ (j : Id). j.generation ≤ n) (same_Some _ _ g) (slot_freed n all i slot f h)
+
+new_bounded : (n : ℕ) (s : State) (v : Var) (kind : Kind) (id : Id) → IsBounded n s → next_free s.arena ≡ Some id →
+    IsBounded (suc n) (ops.with_new s v kind id)
+new_bounded n s v kind id h e =
     let m = more n s h in
     let u = record s { arena = taken id (content.Handle (inited v kind)) s.arena } in
     let wide : IsBounded (suc n) u = record {
@@ -275,6 +364,8 @@ new_bounded n s v kind id h =
       time = h.time;
       clock = h.clock;
       line = m.line;
+      freed = taken_freed (suc n) s.arena.free id (content.Handle (inited v kind)) s.arena m.freed
+          (next_freed (suc n) s.arena.slots s.arena.unused s.arena.free id m.freed e);
     } in
     let counts = counts_at n s v h.counts in
     renamed (suc n) (ops.listed_last u kind id) v (record (named s v) { id = Some id })
@@ -285,47 +376,51 @@ init_bounded : (n : ℕ) (s : State) (v : Var) (kind : Kind) (t : Option (Id × 
     → IsBounded (suc n) (ops.init s v kind t).state
 init_bounded n s v kind (Some t) h = more n s h
 init_bounded n s v kind None h = found_both (next_free s.arena) _ _ (λ (d : ops.Done). IsBounded (suc n) d.state)
-    (λ id e. new_bounded n s v kind id h) (λ e. more n s h)
+    (λ id e. new_bounded n s v kind id h e) (λ e. more n s h)
 
 on_handle_bounded : (n : ℕ) (s : State) (v : Var) (why : HandleRecord → Option Code) (f : Id → HandleRecord → ops.Done) → IsBounded n s →
-    ((id : Id) (x : HandleRecord) → StartsBefore s.next_start x → why x ≡ None → IsBounded (suc n) (f id x).state) →
+    ((id : Id) (x : HandleRecord) → IsHeld s.next_start n id x → why x ≡ None → IsBounded (suc n) (f id x).state) →
     IsBounded (suc n) (ops.on_handle s (live s v) why f).state
-on_handle_bounded n s v why f h k = at (live s v) (live_before s v h.drawn) where
-  at : (t : Option (Id × HandleRecord)) → LiveBefore s.next_start t → IsBounded (suc n) (ops.on_handle s t why f).state
+on_handle_bounded n s v why f h k = at (live s v) (live_before n s v h) where
+  at : (t : Option (Id × HandleRecord)) → LiveBefore s.next_start n t → IsBounded (suc n) (ops.on_handle s t why f).state
   at None l = more n s h
   at (Some t) l = found_both (why t.1) _ (f t.0 t.1) (λ (d : ops.Done). IsBounded (suc n) d.state) (λ code e. more n s h) (λ e. k t.0 t.1 l e)
 
-start_bounded : (n : ℕ) (s : State) (timeout repeat : ℕ) (id : Id) (x : HandleRecord) → IsBounded n s →
+start_bounded : (n : ℕ) (s : State) (timeout repeat : ℕ) (id : Id) (x : HandleRecord) → IsBounded n s → id.generation ≤ n →
     IsBounded (suc n) (ops.start s timeout repeat id x).state
-start_bounded n s timeout repeat id x h = started_bounded n (stopped s id x) id x timeout repeat (stopped_bounded n s id x h)
+start_bounded n s timeout repeat id x h few = started_bounded n (stopped s id x) id x timeout repeat (stopped_bounded n s id x h few) few
 
-restarted_bounded : (n : ℕ) (s : State) (id : Id) (x : HandleRecord) → IsBounded n s → IsBounded (suc n) (restarted s id x)
-restarted_bounded n s id x h = if_keeps (IsBounded (suc n)) (x.repeat == 0) s (started s id x x.repeat x.repeat) (more n s h)
-    (started_bounded n s id x x.repeat x.repeat h)
+restarted_bounded : (n : ℕ) (s : State) (id : Id) (x : HandleRecord) → IsBounded n s → id.generation ≤ n → IsBounded (suc n) (restarted s id x)
+restarted_bounded n s id x h few = if_keeps (IsBounded (suc n)) (x.repeat == 0) s (started s id x x.repeat x.repeat) (more n s h)
+    (started_bounded n s id x x.repeat x.repeat h few)
 
-again_bounded : (n : ℕ) (s : State) (id : Id) (x : HandleRecord) → IsBounded n s → IsBounded (suc n) (ops.again s id x).state
-again_bounded n s id x h = restarted_bounded n (stopped s id x) id x (stopped_bounded n s id x h)
+again_bounded : (n : ℕ) (s : State) (id : Id) (x : HandleRecord) → IsBounded n s → id.generation ≤ n → IsBounded (suc n) (ops.again s id x).state
+again_bounded n s id x h few = restarted_bounded n (stopped s id x) id x (stopped_bounded n s id x h few) few
 
-set_repeat_bounded : (n : ℕ) (s : State) (repeat : ℕ) (id : Id) (x : HandleRecord) → IsBounded n s → StartsBefore s.next_start x →
+set_repeat_bounded : (n : ℕ) (s : State) (repeat : ℕ) (id : Id) (x : HandleRecord) → IsBounded n s → IsHeld s.next_start n id x →
     IsBounded (suc n) (ops.set_repeat s repeat id x).state
-set_repeat_bounded n s repeat id x h b = more n (with_handle s id (repeating repeat x)) (kept_in n s id (repeating repeat x) h b)
+set_repeat_bounded n s repeat id x h b = more n (with_handle s id (repeating repeat x))
+    (kept_in n s id (repeating repeat x) h (record { starts = b.starts; freed = b.freed }))
 
-start_watcher_bounded : (n : ℕ) (s : State) (id : Id) (x : HandleRecord) → IsBounded n s → IsBounded (suc n) (ops.start_watcher s id x).state
-start_watcher_bounded n s id x h = if_keeps (IsBounded (suc n)) x.active s _ (more n s h)
+start_watcher_bounded : (n : ℕ) (s : State) (id : Id) (x : HandleRecord) → IsBounded n s → id.generation ≤ n →
+    IsBounded (suc n) (ops.start_watcher s id x).state
+start_watcher_bounded n s id x h few = if_keeps (IsBounded (suc n)) x.active s _ (more n s h)
     (found_both (watcher_kind x.kind) _ s (IsBounded (suc n)) (λ kind e. started_watcher kind e) (λ e. more n s h))
   where
     started_watcher : (kind : WatcherKind) → watcher_kind x.kind ≡ Some kind → IsBounded (suc n) (ops.watcher_started s kind id x)
     started_watcher kind e =
         let t = with_watched s kind (with_first (watched s kind) id) in
         let b = watched_bounded n s kind (with_first (watched s kind) id) h in
-        more n (with_handle t id (activated x)) (kept_in n t id (activated x) b (λ u a. absurd (never_timer x.kind kind e u)))
+        more n (with_handle t id (activated x))
+        (kept_in n t id (activated x) b (record { starts = λ u a. absurd (never_timer x.kind kind e u); freed = few }))
 
-set_referenced_bounded : (n : ℕ) (s : State) (flag : Bool) (id : Id) (x : HandleRecord) → IsBounded n s → StartsBefore s.next_start x →
+set_referenced_bounded : (n : ℕ) (s : State) (flag : Bool) (id : Id) (x : HandleRecord) → IsBounded n s → IsHeld s.next_start n id x →
     IsBounded (suc n) (ops.set_referenced s flag id x).state
-set_referenced_bounded n s flag id x h b = more n (with_handle s id (referenced_as flag x)) (kept_in n s id (referenced_as flag x) h b)
+set_referenced_bounded n s flag id x h b = more n (with_handle s id (referenced_as flag x))
+    (kept_in n s id (referenced_as flag x) h (record { starts = b.starts; freed = b.freed }))
 
-closed_bounded : (n : ℕ) (s : State) (id : Id) (x : HandleRecord) → IsBounded n s → IsBounded n (ops.closed s id x)
-closed_bounded n s id x h =
+closed_bounded : (n : ℕ) (s : State) (id : Id) (x : HandleRecord) → IsBounded n s → id.generation ≤ n → IsBounded n (ops.closed s id x)
+closed_bounded n s id x h few =
     let off = off_bounded n s id x h in
     let u = record (taken_off s id x) { closing = with_first s.closing id } in
     let b : IsBounded n u = record {
@@ -335,25 +430,28 @@ closed_bounded n s id x h =
       time = off.time;
       clock = off.clock;
       line = off.line;
+      freed = off.freed;
     } in
-    kept_in n u id (records.closed x) b (never s.next_start (records.closed x) refl)
+    rested_in n u id (records.closed x) b few refl
 
 sent_bounded : (n : ℕ) (s : State) (v : Var) → IsBounded n s → IsBounded (suc n) (ops.send s (live s v)).state
-sent_bounded n s v h = at (live s v) (live_before s v h.drawn) where
-  at : (t : Option (Id × HandleRecord)) → LiveBefore s.next_start t → IsBounded (suc n) (ops.send s t).state
+sent_bounded n s v h = at (live s v) (live_before n s v h) where
+  at : (t : Option (Id × HandleRecord)) → LiveBefore s.next_start n t → IsBounded (suc n) (ops.send s t).state
   at None l = more n s h
   at (Some t) l = found_both (send_refusal t.1) _ _ (λ (d : ops.Coded). IsBounded (suc n) d.state) (λ code e. more n s h)
-      (λ e. more n (with_handle s t.0 (records.sent t.1)) (kept_in n s t.0 (records.sent t.1) h l))
+      (λ e. more n (with_handle s t.0 (records.sent t.1))
+      (kept_in n s t.0 (records.sent t.1) h (record { starts = l.starts; freed = l.freed })))
 
 op_bounded : (n : ℕ) (s : State) (x : Op) → IsBounded n s → IsBounded (suc n) (do_op s x).state
 op_bounded n s (op.Init v kind) h = init_bounded n s v kind (live s v) h
-op_bounded n s (op.Start v timeout repeat) h = on_handle_bounded n s v start_timer_refusal _ h (λ id x b e. start_bounded n s timeout repeat id x h)
-op_bounded n s (op.StartWatcher v) h = on_handle_bounded n s v start_watcher_refusal _ h (λ id x b e. start_watcher_bounded n s id x h)
-op_bounded n s (op.Stop v) h = on_handle_bounded n s v stop_refusal _ h (λ id x b e. more n (stopped s id x) (stopped_bounded n s id x h))
-op_bounded n s (op.Again v) h = on_handle_bounded n s v again_refusal _ h (λ id x b e. again_bounded n s id x h)
+op_bounded n s (op.Start v timeout repeat) h = on_handle_bounded n s v start_timer_refusal _ h
+    (λ id x b e. start_bounded n s timeout repeat id x h b.freed)
+op_bounded n s (op.StartWatcher v) h = on_handle_bounded n s v start_watcher_refusal _ h (λ id x b e. start_watcher_bounded n s id x h b.freed)
+op_bounded n s (op.Stop v) h = on_handle_bounded n s v stop_refusal _ h (λ id x b e. more n (stopped s id x) (stopped_bounded n s id x h b.freed))
+op_bounded n s (op.Again v) h = on_handle_bounded n s v again_refusal _ h (λ id x b e. again_bounded n s id x h b.freed)
 op_bounded n s (op.SetRepeat v repeat) h = on_handle_bounded n s v timer_refusal _ h (λ id x b e. set_repeat_bounded n s repeat id x h b)
 op_bounded n s (op.DueIn v) h = on_handle_bounded n s v timer_refusal _ h (λ id x b e. more n s h)
-op_bounded n s (op.Close v) h = on_handle_bounded n s v close_refusal _ h (λ id x b e. more n (ops.closed s id x) (closed_bounded n s id x h))
+op_bounded n s (op.Close v) h = on_handle_bounded n s v close_refusal _ h (λ id x b e. more n (ops.closed s id x) (closed_bounded n s id x h b.freed))
 op_bounded n s (op.Ref v) h = on_handle_bounded n s v no_refusal _ h (λ id x b e. set_referenced_bounded n s true id x h b)
 op_bounded n s (op.Unref v) h = on_handle_bounded n s v no_refusal _ h (λ id x b e. set_referenced_bounded n s false id x h b)
 op_bounded n s (op.HasRef v) h = on_handle_bounded n s v no_refusal _ h (λ id x b e. more n s h)
@@ -407,24 +505,41 @@ calls_bounded p n s run kind v what h counts l =
 restarted_names : (n : ℕ) (s : State) (id : Id) (x : HandleRecord) → Counts n s.names → Counts n (restarted s id x).names
 restarted_names n s id x h = if_keeps (λ (t : State). Counts n t.names) (x.repeat == 0) s (started s id x x.repeat x.repeat) h h
 
+front_before : (n : ℕ) (s : State) (ids : List Id) (t : Id × HandleRecord) → front s ids ≡ Some t → IsBounded n s → IsHeld s.next_start n t.0 t.1
+front_before n s [] t e h = cc e
+front_before n s (id ∷ ids) t e h = subst (LiveBefore s.next_start n) e (live_id_before s.next_start n s (Some id) h.drawn h.freed)
+
 fire_bounded : (p : Program) (n : ℕ) (s : State) (run : Run) (part : TimersOf) → IsBounded n s → run.line ≤ n →
     StaysBounded (suc n) (fire p s run part)
 fire_bounded p n s run part h l = found_both (front s s.ready) _ _ (StaysBounded (suc n))
     (λ t e. let u = record s { ready = drop 1 s.ready } in
+    let few = (front_before n s s.ready t e h).freed in
     calls_bounded p n (restarted u t.0 t.1) (record run { stage = Timers part Firing }) callback.Handle t.1.name (seen.Call t.1.name t.0)
-    (restarted_bounded n u t.0 t.1 (listed n s s.timers (drop 1 s.ready) h)) (restarted_names n u t.0 t.1 h.counts) l)
+    (restarted_bounded n u t.0 t.1 (listed n s s.timers (drop 1 s.ready) h) few) (restarted_names n u t.0 t.1 h.counts) l)
     (λ e. leave_bounded n s run part h l)
 
-collected_bounded : (n : ℕ) (s : State) (id : Id) (x : HandleRecord) → IsBounded n s → IsBounded n (collected s id x)
-collected_bounded n s id x h =
+collected_bounded : (n : ℕ) (s : State) (id : Id) (x : HandleRecord) → IsBounded n s → id.generation ≤ n → IsBounded n (collected s id x)
+collected_bounded n s id x h few =
     let ready = s.ready ++ id ∷ [] in
     let ts = drop 1 s.timers in
-    kept_in n (record s { timers = ts; ready = ready }) id (records.stopped x) (listed n s ts ready h) (never s.next_start (records.stopped x) refl)
+    rested_in n (record s { timers = ts; ready = ready }) id (records.stopped x) (listed n s ts ready h) few refl
+
+first_due_before : (n : ℕ) (s : State) (ts : List (Due × Id)) (t : Id × HandleRecord) → first_due s ts ≡ Some t → IsBounded n s →
+    IsHeld s.next_start n t.0 t.1
+first_due_before n s [] t e h = cc e
+first_due_before n s (u ∷ ts) t e h =
+    let p = chosen (nat_le u.0.at s.time) (with_id u.1 (handle s u.1)) t e in
+    subst (LiveBefore s.next_start n) p (live_id_before s.next_start n s (Some u.1) h.drawn h.freed)
+  where
+    chosen : {A : Type 0} (b : Bool) (x : Option A) (y : A) → (if b then x else None) ≡ Some y → x ≡ Some y
+    chosen true x y f = f
+    chosen false x y f = absurd (none-some y f)
 
 timers_bounded : (p : Program) (n : ℕ) (s : State) (run : Run) (part : TimersOf) (timing : Timing) → IsBounded n s → run.line ≤ n →
     StaysBounded (suc n) (timers p s run part timing)
 timers_bounded p n s run part Collecting h l = found_both (first_due s s.timers) _ _ (StaysBounded (suc n))
-    (λ t e. run_at n (collected s t.0 t.1) (record run { stage = Timers part Collecting; body = None }) (collected_bounded n s t.0 t.1 h) l)
+    (λ t e. let few = (first_due_before n s s.timers t e h).freed in
+    run_at n (collected s t.0 t.1) (record run { stage = Timers part Collecting; body = None }) (collected_bounded n s t.0 t.1 h few) l)
     (λ e. fire_bounded p n s run part h l)
 timers_bounded p n s run part Firing h l = fire_bounded p n s run part h l
 
@@ -435,7 +550,15 @@ begin_walk_bounded n s run kind h l =
     run_at n (with_watched s kind w) (record run { stage = stage_of kind; body = None }) (watched_bounded n s kind w h) l
 
 closing_bounded : (n : ℕ) (s : State) (w : Walk Id) → IsBounded n s → IsBounded n (record s { closing = w })
-closing_bounded n s w h = record { counts = h.counts; starts = h.starts; drawn = h.drawn; time = h.time; clock = h.clock; line = h.line }
+closing_bounded n s w h = record {
+  counts = h.counts;
+  starts = h.starts;
+  drawn = h.drawn;
+  time = h.time;
+  clock = h.clock;
+  line = h.line;
+  freed = h.freed;
+}
 
 after_walk_bounded : (n : ℕ) (s : State) (run : Run) (kind : WatcherKind) → IsBounded n s → run.line ≤ n
     → StaysBounded (suc n) (after_walk s run kind)
@@ -453,18 +576,15 @@ walk_bounded p n s run kind h l = found_both (front s (watched s kind).yet) _ _ 
     (watched_names n s kind _ h.counts) l)
     (λ e. after_walk_bounded n s run kind h l)
 
-front_before : (n : ℕ) (s : State) (ids : List Id) (t : Id × HandleRecord) → front s ids ≡ Some t → Drawn n s.arena.slots → StartsBefore n t.1
-front_before n s [] t e h = cc e
-front_before n s (id ∷ ids) t e h = subst (LiveBefore n) e (live_id_before n s (Some id) h)
-
 async_bounded : (p : Program) (n : ℕ) (s : State) (run : Run) → IsBounded n s → run.line ≤ n → StaysBounded (suc n) (walk_async p s run)
 async_bounded p n s run h l = found_both (front s s.async.yet) _ _ (StaysBounded (suc n))
     (λ t e. let u = front_moved s watcher.Async t.0 in
     let b = watched_bounded n s watcher.Async _ h in
     let x = with_handle u t.0 (records.woken t.1) in
+    let held = front_before n s s.async.yet t e h in
     if_keeps (StaysBounded (suc n)) t.1.pending _ _
     (calls_bounded p n x run callback.Handle t.1.name (seen.Call t.1.name t.0)
-    (more n x (kept_in n u t.0 (records.woken t.1) b (front_before s.next_start s s.async.yet t e h.drawn))) h.counts l)
+    (more n x (kept_in n u t.0 (records.woken t.1) b (record { starts = held.starts; freed = held.freed }))) h.counts l)
     (run_at n u (record run { stage = Async; body = None }) b l))
     (λ e. after_walk_bounded n s run watcher.Async h l)
 
@@ -472,18 +592,26 @@ freed_drawn : (n : ℕ) (last : ℕ) (id : Id) (s : Slots Content) → Drawn n s
 freed_drawn n last id s h = if_keeps (λ (u : Slots Content). Drawn n u.slots) (id.generation == last) _ _ (drawn_set n s.slots id.slot _ h tt)
     (drawn_set n s.slots id.slot _ h tt)
 
+freed_freed : (n : ℕ) (last : ℕ) (id : Id) (s : Slots Content) → Freed n s.slots → id.generation ≤ n → Freed (suc n) (freed last id s).slots
+freed_freed n last id s h few = if_keeps (λ (u : Slots Content). Freed (suc n) u.slots) (id.generation == last) _ _
+    (freed_set (suc n) s.slots id.slot _ (freed_more n s.slots h) (omega arith))
+    (freed_set (suc n) s.slots id.slot _ (freed_more n s.slots h) (omega arith))
+
 close_bounded : (p : Program) (n : ℕ) (s : State) (run : Run) → IsBounded n s → run.line ≤ n → StaysBounded (suc n) (close_front p s run)
 close_bounded p n s run h l = found_both (front s s.closing.yet) _ _ (StaysBounded (suc n))
-    (λ t e. let u = record s { arena = freed LAST_GENERATION t.0 s.arena; closing = record s.closing { yet = drop 1 s.closing.yet } } in
-    let b : IsBounded n u = record {
-      counts = h.counts;
-      starts = h.starts;
-      drawn = freed_drawn s.next_start LAST_GENERATION t.0 s.arena h.drawn;
+    (λ t e. let last = (arena_size p).last_generation in
+    let u = record s { arena = freed last t.0 s.arena; closing = record s.closing { yet = drop 1 s.closing.yet } } in
+    let m = more n s h in
+    let b : IsBounded (suc n) u = record {
+      counts = m.counts;
+      starts = m.starts;
+      drawn = freed_drawn s.next_start last t.0 s.arena h.drawn;
       time = h.time;
       clock = h.clock;
-      line = h.line;
+      line = m.line;
+      freed = freed_freed n last t.0 s.arena h.freed (front_before n s s.closing.yet t e h).freed;
     } in
-    calls_bounded p n u run callback.Close t.1.name (seen.Closed t.1.name t.0) (more n u b) h.counts l)
+    calls_bounded p n u run callback.Close t.1.name (seen.Closed t.1.name t.0) b h.counts l)
     (λ e. run_at n (refreshed s) (record run { stage = Timers timers_of.Iteration Collecting; body = None }) (at_clock n s h) l)
 
 stage_bounded : (p : Program) (n : ℕ) (s : State) (run : Run) (stage : Stage) → IsBounded n s → run.line ≤ n →
@@ -525,7 +653,15 @@ place_bounded p n s (Running run) h l = run_bounded p n s run run.body h l
 tick_bounded : (n : ℕ) (s : State) (ms : ℕ) → IsBounded n s → StaysBounded (suc n) (tick s ms)
 tick_bounded n s ms h = cond_both (nat_le (s.clock + ms) (2 ^ 62)) _ _ (StaysBounded (suc n))
     (λ e. let m = more n s h in let small : s.clock + ms ≤ 2 ^ 62 = grind
-    (arith, nat_tests, e) in record { counts = m.counts; starts = m.starts; drawn = m.drawn; time = m.time; clock = small; line = m.line })
+    (arith, nat_tests, e) in record {
+      counts = m.counts;
+      starts = m.starts;
+      drawn = m.drawn;
+      time = m.time;
+      clock = small;
+      line = m.line;
+      freed = m.freed;
+    })
     (λ e. tt)
 
 sent_to_bounded : (n : ℕ) (s : State) (v : Var) → IsBounded n s → StaysBounded (suc n) (sent_to s v)
@@ -566,6 +702,7 @@ after_bounded p es = rw (← zero-add (length es))
       time = omega arith;
       clock = omega arith;
       line = omega arith;
+      freed = λ k d l. absurd (omega arith);
     }))
 
 -- after few steps the numbers fit, and the timers' keys are apart
@@ -579,6 +716,7 @@ after_able p es l =
         starts = omega arith;
         time = omega arith;
         line = omega arith;
+        freed = λ k d i. let few = h.freed k d i in omega arith;
       };
       drawn = h.drawn;
     }

@@ -1,5 +1,5 @@
 -- A handle put at the end of a list, and taken off again.
-use Rattle.std.proofs.Common.{◌≡◌, ℕ, ◌+◌, ◌-◌, List, [], ◌∷◌, ◌++◌, length, take, refl, ap, arith, length-append}
+use Rattle.std.proofs.Common.{◌≡◌, ◌-◌, List, [], ◌∷◌, ◌++◌, length, take, ap, arith}
 use Rattle.std.proofs.lemmas.Grind.{common_steps}
 use Rattle.uv_ids.specs.declared.id.Id.{Id}
 use Rattle.uv_records.specs.Walks.{Walk, with_last}

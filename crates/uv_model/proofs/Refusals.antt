@@ -1,10 +1,9 @@
 -- Which steps are refused: those past the main program's end, those in a poll that can't be left yet, sends to names
 -- that aren't there, and a clock past its limit. All others are taken.
-use Rattle.std.proofs.Common.{◌≡◌, ℕ, ◌&&◌, Option, Some, None, List, slice_get, refl, if◌then◌else◌}
+use Rattle.std.proofs.Common.{◌≡◌, ℕ, ◌&&◌, Option, Some, None, refl, if◌then◌else◌}
 use Rattle.std.proofs.lemmas.Bool.{cond_both}
-use Rattle.uv_ids.specs.declared.id.Id.{Id}
 use Rattle.uv_ids.specs.declared.fault.Why.{Why}
-use Rattle.uv_ids.specs.declared.fault.Why.TheVariants.{Blocked, Ended}
+use Rattle.uv_ids.specs.declared.fault.Why.TheVariants.{Blocked}
 use Rattle.uv_script.specs.declared.op.MainOp.{MainOp}
 use Rattle.uv_script.specs.declared.op.MainOp.TheVariants as main
 use Rattle.uv_script.specs.declared.op.CallbackLine.{CallbackLine}

@@ -1,5 +1,5 @@
 -- A list of events with one more, and the first of a list.
-use Rattle.std.proofs.Common.{◌≡◌, ℕ, suc, ◌+◌, ◌<◌, zero, List, [], ◌∷◌, ◌++◌, length, take, slice_get, Option, Some, None, refl, ap, ◌∙◌, get_or, subst, arith}
+use Rattle.std.proofs.Common.{◌≡◌, ℕ, suc, ◌+◌, ◌<◌, zero, List, [], ◌∷◌, ◌++◌, length, take, slice_get, Option, Some, refl, ap, ◌∙◌, get_or, subst, arith}
 use Rattle.std.proofs.lemmas.List.{take_more}
 use Rattle.std.proofs.lemmas.Option.{slice_get_read}
 use Rattle.uv_ids.specs.declared.event.Event.{Event}

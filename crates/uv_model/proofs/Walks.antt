@@ -1,12 +1,20 @@
 -- The counts of names and the lists of handles, where a section calls one.
-use Rattle.std.proofs.Common.{◌≡◌, ℕ, ◌<◌, ◌^◌, List, [], ◌∷◌, length, Some, refl, arith}
+use Rattle.std.proofs.Common.{◌≡◌, ℕ, ◌<◌, ◌^◌, ◌==◌, Bool, true, false, cond, List, [], ◌∷◌, length, All, Option, Some, None, option_and_then, slice_get, refl, ap, subst, arith}
+use Rattle.std.proofs.lemmas.Grind.{elements}
+use Rattle.std.proofs.lemmas.Bool.{eqb-true}
+use Rattle.std.proofs.lemmas.Option.{none-some, same_Some}
 use Rattle.uv_ids.specs.declared.id.Id.{Id}
 use Rattle.uv_ids.specs.declared.id.Var.{Var}
 use Rattle.uv_records.specs.declared.handle.HandleRecord.{HandleRecord}
 use Rattle.uv_records.specs.declared.lists.WatcherKind.{WatcherKind}
 use Rattle.uv_records.specs.declared.lists.WatcherKind.TheVariants as watcher
+use Rattle.uv_records.specs.declared.slot.Slot.{Slot}
+use Rattle.uv_records.specs.Slots.{held_in, held}
 use Rattle.uv_records.specs.Walks.{Walk}
-use Rattle.uv_model.specs.State.{State, named, front, with_watched}
+use Rattle.uv_model.specs.declared.content.Content.{Content}
+use Rattle.uv_model.specs.declared.content.Content.TheVariants as content
+use Rattle.uv_model.specs.Content.{handle_in}
+use Rattle.uv_model.specs.State.{State, named, with_id, front, with_watched}
 use Rattle.uv_model.specs.Bounds.{CanStep, AreBelow}
 use Rattle.uv_model.proofs.Calls.{able_small}
 
@@ -25,4 +33,28 @@ pub front_there : (s : State) (ids : List Id) (id : Id) (h : HandleRecord) → f
 front_there s [] id h e = cc e
 front_there s (x ∷ ids) id h e = omega arith
 
-pub ruleset walks = (watched_small, able_small, front_there)
+-- a slot that holds something was freed as often as its id says
+held_few : (n : ℕ) (slots : List (Slot Content)) (id : Id) (x : Option (Slot Content)) (c : Content) → slice_get slots id.slot ≡ x →
+    option_and_then (held_in id) x ≡ Some c → All (λ (slot : Slot Content). slot.generation < n) slots → id.generation < n
+held_few n slots id None c e h all = cc h
+held_few n slots id (Some slot) c e h all =
+    let same = eqb-true slot.generation id.generation (cond_some_test (slot.generation == id.generation) slot.content c h) in
+    let few : slot.generation < n = grind (arith, elements, all) in
+    omega arith
+  where
+    cond_some_test : (b : Bool) (y : Option Content) (z : Content) → cond b y None ≡ Some z → b ≡ true
+    cond_some_test true y z t = refl
+    cond_some_test false y z t = absurd (none-some z t)
+
+-- so was that of the front of a list
+pub front_freed : (s : State) (ids : List Id) (id : Id) (h : HandleRecord) → front s ids ≡ Some (id, h) → CanStep s → id.generation < 2 ^ 31
+front_freed s [] id h e able = cc e
+front_freed s (x ∷ ids) id h e able = at (held s.arena.slots x) refl e where
+  at : (c : Option Content) → held s.arena.slots x ≡ c → with_id x (handle_in c) ≡ Some (id, h) → id.generation < 2 ^ 31
+  at None f g = cc g
+  at (Some (content.Handle k)) f g =
+      let same : x ≡ id = ap (λ (t : Id × HandleRecord). t.0) (same_Some _ _ g) in
+      subst (λ (i : Id). i.generation < 2 ^ 31) same
+      (held_few (2 ^ 31) s.arena.slots x (slice_get s.arena.slots x.slot) (content.Handle k) refl f able.small.freed)
+
+pub ruleset walks = (watched_small, able_small, front_there, front_freed)

@@ -38,6 +38,8 @@ pub record IsSmall (s : State) : Type 0 where
   pub starts : s.next_start < 2 ^ 63
   pub time : s.time < 2 ^ 63
   pub line : line_of s.place < 2 ^ 63
+  -- how often each slot was freed
+  pub freed : All (λ (slot : Slot Content). slot.generation < 2 ^ 31) s.arena.slots
 
 -- what a step needs of the state
 pub record CanStep (s : State) : Type 0 where

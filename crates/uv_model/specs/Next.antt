@@ -19,7 +19,7 @@ use Rattle.uv_ids.specs.declared.fault.Why.TheVariants.{Blocked, Ended, Range}
 use Rattle.uv_script.specs.declared.op.MainOp.{MainOp}
 use Rattle.uv_script.specs.declared.op.MainOp.TheVariants as main
 use Rattle.uv_script.specs.declared.op.CallbackLine.{CallbackLine}
-use Rattle.uv_script.specs.Program.{Program, lines_in, is_for}
+use Rattle.uv_script.specs.Program.{Program, arena_size, lines_in, is_for}
 use Rattle.uv_model.specs.declared.place.Body.{Body}
 use Rattle.uv_model.specs.declared.place.Run.{Run}
 use Rattle.uv_model.specs.declared.place.Stage.{Stage}
@@ -36,10 +36,10 @@ use Rattle.uv_records.specs.declared.lists.WatcherKind.TheVariants as watcher
 use Rattle.uv_records.specs.Handles as records
 use Rattle.uv_records.specs.Lists.{phase_of}
 use Rattle.uv_records.specs.Slots.{freed}
-use Rattle.uv_records.specs.Walks.{Walk, all_yet, moved_on}
+use Rattle.uv_records.specs.Walks.{all_yet, moved_on}
 use Rattle.uv_model.specs.Found.{found_or}
 use Rattle.uv_model.specs.Ids.{has_some}
-use Rattle.uv_model.specs.State.{State, live, LAST_GENERATION, handle, with_id, with_handle, named, with_named, count_of, counted, front, watched, with_watched, refreshed}
+use Rattle.uv_model.specs.State.{State, live, handle, with_id, with_handle, named, with_named, count_of, counted, front, watched, with_watched, refreshed}
 use Rattle.uv_model.specs.Timers.{restarted}
 use Rattle.uv_model.specs.Timeout.{is_alive, has_pending, poll_timeout, deadline_of, has_passed}
 use Rattle.uv_model.specs.Ops.{do_op, send}
@@ -204,7 +204,7 @@ walk_async p s run = found_or (front s s.async.yet)
 abbrev pub close_front : Program → State → Run → Next
 close_front p s run = found_or (front s s.closing.yet)
     (λ t.
-    let gone = record s { arena = freed LAST_GENERATION t.0 s.arena; closing = record s.closing { yet = drop 1 s.closing.yet } } in
+    let gone = record s { arena = freed (arena_size p).last_generation t.0 s.arena; closing = record s.closing { yet = drop 1 s.closing.yet } } in
     calls p gone run callback.Close t.1.name (seen.Closed t.1.name t.0))
     (begin_timers s run)
 

@@ -1,5 +1,5 @@
 -- The state of a loop: slots, plain lists, a map in the order of timers, and numbers.
-use Rattle.std.specs.Prelude.{ℕ, ◌+◌, ◌^◌, ◌-◌, ◌==◌, Bool, true, false, List, [], ◌∷◌, length, Option, Some, None, unwrap_or, option_and_then, replicate, slice_get, slice_set}
+use Rattle.std.specs.Prelude.{ℕ, ◌+◌, Bool, false, List, [], ◌∷◌, length, Option, Some, None, unwrap_or, replicate, slice_get, slice_set}
 use Rattle.uv_ids.specs.declared.id.Id.{Id}
 use Rattle.uv_ids.specs.declared.id.Var.{Var}
 use Rattle.uv_ids.specs.declared.due.Due.{Due}
@@ -10,7 +10,7 @@ use Rattle.uv_records.specs.declared.lists.WatcherKind.{WatcherKind}
 use Rattle.uv_records.specs.declared.lists.WatcherKind.TheVariants as watcher
 use Rattle.uv_records.specs.Slots.{Slots, unused_slots, held, with_held}
 use Rattle.uv_records.specs.Walks.{Walk, nothing_listed}
-use Rattle.uv_script.specs.Program.{Program}
+use Rattle.uv_script.specs.Program.{Program, arena_size}
 use Rattle.uv_model.specs.declared.content.Content.{Content}
 use Rattle.uv_model.specs.declared.content.Content.TheVariants as content
 use Rattle.uv_model.specs.declared.named.Counts.{Counts}
@@ -48,14 +48,6 @@ pub record State : Type 0 where
   -- an idle handle was active as the iteration began
   pub idled : Bool
 
--- how many slots the arena has (own)
-abbrev pub CAPACITY : ℕ
-CAPACITY = 1024
-
--- the generation at which a slot that is freed is retired (own)
-abbrev pub LAST_GENERATION : ℕ
-LAST_GENERATION = 4294967295
-
 abbrev pub never_called : Counts
 never_called = record { handle = 0; close = 0 }
 
@@ -68,7 +60,7 @@ abbrev pub fresh : Program → State
 fresh p = record {
   place = Main 0;
   names = replicate (length p.callbacks) unbound;
-  arena = unused_slots Content CAPACITY;
+  arena = unused_slots Content (arena_size p).slots;
   timers = [];
   ready = [];
   idle = nothing_listed Id;

@@ -1,9 +1,8 @@
 //! The slots that hold the handles, as plain lists.
-ghost use Rattle.std.specs.Prelude.{◌≡◌, OnOk, OnErr, Some, option_and_then, slice_get};
+ghost use Rattle.std.specs.Prelude.{◌≡◌, ◌<◌, ◌^◌, OnOk, OnErr, Some, option_and_then, slice_get};
 ghost use Rattle.std.specs.List.{list_any};
 ghost use Rattle.uv_records.specs.Slots.{unused_slots, held, id_of, with_held, next_free, taken, freed};
 ghost use Rattle.uv_records.specs.declared.slot.Slot as slot;
-ghost use Rattle.uv_model.specs.State.{CAPACITY, LAST_GENERATION};
 ghost use Rattle.uv_model.specs.Content.{content_keeps, content_pends, is_used};
 ghost use Rattle.uv_model.specs.declared.content.Content as holds;
 
@@ -12,9 +11,6 @@ use std::alloc::{AllocError, Global};
 use std::marker::Model;
 use uv_ids::Id;
 use uv_records::Slot;
-
-/// How many slots the arena has (own).
-const CAPACITY: usize = 1024;
 
 /// The slots that were ever used, the free ones of them, and the number of those that never were.
 #[derive(Drop)]
@@ -26,27 +22,26 @@ pub struct Arena {
 }
 
 impl Model for Arena {
-    ghost use Rattle.std.specs.Prelude.{◌+◌, ◌≤◌, length};
+    ghost use Rattle.std.specs.Prelude.{◌+◌, ◌<◌, ◌^◌, length};
     ghost use Rattle.uv_records.specs.Slots.{Slots};
-    ghost use Rattle.uv_model.specs.State.{CAPACITY};
     ghost use Rattle.uv_model.specs.declared.content.Content as holds;
 
     ghost Value = { Slots holds.Content };
 
     ghost view = { λ a. record { slots = a.slots.items; free = a.free.items; unused = a.unused } };
 
-    ghost invariant = { λ a. length a.slots.items + a.unused ≤ CAPACITY };
+    ghost invariant = { λ a. length a.slots.items + a.unused < 2 ^ 32 };
 }
 
 impl Arena {
-    /// An arena of which no slot was used.
-    pub fn new(alloc: Global) -> Arena
-        ensures { result ≡ unused_slots holds.Content CAPACITY }
+    /// An arena of so many slots, of which none was used.
+    pub fn new(alloc: Global, slots: u32) -> Arena
+        ensures { result ≡ unused_slots holds.Content slots }
     {
         Arena {
             slots: Vec::new(alloc),
             free: Vec::new(alloc),
-            unused: CAPACITY,
+            unused: slots as usize,
         }
     }
 
@@ -141,16 +136,16 @@ impl Arena {
     }
 
     /// Frees the slot of an id; at the last generation it is retired. Without memory nothing changes.
-    pub fn release(&mut self, id: Id) -> Result<(), AllocError>
-        ensures ok { OnOk result (self.new ≡ freed LAST_GENERATION id self.old) }
+    pub fn release(&mut self, id: Id, last_generation: u32) -> Result<(), AllocError>
+        requires { id.generation < 2 ^ 31 }
+        ensures ok { OnOk result (self.new ≡ freed last_generation id self.old) }
         ensures err { OnErr result (self.new ≡ self.old) }
     {
-        let generation = match id.generation.checked_add(1) {
-            Some(generation) => {
-                self.free.insert(0, id.slot)?;
-                generation
-            }
-            None => id.generation,
+        let generation = if id.generation == last_generation {
+            id.generation
+        } else {
+            self.free.insert(0, id.slot)?;
+            id.generation + 1
         };
         if let Some(slot) = self.slots.get_mut(id.slot as usize) {
             *slot = Slot {

@@ -82,7 +82,7 @@ impl LoopState {
         Ok(LoopState {
             place: Place::Main(0),
             names,
-            arena: Arena::new(alloc),
+            arena: Arena::new(alloc, script.arena_size().slots),
             timers: BTreeMap::new(alloc),
             ready: Vec::new(alloc),
             idle: Walked::new(alloc),

@@ -1,12 +1,14 @@
 -- How often each name was called, as the lines tell it and as the state counts it.
 use Rattle.std.proofs.Common.{◌≡◌, inl, inr, ℕ, zero, suc, ◌+◌, ◌<◌, ◌≤◌, ◌==◌, List, [], ◌∷◌, length, Bool, true, false, Option, None, slice_get, slice_set, unwrap_or, replicate, refl, ap, sym, subst, ◌∙◌, arith}
 use Rattle.std.proofs.lemmas.Bool.{eqb-true, eq-eqb, both_ways, cases_lt}
+use Rattle.uv_ids.specs.declared.id.Id.{Id}
 use Rattle.uv_ids.specs.declared.id.Var.{Var}
 use Rattle.uv_ids.specs.declared.seen.Callback.{Callback}
 use Rattle.uv_ids.specs.declared.seen.Callback.TheVariants as callback
 use Rattle.uv_script.specs.Program.{Program, Callbacks, no_callbacks, lines_of, lines_in}
 use Rattle.uv_model.specs.declared.named.Counts.{Counts}
 use Rattle.uv_model.specs.declared.named.Named.{Named}
+use Rattle.uv_model.specs.Ids.{without_id}
 use Rattle.uv_model.specs.State.{fresh, unbound, count_of, counted}
 use Rattle.uv_model.specs.Next.{body_from}
 use Rattle.uv_order.specs.Documented.{Told, nothing_told, told_of, times, next_call, body_of}
@@ -51,51 +53,63 @@ set_here [] i x l = absurd (omega arith)
 set_here (n ∷ names) zero x l = refl
 set_here (n ∷ names) (suc i) x l = set_here names i x (omega arith)
 
-set_there : (names : List Named) (i j : ℕ) (x : Named) → (j ≡ i → ⊥) → slice_get (slice_set names i x) j ≡ slice_get names j
+pub set_there : (names : List Named) (i j : ℕ) (x : Named) → (j ≡ i → ⊥) → slice_get (slice_set names i x) j ≡ slice_get names j
 set_there [] i j x d = refl
 set_there (n ∷ names) zero zero x d = absurd (d refl)
 set_there (n ∷ names) zero (suc j) x d = refl
 set_there (n ∷ names) (suc i) zero x d = refl
 set_there (n ∷ names) (suc i) (suc j) x d = set_there names i j x (λ e. d (ap suc e))
 
--- one call of a name's callback more is told
-abbrev pub told_call : Callback → Var → Told → Told
-told_call callback.Handle v told = record told { called = v ∷ told.called }
-told_call callback.Close v told = record told { closed = v ∷ told.closed }
+-- one call of a name's callback more is told, by the line of this id
+abbrev pub told_call : Callback → Var → Id → Told → Told
+told_call callback.Handle v id told = record told { called = v ∷ told.called; sent = without_id told.sent id }
+told_call callback.Close v id told = record told { closed = v ∷ told.closed }
+
+-- whoever is sent to, the calls are as before
+pub counted_sent : (p : Program) (names : List Named) (told : Told) (sent : List Id) → Counted p names told →
+    Counted p names (record told { sent = sent })
+counted_sent p names told sent k = record { long = k.long; calls = λ kind v l. at kind v l } where
+  at : (kind : Callback) (v : Var) → v.0 < length p.callbacks →
+      count_of kind (counts_in names v) ≡ times (told_of kind (record told { sent = sent })) v
+  at callback.Handle v l = k.calls callback.Handle v l
+  at callback.Close v l = k.calls callback.Close v l
 
 -- one more of a callback is none more of another
-told_more : (kind other : Callback) (v u : Var) (told : Told) (c : Counts) → (v.0 == u.0) ≡ true → count_of other c ≡ times (told_of other told) u →
-    count_of other (counted kind c) ≡ times (told_of other (told_call kind v told)) u
-told_more callback.Handle callback.Handle v u told c e h = rw e (omega (arith, h))
-told_more callback.Close callback.Close v u told c e h = rw e (omega (arith, h))
-told_more callback.Handle callback.Close v u told c e h = h
-told_more callback.Close callback.Handle v u told c e h = h
+told_more : (kind other : Callback) (v u : Var) (id : Id) (told : Told) (c : Counts) → (v.0 == u.0) ≡ true →
+    count_of other c ≡ times (told_of other told) u →
+    count_of other (counted kind c) ≡ times (told_of other (told_call kind v id told)) u
+told_more callback.Handle callback.Handle v u id told c e h = rw e (omega (arith, h))
+told_more callback.Close callback.Close v u id told c e h = rw e (omega (arith, h))
+told_more callback.Handle callback.Close v u id told c e h = h
+told_more callback.Close callback.Handle v u id told c e h = h
 
-told_same : (kind other : Callback) (v u : Var) (told : Told) → (v.0 == u.0) ≡ false → times (told_of other (told_call kind v told)) u ≡ times
+told_same : (kind other : Callback) (v u : Var) (id : Id) (told : Told) → (v.0 == u.0) ≡ false →
+    times (told_of other (told_call kind v id told)) u ≡ times
     (told_of other told) u
-told_same callback.Handle callback.Handle v u told e = rw e refl
-told_same callback.Close callback.Close v u told e = rw e refl
-told_same callback.Handle callback.Close v u told e = refl
-told_same callback.Close callback.Handle v u told e = refl
+told_same callback.Handle callback.Handle v u id told e = rw e refl
+told_same callback.Close callback.Close v u id told e = rw e refl
+told_same callback.Handle callback.Close v u id told e = refl
+told_same callback.Close callback.Handle v u id told e = refl
 
 -- a name is called once more
-pub counted_call : (p : Program) (names : List Named) (told : Told) (kind : Callback) (v : Var) (x : Named) → x.calls ≡ counted kind (counts_in
+pub counted_call : (p : Program) (names : List Named) (told : Told) (kind : Callback) (v : Var) (id : Id) (x : Named) →
+    x.calls ≡ counted kind (counts_in
     names v) →
-    Counted p names told → Counted p (slice_set names v.0 x) (told_call kind v told)
-counted_call p names told kind v x e k = record { long = set_long names v.0 x ∙ k.long; calls = λ other u l. at other u l (v.0 == u.0) refl } where
+    Counted p names told → Counted p (slice_set names v.0 x) (told_call kind v id told)
+counted_call p names told kind v id x e k = record { long = set_long names v.0 x ∙ k.long; calls = λ other u l. at other u l (v.0 == u.0) refl } where
   at : (other : Callback) (u : Var) → u.0 < length p.callbacks → (b : Bool) → (v.0 == u.0) ≡ b →
-      count_of other (counts_in (slice_set names v.0 x) u) ≡ times (told_of other (told_call kind v told)) u
+      count_of other (counts_in (slice_set names v.0 x) u) ≡ times (told_of other (told_call kind v id told)) u
   at other u l true f =
       let here : v.0 ≡ u.0 = eqb-true v.0 u.0 f in
       let within : v.0 < length names = rw (here, k.long) l in
       let one : count_of other (counts_in names v) ≡ times (told_of other told) u =
       ap (λ (i : ℕ). count_of other (unwrap_or (slice_get names i) unbound).calls) here ∙ k.calls other u l in
       ap (λ (i : ℕ). count_of other (unwrap_or (slice_get (slice_set names v.0 x) i) unbound).calls) (sym here)
-      ∙ ap (count_of other) (set_here names v.0 x within ∙ e) ∙ told_more kind other v u told (counts_in names v) f one
+      ∙ ap (count_of other) (set_here names v.0 x within ∙ e) ∙ told_more kind other v u id told (counts_in names v) f one
   at other u l false f =
       let apart : u.0 ≡ v.0 → ⊥ = λ g. both_ways (v.0 == u.0) f (eq-eqb v.0 u.0 (sym g)) in
       ap (λ (o : Option Named). count_of other (unwrap_or o unbound).calls) (set_there names v.0 u.0 x apart) ∙ k.calls other u l ∙ sym (told_same
-      kind other v u told f)
+      kind other v u id told f)
 
 -- a name without lines has the same body in each call
 past : (all : List Callbacks) (i : ℕ) → length all ≤ i → unwrap_or (slice_get all i) no_callbacks ≡ no_callbacks

@@ -32,7 +32,7 @@ use Rattle.uv_model.specs.declared.place.Place.{Place}
 use Rattle.uv_model.specs.declared.place.Place.TheVariants as place
 use Rattle.uv_records.specs.declared.lists.WatcherKind.TheVariants as watcher
 use Rattle.uv_records.specs.Handles as records
-use Rattle.uv_model.specs.State.{State, fresh, with_handle, refreshed}
+use Rattle.uv_model.specs.State.{State, fresh, handle, with_handle, refreshed}
 use Rattle.uv_model.specs.Ops as ops
 use Rattle.uv_model.specs.Ops.{do_op}
 use Rattle.uv_model.specs.Next as step
@@ -40,15 +40,16 @@ use Rattle.uv_model.specs.Next.{Next, Moves, Refuses, next, goes, is_default, ca
 use Rattle.uv_model.specs.After.{state_of}
 use Rattle.uv_order.specs.History.{line_of_step, history_from, history}
 use Rattle.uv_order.specs.Documented as doc
-use Rattle.uv_order.specs.Documented.{Told, nothing_told, told_of, told_with, Lasting, lasting, at_first, Section, Entry, In, word_of, part_after, part_of, Walk, Opens, IsOver, CallsNext, MayCall, is_called, callback_in, call_line, Standing, Begun, Within, Polling, MayLeave, PollsFor, Position, Between, Running, Goes, GoesOn, cut, line, Documented, body_of, next_call, taken_off}
+use Rattle.uv_order.specs.Documented.{Told, nothing_told, told_of, told_by, Lasting, lasting, at_first, Section, Entry, In, word_of, part_after, part_of, Walk, Opens, IsOver, CallsNext, MayCall, is_called, callback_in, call_line, Standing, Begun, Within, Polling, MayLeave, PollsFor, Position, Between, Running, Goes, GoesOn, cut, line, Documented, body_of, next_call, taken_off}
 use Rattle.uv_order.proofs.IdLists.{left_of, more_off}
-use Rattle.uv_order.proofs.OpCases.{send_both}
+use Rattle.uv_order.proofs.OpCases.{live_held, send_both}
 use Rattle.uv_order.proofs.Keeping.{Kept}
 use Rattle.uv_order.proofs.KeptSteps.{StaysKept, next_kept, fresh_kept, IsRestedAt, IsRestedIn}
 use Rattle.uv_order.proofs.Bodies.{IsBody, is_body}
 use Rattle.uv_order.proofs.OpEffects.{Effect, op_effect}
-use Rattle.uv_order.proofs.Counted.{Counted, counted_kept, counted_fresh}
-use Rattle.uv_order.proofs.Standing.{bare, section_of, StandsIn, waiting, rest, Leaves, NobodyLeft, due_now, StandsAt, Stands, FollowsLine, Follows, idle_next, done_next, async_next, bare_over, opens_bare, begun, pending, idle, prepare, polls, done, async, check, closing, collects, fires, between, running}
+use Rattle.uv_order.proofs.Counted.{Counted, counted_kept, counted_sent, counted_fresh}
+use Rattle.uv_order.proofs.Sends.{SentAt, SentFollows, next_sent, sent_fresh, still_sent, pass_more, pends_more}
+use Rattle.uv_order.proofs.Standing.{bare, section_of, StandsIn, waiting, rest, Leaves, NobodyLeft, due_now, StandsAt, Stands, FollowsLine, Follows, idle_next, done_next, async_next, bare_over, opens_bare, async_moved, begun, pending, idle, prepare, polls, done, async, check, closing, collects, fires, between, running}
 use Rattle.uv_order.proofs.TimersFollow.{enter_follows, timers_left, left_timers, fire_follows, collect_follows}
 use Rattle.uv_order.proofs.WatchersFollow.{begin_follows, bare_follows, walk_follows, async_follows, closing_follows}
 
@@ -58,14 +59,16 @@ use Rattle.uv_order.proofs.WatchersFollow.{begin_follows, bare_follows, walk_fol
 pub left_poll : (p : Program) (told : Told) (s : State) (run : Run) (deadline : Option ℕ) → Counted p s.names told → NobodyLeft (rest s.ready s) →
     Follows p told (Running run.mode run.line (Polling deadline)) s (step.poll s run deadline)
 left_poll p told s run deadline c e = cond_both (may_leave s deadline) _ _ (Follows p told (Running run.mode run.line (Polling deadline)) s)
-    (λ h. bare_follows p told s (refreshed s) run stage.Done phase.Done (Polling deadline) h done_next (opens_bare phase.Done _ refl) refl done
+    (λ h. bare_follows p told s (refreshed s) run stage.Done phase.Done (Polling deadline) h done_next (opens_bare phase.Done told _ refl refl)
+    refl done
     (record { timers = e.timers; idle = e.idle; prepare = e.prepare; check = e.check; async = e.async; closing = e.closing }) c)
     (λ h. tt)
 
-pub stage_follows : (p : Program) (told : Told) (s : State) (run : Run) (x : Stage) (at : Standing) → run.stage ≡ x → Kept s → Counted p s.names told →
-    StandsIn p None x at → Leaves (rest (waiting x s.ready (due_now s)) s) at → Follows p told (Running run.mode run.line at) s (step.stage_step p s
+pub stage_follows : (p : Program) (told : Told) (s : State) (run : Run) (x : Stage) (at : Standing) → run.stage ≡ x → Kept s →
+    SentAt told.sent s → Counted p s.names told → StandsIn p None x at → Leaves (rest (waiting x s.ready (due_now s)) s) at →
+    Follows p told (Running run.mode run.line at) s (step.stage_step p s
     run x)
-stage_follows p told s run stage.Entry at st k c begun l = enter_follows p told s run k c (record {
+stage_follows p told s run stage.Entry at st k h c begun l = enter_follows p told s run k c (record {
   timers = l.timers;
   idle = l.idle;
   prepare = l.prepare;
@@ -73,8 +76,8 @@ stage_follows p told s run stage.Entry at st k c begun l = enter_follows p told 
   async = l.async;
   closing = l.closing;
 })
-stage_follows p told s run stage.Pending at st k c pending l =
-    begin_follows p told s run watcher.Idle (Within (In phase.Pending) bare) (bare_over phase.Pending) idle_next k c (record {
+stage_follows p told s run stage.Pending at st k h c pending l =
+    begin_follows p told s run watcher.Idle (Within (In phase.Pending) bare) (bare_over phase.Pending) idle_next k h c (record {
       timers = l.timers;
       idle = l.idle;
       prepare = l.prepare;
@@ -82,9 +85,9 @@ stage_follows p told s run stage.Pending at st k c pending l =
       async = l.async;
       closing = l.closing;
     })
-stage_follows p told s run stage.Idle at st k c (idle b) l = walk_follows p told s run watcher.Idle _ tt st k c l b
-stage_follows p told s run stage.Prepare at st k c (prepare b) l = walk_follows p told s run watcher.Prepare _ tt st k c l b
-stage_follows p told s run (stage.Poll deadline) at st k c polls l = left_poll p told s run deadline c (record {
+stage_follows p told s run stage.Idle at st k h c (idle b) l = walk_follows p told s run watcher.Idle _ tt st k h c l b
+stage_follows p told s run stage.Prepare at st k h c (prepare b) l = walk_follows p told s run watcher.Prepare _ tt st k h c l b
+stage_follows p told s run (stage.Poll deadline) at st k h c polls l = left_poll p told s run deadline c (record {
   timers = l.timers;
   idle = l.idle;
   prepare = l.prepare;
@@ -92,8 +95,8 @@ stage_follows p told s run (stage.Poll deadline) at st k c polls l = left_poll p
   async = l.async;
   closing = l.closing;
 })
-stage_follows p told s run stage.Done at st k c done l =
-    begin_follows p told s run watcher.Async (Within (In phase.Done) bare) (bare_over phase.Done) async_next k c (record {
+stage_follows p told s run stage.Done at st k h c done l =
+    begin_follows p told s run watcher.Async (Within (In phase.Done) bare) (bare_over phase.Done) async_next k h c (record {
       timers = l.timers;
       idle = l.idle;
       prepare = l.prepare;
@@ -101,11 +104,11 @@ stage_follows p told s run stage.Done at st k c done l =
       async = l.async;
       closing = l.closing;
     })
-stage_follows p told s run stage.Async at st k c (async b) l = async_follows p told s run _ st k c l b
-stage_follows p told s run stage.Check at st k c (check b) l = walk_follows p told s run watcher.Check _ tt st k c l b
-stage_follows p told s run stage.Closing at st k c (closing b) l = closing_follows p told s run _ st k c l b
-stage_follows p told s run (stage.Timers part Collecting) at st k c (collects b) l = collect_follows p told s run part _ k c l b
-stage_follows p told s run (stage.Timers part Firing) at st k c (fires b) l = fire_follows p told s run part _ k c l b
+stage_follows p told s run stage.Async at st k h c (async b) l = async_follows p told s run _ st k h c l b
+stage_follows p told s run stage.Check at st k h c (check b) l = walk_follows p told s run watcher.Check _ tt st k h c l b
+stage_follows p told s run stage.Closing at st k h c (closing b) l = closing_follows p told s run _ st k c l b
+stage_follows p told s run (stage.Timers part Collecting) at st k h c (collects b) l = collect_follows p told s run part _ k c l b
+stage_follows p told s run (stage.Timers part Firing) at st k h c (fires b) l = fire_follows p told s run part _ k c l b
 
 -- ---- a body
 
@@ -150,7 +153,8 @@ idle_left s o w more k l =
       closing = f.closing ∙ l.closing;
     }
 
-pub prepare_left : (s : State) (o : Op) (w : Walk) (more : List Site) → Kept s → Leaves (rest s.ready s) (Within (In phase.Prepare) w) → LeavesAfter s o
+pub prepare_left : (s : State) (o : Op) (w : Walk) (more : List Site) → Kept s → Leaves (rest s.ready s) (Within (In phase.Prepare) w) →
+    LeavesAfter s o
     (In phase.Prepare) w more
 prepare_left s o w more k l =
     let f = op_effect s o k in
@@ -163,7 +167,8 @@ prepare_left s o w more k l =
       closing = f.closing ∙ l.closing;
     }
 
-pub check_left : (s : State) (o : Op) (w : Walk) (more : List Site) → Kept s → Leaves (rest s.ready s) (Within (In phase.Check) w) → LeavesAfter s o (In
+pub check_left : (s : State) (o : Op) (w : Walk) (more : List Site) → Kept s → Leaves (rest s.ready s) (Within (In phase.Check) w) →
+    LeavesAfter s o (In
     phase.Check) w more
 check_left s o w more k l =
     let f = op_effect s o k in
@@ -176,9 +181,9 @@ check_left s o w more k l =
       closing = f.closing ∙ l.closing;
     }
 
-pub async_left : (s : State) (o : Op) (w : Walk) (more : List Site) → Kept s → Leaves (rest s.ready s) (Within (In phase.Async) w) → LeavesAfter s o (In
-    phase.Async) w more
-async_left s o w more k l =
+pub async_left : (s : State) (told : Told) (o : Op) (w : Walk) (more : List Site) → Kept s → SentAt told.sent s →
+    Leaves (rest s.ready s) (Within (In phase.Async) w) → LeavesAfter s o (In phase.Async) w more
+async_left s told o w more k h l =
     let f = op_effect s o k in
     record {
       timers = still_none _ s.ready _ f.ready l.timers;
@@ -190,6 +195,8 @@ async_left s o w more k l =
         behind = l.async.behind;
         all = l.async.all;
         left = more_left l.async.behind w.off _ s.async.yet _ f.async l.async.left;
+        passed = pass_more (taken_off phase.Async s o (do_op s o).answer) w.off w.sent l.async.gone l.async.passed;
+        still = still_sent s told o s.async.yet _ w.sent k h f.async l.async.still;
       };
       closing = f.closing ∙ l.closing;
     }
@@ -209,7 +216,8 @@ closing_takes_none s o (answer.Number n) = refl
 closing_takes_none s o (answer.Flag b) = refl
 closing_takes_none s o (answer.Timeout t) = refl
 
-pub closing_left : (s : State) (o : Op) (w : Walk) (more : List Site) → Kept s → Leaves (rest s.ready s) (Within (In phase.Closing) w) → LeavesAfter s o
+pub closing_left : (s : State) (o : Op) (w : Walk) (more : List Site) → Kept s → Leaves (rest s.ready s) (Within (In phase.Closing) w) →
+    LeavesAfter s o
     (In phase.Closing) w more
 closing_left s o w more k l =
     let f = op_effect s o k in
@@ -223,7 +231,8 @@ closing_left s o w more k l =
           ∙ ap (λ (off : List Id). left_of w.ahead (off ++ w.off)) (sym (closing_takes_none s o (do_op s o).answer));
     }
 
-pub timers_after_op : (s : State) (o : Op) (part : TimersOf) (w : Walk) (more : List Site) → Kept s → Leaves (rest s.ready s) (Within (section_of part)
+pub timers_after_op : (s : State) (o : Op) (part : TimersOf) (w : Walk) (more : List Site) → Kept s →
+    Leaves (rest s.ready s) (Within (section_of part)
     w) →
     LeavesAfter s o (section_of part) w more
 timers_after_op s o part w more k l =
@@ -268,32 +277,34 @@ op_follows p told s run body part w x e k c b stands = record {
       x.op k).lasts;
   stands = record {
     stands = stands _ (is_body p body.callback body.name body.call (body.next + 1));
-    counted = counted_kept p _ s.names told (op_effect s x.op k).calls c;
+    counted = counted_sent p _ told _ (counted_kept p _ s.names told (op_effect s x.op k).calls c);
   };
 }
 
-pub body_follows : (p : Program) (told : Told) (s : State) (run : Run) (body : Body) (x : Stage) (at : Standing) (l : Option CallbackLine) → run.stage ≡
+pub body_follows : (p : Program) (told : Told) (s : State) (run : Run) (body : Body) (x : Stage) (at : Standing) (l : Option CallbackLine) →
+    run.stage ≡
     x →
-    slice_get (lines_in p body.callback body.name) body.next ≡ l → Kept s → Counted p s.names told →
-    StandsIn p (Some body) x at → Leaves (rest (waiting x s.ready (due_now s)) s) at → Follows p told (Running run.mode run.line at) s
+    slice_get (lines_in p body.callback body.name) body.next ≡ l → Kept s → SentAt told.sent s →
+    Counted p s.names told → StandsIn p (Some body) x at → Leaves (rest (waiting x s.ready (due_now s)) s) at →
+    Follows p told (Running run.mode run.line at) s
     (step.body_step p s run body l)
-body_follows p told s run body x at None st e k c (idle b) l = absurd (nothing_there e b.there)
-body_follows p told s run body x at None st e k c (prepare b) l = absurd (nothing_there e b.there)
-body_follows p told s run body x at None st e k c (check b) l = absurd (nothing_there e b.there)
-body_follows p told s run body x at None st e k c (async b) l = absurd (nothing_there e b.there)
-body_follows p told s run body x at None st e k c (closing b) l = absurd (nothing_there e b.there)
-body_follows p told s run body x at None st e k c (fires b) l = absurd (nothing_there e b.there)
-body_follows p told s run body x at (Some y) st e k c (idle {w = w} b) l =
+body_follows p told s run body x at None st e k h c (idle b) l = absurd (nothing_there e b.there)
+body_follows p told s run body x at None st e k h c (prepare b) l = absurd (nothing_there e b.there)
+body_follows p told s run body x at None st e k h c (check b) l = absurd (nothing_there e b.there)
+body_follows p told s run body x at None st e k h c (async b) l = absurd (nothing_there e b.there)
+body_follows p told s run body x at None st e k h c (closing b) l = absurd (nothing_there e b.there)
+body_follows p told s run body x at None st e k h c (fires b) l = absurd (nothing_there e b.there)
+body_follows p told s run body x at (Some y) st e k h c (idle {w = w} b) l =
     op_follows p told s run body (In phase.Idle) w y e k c b (λ more is. rw st (running (idle is) (idle_left s y.op w more k l)))
-body_follows p told s run body x at (Some y) st e k c (prepare {w = w} b) l =
+body_follows p told s run body x at (Some y) st e k h c (prepare {w = w} b) l =
     op_follows p told s run body (In phase.Prepare) w y e k c b (λ more is. rw st (running (prepare is) (prepare_left s y.op w more k l)))
-body_follows p told s run body x at (Some y) st e k c (check {w = w} b) l =
+body_follows p told s run body x at (Some y) st e k h c (check {w = w} b) l =
     op_follows p told s run body (In phase.Check) w y e k c b (λ more is. rw st (running (check is) (check_left s y.op w more k l)))
-body_follows p told s run body x at (Some y) st e k c (async {w = w} b) l =
-    op_follows p told s run body (In phase.Async) w y e k c b (λ more is. rw st (running (async is) (async_left s y.op w more k l)))
-body_follows p told s run body x at (Some y) st e k c (closing {w = w} b) l =
+body_follows p told s run body x at (Some y) st e k h c (async {w = w} b) l =
+    op_follows p told s run body (In phase.Async) w y e k c b (λ more is. rw st (running (async is) (async_left s told y.op w more k h l)))
+body_follows p told s run body x at (Some y) st e k h c (closing {w = w} b) l =
     op_follows p told s run body (In phase.Closing) w y e k c b (λ more is. rw st (running (closing is) (closing_left s y.op w more k l)))
-body_follows p told s run body x at (Some y) st e k c (fires {part = part} {w = w} b) l =
+body_follows p told s run body x at (Some y) st e k h c (fires {part = part} {w = w} b) l =
     op_follows p told s run body (section_of part) w y e k c b (λ more is. rw st (running (fires is) (timers_after_op s y.op part w more k l)))
 
 -- ---- the main program, and a whole step
@@ -357,20 +368,25 @@ main_follows p told s i (Some (main.Run m)) e k c l = record {
 main_follows p told s i (Some (main.Op o)) e k c l = record {
   to = Between (i + 1);
   goes = doc.main_line o _ (ap main_op e) refl (op_effect s o k).lasts;
-  stands = record { stands = between (none_left s o k l); counted = counted_kept p _ s.names told (op_effect s o k).calls c };
+  stands = record {
+    stands = between (none_left s o k l);
+    counted =
+        counted_sent p _ told _ (counted_kept p _ s.names told (op_effect s o k).calls c);
+  };
 }
 
-pub run_follows : (p : Program) (told : Told) (s : State) (run : Run) (body : Option Body) (at : Standing) → Kept s → Counted p s.names told →
+pub run_follows : (p : Program) (told : Told) (s : State) (run : Run) (body : Option Body) (at : Standing) → Kept s → SentAt told.sent s →
+    Counted p s.names told →
     StandsIn p body run.stage at → Leaves (rest (waiting run.stage s.ready (due_now s)) s) at → Follows p told (Running run.mode run.line at) s
     (step.run_step p s run body)
-run_follows p told s run None at k c h l = stage_follows p told s run run.stage at refl k c h l
-run_follows p told s run (Some body) at k c h l =
-    body_follows p told s run body run.stage at (slice_get (lines_in p body.callback body.name) body.next) refl refl k c h l
+run_follows p told s run None at k sent c h l = stage_follows p told s run run.stage at refl k sent c h l
+run_follows p told s run (Some body) at k sent c h l =
+    body_follows p told s run body run.stage at (slice_get (lines_in p body.callback body.name) body.next) refl refl k sent c h l
 
-pub place_follows : (p : Program) (told : Told) (s : State) (x : Place) (at : Position) → Kept s → Counted p s.names told → StandsAt p s x at → Follows
-    p told at s (step.loop_step p s x)
-place_follows p told s (place.Main i) at k c (between e) = main_follows p told s i (slice_get p.main i) refl k c e
-place_follows p told s (place.Running run) at k c (running h l) = run_follows p told s run run.body _ k c h l
+pub place_follows : (p : Program) (told : Told) (s : State) (x : Place) (at : Position) → Kept s → SentAt told.sent s →
+    Counted p s.names told → StandsAt p s x at → Follows p told at s (step.loop_step p s x)
+place_follows p told s (place.Main i) at k sent c (between e) = main_follows p told s i (slice_get p.main i) refl k c e
+place_follows p told s (place.Running run) at k sent c (running h l) = run_follows p told s run run.body _ k sent c h l
 
 pub tick_follows : (p : Program) (told : Told) (s : State) (at : Position) (ms : ℕ) → Stands p told s at → Follows p told at s (step.tick s ms)
 tick_follows p told s at ms h = cond_both (nat_le (s.clock + ms) 4611686018427387904) _ _ (Follows p told at s)
@@ -383,26 +399,50 @@ tick_follows p told s at ms h = cond_both (nat_le (s.clock + ms) 461168601842738
 pub send_follows : (p : Program) (told : Told) (s : State) (at : Position) (v : Var) → Stands p told s at → Follows p told at s (step.sent_to s v)
 send_follows p told s at v h = cond_both (nat_lt v.0 (length s.names)) _ _ (Follows p told at s)
     (λ e. send_both s v (λ (c : ops.Coded). FollowsLine p told at s (seen.Send v c.code) c.state)
-    (λ c no_success. record { to = at; goes = doc.sent v c refl refl; stands = record { stands = h.stands; counted = h.counted } })
-    (λ t f stays. record {
+    (λ c no_success. record {
+      to = at;
+      goes = doc.sent v c refl refl;
+      stands = record {
+        stands = h.stands;
+        counted =
+            counted_sent p _ told _ h.counted;
+      };
+    })
+    (λ t f is. record {
       to = at;
       goes = doc.sent v code.Ok refl refl;
       stands = record {
-        stands = moved t s.place at h.stands;
-        counted = h.counted;
+        stands = moved t (live_held s v t f) s.place at h.stands;
+        counted = counted_sent p _ told _ h.counted;
       };
     }))
     (λ e. tt)
   where
-    moved : (t : Id × HandleRecord) (x : Place) (y : Position) → StandsAt p s x y → StandsAt p (with_handle s t.0 (records.sent t.1)) x y
-    moved t (place.Main i) y (between e) = between e
-    moved t (place.Running run) y (running a l) = running a l
+    moved : (t : Id × HandleRecord) → handle s t.0 ≡ Some t.1 → (x : Place) (y : Position) → StandsAt p s x y →
+        StandsAt p (with_handle s t.0 (records.sent t.1)) x y
+    moved t f (place.Main i) y (between e) = between (record {
+      timers = e.timers;
+      idle = e.idle;
+      prepare = e.prepare;
+      check = e.check;
+      async = e.async;
+      closing = e.closing;
+    })
+    moved t f (place.Running run) y (running {at = b} a l) = running a (record {
+      timers = l.timers;
+      idle = l.idle;
+      prepare = l.prepare;
+      check = l.check;
+      async = async_moved s.arena.slots _ (pends_more s.arena.slots t.0 t.1 (records.sent t.1) f refl) b s.async.yet l.async;
+      closing = l.closing;
+    })
 
-pub follows : (p : Program) (told : Told) (s : State) (at : Position) (e : Event) → Kept s → Stands p told s at → Follows p told at s (next p s e)
+pub follows : (p : Program) (told : Told) (s : State) (at : Position) (e : Event) → Kept s → SentAt told.sent s → Stands p told s at →
+    Follows p told at s (next p s e)
 unfolding next
-follows p told s at Loop k h = place_follows p told s s.place at k h.counted h.stands
-follows p told s at (Send v) k h = send_follows p told s at v h
-follows p told s at (Tick ms) k h = tick_follows p told s at ms h
+follows p told s at Loop k sent h = place_follows p told s s.place at k sent h.counted h.stands
+follows p told s at (Send v) k sent h = send_follows p told s at v h
+follows p told s at (Tick ms) k sent h = tick_follows p told s at ms h
 
 -- ---- all steps
 
@@ -426,26 +466,29 @@ rested_at p s (place.Main i) at h = tt
 rested_at p s (place.Running run) at (running h l) = rested_in p s run.body run.stage _ h l
 
 pub one_step : (p : Program) (told : Told) (s : State) (at : Position) (es : List Event) (n : Next) (was : Lasting) → lasting s ≡ was → Kept s →
-    StaysKept n →
-    Stands p told s at → Follows p told at s n →
-    ((told' : Told) (t : State) (to : Position) (now : Lasting) → lasting t ≡ now → Kept t → Stands p told' t to → GoesOn p to told' now
-    (history_from p t es)) →
-    GoesOn p at told was (line_of_step s n ++ history_from p (state_of s n) es)
-one_step p told s at es (Moves t (Some what)) was l k j h f more = line l f.goes (more (told_with told what) t f.to (lasting t) refl j f.stands)
-one_step p told s at es (Moves t None) was l k j h f more = more told t at was (f.1 ∙ l) j f.0
-one_step p told s at es (Refuses why) was l k j h f more = more told s at was l k h
+    StaysKept n → SentAt told.sent s → SentFollows p told s n → Stands p told s at → Follows p told at s n →
+    ((told' : Told) (t : State) (to : Position) (now : Lasting) → lasting t ≡ now → Kept t → SentAt told'.sent t → Stands p told' t to →
+    GoesOn p to told' now (history_from p t es)) → GoesOn p at told was (line_of_step s n ++ history_from p (state_of s n) es)
+one_step p told s at es (Moves t (Some what)) was l k j g i h f more =
+    line l f.goes (more (told_by p told s what) t f.to (lasting t) refl j i f.stands)
+one_step p told s at es (Moves t None) was l k j g i h f more = more told t at was (f.1 ∙ l) j i f.0
+one_step p told s at es (Refuses why) was l k j g i h f more = more told s at was l k g h
 
-pub goes_on : (p : Program) (es : List Event) (told : Told) (s : State) (at : Position) (was : Lasting) → lasting s ≡ was → Kept s → Stands p told s at →
-    GoesOn p at told was (history_from p s es)
-goes_on p [] told s at was l k h = cut
-goes_on p (e ∷ es) told s at was l k h =
-    one_step p told s at es (next p s e) was l k (next_kept p s e (rested_at p s s.place at h.stands) k) h (follows p told s at e k h) (goes_on p es)
+pub goes_on : (p : Program) (es : List Event) (told : Told) (s : State) (at : Position) (was : Lasting) → lasting s ≡ was → Kept s →
+    SentAt told.sent s → Stands p told s at → GoesOn p at told was (history_from p s es)
+goes_on p [] told s at was l k g h = cut
+goes_on p (e ∷ es) told s at was l k g h =
+    one_step p told s at es (next p s e) was l k (next_kept p s e (rested_at p s s.place at h.stands) k) g (next_sent p told s e k g) h
+    (follows p told s at e k g h) (goes_on p es)
+
+-- where every script begins
+pub stands_fresh : (p : Program) → Stands p nothing_told (fresh p) (Between 0)
+stands_fresh p = record {
+  stands = between (record { timers = refl; idle = refl; prepare = refl; check = refl; async = refl; closing = refl });
+  counted = counted_fresh p;
+}
 
 -- the lines of any events are in the documented order
 pub documented : (p : Program) (es : List Event) → Documented p (history p es)
 unfolding history
-documented p es = goes_on p es nothing_told (fresh p) (Between 0) at_first refl (fresh_kept p)
-    (record {
-      stands = between (record { timers = refl; idle = refl; prepare = refl; check = refl; async = refl; closing = refl });
-      counted = counted_fresh p;
-    })
+documented p es = goes_on p es nothing_told (fresh p) (Between 0) at_first refl (fresh_kept p) (sent_fresh p) (stands_fresh p)

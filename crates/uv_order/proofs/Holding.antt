@@ -76,7 +76,7 @@ in_slot id slot e = rw (eq-eqb slot.generation id.generation e) refl
 ids_alike : (a b : Id) → a.slot ≡ b.slot → a.generation ≡ b.generation → same_id a b ≡ true
 ids_alike a b e f = rw (eq-eqb a.slot b.slot e, eq-eqb a.generation b.generation f) refl
 
-other_generation : (i : Id) (slot : Slot Content) → (slot.generation ≡ i.generation → ⊥) → look i (Some slot) ≡ None
+pub other_generation : (i : Id) (slot : Slot Content) → (slot.generation ≡ i.generation → ⊥) → look i (Some slot) ≡ None
 other_generation i slot d = by (slot.generation == i.generation) refl where
   by : (b : Bool) → (slot.generation == i.generation) ≡ b → handle_in (cond b slot.content None) ≡ None
   by true f = absurd (d (eqb-true slot.generation i.generation f))

@@ -130,6 +130,10 @@ pub distinct_front : (xs ys : List Id) → AreDistinct (xs ++ ys) → AreDistinc
 distinct_front [] ys h = tt
 distinct_front (x ∷ xs) ys h = (has_front xs ys x h.0, distinct_front xs ys h.1)
 
+pub distinct_back : (xs ys : List Id) → AreDistinct (xs ++ ys) → AreDistinct ys
+distinct_back [] ys h = h
+distinct_back (x ∷ xs) ys h = distinct_back xs ys h.1
+
 pub distinct_without : (ids : List Id) (x : Id) → AreDistinct ids → AreDistinct (without_id ids x)
 distinct_without [] x h = tt
 distinct_without (id ∷ ids) x h = at (same_id id x) (distinct_without ids x h.1) where

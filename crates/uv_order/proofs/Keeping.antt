@@ -109,7 +109,8 @@ pub no_timer : (h : HandleRecord) (a : Kind) (key : Due) → h.kind ≡ a → Ap
 no_timer h a key e d w = d (sym e ∙ w.kind)
 
 -- a handle of one kind is changed, which the lists of another don't speak of
-pub others : (slots : List (Slot Content)) (q r : Kind) (id : Id) (h x : HandleRecord) (ids : List Id) → held_at slots id ≡ Some h → h.kind ≡ q → x.kind
+pub others : (slots : List (Slot Content)) (q r : Kind) (id : Id) (h x : HandleRecord) (ids : List Id) → held_at slots id ≡ Some h →
+    h.kind ≡ q → x.kind
     ≡ q →
     Apart q r → Everyone slots (Watches r) ids → Everyone (put slots id x) (Watches r) ids
 others slots q r id h x ids e t u d k = everyone_put slots (Watches r) id h x ids e (other_kind h x q r t d) (other_kind x h q r u d) k
@@ -137,7 +138,8 @@ filled slots id h n e k g =
     clash : ◌≡◌ {A = Option HandleRecord} None (Some h) → ⊥
     clash c = cc c
 
-pub empty_put : (slots : List (Slot Content)) (id : Id) (h x : HandleRecord) (n : ℕ) → held_at slots id ≡ Some h → IsEmpty slots n → IsEmpty (put slots
+pub empty_put : (slots : List (Slot Content)) (id : Id) (h x : HandleRecord) (n : ℕ) → held_at slots id ≡ Some h → IsEmpty slots n →
+    IsEmpty (put slots
     id x) n
 empty_put slots id h x n e k = record {
   slot = k.slot;
@@ -178,7 +180,8 @@ free_set slots i y (n ∷ ns) d k =
     )
 
 -- a slot that holds something isn't free
-pub not_free : (slots : List (Slot Content)) (id : Id) (h : HandleRecord) (free : List ℕ) → held_at slots id ≡ Some h → AreFree slots free → has_number
+pub not_free : (slots : List (Slot Content)) (id : Id) (h : HandleRecord) (free : List ℕ) → held_at slots id ≡ Some h → AreFree slots free →
+    has_number
     free id.slot ≡ false
 not_free slots id h [] e k = refl
 not_free slots id h (n ∷ ns) e k = at (n == id.slot) refl (not_free slots id h ns e k.2) where
@@ -295,7 +298,8 @@ restarted_again_kept s id h e t stays k = cond_both (h.repeat == 0) _ _ Kept (λ
     h.repeat e t stays k)
 
 -- the timers and the ready list where a watcher changes
-pub others_times : (s : State) (id : Id) (h x : HandleRecord) (q : Kind) → handle s id ≡ Some h → h.kind ≡ q → x.kind ≡ q → Apart q kind.Timer → Kept s →
+pub others_times : (s : State) (id : Id) (h x : HandleRecord) (q : Kind) → handle s id ≡ Some h → h.kind ≡ q → x.kind ≡ q →
+    Apart q kind.Timer → Kept s →
     Times (put s.arena.slots id x) s.next_start s.timers
 others_times s id h x q e t u d k = times_put s.arena.slots s.next_start s.timers id h x e
     (λ key a. absurd (no_timer h q key t d a)) (λ key a. absurd (no_timer x q key u d a)) k.timers
@@ -305,7 +309,8 @@ pub others_ready : (s : State) (id : Id) (h x : HandleRecord) (q : Kind) → han
 others_ready s id h x q e t d k = lists_put s.arena.slots Rests id h x s.ready e (λ r. absurd (d (sym t ∙ r.kind))) k.ready
 
 -- a watcher is put in front of its list
-pub in_front : (s : State) (id : Id) (h x : HandleRecord) (q : Kind) (ids : List Id) → handle s id ≡ Some h → h.active ≡ false → x.kind ≡ q → x.active ≡
+pub in_front : (s : State) (id : Id) (h x : HandleRecord) (q : Kind) (ids : List Id) → handle s id ≡ Some h → h.active ≡ false → x.kind ≡ q →
+    x.active ≡
     true →
     Everyone s.arena.slots (Watches q) ids → Everyone (put s.arena.slots id x) (Watches q) (id ∷ ids)
 in_front s id h x q ids e off u on l = everyone_front s.arena.slots (Watches q) id h x ids e (λ w. on_off h w.active off) (record {

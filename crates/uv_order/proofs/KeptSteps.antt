@@ -25,7 +25,7 @@ use Rattle.uv_script.specs.declared.op.Op.TheVariants as op
 use Rattle.uv_script.specs.declared.op.MainOp.{MainOp}
 use Rattle.uv_script.specs.declared.op.MainOp.TheVariants as main
 use Rattle.uv_script.specs.declared.op.CallbackLine.{CallbackLine}
-use Rattle.uv_script.specs.Program.{Program}
+use Rattle.uv_script.specs.Program.{Program, arena_size}
 use Rattle.uv_model.specs.declared.content.Content.{Content}
 use Rattle.uv_model.specs.declared.place.Body.{Body}
 use Rattle.uv_model.specs.declared.place.Run.{Run}
@@ -37,7 +37,7 @@ use Rattle.uv_model.specs.declared.place.Timing.{Timing}
 use Rattle.uv_model.specs.declared.place.Timing.TheVariants.{Collecting, Firing}
 use Rattle.uv_model.specs.declared.place.Place.{Place}
 use Rattle.uv_model.specs.declared.place.Place.TheVariants.{Main, Running}
-use Rattle.uv_model.specs.State.{State, LAST_GENERATION, fresh, handle, with_handle, with_id, live, front, watched, refreshed}
+use Rattle.uv_model.specs.State.{State, fresh, handle, with_handle, with_id, live, front, watched, refreshed}
 use Rattle.uv_model.specs.Timers.{started, restarted}
 use Rattle.uv_model.specs.Ops as ops
 use Rattle.uv_model.specs.Ops.{do_op}
@@ -64,7 +64,8 @@ pub start_watcher_kept : (s : State) (id : Id) (h : HandleRecord) → handle s i
 start_watcher_kept s id h e stays k = cond_both h.active s _ Kept (λ on. k)
     (λ off. found_both (watcher_kind h.kind) _ s Kept (λ q is. watcher_started_kept s q id h e (as_watcher h.kind q is) off stays k) (λ none. k))
 
-pub referenced_kept : (s : State) (id : Id) (h : HandleRecord) (flag : Bool) → handle s id ≡ Some h → Kept s → Kept (ops.set_referenced s flag id h).state
+pub referenced_kept : (s : State) (id : Id) (h : HandleRecord) (flag : Bool) → handle s id ≡ Some h → Kept s →
+    Kept (ops.set_referenced s flag id h).state
 referenced_kept s id h flag e k = put_kept s id h (referenced_as flag h) e refl refl refl refl k
 
 pub send_kept : (s : State) (v : Var) → Kept s → Kept (ops.send s (live s v)).state
@@ -290,7 +291,8 @@ begin_closing_kept s e k = record {
 }
 
 -- the front of those yet to run goes to the end of the list
-pub moved_listed : (s : State) (P : HandleRecord → Type 0) (w : Walk Id) (t : Id × HandleRecord) → FrontOf s w.yet t → Everyone s.arena.slots P (members
+pub moved_listed : (s : State) (P : HandleRecord → Type 0) (w : Walk Id) (t : Id × HandleRecord) → FrontOf s w.yet t →
+    Everyone s.arena.slots P (members
     w) →
     Everyone s.arena.slots P (members (moved_on w t.0 (drop 1 w.yet)))
 moved_listed s P w t f l =
@@ -426,14 +428,14 @@ freed_free slots id h n free e k =
 pub close_kept : (p : Program) (s : State) (run : Run) → Kept s → StaysKept (close_front p s run)
 close_kept p s run k = found_both (front s s.closing.yet) _ _ StaysKept (λ t e. gone t (front_of s s.closing.yet t e)) (λ e. k) where
   gone : (t : Id × HandleRecord) → FrontOf s s.closing.yet t →
-      Agree (freed LAST_GENERATION t.0 s.arena) s.next_start s.timers s.ready s.idle s.prepare s.check s.async (record s.closing {
+      Agree (freed (arena_size p).last_generation t.0 s.arena) s.next_start s.timers s.ready s.idle s.prepare s.check s.async (record s.closing {
         yet = drop 1
             s.closing.yet;
       })
-  gone t f = subst (λ (rest : List Id). Agree (freed LAST_GENERATION t.0 s.arena) s.next_start s.timers s.ready s.idle s.prepare s.check s.async
+  gone t f = subst (λ (rest : List Id). Agree (freed (arena_size p).last_generation t.0 s.arena) s.next_start s.timers s.ready s.idle s.prepare s.check s.async
       (record s.closing { yet = rest }))
       (sym f.behind)
-      (cond_both (t.0.generation == LAST_GENERATION) _ _ (λ (u : Slots Content). Agree u s.next_start s.timers s.ready s.idle s.prepare s.check
+      (cond_both (t.0.generation == (arena_size p).last_generation) _ _ (λ (u : Slots Content). Agree u s.next_start s.timers s.ready s.idle s.prepare s.check
       s.async (record s.closing { yet = f.rest }))
       (λ last. gone_kept s t f.rest t.0.generation s.arena.free f.holds f.are (freed_free s.arena.slots t.0 t.1 t.0.generation s.arena.free f.holds
       k.free).0 k)

@@ -12,3 +12,7 @@ mod Standing
 mod TimersFollow
 mod WatchersFollow
 pub mod Follows
+mod Sends
+mod Gone
+mod Known
+pub mod ClosesOnce

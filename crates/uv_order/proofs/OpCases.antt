@@ -138,8 +138,17 @@ start_watcher_passes h e = invalid_passes h.closing (only_passes (is_watcher h.k
 pub close_passes : (h : HandleRecord) → close_refusal h ≡ None → h.closing ≡ false
 close_passes h e = invalid_passes h.closing e
 
-pub send_passes : (h : HandleRecord) → send_refusal h ≡ None → h.closing ≡ false
-send_passes h e = invalid_passes h.closing (only_passes (is_async h.kind) (invalid_if h.closing) e).1
+async_kind : (k : Kind) → is_async k ≡ true → k ≡ kind.Async
+async_kind kind.Timer e = cc e
+async_kind kind.Idle e = cc e
+async_kind kind.Prepare e = cc e
+async_kind kind.Check e = cc e
+async_kind kind.Async e = refl
+
+pub send_passes : (h : HandleRecord) → send_refusal h ≡ None → (h.kind ≡ kind.Async) × (h.closing ≡ false)
+send_passes h e =
+    let parts = only_passes (is_async h.kind) (invalid_if h.closing) e in
+    (async_kind h.kind parts.0, invalid_passes h.closing parts.1)
 
 pub on_handle_both : (s : State) (v : Var) (why : HandleRecord → Option Code) (f : Id → HandleRecord → ops.Done) (P : ops.Done → Type 0) → Refuses
     why →
@@ -151,9 +160,9 @@ on_handle_both s v why f P codes refused done = at (live s v) refl where
   at (Some t) e = found_both (why t.1) (ops.refuses s) (f t.0 t.1) P (λ c is. refused c (codes t.1 c is)) (λ is. done t e is)
 
 pub send_both : (s : State) (v : Var) (P : ops.Coded → Type 0) → ((c : Code) → IsRefusal c → P (record { state = s; code = c })) →
-    ((t : Id × HandleRecord) → live s v ≡ Some t → t.1.closing ≡ false → P (record { state = with_handle s t.0 (sent t.1); code = Success })) →
+    ((t : Id × HandleRecord) → live s v ≡ Some t → send_refusal t.1 ≡ None → P (record { state = with_handle s t.0 (sent t.1); code = Success })) →
     P (ops.send s (live s v))
 send_both s v P refused done = at (live s v) refl where
   at : (t : Option (Id × HandleRecord)) → live s v ≡ t → P (ops.send s t)
   at None e = refused Estale (λ g. cc g)
-  at (Some t) e = found_both (send_refusal t.1) _ _ P (λ c is. refused c (refuses_send t.1 c is)) (λ is. done t e (send_passes t.1 is))
+  at (Some t) e = found_both (send_refusal t.1) _ _ P (λ c is. refused c (refuses_send t.1 c is)) (λ is. done t e is)

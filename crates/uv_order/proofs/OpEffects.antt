@@ -129,7 +129,7 @@ left_one : (ids : List Id) (id : Id) → without_id ids id ≡ left_of ids (id �
 left_one ids id = sym (one_off ids [] id ∙ ap (λ (is : List Id). without_id is id) (none_off ids))
 
 -- the id of a live name
-one_taken : (s : State) (v : Var) (t : Id × HandleRecord) → live s v ≡ Some t → ids_of s (Some v) ≡ t.0 ∷ []
+pub one_taken : (s : State) (v : Var) (t : Id × HandleRecord) → live s v ≡ Some t → ids_of s (Some v) ≡ t.0 ∷ []
 one_taken s v t e = rw (live_bound s v t e) refl
 
 taken_one : (s : State) (v : Var) (t : Id × HandleRecord) (ids : List Id) → live s v ≡ Some t → without_id ids t.0 ≡ left_of ids (ids_of s (Some v))

@@ -19,28 +19,35 @@ use Rattle.uv_model.specs.declared.place.Timing.TheVariants.{Collecting, Firing}
 use Rattle.uv_model.specs.declared.place.Place.{Place}
 use Rattle.uv_model.specs.declared.place.Place.TheVariants as place
 use Rattle.uv_records.specs.Walks.{Walk as Listed}
+use Rattle.uv_records.specs.declared.slot.Slot.{Slot}
+use Rattle.uv_model.specs.declared.content.Content.{Content}
 use Rattle.uv_model.specs.State.{State}
 use Rattle.uv_model.specs.Next.{Next, Moves, Refuses, goes, is_default}
 use Rattle.uv_order.specs.Line.{Line}
-use Rattle.uv_order.specs.Active.{IsTimer, AreTimers, AreDistinct, IsActive, AreActive, IsClosing, AreClosing}
+use Rattle.uv_order.specs.Active.{has_id, IsTimer, AreTimers, AreDistinct, IsActive, AreActive, IsClosing, AreClosing}
 use Rattle.uv_order.specs.Documented as doc
-use Rattle.uv_order.specs.Documented.{Told, nothing_told, told_of, told_with, Lasting, lasting, at_first, Section, Entry, In, word_of, part_after, part_of, Walk, Opens, IsOver, CallsNext, MayCall, is_called, callback_in, call_line, Standing, Begun, Within, Polling, MayLeave, PollsFor, Position, Between, Running, Goes, GoesOn, cut, line, Documented, body_of, next_call, taken_off}
+use Rattle.uv_order.specs.Documented.{Told, nothing_told, told_of, told_by, AllOffOrUnsent, Lasting, lasting, at_first, Section, Entry, In, word_of, part_after, part_of, Walk, Opens, IsOver, CallsNext, MayCall, is_called, callback_in, call_line, Standing, Begun, Within, Polling, MayLeave, PollsFor, Position, Between, Running, Goes, GoesOn, cut, line, Documented, body_of, next_call, taken_off}
 use Rattle.uv_order.proofs.IdLists.{left_of, member}
 use Rattle.uv_order.proofs.TimerKeys.{due_ids, distinct_due}
 use Rattle.uv_order.proofs.Holding.{Fits, its_handle, Everyone, IsSet, Times}
 use Rattle.uv_order.proofs.Keeping.{Kept, Watches, Closes, members}
 use Rattle.uv_order.proofs.Bodies.{IsBody}
 use Rattle.uv_order.proofs.Counted.{Counted}
+use Rattle.uv_order.proofs.Sends.{pends}
 
 -- ---- where a state stands
 
 -- a section in which nothing is called
 abbrev pub bare : Walk
-bare = record { ahead = []; off = []; body = [] }
+bare = record { ahead = []; off = []; sent = []; body = [] }
 
 -- a section that begins with this list
 abbrev pub begun_with : List Id → Walk
-begun_with ids = record { ahead = ids; off = []; body = [] }
+begun_with ids = record { ahead = ids; off = []; sent = []; body = [] }
+
+-- an async section that begins with this list
+abbrev pub async_with : Told → List Id → Walk
+async_with told ids = record { ahead = ids; off = []; sent = told.sent; body = [] }
 
 abbrev pub section_of : TimersOf → Section
 section_of timers_of.Entry = Entry
@@ -81,20 +88,47 @@ rest_of x (Within part w) = rest_in x (word_of part) w
 rest_of x (Polling deadline) = []
 
 -- those who are left of the async list, of which the first ones may have been passed by without a line
-pub record IsBehind (w : Walk) (ids : List Id) : Type 0 where
+pub record IsBehind (slots : List (Slot Content)) (w : Walk) (ids : List Id) : Type 0 where
   pub gone : List Id
   pub behind : List Id
   pub all : w.ahead ≡ gone ++ behind
   pub left : ids ≡ left_of behind w.off
+  -- those that were passed by might be
+  pub passed : AllOffOrUnsent w.off w.sent gone
+  -- and those that are left and were sent to before the section began are still pending
+  pub still : (id : Id) → has_id ids id ≡ true → has_id w.sent id ≡ true → pends slots id ≡ true
 
-abbrev pub AsyncIn : Phase → Walk → List Id → Type 0
-AsyncIn phase.Async w ids = IsBehind w ids
-AsyncIn word w ids = ids ≡ []
+abbrev pub AsyncIn : Phase → List (Slot Content) → Walk → List Id → Type 0
+AsyncIn phase.Async slots w ids = IsBehind slots w ids
+AsyncIn word slots w ids = ids ≡ []
 
-abbrev pub AsyncLeft : Standing → List Id → Type 0
-AsyncLeft Begun ids = ids ≡ []
-AsyncLeft (Within part w) ids = AsyncIn (word_of part) w ids
-AsyncLeft (Polling deadline) ids = ids ≡ []
+abbrev pub AsyncLeft : List (Slot Content) → Standing → List Id → Type 0
+AsyncLeft slots Begun ids = ids ≡ []
+AsyncLeft slots (Within part w) ids = AsyncIn (word_of part) slots w ids
+AsyncLeft slots (Polling deadline) ids = ids ≡ []
+
+-- handles change, and who was pending still is
+pub async_moved : (slots more : List (Slot Content)) → ((id : Id) → pends slots id ≡ true → pends more id ≡ true) → (at : Standing) (ids : List Id) →
+    AsyncLeft slots at ids → AsyncLeft more at ids
+async_moved slots more f Begun ids k = k
+async_moved slots more f (Within part w) ids k = by (word_of part) k where
+  by : (word : Phase) → AsyncIn word slots w ids → AsyncIn word more w ids
+  by phase.Async l = record {
+    gone = l.gone;
+    behind = l.behind;
+    all = l.all;
+    left = l.left;
+    passed = l.passed;
+    still = λ id on was. f id (l.still id on was);
+  }
+  by phase.Pending l = l
+  by phase.Idle l = l
+  by phase.Prepare l = l
+  by phase.Done l = l
+  by phase.Check l = l
+  by phase.Closing l = l
+  by phase.Timers l = l
+async_moved slots more f (Polling deadline) ids k = k
 
 -- the members of the lists that sections walk, but for those that were called
 pub record Rest : Type 0 where
@@ -104,9 +138,19 @@ pub record Rest : Type 0 where
   pub check : List Id
   pub async : List Id
   pub closing : List Id
+  -- what they are members of
+  pub slots : List (Slot Content)
 
 abbrev pub rest : List Id → State → Rest
-rest ready s = record { ready = ready; idle = s.idle.yet; prepare = s.prepare.yet; check = s.check.yet; async = s.async.yet; closing = s.closing.yet }
+rest ready s = record {
+  ready = ready;
+  idle = s.idle.yet;
+  prepare = s.prepare.yet;
+  check = s.check.yet;
+  async = s.async.yet;
+  closing = s.closing.yet;
+  slots = s.arena.slots;
+}
 
 -- the list of the section under way has who is left of it, and the others nobody
 pub record Leaves (r : Rest) (at : Standing) : Type 0 where
@@ -114,7 +158,7 @@ pub record Leaves (r : Rest) (at : Standing) : Type 0 where
   pub idle : r.idle ≡ rest_of phase.Idle at
   pub prepare : r.prepare ≡ rest_of phase.Prepare at
   pub check : r.check ≡ rest_of phase.Check at
-  pub async : AsyncLeft at r.async
+  pub async : AsyncLeft r.slots at r.async
   pub closing : r.closing ≡ rest_of phase.Closing at
 
 -- nobody is left
@@ -143,7 +187,7 @@ pub record Stands (p : Program) (told : Told) (s : State) (at : Position) : Type
 pub record FollowsLine (p : Program) (told : Told) (from : Position) (s : State) (what : Seen) (t : State) : Type 0 where
   pub to : Position
   pub goes : Goes p told from (record { before = s; seen = what; after = t }) to
-  pub stands : Stands p (told_with told what) t to
+  pub stands : Stands p (told_by p told s what) t to
 
 abbrev pub Follows : Program → Told → Position → State → Next → Type 0
 Follows p told at s (Moves t (Some what)) = FollowsLine p told at s what t
@@ -283,8 +327,8 @@ bare_over word = record { done = refl; may_pass = nobody word } where
   nobody phase.Closing = tt
   nobody phase.Timers = tt
 
-pub opens_bare : (word : Phase) (l : Line) → doc.HasList word l [] → Opens word l bare
-opens_bare word l h = record { list = h; off = refl; body = refl }
+pub opens_bare : (word : Phase) (told : Told) (l : Line) → doc.sent_at word told ≡ [] → doc.HasList word l [] → Opens word told l bare
+opens_bare word told l e h = record { list = h; off = refl; sent = sym e; body = refl }
 
 pub are_closing : (s : State) → s.closing.yet ≡ [] → Kept s → AreClosing s s.closing.list
 are_closing s e k = record {

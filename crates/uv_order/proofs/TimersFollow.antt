@@ -23,7 +23,7 @@ use Rattle.uv_model.specs.Next as step
 use Rattle.uv_model.specs.Next.{Next, Moves, Refuses, next, goes, is_default, call, calls, first_due, collected, front_moved, may_leave, body_from}
 use Rattle.uv_order.specs.Active.{AreDue, has_id}
 use Rattle.uv_order.specs.Documented as doc
-use Rattle.uv_order.specs.Documented.{Told, nothing_told, told_of, told_with, Lasting, lasting, at_first, Section, Entry, In, word_of, part_after, part_of, Walk, Opens, IsOver, CallsNext, MayCall, is_called, callback_in, call_line, Standing, Begun, Within, Polling, MayLeave, PollsFor, Position, Between, Running, Goes, GoesOn, cut, line, Documented, body_of, next_call, taken_off}
+use Rattle.uv_order.specs.Documented.{Told, nothing_told, told_of, told_by, Lasting, lasting, at_first, Section, Entry, In, word_of, part_after, part_of, Walk, Opens, IsOver, CallsNext, MayCall, is_called, callback_in, call_line, Standing, Begun, Within, Polling, MayLeave, PollsFor, Position, Between, Running, Goes, GoesOn, cut, line, Documented, body_of, next_call, taken_off}
 use Rattle.uv_model.proofs.Found.{found_both}
 use Rattle.uv_order.proofs.IdLists.{left_of, none_off, all_off, first_left}
 use Rattle.uv_order.proofs.TimerKeys.{due_ids, none_due}
@@ -42,7 +42,7 @@ enter_follows p told s run k c e = cond_both (goes s) _ _ (Follows p told (Runni
     (λ g. cond_both (is_default run.mode) _ _ (Follows p told (Running run.mode run.line Begun) s)
     (λ d. record {
       to = Running run.mode run.line (Within Entry (begun_with (due_now s)));
-      goes = doc.section Entry tt (start_default run.mode (goes s) g d) refl (record { list = due_list; off = refl; body = refl }) refl;
+      goes = doc.section Entry tt (start_default run.mode (goes s) g d) refl (record { list = due_list; off = refl; sent = refl; body = refl }) refl;
       stands = record {
         stands = running (collects refl) (record {
           timers = ap (λ (ids : List Id). ids ++ due_now s) e.timers ∙ sym (none_off
@@ -58,7 +58,7 @@ enter_follows p told s run k c e = cond_both (goes s) _ _ (Follows p told (Runni
     })
     (λ d. record {
       to = Running run.mode run.line (Within (In phase.Pending) bare);
-      goes = doc.section (In phase.Pending) tt (start_other run.mode (goes s) g d) refl (opens_bare phase.Pending _ refl) refl;
+      goes = doc.section (In phase.Pending) tt (start_other run.mode (goes s) g d) refl (opens_bare phase.Pending told _ refl refl) refl;
       stands = record {
         stands = running pending (record {
           timers = e.timers;
@@ -96,7 +96,7 @@ pub goes_iteration : (p : Program) (told : Told) (s : State) (run : Run) (part :
     NobodyLeft (rest s.ready s) → Follows p told (Running run.mode run.line (Within (section_of part) w)) s (step.new_iteration s run)
 goes_iteration p told s run part w d over c e = record {
   to = Running run.mode run.line (Within (In phase.Pending) bare);
-  goes = doc.section (In phase.Pending) over d refl (opens_bare phase.Pending _ refl) refl;
+  goes = doc.section (In phase.Pending) over d refl (opens_bare phase.Pending told _ refl refl) refl;
   stands = record {
     stands = running pending (record {
       timers = e.timers;
@@ -130,7 +130,8 @@ goes_end p told s run part w d over c e = record {
   };
 }
 
-pub leave_follows : (p : Program) (told : Told) (s : State) (run : Run) (part : TimersOf) (w : Walk) → IsOver (word_of (section_of part)) w → Counted p
+pub leave_follows : (p : Program) (told : Told) (s : State) (run : Run) (part : TimersOf) (w : Walk) → IsOver (word_of (section_of part)) w →
+    Counted p
     s.names told →
     NobodyLeft (rest s.ready s) → Follows p told (Running run.mode run.line (Within (section_of part) w)) s (step.leave_timers s run part)
 leave_follows p told s run timers_of.Entry w over c e = cond_both (goes s) _ _ (Follows p told (Running run.mode run.line (Within Entry w)) s)
@@ -143,7 +144,8 @@ leave_follows p told s run timers_of.Iteration w over c e =
 
 -- ---- callbacks
 
-pub named_of : (s : State) (t : Id × HandleRecord) → handle s t.0 ≡ Some t.1 → option_map (λ (h : HandleRecord). h.name) (handle s t.0) ≡ Some t.1.name
+pub named_of : (s : State) (t : Id × HandleRecord) → handle s t.0 ≡ Some t.1 →
+    option_map (λ (h : HandleRecord). h.name) (handle s t.0) ≡ Some t.1.name
 named_of s t e = ap (option_map (λ (h : HandleRecord). h.name)) e
 
 -- the walk with the first that is left called
@@ -169,9 +171,9 @@ next_of w id more e = let f = first_left w.ahead w.off id more e in record {
 abbrev pub called_names : State → Callback → Var → List Named
 called_names s kind v = (with_named s v (record (named s v) { calls = counted kind (named s v).calls })).names
 
-pub call_counted : (p : Program) (told : Told) (s : State) (kind : Callback) (v : Var) → Counted p s.names told → Counted p (called_names s kind v)
-    (told_call kind v told)
-call_counted p told s kind v c = counted_call p s.names told kind v (record (named s v) { calls = counted kind (named s v).calls }) refl c
+pub call_counted : (p : Program) (told : Told) (s : State) (kind : Callback) (v : Var) (id : Id) → Counted p s.names told →
+    Counted p (called_names s kind v) (told_call kind v id told)
+call_counted p told s kind v id c = counted_call p s.names told kind v id (record (named s v) { calls = counted kind (named s v).calls }) refl c
 
 pub its_body : (p : Program) (told : Told) (s : State) (kind : Callback) (v : Var) → Counted p s.names told →
     IsBody p (body_from p kind v (count_of kind (counted kind (named s v).calls)) 0) (body_of p kind v (next_call told kind v))
@@ -237,9 +239,9 @@ pub timers_over : (part : TimersOf) (w : Walk) → w.body ≡ [] → doc.AllOff 
 timers_over timers_of.Entry w b o = record { done = b; may_pass = o }
 timers_over timers_of.Iteration w b o = record { done = b; may_pass = o }
 
-pub timers_call : (part : TimersOf) (s : State) (w : Walk) (id : Id) (more : List Id) (n : NextCall w id more) → w.body ≡ [] → CallsNext (word_of
-    (section_of part)) s w id n.behind
-timers_call timers_of.Entry s w id more n b = record {
+pub timers_call : (part : TimersOf) (told : Told) (w : Walk) (id : Id) (more : List Id) (n : NextCall w id more) → w.body ≡ [] → CallsNext (word_of
+    (section_of part)) told w id n.behind
+timers_call timers_of.Entry told w id more n b = record {
   done = b;
   passed = n.passed;
   list = n.list;
@@ -249,7 +251,7 @@ timers_call timers_of.Entry s w id more n b = record {
     called = refl;
   };
 }
-timers_call timers_of.Iteration s w id more n b = record {
+timers_call timers_of.Iteration told w id more n b = record {
   done = b;
   passed = n.passed;
   list = n.list;
@@ -258,7 +260,8 @@ timers_call timers_of.Iteration s w id more n b = record {
 }
 
 -- a timer is called from the ready list, in a state that may have started it again
-pub call_timer : (p : Program) (told : Told) (s u : State) (run : Run) (part : TimersOf) (w : Walk) (t : Id × HandleRecord) (more : List Id) → handle s
+pub call_timer : (p : Program) (told : Told) (s u : State) (run : Run) (part : TimersOf) (w : Walk) (t : Id × HandleRecord) (more : List Id) →
+    handle s
     t.0 ≡ Some t.1 →
     u.names ≡ s.names → lasting u ≡ lasting s → OnlyReady (rest (t.0 ∷ more) u) w → u.ready ≡ more → w.body ≡ [] → Counted p s.names told →
     Follows p told (Running run.mode run.line (Within (section_of part) w)) s (call p u (record run { stage = stage.Timers part Firing }) t.0
@@ -269,12 +272,12 @@ call_timer p told s u run part w t more h names lasts o ready b c =
     let cu : Counted p u.names told = rw names c in
     record {
       to = Running run.mode run.line (Within (section_of part) (called p told callback.Handle w next.behind v));
-      goes = doc.call callback.Handle v t.0 next.behind (timers_word part) (timers_call part s w t.0 more next b) (named_of s t h) refl lasts;
+      goes = doc.call callback.Handle v t.0 next.behind (timers_word part) (timers_call part told w t.0 more next b) (named_of s t h) refl lasts;
       stands = record {
         stands = running (fires (its_body p told u callback.Handle v cu))
             (timers_left part (rest u.ready u) (called p told callback.Handle w next.behind v)
             (record { ready = ready ∙ next.left; idle = o.idle; prepare = o.prepare; check = o.check; async = o.async; closing = o.closing }));
-        counted = call_counted p told u callback.Handle v cu;
+        counted = call_counted p told u callback.Handle v t.0 cu;
       };
     }
 
@@ -302,7 +305,9 @@ fire_follows p told s run part w k c l b =
               Firing;
         }) t.0 t.1.name))
         (λ z. call_timer p told s u run part w t f.rest f.holds refl refl only f.behind b c)
-        (λ z. call_timer p told s (started u t.0 t.1 t.1.repeat t.1.repeat) run part w t f.rest f.holds refl refl only f.behind b c)
+        (λ z. call_timer p told s (started u t.0 t.1 t.1.repeat t.1.repeat) run part w t f.rest f.holds refl refl
+        (record { ready = only.ready; idle = only.idle; prepare = only.prepare; check = only.check; async = only.async; closing = only.closing })
+        f.behind b c)
 
 pub one_more : (time : ℕ) (t : Due × Id) (ts : List (Due × Id)) → nat_le t.0.at time ≡ true → due_ids time (t ∷ ts) ≡ t.1 ∷ due_ids time ts
 one_more time t ts e = rw e refl

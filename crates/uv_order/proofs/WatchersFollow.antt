@@ -1,13 +1,14 @@
 -- The sections of watchers, of async handles and of closing ones: each step goes on from where the state stands.
-use Rattle.std.proofs.Common.{◌≡◌, List, [], ◌∷◌, ◌++◌, drop, None, refl, ap, sym, ◌∙◌, append_assoc, if◌then◌else◌}
-use Rattle.std.proofs.lemmas.Bool.{cond_both}
+use Rattle.std.proofs.Common.{◌≡◌, ◌||◌, Bool, true, false, subst, List, [], ◌∷◌, ◌++◌, drop, None, refl, ap, sym, ◌∙◌, append_assoc, if◌then◌else◌}
+use Rattle.std.proofs.lemmas.Bool.{cond_both, both_ways}
+use Rattle.std.specs.Prelude.{not}
 use Rattle.uv_ids.specs.declared.id.Id.{Id}
 use Rattle.uv_ids.specs.declared.phase.Kind.TheVariants as kind
 use Rattle.uv_ids.specs.declared.phase.Phase.{Phase}
 use Rattle.uv_ids.specs.declared.phase.Phase.TheVariants as phase
 use Rattle.uv_ids.specs.declared.seen.Seen.TheVariants as seen
 use Rattle.uv_ids.specs.declared.seen.Callback.TheVariants as callback
-use Rattle.uv_script.specs.Program.{Program}
+use Rattle.uv_script.specs.Program.{Program, arena_size}
 use Rattle.uv_records.specs.declared.handle.HandleRecord.{HandleRecord}
 use Rattle.uv_model.specs.declared.place.Run.{Run}
 use Rattle.uv_model.specs.declared.place.Stage.{Stage}
@@ -20,40 +21,55 @@ use Rattle.uv_records.specs.declared.lists.WatcherKind.TheVariants as watcher
 use Rattle.uv_records.specs.Handles as records
 use Rattle.uv_records.specs.Lists.{phase_of}
 use Rattle.uv_records.specs.Slots.{freed}
-use Rattle.uv_model.specs.State.{State, LAST_GENERATION, with_handle, front, watched, refreshed}
+use Rattle.uv_records.specs.declared.slot.Slot.{Slot}
+use Rattle.uv_model.specs.declared.content.Content.{Content}
+use Rattle.uv_model.specs.Ids.{same_id}
+use Rattle.uv_model.specs.State.{State, with_handle, front, watched, refreshed}
 use Rattle.uv_model.specs.Timeout.{poll_timeout, deadline_of}
 use Rattle.uv_model.specs.Next as step
 use Rattle.uv_model.specs.Next.{Next, Moves, Refuses, next, goes, is_default, call, calls, first_due, collected, front_moved, may_leave, body_from}
-use Rattle.uv_order.specs.Active.{AreDue}
+use Rattle.uv_order.specs.Active.{has_id, AreDistinct, AreDue}
 use Rattle.uv_order.specs.Documented as doc
-use Rattle.uv_order.specs.Documented.{Told, nothing_told, told_of, told_with, Lasting, lasting, at_first, Section, Entry, In, word_of, part_after, part_of, Walk, Opens, IsOver, CallsNext, MayCall, is_called, callback_in, call_line, Standing, Begun, Within, Polling, MayLeave, PollsFor, Position, Between, Running, Goes, GoesOn, cut, line, Documented, body_of, next_call, taken_off}
+use Rattle.uv_order.specs.Documented.{Told, nothing_told, told_of, told_by, AllOff, AllOffOrUnsent, Lasting, lasting, at_first, Section, Entry, In, word_of, part_after, part_of, Walk, Opens, IsOver, CallsNext, MayCall, is_called, callback_in, call_line, Standing, Begun, Within, Polling, MayLeave, PollsFor, Position, Between, Running, Goes, GoesOn, cut, line, Documented, body_of, next_call, taken_off}
 use Rattle.uv_model.proofs.Found.{found_both}
-use Rattle.uv_order.proofs.IdLists.{left_of, none_off, all_off, each_back}
+use Rattle.uv_order.proofs.IdLists.{left_of, none_off, all_off, each_back, distinct_back, same, itself}
 use Rattle.uv_order.proofs.TimerKeys.{due_ids}
 use Rattle.uv_order.proofs.Holding.{Fits, Everyone}
 use Rattle.uv_order.proofs.OpCases.{kind_as}
 use Rattle.uv_order.proofs.Keeping.{Kept, Watches, Closes, members}
 use Rattle.uv_order.proofs.KeptSteps.{FrontOf, front_of, no_front}
 use Rattle.uv_order.proofs.Counted.{Counted}
-use Rattle.uv_order.proofs.Standing.{bare, begun_with, StandsIn, waiting, rest, Leaves, NobodyLeft, due_now, Follows, IsNext, prepare_next, poll_next, check_next, closing_next, timers_after, are_timers, due_distinct, are_active, are_closing, idle, prepare, polls, async, check, closing, collects, running}
+use Rattle.uv_order.proofs.Sends.{pends, pends_in, pends_there, SentAt, either_right, pass_both, pass_off}
+use Rattle.uv_order.proofs.Standing.{bare, begun_with, async_with, StandsIn, waiting, rest, Leaves, NobodyLeft, due_now, Follows, IsNext, prepare_next, poll_next, check_next, closing_next, timers_after, are_timers, due_distinct, are_active, are_closing, idle, prepare, polls, async, check, closing, collects, running}
 use Rattle.uv_order.proofs.TimersFollow.{named_of, next_of, call_counted, its_body, called}
 
 -- ---- sections of watchers, and of async handles
 
-pub opens_watched : (s t : State) (q : WatcherKind) → Kept s → (watched s q).yet ≡ [] →
-    Opens (phase_of q) (record { before = s; seen = seen.Section (phase_of q); after = t }) (begun_with (watched s q).list)
-opens_watched s t watcher.Idle k e = record { list = (refl, are_active s kind.Idle s.idle e k.idle); off = refl; body = refl }
-opens_watched s t watcher.Prepare k e = record { list = (refl, are_active s kind.Prepare s.prepare e k.prepare); off = refl; body = refl }
-opens_watched s t watcher.Check k e = record { list = (refl, are_active s kind.Check s.check e k.check); off = refl; body = refl }
-opens_watched s t watcher.Async k e = record { list = (refl, are_active s kind.Async s.async e k.async); off = refl; body = refl }
+abbrev pub walk_with : Told → WatcherKind → List Id → Walk
+walk_with told watcher.Async ids = async_with told ids
+walk_with told q ids = begun_with ids
+
+pub opens_watched : (told : Told) (s t : State) (q : WatcherKind) → Kept s → (watched s q).yet ≡ [] →
+    Opens (phase_of q) told (record { before = s; seen = seen.Section (phase_of q); after = t }) (walk_with told q (watched s q).list)
+opens_watched told s t watcher.Idle k e = record { list = (refl, are_active s kind.Idle s.idle e k.idle); off = refl; sent = refl; body = refl }
+opens_watched told s t watcher.Prepare k e = record {
+  list = (refl, are_active s kind.Prepare s.prepare e k.prepare);
+  off = refl;
+  sent = refl;
+  body = refl;
+}
+opens_watched told s t watcher.Check k e = record { list = (refl, are_active s kind.Check s.check e k.check); off = refl; sent = refl; body = refl }
+opens_watched told s t watcher.Async k e = record { list = (refl, are_active s kind.Async s.async e k.async); off = refl; sent = refl; body = refl }
 
 -- such a section begins behind a part that may be left
-pub begin_follows : (p : Program) (told : Told) (s : State) (run : Run) (q : WatcherKind) (at : Standing) → MayLeave s at → IsNext (part_of at) (doc.Of
+pub begin_follows : (p : Program) (told : Told) (s : State) (run : Run) (q : WatcherKind) (at : Standing) → MayLeave s at →
+    IsNext (part_of at) (doc.Of
     (In (phase_of q))) →
-    Kept s → Counted p s.names told → NobodyLeft (rest s.ready s) → Follows p told (Running run.mode run.line at) s (step.begin_walk s run q)
-begin_follows p told s run watcher.Idle at over next k c e = record {
+    Kept s → SentAt told.sent s → Counted p s.names told → NobodyLeft (rest s.ready s) →
+    Follows p told (Running run.mode run.line at) s (step.begin_walk s run q)
+begin_follows p told s run watcher.Idle at over next k h c e = record {
   to = Running run.mode run.line (Within (In phase.Idle) (begun_with s.idle.list));
-  goes = doc.section (In phase.Idle) over (next run.mode (goes s)) refl (opens_watched s _ watcher.Idle k e.idle) refl;
+  goes = doc.section (In phase.Idle) over (next run.mode (goes s)) refl (opens_watched told s _ watcher.Idle k e.idle) refl;
   stands = record {
     stands = running (idle refl) (record {
       timers = e.timers;
@@ -66,9 +82,9 @@ begin_follows p told s run watcher.Idle at over next k c e = record {
     counted = c;
   };
 }
-begin_follows p told s run watcher.Prepare at over next k c e = record {
+begin_follows p told s run watcher.Prepare at over next k h c e = record {
   to = Running run.mode run.line (Within (In phase.Prepare) (begun_with s.prepare.list));
-  goes = doc.section (In phase.Prepare) over (next run.mode (goes s)) refl (opens_watched s _ watcher.Prepare k e.prepare) refl;
+  goes = doc.section (In phase.Prepare) over (next run.mode (goes s)) refl (opens_watched told s _ watcher.Prepare k e.prepare) refl;
   stands = record {
     stands = running (prepare refl) (record {
       timers = e.timers;
@@ -81,9 +97,9 @@ begin_follows p told s run watcher.Prepare at over next k c e = record {
     counted = c;
   };
 }
-begin_follows p told s run watcher.Check at over next k c e = record {
+begin_follows p told s run watcher.Check at over next k h c e = record {
   to = Running run.mode run.line (Within (In phase.Check) (begun_with s.check.list));
-  goes = doc.section (In phase.Check) over (next run.mode (goes s)) refl (opens_watched s _ watcher.Check k e.check) refl;
+  goes = doc.section (In phase.Check) over (next run.mode (goes s)) refl (opens_watched told s _ watcher.Check k e.check) refl;
   stands = record {
     stands = running (check refl) (record {
       timers = e.timers;
@@ -96,16 +112,23 @@ begin_follows p told s run watcher.Check at over next k c e = record {
     counted = c;
   };
 }
-begin_follows p told s run watcher.Async at over next k c e = record {
-  to = Running run.mode run.line (Within (In phase.Async) (begun_with s.async.list));
-  goes = doc.section (In phase.Async) over (next run.mode (goes s)) refl (opens_watched s _ watcher.Async k e.async) refl;
+begin_follows p told s run watcher.Async at over next k h c e = record {
+  to = Running run.mode run.line (Within (In phase.Async) (async_with told s.async.list));
+  goes = doc.section (In phase.Async) over (next run.mode (goes s)) refl (opens_watched told s _ watcher.Async k e.async) refl;
   stands = record {
     stands = running (async refl) (record {
       timers = e.timers;
       idle = e.idle;
       prepare = e.prepare;
       check = e.check;
-      async = record { gone = []; behind = s.async.list; all = refl; left = sym (none_off s.async.list) };
+      async = record {
+        gone = [];
+        behind = s.async.list;
+        all = refl;
+        left = sym (none_off s.async.list);
+        passed = tt;
+        still = λ id on was. sym (h.are id) ∙ was;
+      };
       closing = e.closing;
     });
     counted = c;
@@ -115,7 +138,7 @@ begin_follows p told s run watcher.Async at over next k c e = record {
 -- a section without callbacks begins behind a part that may be left
 pub bare_follows : (p : Program) (told : Told) (s t : State) (run : Run) (x : Stage) (word : Phase) (at : Standing) → MayLeave s at → IsNext (part_of
     at) (doc.Of (In word)) →
-    Opens word (record { before = s; seen = seen.Section word; after = step.at t run x }) bare → lasting t ≡ doc.after_line word s →
+    Opens word told (record { before = s; seen = seen.Section word; after = step.at t run x }) bare → lasting t ≡ doc.after_line word s →
     StandsIn p None x (Within (In word) bare) → Leaves (rest (waiting x t.ready (due_now t)) t) (Within (In word) bare) → Counted p t.names told →
     Follows p told (Running run.mode run.line at) s (step.begins t run x word)
 bare_follows p told s t run x word at over next opens lasts stands left c = record {
@@ -152,7 +175,7 @@ pub closing_begins : (p : Program) (told : Told) (s : State) (run : Run) (w : Wa
 closing_begins p told s run w over k c e = record {
   to = Running run.mode run.line (Within (In phase.Closing) (begun_with s.closing.list));
   goes = doc.section (In phase.Closing) over (closing_next run.mode (goes s)) refl
-      (record { list = (refl, are_closing s e.closing k); off = refl; body = refl }) refl;
+      (record { list = (refl, are_closing s e.closing k); off = refl; sent = refl; body = refl }) refl;
   stands = record {
     stands = running (closing refl) (record {
       timers = e.timers;
@@ -166,13 +189,14 @@ closing_begins p told s run w over k c e = record {
   };
 }
 
-pub after_follows : (p : Program) (told : Told) (s : State) (run : Run) (q : WatcherKind) (w : Walk) → IsOver (phase_of q) w → Kept s → Counted p
-    s.names told →
+pub after_follows : (p : Program) (told : Told) (s : State) (run : Run) (q : WatcherKind) (w : Walk) → IsOver (phase_of q) w → Kept s →
+    SentAt told.sent s → Counted p s.names told →
     NobodyLeft (rest s.ready s) → Follows p told (Running run.mode run.line (Within (In (phase_of q)) w)) s (step.after_walk s run q)
-after_follows p told s run watcher.Idle w over k c e = begin_follows p told s run watcher.Prepare (Within (In phase.Idle) w) over prepare_next k c e
-after_follows p told s run watcher.Prepare w over k c e = poll_follows p told s run w over k c e
-after_follows p told s run watcher.Check w over k c e = closing_begins p told s run w over k c e
-after_follows p told s run watcher.Async w over k c e = begin_follows p told s run watcher.Check (Within (In phase.Async) w) over check_next k c e
+after_follows p told s run watcher.Idle w over k h c e =
+    begin_follows p told s run watcher.Prepare (Within (In phase.Idle) w) over prepare_next k h c e
+after_follows p told s run watcher.Prepare w over k h c e = poll_follows p told s run w over k c e
+after_follows p told s run watcher.Check w over k h c e = closing_begins p told s run w over k c e
+after_follows p told s run watcher.Async w over k h c e = begin_follows p told s run watcher.Check (Within (In phase.Async) w) over check_next k h c e
 
 -- an idle, prepare or check handle
 abbrev pub IsPlain : WatcherKind → Type 0
@@ -210,7 +234,7 @@ call_watcher p told s run watcher.Idle w t d st f l b c =
           async = l.async;
           closing = l.closing;
         }));
-        counted = call_counted p told s callback.Handle v c;
+        counted = call_counted p told s callback.Handle v t.0 c;
       };
     }
 call_watcher p told s run watcher.Prepare w t d st f l b c =
@@ -238,7 +262,7 @@ call_watcher p told s run watcher.Prepare w t d st f l b c =
           async = l.async;
           closing = l.closing;
         }));
-        counted = call_counted p told s callback.Handle v c;
+        counted = call_counted p told s callback.Handle v t.0 c;
       };
     }
 call_watcher p told s run watcher.Check w t d st f l b c =
@@ -266,12 +290,13 @@ call_watcher p told s run watcher.Check w t d st f l b c =
           async = l.async;
           closing = l.closing;
         }));
-        counted = call_counted p told s callback.Handle v c;
+        counted = call_counted p told s callback.Handle v t.0 c;
       };
     }
 
 -- the list of a kind is the one that its section walks
-pub own_list : (s : State) (q : WatcherKind) (w : Walk) → IsPlain q → Leaves (rest s.ready s) (Within (In (phase_of q)) w) → (watched s q).yet ≡ left_of
+pub own_list : (s : State) (q : WatcherKind) (w : Walk) → IsPlain q → Leaves (rest s.ready s) (Within (In (phase_of q)) w) →
+    (watched s q).yet ≡ left_of
     w.ahead w.off
 own_list s watcher.Idle w d l = l.idle
 own_list s watcher.Prepare w d l = l.prepare
@@ -298,27 +323,62 @@ everyone s watcher.Prepare k = k.prepare
 everyone s watcher.Check k = k.check
 everyone s watcher.Async k = k.async
 
-pub walk_follows : (p : Program) (told : Told) (s : State) (run : Run) (q : WatcherKind) (w : Walk) → IsPlain q → run.stage ≡ step.stage_of q → Kept s →
-    Counted p s.names told →
+pub walk_follows : (p : Program) (told : Told) (s : State) (run : Run) (q : WatcherKind) (w : Walk) → IsPlain q →
+    run.stage ≡ step.stage_of q → Kept s →
+    SentAt told.sent s → Counted p s.names told →
     Leaves (rest s.ready s) (Within (In (phase_of q)) w) → w.body ≡ [] → Follows p told (Running run.mode run.line (Within (In (phase_of q)) w)) s
     (step.walk p s run q)
-walk_follows p told s run q w d st k c l b = found_both (front s (watched s q).yet) _ _ (Follows p told (Running run.mode run.line (Within (In
+walk_follows p told s run q w d st k h c l b = found_both (front s (watched s q).yet) _ _ (Follows p told (Running run.mode run.line (Within (In
     (phase_of q)) w)) s)
     (λ t e. call_watcher p told s run q w t d st (front_of s (watched s q).yet t e) l b c)
     (λ e. let each = each_back (Fits s.arena.slots (Watches (kind_as q))) (watched s q).list (watched s q).yet (everyone s q k).lists.each in
     let none : (watched s q).yet ≡ [] = no_front s (Watches (kind_as q)) (watched s q).yet each e in
-    after_follows p told s run q w (plain_over q w d b (all_off w.ahead w.off (sym (own_list s q w d l) ∙ none))) k c (none_own s q w d none l))
+    after_follows p told s run q w (plain_over q w d b (all_off w.ahead w.off (sym (own_list s q w d l) ∙ none))) k h c (none_own s q w d none l))
+
+-- ---- the front of those yet to run, and who is behind it
+
+in_front : (s : State) (ids : List Id) (t : Id × HandleRecord) → FrontOf s ids t → has_id ids t.0 ≡ true
+in_front s ids t f = ap (λ (is : List Id). has_id is t.0) f.are ∙ rw (itself t.0 t.0 refl) refl
+
+in_all : (s : State) (ids : List Id) (t : Id × HandleRecord) (id : Id) → FrontOf s ids t → has_id (drop 1 ids) id ≡ true → has_id ids id ≡ true
+in_all s ids t id f e = ap (λ (is : List Id). has_id is id) f.are
+    ∙ either_right (same_id t.0 id) (has_id f.rest id) (ap (λ (is : List Id). has_id is id) (sym f.behind) ∙ e)
+
+apart : (s : State) (ids : List Id) (t : Id × HandleRecord) (id : Id) → FrontOf s ids t → AreDistinct ids → has_id (drop 1 ids) id ≡ true →
+    same_id id t.0 ≡ false
+apart s ids t id f d e = at (same_id id t.0) refl where
+  at : (b : Bool) → same_id id t.0 ≡ b → b ≡ false
+  at true g =
+      let once : AreDistinct (t.0 ∷ f.rest) = subst AreDistinct f.are d in
+      let here : has_id f.rest t.0 ≡ true = ap (has_id f.rest) (sym (same id t.0 g)) ∙ ap (λ (is : List Id). has_id is id) (sym f.behind) ∙ e in
+      absurd (both_ways (has_id f.rest t.0) once.0 here)
+  at false g = refl
+
+-- the front, where it isn't pending, wasn't sent to before the section began
+not_sent : (slots : List (Slot Content)) (w : Walk) (t : Id × HandleRecord) → t.1.pending ≡ false → pends slots t.0 ≡ t.1.pending →
+    (has_id w.sent t.0 ≡ true → pends slots t.0 ≡ true) → has_id w.off t.0 ≡ false → (has_id w.off t.0 || not (has_id w.sent t.0)) ≡ true
+not_sent slots w t off is still on = at (has_id w.sent t.0) refl where
+  at : (b : Bool) → has_id w.sent t.0 ≡ b → (has_id w.off t.0 || not b) ≡ true
+  at true e = absurd (both_ways (pends slots t.0) (is ∙ off) (still e))
+  at false e = rw on refl
 
 -- an async handle is called, or passed by without a line
-pub async_follows : (p : Program) (told : Told) (s : State) (run : Run) (w : Walk) → run.stage ≡ stage.Async → Kept s → Counted p s.names told →
+pub async_follows : (p : Program) (told : Told) (s : State) (run : Run) (w : Walk) → run.stage ≡ stage.Async → Kept s → SentAt told.sent s →
+    Counted p s.names told →
     Leaves (rest s.ready s) (Within (In phase.Async) w) → w.body ≡ [] → Follows p told (Running run.mode run.line (Within (In phase.Async) w)) s
     (step.walk_async p s run)
-async_follows p told s run w st k c l b = found_both (front s s.async.yet) _ _ (Follows p told (Running run.mode run.line (Within (In phase.Async)
+async_follows p told s run w st k h c l b = found_both (front s s.async.yet) _ _ (Follows p told (Running run.mode run.line (Within (In phase.Async)
     w)) s)
     (λ t e. at t (front_of s s.async.yet t e))
     (λ e. let each = each_back (Fits s.arena.slots (Watches kind.Async)) s.async.list s.async.yet k.async.lists.each in
     let none : s.async.yet ≡ [] = no_front s (Watches kind.Async) s.async.yet each e in
-    after_follows p told s run watcher.Async w (record { done = b; may_pass = tt }) k c (record {
+    let a = l.async in
+    let off : AllOff w.off a.behind = all_off a.behind w.off (sym a.left ∙ none) in
+    let passes = pass_both w.off w.sent a.gone a.behind a.passed (pass_off w.off w.sent a.behind off) in
+    after_follows p told s run watcher.Async w (record {
+      done = b;
+      may_pass = subst (AllOffOrUnsent w.off w.sent) (sym a.all) passes;
+    }) k h c (record {
       timers = l.timers;
       idle = l.idle;
       prepare = l.prepare;
@@ -336,6 +396,10 @@ async_follows p told s run w st k c l b = found_both (front s s.async.yet) _ _ (
         let next = next_of later t.0 f.rest (sym a.left ∙ f.are) in
         let all : w.ahead ≡ (a.gone ++ next.passed) ++ t.0 ∷ next.behind =
         a.all ∙ ap (λ (ids : List Id). a.gone ++ ids) next.list ∙ sym (append_assoc a.gone next.passed (t.0 ∷ next.behind)) in
+        let passes = pass_both w.off w.sent a.gone next.passed a.passed (pass_off w.off w.sent next.passed next.off) in
+        let distinct = distinct_back s.async.list s.async.yet k.async.lists.distinct in
+        let unsent : t.1.pending ≡ false → (has_id w.off t.0 || not (has_id w.sent t.0)) ≡ true =
+        λ off. not_sent s.arena.slots w t off (ap pends_in f.holds) (a.still t.0 (in_front s s.async.yet t f)) next.on in
         cond_both t.1.pending _ _ (Follows p told (Running run.mode run.line (Within (In phase.Async) w)) s)
         (λ on. let v = t.1.name in
         record {
@@ -345,10 +409,10 @@ async_follows p told s run w st k c l b = found_both (front s s.async.yet) _ _ (
                 done = b;
                 passed = a.gone ++ next.passed;
                 list = all;
-                may_pass = tt;
+                may_pass = passes;
                 may_call = record {
                   on = next.on;
-                  called = ap doc.pends_in f.holds ∙ on;
+                  called = h.are t.0 ∙ ap pends_in f.holds ∙ on;
                 };
               })
               (named_of s t f.holds) refl refl;
@@ -364,10 +428,14 @@ async_follows p told s run w st k c l b = found_both (front s s.async.yet) _ _ (
                     behind = next.behind;
                     all = refl;
                     left = f.behind ∙ next.left;
+                    passed = tt;
+                    still = λ id behind was. pends_there s.arena.slots t.0 id t.1 (records.woken t.1) f.holds
+                        (apart s s.async.yet t id f distinct behind)
+                        ∙ a.still id (in_all s s.async.yet t id f behind) was;
                   };
                   closing = l.closing;
                 }));
-            counted = call_counted p told s callback.Handle v c;
+            counted = call_counted p told s callback.Handle v t.0 c;
           };
         })
         (λ off. (
@@ -382,6 +450,8 @@ async_follows p told s run w st k c l b = found_both (front s s.async.yet) _ _ (
                 behind = next.behind;
                 all = all ∙ sym (append_assoc (a.gone ++ next.passed) (t.0 ∷ []) next.behind);
                 left = f.behind ∙ next.left;
+                passed = pass_both w.off w.sent (a.gone ++ next.passed) (t.0 ∷ []) passes (unsent off, tt);
+                still = λ id behind was. a.still id (in_all s s.async.yet t id f behind) was;
               };
               closing = l.closing;
             });
@@ -398,7 +468,13 @@ pub timers_begin : (p : Program) (told : Told) (s : State) (run : Run) (w : Walk
     Follows p told (Running run.mode run.line (Within (In phase.Closing) w)) s (step.begin_timers s run)
 timers_begin p told s run w over k c e = record {
   to = Running run.mode run.line (Within (In phase.Timers) (begun_with (due_ids s.clock s.timers)));
-  goes = doc.section (In phase.Timers) over (timers_after run.mode (goes s)) refl (record { list = due_list; off = refl; body = refl }) refl;
+  goes = doc.section (In phase.Timers) over (timers_after run.mode (goes s)) refl (record {
+    list = due_list;
+    off = refl;
+    sent = refl;
+    body =
+        refl;
+  }) refl;
   stands = record {
     stands = running (collects refl) (record {
       timers = ap (λ (ids : List Id). ids ++ due_ids s.clock s.timers) e.timers ∙ sym (none_off (due_ids
@@ -439,7 +515,7 @@ closing_follows p told s run w st k c l b = found_both (front s s.closing.yet) _
   where
     at : (t : Id × HandleRecord) → FrontOf s s.closing.yet t → Follows p told (Running run.mode run.line (Within (In phase.Closing) w)) s
         (calls p (record s {
-          arena = freed LAST_GENERATION t.0 s.arena;
+          arena = freed (arena_size p).last_generation t.0 s.arena;
           closing = record s.closing { yet = drop 1 s.closing.yet };
         }) run callback.Close t.1.name (seen.Closed t.1.name t.0))
     at t f =
@@ -467,6 +543,6 @@ closing_follows p told s run w st k c l b = found_both (front s s.closing.yet) _
               async = l.async;
               closing = f.behind ∙ next.left;
             }));
-            counted = call_counted p told s callback.Close v c;
+            counted = call_counted p told s callback.Close v t.0 c;
           };
         }

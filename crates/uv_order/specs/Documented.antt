@@ -9,7 +9,7 @@ use Rattle.uv_ids.specs.declared.due.Due.{Due}
 use Rattle.uv_ids.specs.declared.code.Code.{Code}
 use Rattle.uv_ids.specs.declared.code.Code.TheVariants.{Ok as Success}
 use Rattle.uv_ids.specs.declared.code.Answer.{Answer}
-use Rattle.uv_ids.specs.declared.code.Answer.TheVariants.{Code as Says}
+use Rattle.uv_ids.specs.declared.code.Answer.TheVariants.{Code as Says, Id as Made}
 use Rattle.uv_ids.specs.declared.phase.Kind.TheVariants as kind
 use Rattle.uv_ids.specs.declared.phase.Mode.{Mode}
 use Rattle.uv_ids.specs.declared.phase.Mode.TheVariants.{Default, Once, Nowait}
@@ -27,7 +27,7 @@ use Rattle.uv_script.specs.declared.op.MainOp.TheVariants as main
 use Rattle.uv_script.specs.declared.op.CallbackLine.{CallbackLine}
 use Rattle.uv_script.specs.Program.{Program, lines_in, is_for, op_at}
 use Rattle.uv_records.specs.declared.handle.HandleRecord.{HandleRecord}
-use Rattle.uv_model.specs.Ids.{has_some}
+use Rattle.uv_model.specs.Ids.{has_some, without_id}
 use Rattle.uv_model.specs.State.{State, handle, named}
 use Rattle.uv_model.specs.Timeout.{is_alive, has_pending, poll_timeout_by, deadline_of, has_passed}
 use Rattle.uv_order.specs.Line.{Line}
@@ -85,6 +85,16 @@ after_end s = record (lasting s) { stop_flag = false }
 abbrev pub after_tick : ℕ → State → Lasting
 after_tick ms s = record (lasting s) { clock = s.clock + ms }
 
+-- ---- names
+
+-- the id that a name is bound to
+abbrev pub ids_of : State → Option Var → List Id
+ids_of s None = []
+ids_of s (Some v) = ids_or_none (named s v).id where
+  ids_or_none : Option Id → List Id
+  ids_or_none None = []
+  ids_or_none (Some id) = id ∷ []
+
 -- ---- what the lines have told
 
 pub record Told : Type 0 where
@@ -92,9 +102,11 @@ pub record Told : Type 0 where
   pub called : List Var
   -- the names whose close callback was called, the last one first
   pub closed : List Var
+  -- the handles that were sent to since they were made and since their last call, and that weren't closed
+  pub sent : List Id
 
 abbrev pub nothing_told : Told
-nothing_told = record { called = []; closed = [] }
+nothing_told = record { called = []; closed = []; sent = [] }
 
 -- the names of which this callback was called
 abbrev pub told_of : Callback → Told → List Var
@@ -110,17 +122,37 @@ times (x ∷ xs) v = if x.0 == v.0 then suc (times xs v) else times xs v
 abbrev pub next_call : Told → Callback → Var → ℕ
 next_call told kind v = times (told_of kind told) v + 1
 
--- with one line more: a call is one more of its name
-abbrev pub told_with : Told → Seen → Told
-told_with told (seen.Call v id) = record told { called = v ∷ told.called }
-told_with told (seen.Closed v id) = record told { closed = v ∷ told.closed }
-told_with told (seen.Op place a) = told
-told_with told (seen.Run m) = told
-told_with told (seen.Section word) = told
-told_with told (seen.Poll timeout) = told
-told_with told (seen.End alive) = told
-told_with told (seen.Send v code) = told
-told_with told (seen.Tick ms) = told
+-- these without those
+abbrev pub without_ids : List Id → List Id → List Id
+without_ids ids [] = ids
+without_ids ids (gone ∷ more) = without_id (without_ids ids more) gone
+
+-- who is sent to after an op: one more by an accepted `send` (uv_async_send), and one less by an accepted `close`; nobody has sent to a
+-- handle that is made
+abbrev pub sent_by : Op → Answer → State → List Id → List Id
+sent_by (op.Send v) (Says Success) s sent = ids_of s (Some v) ++ sent
+sent_by (op.Close v) (Says Success) s sent = without_ids sent (ids_of s (Some v))
+sent_by (op.Init v kind) (Made id) s sent = without_id sent id
+sent_by o a s sent = sent
+
+abbrev pub sent_after : Option Op → Answer → State → List Id → List Id
+sent_after None a s sent = sent
+sent_after (Some o) a s sent = sent_by o a s sent
+
+-- with one line more: a call is one more of its name, and takes in what was sent
+abbrev pub told_by : Program → Told → State → Seen → Told
+told_by p told s (seen.Call v id) = record told { called = v ∷ told.called; sent = without_id told.sent id }
+told_by p told s (seen.Closed v id) = record told { closed = v ∷ told.closed }
+told_by p told s (seen.Op place a) = record told { sent = sent_after (op_at p place) a s told.sent }
+told_by p told s (seen.Send v code) = record told { sent = sent_by (op.Send v) (Says code) s told.sent }
+told_by p told s (seen.Run m) = told
+told_by p told s (seen.Section word) = told
+told_by p told s (seen.Poll timeout) = told
+told_by p told s (seen.End alive) = told
+told_by p told s (seen.Tick ms) = told
+
+abbrev pub told_with : Program → Told → Line → Told
+told_with p told l = told_by p told l.before l.seen
 
 -- ---- bodies
 
@@ -215,13 +247,6 @@ off_by phase.Timers (op.Start v timeout repeat) = Some v
 off_by phase.Timers (op.Again v) = Some v
 off_by word o = None
 
-abbrev pub ids_of : State → Option Var → List Id
-ids_of s None = []
-ids_of s (Some v) = ids_or_none (named s v).id where
-  ids_or_none : Option Id → List Id
-  ids_or_none None = []
-  ids_or_none (Some id) = id ∷ []
-
 abbrev pub taken_off : Phase → State → Op → Answer → List Id
 taken_off word s o (Says Success) = ids_of s (off_by word o)
 taken_off word s o a = []
@@ -232,21 +257,21 @@ pub record Walk : Type 0 where
   pub ahead : List Id
   -- whom an op of the section took off its list
   pub off : List Id
+  -- who was sent to as the section began; an async section asks for it
+  pub sent : List Id
   -- the ops of the callback under way that are still to be done
   pub body : List Site
 
--- the id is that of an async handle that was sent to, and not called since
-abbrev pub pends_in : Option HandleRecord → Bool
-pends_in None = false
-pends_in (Some h) = h.pending
-
-abbrev pub is_pending : State → Id → Bool
-is_pending s id = pends_in (handle s id)
+-- who was sent to as a section of this word begins, where that counts
+abbrev pub sent_at : Phase → Told → List Id
+sent_at phase.Async told = told.sent
+sent_at word told = []
 
 -- a section as it begins: nobody was called, and nobody taken off
-pub record Opens (word : Phase) (l : Line) (w : Walk) : Type 0 where
+pub record Opens (word : Phase) (told : Told) (l : Line) (w : Walk) : Type 0 where
   pub list : HasList word l w.ahead
   pub off : w.off ≡ []
+  pub sent : w.sent ≡ sent_at word told
   pub body : w.body ≡ []
 
 -- each of these was taken off
@@ -254,27 +279,32 @@ abbrev pub AllOff : List Id → List Id → Type 0
 AllOff off [] = Unit {0}
 AllOff off (id ∷ ids) = (has_id off id ≡ true) × AllOff off ids
 
--- who may be passed by: whoever was taken off; in async everybody, since one that isn't pending at its turn isn't called
+-- each of these was taken off, or not sent to
+abbrev pub AllOffOrUnsent : List Id → List Id → List Id → Type 0
+AllOffOrUnsent off sent [] = Unit {0}
+AllOffOrUnsent off sent (id ∷ ids) = ((has_id off id || not (has_id sent id)) ≡ true) × AllOffOrUnsent off sent ids
+
+-- who may be passed by: whoever was taken off; in async also whoever wasn't sent to before the section began
 abbrev pub MayPass : Phase → Walk → List Id → Type 0
-MayPass phase.Async w ids = Unit {0}
+MayPass phase.Async w ids = AllOffOrUnsent w.off w.sent ids
 MayPass word w ids = AllOff w.off ids
 
--- who may be called: nobody who was taken off, and in async only who is pending
-abbrev pub is_called : Phase → State → Id → Bool
-is_called phase.Async s id = is_pending s id
-is_called word s id = true
+-- who may be called: nobody who was taken off, and in async only who was sent to, in the section or before
+abbrev pub is_called : Phase → Told → Id → Bool
+is_called phase.Async told id = has_id told.sent id
+is_called word told id = true
 
-pub record MayCall (word : Phase) (s : State) (w : Walk) (id : Id) : Type 0 where
+pub record MayCall (word : Phase) (told : Told) (w : Walk) (id : Id) : Type 0 where
   pub on : has_id w.off id ≡ false
-  pub called : is_called word s id ≡ true
+  pub called : is_called word told id ≡ true
 
 -- a callback may begin: the ops of the last one are done; those before the member called may be passed by, and these are behind it
-pub record CallsNext (word : Phase) (s : State) (w : Walk) (id : Id) (behind : List Id) : Type 0 where
+pub record CallsNext (word : Phase) (told : Told) (w : Walk) (id : Id) (behind : List Id) : Type 0 where
   pub done : w.body ≡ []
   pub passed : List Id
   pub list : w.ahead ≡ passed ++ id ∷ behind
   pub may_pass : MayPass word w passed
-  pub may_call : MayCall word s w id
+  pub may_call : MayCall word told w id
 
 -- a section may be left: the ops of the last callback are done, and whoever wasn't called may be passed by
 pub record IsOver (word : Phase) (w : Walk) : Type 0 where
@@ -348,7 +378,7 @@ pub data Goes (p : Program) (told : Told) : Position → Line → Position → T
       → MayLeave l.before at
       → part_after m (goes_on l.before) (part_of at) ≡ Of next
       → l.seen ≡ seen.Section (word_of next)
-      → Opens (word_of next) l w
+      → Opens (word_of next) told l w
       → lasting l.after ≡ after_section next l.before
       → Goes p told (Running m i at) l (Running m i (Within next w))
   -- the poll begins, with the timeout that the loop has then
@@ -369,7 +399,7 @@ pub data Goes (p : Program) (told : Told) : Position → Line → Position → T
   -- a callback of the section begins
   call : {l : Line} {m : Mode} {i : ℕ} {part : Section} {w : Walk} (kind : Callback) (v : Var) (id : Id) (behind : List Id)
       → callback_in (word_of part) ≡ kind
-      → CallsNext (word_of part) l.before w id behind
+      → CallsNext (word_of part) told w id behind
       → IsOf l.before id v
       → l.seen ≡ call_line kind v id
       → lasting l.after ≡ lasting l.before
@@ -402,7 +432,7 @@ pub data GoesOn (p : Program) : Position → Told → Lasting → List Line → 
   line : {at to : Position} {told : Told} {was : Lasting} {l : Line} {ls : List Line}
       → lasting l.before ≡ was
       → Goes p told at l to
-      → GoesOn p to (told_with told l.seen) (lasting l.after) ls
+      → GoesOn p to (told_with p told l) (lasting l.after) ls
       → GoesOn p at told was (l ∷ ls)
 
 -- the lines of a trace are in the documented order

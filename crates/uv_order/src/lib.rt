@@ -1,6 +1,9 @@
-//! The documented order of phases: a grammar over the lines of a trace, and that the lines of every list of steps keep it.
+//! The documented order of phases, a grammar over the lines of a trace, and what happens once by these lines; and that the lines of
+//! every list of steps keep both.
 #![tactic(auto)]
 
+mod once;
 mod phase_order;
 
+pub use once::closes_once;
 pub use phase_order::documented_order;

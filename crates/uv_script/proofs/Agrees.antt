@@ -13,8 +13,9 @@ use Rattle.uv_ids.specs.Words.{kind_word, mode_word}
 use Rattle.uv_script.specs.declared.op.Op.{Op}
 use Rattle.uv_script.specs.declared.op.Op.TheVariants as op
 use Rattle.uv_script.specs.declared.op.MainOp.TheVariants as main
-use Rattle.uv_script.specs.Grammar.{Statement, Declares, InMain, InCallback, named_word, bare_word, IsOp, init, start, repeat, on_name, bare, callback_word, Says, declares, in_main, runs, closes_loop, in_callback, in_call}
-use Rattle.uv_script.specs.Reading.{first_of, none_left, place_of, kind_of, mode_of, init_of, timer_start_of, start_by, start_of, repeat_of, bare_op, named_op, name_alone, short_op_of, op_of, declaration_of, run_of, close_loop_of, main_by, main_of, call_of, marked, in_calls_of, in_call_of, calls_of, callback_of, statement_of}
+use Rattle.uv_script.specs.Grammar.{Statement, Declares, InMain, InCallback, Sizes, named_word, bare_word, IsOp, init, start, repeat, on_name, bare, callback_word, Says, declares, in_main, runs, closes_loop, in_callback, in_call, sizes, sizes_to}
+use Rattle.uv_script.specs.Reading.{first_of, none_left, place_of, kind_of, mode_of, init_of, timer_start_of, start_by, start_of, repeat_of, bare_op, named_op, name_alone, short_op_of, op_of, declaration_of, run_of, close_loop_of, main_by, main_of, call_of, marked, in_calls_of, in_call_of, calls_of, callback_of, last_of, size_of, statement_of}
+use Rattle.uv_script.specs.Program.{IsSlotCount, LAST_GENERATION}
 use Rattle.uv_script.specs.Checks.{is_name, number_of}
 use Rattle.uv_script.specs.Words.{IsName, IsNumber, IsDeclared}
 use Rattle.uv_script.proofs.OpWords.{named_op-sound, bare_op-sound}
@@ -272,6 +273,44 @@ callback_sound names kind fields s e =
     subst (λ (r : List (List ℕ)). Says names (callback_word kind ∷ r) s) (sym (a ∙ ap (λ r. name.0.0 ∷ r) b))
     (calls_sound names kind name.0.0 v.0 word.0.0 word.0.1 s (marked word.0.0) (place_of-sound names name.0.0 v.0 v.1) refl word.2)
 
+-- the fields behind the number of slots: the last generation, or none
+data LastField (fields : List (List ℕ)) (g : ℕ) : Type 0 where
+  left_out : fields ≡ [] → g ≡ LAST_GENERATION → LastField fields g
+  said_last : (last : List ℕ) → fields ≡ last ∷ [] → IsNumber last g → g < 2 ^ 32 → LastField fields g
+
+last_sound : (fields : List (List ℕ)) (g : ℕ) → last_of fields ≡ Some g → LastField fields g
+unfolding last_of
+last_sound [] g e = left_out refl (sym (same_Some _ _ e))
+last_sound (last ∷ fields) g e =
+    let number = bound _ (number_of last) g e in
+    let end = bound _ (none_left fields) g number.2 in
+    let p = cond_some (nat_lt number.0 4294967296) number.0 g end.2 in
+    let is = number_of-sound last number.0 number.1 in
+    said_last last (ap (λ r. last ∷ r) (none_is fields end.0 end.1)) (subst (IsNumber last) p.1 is)
+    (subst (λ (n : ℕ). n < 2 ^ 32) p.1 (ltb-true number.0 4294967296 p.0))
+
+size_says : (names : List (List ℕ)) (slots : List ℕ) (fields : List (List ℕ)) (n g : ℕ) → IsNumber slots n → IsSlotCount n → LastField fields g →
+    Says names (codes "slots" ∷ slots ∷ fields) (Sizes (record { slots = n; last_generation = g }))
+size_says names slots fields n g is fits (left_out e last) =
+    subst (λ (m : ℕ). Says names (codes "slots" ∷ slots ∷ fields) (Sizes (record { slots = n; last_generation = m }))) (sym last)
+    (sizes slots n (ap (λ r. codes "slots" ∷ slots ∷ r) e) is fits)
+size_says names slots fields n g is fits (said_last last e last_is small) =
+    sizes_to slots last n g (ap (λ r. codes "slots" ∷ slots ∷ r) e) is fits last_is small
+
+size_sound : (names fields : List (List ℕ)) (s : Statement) → size_of fields ≡ Some s → Says names (codes "slots" ∷ fields) s
+unfolding size_of
+size_sound names fields s e =
+    let slots = bound _ (first_of fields) s e in
+    let n = bound _ (number_of slots.0.0) s slots.2 in
+    let g = bound _ (last_of slots.0.1) s n.2 in
+    let a = first_is fields slots.0 slots.1 in
+    let p = cond_some (nat_le 1 n.0 && nat_le n.0 65535) (Sizes (record { slots = n.0; last_generation = g.0 })) s g.2 in
+    let tests = and_parts (nat_le 1 n.0) (nat_le n.0 65535) p.0 in
+    subst (λ (r : List (List ℕ)). Says names (codes "slots" ∷ r) s) (sym a)
+    (subst (Says names (codes "slots" ∷ slots.0.0 ∷ slots.0.1)) p.1
+    (size_says names slots.0.0 slots.0.1 n.0 g.0 (number_of-sound slots.0.0 n.0 n.1)
+    (leb-true 1 n.0 tests.0, leb-true n.0 65535 tests.1) (last_sound slots.0.1 g.0 g.1)))
+
 says_word : (names : List (List ℕ)) (this word : List ℕ) (fields : List (List ℕ)) (s : Statement) → word ≡ this → Says names (this ∷ fields) s →
     Says names (word ∷ fields) s
 says_word names this word fields s e is = subst (λ (w : List ℕ). Says names (w ∷ fields) s) (sym e) is
@@ -288,9 +327,12 @@ statement_sound names fields s e =
         | inl is ↦ says_word names (codes "main") word.0.0 word.0.1 s is.0 (main_sound names word.0.1 s is.1)
         | inr e'' ↦ elim (choice_cases word.0.0 (codes "on") _ _ (Some s) e'') [
           | inl is ↦ says_word names (codes "on") word.0.0 word.0.1 s is.0 (callback_sound names callback.Handle word.0.1 s is.1)
-          | inr last ↦ elim (choice_cases word.0.0 (codes "closed") _ _ (Some s) last) [
+          | inr e''' ↦ elim (choice_cases word.0.0 (codes "closed") _ _ (Some s) e''') [
             | inl is ↦ says_word names (codes "closed") word.0.0 word.0.1 s is.0 (callback_sound names callback.Close word.0.1 s is.1)
-            | inr wrong ↦ cc
+            | inr last ↦ elim (choice_cases word.0.0 (codes "slots") _ _ (Some s) last) [
+              | inl is ↦ says_word names (codes "slots") word.0.0 word.0.1 s is.0 (size_sound names word.0.1 s is.1)
+              | inr wrong ↦ cc
+            ]
           ]
         ]
       ]
@@ -463,6 +505,18 @@ in_call_complete : (names : List (List ℕ)) (kind : Callback) (name : List ℕ)
 unfolding callback_of calls_of in_call_of in_calls_of
 in_call_complete names kind name v digits k rest o distinct is call p = rw (place_complete names name v distinct is, call, p.parts, p.reads) refl
 
+last_complete : (last : List ℕ) (g : ℕ) → IsNumber last g → g < 2 ^ 32 → last_of (last ∷ []) ≡ Some g
+unfolding last_of
+last_complete last g is small = rw (number_of-complete last g is) (ap (λ b. cond b (Some g) None) (lt-ltb g 4294967296 small))
+
+size_complete : (slots : List ℕ) (fields : List (List ℕ)) (n g : ℕ) → IsNumber slots n → IsSlotCount n → last_of fields ≡ Some g →
+    size_of (slots ∷ fields) ≡ Some (Sizes (record { slots = n; last_generation = g }))
+unfolding size_of
+size_complete slots fields n g is fits last =
+    rw (number_of-complete slots n is, last)
+    (ap (λ b. cond b (Some (Sizes (record { slots = n; last_generation = g }))) None)
+    (and_from (nat_le 1 n) (nat_le n 65535) (le-leb 1 n fits.0) (le-leb n 65535 fits.1)))
+
 -- a callback's line, by its word
 by_word : (names : List (List ℕ)) (kind : Callback) (fields : List (List ℕ))
     → statement_of names (callback_word kind ∷ fields) ≡ callback_of names kind fields
@@ -471,7 +525,7 @@ by_word names callback.Handle fields = refl
 by_word names callback.Close fields = refl
 
 pub statement_complete : (names fields : List (List ℕ)) (s : Statement) → AreDistinct names → Says names fields s → statement_of names fields ≡ Some s
-unfolding statement_of main_of main_by close_loop_of
+unfolding statement_of main_of main_by close_loop_of last_of
 statement_complete names fields s distinct (declares name e is fresh) = ap (statement_of names) e ∙ declaration_complete names name is fresh
 statement_complete names fields s distinct (in_main rest op e is) =
     ap (statement_of names) e ∙ main_complete names rest op (op_parts names rest op distinct is)
@@ -484,3 +538,7 @@ statement_complete names fields s distinct (in_call kind name v number k rest op
     ap (statement_of names) e ∙ by_word names kind (name ∷ (64 ∷ number) ∷ rest)
     ∙ in_call_complete names kind name v number k rest op distinct declared (call_complete number k is first last)
     (op_parts names rest op distinct op_is)
+statement_complete names fields s distinct (sizes slots n e is fits) =
+    ap (statement_of names) e ∙ size_complete slots [] n LAST_GENERATION is fits refl
+statement_complete names fields s distinct (sizes_to slots last n g e is fits last_is small) =
+    ap (statement_of names) e ∙ size_complete slots (last ∷ []) n g is fits (last_complete last g last_is small)

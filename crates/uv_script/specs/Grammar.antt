@@ -13,8 +13,9 @@ use Rattle.uv_script.specs.declared.op.Op.TheVariants as op
 use Rattle.uv_script.specs.declared.op.MainOp.{MainOp}
 use Rattle.uv_script.specs.declared.op.MainOp.TheVariants as main
 use Rattle.uv_script.specs.declared.op.CallbackLine.{CallbackLine}
+use Rattle.uv_script.specs.declared.size.ArenaSize.{ArenaSize}
 use Rattle.uv_script.specs.Lines.{lines_of, fields_of, IsLine, IsSkipped}
-use Rattle.uv_script.specs.Program.{Program, no_callbacks, callbacks_of, with_line, line_count}
+use Rattle.uv_script.specs.Program.{Program, no_callbacks, callbacks_of, with_line, line_count, IsSlotCount, LAST_GENERATION}
 use Rattle.uv_script.specs.Words.{IsName, IsNumber, IsDeclared}
 
 -- what a line says
@@ -25,6 +26,8 @@ pub data Statement : Type 0 where
   InMain : MainOp → Statement
   -- `on NAME [@k] OP`, `closed NAME [@k] OP`
   InCallback : Callback → Var → CallbackLine → Statement
+  -- `slots n [g]`
+  Sizes : ArenaSize → Statement
 
 -- the word of an op that says no more than a name, and the name's number
 abbrev pub named_word : Op → Option (List ℕ × Var)
@@ -80,18 +83,25 @@ pub data Says (names : List (List ℕ)) (fields : List (List ℕ)) : Statement �
   in_call : (kind : Callback) (name : List ℕ) (v : Var) (number : List ℕ) (k : ℕ) (rest : List (List ℕ)) (op : Op) →
       fields ≡ callback_word kind ∷ name ∷ (64 ∷ number) ∷ rest → IsDeclared names name v → IsNumber number k → 1 ≤ k → k < 2 ^ 32 →
       IsOp names rest op → Says names fields (InCallback kind v (record { call = Some k; op = op }))
+  sizes : (slots : List ℕ) (n : ℕ) → fields ≡ codes "slots" ∷ slots ∷ [] → IsNumber slots n → IsSlotCount n →
+      Says names fields (Sizes (record { slots = n; last_generation = LAST_GENERATION }))
+  -- with a last generation of its own
+  sizes_to : (slots last : List ℕ) (n g : ℕ) → fields ≡ codes "slots" ∷ slots ∷ last ∷ [] → IsNumber slots n → IsSlotCount n → IsNumber last g →
+      g < 2 ^ 32 → Says names fields (Sizes (record { slots = n; last_generation = g }))
 
--- there is room for one more line, and for one more name
+-- there is room for one more line, and for one more name; and the arena's size is said once at most
 abbrev pub HasRoom : Program → Statement → Type 0
 HasRoom p (Declares name) = (line_count p < 65535) × (length p.names < 4096)
 HasRoom p (InMain op) = line_count p < 65535
 HasRoom p (InCallback kind v line) = line_count p < 65535
+HasRoom p (Sizes size) = p.size ≡ None
 
 -- the script with what one more line says
 abbrev pub with_statement : Program → Statement → Program
 with_statement p (Declares name) = record p { names = p.names ++ name ∷ []; callbacks = p.callbacks ++ no_callbacks ∷ [] }
 with_statement p (InMain op) = record p { main = p.main ++ op ∷ [] }
 with_statement p (InCallback kind v line) = record p { callbacks = slice_set p.callbacks v.0 (with_line kind (callbacks_of p v) line) }
+with_statement p (Sizes size) = record p { size = Some size }
 
 -- the line takes the script before it to the script after it
 pub data Reads (p : Program) (line : List ℕ) : Program → Type 0 where
@@ -105,7 +115,7 @@ pub data ReadsAll : Program → List (List ℕ) → Program → Type 0 where
 
 -- the script of no line
 abbrev pub blank : Program
-blank = record { names = []; main = []; callbacks = [] }
+blank = record { names = []; main = []; callbacks = []; size = None }
 
 -- the script of a text
 abbrev pub IsScript : List ℕ → Program → Type 0

@@ -9,6 +9,7 @@ use Rattle.uv_script.specs.declared.op.Op.{Op}
 use Rattle.uv_script.specs.declared.op.MainOp.{MainOp}
 use Rattle.uv_script.specs.declared.op.MainOp.TheVariants as main
 use Rattle.uv_script.specs.declared.op.CallbackLine.{CallbackLine}
+use Rattle.uv_script.specs.declared.size.ArenaSize.{ArenaSize}
 
 -- the lines of a name's callbacks
 pub record Callbacks : Type 0 where
@@ -24,6 +25,8 @@ pub record Program : Type 0 where
   pub main : List MainOp
   -- for each name, the lines of its callbacks
   pub callbacks : List Callbacks
+  -- how large the arena is, if a line says it
+  pub size : Option ArenaSize
 
 abbrev pub no_callbacks : Callbacks
 no_callbacks = record { handle = []; close = [] }
@@ -64,14 +67,32 @@ is_for call (Some k) = k == call
 abbrev pub callback_count : Callbacks → ℕ
 callback_count c = length c.handle + length c.close
 
--- the lines that count: all but empty ones and comments
+-- the generation at which a slot that is freed is retired, where no line says it (own)
+abbrev pub LAST_GENERATION : ℕ
+LAST_GENERATION = 4294967295
+
+-- how large the arena is where no line says it (own)
+abbrev pub DEFAULT_SIZE : ArenaSize
+DEFAULT_SIZE = record { slots = 1024; last_generation = LAST_GENERATION }
+
+-- how large the script's arena is
+abbrev pub arena_size : Program → ArenaSize
+arena_size p = unwrap_or p.size DEFAULT_SIZE
+
+-- an arena has 1 to 65535 slots (own)
+abbrev pub IsSlotCount : ℕ → Type 0
+IsSlotCount n = (1 ≤ n) × (n ≤ 65535)
+
+-- the lines that count: all but `slots`, empty ones and comments
 abbrev pub line_count : Program → ℕ
 line_count p = length p.names + length p.main + sum_by callback_count p.callbacks
 
--- what every script meets, beside what its names do: each name has its callbacks, and there are at most 65535 lines
+-- what every script meets, beside what its names do: each name has its callbacks, there are at most 65535 lines, and its arena has
+-- 1 to 65535 slots
 pub record IsWhole (p : Program) : Type 0 where
   pub callbacks : length p.callbacks ≡ length p.names
   pub few : line_count p ≤ 65535
+  pub slots : IsSlotCount (arena_size p).slots
 
 -- the script is whole, and this many of its lines count
 pub record IsCounted (lines : ℕ) (p : Program) : Type 0 where

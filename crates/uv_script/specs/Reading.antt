@@ -14,9 +14,9 @@ use Rattle.uv_ids.specs.declared.fault.Fault.TheVariants as fault
 use Rattle.uv_script.specs.declared.op.Op.{Op}
 use Rattle.uv_script.specs.declared.op.Op.TheVariants as op
 use Rattle.uv_script.specs.declared.op.MainOp.TheVariants as main
-use Rattle.uv_script.specs.Grammar.{Statement, Declares, InMain, InCallback, with_statement}
+use Rattle.uv_script.specs.Grammar.{Statement, Declares, InMain, InCallback, Sizes, with_statement}
 use Rattle.uv_script.specs.Lines.{fields_of}
-use Rattle.uv_script.specs.Program.{Program, line_count}
+use Rattle.uv_script.specs.Program.{Program, line_count, IsSlotCount, LAST_GENERATION}
 use Rattle.uv_script.specs.Checks.{is_line, is_skipped, is_name, number_of}
 use Rattle.uv_script.specs.Words.{IsName}
 
@@ -209,6 +209,22 @@ callback_of names kind fields = do
   word ← first_of name.1
   calls_of names kind v word.0 word.1 (marked word.0)
 
+-- the last generation, which may be left out
+unfoldable pub last_of : List (List ℕ) → Option ℕ
+last_of [] = Some LAST_GENERATION
+last_of (last ∷ fields) = do
+  g ← number_of last
+  end ← none_left fields
+  if nat_lt g 4294967296 then Some g else None
+
+-- what stands behind `slots`
+unfoldable pub size_of : List (List ℕ) → Option Statement
+size_of fields = do
+  slots ← first_of fields
+  n ← number_of slots.0
+  g ← last_of slots.1
+  if nat_le 1 n && nat_le n 65535 then Some (Sizes (record { slots = n; last_generation = g })) else None
+
 -- what a line's fields say
 unfoldable pub statement_of : List (List ℕ) → List (List ℕ) → Option Statement
 statement_of names fields = do
@@ -217,19 +233,22 @@ statement_of names fields = do
       else if bytes_eq word.0 (codes "main") then main_of names word.1
       else if bytes_eq word.0 (codes "on") then callback_of names callback.Handle word.1
       else if bytes_eq word.0 (codes "closed") then callback_of names callback.Close word.1
+      else if bytes_eq word.0 (codes "slots") then size_of word.1
       else None
 
--- whether there is room for one more line, and for one more name
+-- whether there is room for one more line, for one more name, and for the arena's size
 abbrev pub has_room : Program → Statement → Bool
 has_room p (Declares name) = nat_lt (line_count p) 65535 && nat_lt (length p.names) 4096
 has_room p (InMain op) = nat_lt (line_count p) 65535
 has_room p (InCallback kind v line) = nat_lt (line_count p) 65535
+has_room p (Sizes size) = is_none p.size
 
 -- what a statement needs beside room
 abbrev pub IsSound : Program → Statement → Type 0
 IsSound p (Declares name) = IsName name × (Contains p.names name → ⊥)
 IsSound p (InMain op) = Unit {0}
 IsSound p (InCallback kind v line) = v.0 < length p.names
+IsSound p (Sizes size) = IsSlotCount size.slots
 
 -- the script after one more line
 unfoldable pub after_line : Program → List ℕ → Option Program

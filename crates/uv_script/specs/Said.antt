@@ -1,9 +1,10 @@
 -- What the code's statements say.
 use Rattle.uv_script.specs.declared.statement.Statement as code
 use Rattle.uv_script.specs.declared.statement.Statement.TheVariants as variant
-use Rattle.uv_script.specs.Grammar.{Statement, Declares, InMain, InCallback}
+use Rattle.uv_script.specs.Grammar.{Statement, Declares, InMain, InCallback, Sizes}
 
 abbrev pub said : code.Statement → Statement
 said (variant.Declares name) = Declares name.now
 said (variant.InMain op) = InMain op
 said (variant.InCallback kind v line) = InCallback kind v line
+said (variant.Sizes size) = Sizes size

@@ -6,6 +6,7 @@ mod names;
 mod op;
 mod parse;
 mod script;
+mod size;
 mod statement;
 mod text;
 mod words;
@@ -15,6 +16,7 @@ pub use names::Names;
 pub use op::{CallbackLine, MainOp, Op};
 pub use parse::one_reading;
 pub use script::Script;
+pub use size::ArenaSize;
 pub use text::push_number;
 pub use words::{is_name, number};
 

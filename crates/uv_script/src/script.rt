@@ -1,12 +1,13 @@
 //! A script's parts.
-ghost use Rattle.std.specs.Prelude.{◌≡◌, slice_get, length, OnOk};
-ghost use Rattle.uv_script.specs.Grammar.{Declares, InMain, InCallback, HasRoom, with_statement, blank};
+ghost use Rattle.std.specs.Prelude.{◌≡◌, slice_get, length, OnOk, Some};
+ghost use Rattle.uv_script.specs.Grammar.{Declares, InMain, InCallback, Sizes, HasRoom, with_statement, blank};
 ghost use Rattle.uv_script.specs.Reading.{has_room, IsSound};
 ghost use Rattle.uv_script.specs.Said.{said};
-ghost use Rattle.uv_script.specs.Program.{lines_in, op_at, IsWhole};
+ghost use Rattle.uv_script.specs.Program.{lines_in, op_at, arena_size, IsWhole};
 
 use crate::names::Names;
 use crate::op::{CallbackLine, Callbacks, MainOp, Op};
+use crate::size::ArenaSize;
 use crate::statement::Statement;
 use std::alloc::{AllocError, Global};
 use std::marker::Model;
@@ -18,7 +19,8 @@ pub struct Script {
     names: Names,
     main: Vec<MainOp>,
     callbacks: Vec<Callbacks>,
-    /// How many lines count: all but empty ones and comments.
+    size: Option<ArenaSize>,
+    /// How many lines count: all but `slots`, empty ones and comments.
     lines: usize,
 }
 
@@ -35,12 +37,14 @@ impl Model for Script {
       names = script.names;
       main = script.main.items;
       callbacks = script.callbacks.items;
+      size = script.size;
     } };
 
     ghost invariant = { λ script. IsCounted script.lines (record {
       names = script.names;
       main = script.main.items;
       callbacks = script.callbacks.items;
+      size = script.size;
     }) };
 }
 
@@ -53,11 +57,12 @@ impl Script {
             names: Names::new(alloc),
             main: Vec::new(alloc),
             callbacks: Vec::new(alloc),
+            size: None,
             lines: 0,
         }
     }
 
-    /// Whether there is room for one more line, and for one more name.
+    /// Whether there is room for one more line, for one more name, and for the arena's size.
     pub(crate) fn has_room(&self, statement: &Statement<'_>) -> bool
         ensures { result ≡ has_room self.now (said statement.now) }
     {
@@ -65,6 +70,7 @@ impl Script {
             Statement::Declares(_) => self.lines < MAX_LINES && self.names.len() < MAX_NAMES,
             Statement::InMain(_) => self.lines < MAX_LINES,
             Statement::InCallback(_, _, _) => self.lines < MAX_LINES,
+            Statement::Sizes(_) => self.size.is_none(),
         }
     }
 
@@ -78,6 +84,10 @@ impl Script {
             Statement::Declares(name) => self.declare(alloc, name),
             Statement::InMain(op) => self.push_main(op),
             Statement::InCallback(kind, name, line) => self.push_callback(kind, name, line),
+            Statement::Sizes(size) => {
+                self.size = Some(size);
+                Ok(())
+            }
         }
     }
 
@@ -124,6 +134,13 @@ impl Script {
         ensures whole { IsWhole self.now }
     {
         &self.names
+    }
+
+    /// How large the arena is: as the line `slots` says, else 1024 slots, and the largest generation.
+    pub fn arena_size(&self) -> ArenaSize
+        ensures { result ≡ arena_size self.now }
+    {
+        self.size.unwrap_or(ArenaSize::by_default())
     }
 
     /// A line of the main program, from 0.

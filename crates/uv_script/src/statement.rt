@@ -1,12 +1,13 @@
 //! What the lines of a script say, one at a time.
 ghost use Rattle.std.specs.Prelude.{◌≡◌, Some, option_map};
 ghost use Rattle.uv_script.specs.Lines.{fields_of};
-ghost use Rattle.uv_script.specs.Reading.{none_left, kind_of, mode_of, init_of, timer_start_of, start_of, repeat_of, bare_op, named_op, name_alone, short_op_of, op_of, declaration_of, run_of, main_of, main_by, close_loop_of, call_of, marked, in_calls_of, in_call_of, callback_of, statement_of};
+ghost use Rattle.uv_script.specs.Reading.{none_left, kind_of, mode_of, init_of, timer_start_of, start_of, repeat_of, bare_op, named_op, name_alone, short_op_of, op_of, declaration_of, run_of, main_of, main_by, close_loop_of, call_of, marked, in_calls_of, in_call_of, callback_of, last_of, size_of, statement_of};
 ghost use Rattle.uv_script.specs.Said.{said};
 
 use crate::lines::Fields;
 use crate::names::Names;
 use crate::op::{CallbackLine, MainOp, Op};
+use crate::size::ArenaSize;
 use crate::words::{is_name, number};
 use uv_ids::{Callback, Kind, Mode, Var};
 
@@ -19,6 +20,8 @@ pub(crate) enum Statement<'a> {
     InMain(MainOp),
     /// `on NAME [@k] OP`, `closed NAME [@k] OP`
     InCallback(Callback, Var, CallbackLine),
+    /// `slots n [g]`
+    Sizes(ArenaSize),
 }
 
 /// Nothing, where no field is left.
@@ -158,6 +161,7 @@ pub(crate) fn statement_in<'a>(names: &Names, line: &'a [u8]) -> Option<Statemen
         b"main" => main_line(names, fields),
         b"on" => callback(names, Callback::Handle, fields),
         b"closed" => callback(names, Callback::Close, fields),
+        b"slots" => size(fields),
         _ => None,
     }
 }
@@ -278,5 +282,38 @@ fn callback<'a>(names: &Names, kind: Callback, mut fields: Fields<'a>) -> Option
     match marked(word) {
         Some(digits) => in_call(names, kind, name, digits, fields),
         None => in_calls(names, kind, name, None, word, fields),
+    }
+}
+
+/// The last generation, which may be left out.
+#[tactic(auto, unfolding(crate::specs::Reading::last_of))]
+fn last_generation(mut fields: Fields<'_>) -> Option<u32>
+    ensures { result ≡ last_of fields.entry }
+{
+    let Some(last) = fields.next() else {
+        return Some(u32::MAX);
+    };
+    let last = number(last)?;
+    none_left(fields)?;
+    if last < 0x1_0000_0000 {
+        Some(last as u32)
+    } else {
+        None
+    }
+}
+
+#[tactic(auto, unfolding(crate::specs::Reading::size_of))]
+fn size<'a>(mut fields: Fields<'a>) -> Option<Statement<'a>>
+    ensures { option_map said result ≡ size_of fields.entry }
+{
+    let slots = number(fields.next()?)?;
+    let last_generation = last_generation(fields)?;
+    if 1 <= slots && slots <= 65_535 {
+        Some(Statement::Sizes(ArenaSize {
+            slots: slots as u32,
+            last_generation,
+        }))
+    } else {
+        None
     }
 }

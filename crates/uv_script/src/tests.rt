@@ -126,7 +126,7 @@ fn reads_each_op_of_a_callback(rt: HostRuntime) -> Result<(), Fail> {
 }
 
 /// Texts, and the first bad line of each.
-const BAD: [(&[u8], usize); 55] = [
+const BAD: [(&[u8], usize); 67] = [
     (b"\x1f", 1),
     (b"#\x7f", 1),
     (b"var a\r\n", 1),
@@ -182,6 +182,18 @@ const BAD: [(&[u8], usize); 55] = [
     (b"var a\non a Alive", 2),
     (b"var a\nmain noww", 2),
     (b"var a\non a", 2),
+    (b"var a\nclosed a @0 stop a", 2),
+    (b"var a\non a closeloop", 2),
+    (b"slots", 1),
+    (b"slots 0", 1),
+    (b"slots 0 5", 1),
+    (b"slots 65536", 1),
+    (b"slots 07", 1),
+    (b"slots 7 ", 1),
+    (b"slots 7 4294967296", 1),
+    (b"slots 7 1 1", 1),
+    (b"slots 7\nslots 7", 2),
+    (b"var slots\nslots 1 0\nslots 1 0", 3),
 ];
 
 #[test]
@@ -190,6 +202,24 @@ fn refuses_with_the_first_bad_line(rt: HostRuntime) {
         let answer = Script::parse(rt.alloc(), *text).err();
         assert_eq!(rt; answer, Some(Fault::Script { line: *line }), "case {case}");
     }
+}
+
+#[test]
+fn reads_how_large_the_arena_is(rt: HostRuntime) -> Result<(), Fail> {
+    let texts: [(&[u8], u32, u32); 4] = [
+        (b"var a", 1024, u32::MAX),
+        (b"slots 7", 7, u32::MAX),
+        (b"var a\nmain stop a\nslots 65535 0", 65_535, 0),
+        (b"slots 1 4294967295", 1, u32::MAX),
+    ];
+    for (text, slots, last_generation) in &texts {
+        let size = Script::parse(rt.alloc(), *text)?.arena_size();
+        assert_eq!(rt;
+            (size.slots, size.last_generation),
+            (*slots, *last_generation)
+        );
+    }
+    Ok(())
 }
 
 /// `front`, so many bytes `a`, and a line feed.
@@ -237,12 +267,12 @@ fn limits_names_and_lines(rt: HostRuntime) -> Result<(), Fail> {
     for _ in 0..65_535 {
         lines.extend_from_slice(b"main run once\n")?;
     }
-    lines.extend_from_slice(b"\n# neither of these two counts\n")?;
+    lines.extend_from_slice(b"\n# neither of these counts\nslots 9\n")?;
     assert!(rt; Script::parse(rt.alloc(), &lines).is_ok());
     lines.extend_from_slice(b"main run once\n")?;
     assert_eq!(rt;
         Script::parse(rt.alloc(), &lines).err(),
-        Some(Fault::Script { line: 65_538 })
+        Some(Fault::Script { line: 65_539 })
     );
     Ok(())
 }

@@ -1,5 +1,5 @@
 -- The lines of the first steps, one step after another.
-use Rattle.std.proofs.Common.{◌≡◌, ℕ, ◌+◌, ◌<◌, ◌≤◌, List, [], ◌∷◌, ◌++◌, length, take, Option, Some, refl, ap, sym, ◌∙◌, append_assoc, append-nil}
+use Rattle.std.proofs.Common.{◌≡◌, ℕ, ◌+◌, ◌<◌, ◌≤◌, List, [], ◌∷◌, ◌++◌, length, take, Option, Some, refl, ap, sym, subst, ◌∙◌, append_assoc, append-nil}
 use Rattle.std.proofs.lemmas.List.{take_more, take_all}
 use Rattle.std.proofs.lemmas.Option.{get_or_from_slice_get}
 use Rattle.std.specs.Prelude.{slice_get, option_to_list}
@@ -10,7 +10,9 @@ use Rattle.uv_script.specs.Program.{Program}
 use Rattle.uv_model.specs.After.{seen_by, lines}
 use Rattle.uv_model.proofs.Runs.{length-seen_by}
 use Rattle.uv_order.proofs.Histories.{lines-history}
+use Rattle.uv_order.specs.Once.{Once}
 use Rattle.uv_order.proofs.Follows.{documented}
+use Rattle.uv_order.proofs.ClosesOnce.{once}
 use Rattle.uv_session.specs.Shown.{Shown, IsDocumented}
 
 -- the lines that are there
@@ -36,5 +38,9 @@ those_all p es i l = let m : length (seen_by p es) ≤ i = rw length-seen_by l i
 pub is_documented : (s : Shown) (trace : List Seen) → trace ≡ lines s.program s.standing → IsDocumented s trace
 unfolding IsDocumented
 is_documented s trace e = (e ∙ lines-history s.program s.standing, documented s.program s.standing)
+
+-- by the lines of the standing steps each handle closes once
+pub is_once : (s : Shown) (trace : List Seen) → trace ≡ lines s.program s.standing → Once s.program trace
+is_once s trace e = subst (Once s.program) (sym e) (once s.program s.standing)
 
 pub ruleset traces = (those_more, length-seen_by)

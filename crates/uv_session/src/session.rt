@@ -2,6 +2,7 @@
 ghost use Rattle.std.specs.Prelude.{◌≡◌, ◌≤◌, ◌<◌, ◌-◌, [], IfOk, IfErr, OnOk, length, ◌++◌, min, option_to_list};
 ghost use Rattle.uv_ids.specs.declared.fault.Fault.TheVariants.{Memory};
 ghost use Rattle.uv_model.specs.After.{STEPS, lines};
+ghost use Rattle.uv_order.specs.Once.{Once};
 ghost use Rattle.uv_session.specs.Shown.{TakesEvent, MovesBack, IsDocumented, moved_back};
 
 use std::alloc::{AllocError, Global};
@@ -98,11 +99,12 @@ impl<M: Machine> Session<M> {
         Ok(())
     }
 
-    /// The lines of the standing steps, which are in the documented order of phases.
+    /// The lines of the standing steps. They are in the documented order of phases, and by them each handle closes once.
     #[tactic(auto, using(crate::proofs::Traces::traces))]
     pub fn trace(&self) -> Result<Vec<Seen>, Fault>
         ensures lines { IfOk result (λ trace. trace.items ≡ lines self.now.program self.now.standing) }
         ensures documented { IfOk result (λ trace. IsDocumented self.now trace.items) }
+        ensures once { IfOk result (λ trace. Once self.now.program trace.items) }
         ensures err { IfErr result (λ fault. fault ≡ Memory) }
     {
         let mut trace = Vec::new(self.alloc);

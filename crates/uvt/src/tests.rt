@@ -56,7 +56,7 @@ struct Outside {
     errors: &'static str,
 }
 
-const OUTSIDE: [Outside; 16] = [
+const OUTSIDE: [Outside; 21] = [
     Outside {
         what: "a name that is not declared",
         input: b"var a\nmain start b 1 0\nbegin\n",
@@ -91,6 +91,41 @@ const OUTSIDE: [Outside; 16] = [
         output: "",
         status: 2,
         errors: "uvt: bad script line 2\n",
+    },
+    Outside {
+        what: "a close callback's call has number 0",
+        input: b"var a\nclosed a @0 close a\nbegin\n",
+        output: "",
+        status: 2,
+        errors: "uvt: bad script line 2\n",
+    },
+    Outside {
+        what: "an arena with no slot",
+        input: b"slots 0\nbegin\n",
+        output: "",
+        status: 2,
+        errors: "uvt: bad script line 1\n",
+    },
+    Outside {
+        what: "an arena with a slot too many",
+        input: b"slots 65536\nbegin\n",
+        output: "",
+        status: 2,
+        errors: "uvt: bad script line 1\n",
+    },
+    Outside {
+        what: "the arena's size is said twice",
+        input: b"slots 1 1\nvar a\nslots 1 1\nbegin\n",
+        output: "",
+        status: 2,
+        errors: "uvt: bad script line 3\n",
+    },
+    Outside {
+        what: "a last generation out of range",
+        input: b"slots 1 4294967296\nbegin\n",
+        output: "",
+        status: 2,
+        errors: "uvt: bad script line 1\n",
     },
     Outside {
         what: "no line `begin`",

@@ -192,7 +192,7 @@ impl LoopState {
         let Some((id, handle)) = self.front(self.closing.yet()) else {
             return Ok(self.begin_timers(run));
         };
-        self.arena.release(id)?;
+        self.arena.release(id, script.arena_size().last_generation)?;
         self.closing.take_front();
         let name = handle.name;
         Ok(self.calls(script, run, Callback::Close, name, Seen::Closed(name, id)))

@@ -7,7 +7,7 @@ pub struct Conversation {
     pub output: &'static str,
 }
 
-pub const CONVERSATIONS: [Conversation; 15] = [
+pub const CONVERSATIONS: [Conversation; 17] = [
     Conversation {
         what: "a loop with nothing to do ends at once",
         input: "begin\n\
@@ -511,6 +511,79 @@ pub const CONVERSATIONS: [Conversation; 15] = [
          closed a 0.0\n\
          timers\n\
          end 0\n\
+         refused ended\n",
+    },
+    Conversation {
+        what: "a slot is used again up to its last generation, and the step back makes it so again",
+        input: "slots 1 1\n\
+         var a\n\
+         main init a idle\n\
+         main close a\n\
+         main run nowait\n\
+         main init a idle\n\
+         main close a\n\
+         main run nowait\n\
+         main init a idle\n\
+         begin\n\
+         loop 100\n\
+         back 4\n",
+        output: "init a idle = 0.0\n\
+         close a = ok\n\
+         run nowait\n\
+         pending\n\
+         idle\n\
+         prepare\n\
+         poll 0\n\
+         done\n\
+         async\n\
+         check\n\
+         closing\n\
+         closed a 0.0\n\
+         timers\n\
+         end 0\n\
+         init a idle = 0.1\n\
+         close a = ok\n\
+         run nowait\n\
+         pending\n\
+         idle\n\
+         prepare\n\
+         poll 0\n\
+         done\n\
+         async\n\
+         check\n\
+         closing\n\
+         closed a 0.1\n\
+         timers\n\
+         end 0\n\
+         init a idle = EFULL\n\
+         refused ended\n\
+         at 25\n",
+    },
+    Conversation {
+        what: "a slot whose last generation is its first is used once",
+        input: "slots 1 0\n\
+         var a\n\
+         main init a idle\n\
+         main close a\n\
+         main run nowait\n\
+         main init a idle\n\
+         begin\n\
+         loop 100\n",
+        output: "init a idle = 0.0\n\
+         close a = ok\n\
+         run nowait\n\
+         pending\n\
+         idle\n\
+         prepare\n\
+         poll 0\n\
+         done\n\
+         async\n\
+         check\n\
+         closing\n\
+         closed a 0.0\n\
+         timers\n\
+         end 0\n\
+         init a idle = EFULL\n\
          refused ended\n",
     },
 ];

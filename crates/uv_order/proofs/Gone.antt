@@ -1,0 +1,109 @@
+-- Ids that will never be held again: the slot has a later generation, or is empty for good.
+use Rattle.std.proofs.Common.{◌≡◌, ◌⊎◌, inl, inr, ℕ, ◌<◌, ◌≤◌, ◌==◌, List, [], ◌∷◌, ◌++◌, Bool, true, false, cond, Option, Some, None, slice_get, slice_set, refl, ap, sym, ◌∙◌, arith}
+use Rattle.std.proofs.lemmas.Bool.{or_parts, both_ways, eqb-true, eq-eqb}
+use Rattle.std.proofs.lemmas.Option.{same_Some}
+use Rattle.uv_ids.specs.declared.id.Id.{Id}
+use Rattle.uv_records.specs.declared.handle.HandleRecord.{HandleRecord}
+use Rattle.uv_records.specs.declared.slot.Slot.{Slot}
+use Rattle.uv_model.specs.declared.content.Content.{Content}
+use Rattle.uv_model.specs.Content.{handle_in}
+use Rattle.uv_order.proofs.Holding.{look, held_at, slot_of, put, emptied, holds, other_generation, get_set_same, get_set_other, get_push}
+use Rattle.uv_order.proofs.Keeping.{has_number}
+
+-- the slot is past the id's generation, or empty and not free, which it stays
+pub record IsGone (slots : List (Slot Content)) (free : List ℕ) (id : Id) : Type 0 where
+  pub slot : Slot Content
+  pub there : slice_get slots id.slot ≡ Some slot
+  pub past : (id.generation < slot.generation) ⊎ ((slot.content ≡ None) × (has_number free id.slot ≡ false))
+
+-- nothing is held under it
+pub none_held : (slots : List (Slot Content)) (free : List ℕ) (id : Id) → IsGone slots free id → held_at slots id ≡ None
+none_held slots free id k = ap (look id) k.there ∙ at k.past where
+  empty : k.slot.content ≡ None → (b : Bool) → handle_in (cond b k.slot.content None) ≡ None
+  empty e true = ap handle_in e
+  empty e false = refl
+
+  at : (id.generation < k.slot.generation) ⊎ ((k.slot.content ≡ None) × (has_number free id.slot ≡ false)) → look id (Some k.slot) ≡ None
+  at (inl later) = other_generation id k.slot (λ e. omega (arith, later, e))
+  at (inr (e, f)) = empty e (k.slot.generation == id.generation)
+
+pub not_held : (slots : List (Slot Content)) (free : List ℕ) (id : Id) (h : HandleRecord) → IsGone slots free id → held_at slots id ≡ Some h → ⊥
+not_held slots free id h k e = cc (none_held slots free id k, e)
+
+-- a slot changes that isn't empty for good, and no other one is freed
+pub gone_set : (slots : List (Slot Content)) (free more : List ℕ) (n : ℕ) (old new : Slot Content) (id : Id) → slice_get slots n ≡ Some old →
+    old.generation ≤ new.generation → (old.content ≡ None → has_number free n ≡ true) →
+    ((m : ℕ) → (m ≡ n → ⊥) → has_number free m ≡ false → has_number more m ≡ false) → IsGone slots free id →
+    IsGone (slice_set slots n new) more id
+gone_set slots free more n old new id e grows unless others k = at (id.slot == n) refl where
+  at : (b : Bool) → (id.slot == n) ≡ b → IsGone (slice_set slots n new) more id
+  at true f =
+      let here : id.slot ≡ n = eqb-true id.slot n f in
+      let one : k.slot ≡ old = same_Some _ _ (sym k.there ∙ ap (slice_get slots) here ∙ e) in
+      record { slot = new; there = ap (slice_get (slice_set slots n new)) here ∙ get_set_same slots n new old e; past = later one here k.past }
+    where
+      later : k.slot ≡ old → id.slot ≡ n →
+          (id.generation < k.slot.generation) ⊎ ((k.slot.content ≡ None) × (has_number free id.slot ≡ false)) →
+          (id.generation < new.generation) ⊎ ((new.content ≡ None) × (has_number more id.slot ≡ false))
+      later one here (inl l) = let same : k.slot.generation ≡ old.generation = ap (λ (s : Slot Content). s.generation) one in inl (omega arith)
+      later one here (inr (c, g)) =
+          absurd (both_ways (has_number free n) (ap (has_number free) (sym here) ∙ g) (unless (ap (λ (s : Slot Content). s.content) (sym one) ∙ c)))
+  at false f = record { slot = k.slot; there = get_set_other slots n id.slot new away ∙ k.there; past = still k.past } where
+    away : id.slot ≡ n → ⊥
+    away g = both_ways (id.slot == n) f (eq-eqb id.slot n g)
+
+    still : (id.generation < k.slot.generation) ⊎ ((k.slot.content ≡ None) × (has_number free id.slot ≡ false)) →
+        (id.generation < k.slot.generation) ⊎ ((k.slot.content ≡ None) × (has_number more id.slot ≡ false))
+    still (inl l) = inl l
+    still (inr (c, g)) = inr (c, others id.slot away g)
+
+-- a slot that holds a handle isn't empty
+pub is_filled : (slots : List (Slot Content)) (id : Id) (h : HandleRecord) (slot : Slot Content) → held_at slots id ≡ Some h →
+    slice_get slots id.slot ≡ Some slot → slot.content ≡ None → ⊥
+is_filled slots id h slot e f c =
+    let k = holds slots id h e in
+    let one : k.at.slot ≡ slot = same_Some _ _ (sym k.at.there ∙ f) in
+    clash (sym (ap handle_in (ap (λ (s : Slot Content). s.content) one ∙ c)) ∙ k.content)
+  where
+    clash : ◌≡◌ {A = Option HandleRecord} None (Some h) → ⊥
+    clash g = cc g
+
+-- another handle is changed
+pub gone_put : (slots : List (Slot Content)) (free : List ℕ) (id : Id) (h x : HandleRecord) (i : Id) → held_at slots id ≡ Some h →
+    IsGone slots free i → IsGone (put slots id x) free i
+gone_put slots free id h x i e k =
+    let at = (holds slots id h e).at in
+    gone_set slots free free id.slot at.slot (slot_of id x) i at.there (let g = at.generation in omega arith)
+    (λ c. absurd (is_filled slots id h at.slot e at.there c)) (λ m d f. f) k
+
+-- a slot is used for the first time
+pub gone_push : (slots : List (Slot Content)) (free : List ℕ) (y : Slot Content) (i : Id) → IsGone slots free i → IsGone (slots ++ y ∷ []) free i
+gone_push slots free y i k = record { slot = k.slot; there = get_push slots y k.slot i.slot k.there; past = k.past }
+
+-- the front of the free slots is taken
+pub gone_fill : (slots : List (Slot Content)) (n : ℕ) (ns : List ℕ) (old new : Slot Content) (i : Id) → slice_get slots n ≡ Some old →
+    old.generation ≤ new.generation → IsGone slots (n ∷ ns) i → IsGone (slice_set slots n new) ns i
+gone_fill slots n ns old new i e g k = gone_set slots (n ∷ ns) ns n old new i e g
+    (λ c. rw (eq-eqb n n refl) refl) (λ m d f. (or_parts (n == m) (has_number ns m) f).1) k
+
+-- a handle's slot is freed or retired
+pub gone_emptied : (slots : List (Slot Content)) (free more : List ℕ) (id : Id) (h : HandleRecord) (n : ℕ) (i : Id) → held_at slots id ≡ Some h →
+    id.generation ≤ n → ((m : ℕ) → (m ≡ id.slot → ⊥) → has_number free m ≡ false → has_number more m ≡ false) → IsGone slots free i →
+    IsGone (emptied slots id n) more i
+gone_emptied slots free more id h n i e l others k =
+    let at = (holds slots id h e).at in
+    gone_set slots free more id.slot at.slot (record { generation = n; content = None }) i at.there (let g = at.generation in omega arith)
+    (λ c. absurd (is_filled slots id h at.slot e at.there c)) others k
+
+-- and its id is gone
+pub gone_now : (slots : List (Slot Content)) (more : List ℕ) (id : Id) (h : HandleRecord) (n : ℕ) → held_at slots id ≡ Some h →
+    (id.generation < n) ⊎ (has_number more id.slot ≡ false) → IsGone (emptied slots id n) more id
+gone_now slots more id h n e l =
+    let at = (holds slots id h e).at in
+    let empty : Slot Content = record { generation = n; content = None } in
+    record { slot = empty; there = get_set_same slots id.slot empty at.slot at.there; past = by l }
+  where
+    by : (id.generation < n) ⊎ (has_number more id.slot ≡ false) →
+        (id.generation < n) ⊎ ((◌≡◌ {A = Option Content} None None) × (has_number more id.slot ≡ false))
+    by (inl later) = inl later
+    by (inr away) = inr (refl, away)

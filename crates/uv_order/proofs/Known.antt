@@ -1,0 +1,287 @@
+-- What the lines of a trace tell of the names and of the handles that close, and how each change of the slots keeps it.
+use Rattle.std.proofs.Common.{◌≡◌, ◌⊎◌, inl, inr, ℕ, zero, suc, ◌<◌, ◌≤◌, ◌==◌, ◌||◌, List, [], ◌∷◌, Bool, true, false, Option, Some, None, slice_get, slice_set, unwrap_or, option_map, refl, ap, sym, subst, ◌∙◌, if◌then◌else◌}
+use Rattle.std.proofs.lemmas.Bool.{both_ways, eqb-true, eq-eqb}
+use Rattle.std.proofs.lemmas.Option.{same_Some}
+use Rattle.uv_ids.specs.declared.id.Id.{Id}
+use Rattle.uv_ids.specs.declared.id.Var.{Var}
+use Rattle.uv_ids.specs.declared.code.Code.TheVariants as code
+use Rattle.uv_ids.specs.declared.code.Answer.{Answer}
+use Rattle.uv_ids.specs.declared.code.Answer.TheVariants as answer
+use Rattle.uv_ids.specs.declared.phase.Kind.{Kind}
+use Rattle.uv_ids.specs.declared.seen.Seen.{Seen}
+use Rattle.uv_ids.specs.declared.seen.Seen.TheVariants as seen
+use Rattle.uv_ids.specs.declared.seen.Site.{Site}
+use Rattle.uv_script.specs.declared.op.Op.{Op}
+use Rattle.uv_script.specs.declared.op.Op.TheVariants as op
+use Rattle.uv_script.specs.Program.{Program, op_at}
+use Rattle.uv_records.specs.declared.handle.HandleRecord.{HandleRecord}
+use Rattle.uv_records.specs.Slots.{Slots}
+use Rattle.uv_model.specs.declared.content.Content.{Content}
+use Rattle.uv_model.specs.declared.named.Named.{Named}
+use Rattle.uv_model.specs.Ids.{same_id}
+use Rattle.uv_model.specs.State.{unbound}
+use Rattle.uv_order.specs.Once.{Answered, answered, binds, bound_by, bound, closes, closes_by, is_some_id, is_bound, was_closed, is_closed_line, has_closed_line}
+use Rattle.uv_order.proofs.IdLists.{same, other, itself}
+use Rattle.uv_order.proofs.Holding.{held_at, put, put_same, put_other, emptied, emptied_same, emptied_other, Fits, fits_put, Grown}
+use Rattle.uv_order.proofs.Counted.{set_there}
+use Rattle.uv_order.proofs.Keeping.{has_number, Closes, open_shut}
+use Rattle.uv_order.proofs.Gone.{IsGone, not_held, gone_put, gone_emptied, gone_now}
+
+-- ---- names
+
+-- the id that a name is bound to
+abbrev pub id_in : List Named → Var → Option Id
+id_in names v = (unwrap_or (slice_get names v.0) unbound).id
+
+-- each name is bound as before
+abbrev pub SameIds : List Named → List Named → Type 0
+SameIds now was = (v : Var) → id_in now v ≡ id_in was v
+
+set_id : (names : List Named) (i j : ℕ) (x : Named) → x.id ≡ (unwrap_or (slice_get names i) unbound).id →
+    (unwrap_or (slice_get (slice_set names i x) j) unbound).id ≡ (unwrap_or (slice_get names j) unbound).id
+set_id [] i j x e = refl
+set_id (n ∷ names) zero zero x e = e
+set_id (n ∷ names) zero (suc j) x e = refl
+set_id (n ∷ names) (suc i) zero x e = refl
+set_id (n ∷ names) (suc i) (suc j) x e = set_id names i j x e
+
+-- a name gets other counts
+pub counted_ids : (names : List Named) (v : Var) (x : Named) → x.id ≡ id_in names v → SameIds (slice_set names v.0 x) names
+counted_ids names v x e u = set_id names v.0 u.0 x e
+
+-- a name that is bound anew is bound to that, if it is there
+own_id : (names : List Named) (i : ℕ) (x : Named) (id : Id) → (unwrap_or (slice_get (slice_set names i x) i) unbound).id ≡ Some id → x.id ≡ Some id
+own_id [] i x id e = cc e
+own_id (n ∷ names) zero x id e = e
+own_id (n ∷ names) (suc i) x id e = own_id names i x id e
+
+-- ---- what is known
+
+-- the handle of the id closes, or its id is gone
+abbrev pub IsShut : Slots Content → Id → Type 0
+IsShut arena id = Fits arena.slots Closes id ⊎ IsGone arena.slots arena.free id
+
+-- names are bound as the lines tell, and just the ids of which they tell a `close` close, or are gone; those with a `closed` line are gone
+pub record Known (p : Program) (past : List Seen) (arena : Slots Content) (names : List Named) : Type 0 where
+  pub binding : (v : Var) (id : Id) → id_in names v ≡ Some id → bound p past v ≡ Some id
+  pub closing : (id : Id) → Fits arena.slots Closes id → was_closed p past id ≡ true
+  pub closed : (id : Id) → was_closed p past id ≡ true → IsShut arena id
+  pub over : (id : Id) → has_closed_line past id ≡ true → IsGone arena.slots arena.free id
+
+-- a held handle that doesn't close was not closed
+pub not_closed : (p : Program) (past : List Seen) (arena : Slots Content) (names : List Named) (id : Id) (h : HandleRecord) →
+    held_at arena.slots id ≡ Some h → h.closing ≡ false → Known p past arena names → was_closed p past id ≡ false
+not_closed p past arena names id h e stays k = at (was_closed p past id) refl where
+  shut : IsShut arena id → ⊥
+  shut (inl f) = open_shut f.handle f.fits (ap (λ (x : HandleRecord). x.closing) (same_Some _ _ (sym f.holds ∙ e)) ∙ stays)
+  shut (inr g) = not_held arena.slots arena.free id h g e
+
+  at : (b : Bool) → was_closed p past id ≡ b → b ≡ false
+  at true c = absurd (shut (k.closed id c))
+  at false c = refl
+
+-- a held handle has no `closed` line
+pub not_over : (p : Program) (past : List Seen) (arena : Slots Content) (names : List Named) (id : Id) (h : HandleRecord) →
+    held_at arena.slots id ≡ Some h → Known p past arena names → has_closed_line past id ≡ false
+not_over p past arena names id h e k = at (has_closed_line past id) refl where
+  at : (b : Bool) → has_closed_line past id ≡ b → b ≡ false
+  at true c = absurd (not_held arena.slots arena.free id h (k.over id c) e)
+  at false c = refl
+
+-- ---- changes without a line
+
+pub known_names : (p : Program) (past : List Seen) (arena : Slots Content) (now was : List Named) → SameIds now was → Known p past arena was →
+    Known p past arena now
+known_names p past arena now was same k = record {
+  binding = λ v id e. k.binding v id (sym (same v) ∙ e);
+  closing = k.closing;
+  closed = k.closed;
+  over = k.over;
+}
+
+-- a handle changes that closes as before
+pub known_put : (p : Program) (past : List Seen) (arena : Slots Content) (names : List Named) (id : Id) (h x : HandleRecord) →
+    held_at arena.slots id ≡ Some h → x.closing ≡ h.closing → Known p past arena names →
+    Known p past (record arena { slots = put arena.slots id x }) names
+known_put p past arena names id h x e o k = record {
+  binding = k.binding;
+  closing = λ i f. closing i f (same_id i id) refl;
+  closed = λ i c. shut i (k.closed i c);
+  over = λ i c. gone_put arena.slots arena.free id h x i e (k.over i c);
+} where
+  closing : (i : Id) → Fits (put arena.slots id x) Closes i → (b : Bool) → same_id i id ≡ b → was_closed p past i ≡ true
+  closing i f true s =
+      let is : i ≡ id = same i id s in
+      let y : f.handle ≡ x = same_Some _ _ (sym f.holds ∙ ap (held_at (put arena.slots id x)) is ∙ put_same arena.slots id h x e) in
+      let was : h.closing ≡ true = sym o ∙ ap (λ (z : HandleRecord). z.closing) (sym y) ∙ f.fits in
+      subst (λ (j : Id). was_closed p past j ≡ true) (sym is) (k.closing id (record { handle = h; holds = e; fits = was }))
+  closing i f false s = k.closing i (record {
+    handle = f.handle;
+    holds = sym (put_other arena.slots id i h x e (other i id s)) ∙ f.holds;
+    fits = f.fits;
+  })
+
+  shut : (i : Id) → IsShut arena i → IsShut (record arena { slots = put arena.slots id x }) i
+  shut i (inl f) = inl (fits_put arena.slots Closes id h x e (λ c. o ∙ c) i f)
+  shut i (inr g) = inr (gone_put arena.slots arena.free id h x i e g)
+
+none_is_none : (h : HandleRecord) → ◌≡◌ {A = Option HandleRecord} None (Some h) → ⊥
+none_is_none h e = cc e
+
+-- ---- lines
+
+-- a line that tells nothing of names and closing
+pub record IsQuiet (p : Program) (l : Seen) : Type 0 where
+  pub binding : (v : Var) (before : Option Id) → bound_by (answered p l) v before ≡ before
+  pub closing : closes_by (answered p l) ≡ None
+  pub closed : (id : Id) → is_closed_line l id ≡ false
+
+pub known_quiet : (p : Program) (past : List Seen) (l : Seen) (arena : Slots Content) (names : List Named) → IsQuiet p l → Known p past arena names →
+    Known p (l ∷ past) arena names
+known_quiet p past l arena names q k = record {
+  binding = λ v id e. q.binding v (bound p past v) ∙ k.binding v id e;
+  closing = λ id f. same_closed id ∙ k.closing id f;
+  closed = λ id c. k.closed id (sym (same_closed id) ∙ c);
+  over = λ id c. k.over id (sym (same_over id) ∙ c);
+} where
+  same_closed : (id : Id) → was_closed p (l ∷ past) id ≡ was_closed p past id
+  same_closed id = rw q.closing refl
+
+  same_over : (id : Id) → has_closed_line (l ∷ past) id ≡ has_closed_line past id
+  same_over id = rw (q.closed id) refl
+
+-- an op that neither binds a name nor closes a handle
+pub record IsQuietOp (o : Op) (a : Answer) : Type 0 where
+  pub binding : (v : Var) (before : Option Id) → binds o a v before ≡ before
+  pub closing : closes o a ≡ None
+
+pub is_answered : (p : Program) (place : Site) (o : Op) (a : Answer) → op_at p place ≡ Some o →
+    answered p (seen.Op place a) ≡ Some (record { op = o; answer = a })
+is_answered p place o a e = ap (option_map (λ (x : Op). record { op = x; answer = a })) e
+
+pub quiet_op : (p : Program) (place : Site) (o : Op) (a : Answer) → op_at p place ≡ Some o → IsQuietOp o a → IsQuiet p (seen.Op place a)
+quiet_op p place o a e q = record {
+  binding = λ v before. rw (is_answered p place o a e) (q.binding v before);
+  closing = rw (is_answered p place o a e) q.closing;
+  closed = λ id. refl;
+}
+
+or_right : (a b : Bool) → b ≡ true → (a || b) ≡ true
+or_right true b e = refl
+or_right false b e = e
+
+or_left : (a b : Bool) → a ≡ true → (a || b) ≡ true
+or_left true b e = refl
+or_left false b e = cc e
+
+either : (a b : Bool) → (a || b) ≡ true → (a ≡ true) ⊎ (b ≡ true)
+either true b e = inl refl
+either false b e = inr e
+
+-- a handle that doesn't close is closed
+pub known_close : (p : Program) (past : List Seen) (place : Site) (v : Var) (arena : Slots Content) (names : List Named) (id : Id)
+    (h x : HandleRecord) → op_at p place ≡ Some (op.Close v) → id_in names v ≡ Some id → held_at arena.slots id ≡ Some h → x.closing ≡ true →
+    Known p past arena names →
+    Known p (seen.Op place (answer.Code code.Ok) ∷ past) (record arena { slots = put arena.slots id x }) names
+known_close p past place v arena names id h x e is holds shut k = record {
+  binding = λ u i f. rw said (k.binding u i f);
+  closing = λ i f. rw closed_now (closing i f (same_id i id) refl);
+  closed = λ i c. closed i (either (is_some_id i (bound p past v)) (was_closed p past i) (sym (ap
+      (λ (o : Option Var). is_bound p past i o || was_closed p past i) closed_now) ∙ c));
+  over = λ i c. gone_put arena.slots arena.free id h x i holds (k.over i c);
+} where
+  said : answered p (seen.Op place (answer.Code code.Ok)) ≡ Some (record { op = op.Close v; answer = answer.Code code.Ok })
+  said = is_answered p place (op.Close v) (answer.Code code.Ok) e
+
+  closed_now : closes_by (answered p (seen.Op place (answer.Code code.Ok))) ≡ Some v
+  closed_now = ap closes_by said
+
+  its_id : bound p past v ≡ Some id
+  its_id = k.binding v id is
+
+  closing : (i : Id) → Fits (put arena.slots id x) Closes i → (b : Bool) → same_id i id ≡ b →
+      (is_some_id i (bound p past v) || was_closed p past i) ≡ true
+  closing i f true s = or_left _ _ (ap (is_some_id i) its_id ∙ itself id i (sym (same i id s)))
+  closing i f false s = or_right _ _ (k.closing i (record {
+    handle = f.handle;
+    holds = sym (put_other arena.slots id i h x holds (other i id s)) ∙ f.holds;
+    fits = f.fits;
+  }))
+
+  closed : (i : Id) → (is_some_id i (bound p past v) ≡ true) ⊎ (was_closed p past i ≡ true) →
+      IsShut (record arena { slots = put arena.slots id x }) i
+  closed i (inl c) = inl (record {
+    handle = x;
+    holds = ap (held_at (put arena.slots id x)) (sym (same id i (sym (ap (is_some_id i) its_id) ∙ c))) ∙ put_same arena.slots id h x holds;
+    fits = shut;
+  })
+  closed i (inr c) = earlier (k.closed i c) where
+    earlier : IsShut arena i → IsShut (record arena { slots = put arena.slots id x }) i
+    earlier (inl f) = inl (fits_put arena.slots Closes id h x holds (λ g. shut) i f)
+    earlier (inr g) = inr (gone_put arena.slots arena.free id h x i holds g)
+
+-- a name is bound to a new handle, which doesn't close
+pub known_new : (p : Program) (past : List Seen) (place : Site) (v : Var) (q : Kind) (arena more : Slots Content) (names : List Named) (id : Id)
+    (x : HandleRecord) (n : Named) → op_at p place ≡ Some (op.Init v q) → n.id ≡ Some id → Grown arena.slots more.slots id x → x.closing ≡ false →
+    ((i : Id) → IsGone arena.slots arena.free i → IsGone more.slots more.free i) → Known p past arena names →
+    Known p (seen.Op place (answer.Id id) ∷ past) more (slice_set names v.0 n)
+known_new p past place v q arena more names id x n e is grown stays gone k = record {
+  binding = λ u i f. rw said (binding u i (v.0 == u.0) refl f);
+  closing = λ i f. rw said (k.closing i (earlier i f (same_id i id) refl));
+  closed = λ i c. later i (k.closed i (sym (ap (λ (o : Option Answered). is_bound p past i (closes_by o) || was_closed p past i) said) ∙ c));
+  over = λ i c. gone i (k.over i c);
+} where
+  said : answered p (seen.Op place (answer.Id id)) ≡ Some (record { op = op.Init v q; answer = answer.Id id })
+  said = is_answered p place (op.Init v q) (answer.Id id) e
+
+  binding : (u : Var) (i : Id) (b : Bool) → (v.0 == u.0) ≡ b → id_in (slice_set names v.0 n) u ≡ Some i →
+      (if v.0 == u.0 then Some id else bound p past u) ≡ Some i
+  binding u i true f g =
+      let here : v.0 ≡ u.0 = eqb-true v.0 u.0 f in
+      rw f (sym is ∙ own_id names v.0 n i (ap (λ (j : ℕ). (unwrap_or (slice_get (slice_set names v.0 n) j) unbound).id) here ∙ g))
+  binding u i false f g =
+      let apart : u.0 ≡ v.0 → ⊥ = λ is. both_ways (v.0 == u.0) f (eq-eqb v.0 u.0 (sym is)) in
+      rw f (k.binding u i (ap (λ (o : Option Named). (unwrap_or o unbound).id) (sym (set_there names v.0 u.0 n apart)) ∙ g))
+
+  earlier : (i : Id) → Fits more.slots Closes i → (b : Bool) → same_id i id ≡ b → Fits arena.slots Closes i
+  earlier i f true s =
+      let y : f.handle ≡ x = same_Some _ _ (sym f.holds ∙ ap (held_at more.slots) (same i id s) ∙ grown.here) in
+      absurd (open_shut f.handle f.fits (ap (λ (z : HandleRecord). z.closing) y ∙ stays))
+  earlier i f false s = record { handle = f.handle; holds = sym (grown.others i (other i id s)) ∙ f.holds; fits = f.fits }
+
+  later : (i : Id) → IsShut arena i → IsShut more i
+  later i (inl f) = inl (record { handle = f.handle; holds = grown.others i (away f) ∙ f.holds; fits = f.fits }) where
+    away : Fits arena.slots Closes i → i ≡ id → ⊥
+    away f same = none_is_none f.handle (sym grown.new ∙ ap (held_at arena.slots) (sym same) ∙ f.holds)
+  later i (inr g) = inr (gone i g)
+
+-- a closing handle has its `closed` line, and its slot is freed or retired
+pub known_gone : (p : Program) (past : List Seen) (v : Var) (arena : Slots Content) (more : List ℕ) (names : List Named) (id : Id) (h : HandleRecord)
+    (n : ℕ) → held_at arena.slots id ≡ Some h → id.generation ≤ n → (id.generation < n) ⊎ (has_number more id.slot ≡ false) →
+    ((m : ℕ) → (m ≡ id.slot → ⊥) → has_number arena.free m ≡ false → has_number more m ≡ false) → Known p past arena names →
+    Known p (seen.Closed v id ∷ past) (record arena { slots = emptied arena.slots id n; free = more }) names
+known_gone p past v arena more names id h n e l last others k = record {
+  binding = k.binding;
+  closing = λ i f. k.closing i (earlier i f (same_id i id) refl);
+  closed = λ i c. later i (same_id i id) refl (k.closed i c);
+  over = λ i c. over i (either (same_id id i) (has_closed_line past i) c);
+} where
+  earlier : (i : Id) → Fits (emptied arena.slots id n) Closes i → (b : Bool) → same_id i id ≡ b → Fits arena.slots Closes i
+  earlier i f true s = absurd (none_is_none f.handle (sym (emptied_same arena.slots id h n e)
+      ∙ ap (held_at (emptied arena.slots id n)) (sym (same i id s)) ∙ f.holds))
+  earlier i f false s = record { handle = f.handle; holds = sym (emptied_other arena.slots id i h n e (other i id s)) ∙ f.holds; fits = f.fits }
+
+  gone : (i : Id) → IsGone arena.slots arena.free i → IsGone (emptied arena.slots id n) more i
+  gone i g = gone_emptied arena.slots arena.free more id h n i e l others g
+
+  now : (i : Id) → i ≡ id → IsGone (emptied arena.slots id n) more i
+  now i is = subst (IsGone (emptied arena.slots id n) more) (sym is) (gone_now arena.slots more id h n e last)
+
+  later : (i : Id) (b : Bool) → same_id i id ≡ b → IsShut arena i → IsShut (record arena { slots = emptied arena.slots id n; free = more }) i
+  later i true s k = inr (now i (same i id s))
+  later i false s (inl f) = inl (record { handle = f.handle; holds = emptied_other arena.slots id i h n e (other i id s) ∙ f.holds; fits = f.fits })
+  later i false s (inr g) = inr (gone i g)
+
+  over : (i : Id) → (same_id id i ≡ true) ⊎ (has_closed_line past i ≡ true) → IsGone (emptied arena.slots id n) more i
+  over i (inl s) = now i (sym (same id i s))
+  over i (inr c) = gone i (k.over i c)

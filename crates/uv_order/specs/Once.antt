@@ -1,0 +1,89 @@
+-- Each handle closes once: a predicate over the lines of a trace alone, without a state (uv_close). An id has at most one `closed` line,
+-- which stands behind an accepted `close` of it, and no `call` line behind that `close`.
+use Rattle.std.specs.Prelude.{◌≡◌, ◌==◌, ◌||◌, List, [], ◌∷◌, Bool, true, false, Option, Some, None, option_map, if◌then◌else◌}
+use Rattle.uv_ids.specs.declared.id.Id.{Id}
+use Rattle.uv_ids.specs.declared.id.Var.{Var}
+use Rattle.uv_ids.specs.declared.code.Code.TheVariants.{Ok as Success}
+use Rattle.uv_ids.specs.declared.code.Answer.{Answer}
+use Rattle.uv_ids.specs.declared.code.Answer.TheVariants as answer
+use Rattle.uv_ids.specs.declared.seen.Seen.{Seen}
+use Rattle.uv_ids.specs.declared.seen.Seen.TheVariants as seen
+use Rattle.uv_script.specs.declared.op.Op.{Op}
+use Rattle.uv_script.specs.declared.op.Op.TheVariants as op
+use Rattle.uv_script.specs.Program.{Program, op_at}
+use Rattle.uv_model.specs.Ids.{same_id}
+
+-- an op with what was answered to it
+pub record Answered : Type 0 where
+  pub op : Op
+  pub answer : Answer
+
+-- the op of a line, if it is that of one
+abbrev pub answered : Program → Seen → Option Answered
+answered p (seen.Op place a) = option_map (λ (o : Op). record { op = o; answer = a }) (op_at p place)
+answered p l = None
+
+-- ---- names
+
+-- the id that a name is bound to: that which its last `init` answered. Lines stand with the last one first
+abbrev pub binds : Op → Answer → Var → Option Id → Option Id
+binds (op.Init u kind) (answer.Id id) v before = if u.0 == v.0 then Some id else before
+binds o a v before = before
+
+abbrev pub bound_by : Option Answered → Var → Option Id → Option Id
+bound_by None v before = before
+bound_by (Some x) v before = binds x.op x.answer v before
+
+abbrev pub bound : Program → List Seen → Var → Option Id
+bound p [] v = None
+bound p (l ∷ past) v = bound_by (answered p l) v (bound p past v)
+
+-- ---- what was closed
+
+-- the name that an accepted `close` closes
+abbrev pub closes : Op → Answer → Option Var
+closes (op.Close v) (answer.Code Success) = Some v
+closes o a = None
+
+abbrev pub closes_by : Option Answered → Option Var
+closes_by None = None
+closes_by (Some x) = closes x.op x.answer
+
+abbrev pub is_some_id : Id → Option Id → Bool
+is_some_id id None = false
+is_some_id id (Some i) = same_id i id
+
+abbrev pub is_bound : Program → List Seen → Id → Option Var → Bool
+is_bound p past id None = false
+is_bound p past id (Some v) = is_some_id id (bound p past v)
+
+-- a `close` of the id was accepted
+abbrev pub was_closed : Program → List Seen → Id → Bool
+was_closed p [] id = false
+was_closed p (l ∷ past) id = is_bound p past id (closes_by (answered p l)) || was_closed p past id
+
+-- its close callback began
+abbrev pub is_closed_line : Seen → Id → Bool
+is_closed_line (seen.Closed v i) id = same_id i id
+is_closed_line l id = false
+
+abbrev pub has_closed_line : List Seen → Id → Bool
+has_closed_line [] id = false
+has_closed_line (l ∷ past) id = is_closed_line l id || has_closed_line past id
+
+-- ---- the lines
+
+-- a line may follow these
+abbrev pub MayFollow : Program → List Seen → Seen → Type 0
+MayFollow p past (seen.Call v id) = was_closed p past id ≡ false
+MayFollow p past (seen.Closed v id) = (was_closed p past id ≡ true) × (has_closed_line past id ≡ false)
+MayFollow p past l = Unit {0}
+
+-- each of these may follow those before it
+abbrev pub OnceFrom : Program → List Seen → List Seen → Type 0
+OnceFrom p past [] = Unit {0}
+OnceFrom p past (l ∷ ls) = MayFollow p past l × OnceFrom p (l ∷ past) ls
+
+-- each handle closes once, by these lines
+abbrev pub Once : Program → List Seen → Type 0
+Once p ls = OnceFrom p [] ls
