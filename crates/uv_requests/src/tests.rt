@@ -1,6 +1,6 @@
 //! What no clause says: a worked example of the order in which requests are done, and each call once with ample memory.
 ghost use Rattle.std.specs.Prelude.{Some, None};
-ghost use Rattle.uv_requests.specs.Working.{working, IsWork};
+ghost use Rattle.uv_requests.specs.Working.{Running, working, IsWork};
 ghost use Rattle.uv_requests.specs.declared.tests.Content.{Content};
 ghost use Rattle.uv_requests.specs.declared.tests.Content.TheVariants.{Handle as handle, Request as request};
 
@@ -138,15 +138,21 @@ impl Pool {
     }
 
     fn take(&mut self, worker: u16) -> Result<Id, Why> {
-        let (id, _) = self.requests.take(&mut self.slots, worker)?;
-        Ok(id)
+        match self.requests.take(&mut self.slots, worker) {
+            Ok((id, _)) => Ok(id),
+            Err(why) => Err(why),
+        }
     }
 
     fn take_and_back(&mut self, worker: u16) -> Result<(Id, Seen), Why> {
-        let (id, undo) = self.requests.take(&mut self.slots, worker)?;
-        let seen = self.seen(id);
-        self.requests.undo_take(&mut self.slots, undo);
-        Ok((id, seen))
+        match self.requests.take(&mut self.slots, worker) {
+            Ok((id, undo)) => {
+                let seen = self.seen(id);
+                self.requests.undo_take(&mut self.slots, undo);
+                Ok((id, seen))
+            }
+            Err(why) => Err(why),
+        }
     }
 
     /// The result of the job of a request.
@@ -157,16 +163,25 @@ impl Pool {
         }
     }
 
-    fn finish(&mut self, worker: u16, work: WorkResult) -> Result<Id, Why> {
-        let (id, _) = self.requests.finish(&mut self.slots, worker, work)?;
-        Ok(id)
+    /// A worker hands in the result of the job of this request, which is there.
+    fn finish(&mut self, worker: u16, of: Id) -> Option<Result<Id, Why>> {
+        let work = self.result(of)?;
+        match self.requests.finish(&mut self.slots, worker, work) {
+            Ok((id, _)) => Some(Ok(id)),
+            Err(why) => Some(Err(why)),
+        }
     }
 
-    fn finish_and_back(&mut self, worker: u16, work: WorkResult) -> Result<(Id, Seen), Why> {
-        let (id, undo) = self.requests.finish(&mut self.slots, worker, work)?;
-        let seen = self.seen(id);
-        self.requests.undo_finish(&mut self.slots, undo);
-        Ok((id, seen))
+    fn finish_and_back(&mut self, worker: u16, of: Id) -> Option<(Id, Seen)> {
+        let work = self.result(of)?;
+        match self.requests.finish(&mut self.slots, worker, work) {
+            Ok((id, undo)) => {
+                let seen = self.seen(id);
+                self.requests.undo_finish(&mut self.slots, undo);
+                Some((id, seen))
+            }
+            Err(_) => None,
+        }
     }
 
     fn cancel(&mut self, id: Id) -> Result<(), Code> {
@@ -205,25 +220,39 @@ impl Pool {
     }
 
     fn collect(&mut self) -> Option<(Id, Outcome)> {
-        let (id, request, _) = self.requests.collect(&mut self.slots)?;
-        Some((id, request.outcome()))
+        match self.requests.collect(&mut self.slots) {
+            Some((id, request, _)) => Some((id, request.outcome())),
+            None => None,
+        }
     }
 
     fn collect_and_back(&mut self) -> Option<(Id, Seen)> {
-        let (id, _, undo) = self.requests.collect(&mut self.slots)?;
-        let seen = self.seen(id);
-        self.requests.undo_collect(&mut self.slots, undo);
-        Some((id, seen))
+        match self.requests.collect(&mut self.slots) {
+            Some((id, _, undo)) => {
+                let seen = self.seen(id);
+                self.requests.undo_collect(&mut self.slots, undo);
+                Some((id, seen))
+            }
+            None => None,
+        }
     }
 
     fn put_handle(&mut self, number: u32) -> Option<Id> {
-        match self.slots.insert(Content::Handle(number)) {
-            Ok((id, inserted)) => {
-                let _ = inserted;
-                Some(id)
-            }
-            Err(_) => None,
+        put_handle(&mut self.slots, number)
+    }
+}
+
+/// Puts a handle in a slot, which is no request.
+fn put_handle(slots: &mut Slots<Content>, number: u32) -> Option<Id>
+    ensures { (r : Running) → IsWork (λ (x : Content). elim x [ handle n ↦ None | request q ↦ Some q ]) (working slots.old r)
+        → IsWork (λ (x : Content). elim x [ handle n ↦ None | request q ↦ Some q ]) (working slots.new r) }
+{
+    match slots.insert(Content::Handle(number)) {
+        Ok((id, inserted)) => {
+            let _ = inserted;
+            Some(id)
         }
+        Err(_) => None,
     }
 }
 
@@ -243,12 +272,8 @@ fn the_first_that_is_done_is_collected_first(rt: HostRuntime) -> Result<(), Fail
     assert_eq!(rt; pool.take(0), Ok(id(0)));
     assert_eq!(rt; pool.take(1), Ok(id(1)));
     assert_eq!(rt; pool.cancel(id(2)), Ok(()));
-    for (worker, slot) in [(1, 1), (0, 0)] {
-        match pool.result(id(slot)) {
-            Some(work) => assert_eq!(rt; pool.finish(worker, work), Ok(id(slot))),
-            None => assert!(rt; false, "request {slot} is there"),
-        }
-    }
+    assert_eq!(rt; pool.finish(1, id(1)), Some(Ok(id(1))));
+    assert_eq!(rt; pool.finish(0, id(0)), Some(Ok(id(0))));
     assert_eq!(rt; pool.collect(), None);
     pool.begin();
     assert_eq!(rt; pool.seen(id(0)).open, 3);
@@ -312,14 +337,9 @@ fn an_end_is_taken_back(rt: HostRuntime) -> Result<(), Fail> {
         done: Some(id(0)),
         ..taken
     };
-    match pool.result(id(0)) {
-        Some(work) => {
-            assert_eq!(rt; pool.finish_and_back(0, work), Ok((id(0), finished)));
-            assert_eq!(rt; pool.seen(id(0)), taken);
-            assert_eq!(rt; pool.finish(0, work), Ok(id(0)));
-        }
-        None => assert!(rt; false, "the request is there"),
-    }
+    assert_eq!(rt; pool.finish_and_back(0, id(0)), Some((id(0), finished)));
+    assert_eq!(rt; pool.seen(id(0)), taken);
+    assert_eq!(rt; pool.finish(0, id(0)), Some(Ok(id(0))));
     let begun = Seen {
         done: None,
         yet: Some(id(0)),
@@ -348,15 +368,10 @@ fn what_is_refused(rt: HostRuntime) -> Result<(), Fail> {
     assert_eq!(rt; pool.queue(1, b""), Some(id(1)));
     assert_eq!(rt; pool.put_handle(7), Some(id(2)));
     assert_eq!(rt; pool.queue(3, b""), None);
-    match pool.result(id(1)) {
-        Some(other) => {
-            assert_eq!(rt; pool.finish(1, other), Err(Why::NoWorker));
-            assert_eq!(rt; pool.finish(0, other), Err(Why::IdleWorker));
-            assert_eq!(rt; pool.take(0), Ok(id(0)));
-            assert_eq!(rt; pool.finish(0, other), Err(Why::NoWork));
-        }
-        None => assert!(rt; false, "the request is there"),
-    }
+    assert_eq!(rt; pool.finish(1, id(1)), Some(Err(Why::NoWorker)));
+    assert_eq!(rt; pool.finish(0, id(1)), Some(Err(Why::IdleWorker)));
+    assert_eq!(rt; pool.take(0), Ok(id(0)));
+    assert_eq!(rt; pool.finish(0, id(1)), Some(Err(Why::NoWork)));
     assert_eq!(rt; pool.take(0), Err(Why::BusyWorker));
     assert_eq!(rt; pool.cancel(id(0)), Err(Code::Ebusy));
     assert_eq!(rt; pool.cancel(id(1)), Ok(()));
