@@ -180,8 +180,8 @@ module _ {X : Type 0} (read : X → Option Request) (make : Request → X) (give
   }
 
 -- what doesn't wait
-module _ {X : Type 0} (read : X → Option Request) (i : Image X) (r : Running) (s : IsSound i) (w : IsWork read (working i r)) (d : Id) (from : Request)
-    (there : request_in read i d ≡ Some from) where
+module _ {X : Type 0} (read : X → Option Request) (i : Image X) (r : Running) (s : IsSound i) (w : IsWork read (working i r)) (d : Id)
+    (from : Request) (there : request_in read i d ≡ Some from) where
   no_wait : ((x : ℕ) → IsIn x (members i Waiting) → id_in i x ≡ d → ⊥) → waits (map (id_in i) (members i Waiting)) d ≡ false
   no_wait h = none_of (λ z. same_id z d) (id_in i) (members i Waiting) (λ x m. not_same (id_in i x) d (h x m))
 

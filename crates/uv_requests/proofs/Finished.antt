@@ -31,7 +31,9 @@ module _ {X : Type 0} (read : X → Option Request) (make : Request → X) (give
   run = w.running c d runs
 
   opened : is_open from.outcome ≡ true
-  opened = let same : run.request.request ≡ from = cc (run.request.is, there) in subst (λ (q : Request). is_open q.outcome ≡ true) same run.request.outcome
+  opened =
+      let same : run.request.request ≡ from = cc (run.request.is, there) in
+      subst (λ (q : Request). is_open q.outcome ≡ true) same run.request.outcome
 
   same : (e : Id) → e.slot ≢ d.slot → held j e ≡ held i e
   same e ne = p.slots.contents e ∙ put.contents e ne

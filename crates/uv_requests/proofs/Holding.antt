@@ -73,7 +73,8 @@ module _ {X : Type 0} (read : X → Option Request) where
   pub not_both : (i : Image X) (d : Id) → IsHeld read i d true → IsHeld read i d false → ⊥
   not_both i d a b =
       let same : a.request ≡ b.request = cc (a.is, b.is) in
-      let opened : is_open a.request.outcome ≡ is_open b.request.outcome = ap (λ (r : Request). is_open r.outcome) same in cc (opened, a.outcome, b.outcome)
+      let opened : is_open a.request.outcome ≡ is_open b.request.outcome = ap (λ (r : Request). is_open r.outcome) same in
+      cc (opened, a.outcome, b.outcome)
 
   -- a request that is on no list is a member of none
   pub loose_apart : (i : Image X) → IsSound i → (d : Id) (b : Bool) → IsHeld read i d b → on_list i d ≡ false → (l : ListName)

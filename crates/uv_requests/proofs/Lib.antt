@@ -1,10 +1,12 @@
 pub mod Begun
+pub mod Beside
 pub mod Bounds
 pub mod Cancelled
 pub mod Collected
 pub mod Cut
 pub mod Ending
 pub mod Finished
+pub mod Fresh
 pub mod Holding
 pub mod Queued
 pub mod Rules

@@ -79,7 +79,9 @@ module _ {X : Type 0} (read : X → Option Request) (make : Request → X) (give
   waits_now = p.lists ∙ ap (λ xs. xs ++ d.slot ∷ []) (put.lists Waiting)
 
   elsewhere : (l : ListName) (x : ℕ) → IsIn x (members i l) → x ≢ d.slot
-  elsewhere l x h e = not_member k sound d (make req) put.now put.loose l (subst (IsIn d.slot) (sym (put.lists l)) (subst (λ z. IsIn z (members i l)) e h))
+  elsewhere l x h e =
+      not_member k sound d (make req) put.now put.loose l
+      (subst (IsIn d.slot) (sym (put.lists l)) (subst (λ z. IsIn z (members i l)) e h))
 
   run_elsewhere : (e : Id) → IsRun read i e → e.slot ≢ d.slot
   run_elsewhere e q y =
@@ -165,7 +167,8 @@ module _ {X : Type 0} (read : X → Option Request) (make : Request → X) (give
   }
 
   back : queue_undone (record { inserted = u; count = r.count }) (working j now) ≡ working i r
-  back = (λ l. working (insert_undone u (ap (λ z. push_undone z j) put.slot l)) r) ∙ ap (λ z. working (insert_undone u z) r) p.undone ∙ ap (λ z. working z r) put.undone
+  back = (λ l. working (insert_undone u (ap (λ z. push_undone z j) put.slot l)) r)
+      ∙ ap (λ z. working (insert_undone u z) r) p.undone ∙ ap (λ z. working z r) put.undone
 
   pub queue_done : IsQueued read make (working i r) (working j now) req d (record { inserted = u; count = r.count })
   queue_done = record {

@@ -32,7 +32,8 @@ pub waits_at : (f : ℕ → Id) (us vs : List ℕ) (x : ℕ) → waits (map f (u
 waits_at f [] vs x = ap (λ u. u || waits (map f vs) (f x)) (same_itself (f x))
 waits_at f (u ∷ us) vs x = ap (λ b. same_id (f u) (f x) || b) (waits_at f us vs x) ∙ or_true (same_id (f u) (f x))
 
-pub without_at : (f : ℕ → Id) (us vs : List ℕ) (x : ℕ) → ((u : ℕ) → IsIn u us → f u ≡ f x → ⊥) → without (map f (us ++ x ∷ vs)) (f x) ≡ map f (us ++ vs)
+pub without_at : (f : ℕ → Id) (us vs : List ℕ) (x : ℕ) → ((u : ℕ) → IsIn u us → f u ≡ f x → ⊥)
+    → without (map f (us ++ x ∷ vs)) (f x) ≡ map f (us ++ vs)
 without_at f [] vs x h = ap (λ b. cond b (map f vs) (f x ∷ without (map f vs) (f x))) (same_itself (f x))
 without_at f (u ∷ us) vs x h =
     ap (λ b. cond b (map f (us ++ x ∷ vs)) (f u ∷ without (map f (us ++ x ∷ vs)) (f x))) (not_same (f u) (f x) (h u (inl refl)))
@@ -92,7 +93,8 @@ module _ (p : Pool) where
   abbrev pub taken : ℕ → Id → List Id → Pool
   taken k d rest = record p { waiting = rest; running = set p.running k (Some d) }
 
-  pub take_rule : (k : ℕ) (d : Id) (rest : List Id) → slice_get p.running k ≡ Some None → p.waiting ≡ d ∷ rest → after_take p k d ≡ Some (taken k d rest)
+  pub take_rule : (k : ℕ) (d : Id) (rest : List Id) → slice_get p.running k ≡ Some None → p.waiting ≡ d ∷ rest
+      → after_take p k d ≡ Some (taken k d rest)
   take_rule k d rest a b = (λ l. taken_by p k d (a l) (b l)) ∙ ap (λ u. cond u (Some (taken k d rest)) None) (same_itself d)
 
   pub take_size : (k : ℕ) (d : Id) (rest : List Id) → slice_get p.running k ≡ Some None → p.waiting ≡ d ∷ rest → size (taken k d rest) ≡ size p
@@ -109,7 +111,9 @@ module _ (p : Pool) where
 
   pub finish_size : (k : ℕ) (d : Id) → slice_get p.running k ≡ Some (Some d) → size (finished k d) ≡ size p
   finish_size k d a =
-      let less = busy_set_none p.running k d a in let more = length-append p.done (record { id = d; finished = true } ∷ []) in omega (arith, less, more)
+      let less = busy_set_none p.running k d a in
+      let more = length-append p.done (record { id = d; finished = true } ∷ []) in
+      omega (arith, less, more)
 
   abbrev pub cancelled : Id → List Id → Pool
   cancelled d rest = record p { waiting = rest; done = p.done ++ record { id = d; finished = false } ∷ [] }

@@ -1,5 +1,5 @@
 -- The requests of an arena, what the workers run, and the pool that these are.
-use Rattle.std.specs.Prelude.{◌≡◌, ℕ, Bool, true, false, List, ◌++◌, map, Option, Some, None, option_map, option_and_then, slice_get}
+use Rattle.std.specs.Prelude.{◌≡◌, ℕ, Bool, true, false, List, ◌++◌, map, Option, Some, None, option_map, option_and_then, slice_get, replicate}
 use Rattle.uv_ids.specs.declared.id.Id.{Id}
 use Rattle.uv_records.specs.declared.lists.ListName.TheVariants.{Waiting, Done as Ended, DoneYet as EndedYet}
 use Rattle.uv_arena.specs.Chains.{IsIn}
@@ -16,6 +16,10 @@ pub record Running : Type 0 where
 pub record Working (X : Type 0) : Type 0 where
   pub arena : Image X
   pub running : Running
+
+-- so many workers that run nothing, and no request
+abbrev pub idle_workers : ℕ → Running
+idle_workers n = record { workers = replicate n None; count = 0 }
 
 module _ {X : Type 0} where
   abbrev pub working : Image X → Running → Working X

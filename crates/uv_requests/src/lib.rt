@@ -13,5 +13,8 @@ mod waiting;
 mod workers;
 
 pub use content::HoldsWork;
-pub use requests::{Requests, request_at};
+pub use requests::{Requests, fresh_requests, request_at};
 pub use undo::{CancelUndo, CollectUndo, FinishUndo, QueueUndo, TakeUndo};
+
+#[cfg(test)]
+mod tests;

@@ -1,8 +1,9 @@
 //! What the workers run, and how many requests are open.
-ghost use Rattle.std.specs.Prelude.{◌≡◌, ◌<◌, Bool, Option, Some, None, IfOk, IfErr, length, slice_get, slice_set, replicate};
+ghost use Rattle.std.specs.Prelude.{◌≡◌, ◌<◌, Bool, Option, Some, None, IfOk, IfErr, length, slice_get, slice_set, ℕ};
 ghost use Rattle.uv_ids.specs.declared.code.Code.{Code};
+ghost use Rattle.uv_arena.specs.Image.{fresh_image};
 ghost use Rattle.uv_work.specs.Requests.{cancel_refusal};
-ghost use Rattle.uv_requests.specs.Working.{request_in, found};
+ghost use Rattle.uv_requests.specs.Working.{working, idle_workers, request_in, found, IsWork};
 ghost use Rattle.uv_requests.specs.Undo.{reopened_in, CanReopen};
 
 use crate::content::HoldsWork;
@@ -30,7 +31,7 @@ impl Model for Requests {
 impl Requests {
     /// Those of an arena without requests, with so many workers. No other call takes memory.
     pub fn new(alloc: Global, workers: u16) -> Result<Requests, AllocError>
-        ensures { IfOk result (λ r. r ≡ record { workers = replicate workers None; count = 0 }) }
+        ensures { IfOk result (λ r. r ≡ idle_workers workers) }
     {
         let mut running = Vec::new(alloc);
         running.resize(workers as usize, None)?;
@@ -65,6 +66,12 @@ impl Requests {
     {
         self.count = count;
     }
+}
+
+/// Requests as they are made are those of an arena as it is made: what each call asks for holds there.
+pub fn fresh_requests<T: HoldsWork>()
+    ensures { (capacity last workers : ℕ) → IsWork T.held_request (working (fresh_image _ capacity last) (idle_workers workers)) }
+{
 }
 
 /// The record of a request. ESTALE if nothing is held under the id, EKIND if it is a handle.

@@ -1,0 +1,3 @@
+pub mod Content
+pub mod Undone
+pub mod Trail
