@@ -10,13 +10,17 @@ use Rattle.std.proofs.lemmas.Option.{same_Some, cond_some, none-some, slice_get_
 use Rattle.uv_ids.specs.declared.fault.Fault.{Fault}
 use Rattle.uv_ids.specs.declared.fault.Fault.TheVariants as fault
 use Rattle.uv_ids.specs.declared.seen.Callback.TheVariants as callback
-use Rattle.uv_script.specs.Grammar.{Statement, Declares, InMain, InCallback, Sizes, Says, declares, in_main, runs, closes_loop, in_callback, in_call, sizes, sizes_to, HasRoom, with_statement, Reads, skips, says, ReadsAll, none, one, blank, IsBadLine, Parses}
+use Rattle.uv_script.specs.Grammar.{Statement, Declares, InMain, InCallback, Sizes, HasWorkers, Says, declares, in_main, runs, closes_loop, in_callback, in_call, sizes, sizes_to, has_workers, HasRoom, with_statement, Reads, skips, says, ReadsAll, none, one, blank, IsBadLine, Parses}
 use Rattle.uv_script.specs.Lines.{lines_of, fields_of}
 use Rattle.uv_script.specs.Program.{Program, line_count}
 use Rattle.uv_script.specs.Reading.{statement_of, has_room, IsSound, after_line, ReadsLine}
 use Rattle.uv_script.specs.Checks.{is_line, is_skipped}
 use Rattle.uv_script.proofs.Agrees.{AreDistinct, bound, statement_sound, statement_complete}
 use Rattle.uv_script.proofs.Checks.{is_line_decides, is_skipped_decides}
+
+unsaid : {A : Type 0} (x : Option A) → is_none x ≡ true → x ≡ None
+unsaid None h = refl
+unsaid (Some a) h = absurd (both_ways false refl h)
 
 pub room_sound : (p : Program) (s : Statement) → has_room p s ≡ true → HasRoom p s
 room_sound p (Declares name) e =
@@ -25,10 +29,7 @@ room_sound p (Declares name) e =
 room_sound p (InMain op) e = ltb-true (line_count p) 65535 e
 room_sound p (InCallback kind v line) e = ltb-true (line_count p) 65535 e
 room_sound p (Sizes size) e = unsaid p.size e
-  where
-    unsaid : {A : Type 0} (x : Option A) → is_none x ≡ true → x ≡ None
-    unsaid None h = refl
-    unsaid (Some a) h = absurd (both_ways false refl h)
+room_sound p (HasWorkers n) e = unsaid p.workers e
 
 room_complete : (p : Program) (s : Statement) → HasRoom p s → has_room p s ≡ true
 room_complete p (Declares name) h = and_from (nat_lt (line_count p) 65535) (nat_lt (length p.names) 4096) (lt-ltb (line_count p) 65535 h.0)
@@ -36,6 +37,7 @@ room_complete p (Declares name) h = and_from (nat_lt (line_count p) 65535) (nat_
 room_complete p (InMain op) h = lt-ltb (line_count p) 65535 h
 room_complete p (InCallback kind v line) h = lt-ltb (line_count p) 65535 h
 room_complete p (Sizes size) h = ap is_none h
+room_complete p (HasWorkers n) h = ap is_none h
 
 -- what a line says can be added
 pub says_sound : (p : Program) (fields : List (List ℕ)) (s : Statement) → Says p.names fields s → IsSound p s
@@ -47,6 +49,7 @@ says_sound p fields s (in_callback kind name v rest op e declared is) = slice_ge
 says_sound p fields s (in_call kind name v number k rest op e declared is first last op_is) = slice_get_within p.names v.0 name declared
 says_sound p fields s (sizes slots n e is fits) = fits
 says_sound p fields s (sizes_to slots last n g e is fits last_is small) = fits
+says_sound p fields s (has_workers number n e is fits) = fits
 
 -- a line begins as its first field does
 onto_begins : (c b : ℕ) (word : List ℕ) (parts rest : List (List ℕ)) → onto_first c parts ≡ (b ∷ word) ∷ rest → c ≡ b
@@ -77,6 +80,7 @@ says_no_skip names line s (in_call callback.Handle name v number k rest op e dec
 says_no_skip names line s (in_call callback.Close name v number k rest op e declared is first last op_is) = line_begins line _ _ _ e
 says_no_skip names line s (sizes slots n e is fits) = line_begins line _ _ _ e
 says_no_skip names line s (sizes_to slots last n g e is fits last_is small) = line_begins line _ _ _ e
+says_no_skip names line s (has_workers number n e is fits) = line_begins line _ _ _ e
 
 -- a choice that gave something
 chosen : {A : Type 0} (b : Bool) (x : Option A) (y : A) → cond b x None ≡ Some y → (b ≡ true) × (x ≡ Some y)
@@ -119,6 +123,7 @@ distinct_push p (Declares name) distinct (is, fresh) =
 distinct_push p (InMain op) distinct sound = distinct
 distinct_push p (InCallback kind v line) distinct sound = distinct
 distinct_push p (Sizes size) distinct sound = distinct
+distinct_push p (HasWorkers n) distinct sound = distinct
 
 pub distinct_reads : (p q : Program) (line : List ℕ) → AreDistinct p.names → Reads p line q → AreDistinct q.names
 distinct_reads p q line distinct (skips is skipped) = distinct

@@ -13,9 +13,9 @@ use Rattle.uv_ids.specs.Words.{kind_word, mode_word}
 use Rattle.uv_script.specs.declared.op.Op.{Op}
 use Rattle.uv_script.specs.declared.op.Op.TheVariants as op
 use Rattle.uv_script.specs.declared.op.MainOp.TheVariants as main
-use Rattle.uv_script.specs.Grammar.{Statement, Declares, InMain, InCallback, Sizes, named_word, bare_word, IsOp, init, start, repeat, on_name, bare, callback_word, Says, declares, in_main, runs, closes_loop, in_callback, in_call, sizes, sizes_to}
-use Rattle.uv_script.specs.Reading.{first_of, none_left, place_of, kind_of, mode_of, init_of, timer_start_of, start_by, start_of, repeat_of, bare_op, named_op, name_alone, short_op_of, op_of, declaration_of, run_of, close_loop_of, main_by, main_of, call_of, marked, in_calls_of, in_call_of, calls_of, callback_of, last_of, size_of, statement_of}
-use Rattle.uv_script.specs.Program.{IsSlotCount, LAST_GENERATION}
+use Rattle.uv_script.specs.Grammar.{Statement, Declares, InMain, InCallback, Sizes, HasWorkers, named_word, bare_word, IsOp, init, start, repeat, on_name, bare, callback_word, Says, declares, in_main, runs, closes_loop, in_callback, in_call, sizes, sizes_to, has_workers}
+use Rattle.uv_script.specs.Reading.{first_of, none_left, place_of, kind_of, mode_of, init_of, timer_start_of, start_by, start_of, repeat_of, bare_op, named_op, name_alone, short_op_of, op_of, declaration_of, run_of, close_loop_of, main_by, main_of, call_of, marked, in_calls_of, in_call_of, calls_of, callback_of, last_of, size_of, workers_of, setting_of, statement_of}
+use Rattle.uv_script.specs.Program.{IsSlotCount, LAST_GENERATION, IsWorkerCount}
 use Rattle.uv_script.specs.Checks.{is_name, number_of}
 use Rattle.uv_script.specs.Words.{IsName, IsNumber, IsDeclared}
 use Rattle.uv_script.proofs.OpWords.{named_op-sound, bare_op-sound}
@@ -311,9 +311,35 @@ size_sound names fields s e =
     (size_says names slots.0.0 slots.0.1 n.0 g.0 (number_of-sound slots.0.0 n.0 n.1)
     (leb-true 1 n.0 tests.0, leb-true n.0 65535 tests.1) (last_sound slots.0.1 g.0 g.1)))
 
+workers_sound : (names fields : List (List ℕ)) (s : Statement) → workers_of fields ≡ Some s → Says names (codes "workers" ∷ fields) s
+unfolding workers_of
+workers_sound names fields s e =
+    let number = bound _ (first_of fields) s e in
+    let n = bound _ (number_of number.0.0) s number.2 in
+    let end = bound _ (none_left number.0.1) s n.2 in
+    let a = first_is fields number.0 number.1 in
+    let none = none_is number.0.1 end.0 end.1 in
+    let p = cond_some (nat_le 1 n.0 && nat_le n.0 1024) (HasWorkers n.0) s end.2 in
+    let tests = and_parts (nat_le 1 n.0) (nat_le n.0 1024) p.0 in
+    subst (Says names (codes "workers" ∷ fields)) p.1
+    (has_workers number.0.0 n.0 (ap (λ r. codes "workers" ∷ r) (a ∙ ap (λ r. number.0.0 ∷ r) none)) (number_of-sound number.0.0 n.0 n.1)
+    (leb-true 1 n.0 tests.0, leb-true n.0 1024 tests.1))
+
 says_word : (names : List (List ℕ)) (this word : List ℕ) (fields : List (List ℕ)) (s : Statement) → word ≡ this → Says names (this ∷ fields) s →
     Says names (word ∷ fields) s
 says_word names this word fields s e is = subst (λ (w : List ℕ). Says names (w ∷ fields) s) (sym e) is
+
+setting_sound : (names : List (List ℕ)) (word : List ℕ) (fields : List (List ℕ)) (s : Statement) → setting_of word fields ≡ Some s →
+    Says names (word ∷ fields) s
+unfolding setting_of
+setting_sound names word fields s e =
+    elim (choice_cases word (codes "slots") _ _ (Some s) e) [
+      | inl is ↦ says_word names (codes "slots") word fields s is.0 (size_sound names fields s is.1)
+      | inr last ↦ elim (choice_cases word (codes "workers") _ _ (Some s) last) [
+        | inl is ↦ says_word names (codes "workers") word fields s is.0 (workers_sound names fields s is.1)
+        | inr wrong ↦ cc
+      ]
+    ]
 
 pub statement_sound : (names fields : List (List ℕ)) (s : Statement) → statement_of names fields ≡ Some s → Says names fields s
 unfolding statement_of
@@ -329,10 +355,7 @@ statement_sound names fields s e =
           | inl is ↦ says_word names (codes "on") word.0.0 word.0.1 s is.0 (callback_sound names callback.Handle word.0.1 s is.1)
           | inr e''' ↦ elim (choice_cases word.0.0 (codes "closed") _ _ (Some s) e''') [
             | inl is ↦ says_word names (codes "closed") word.0.0 word.0.1 s is.0 (callback_sound names callback.Close word.0.1 s is.1)
-            | inr last ↦ elim (choice_cases word.0.0 (codes "slots") _ _ (Some s) last) [
-              | inl is ↦ says_word names (codes "slots") word.0.0 word.0.1 s is.0 (size_sound names word.0.1 s is.1)
-              | inr wrong ↦ cc
-            ]
+            | inr last ↦ setting_sound names word.0.0 word.0.1 s last
           ]
         ]
       ]
@@ -517,6 +540,12 @@ size_complete slots fields n g is fits last =
     (ap (λ b. cond b (Some (Sizes (record { slots = n; last_generation = g }))) None)
     (and_from (nat_le 1 n) (nat_le n 65535) (le-leb 1 n fits.0) (le-leb n 65535 fits.1)))
 
+workers_complete : (number : List ℕ) (n : ℕ) → IsNumber number n → IsWorkerCount n → workers_of (number ∷ []) ≡ Some (HasWorkers n)
+unfolding workers_of
+workers_complete number n is fits =
+    rw (number_of-complete number n is)
+    (ap (λ b. cond b (Some (HasWorkers n)) None) (and_from (nat_le 1 n) (nat_le n 1024) (le-leb 1 n fits.0) (le-leb n 1024 fits.1)))
+
 -- a callback's line, by its word
 by_word : (names : List (List ℕ)) (kind : Callback) (fields : List (List ℕ))
     → statement_of names (callback_word kind ∷ fields) ≡ callback_of names kind fields
@@ -525,7 +554,7 @@ by_word names callback.Handle fields = refl
 by_word names callback.Close fields = refl
 
 pub statement_complete : (names fields : List (List ℕ)) (s : Statement) → AreDistinct names → Says names fields s → statement_of names fields ≡ Some s
-unfolding statement_of main_of main_by close_loop_of last_of
+unfolding statement_of setting_of main_of main_by close_loop_of last_of
 statement_complete names fields s distinct (declares name e is fresh) = ap (statement_of names) e ∙ declaration_complete names name is fresh
 statement_complete names fields s distinct (in_main rest op e is) =
     ap (statement_of names) e ∙ main_complete names rest op (op_parts names rest op distinct is)
@@ -542,3 +571,4 @@ statement_complete names fields s distinct (sizes slots n e is fits) =
     ap (statement_of names) e ∙ size_complete slots [] n LAST_GENERATION is fits refl
 statement_complete names fields s distinct (sizes_to slots last n g e is fits last_is small) =
     ap (statement_of names) e ∙ size_complete slots (last ∷ []) n g is fits (last_complete last g last_is small)
+statement_complete names fields s distinct (has_workers number n e is fits) = ap (statement_of names) e ∙ workers_complete number n is fits

@@ -15,7 +15,7 @@ use Rattle.uv_script.specs.declared.op.MainOp.TheVariants as main
 use Rattle.uv_script.specs.declared.op.CallbackLine.{CallbackLine}
 use Rattle.uv_script.specs.declared.size.ArenaSize.{ArenaSize}
 use Rattle.uv_script.specs.Lines.{lines_of, fields_of, IsLine, IsSkipped}
-use Rattle.uv_script.specs.Program.{Program, no_callbacks, callbacks_of, with_line, line_count, IsSlotCount, LAST_GENERATION}
+use Rattle.uv_script.specs.Program.{Program, no_callbacks, callbacks_of, with_line, line_count, IsSlotCount, LAST_GENERATION, IsWorkerCount}
 use Rattle.uv_script.specs.Words.{IsName, IsNumber, IsDeclared}
 
 -- what a line says
@@ -28,6 +28,8 @@ pub data Statement : Type 0 where
   InCallback : Callback → Var → CallbackLine → Statement
   -- `slots n [g]`
   Sizes : ArenaSize → Statement
+  -- `workers n`
+  HasWorkers : ℕ → Statement
 
 -- the word of an op that says no more than a name, and the name's number
 abbrev pub named_word : Op → Option (List ℕ × Var)
@@ -88,13 +90,16 @@ pub data Says (names : List (List ℕ)) (fields : List (List ℕ)) : Statement �
   -- with a last generation of its own
   sizes_to : (slots last : List ℕ) (n g : ℕ) → fields ≡ codes "slots" ∷ slots ∷ last ∷ [] → IsNumber slots n → IsSlotCount n → IsNumber last g →
       g < 2 ^ 32 → Says names fields (Sizes (record { slots = n; last_generation = g }))
+  has_workers : (number : List ℕ) (n : ℕ) → fields ≡ codes "workers" ∷ number ∷ [] → IsNumber number n → IsWorkerCount n →
+      Says names fields (HasWorkers n)
 
--- there is room for one more line, and for one more name; and the arena's size is said once at most
+-- there is room for one more line, and for one more name; and the arena's size and the number of workers are said once at most
 abbrev pub HasRoom : Program → Statement → Type 0
 HasRoom p (Declares name) = (line_count p < 65535) × (length p.names < 4096)
 HasRoom p (InMain op) = line_count p < 65535
 HasRoom p (InCallback kind v line) = line_count p < 65535
 HasRoom p (Sizes size) = p.size ≡ None
+HasRoom p (HasWorkers n) = p.workers ≡ None
 
 -- the script with what one more line says
 abbrev pub with_statement : Program → Statement → Program
@@ -102,6 +107,7 @@ with_statement p (Declares name) = record p { names = p.names ++ name ∷ []; ca
 with_statement p (InMain op) = record p { main = p.main ++ op ∷ [] }
 with_statement p (InCallback kind v line) = record p { callbacks = slice_set p.callbacks v.0 (with_line kind (callbacks_of p v) line) }
 with_statement p (Sizes size) = record p { size = Some size }
+with_statement p (HasWorkers n) = record p { workers = Some n }
 
 -- the line takes the script before it to the script after it
 pub data Reads (p : Program) (line : List ℕ) : Program → Type 0 where
@@ -115,7 +121,7 @@ pub data ReadsAll : Program → List (List ℕ) → Program → Type 0 where
 
 -- the script of no line
 abbrev pub blank : Program
-blank = record { names = []; main = []; callbacks = []; size = None }
+blank = record { names = []; main = []; callbacks = []; size = None; workers = None }
 
 -- the script of a text
 abbrev pub IsScript : List ℕ → Program → Type 0

@@ -27,6 +27,8 @@ pub record Program : Type 0 where
   pub callbacks : List Callbacks
   -- how large the arena is, if a line says it
   pub size : Option ArenaSize
+  -- how many workers the thread pool has, if a line says it
+  pub workers : Option ℕ
 
 abbrev pub no_callbacks : Callbacks
 no_callbacks = record { handle = []; close = [] }
@@ -83,16 +85,29 @@ arena_size p = unwrap_or p.size DEFAULT_SIZE
 abbrev pub IsSlotCount : ℕ → Type 0
 IsSlotCount n = (1 ≤ n) × (n ≤ 65535)
 
--- the lines that count: all but `slots`, empty ones and comments
+-- how many workers the thread pool has where no line says it, as in libuv
+abbrev pub DEFAULT_WORKERS : ℕ
+DEFAULT_WORKERS = 4
+
+-- how many workers the script's thread pool has
+abbrev pub worker_count : Program → ℕ
+worker_count p = unwrap_or p.workers DEFAULT_WORKERS
+
+-- a thread pool has 1 to 1024 workers, as in libuv
+abbrev pub IsWorkerCount : ℕ → Type 0
+IsWorkerCount n = (1 ≤ n) × (n ≤ 1024)
+
+-- the lines that count: all but `workers`, `slots`, empty ones and comments
 abbrev pub line_count : Program → ℕ
 line_count p = length p.names + length p.main + sum_by callback_count p.callbacks
 
--- what every script meets, beside what its names do: each name has its callbacks, there are at most 65535 lines, and its arena has
--- 1 to 65535 slots
+-- what every script meets, beside what its names do: each name has its callbacks, there are at most 65535 lines, its arena has 1 to
+-- 65535 slots, and its thread pool 1 to 1024 workers
 pub record IsWhole (p : Program) : Type 0 where
   pub callbacks : length p.callbacks ≡ length p.names
   pub few : line_count p ≤ 65535
   pub slots : IsSlotCount (arena_size p).slots
+  pub workers : IsWorkerCount (worker_count p)
 
 -- the script is whole, and this many of its lines count
 pub record IsCounted (lines : ℕ) (p : Program) : Type 0 where

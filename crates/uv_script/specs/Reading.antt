@@ -14,9 +14,9 @@ use Rattle.uv_ids.specs.declared.fault.Fault.TheVariants as fault
 use Rattle.uv_script.specs.declared.op.Op.{Op}
 use Rattle.uv_script.specs.declared.op.Op.TheVariants as op
 use Rattle.uv_script.specs.declared.op.MainOp.TheVariants as main
-use Rattle.uv_script.specs.Grammar.{Statement, Declares, InMain, InCallback, Sizes, with_statement}
+use Rattle.uv_script.specs.Grammar.{Statement, Declares, InMain, InCallback, Sizes, HasWorkers, with_statement}
 use Rattle.uv_script.specs.Lines.{fields_of}
-use Rattle.uv_script.specs.Program.{Program, line_count, IsSlotCount, LAST_GENERATION}
+use Rattle.uv_script.specs.Program.{Program, line_count, IsSlotCount, LAST_GENERATION, IsWorkerCount}
 use Rattle.uv_script.specs.Checks.{is_line, is_skipped, is_name, number_of}
 use Rattle.uv_script.specs.Words.{IsName}
 
@@ -225,6 +225,21 @@ size_of fields = do
   g ← last_of slots.1
   if nat_le 1 n && nat_le n 65535 then Some (Sizes (record { slots = n; last_generation = g })) else None
 
+-- what stands behind `workers`
+unfoldable pub workers_of : List (List ℕ) → Option Statement
+workers_of fields = do
+  number ← first_of fields
+  n ← number_of number.0
+  end ← none_left number.1
+  if nat_le 1 n && nat_le n 1024 then Some (HasWorkers n) else None
+
+-- what stands behind the word of a line that sets a number of the loop
+unfoldable pub setting_of : List ℕ → List (List ℕ) → Option Statement
+setting_of word fields =
+    if bytes_eq word (codes "slots") then size_of fields
+    else if bytes_eq word (codes "workers") then workers_of fields
+    else None
+
 -- what a line's fields say
 unfoldable pub statement_of : List (List ℕ) → List (List ℕ) → Option Statement
 statement_of names fields = do
@@ -233,15 +248,15 @@ statement_of names fields = do
       else if bytes_eq word.0 (codes "main") then main_of names word.1
       else if bytes_eq word.0 (codes "on") then callback_of names callback.Handle word.1
       else if bytes_eq word.0 (codes "closed") then callback_of names callback.Close word.1
-      else if bytes_eq word.0 (codes "slots") then size_of word.1
-      else None
+      else setting_of word.0 word.1
 
--- whether there is room for one more line, for one more name, and for the arena's size
+-- whether there is room for one more line, for one more name, for the arena's size and for the number of workers
 abbrev pub has_room : Program → Statement → Bool
 has_room p (Declares name) = nat_lt (line_count p) 65535 && nat_lt (length p.names) 4096
 has_room p (InMain op) = nat_lt (line_count p) 65535
 has_room p (InCallback kind v line) = nat_lt (line_count p) 65535
 has_room p (Sizes size) = is_none p.size
+has_room p (HasWorkers n) = is_none p.workers
 
 -- what a statement needs beside room
 abbrev pub IsSound : Program → Statement → Type 0
@@ -249,6 +264,7 @@ IsSound p (Declares name) = IsName name × (Contains p.names name → ⊥)
 IsSound p (InMain op) = Unit {0}
 IsSound p (InCallback kind v line) = v.0 < length p.names
 IsSound p (Sizes size) = IsSlotCount size.slots
+IsSound p (HasWorkers n) = IsWorkerCount n
 
 -- the script after one more line
 unfoldable pub after_line : Program → List ℕ → Option Program

@@ -3,7 +3,7 @@ ghost use Rattle.std.specs.Prelude.{◌≡◌, slice_get, length, OnOk, Some};
 ghost use Rattle.uv_script.specs.Grammar.{Declares, InMain, InCallback, Sizes, HasRoom, with_statement, blank};
 ghost use Rattle.uv_script.specs.Reading.{has_room, IsSound};
 ghost use Rattle.uv_script.specs.Said.{said};
-ghost use Rattle.uv_script.specs.Program.{lines_in, op_at, arena_size, IsWhole};
+ghost use Rattle.uv_script.specs.Program.{lines_in, op_at, arena_size, worker_count, IsWorkerCount, IsWhole};
 
 use crate::names::Names;
 use crate::op::{CallbackLine, Callbacks, MainOp, Op};
@@ -20,13 +20,17 @@ pub struct Script {
     main: Vec<MainOp>,
     callbacks: Vec<Callbacks>,
     size: Option<ArenaSize>,
-    /// How many lines count: all but `slots`, empty ones and comments.
+    workers: Option<u16>,
+    /// How many lines count: all but `workers`, `slots`, empty ones and comments.
     lines: usize,
 }
 
 const MAX_LINES: usize = 65_535;
 
 const MAX_NAMES: usize = 4096;
+
+/// How many workers the thread pool has where no line says it, as in libuv.
+const DEFAULT_WORKERS: u16 = 4;
 
 impl Model for Script {
     ghost use Rattle.uv_script.specs.Program.{Program, IsCounted};
@@ -38,6 +42,7 @@ impl Model for Script {
       main = script.main.items;
       callbacks = script.callbacks.items;
       size = script.size;
+      workers = script.workers;
     } };
 
     ghost invariant = { λ script. IsCounted script.lines (record {
@@ -45,6 +50,7 @@ impl Model for Script {
       main = script.main.items;
       callbacks = script.callbacks.items;
       size = script.size;
+      workers = script.workers;
     }) };
 }
 
@@ -58,11 +64,12 @@ impl Script {
             main: Vec::new(alloc),
             callbacks: Vec::new(alloc),
             size: None,
+            workers: None,
             lines: 0,
         }
     }
 
-    /// Whether there is room for one more line, for one more name, and for the arena's size.
+    /// Whether there is room for one more line, for one more name, for the arena's size and for the number of workers.
     pub(crate) fn has_room(&self, statement: &Statement<'_>) -> bool
         ensures { result ≡ has_room self.now (said statement.now) }
     {
@@ -71,6 +78,7 @@ impl Script {
             Statement::InMain(_) => self.lines < MAX_LINES,
             Statement::InCallback(_, _, _) => self.lines < MAX_LINES,
             Statement::Sizes(_) => self.size.is_none(),
+            Statement::HasWorkers(_) => self.workers.is_none(),
         }
     }
 
@@ -86,6 +94,10 @@ impl Script {
             Statement::InCallback(kind, name, line) => self.push_callback(kind, name, line),
             Statement::Sizes(size) => {
                 self.size = Some(size);
+                Ok(())
+            }
+            Statement::HasWorkers(workers) => {
+                self.workers = Some(workers);
                 Ok(())
             }
         }
@@ -141,6 +153,14 @@ impl Script {
         ensures { result ≡ arena_size self.now }
     {
         self.size.unwrap_or(ArenaSize::by_default())
+    }
+
+    /// How many workers the thread pool has: as the line `workers` says, else 4.
+    pub fn workers(&self) -> u16
+        ensures count { result ≡ worker_count self.now }
+        ensures within { IsWorkerCount result }
+    {
+        self.workers.unwrap_or(DEFAULT_WORKERS)
     }
 
     /// A line of the main program, from 0.

@@ -1,7 +1,7 @@
 //! What the lines of a script say, one at a time.
 ghost use Rattle.std.specs.Prelude.{◌≡◌, Some, option_map};
 ghost use Rattle.uv_script.specs.Lines.{fields_of};
-ghost use Rattle.uv_script.specs.Reading.{none_left, kind_of, mode_of, init_of, timer_start_of, start_of, repeat_of, bare_op, named_op, name_alone, short_op_of, op_of, declaration_of, run_of, main_of, main_by, close_loop_of, call_of, marked, in_calls_of, in_call_of, callback_of, last_of, size_of, statement_of};
+ghost use Rattle.uv_script.specs.Reading.{none_left, kind_of, mode_of, init_of, timer_start_of, start_of, repeat_of, bare_op, named_op, name_alone, short_op_of, op_of, declaration_of, run_of, main_of, main_by, close_loop_of, call_of, marked, in_calls_of, in_call_of, callback_of, last_of, size_of, workers_of, setting_of, statement_of};
 ghost use Rattle.uv_script.specs.Said.{said};
 
 use crate::lines::Fields;
@@ -22,6 +22,8 @@ pub(crate) enum Statement<'a> {
     InCallback(Callback, Var, CallbackLine),
     /// `slots n [g]`
     Sizes(ArenaSize),
+    /// `workers n`
+    HasWorkers(u16),
 }
 
 /// Nothing, where no field is left.
@@ -161,7 +163,18 @@ pub(crate) fn statement_in<'a>(names: &Names, line: &'a [u8]) -> Option<Statemen
         b"main" => main_line(names, fields),
         b"on" => callback(names, Callback::Handle, fields),
         b"closed" => callback(names, Callback::Close, fields),
+        word => setting(word, fields),
+    }
+}
+
+/// A line that sets a number of the loop.
+#[tactic(auto, unfolding(crate::specs::Reading::setting_of))]
+fn setting<'a>(word: &[u8], fields: Fields<'a>) -> Option<Statement<'a>>
+    ensures { option_map said result ≡ setting_of word.now fields.entry }
+{
+    match word {
         b"slots" => size(fields),
+        b"workers" => workers(fields),
         _ => None,
     }
 }
@@ -313,6 +326,19 @@ fn size<'a>(mut fields: Fields<'a>) -> Option<Statement<'a>>
             slots: slots as u32,
             last_generation,
         }))
+    } else {
+        None
+    }
+}
+
+#[tactic(auto, unfolding(crate::specs::Reading::workers_of))]
+fn workers<'a>(mut fields: Fields<'a>) -> Option<Statement<'a>>
+    ensures { option_map said result ≡ workers_of fields.entry }
+{
+    let workers = number(fields.next()?)?;
+    none_left(fields)?;
+    if 1 <= workers && workers <= 1024 {
+        Some(Statement::HasWorkers(workers as u16))
     } else {
         None
     }

@@ -126,14 +126,19 @@ fn reads_each_op_of_a_callback(rt: HostRuntime) -> Result<(), Fail> {
 }
 
 /// Texts, and the first bad line of each.
-const BAD: [(&[u8], usize); 67] = [
+const BAD: [(&[u8], usize); 72] = [
     (b"\x1f", 1),
     (b"#\x7f", 1),
     (b"var a\r\n", 1),
     (b"\n\n \n", 3),
     (b"var a\nvars b\nbegin\n", 2),
     (b"begin", 1),
-    (b"workers 4", 1),
+    (b"workers", 1),
+    (b"workers 0", 1),
+    (b"workers 1025", 1),
+    (b"workers 04", 1),
+    (b"workers 4 4", 1),
+    (b"workers 4\nworkers 4", 2),
     (b"var a\nafter a stop a", 2),
     (b"var", 1),
     (b"var a b", 1),
@@ -222,6 +227,20 @@ fn reads_how_large_the_arena_is(rt: HostRuntime) -> Result<(), Fail> {
     Ok(())
 }
 
+#[test]
+fn reads_how_many_workers_there_are(rt: HostRuntime) -> Result<(), Fail> {
+    let texts: [(&[u8], u16); 4] = [
+        (b"var a", 4),
+        (b"workers 1", 1),
+        (b"var a\nmain stop a\nworkers 1024", 1024),
+        (b"slots 2\nworkers 5", 5),
+    ];
+    for (text, workers) in &texts {
+        assert_eq!(rt; Script::parse(rt.alloc(), *text)?.workers(), *workers);
+    }
+    Ok(())
+}
+
 /// `front`, so many bytes `a`, and a line feed.
 fn long_line(alloc: Global, front: &[u8], length: usize) -> Result<Vec<u8>, AllocError> {
     let mut line = Vec::from_slice(alloc, front)?;
@@ -267,12 +286,12 @@ fn limits_names_and_lines(rt: HostRuntime) -> Result<(), Fail> {
     for _ in 0..65_535 {
         lines.extend_from_slice(b"main run once\n")?;
     }
-    lines.extend_from_slice(b"\n# neither of these counts\nslots 9\n")?;
+    lines.extend_from_slice(b"\n# none of these counts\nslots 9\nworkers 9\n")?;
     assert!(rt; Script::parse(rt.alloc(), &lines).is_ok());
     lines.extend_from_slice(b"main run once\n")?;
     assert_eq!(rt;
         Script::parse(rt.alloc(), &lines).err(),
-        Some(Fault::Script { line: 65_539 })
+        Some(Fault::Script { line: 65_540 })
     );
     Ok(())
 }

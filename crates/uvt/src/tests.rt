@@ -56,7 +56,7 @@ struct Outside {
     errors: &'static str,
 }
 
-const OUTSIDE: [Outside; 21] = [
+const OUTSIDE: [Outside; 24] = [
     Outside {
         what: "a name that is not declared",
         input: b"var a\nmain start b 1 0\nbegin\n",
@@ -126,6 +126,27 @@ const OUTSIDE: [Outside; 21] = [
         output: "",
         status: 2,
         errors: "uvt: bad script line 1\n",
+    },
+    Outside {
+        what: "a thread pool with no worker",
+        input: b"workers 0\nbegin\n",
+        output: "",
+        status: 2,
+        errors: "uvt: bad script line 1\n",
+    },
+    Outside {
+        what: "a thread pool with a worker too many",
+        input: b"workers 1025\nbegin\n",
+        output: "",
+        status: 2,
+        errors: "uvt: bad script line 1\n",
+    },
+    Outside {
+        what: "the number of workers is said twice",
+        input: b"workers 4\nslots 2\nworkers 4\nbegin\n",
+        output: "",
+        status: 2,
+        errors: "uvt: bad script line 3\n",
     },
     Outside {
         what: "no line `begin`",
