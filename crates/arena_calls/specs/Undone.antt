@@ -2,8 +2,8 @@
 use Rattle.std.specs.Prelude.{ℕ}
 use Rattle.uv_arena.specs.Image.{Image}
 use Rattle.uv_arena.specs.Undo.{insert_undone, remove_undone, push_undone, unlink_undone, splice_undone, CanUndoInsert, CanUndoRemove, CanUndoPush, CanUndoUnlink, CanUndoSplice}
-use Rattle.arena_calls.specs.declared.calls.Token.{Token}
-use Rattle.arena_calls.specs.declared.calls.Token.TheVariants.{Inserted, Removed, Pushed, Unlinked, Spliced, Nothing}
+use Rattle.arena_calls.specs.declared.token.Token.{Token}
+use Rattle.arena_calls.specs.declared.token.Token.TheVariants.{Inserted, Removed, Pushed, Unlinked, Spliced, Nothing}
 
 abbrev pub undone : Token → Image ℕ → Image ℕ
 undone (Inserted u) i = insert_undone u i

@@ -1,5 +1,5 @@
 -- What holds after each call that changes a handle.
-use Rattle.std.specs.Prelude.{true, ◌≡◌, ◌≢◌, eqb, ◌∷◌, Option, Some, None}
+use Rattle.std.specs.Prelude.{Bool, true, false, ◌≡◌, ◌≢◌, eqb, ◌∷◌, Option, Some, None, if◌then◌else◌}
 use Rattle.uv_ids.specs.declared.id.Id.{Id}
 use Rattle.uv_ids.specs.declared.id.Var.{Var}
 use Rattle.uv_ids.specs.declared.phase.Kind.{Kind}
@@ -16,8 +16,9 @@ use Rattle.uv_arena.specs.Calls.{IsInserted, IsSet, IsFirst}
 use Rattle.uv_handle.specs.declared.undo.RecordUndo.{RecordUndo}
 use Rattle.uv_handle.specs.declared.undo.AddUndo.{AddUndo}
 use Rattle.uv_handle.specs.declared.undo.ListUndo.{ListUndo}
+use Rattle.uv_handle.specs.declared.undo.DelistUndo.{DelistUndo}
 use Rattle.uv_handle.specs.declared.undo.TakeUndo.{TakeUndo}
-use Rattle.uv_handle.specs.Counted.{Counted, IsCounted, record_at, found, record_undone, add_undone, enlist_undone, take_undone, CanUndoRecord, CanUndoAdd, CanUndoEnlist, CanUndoTake}
+use Rattle.uv_handle.specs.Counted.{Counted, IsCounted, record_at, found, record_undone, add_undone, enlist_undone, delist_undone, take_undone, CanUndoRecord, CanUndoAdd, CanUndoEnlist, CanUndoDelist, CanUndoTake}
 
 module _ {X : Type 0} (read : X → Option HandleRecord) (make : HandleRecord → X) where
   -- a handle as `init` makes it is held under the id, and on no list
@@ -60,6 +61,18 @@ module _ {X : Type 0} (read : X → Option HandleRecord) (make : HandleRecord �
     pub counts : IsCounted read new
     pub undone : enlist_undone read make u new ≡ old
     pub can_undo : CanUndoEnlist read make new u
+
+  -- the handle has this record now, and is on no list if it was to leave the one that it was on
+  pub record IsDelisted (old new : Counted X) (d : Id) (from to : HandleRecord) (leaves : Bool) (u : DelistUndo) : Type 0 where
+    pub there : record_at read old.arena d ≡ Some from
+    pub handle : record_at read new.arena d ≡ Some to
+    pub lists : (l : ListName) → members new.arena l ≡ (if leaves then without eqb (members old.arena l) d.slot else members old.arena l)
+    pub loose : leaves ≡ true → on_list new.arena d ≡ false
+    pub contents : (e : Id) → e.slot ≢ d.slot → held new.arena e ≡ held old.arena e
+    pub kept : (e : Id) → e.slot ≢ d.slot → on_list new.arena e ≡ on_list old.arena e
+    pub counts : IsCounted read new
+    pub undone : delist_undone read make u new ≡ old
+    pub can_undo : CanUndoDelist read make new u
 
   -- the handle is closing, at the front of the closing list
   pub record IsClosed (old new : Counted X) (d : Id) (u : ListUndo) : Type 0 where

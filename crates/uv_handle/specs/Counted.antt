@@ -1,13 +1,15 @@
 -- The arena and the count of its active referenced handles, which the calls of handles change; and what takes them back.
-use Rattle.std.specs.Prelude.{◌≡◌, ℕ, ◌+◌, ◌<◌, ◌^◌, Option, option_map, option_and_then}
+use Rattle.std.specs.Prelude.{◌≡◌, ℕ, ◌+◌, ◌<◌, ◌^◌, Option, Some, None, option_map, option_and_then}
 use Rattle.uv_ids.specs.declared.id.Id.{Id}
 use Rattle.uv_records.specs.declared.handle.HandleRecord.{HandleRecord}
 use Rattle.uv_records.specs.Count.{active_count}
+use Rattle.uv_arena.specs.declared.links.Place.{Place}
 use Rattle.uv_arena.specs.Image.{Image, held, held_slots}
 use Rattle.uv_arena.specs.Undo.{set_undone, insert_undone, remove_undone, push_undone, unlink_undone, CanUndoSet, CanUndoInsert, CanUndoRemove, CanUndoPush, CanUndoUnlink}
 use Rattle.uv_handle.specs.declared.undo.RecordUndo.{RecordUndo}
 use Rattle.uv_handle.specs.declared.undo.AddUndo.{AddUndo}
 use Rattle.uv_handle.specs.declared.undo.ListUndo.{ListUndo}
+use Rattle.uv_handle.specs.declared.undo.DelistUndo.{DelistUndo}
 use Rattle.uv_handle.specs.declared.undo.TakeUndo.{TakeUndo}
 
 pub record Counted (X : Type 0) : Type 0 where
@@ -21,6 +23,15 @@ Fits32 n before after = (m : ℕ) × (m + before ≡ n + after) × (m < 2 ^ 32)
 module _ {X : Type 0} where
   abbrev pub counted : Image X → ℕ → Counted X
   counted i n = record { arena = i; count = n }
+
+  -- a slot that was on a list is put back there
+  abbrev pub relisted : Option Place → Image X → Image X
+  relisted None i = i
+  relisted (Some t) i = unlink_undone t i
+
+  abbrev pub CanRelist : Option Place → Image X → Type 0
+  CanRelist None i = Unit {0}
+  CanRelist (Some t) i = CanUndoUnlink i t
 
 module _ {X : Type 0} (read : X → Option HandleRecord) where
   -- what is held under an id: nothing, something that is no handle, or a handle's record
@@ -72,3 +83,11 @@ module _ {X : Type 0} (read : X → Option HandleRecord) where
     pub record CanUndoEnlist (c : Counted X) (u : ListUndo) : Type 0 where
       pub pushed : CanUndoPush c.arena u.pushed.slot
       pub changed : CanUndoRecord (counted (push_undone u.pushed.slot c.arena) c.count) u.changed
+
+    -- the record is put back, and then the handle on its list
+    abbrev pub delist_undone : DelistUndo → Counted X → Counted X
+    delist_undone u c = counted (relisted u.unlinked (record_undone u.changed c).arena) u.changed.active
+
+    pub record CanUndoDelist (c : Counted X) (u : DelistUndo) : Type 0 where
+      pub changed : CanUndoRecord c u.changed
+      pub unlinked : CanRelist u.unlinked (record_undone u.changed c).arena

@@ -9,8 +9,8 @@ ghost use Rattle.uv_records.specs.Refusals.{refusal, no_refusal, close_refusal};
 ghost use Rattle.uv_arena.specs.Image.{members, held, on_list};
 ghost use Rattle.uv_arena.specs.Undo.{splice_undone, CanUndoSplice};
 ghost use Rattle.uv_arena.specs.Calls.{IsFirst, IsSpliced};
-ghost use Rattle.uv_handle.specs.Counted.{counted, record_at, found, IsCounted, enlist_undone, CanUndoEnlist, take_undone, CanUndoTake};
-ghost use Rattle.uv_handle.specs.Changes.{Did, Refused, IsEnlisted, IsClosed, IsTaken};
+ghost use Rattle.uv_handle.specs.Counted.{counted, record_at, found, IsCounted, take_undone, CanUndoTake};
+ghost use Rattle.uv_handle.specs.Changes.{Did, Refused, IsClosed, IsTaken};
 
 use crate::content::HoldsHandle;
 use crate::handles::{Handles, recounted};
@@ -99,34 +99,6 @@ impl Handles {
                 None => Ok(self.enlist(slots, id, handle, handle.closed(), ListName::Closing)),
             },
         }
-    }
-
-    /// Writes another record of a handle that is on no list, and puts it at the front of one.
-    pub fn enlist<T: HoldsHandle>(
-        &mut self,
-        slots: &mut Slots<T>,
-        id: Id,
-        old: HandleRecord,
-        new: HandleRecord,
-        list: ListName,
-    ) -> ListUndo
-        requires found { record_at T.held_record slots.old id ≡ Some old }
-        requires counts { IsCounted T.held_record (counted slots.old self.old) }
-        requires loose { on_list slots.old id ≡ false }
-        ensures { IsEnlisted T.held_record T.of_record (counted slots.old self.old) (counted slots.new self.new) id old new list result }
-    {
-        let changed = self.change(slots, id, old, new);
-        let pushed = slots.push_front(list, id);
-        ListUndo { changed, pushed }
-    }
-
-    /// Takes back that a handle got another record and was put on a list, as a close does.
-    pub fn undo_enlist<T: HoldsHandle>(&mut self, slots: &mut Slots<T>, undo: ListUndo)
-        requires { CanUndoEnlist T.held_record T.of_record (counted slots.old self.old) undo }
-        ensures { counted slots.new self.new ≡ enlist_undone T.held_record T.of_record undo (counted slots.old self.old) }
-    {
-        slots.undo_push(undo.pushed);
-        self.undo_change(slots, undo.changed);
     }
 
     /// Begins the closing section: the whole closing list has yet to be closed.

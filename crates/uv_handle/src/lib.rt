@@ -5,12 +5,13 @@
 mod closing;
 mod content;
 mod handles;
+mod listing;
 mod undo;
 
 pub use closing::handle_at;
 pub use content::HoldsHandle;
 pub use handles::Handles;
-pub use undo::{AddUndo, ListUndo, RecordUndo, TakeUndo};
+pub use undo::{AddUndo, DelistUndo, ListUndo, RecordUndo, TakeUndo};
 pub use uv_records::HandleRecord;
 
 #[cfg(test)]

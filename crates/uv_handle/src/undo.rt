@@ -24,6 +24,13 @@ pub struct ListUndo {
     pub pushed: PushUndo,
 }
 
+/// Takes back that a handle got another record and was taken off its list: where it stood there, if it was on one.
+#[derive(Clone, Copy, Debug, PartialEq, Eq)]
+pub struct DelistUndo {
+    pub unlinked: Option<Place>,
+    pub changed: RecordUndo,
+}
+
 /// Takes back that a closing handle was taken off its list and freed.
 #[derive(Clone, Copy, Debug, PartialEq, Eq)]
 pub struct TakeUndo<T> {

@@ -1,11 +1,12 @@
 -- The timers of a state, a map in the order of due times and start numbers; and what stopping any handle does.
-use Rattle.std.specs.Prelude.{ℕ, ◌+◌, ◌^◌, ◌-◌, ◌==◌, ◌&&◌, List, min, if◌then◌else◌}
+use Rattle.std.specs.Prelude.{ℕ, ◌+◌, ◌==◌, ◌&&◌, List, if◌then◌else◌}
 use Rattle.std.specs.Map.{remove_entry}
 use Rattle.std.specs.BTreeMap.{insert_entry, is_at}
 use Rattle.uv_ids.specs.Due.{due_cmp}
 use Rattle.uv_ids.specs.declared.id.Id.{Id}
 use Rattle.uv_ids.specs.declared.due.Due.{Due}
 use Rattle.uv_records.specs.declared.handle.HandleRecord.{HandleRecord}
+use Rattle.uv_records.specs.Dues as dues
 use Rattle.uv_records.specs.Handles as records
 use Rattle.uv_records.specs.Handles.{is_timer, begun_at}
 use Rattle.uv_model.specs.Ids.{without_id, walk_without_id}
@@ -34,9 +35,9 @@ taken_off s id h = record s {
 abbrev pub stopped : State → Id → HandleRecord → State
 stopped s id h = with_handle (taken_off s id h) id (records.stopped h)
 
--- when a timer is due that is started now: no later than the largest time (uv_timer_start)
+-- when a timer is due that is started now
 abbrev pub due_after : State → ℕ → Due
-due_after s timeout = record { at = min (s.time + timeout) (2 ^ 64 - 1); start = s.next_start }
+due_after s timeout = dues.due_after s.time s.next_start timeout
 
 -- a stopped timer that is started: it gets its due time, the next start number and its repeat, and is active
 abbrev pub started : State → Id → HandleRecord → ℕ → ℕ → State
@@ -52,6 +53,6 @@ started s id h timeout repeat = with_handle
 abbrev pub restarted : State → Id → HandleRecord → State
 restarted s id h = if h.repeat == 0 then s else started s id h h.repeat h.repeat
 
--- in how many ms a timer is due (uv_timer_get_due_in): 0 where it is due already, and where it isn't active
+-- in how many ms a timer is due
 abbrev pub due_in : State → HandleRecord → ℕ
-due_in s h = if h.active then h.due.at - s.time else 0
+due_in s h = dues.due_in s.time h

@@ -1,4 +1,5 @@
 pub mod Count
+pub mod Dues
 pub mod Handles
 pub mod Lists
 pub mod Refusals

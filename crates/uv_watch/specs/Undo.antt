@@ -1,33 +1,12 @@
 -- What takes a change of a watcher back, and when that may be asked: where all is as the change left it.
 use Rattle.std.specs.Prelude.{Option, Some, None}
 use Rattle.uv_records.specs.declared.handle.HandleRecord.{HandleRecord}
-use Rattle.uv_arena.specs.declared.links.Place.{Place}
-use Rattle.uv_arena.specs.Image.{Image}
 use Rattle.uv_arena.specs.Undo.{push_undone, unlink_undone, CanUndoPush, CanUndoUnlink}
 use Rattle.uv_handle.specs.declared.undo.RecordUndo.{RecordUndo}
 use Rattle.uv_handle.specs.Counted.{Counted, counted, record_undone, CanUndoRecord}
-use Rattle.uv_watch.specs.declared.undo.StopUndo.{StopUndo}
 use Rattle.uv_watch.specs.declared.undo.WalkUndo.{WalkUndo}
 
-module _ {X : Type 0} where
-  -- a slot that was on a list is put back there
-  abbrev pub relisted : Option Place → Image X → Image X
-  relisted None i = i
-  relisted (Some t) i = unlink_undone t i
-
-  abbrev pub CanRelist : Option Place → Image X → Type 0
-  CanRelist None i = Unit {0}
-  CanRelist (Some t) i = CanUndoUnlink i t
-
 module _ {X : Type 0} (read : X → Option HandleRecord) (make : HandleRecord → X) where
-  -- a stop is taken back: the record is put back, and then the handle on its list
-  abbrev pub stop_undone : StopUndo → Counted X → Counted X
-  stop_undone u c = counted (relisted u.unlinked (record_undone read make u.changed c).arena) u.changed.active
-
-  pub record CanUndoStop (c : Counted X) (u : StopUndo) : Type 0 where
-    pub changed : CanUndoRecord read make c u.changed
-    pub unlinked : CanRelist u.unlinked (record_undone read make u.changed c).arena
-
   -- the record of a handle that was woken is put back
   abbrev pub unwoken : Option RecordUndo → Counted X → Counted X
   unwoken None c = c

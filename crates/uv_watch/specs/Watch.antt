@@ -1,5 +1,5 @@
 -- What holds after each call that changes a watcher.
-use Rattle.std.specs.Prelude.{◌≡◌, ◌≢◌, ℕ, Bool, true, false, eqb, Option, Some, None, option_map, if◌then◌else◌}
+use Rattle.std.specs.Prelude.{◌≡◌, ◌≢◌, ℕ, Bool, true, false, not, Option, Some, None, option_map}
 use Rattle.uv_ids.specs.declared.id.Id.{Id}
 use Rattle.uv_records.specs.declared.handle.HandleRecord.{HandleRecord}
 use Rattle.uv_records.specs.declared.lists.ListName.{ListName}
@@ -7,18 +7,18 @@ use Rattle.uv_records.specs.declared.lists.WatcherKind.{WatcherKind}
 use Rattle.uv_records.specs.Handles.{stopped, activated, woken}
 use Rattle.uv_records.specs.Lists.{watcher_kind, list_of, yet_of}
 use Rattle.uv_records.specs.Refusals.{start_watcher_refusal}
-use Rattle.uv_records.specs.Walks.{Walk, without, all_yet, moved_on}
+use Rattle.uv_records.specs.Walks.{Walk, all_yet, moved_on}
 use Rattle.uv_arena.specs.declared.undo.SpliceUndo.{SpliceUndo}
 use Rattle.uv_arena.specs.Image.{Image, members, held, on_list}
 use Rattle.uv_arena.specs.Undo.{splice_undone, CanUndoSplice}
 use Rattle.uv_arena.specs.Calls.{IsFirst, SameSlots}
+use Rattle.uv_handle.specs.declared.undo.DelistUndo.{DelistUndo}
 use Rattle.uv_handle.specs.declared.undo.ListUndo.{ListUndo}
 use Rattle.uv_handle.specs.declared.undo.RecordUndo.{RecordUndo}
 use Rattle.uv_handle.specs.Counted.{Counted, IsCounted, record_at}
-use Rattle.uv_handle.specs.Changes.{IsEnlisted}
-use Rattle.uv_watch.specs.declared.undo.StopUndo.{StopUndo}
+use Rattle.uv_handle.specs.Changes.{IsEnlisted, IsDelisted}
 use Rattle.uv_watch.specs.declared.undo.WalkUndo.{WalkUndo}
-use Rattle.uv_watch.specs.Undo.{stop_undone, CanUndoStop, unwoken, CanUnwake, walk_undone, CanUndoWalk}
+use Rattle.uv_watch.specs.Undo.{unwoken, CanUnwake, walk_undone, CanUndoWalk}
 
 -- a handle waits for its callback
 abbrev pub pending_in : Option HandleRecord → Bool
@@ -61,16 +61,8 @@ module _ {X : Type 0} (read : X → Option HandleRecord) (make : HandleRecord �
   Starts old new d (Some u) = IsStarted old new d u
 
   -- the handle is inactive, and off its list unless it is closing
-  pub record IsStopped (old new : Counted X) (d : Id) (from : HandleRecord) (u : StopUndo) : Type 0 where
-    pub there : record_at read old.arena d ≡ Some from
-    pub handle : record_at read new.arena d ≡ Some (stopped from)
-    pub lists : (l : ListName) → members new.arena l ≡ (if from.closing then members old.arena l else without eqb (members old.arena l) d.slot)
-    pub loose : from.closing ≡ false → on_list new.arena d ≡ false
-    pub contents : (e : Id) → e.slot ≢ d.slot → held new.arena e ≡ held old.arena e
-    pub kept : (e : Id) → e.slot ≢ d.slot → on_list new.arena e ≡ on_list old.arena e
-    pub counts : IsCounted read new
-    pub undone : stop_undone read make u new ≡ old
-    pub can_undo : CanUndoStop read make new u
+  abbrev pub IsStopped : Counted X → Counted X → Id → HandleRecord → DelistUndo → Type 0
+  IsStopped old new d from u = IsDelisted read make old new d from (stopped from) (not from.closing) u
 
   -- the handle waits for no callback any more
   pub record IsWoken (old new : Counted X) (d : Id) (pending : Bool) (u : Option RecordUndo) : Type 0 where

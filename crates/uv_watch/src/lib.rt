@@ -6,7 +6,7 @@ mod undo;
 mod walk;
 mod watchers;
 
-pub use undo::{StopUndo, WalkUndo};
+pub use undo::WalkUndo;
 pub use walk::{begin, take, undo_begin, undo_take};
 pub use watchers::{halt, send, start, stop, undo_send, undo_start, undo_stop};
 

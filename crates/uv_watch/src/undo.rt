@@ -2,13 +2,6 @@
 use uv_arena::{Place, PushUndo};
 use uv_handle::RecordUndo;
 
-/// Takes a stop back: where the handle stood on its list, if it was on one, and its record from before.
-#[derive(Clone, Copy, Debug, PartialEq, Eq)]
-pub struct StopUndo {
-    pub unlinked: Option<Place>,
-    pub changed: RecordUndo,
-}
-
 /// Takes one step of a walk back: where the handle stood among those yet to run, and the record of an async handle that was
 /// woken.
 #[derive(Clone, Copy, Debug, PartialEq, Eq)]

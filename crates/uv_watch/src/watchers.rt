@@ -4,14 +4,12 @@ ghost use Rattle.uv_records.specs.declared.handle.HandleRecord.{HandleRecord};
 ghost use Rattle.uv_records.specs.Handles.{sent, is_timer};
 ghost use Rattle.uv_records.specs.Refusals.{refusal, start_watcher_refusal, stop_refusal, send_refusal};
 ghost use Rattle.uv_arena.specs.Image.{on_list};
-ghost use Rattle.uv_handle.specs.Counted.{counted, record_at, found, IsCounted, record_undone, enlist_undone, CanUndoRecord, CanUndoEnlist};
+ghost use Rattle.uv_handle.specs.Counted.{counted, record_at, found, IsCounted, record_undone, enlist_undone, delist_undone, CanUndoRecord, CanUndoEnlist, CanUndoDelist};
 ghost use Rattle.uv_handle.specs.Changes.{Did, Refused};
-ghost use Rattle.uv_watch.specs.Undo.{stop_undone, CanUndoStop};
 ghost use Rattle.uv_watch.specs.Watch.{Starts, IsStarted, IsStopped};
 
-use crate::undo::StopUndo;
-use uv_arena::{Place, Slots};
-use uv_handle::{HandleRecord, Handles, HoldsHandle, ListUndo, RecordUndo, handle_at};
+use uv_arena::Slots;
+use uv_handle::{DelistUndo, HandleRecord, Handles, HoldsHandle, ListUndo, RecordUndo, handle_at};
 use uv_ids::{Code, Id};
 use uv_records::WatcherKind;
 
@@ -76,7 +74,7 @@ pub fn stop<T: HoldsHandle>(
     handles: &mut Handles,
     slots: &mut Slots<T>,
     id: Id,
-) -> Result<StopUndo, Code>
+) -> Result<DelistUndo, Code>
     requires counts { IsCounted T.held_record (counted slots.old handles.old) }
     requires no_timer { (h : HandleRecord) → record_at T.held_record slots.old id ≡ Some h → is_timer h.kind ≡ false }
     ensures ok { IfOk result (λ u. (h : HandleRecord) × (stop_refusal h ≡ None) × IsStopped T.held_record T.of_record
@@ -100,36 +98,20 @@ pub fn halt<T: HoldsHandle>(
     slots: &mut Slots<T>,
     id: Id,
     handle: HandleRecord,
-) -> StopUndo
+) -> DelistUndo
     requires counts { IsCounted T.held_record (counted slots.old handles.old) }
     requires found { record_at T.held_record slots.old id ≡ Some handle }
     ensures { IsStopped T.held_record T.of_record (counted slots.old handles.old) (counted slots.new handles.new) id handle result }
 {
-    if handle.closing || !slots.on_list(id) {
-        let changed = handles.change(slots, id, handle, handle.stopped());
-        StopUndo {
-            unlinked: None,
-            changed,
-        }
-    } else {
-        let place = slots.unlink(id);
-        let changed = handles.change(slots, id, handle, handle.stopped());
-        StopUndo {
-            unlinked: Some(place),
-            changed,
-        }
-    }
+    handles.delist(slots, id, handle, handle.stopped(), !handle.closing)
 }
 
 /// Takes a stop back.
-pub fn undo_stop<T: HoldsHandle>(handles: &mut Handles, slots: &mut Slots<T>, undo: StopUndo)
-    requires { CanUndoStop T.held_record T.of_record (counted slots.old handles.old) undo }
-    ensures { counted slots.new handles.new ≡ stop_undone T.held_record T.of_record undo (counted slots.old handles.old) }
+pub fn undo_stop<T: HoldsHandle>(handles: &mut Handles, slots: &mut Slots<T>, undo: DelistUndo)
+    requires { CanUndoDelist T.held_record T.of_record (counted slots.old handles.old) undo }
+    ensures { counted slots.new handles.new ≡ delist_undone T.held_record T.of_record undo (counted slots.old handles.old) }
 {
-    handles.undo_change(slots, undo.changed);
-    if let Some(place) = undo.unlinked {
-        slots.undo_unlink(place);
-    }
+    handles.undo_delist(slots, undo);
 }
 
 /// Sends to an async handle: its callback is due. Sends before the callback coalesce (uv_async_send).

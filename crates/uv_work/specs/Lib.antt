@@ -1,5 +1,6 @@
 pub mod Work
-pub mod JobFields
+pub mod TextFields
 pub mod Digests
 pub mod Ids
 pub mod Pool
+pub mod Requests

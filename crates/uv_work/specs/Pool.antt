@@ -1,7 +1,7 @@
 -- The rules of the thread pool (libuv's "Thread pool work scheduling"), by the ids of its requests: they are taken in
 -- the order in which they were queued, and one that a worker took can't be cancelled any more. That a cancelled one
 -- can't be cancelled again is own.
-use Rattle.std.specs.Prelude.{◌≡◌, ◌||◌, ℕ, List, [], ◌∷◌, ◌++◌, Bool, true, false, cond, Option, Some, None, slice_get, slice_set, replicate}
+use Rattle.std.specs.Prelude.{◌≡◌, ◌||◌, ℕ, ◌+◌, List, [], ◌∷◌, ◌++◌, Bool, true, false, cond, Option, Some, None, length, slice_get, slice_set, replicate}
 use Rattle.std.specs.List.{list_any}
 use Rattle.uv_ids.specs.declared.id.Id.{Id}
 use Rattle.uv_work.specs.Ids.{same_id}
@@ -39,6 +39,16 @@ is_done done id = list_any (λ (x : Done). same_id x.id id) done
 -- the request is in the pool: it waits, runs or is done
 abbrev pub has : Pool → Id → Bool
 has p id = waits p.waiting id || (runs p.running id || is_done p.done id)
+
+-- how many workers run a request
+abbrev pub busy : List (Option Id) → ℕ
+busy [] = 0
+busy (None ∷ running) = busy running
+busy (Some id ∷ running) = 1 + busy running
+
+-- how many requests are in the pool: those that are open, from their queue to their collect
+abbrev pub size : Pool → ℕ
+size p = length p.waiting + busy p.running + length p.done
 
 -- those that wait, without the first one of this id
 abbrev pub without : List Id → Id → List Id

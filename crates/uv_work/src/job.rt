@@ -1,12 +1,10 @@
 //! A job: the text to hash, and how often.
-ghost use Rattle.std.specs.Prelude.{◌≡◌, ◌-◌, ◌≤◌, ◌<◌, ◌⊎◌, ◌++◌, length, replicate, IfSome, IfNone};
+ghost use Rattle.std.specs.Prelude.{◌≡◌, ◌≤◌, ◌<◌, ◌⊎◌, ◌↔◌, length, IsTrue, IfSome, IfNone};
 ghost use Rattle.std.specs.Bool.{MatchBool};
 
+use crate::text::Text;
 use std::marker::Model;
 use uv_ids::Id;
-
-/// The longest text of a job, in bytes (own).
-const LONGEST_TEXT: usize = 64;
 
 /// As many rounds as a job may have (own).
 const MOST_ROUNDS: u16 = 1000;
@@ -17,24 +15,20 @@ const MOST_ROUNDS: u16 = 1000;
 pub struct Job {
     req: Id,
     rounds: u16,
-    len: usize,
-    bytes: [u8; LONGEST_TEXT],
+    text: Text,
 }
 
 impl Model for Job {
+    ghost use Rattle.std.specs.Prelude.{◌≤◌};
     ghost use Rattle.uv_work.specs.Work.{Work};
 
     ghost Value = { Work };
 
-    ghost use Rattle.uv_work.specs.JobFields.{work_of, IsPadded, fields_of, fields_back};
+    ghost view = { λ f. record { req = f.req; rounds = f.rounds; text = f.text } };
 
-    ghost view = { work_of };
+    ghost invariant = { λ f. (1 ≤ f.rounds) × (f.rounds ≤ 1000) };
 
-    ghost invariant = { IsPadded };
-
-    ghost inverse = { fields_of };
-
-    ghost inverse_ok = { fields_back };
+    ghost inverse = { λ w. record { req = w.req; rounds = w.rounds; text = w.text } };
 }
 
 impl Job {
@@ -44,15 +38,26 @@ impl Job {
         ensures within { IfSome result (λ job. (1 ≤ rounds) × (rounds ≤ 1000) × (length text.now ≤ 64)) }
         ensures outside { IfNone result ((rounds ≡ 0) ⊎ (1000 < rounds) ⊎ (64 < length text.now)) }
     {
-        if rounds == 0 || rounds > MOST_ROUNDS || text.len() > LONGEST_TEXT {
+        if !Job::allows(rounds) {
             return None;
         }
-        Some(Job {
-            req,
-            rounds,
-            len: text.len(),
-            bytes: padded(text),
-        })
+        let text = Text::new(text)?;
+        Some(Job { req, rounds, text })
+    }
+
+    /// Whether a job may hash so often.
+    pub(crate) fn allows(rounds: u16) -> bool
+        ensures { MatchBool result ((1 ≤ rounds) × (rounds ≤ 1000)) ((rounds ≡ 0) ⊎ (1000 < rounds)) }
+    {
+        rounds != 0 && rounds <= MOST_ROUNDS
+    }
+
+    /// A job within the limits.
+    pub(crate) fn of(req: Id, rounds: u16, text: Text) -> Job
+        requires { (1 ≤ rounds) × (rounds ≤ 1000) }
+        ensures { result ≡ record { req = req; rounds = rounds; text = text } }
+    {
+        Job { req, rounds, text }
     }
 
     /// Whether the two are one job: the same request, rounds and text.
@@ -82,17 +87,6 @@ impl Job {
         ensures value { result.now ≡ self.now.text }
         ensures within { length result.now ≤ 64 }
     {
-        &self.bytes[..self.len]
+        self.text.as_slice()
     }
-}
-
-/// The text, and then zeros.
-fn padded(text: &[u8]) -> [u8; LONGEST_TEXT]
-    requires { length text.now ≤ 64 }
-    ensures bytes { result ≡ text.now ++ replicate (64 - length text.now) 0 }
-    ensures whole { length result ≡ 64 }
-{
-    let mut bytes = [0; LONGEST_TEXT];
-    bytes[..text.len()].copy_from_slice(text);
-    bytes
 }

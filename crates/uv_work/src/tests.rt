@@ -2,7 +2,7 @@
 
 use super::*;
 use std::process::Abort;
-use uv_ids::Id;
+use uv_ids::{Id, Var};
 
 const TEXT: &[u8; 64] = b"the quick brown fox jumps over the lazy dog, and over the lazy c";
 
@@ -172,4 +172,23 @@ fn jobs_are_within_the_limits(rt: HostRuntime) {
         assert!(&rt; Job::new(REQ, TEXT, rounds).is_none());
     }
     assert!(&rt; Job::new(REQ, &[0; 65], 1).is_none());
+}
+
+#[test]
+fn what_becomes_of_a_request(rt: HostRuntime) {
+    let request = RequestRecord::new(Var(2), 1, b"").expect(&rt, "within the limits");
+    assert!(&rt; request.name() == Var(2) && request.rounds() == 1 && request.text().is_empty());
+    assert!(&rt; request.is_open() && request.outcome() == Outcome::Open);
+    let job = request.job(REQ);
+    assert!(&rt; job.req() == REQ && job.rounds() == 1 && job.text().is_empty());
+    let (_, _, digest) = DIGESTS[0];
+    let finished = request.finished(WorkResult::compute(job));
+    assert!(&rt; finished.outcome() == Outcome::Finished(digest) && !finished.is_open());
+    assert!(&rt; finished.reopened() == request);
+    assert!(&rt; request.cancelled().outcome() == Outcome::Cancelled);
+    assert!(&rt; RequestRecord::new(Var(2), 1000, TEXT).is_some());
+    for rounds in [0, 1001] {
+        assert!(&rt; RequestRecord::new(Var(2), rounds, TEXT).is_none());
+    }
+    assert!(&rt; RequestRecord::new(Var(2), 1, &[0; 65]).is_none());
 }

@@ -1,7 +1,8 @@
 //! What stands on the lists and in the free list.
 ghost use Rattle.std.specs.Prelude.{◌≡◌, ◌<◌, List, ◌∷◌, ◌++◌, [], None, IfSome, IfNone, length, true, false, is_some, eqb, ℕ};
+ghost use Rattle.uv_ids.specs.declared.id.Id.{Id};
 ghost use Rattle.uv_records.specs.declared.lists.ListName.{ListName};
-ghost use Rattle.uv_records.specs.Slots.{next_free};
+ghost use Rattle.uv_records.specs.Slots.{next_free, id_of};
 ghost use Rattle.uv_records.specs.Walks.{without};
 ghost use Rattle.uv_arena.specs.Chains.{first, last};
 ghost use Rattle.uv_arena.specs.Image.{FREE, chain, head_at, links_at, slot_at, members, plain_slots, held, on_list};
@@ -132,7 +133,22 @@ impl<T: Copy> Slots<T> {
         self.tail(FREE)
     }
 
-    /// The id of what a slot holds.
+    /// The id of what a slot holds. None if it holds nothing.
+    pub fn id_in(&self, slot: u32) -> Option<Id>
+        ensures none { IfNone result ((d : Id) → d.slot ≡ slot → held self.now d ≡ None) }
+        ensures some { IfSome result (λ d. (d ≡ id_of slot (slot_at self.now.memory slot)) × (is_some (held self.now d) ≡ true)) }
+    {
+        if slot >= self.used() {
+            return None;
+        }
+        let id = self.id_at(slot);
+        if self.get(id).is_none() {
+            return None;
+        }
+        Some(id)
+    }
+
+    /// The id of what a slot that was used holds.
     fn id_at(&self, slot: u32) -> Id
         requires { slot < length self.now.memory.row.items }
         ensures { result ≡ record { slot = slot; generation = (slot_at self.now.memory slot).generation } }

@@ -1,7 +1,7 @@
 use Rattle.std.proofs.Common.{rules, arith}
 use Rattle.std.proofs.lemmas.Grind.{common_steps}
 use Rattle.std.proofs.lemmas.List.{drop-replicate}
-use Rattle.uv_work.proofs.job.padded.Goals as goal
+use Rattle.uv_work.proofs.text.padded.Goals as goal
 
 pub returns-clause-bytes : goal.returns-clause-bytes
 returns-clause-bytes c = rw c.copy_from_slice.ensures.after (first_of (

@@ -1,0 +1,11 @@
+pub mod Begun
+pub mod Bounds
+pub mod Cancelled
+pub mod Collected
+pub mod Cut
+pub mod Ending
+pub mod Finished
+pub mod Holding
+pub mod Queued
+pub mod Rules
+pub mod Taken

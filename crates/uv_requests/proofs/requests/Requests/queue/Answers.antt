@@ -1,0 +1,29 @@
+use Rattle.std.proofs.Common.{◌+◌, sym, subst, arith}
+use Rattle.uv_arena.specs.Calls.{IsInserted}
+use Rattle.uv_requests.specs.Working.{working}
+use Rattle.uv_requests.specs.Undo.{with_count}
+use Rattle.uv_requests.specs.Calls.{IsQueued}
+use Rattle.uv_requests.proofs.Queued.{queue_done, queue_fits}
+use Rattle.uv_requests.proofs.requests.Requests.queue.Goals as goal
+
+pub overflow_add-count : goal.overflow_add-count
+overflow_add-count g c =
+    let H = g.T.HoldsWork in let K = g.met.T.HoldsWork in let i = c.args.slots.now in let k = c.insert.new.self in let j = c.push_back.new.self in
+    let d = c.in-Ok.id in let u = c.in-Ok.inserted in
+    let put = subst (λ x. IsInserted i k x d u) c.of.ensures c.in-Ok.ensures.ok in
+    let fits = queue_fits H.held_request H.of_request K.gives_back i k j d c.args.request u c.args.self.now c.requires.work c.requires.opened put
+    c.push_back.ensures.pushed c.is_sound.ensures in
+    omega (arith, fits, c.open_requests-count.ensures)
+
+pub returns-in-Ok-clause-ok : goal.returns-in-Ok-clause-ok
+returns-in-Ok-clause-ok g c =
+    let H = g.T.HoldsWork in let K = g.met.T.HoldsWork in let i = c.args.slots.now in let k = c.insert.new.self in let j = c.push_back.new.self in
+    let d = c.in-Ok.id in let u = c.in-Ok.inserted in let r = c.args.self.now in let q = c.args.request in
+    let put = subst (λ x. IsInserted i k x d u) c.of.ensures c.in-Ok.ensures.ok in
+    let done = queue_done H.held_request H.of_request K.gives_back i k j d q u r c.requires.work c.requires.opened put
+    c.push_back.ensures.pushed in
+    let count = sym c.open_requests-count.ensures in
+    subst (λ z. IsQueued H.held_request H.of_request (working i r) (working j z) q d (record { inserted = u; count = c.open_requests-count.result }))
+    (sym c.set_count.ensures)
+    (subst (λ n. IsQueued H.held_request H.of_request (working i r) (working j (with_count (n + 1) r)) q d (record { inserted = u; count = n })) count
+    done)

@@ -1,0 +1,95 @@
+//! The after callbacks of requests that are done.
+ghost use Rattle.std.specs.Prelude.{◌≡◌, Option, Some, None, IfSome, IfNone, []};
+ghost use Rattle.uv_records.specs.declared.lists.ListName.TheVariants.{DoneYet};
+ghost use Rattle.uv_arena.specs.Image.{members};
+ghost use Rattle.uv_arena.specs.Calls.{IsFirst};
+ghost use Rattle.uv_requests.specs.Working.{working, request_in, IsWork};
+ghost use Rattle.uv_requests.specs.Undo.{begin_undone, collect_undone, CanUndoBegin, CanUndoCollect};
+ghost use Rattle.uv_requests.specs.Calls.{IsBegun, IsCollected};
+
+use crate::content::HoldsWork;
+use crate::requests::{Requests, request_at};
+use crate::undo::CollectUndo;
+use uv_arena::{Slots, SpliceUndo};
+use uv_ids::Id;
+use uv_records::ListName;
+use uv_work::RequestRecord;
+
+impl Requests {
+    /// Begins the done section: all that are done have yet to be called back.
+    pub fn begin<T: HoldsWork>(&self, slots: &mut Slots<T>) -> SpliceUndo
+        requires work { IsWork T.held_request (working slots.old self.now) }
+        requires empty { members slots.old DoneYet ≡ [] }
+        ensures { IsBegun T.held_request (working slots.old self.now) (working slots.new self.now) result }
+    {
+        slots.splice(ListName::Done, ListName::DoneYet)
+    }
+
+    /// Takes the beginning of the done section back.
+    pub fn undo_begin<T: HoldsWork>(&self, slots: &mut Slots<T>, undo: SpliceUndo)
+        requires { CanUndoBegin T.held_request (working slots.old self.now) undo }
+        ensures { working slots.new self.now ≡ begin_undone undo (working slots.old self.now) }
+    {
+        slots.undo_splice(undo);
+    }
+
+    /// Takes the front of those that have yet to be called back off its list, and frees its slot: the request as it was. None,
+    /// and nothing changed, where there is none.
+    pub fn collect<T: HoldsWork>(
+        &mut self,
+        slots: &mut Slots<T>,
+    ) -> Option<(Id, RequestRecord, CollectUndo<T>)>
+        requires { IsWork T.held_request (working slots.old self.old) }
+        ensures none { IfNone result ((members slots.old DoneYet ≡ []) × (working slots.new self.new ≡ working slots.old self.old)) }
+        ensures some { IfSome result (λ r. IsCollected T.held_request
+            (working slots.old self.old) (working slots.new self.new) r.0 r.1 r.2) }
+    {
+        match slots.first(ListName::DoneYet) {
+            None => None,
+            Some(id) => match request_at(slots, id) {
+                Ok(request) => Some(self.release(slots, id, request)),
+                Err(_) => unreachable!(),
+            },
+        }
+    }
+
+    fn release<T: HoldsWork>(
+        &mut self,
+        slots: &mut Slots<T>,
+        id: Id,
+        request: RequestRecord,
+    ) -> (Id, RequestRecord, CollectUndo<T>)
+        requires work { IsWork T.held_request (working slots.old self.old) }
+        requires first { IsFirst slots.old DoneYet id }
+        requires found { request_in T.held_request slots.old id ≡ Some request }
+        ensures id { result.0 ≡ id }
+        ensures request { result.1 ≡ request }
+        ensures collected { IsCollected T.held_request (working slots.old self.old) (working slots.new self.new) id request result.2 }
+    {
+        slots.is_sound();
+        let count = self.open_requests();
+        let unlinked = slots.unlink(id);
+        match slots.remove(id) {
+            Some((_, removed)) => {
+                self.set_count(count - 1);
+                let undo = CollectUndo {
+                    unlinked,
+                    removed,
+                    count,
+                };
+                (id, request, undo)
+            }
+            None => unreachable!(),
+        }
+    }
+
+    /// Takes a collect back.
+    pub fn undo_collect<T: HoldsWork>(&mut self, slots: &mut Slots<T>, undo: CollectUndo<T>)
+        requires { CanUndoCollect T.held_request (working slots.old self.old) undo }
+        ensures { working slots.new self.new ≡ collect_undone undo (working slots.old self.old) }
+    {
+        slots.undo_remove(undo.removed);
+        slots.undo_unlink(undo.unlinked);
+        self.set_count(undo.count);
+    }
+}

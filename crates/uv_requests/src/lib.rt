@@ -1,0 +1,17 @@
+//! Work requests over the arena: those that wait, those that the workers run and those that are done (libuv's "Thread pool work
+//! scheduling"), and the count of those that are open.
+//!
+//! Each call says that it is a rule of the pool (`uv_work`), of the lists that the arena has. What changes slots has a call that
+//! takes it back, which answers no `Result`: it takes no memory.
+#![tactic(auto)]
+
+mod content;
+mod done;
+mod requests;
+mod undo;
+mod waiting;
+mod workers;
+
+pub use content::HoldsWork;
+pub use requests::{Requests, request_at};
+pub use undo::{CancelUndo, CollectUndo, FinishUndo, QueueUndo, TakeUndo};

@@ -1,0 +1,107 @@
+//! Requests are queued, and cancelled while they wait.
+ghost use Rattle.std.specs.Prelude.{◌≡◌, Option, Some, None, IfOk, IfErr, true};
+ghost use Rattle.uv_records.specs.Slots.{next_free};
+ghost use Rattle.uv_arena.specs.Image.{plain_slots, on_list};
+ghost use Rattle.uv_work.specs.Requests.{is_open, cancel_refusal};
+ghost use Rattle.uv_work.specs.Pool.{waits};
+ghost use Rattle.uv_requests.specs.Working.{working, found, request_in, pool_of, IsWork};
+ghost use Rattle.uv_requests.specs.Undo.{queue_undone, cancel_undone, CanUndoQueue, CanUndoCancel};
+ghost use Rattle.uv_requests.specs.Calls.{IsQueued, IsCancelled};
+
+use crate::content::HoldsWork;
+use crate::requests::{Requests, reopen, request_at};
+use crate::undo::{CancelUndo, QueueUndo};
+use uv_arena::{Full, PushUndo, Slots};
+use uv_ids::{Code, Id};
+use uv_records::ListName;
+use uv_work::RequestRecord;
+
+impl Requests {
+    /// Puts an open request in a slot, behind those that wait (uv_queue_work).
+    pub fn queue<T: HoldsWork>(
+        &mut self,
+        slots: &mut Slots<T>,
+        request: RequestRecord,
+    ) -> Result<(Id, QueueUndo), Full>
+        requires work { IsWork T.held_request (working slots.old self.old) }
+        requires opened { is_open request.outcome ≡ true }
+        ensures ok { IfOk result (λ r. IsQueued T.held_request T.of_request
+            (working slots.old self.old) (working slots.new self.new) request r.0 r.1) }
+        ensures full { IfErr result (λ _. (next_free (plain_slots slots.old) ≡ None)
+            × (working slots.new self.new ≡ working slots.old self.old)) }
+    {
+        let count = self.open_requests();
+        match slots.insert(T::of(request)) {
+            Err(full) => Err(full),
+            Ok((id, inserted)) => {
+                slots.push_back(ListName::Waiting, id);
+                slots.is_sound();
+                self.set_count(count + 1);
+                Ok((id, QueueUndo { inserted, count }))
+            }
+        }
+    }
+
+    /// Takes a queue back.
+    pub fn undo_queue<T: HoldsWork>(&mut self, slots: &mut Slots<T>, undo: QueueUndo)
+        requires { CanUndoQueue T.held_request (working slots.old self.old) undo }
+        ensures { working slots.new self.new ≡ queue_undone undo (working slots.old self.old) }
+    {
+        slots.undo_push(PushUndo {
+            slot: undo.inserted.slot,
+        });
+        slots.undo_insert(undo.inserted);
+        self.set_count(undo.count);
+    }
+
+    /// Cancels a request that waits: it is done, behind those that are done already (uv_cancel). One that a worker took is EBUSY,
+    /// and so is one that was cancelled already (own).
+    pub fn cancel<T: HoldsWork>(&self, slots: &mut Slots<T>, id: Id) -> Result<CancelUndo, Code>
+        requires { IsWork T.held_request (working slots.old self.now) }
+        ensures ok { IfOk result (λ u. IsCancelled T.held_request T.of_request
+            (working slots.old self.now) (working slots.new self.now) id u) }
+        ensures err { IfErr result (λ code. (cancel_refusal (found T.held_request slots.old id)
+            (waits (pool_of T.held_request (working slots.old self.now)).waiting id) ≡ Some code) × (slots.new ≡ slots.old)) }
+    {
+        slots.is_sound();
+        match request_at(slots, id) {
+            Err(code) => Err(code),
+            Ok(request) => {
+                if request.is_open() && slots.on_list(id) {
+                    Ok(self.withdraw(slots, id, request))
+                } else {
+                    Err(Code::Ebusy)
+                }
+            }
+        }
+    }
+
+    fn withdraw<T: HoldsWork>(
+        &self,
+        slots: &mut Slots<T>,
+        id: Id,
+        request: RequestRecord,
+    ) -> CancelUndo
+        requires work { IsWork T.held_request (working slots.old self.now) }
+        requires found { request_in T.held_request slots.old id ≡ Some request }
+        requires opened { is_open request.outcome ≡ true }
+        requires listed { on_list slots.old id ≡ true }
+        ensures { IsCancelled T.held_request T.of_request (working slots.old self.now) (working slots.new self.now) id result }
+    {
+        slots.is_sound();
+        let unlinked = slots.unlink(id);
+        let _ = slots.set(id, T::of(request.cancelled()));
+        slots.push_back(ListName::Done, id);
+        CancelUndo { id, unlinked }
+    }
+
+    /// Takes a cancel back.
+    pub fn undo_cancel<T: HoldsWork>(&self, slots: &mut Slots<T>, undo: CancelUndo)
+        requires { CanUndoCancel T.held_request T.of_request (working slots.old self.now) undo }
+        ensures { working slots.new self.now ≡ cancel_undone T.held_request T.of_request undo (working slots.old self.now) }
+    {
+        slots.undo_push(PushUndo { slot: undo.id.slot });
+        reopen(slots, undo.id);
+        slots.undo_unlink(undo.unlinked);
+    }
+}

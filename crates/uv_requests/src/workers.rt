@@ -1,0 +1,125 @@
+//! The workers take requests and finish them.
+ghost use Rattle.std.specs.Prelude.{◌≡◌, Option, Some, None, IfOk, IfErr, slice_get};
+ghost use Rattle.uv_records.specs.declared.lists.ListName.TheVariants.{Waiting};
+ghost use Rattle.uv_arena.specs.Calls.{IsFirst};
+ghost use Rattle.uv_work.specs.Requests.{job_of};
+ghost use Rattle.uv_requests.specs.Working.{working, request_in, IsWork};
+ghost use Rattle.uv_requests.specs.Undo.{take_undone, finish_undone, CanUndoTake, CanUndoFinish};
+ghost use Rattle.uv_requests.specs.Calls.{RefusesTake, RefusesFinish, IsTaken, IsFinished};
+
+use crate::content::HoldsWork;
+use crate::requests::{Requests, reopen, request_at};
+use crate::undo::{FinishUndo, TakeUndo};
+use uv_arena::{PushUndo, Slots};
+use uv_ids::{Id, Why};
+use uv_records::ListName;
+use uv_work::{RequestRecord, WorkResult};
+
+impl Requests {
+    /// A worker takes the request that waits longest. Refused if there is no such worker, if it runs one already, or if none
+    /// waits.
+    pub fn take<T: HoldsWork>(
+        &mut self,
+        slots: &mut Slots<T>,
+        worker: u16,
+    ) -> Result<(Id, TakeUndo), Why>
+        requires { IsWork T.held_request (working slots.old self.old) }
+        ensures ok { IfOk result (λ r. IsTaken T.held_request (working slots.old self.old) (working slots.new self.new) worker r.0 r.1) }
+        ensures err { IfErr result (λ why. RefusesTake T.held_request (working slots.old self.old) worker why
+            × (working slots.new self.new ≡ working slots.old self.old)) }
+    {
+        match self.running(worker) {
+            None => Err(Why::NoWorker),
+            Some(Some(_)) => Err(Why::BusyWorker),
+            Some(None) => match slots.first(ListName::Waiting) {
+                None => Err(Why::NoWork),
+                Some(id) => Ok(self.start(slots, worker, id)),
+            },
+        }
+    }
+
+    fn start<T: HoldsWork>(&mut self, slots: &mut Slots<T>, worker: u16, id: Id) -> (Id, TakeUndo)
+        requires work { IsWork T.held_request (working slots.old self.old) }
+        requires idle { slice_get self.old.workers worker ≡ Some None }
+        requires first { IsFirst slots.old Waiting id }
+        ensures id { result.0 ≡ id }
+        ensures taken { IsTaken T.held_request (working slots.old self.old) (working slots.new self.new) worker id result.1 }
+    {
+        slots.is_sound();
+        let unlinked = slots.unlink(id);
+        self.set_running(worker, Some(id));
+        (id, TakeUndo { worker, unlinked })
+    }
+
+    /// Takes a take back.
+    pub fn undo_take<T: HoldsWork>(&mut self, slots: &mut Slots<T>, undo: TakeUndo)
+        requires { CanUndoTake T.held_request (working slots.old self.old) undo }
+        ensures { working slots.new self.new ≡ take_undone undo (working slots.old self.old) }
+    {
+        slots.undo_unlink(undo.unlinked);
+        self.set_running(undo.worker, None);
+    }
+
+    /// A worker hands in the result of the request that it runs: the slot keeps the digest, and the request is done behind those
+    /// that are done already. Refused if there is no such worker, if it runs nothing, or if it runs another job.
+    pub fn finish<T: HoldsWork>(
+        &mut self,
+        slots: &mut Slots<T>,
+        worker: u16,
+        work: WorkResult,
+    ) -> Result<(Id, FinishUndo), Why>
+        requires { IsWork T.held_request (working slots.old self.old) }
+        ensures ok { IfOk result (λ r. IsFinished T.held_request T.of_request
+            (working slots.old self.old) (working slots.new self.new) worker r.0 work.job work.digest r.1) }
+        ensures err { IfErr result (λ why. RefusesFinish T.held_request (working slots.old self.old) worker work.job why
+            × (working slots.new self.new ≡ working slots.old self.old)) }
+    {
+        match self.running(worker) {
+            None => Err(Why::NoWorker),
+            Some(None) => Err(Why::IdleWorker),
+            Some(Some(id)) => match request_at(slots, id) {
+                Err(_) => unreachable!(),
+                Ok(request) => {
+                    if request.job(id).is(work.job()) {
+                        Ok(self.end(slots, worker, id, request, work))
+                    } else {
+                        Err(Why::NoWork)
+                    }
+                }
+            },
+        }
+    }
+
+    fn end<T: HoldsWork>(
+        &mut self,
+        slots: &mut Slots<T>,
+        worker: u16,
+        id: Id,
+        request: RequestRecord,
+        work: WorkResult,
+    ) -> (Id, FinishUndo)
+        requires work { IsWork T.held_request (working slots.old self.old) }
+        requires runs { slice_get self.old.workers worker ≡ Some (Some id) }
+        requires found { request_in T.held_request slots.old id ≡ Some request }
+        requires job { job_of id request ≡ work.job }
+        ensures id { result.0 ≡ id }
+        ensures finished { IsFinished T.held_request T.of_request
+            (working slots.old self.old) (working slots.new self.new) worker id work.job work.digest result.1 }
+    {
+        slots.is_sound();
+        let _ = slots.set(id, T::of(request.finished(work)));
+        slots.push_back(ListName::Done, id);
+        self.set_running(worker, None);
+        (id, FinishUndo { worker, id })
+    }
+
+    /// Takes a finish back.
+    pub fn undo_finish<T: HoldsWork>(&mut self, slots: &mut Slots<T>, undo: FinishUndo)
+        requires { CanUndoFinish T.held_request T.of_request (working slots.old self.old) undo }
+        ensures { working slots.new self.new ≡ finish_undone T.held_request T.of_request undo (working slots.old self.old) }
+    {
+        slots.undo_push(PushUndo { slot: undo.id.slot });
+        reopen(slots, undo.id);
+        self.set_running(undo.worker, Some(undo.id));
+    }
+}

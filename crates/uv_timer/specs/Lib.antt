@@ -1,0 +1,4 @@
+pub mod Changes
+pub mod Hook
+pub mod Timed
+pub mod Timers

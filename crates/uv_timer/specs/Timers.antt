@@ -1,0 +1,116 @@
+-- What holds after each call that changes a timer.
+use Rattle.std.specs.Prelude.{◌≡◌, ◌≢◌, ◌≤◌, ℕ, ◌+◌, ◌==◌, ◌⊎◌, true, eqb, List, [], ◌∷◌, ◌++◌, slice_get, Option, Some, None, IfSome, if◌then◌else◌}
+use Rattle.uv_ids.specs.declared.id.Id.{Id}
+use Rattle.uv_ids.specs.declared.due.Due.{Due}
+use Rattle.uv_ids.specs.declared.code.Code.{Code}
+use Rattle.uv_records.specs.declared.handle.HandleRecord.{HandleRecord}
+use Rattle.uv_records.specs.declared.lists.ListName.{ListName}
+use Rattle.uv_records.specs.declared.lists.ListName.TheVariants.{Ready}
+use Rattle.uv_records.specs.Dues.{due_in}
+use Rattle.uv_records.specs.Handles.{stopped}
+use Rattle.uv_records.specs.Refusals.{refusal, timer_refusal, start_timer_refusal, stop_refusal, again_refusal}
+use Rattle.uv_records.specs.Slots.{id_of}
+use Rattle.uv_records.specs.Walks.{without}
+use Rattle.uv_arena.specs.Image.{Image, members, slot_at, held, on_list}
+use Rattle.uv_arena.specs.Calls.{IsFirst}
+use Rattle.uv_handle.specs.Counted.{IsCounted, record_at, found}
+use Rattle.uv_handle.specs.Changes.{IsDelisted}
+use Rattle.uv_heap.specs.declared.entry.Entry.{Entry}
+use Rattle.uv_heap.specs.Order.{IsInOrder, IsBeforeAll, inserted}
+use Rattle.uv_timer.specs.declared.change.Times.{Times}
+use Rattle.uv_timer.specs.declared.change.Change.{Change}
+use Rattle.uv_timer.specs.declared.undo.TimerUndo.{TimerUndo}
+use Rattle.uv_timer.specs.declared.undo.CollectUndo.{CollectUndo}
+use Rattle.uv_timer.specs.Changes.{starting, stopping, starting_again, firing}
+use Rattle.uv_timer.specs.Timed.{Timed, timer_undone, collect_undone, CanUndoTimer, CanUndoCollect}
+
+-- the timers without that of a slot
+abbrev pub cleared : ℕ → List Entry → List Entry
+cleared slot [] = []
+cleared slot (x ∷ xs) = if x.slot == slot then xs else x ∷ cleared slot xs
+
+-- and with one that is due then, at its place in the order
+abbrev pub with_due : Option Due → ℕ → List Entry → List Entry
+with_due None slot ts = ts
+with_due (Some due) slot ts = inserted (record { due = due; slot = slot }) ts
+
+-- one that is set draws a start number
+abbrev pub drawn : Option Due → Times → Times
+drawn None t = t
+drawn (Some due) t = record t { next_start = t.next_start + 1 }
+
+module _ {X : Type 0} (read : X → Option HandleRecord) where
+  -- the first timer of the order, if it is due; the slot of the array's least entry holds it
+  pub record IsDue (i : Image X) (array : List Entry) (time : ℕ) (d : Id) (h : HandleRecord) : Type 0 where
+    pub entry : Entry
+    pub least : slice_get array 0 ≡ Some entry
+    pub first : (f : Entry) (fs : List Entry) → IsInOrder array (f ∷ fs) → IsBeforeAll f fs → entry ≡ f
+    pub due : entry.due.at ≤ time
+    pub slot : d.slot ≡ entry.slot
+    pub handle : record_at read i d ≡ Some h
+
+  -- no timer is due: there is none, or the least one isn't due (or its slot holds no handle)
+  abbrev pub NoneIsDue : Image X → List Entry → ℕ → Type 0
+  NoneIsDue i array time = IfSome (slice_get array 0) (λ e. e.due.at ≤ time → record_at read i (id_of e.slot (slot_at i.memory e.slot)) ≡ None)
+
+  -- no timer is ready: the list is empty (or its front is no handle)
+  abbrev pub NoneIsReady : Image X → Type 0
+  NoneIsReady i = (members i Ready ≡ []) ⊎ ((d : Id) × IsFirst i Ready d × (record_at read i d ≡ None))
+
+  -- in how many ms a timer is due
+  pub record IsDueIn (i : Image X) (t : Times) (d : Id) (n : ℕ) : Type 0 where
+    pub from : HandleRecord
+    pub there : record_at read i d ≡ Some from
+    pub allowed : timer_refusal from ≡ None
+    pub is : n ≡ due_in t.time from
+
+  -- a refused op changes nothing
+  abbrev pub Refused : (HandleRecord → Option Code) → Timed X → Timed X → Id → Code → Type 0
+  Refused why old new d code = (refusal why (found read old.handles.arena d) ≡ Some code) × (new ≡ old)
+
+  module _ (make : HandleRecord → X) where
+    -- the handle has its other record, and is off its list if it was to leave it; it is on the heap if it is due at some time, and
+    -- not otherwise
+    pub record IsRescheduled (room : ℕ) (old new : Timed X) (d : Id) (c : Change) (u : TimerUndo) : Type 0 where
+      pub handles : IsDelisted read make old.handles new.handles d c.from c.to c.leaves u.delisted
+      pub timers : (ts : List Entry) → IsInOrder old.heap ts → IsInOrder new.heap (with_due c.due d.slot (cleared d.slot ts))
+      pub times : new.times ≡ drawn c.due old.times
+      pub undone : timer_undone read make u new ≡ old
+      pub can_undo : CanUndoTimer read make room new u
+
+    pub record IsStarted (room : ℕ) (old new : Timed X) (d : Id) (timeout repeat : ℕ) (u : TimerUndo) : Type 0 where
+      pub from : HandleRecord
+      pub allowed : start_timer_refusal from ≡ None
+      pub changed : IsRescheduled room old new d (starting old.times from timeout repeat) u
+
+    pub record IsStopped (room : ℕ) (old new : Timed X) (d : Id) (u : TimerUndo) : Type 0 where
+      pub from : HandleRecord
+      pub allowed : stop_refusal from ≡ None
+      pub changed : IsRescheduled room old new d (stopping from) u
+
+    pub record IsStartedAgain (room : ℕ) (old new : Timed X) (d : Id) (u : TimerUndo) : Type 0 where
+      pub from : HandleRecord
+      pub allowed : again_refusal from ≡ None
+      pub changed : IsRescheduled room old new d (starting_again old.times from) u
+
+    -- the first timer, which is due, is off the heap, inactive, and at the end of the ready list
+    pub record IsCollected (room : ℕ) (old new : Timed X) (d : Id) (u : CollectUndo) : Type 0 where
+      pub from : HandleRecord
+      pub is_due : IsDue old.handles.arena old.heap old.times.time d from
+      pub handle : record_at read new.handles.arena d ≡ Some (stopped from)
+      pub ready : members new.handles.arena Ready ≡ without eqb (members old.handles.arena Ready) d.slot ++ d.slot ∷ []
+      pub others : (l : ListName) → l ≢ Ready → members new.handles.arena l ≡ without eqb (members old.handles.arena l) d.slot
+      pub listed : on_list new.handles.arena d ≡ true
+      pub contents : (e : Id) → e.slot ≢ d.slot → held new.handles.arena e ≡ held old.handles.arena e
+      pub kept : (e : Id) → e.slot ≢ d.slot → on_list new.handles.arena e ≡ on_list old.handles.arena e
+      pub counts : IsCounted read new.handles
+      pub timers : (ts : List Entry) → IsInOrder old.heap ts → IsInOrder new.heap (cleared d.slot ts)
+      pub times : new.times ≡ old.times
+      pub undone : collect_undone read make u new ≡ old
+      pub can_undo : CanUndoCollect read make room new u
+
+    -- the front of the ready list is off it, and set again from now if it repeats
+    pub record IsFired (room : ℕ) (old new : Timed X) (d : Id) (u : TimerUndo) : Type 0 where
+      pub first : IsFirst old.handles.arena Ready d
+      pub from : HandleRecord
+      pub changed : IsRescheduled room old new d (firing old.times from) u

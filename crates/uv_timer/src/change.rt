@@ -1,0 +1,101 @@
+//! What becomes of a timer, and the times that this is reckoned by.
+ghost use Rattle.std.specs.Prelude.{◌≡◌};
+ghost use Rattle.uv_records.specs.Dues.{due_after};
+ghost use Rattle.uv_timer.specs.Changes.{starting, stopping, collecting, starting_again, firing};
+
+use uv_handle::HandleRecord;
+use uv_ids::Due;
+
+/// The loop's cached time in ms (uv_now), and the number that the next start of a timer draws.
+#[derive(Clone, Copy, Debug, PartialEq, Eq)]
+pub struct Times {
+    pub time: u64,
+    pub next_start: u64,
+}
+
+impl Times {
+    /// When a timer is due that is started now, with this timeout in ms. At the latest at the largest time.
+    pub fn due_after(&self, timeout: u64) -> Due
+        ensures { result ≡ due_after self.now.time self.now.next_start timeout }
+    {
+        Due {
+            at: self.time.saturating_add(timeout),
+            start: self.next_start,
+        }
+    }
+}
+
+/// What becomes of a timer: its record, whether it leaves its list, and when it is due, if it is set.
+#[derive(Clone, Copy, Debug, PartialEq, Eq)]
+pub struct Change {
+    pub from: HandleRecord,
+    pub to: HandleRecord,
+    pub leaves: bool,
+    pub due: Option<Due>,
+}
+
+impl Change {
+    /// It is started.
+    pub(crate) fn starting(times: &Times, handle: HandleRecord, timeout: u64, repeat: u64) -> Change
+        ensures { result ≡ starting times.now handle timeout repeat }
+    {
+        let due = times.due_after(timeout);
+        Change {
+            from: handle,
+            to: handle.begun_at(due, repeat),
+            leaves: true,
+            due: Some(due),
+        }
+    }
+
+    /// It is stopped. A closing one stays on the closing list.
+    pub(crate) fn stopping(handle: HandleRecord) -> Change
+        ensures { result ≡ stopping handle }
+    {
+        Change {
+            from: handle,
+            to: handle.stopped(),
+            leaves: !handle.closing,
+            due: None,
+        }
+    }
+
+    /// It is collected: it leaves the heap, inactive.
+    pub(crate) fn collecting(handle: HandleRecord) -> Change
+        ensures { result ≡ collecting handle }
+    {
+        Change {
+            from: handle,
+            to: handle.stopped(),
+            leaves: true,
+            due: None,
+        }
+    }
+
+    /// It is started again with its repeat, or stopped if it has none.
+    pub(crate) fn again(times: &Times, handle: HandleRecord) -> Change
+        ensures { result ≡ starting_again times.now handle }
+    {
+        if handle.repeat == 0 {
+            Change::collecting(handle)
+        } else {
+            Change::starting(times, handle, handle.repeat, handle.repeat)
+        }
+    }
+
+    /// It is called: it leaves the ready list, and is started again if it repeats.
+    pub(crate) fn firing(times: &Times, handle: HandleRecord) -> Change
+        ensures { result ≡ firing times.now handle }
+    {
+        if handle.repeat == 0 {
+            Change {
+                from: handle,
+                to: handle,
+                leaves: true,
+                due: None,
+            }
+        } else {
+            Change::starting(times, handle, handle.repeat, handle.repeat)
+        }
+    }
+}

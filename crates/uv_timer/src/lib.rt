@@ -1,0 +1,16 @@
+//! The timers over the arena and the heap: starting and stopping, collecting those that are due, and firing them. Every change has
+//! an exact undo.
+#![tactic(auto)]
+
+mod change;
+mod hook;
+mod ops;
+mod rescheduling;
+mod section;
+mod undo;
+
+pub use change::{Change, Times};
+pub use ops::{again, due_in, set_repeat, start, stop, undo_set_repeat};
+pub use rescheduling::{reschedule, undo_reschedule};
+pub use section::{collect_one, fire_one, undo_collect_one};
+pub use undo::{CollectUndo, SetUndo, TimerUndo};

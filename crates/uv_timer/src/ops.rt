@@ -1,0 +1,157 @@
+//! The ops on timers.
+ghost use Rattle.std.specs.Prelude.{◌≡◌, ◌<◌, ◌^◌, ◌-◌, Option, Some, None, IfOk, IfErr};
+ghost use Rattle.uv_records.specs.declared.handle.HandleRecord.{HandleRecord};
+ghost use Rattle.uv_records.specs.Dues.{due_in};
+ghost use Rattle.uv_records.specs.Handles.{repeating};
+ghost use Rattle.uv_records.specs.Refusals.{refusal, timer_refusal, start_timer_refusal, stop_refusal, again_refusal};
+ghost use Rattle.uv_handle.specs.Counted.{counted, record_at, found, IsCounted, record_undone, CanUndoRecord};
+ghost use Rattle.uv_handle.specs.Changes.{Did, Refused as RefusedRecord};
+ghost use Rattle.uv_timer.specs.Timed.{timed};
+ghost use Rattle.uv_timer.specs.Timers.{Refused, IsStarted, IsStopped, IsStartedAgain, IsDueIn};
+
+use crate::change::{Change, Times};
+use crate::rescheduling::reschedule;
+use crate::undo::TimerUndo;
+use uv_arena::Slots;
+use uv_handle::{Handles, HoldsHandle, RecordUndo, handle_at};
+use uv_heap::TimerHeap;
+use uv_ids::{Code, Id};
+
+/// Starts a timer: it is due this timeout from now, and has this repeat, both in ms (uv_timer_start). One that is active or ready
+/// is taken off the heap or the ready list first.
+pub fn start<T: HoldsHandle>(
+    handles: &mut Handles,
+    slots: &mut Slots<T>,
+    heap: &mut TimerHeap,
+    times: &mut Times,
+    id: Id,
+    timeout: u64,
+    repeat: u64,
+) -> Result<TimerUndo, Code>
+    requires counts { IsCounted T.held_record (counted slots.old handles.old) }
+    requires room { id.slot < heap.old.room }
+    requires starts { times.old.next_start < 2 ^ 64 - 1 }
+    ensures ok { IfOk result (λ u. IsStarted T.held_record T.of_record heap.new.room
+        (timed slots.old handles.old heap.old times.old) (timed slots.new handles.new heap.new times.new) id timeout repeat u) }
+    ensures err { IfErr result (λ code. Refused T.held_record start_timer_refusal
+        (timed slots.old handles.old heap.old times.old) (timed slots.new handles.new heap.new times.new) id code) }
+    ensures room { heap.new.room ≡ heap.old.room }
+{
+    match handle_at(slots, id) {
+        Err(code) => Err(code),
+        Ok(handle) => match handle.start_timer_refusal() {
+            Some(code) => Err(code),
+            None => {
+                let change = Change::starting(times, handle, timeout, repeat);
+                Ok(reschedule(handles, slots, heap, times, id, change))
+            }
+        },
+    }
+}
+
+/// Stops a timer (uv_timer_stop). A closing one stays on the closing list.
+pub fn stop<T: HoldsHandle>(
+    handles: &mut Handles,
+    slots: &mut Slots<T>,
+    heap: &mut TimerHeap,
+    times: &mut Times,
+    id: Id,
+) -> Result<TimerUndo, Code>
+    requires { IsCounted T.held_record (counted slots.old handles.old) }
+    ensures ok { IfOk result (λ u. IsStopped T.held_record T.of_record heap.new.room
+        (timed slots.old handles.old heap.old times.old) (timed slots.new handles.new heap.new times.new) id u) }
+    ensures err { IfErr result (λ code. Refused T.held_record stop_refusal
+        (timed slots.old handles.old heap.old times.old) (timed slots.new handles.new heap.new times.new) id code) }
+    ensures room { heap.new.room ≡ heap.old.room }
+{
+    match handle_at(slots, id) {
+        Err(code) => Err(code),
+        Ok(handle) => match handle.stop_refusal() {
+            Some(code) => Err(code),
+            None => Ok(reschedule(handles, slots, heap, times, id, Change::stopping(handle))),
+        },
+    }
+}
+
+/// Stops a timer that was ever started, and starts it again with its repeat as timeout, if it repeats (uv_timer_again).
+pub fn again<T: HoldsHandle>(
+    handles: &mut Handles,
+    slots: &mut Slots<T>,
+    heap: &mut TimerHeap,
+    times: &mut Times,
+    id: Id,
+) -> Result<TimerUndo, Code>
+    requires counts { IsCounted T.held_record (counted slots.old handles.old) }
+    requires room { id.slot < heap.old.room }
+    requires starts { times.old.next_start < 2 ^ 64 - 1 }
+    ensures ok { IfOk result (λ u. IsStartedAgain T.held_record T.of_record heap.new.room
+        (timed slots.old handles.old heap.old times.old) (timed slots.new handles.new heap.new times.new) id u) }
+    ensures err { IfErr result (λ code. Refused T.held_record again_refusal
+        (timed slots.old handles.old heap.old times.old) (timed slots.new handles.new heap.new times.new) id code) }
+    ensures room { heap.new.room ≡ heap.old.room }
+{
+    match handle_at(slots, id) {
+        Err(code) => Err(code),
+        Ok(handle) => match handle.again_refusal() {
+            Some(code) => Err(code),
+            None => {
+                let change = Change::again(times, handle);
+                Ok(reschedule(handles, slots, heap, times, id, change))
+            }
+        },
+    }
+}
+
+/// Gives a timer another repeat in ms; when it is due stays (uv_timer_set_repeat).
+pub fn set_repeat<T: HoldsHandle>(
+    handles: &mut Handles,
+    slots: &mut Slots<T>,
+    id: Id,
+    repeat: u64,
+) -> Result<RecordUndo, Code>
+    requires { IsCounted T.held_record (counted slots.old handles.old) }
+    ensures ok { IfOk result (λ u. Did T.held_record T.of_record timer_refusal (repeating repeat)
+        (counted slots.old handles.old) (counted slots.new handles.new) id u) }
+    ensures err { IfErr result (λ code. RefusedRecord T.held_record T.of_record timer_refusal
+        (counted slots.old handles.old) (counted slots.new handles.new) id code) }
+{
+    match handle_at(slots, id) {
+        Err(code) => Err(code),
+        Ok(handle) => match handle.timer_refusal() {
+            Some(code) => Err(code),
+            None => Ok(handles.change(slots, id, handle, handle.repeating(repeat))),
+        },
+    }
+}
+
+/// Takes another repeat back.
+pub fn undo_set_repeat<T: HoldsHandle>(
+    handles: &mut Handles,
+    slots: &mut Slots<T>,
+    undo: RecordUndo,
+)
+    requires { CanUndoRecord T.held_record T.of_record (counted slots.old handles.old) undo }
+    ensures { counted slots.new handles.new ≡ record_undone T.held_record T.of_record undo (counted slots.old handles.old) }
+{
+    handles.undo_change(slots, undo);
+}
+
+/// In how many ms a timer is due (uv_timer_get_due_in).
+pub fn due_in<T: HoldsHandle>(slots: &Slots<T>, times: &Times, id: Id) -> Result<u64, Code>
+    ensures ok { IfOk result (λ n. IsDueIn T.held_record slots.now times.now id n) }
+    ensures err { IfErr result (λ code. refusal timer_refusal (found T.held_record slots.now id) ≡ Some code) }
+{
+    match handle_at(slots, id) {
+        Err(code) => Err(code),
+        Ok(handle) => match handle.timer_refusal() {
+            Some(code) => Err(code),
+            None => {
+                if handle.active {
+                    Ok(handle.due.at.saturating_sub(times.time))
+                } else {
+                    Ok(0)
+                }
+            }
+        },
+    }
+}
