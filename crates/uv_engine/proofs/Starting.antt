@@ -253,8 +253,9 @@ talked input p commands s old new r h e d t = at r d (subst (λ (x : Shown). Tal
   at (Err fault.Limit) d t = absurd d
 
 -- the session of a machine that has begun
-pub begun_session : (s : Shown) (p q : Program) → s.program ≡ q → q ≡ p → s.limit ≡ STEPS → s.standing ≡ [] → s.taken_back ≡ [] → s ≡ fresh_session p
-begun_session s p q a b l x y = same_shown s (fresh_session p) (a ∙ b) l x y
+pub begun_session : (s : Shown) (p q : Program) → s.program ≡ q → q ≡ p → s.limit ≡ STEPS → s.standing ≡ [] → s.taken_back ≡ [] → s.breaks ≡ [] →
+    s ≡ fresh_session p
+begun_session s p q a b l x y z = same_shown s (fresh_session p) (a ∙ b) l x y z
 
 -- before anything was read the whole input is left
 pub reads_whole : (b : Buffered) (input rest : List ℕ) (r : Result Program Fault) → pending b ≡ [] → ReadsScript (left b input) r rest

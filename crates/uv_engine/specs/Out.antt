@@ -70,7 +70,7 @@ pub data NeverBegins : List ℕ → Type 0 where
 
 -- the session of a script that has taken no step
 abbrev pub fresh_session : Program → Shown
-fresh_session p = record { program = p; limit = STEPS; standing = []; taken_back = [] }
+fresh_session p = record { program = p; limit = STEPS; standing = []; taken_back = []; breaks = [] }
 
 -- how a conversation ends: with the commands, or at a line that is outside the grammar of scripts
 pub data End : Type 0 where

@@ -1,14 +1,17 @@
 -- Steps that are taken back.
-use Rattle.std.proofs.Common.{◌≡◌, ℕ, ◌+◌, ◌-◌, ◌<◌, ◌≤◌, List, ◌++◌, length, take, drop, ap, ap₂, sym, ◌∙◌, arith, length-take, append_assoc}
+use Rattle.std.proofs.Common.{◌≡◌, ℕ, zero, suc, [], ◌∷◌, refl, ◌+◌, ◌-◌, ◌<◌, ◌≤◌, List, ◌++◌, length, take, drop, ap, ap₂, sym, ◌∙◌, arith, length-take, append_assoc}
 use Rattle.std.proofs.lemmas.Grind.{common_steps}
 use Rattle.std.proofs.lemmas.List.{take-append-drop}
+use Rattle.std.proofs.Math.Seq.{take-add}
 use Rattle.uv_ids.specs.declared.event.Event.{Event}
 use Rattle.uv_script.specs.Program.{Program}
+use Rattle.uv_session.specs.declared.breaks.Break.{Break}
 use Rattle.uv_session.specs.Shown.{Shown, moved_back}
+use Rattle.uv_session.specs.Moving.{moved_forward}
 
 -- the first steps of a list as standing, and the others as taken back
-abbrev pub split : Program → ℕ → ℕ → List Event → Shown
-split p limit k es = record { program = p; limit = limit; standing = take k es; taken_back = drop k es }
+abbrev pub split : Program → ℕ → List Break → ℕ → List Event → Shown
+split p limit breaks k es = record { program = p; limit = limit; standing = take k es; taken_back = drop k es; breaks = breaks }
 
 length-first : (k : ℕ) (es : List Event) → k ≤ length es → length (take k es) ≡ k
 length-first k es l = rw length-take (omega arith)
@@ -22,9 +25,10 @@ rest k n es l m = rw (length-first k es m) (
     let short : length (take k es) ≡ k = length-first k es m in
     ap (drop (k - n)) (sym whole) ∙ grind (arith, common_steps))
 
-pub split_moved : (p : Program) (limit k n : ℕ) (es : List Event) → n ≤ k → k ≤ length es →
-    split p limit (k - n) es ≡ moved_back n (split p limit k es)
-split_moved p limit k n es l m = ap₂ (λ (xs ys : List Event). record { program = p; limit = limit; standing = xs; taken_back = ys })
+pub split_moved : (p : Program) (limit : ℕ) (breaks : List Break) (k n : ℕ) (es : List Event) → n ≤ k → k ≤ length es →
+    split p limit breaks (k - n) es ≡ moved_back n (split p limit breaks k es)
+split_moved p limit breaks k n es l m =
+    ap₂ (λ (xs ys : List Event). record { program = p; limit = limit; standing = xs; taken_back = ys; breaks = breaks })
     (first k n es l m) (rest k n es l m)
 
 -- one step more
@@ -34,6 +38,40 @@ moved_more s n l =
     let same : length s.standing - (n + 1) ≡ k - 1 = omega arith in
     let low : 1 ≤ k = omega arith in
     let high : k ≤ length s.standing = omega arith in
-    rw same (ap₂ (λ (xs ys : List Event). record { program = s.program; limit = s.limit; standing = xs; taken_back = ys })
+    rw same (ap₂ (λ (xs ys : List Event). record {
+      program = s.program;
+      limit = s.limit;
+      standing = xs;
+      taken_back = ys;
+      breaks = s.breaks;
+    })
     (sym (first k 1 s.standing low high))
     (sym (append_assoc _ (drop k s.standing) s.taken_back) ∙ ap (λ (xs : List Event). xs ++ s.taken_back) (sym (rest k 1 s.standing low high))))
+
+drop_none : (n : ℕ) → ◌≡◌ {A = List Event} (drop n []) []
+drop_none zero = refl
+drop_none (suc n) = refl
+
+drop_more : (k n : ℕ) (es : List Event) → drop (k + n) es ≡ drop n (drop k es)
+drop_more zero n es = let same : 0 + n ≡ n = omega arith in rw same refl
+drop_more (suc k) n [] = drop_none (suc k + n) ∙ sym (drop_none n)
+drop_more (suc k) n (e ∷ es) = let same : suc k + n ≡ suc (k + n) = omega arith in rw same (drop_more k n es)
+
+-- one step taken back is run again
+pub split_again : (p : Program) (limit : ℕ) (breaks : List Break) (k : ℕ) (es : List Event) →
+    split p limit breaks (k + 1) es ≡ moved_forward 1 (split p limit breaks k es)
+split_again p limit breaks k es =
+    ap₂ (λ (xs ys : List Event). record { program = p; limit = limit; standing = xs; taken_back = ys; breaks = breaks })
+    (take-add k 1 es) (drop_more k 1 es)
+
+-- and one more
+pub forward_more : (s : Shown) (n : ℕ) → moved_forward 1 (moved_forward n s) ≡ moved_forward (n + 1) s
+forward_more s n = ap₂ (λ (xs ys : List Event). record {
+      program = s.program;
+      limit = s.limit;
+      standing = xs;
+      taken_back = ys;
+      breaks = s.breaks;
+    })
+    (append_assoc s.standing (take n s.taken_back) (take 1 (drop n s.taken_back)) ∙ ap (λ (es : List Event). s.standing ++ es)
+    (sym (take-add n 1 s.taken_back))) (sym (drop_more n 1 s.taken_back))

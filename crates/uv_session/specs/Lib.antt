@@ -1,2 +1,4 @@
 pub mod Shown
 pub mod Held
+pub mod Breaks
+pub mod Moving

@@ -9,6 +9,7 @@ use Rattle.uv_model.specs.declared.machine.Outcome.{Outcome}
 use Rattle.uv_ids.specs.declared.seen.Seen.{Seen}
 use Rattle.uv_model.specs.Next.{next, Moves, Refuses}
 use Rattle.uv_model.specs.After.{after}
+use Rattle.uv_session.specs.declared.breaks.Break.{Break}
 use Rattle.uv_order.specs.Line.{Line}
 use Rattle.uv_order.specs.History.{history}
 use Rattle.uv_order.specs.Documented.{Documented}
@@ -19,6 +20,8 @@ pub record Shown : Type 0 where
   pub limit : ℕ
   pub standing : List Event
   pub taken_back : List Event
+  -- where a run is to stop; one that was added twice stands twice
+  pub breaks : List Break
 
 -- the last n standing steps go to the front of those taken back
 abbrev pub moved_back : ℕ → Shown → Shown
@@ -44,6 +47,7 @@ Responds limit p es e (Err _) fs = ⊥
 pub record TakesEvent (s : Shown) (e : Event) (r : Result Outcome Fault) (t : Shown) : Type 0 where
   pub same_program : t.program ≡ s.program
   pub same_limit : t.limit ≡ s.limit
+  pub same_breaks : t.breaks ≡ s.breaks
   pub answer : Responds s.limit s.program s.standing e r t.standing
   pub taken_back : t.taken_back ≡ taken_after r s.taken_back
 

@@ -1,8 +1,10 @@
 //! A session: a machine with the steps that stand, and those that were taken back and can be run again.
 #![tactic(auto)]
 
+mod breaks;
 mod session;
 #[cfg(test)]
 mod tests;
 
-pub use session::Session;
+pub use breaks::{Break, Stop};
+pub use session::{Session, BREAKS};

@@ -1,14 +1,20 @@
 //! What stands, and what was taken back.
-ghost use Rattle.std.specs.Prelude.{◌≡◌, ◌≤◌, ◌<◌, ◌-◌, [], IfOk, IfErr, OnOk, length, ◌++◌, min, option_to_list};
+ghost use Rattle.std.specs.Prelude.{◌≡◌, ◌≤◌, ◌<◌, ◌-◌, [], IfOk, IfErr, OnOk, IfSome, IfNone, length, ◌++◌, min, option_to_list};
 ghost use Rattle.uv_ids.specs.declared.fault.Fault.TheVariants.{Memory};
 ghost use Rattle.uv_model.specs.After.{STEPS, lines};
 ghost use Rattle.uv_order.specs.Once.{Once};
+ghost use Rattle.uv_session.specs.Moving.{moved_forward, MovesForward, AddsBreak, RunsTo, NoneFrom, IsLastBreak, GoesToBreak};
 ghost use Rattle.uv_session.specs.Shown.{TakesEvent, MovesBack, IsDocumented, moved_back};
 
 use std::alloc::{AllocError, Global};
 use std::marker::Model;
 use uv_ids::{Event, Fault, Seen, Why};
 use uv_model::{Machine, Outcome, STEPS};
+
+use crate::breaks::{stop_of, stops, Break, Stop};
+
+/// The most breaks that a session has (own).
+pub const BREAKS: usize = 256;
 
 /// A machine and the list of its steps, of which the first ones stand and the others were taken back.
 #[derive(Drop)]
@@ -18,6 +24,7 @@ pub struct Session<M: Machine> {
     events: Vec<Event>,
     standing: usize,
     limit: usize,
+    breaks: Vec<Break>,
 }
 
 impl<M: Machine> Model for Session<M> {
@@ -32,6 +39,7 @@ impl<M: Machine> Model for Session<M> {
       limit = a.limit;
       standing = take a.standing a.events.items;
       taken_back = drop a.standing a.events.items;
+      breaks = a.breaks.items;
     } };
 
     ghost invariant = { λ a. IsHeld (M.program a.machine) (M.standing a.machine) a.events.items a.standing a.limit };
@@ -46,6 +54,7 @@ impl<M: Machine> Session<M> {
         ensures limit { result.limit ≡ min limit STEPS }
         ensures standing { result.standing ≡ [] }
         ensures taken_back { result.taken_back ≡ [] }
+        ensures breaks { result.breaks ≡ [] }
     {
         Session {
             alloc,
@@ -53,6 +62,7 @@ impl<M: Machine> Session<M> {
             events: Vec::new(alloc),
             standing: 0,
             limit: limit.min(STEPS),
+            breaks: Vec::new(alloc),
         }
     }
 
@@ -97,6 +107,103 @@ impl<M: Machine> Session<M> {
         self.machine.back()?;
         self.standing -= 1;
         Ok(())
+    }
+
+    /// Runs the first steps that were taken back again, and doesn't stop at breaks. `Refused(Range)` where fewer were taken back,
+    /// with nothing changed; want of memory may leave some of them run again.
+    pub fn forward(&mut self, n: usize) -> Result<(), Fault>
+        ensures { MovesForward self.old n result self.new }
+    {
+        if n > self.events.len() - self.standing {
+            return Err(Fault::Refused(Why::Range));
+        }
+        for _ in 0..n {
+            self.forward_one()?;
+        }
+        Ok(())
+    }
+
+    /// Runs the first step that was taken back again.
+    #[tactic(auto, using(uv_model::proofs::Runs::accepting))]
+    fn forward_one(&mut self) -> Result<(), Fault>
+        requires { 0 < length self.old.taken_back }
+        ensures ok { OnOk result (self.new ≡ moved_forward 1 self.old) }
+        ensures err { IfErr result (λ fault. (fault ≡ Memory) × (self.new ≡ self.old)) }
+    {
+        match self.machine.step(self.events[self.standing]) {
+            Ok(_) => {
+                self.standing += 1;
+                Ok(())
+            }
+            Err(fault) => Err(fault),
+        }
+    }
+
+    /// Has runs stop at one break more, an equal one too. `Limit` with 256 of them; after an error all is as before.
+    pub fn add_break(&mut self, at: Break) -> Result<(), Fault>
+        ensures { AddsBreak self.old at result self.new }
+    {
+        if self.breaks.len() >= BREAKS {
+            return Err(Fault::Limit);
+        }
+        if self.breaks.push(at).is_err() {
+            return Err(Fault::Memory);
+        }
+        Ok(())
+    }
+
+    /// Has runs stop nowhere.
+    pub fn clear_breaks(&mut self)
+        ensures { self.new ≡ record self.old { breaks = [] } }
+    {
+        self.breaks.clear();
+    }
+
+    /// Repeats an event until so many are done, a step matches a break, or the event is refused. After an error the steps that
+    /// were accepted stand.
+    pub fn run_to_break(&mut self, event: Event, times: usize) -> Result<Stop, Fault>
+        ensures { RunsTo event times self.old result self.new }
+    {
+        'steps: for _ in 0..times {
+            match self.do_event(event) {
+                Ok(outcome) => {
+                    if stops(&self.breaks, outcome.seen) {
+                        return Ok(Stop::Break(self.standing));
+                    }
+                }
+                Err(fault) => return stop_of(fault),
+            }
+        }
+        Ok(Stop::All)
+    }
+
+    /// Goes back to the last step that matches a break, but for the present one, and answers how many steps stand then.
+    /// `Refused(Range)` where none does, with nothing changed; want of memory may leave some of the steps taken back.
+    pub fn back_to_break(&mut self) -> Result<usize, Fault>
+        ensures { GoesToBreak self.old result self.new }
+    {
+        match self.last_break() {
+            Some(step) => {
+                self.back(self.standing - step)?;
+                Ok(step)
+            }
+            None => Err(Fault::Refused(Why::Range)),
+        }
+    }
+
+    /// The last step that matches a break, but for the present one.
+    fn last_break(&self) -> Option<usize>
+        ensures some { IfSome result (λ step. IsLastBreak self.now step) }
+        ensures none { IfNone result (NoneFrom self.now 1) }
+    {
+        let mut step = self.machine.len();
+        'back: while step > 1 {
+            step -= 1;
+            if stops(&self.breaks, self.machine.seen(step)) {
+                return Some(step);
+            }
+        }
+        None
     }
 
     /// The lines of the standing steps. They are in the documented order of phases, and by them each handle closes once.

@@ -1,9 +1,10 @@
 //! A session over the plain loop: each call once, and what is taken back.
 
+use crate::breaks::{Break, Stop};
 use crate::session::Session;
 use std::alloc::Global;
 use std::test::Fail;
-use uv_ids::{Answer, Event, Fault, Id, Seen, Site, Why};
+use uv_ids::{Answer, Event, Fault, Id, Seen, Site, Var, Why};
 use uv_model::{Machine, PlainLoop};
 use uv_script::Script;
 
@@ -67,5 +68,48 @@ fn a_session_has_its_limits(rt: HostRuntime) -> Result<(), Fail> {
     assert_eq!(rt; step(&mut session, Event::Tick(5)), Err(Fault::StepsFull));
     assert_eq!(rt; go_back(&mut session, 3), Err(Fault::Refused(Why::Range)));
     assert!(rt; has_steps(&session, &[Event::Loop, Event::Tick(5)], &[]));
+    Ok(())
+}
+
+/// A session of one idle handle that stops itself in its third call, with a break at its calls.
+fn idling(alloc: Global) -> Result<Session<PlainLoop>, Fault> {
+    let text = b"var i\nmain init i idle\nmain start i\nmain run default\non i @3 stop i\n";
+    let script = Script::parse(alloc, text)?;
+    let machine = PlainLoop::begin(alloc, script)?;
+    let mut session = Session::new(alloc, machine, 1000);
+    session.add_break(Break::Call(Var(0)))?;
+    Ok(session)
+}
+
+/// Whether a run stops at a break with so many steps standing.
+fn stops_at(session: &mut Session<PlainLoop>, length: usize) -> Result<bool, Fault> {
+    Ok(session.run_to_break(Event::Loop, 100)? == Stop::Break(length))
+}
+
+/// Whether the last break is so far back, and leads there.
+fn goes_back_to(session: &mut Session<PlainLoop>, length: usize) -> Result<bool, Fault> {
+    Ok(session.back_to_break()? == length)
+}
+
+/// Whether a run of so many steps ends with none of them a break.
+fn runs_through(session: &mut Session<PlainLoop>, times: usize) -> Result<bool, Fault> {
+    Ok(session.run_to_break(Event::Loop, times)? == Stop::All)
+}
+
+#[test]
+fn runs_stop_at_a_break_and_go_back_to_it(rt: HostRuntime) -> Result<(), Fail> {
+    let mut session = idling(rt.alloc())?;
+    assert!(rt; stops_at(&mut session, 7)?);
+    assert!(rt; stops_at(&mut session, 17)?);
+    assert!(rt; goes_back_to(&mut session, 7)?);
+    session.forward(10)?;
+    Ok(())
+}
+
+#[test]
+fn a_run_without_breaks_goes_through(rt: HostRuntime) -> Result<(), Fail> {
+    let mut session = idling(rt.alloc())?;
+    session.clear_breaks();
+    assert!(rt; runs_through(&mut session, 20)?);
     Ok(())
 }

@@ -25,6 +25,6 @@ returns-clause-text g c = λ reads tells.
     let rest = left c.read_script.new.input (g.R.Source.remaining c.read_script.new.reader) in
     let script = c.in_ok-script.script in
     let session = begun_session c.new.result script _ c.new.ensures.program c.in_ok-machine.ensures.program c.new.ensures.limit c.new.ensures.standing
-    c.new.ensures.taken_back in
+    c.new.ensures.taken_back c.new.ensures.breaks in
     let read = reads_whole c.new-input.result input rest (Ok script) c.new-input.ensures.empty (c.in_ok-script.ensures.script reads) in
     talked input script rest c.new.result _ _ c.talk.result read session c.talk.ensures.err (c.talk.ensures.text reads tells)

@@ -1,0 +1,19 @@
+use Rattle.std.proofs.Common.{◌≡◌, ◌<◌, ◌≤◌, length, take, get_or, sym, subst, ◌∙◌, ap, arith}
+use Rattle.std.proofs.lemmas.Grind.{common_steps}
+use Rattle.uv_model.specs.After.{STEPS, after, IsMove}
+use Rattle.uv_model.specs.Next.{next}
+use Rattle.uv_model.proofs.Runs.{accepts-at, only_memory}
+use Rattle.uv_session.proofs.session.Session.forward_one.Goals as goal
+
+pub returns-in-Err-clause-err : goal.returns-in-Err-clause-err
+returns-in-Err-clause-err g c =
+    let p = g.M.Machine.program c.self.inside.machine in
+    let events = c.self.inside.events.items in
+    let n = c.self.inside.standing in
+    let low : n < length events = grind (arith, common_steps, c.requires, c.self.view_is) in
+    let moves = accepts-at p events n c.index.result.now c.self.invariant.accepted low in
+    let es = g.M.Machine.standing c.self.inside.machine in
+    let room : length es < STEPS = rw c.self.invariant.steps_are (grind (arith, common_steps, c.self.invariant.few, c.self.invariant.limit_is)) in
+    let takes : IsMove (next p (after p es) c.index.result.now) = rw (c.self.invariant.steps_are, c.index.ensures) moves in
+    let memory = only_memory STEPS p es c.index.result.now c.in-Err.fault (g.M.Machine.standing c.step.new.self) room takes c.in-Err.ensures.answer in
+    (memory.0, rw c.step.ensures.program c.self.view_is)

@@ -1,0 +1,10 @@
+use Rattle.std.proofs.Common.{◌-◌, Result}
+use Rattle.uv_ids.specs.declared.fault.Fault.{Fault}
+use Rattle.uv_session.specs.declared.breaks.Stop.{Stop}
+use Rattle.uv_session.specs.Shown.{Shown}
+use Rattle.uv_session.specs.Moving.{RunsTo}
+use Rattle.uv_session.proofs.session.Session.run_to_break.Given as goal
+
+-- however the rest of the run ends, the whole run ends so
+abbrev pub invariant-steps : goal.invariant-steps
+invariant-steps g l = (r : Result Stop Fault) (t : Shown) → RunsTo l.event (l.times - l.counter) l.self r t → RunsTo l.event l.times l.initial.self r t

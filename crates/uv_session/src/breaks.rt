@@ -1,0 +1,88 @@
+//! Where a run is to stop, and where it stopped.
+ghost use Rattle.std.specs.Prelude.{◌≡◌};
+ghost use Rattle.std.specs.List.{list_any};
+ghost use Rattle.uv_session.specs.Breaks.{calls_name, answers_code, begins_section, matches, stops, stop_of, same_code, same_phase};
+
+use uv_ids::{Answer, Code, Fault, Phase, Seen, Var, Why};
+
+/// Where a run is to stop (own). A step matches by the line that it appended.
+#[derive(Clone, Copy, Debug, PartialEq, Eq)]
+pub enum Break {
+    /// A callback of this name: that of its handle, or that of its close.
+    Call(Var),
+    /// A line that answers this code, to an op of the script or to a step from outside.
+    Code(Code),
+    /// The beginning of this section.
+    Section(Phase),
+    /// The beginning of a poll.
+    Poll,
+}
+
+/// Why no further step was done.
+#[derive(Clone, Copy, Debug, PartialEq, Eq)]
+pub enum Stop {
+    /// All of them are done, and the last one matches no break.
+    All,
+    /// The last step matches a break; so many steps stand.
+    Break(usize),
+    /// The next one is refused.
+    Refused(Why),
+}
+
+impl Break {
+    /// Whether a line matches.
+    pub fn matches(self, line: Seen) -> bool
+        ensures { result ≡ matches self line }
+    {
+        match (self, line) {
+            (Break::Call(name), Seen::Call(called, _)) => called.0 == name.0,
+            (Break::Call(name), Seen::Closed(called, _)) => called.0 == name.0,
+            (Break::Code(code), Seen::Op(_, Answer::Code(answered))) => is_code(answered, code),
+            (Break::Code(code), Seen::Send(_, answered)) => is_code(answered, code),
+            (Break::Section(word), Seen::Section(begun)) => is_phase(begun, word),
+            (Break::Poll, Seen::Poll(_)) => true,
+            _ => false,
+        }
+    }
+}
+
+/// Whether one code is the other.
+fn is_code(one: Code, other: Code) -> bool
+    ensures { result ≡ same_code one other }
+{
+    one == other
+}
+
+/// Whether one section is the other.
+fn is_phase(one: Phase, other: Phase) -> bool
+    ensures { result ≡ same_phase one other }
+{
+    one == other
+}
+
+/// How a run ends whose next step isn't taken: a refusal is an answer of the run, anything else its fault.
+pub fn stop_of(fault: Fault) -> Result<Stop, Fault>
+    ensures { result ≡ stop_of fault }
+{
+    match fault {
+        Fault::Refused(why) => Ok(Stop::Refused(why)),
+        fault => Err(fault),
+    }
+}
+
+/// Whether a step matches one of these.
+pub fn stops(breaks: &[Break], seen: Option<Seen>) -> bool
+    ensures { result ≡ stops breaks.now seen }
+{
+    match seen {
+        None => false,
+        Some(line) => any_matches(breaks, line),
+    }
+}
+
+/// Whether a line matches one of these.
+fn any_matches(breaks: &[Break], line: Seen) -> bool
+    ensures { result ≡ list_any (λ at. matches at line) breaks.now }
+{
+    breaks.iter().any(|at| at.matches(line))
+}
