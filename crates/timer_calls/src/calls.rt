@@ -77,14 +77,8 @@ fn start_one(parts: &mut Parts, plain: &mut Plain, number: u64, timers: u32, id:
         timeout,
         repeat,
     ) {
-        Ok(undo) => (
-            Token::Timer(undo),
-            plain.start(id, timeout, repeat, Ok(())),
-        ),
-        Err(code) => (
-            Token::Nothing,
-            plain.start(id, timeout, repeat, Err(code)),
-        ),
+        Ok(undo) => (Token::Timer(undo), plain.start(id, timeout, repeat, Ok(()))),
+        Err(code) => (Token::Nothing, plain.start(id, timeout, repeat, Err(code))),
     }
 }
 
@@ -137,10 +131,7 @@ fn repeat(parts: &mut Parts, plain: &mut Plain, number: u64, id: Id) -> Done
             Token::Repeating(undo),
             Ok(plain.set_repeat(id, repeat, Ok(()))),
         ),
-        Err(code) => (
-            Token::Nothing,
-            Ok(plain.set_repeat(id, repeat, Err(code))),
-        ),
+        Err(code) => (Token::Nothing, Ok(plain.set_repeat(id, repeat, Err(code)))),
     }
 }
 

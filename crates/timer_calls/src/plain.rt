@@ -70,11 +70,12 @@ impl Plain {
             return Ok(made.is_none());
         }
         self.handles.push(HandleRecord::new(name, kind))?;
-        Ok(made
-            == Some(Id {
+        Ok(
+            made == Some(Id {
                 slot,
                 generation: 0,
-            }))
+            }),
+        )
     }
 
     /// Off the timers that are set, and off the ready list.

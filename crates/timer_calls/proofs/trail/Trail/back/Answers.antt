@@ -20,4 +20,5 @@ invariant_of-self-2 c =
     (subst (λ (ks : List Token). IsTrail c.self.inside.parts.heap.room c.self.inside.timers ks (all c.self.inside.parts)) c.in-Some.ensures.items
     c.self.invariant)).1 in
     subst (λ (r : ℕ). IsTrail r c.self.inside.timers c.pop.new.self.items (all c.undo.new.parts)) (sym c.undo.ensures.room)
-    (subst (λ (t : Timed Content). IsTrail c.self.inside.parts.heap.room c.self.inside.timers c.pop.new.self.items t) (sym c.undo.ensures.undone) less)
+    (subst (λ (t : Timed Content). IsTrail c.self.inside.parts.heap.room c.self.inside.timers c.pop.new.self.items t)
+    (sym c.undo.ensures.undone) less)

@@ -1,8 +1,6 @@
 use Rattle.std.proofs.Common.{◌≡◌, ℕ, List, ◌∷◌, [], ◌++◌, sym, ap, ◌∙◌, subst}
-use Rattle.uv_timer.specs.Timed.{Timed}
-use Rattle.timer_calls.specs.declared.content.Content.{Content}
 use Rattle.timer_calls.specs.declared.token.Token.{Token}
-use Rattle.timer_calls.specs.Trail.{IsTrail, Answers, all, unwound, beginning}
+use Rattle.timer_calls.specs.Trail.{IsTrail, all, unwound, beginning}
 use Rattle.timer_calls.proofs.Trails.{trail_more, begins_same}
 use Rattle.timer_calls.proofs.trail.Trail.go.Goals as goal
 
