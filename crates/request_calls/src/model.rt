@@ -26,12 +26,7 @@ pub struct Model {
 }
 
 impl Model {
-    pub fn new(
-        alloc: Global,
-        capacity: u32,
-        last: u32,
-        workers: u16,
-    ) -> Result<Model, AllocError> {
+    pub fn new(alloc: Global, capacity: u32, last: u32, workers: u16) -> Result<Model, AllocError> {
         let mut running = Vec::new(alloc);
         running.resize(workers as usize, None)?;
         Ok(Model {
@@ -49,7 +44,8 @@ impl Model {
     }
 
     fn is_done(&self, id: Id) -> bool {
-        self.done.iter().any(|member| member.0 == id) || self.yet.iter().any(|member| member.0 == id)
+        self.done.iter().any(|member| member.0 == id)
+            || self.yet.iter().any(|member| member.0 == id)
     }
 
     fn waits(&self, id: Id) -> bool {

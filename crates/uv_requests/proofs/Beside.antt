@@ -1,8 +1,6 @@
 -- A slot that holds no request is changed: the requests are as before.
-use Rattle.std.proofs.Common.{◌≡◌, ◌≢◌, ℕ, Bool, true, false, List, ◌++◌, map, slice_get, Option, Some, None, option_and_then, refl, sym, ap, ◌∙◌, subst, inl, inr}
-use Rattle.std.proofs.lemmas.Bool.Decides.{eqb_tells}
+use Rattle.std.proofs.Common.{◌≡◌, ◌≢◌, ℕ, Bool, true, false, ◌++◌, map, Option, None, option_and_then, sym, ap, ◌∙◌, subst, inl, inr}
 use Rattle.uv_ids.specs.declared.id.Id.{Id}
-use Rattle.uv_records.specs.declared.lists.ListName.{ListName}
 use Rattle.uv_records.specs.declared.lists.ListName.TheVariants.{Waiting, Done as Ended, DoneYet as EndedYet}
 use Rattle.uv_arena.specs.declared.undo.InsertUndo.{InsertUndo}
 use Rattle.uv_arena.specs.Chains.{IsIn}
@@ -11,7 +9,7 @@ use Rattle.uv_arena.specs.Calls.{IsInserted}
 use Rattle.uv_arena.proofs.Memories.{or_none}
 use Rattle.uv_work.specs.Requests.{Request}
 use Rattle.uv_work.specs.Pool.{size}
-use Rattle.uv_requests.specs.Working.{Running, working, id_in, request_in, done_in, pool_of, IsHeld, IsWork}
+use Rattle.uv_requests.specs.Working.{Running, working, id_in, request_in, done_in, IsHeld, IsWork}
 use Rattle.uv_requests.proofs.Holding.{one_id, held_same, held_before, member_same, ids_same, ends_same}
 use Rattle.uv_requests.proofs.Queued.{fresh_slot}
 

@@ -165,7 +165,9 @@ module _ {X : Type 0} (read : X → Option Request) (make : Request → X) (give
     from = from;
     was = there;
     request = request_now read make gives_back a k j d from outcome.Cancelled opened put p;
+    waiting = p.others Waiting (λ e. cc) ∙ put.lists Waiting ∙ un.lists Waiting;
     done = done_list;
+    listed = p.listed;
     others = others;
     contents = same;
     kept = kept;

@@ -132,6 +132,7 @@ module _ {X : Type 0} (read : X → Option Request) (make : Request → X) (give
     job = job;
     request = request_now read make gives_back i k j d from (outcome.Finished digest) opened put p;
     done = done_list;
+    listed = p.listed;
     others = others;
     contents = same;
     kept = kept;

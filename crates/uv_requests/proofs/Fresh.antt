@@ -1,8 +1,7 @@
 -- An arena without slots, and workers that run nothing.
-use Rattle.std.proofs.Common.{◌≡◌, ℕ, zero, suc, [], List, Option, Some, None, replicate, slice_get, refl, arith}
+use Rattle.std.proofs.Common.{◌≡◌, ℕ, zero, suc, [], Option, Some, None, replicate, slice_get, refl, arith}
 use Rattle.uv_ids.specs.declared.id.Id.{Id}
 use Rattle.uv_records.specs.declared.lists.ListName.{ListName}
-use Rattle.uv_records.specs.declared.lists.ListName.TheVariants.{Waiting, Done as Ended, DoneYet as EndedYet}
 use Rattle.uv_arena.specs.Chains.{list_of, walk}
 use Rattle.uv_arena.specs.Image.{members, fresh_image}
 use Rattle.uv_work.specs.Requests.{Request}

@@ -177,6 +177,7 @@ module _ {X : Type 0} (read : X → Option Request) (make : Request → X) (give
     request = request_now;
     plain = p.slots.plain ∙ put.plain;
     waiting = waits_now;
+    listed = p.listed;
     others = others;
     contents = same;
     kept = kept;

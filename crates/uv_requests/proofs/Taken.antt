@@ -141,6 +141,7 @@ module _ {X : Type 0} (read : X → Option Request) (i j : Image X) (d : Id) (t 
     waiting = waits_now;
     others = others;
     slots = un.slots;
+    loose = un.loose;
     kept = un.kept;
     work = work_now;
     undone = back;

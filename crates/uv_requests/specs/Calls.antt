@@ -1,11 +1,12 @@
 -- What holds after each call that changes requests.
-use Rattle.std.specs.Prelude.{◌≡◌, ◌≢◌, ℕ, List, [], ◌∷◌, ◌++◌, Option, Some, None, slice_get}
+use Rattle.std.specs.Prelude.{◌≡◌, ◌≢◌, ℕ, true, false, eqb, List, [], ◌∷◌, ◌++◌, Option, Some, None, slice_get}
 use Rattle.uv_ids.specs.declared.id.Id.{Id}
 use Rattle.uv_ids.specs.declared.fault.Why.{Why}
 use Rattle.uv_ids.specs.declared.fault.Why.TheVariants as why
 use Rattle.uv_records.specs.declared.lists.ListName.{ListName}
 use Rattle.uv_records.specs.declared.lists.ListName.TheVariants.{Waiting, Done as Ended, DoneYet as EndedYet}
 use Rattle.uv_records.specs.Slots.{next_free, taken, freed}
+use Rattle.uv_records.specs.Walks.{without}
 use Rattle.uv_arena.specs.declared.undo.SpliceUndo.{SpliceUndo}
 use Rattle.uv_arena.specs.Image.{members, held, on_list, plain_slots}
 use Rattle.uv_arena.specs.Calls.{IsFirst, SameSlots}
@@ -51,6 +52,7 @@ module _ {X : Type 0} (read : X → Option Request) where
     pub waiting : members new.arena Waiting ≡ first.rest
     pub others : (l : ListName) → l ≢ Waiting → members new.arena l ≡ members old.arena l
     pub slots : SameSlots old.arena new.arena
+    pub loose : on_list new.arena d ≡ false
     pub kept : (e : Id) → e.slot ≢ d.slot → on_list new.arena e ≡ on_list old.arena e
     pub work : IsWork read new
     pub undone : take_undone u new ≡ old
@@ -90,6 +92,7 @@ module _ {X : Type 0} (read : X → Option Request) where
       pub request : request_in read new.arena d ≡ Some r
       pub plain : plain_slots new.arena ≡ taken d (make r) (plain_slots old.arena)
       pub waiting : members new.arena Waiting ≡ members old.arena Waiting ++ d.slot ∷ []
+      pub listed : on_list new.arena d ≡ true
       pub others : (l : ListName) → l ≢ Waiting → members new.arena l ≡ members old.arena l
       pub contents : (e : Id) → e.slot ≢ d.slot → held new.arena e ≡ held old.arena e
       pub kept : (e : Id) → e.slot ≢ d.slot → on_list new.arena e ≡ on_list old.arena e
@@ -105,6 +108,7 @@ module _ {X : Type 0} (read : X → Option Request) where
       pub job : job_of d from ≡ asked
       pub request : request_in read new.arena d ≡ Some (finished digest from)
       pub done : members new.arena Ended ≡ members old.arena Ended ++ d.slot ∷ []
+      pub listed : on_list new.arena d ≡ true
       pub others : (l : ListName) → l ≢ Ended → members new.arena l ≡ members old.arena l
       pub contents : (e : Id) → e.slot ≢ d.slot → held new.arena e ≡ held old.arena e
       pub kept : (e : Id) → e.slot ≢ d.slot → on_list new.arena e ≡ on_list old.arena e
@@ -118,7 +122,9 @@ module _ {X : Type 0} (read : X → Option Request) where
       pub from : Request
       pub was : request_in read old.arena d ≡ Some from
       pub request : request_in read new.arena d ≡ Some (cancelled from)
+      pub waiting : members new.arena Waiting ≡ without eqb (members old.arena Waiting) d.slot
       pub done : members new.arena Ended ≡ members old.arena Ended ++ d.slot ∷ []
+      pub listed : on_list new.arena d ≡ true
       pub others : (l : ListName) → l ≢ Waiting → l ≢ Ended → members new.arena l ≡ members old.arena l
       pub contents : (e : Id) → e.slot ≢ d.slot → held new.arena e ≡ held old.arena e
       pub kept : (e : Id) → e.slot ≢ d.slot → on_list new.arena e ≡ on_list old.arena e

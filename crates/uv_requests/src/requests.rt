@@ -71,8 +71,7 @@ impl Requests {
 /// Requests as they are made are those of an arena as it is made: what each call asks for holds there.
 pub fn fresh_requests<T: HoldsWork>()
     ensures { (capacity last workers : ℕ) → IsWork T.held_request (working (fresh_image _ capacity last) (idle_workers workers)) }
-{
-}
+{}
 
 /// The record of a request. ESTALE if nothing is held under the id, EKIND if it is a handle.
 pub fn request_at<T: HoldsWork>(slots: &Slots<T>, id: Id) -> Result<RequestRecord, Code>

@@ -1,5 +1,4 @@
 use Rattle.std.proofs.Common.{Option, Some, None, sym, subst}
-use Rattle.uv_arena.specs.Image.{Image}
 use Rattle.uv_work.specs.Requests.{Request}
 use Rattle.uv_requests.specs.declared.tests.Content.{Content}
 use Rattle.uv_requests.specs.declared.tests.Content.TheVariants.{Handle, Request as Asked}
