@@ -35,11 +35,14 @@ took s t e outcome h =
     (same_shown _ t (sym h.same_program) (sym h.same_limit) (sym h.answer.1) (sym h.taken_back) (sym h.same_breaks))))
 
 pub refused : (s t : Shown) (e : Event) (why : Why) → TakesEvent s e (Err (fault.Refused why)) t → (reply s e ≡ Refused why) × (t ≡ s)
-refused s t e why h =
-    (rw (below (length s.standing) s.limit h.answer.0) (rw h.answer.2 refl), same_shown t s h.same_program h.same_limit h.answer.1 h.taken_back h.same_breaks)
+refused s t e why h = (
+  rw (below (length s.standing) s.limit h.answer.0) (rw h.answer.2 refl),
+  same_shown t s h.same_program h.same_limit h.answer.1 h.taken_back h.same_breaks,
+)
 
 pub full : (s t : Shown) (e : Event) → TakesEvent s e (Err fault.StepsFull) t → (reply s e ≡ Full) × (t ≡ s)
-full s t e h = (rw (above (length s.standing) s.limit h.answer.0) refl, same_shown t s h.same_program h.same_limit h.answer.1 h.taken_back h.same_breaks)
+full s t e h =
+    (rw (above (length s.standing) s.limit h.answer.0) refl, same_shown t s h.same_program h.same_limit h.answer.1 h.taken_back h.same_breaks)
 
 length-rest : (k : ℕ) (es : List Event) → k ≤ length es → length (take k es) ≡ k
 length-rest k es l = rw length-take (omega arith)

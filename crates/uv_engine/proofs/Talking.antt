@@ -168,7 +168,8 @@ talk_ends {all} {s0} {lines} {s} {old} {w} {t} v r every h e k = finish_talk all
 
 -- `quit` was read
 pub talk_quits : {all : List (List ℕ)} {s0 : Shown} {line : List ℕ} {lines : List (List ℕ)} {s : Shown} {old w t : List ℕ} (v : List ℕ)
-    (r : Result Ended Fault) → EveryLine → CanTalkOn all s0 (line ∷ lines) s old w t → Asks s.program.names line (Do Quit) → Finishes r ended.Quit w t v
+    (r : Result Ended Fault) → EveryLine → CanTalkOn all s0 (line ∷ lines) s old w t → Asks s.program.names line (Do Quit) →
+    Finishes r ended.Quit w t v
     → TalksOn all s0 r old v
 talk_quits {all} {s0} {line} {lines} {s} {old} {w} {t} v r every h a k = finish_talk all s0 (line ∷ lines) s old w t v ended.Quit r every h
     (quits a) k

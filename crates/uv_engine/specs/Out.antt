@@ -53,7 +53,8 @@ pub data Talks : List (List ℕ) → Shown → List ℕ → Ended → Type 0 whe
   input_ends : {s : Shown} → Talks [] s [] ended.Input
   quits : {line : List ℕ} {lines : List (List ℕ)} {s : Shown} → Asks s.program.names line (Do Quit) → Talks (line ∷ lines) s [] ended.Quit
   goes_on : {line : List ℕ} {lines : List (List ℕ)} {s : Shown} {end : Ended} (asked : Asked) (text rest : List ℕ)
-      → Asks s.program.names line asked → asked ≢ Do Quit → IsAnswer asked s text → Talks lines (asked_after asked s) rest end → Talks (line ∷ lines) s (text ++ rest) end
+      → Asks s.program.names line asked → asked ≢ Do Quit → IsAnswer asked s text → Talks lines (asked_after asked s) rest end →
+      Talks (line ∷ lines) s (text ++ rest) end
 
 -- the line `begin` cuts an input: the bytes before it are the script, and those after it the commands
 pub data Begins : List ℕ → List ℕ → List ℕ → Type 0 where

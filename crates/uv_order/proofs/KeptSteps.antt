@@ -432,10 +432,12 @@ close_kept p s run k = found_both (front s s.closing.yet) _ _ StaysKept (λ t e.
         yet = drop 1
             s.closing.yet;
       })
-  gone t f = subst (λ (rest : List Id). Agree (freed (arena_size p).last_generation t.0 s.arena) s.next_start s.timers s.ready s.idle s.prepare s.check s.async
+  gone t f = subst
+      (λ (rest : List Id). Agree (freed (arena_size p).last_generation t.0 s.arena) s.next_start s.timers s.ready s.idle s.prepare s.check s.async
       (record s.closing { yet = rest }))
       (sym f.behind)
-      (cond_both (t.0.generation == (arena_size p).last_generation) _ _ (λ (u : Slots Content). Agree u s.next_start s.timers s.ready s.idle s.prepare s.check
+      (cond_both (t.0.generation == (arena_size p).last_generation) _ _
+      (λ (u : Slots Content). Agree u s.next_start s.timers s.ready s.idle s.prepare s.check
       s.async (record s.closing { yet = f.rest }))
       (λ last. gone_kept s t f.rest t.0.generation s.arena.free f.holds f.are (freed_free s.arena.slots t.0 t.1 t.0.generation s.arena.free f.holds
       k.free).0 k)

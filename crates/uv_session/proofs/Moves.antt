@@ -67,11 +67,11 @@ split_again p limit breaks k es =
 -- and one more
 pub forward_more : (s : Shown) (n : ℕ) → moved_forward 1 (moved_forward n s) ≡ moved_forward (n + 1) s
 forward_more s n = ap₂ (λ (xs ys : List Event). record {
-      program = s.program;
-      limit = s.limit;
-      standing = xs;
-      taken_back = ys;
-      breaks = s.breaks;
-    })
+  program = s.program;
+  limit = s.limit;
+  standing = xs;
+  taken_back = ys;
+  breaks = s.breaks;
+})
     (append_assoc s.standing (take n s.taken_back) (take 1 (drop n s.taken_back)) ∙ ap (λ (es : List Event). s.standing ++ es)
     (sym (take-add n 1 s.taken_back))) (sym (drop_more n 1 s.taken_back))

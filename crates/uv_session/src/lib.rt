@@ -7,4 +7,4 @@ mod session;
 mod tests;
 
 pub use breaks::{Break, Stop};
-pub use session::{Session, BREAKS};
+pub use session::{BREAKS, Session};

@@ -6,12 +6,11 @@ ghost use Rattle.uv_order.specs.Once.{Once};
 ghost use Rattle.uv_session.specs.Moving.{moved_forward, MovesForward, AddsBreak, RunsTo, NoneFrom, IsLastBreak, GoesToBreak};
 ghost use Rattle.uv_session.specs.Shown.{TakesEvent, MovesBack, IsDocumented, moved_back};
 
+use crate::breaks::{Break, Stop, stop_of, stops};
 use std::alloc::{AllocError, Global};
 use std::marker::Model;
 use uv_ids::{Event, Fault, Seen, Why};
 use uv_model::{Machine, Outcome, STEPS};
-
-use crate::breaks::{stop_of, stops, Break, Stop};
 
 /// The most breaks that a session has (own).
 pub const BREAKS: usize = 256;

@@ -19,8 +19,9 @@ returns-in-Err g c =
 
 pub steps-preserved : goal.steps-preserved
 steps-preserved g c = λ r t more.
-    c.steps.invariant r t (goes_on c.args.event _ _ c.steps.self _ t c.in-Ok.outcome c.deref.result.now r (grind (arith, common_steps, c.steps-test.true))
-    c.in-Ok.ensures (c.deref.ensures.value ∙ ap (λ (s : Shown). s.breaks) c.self.view_is) c.if-stops.ensures more)
+    let breaks = c.deref.ensures.value ∙ ap (λ (s : Shown). s.breaks) c.self.view_is in
+    c.steps.invariant r t (goes_on c.args.event _ _ c.steps.self _ t c.in-Ok.outcome c.deref.result.now r
+    (grind (arith, common_steps, c.steps-test.true)) c.in-Ok.ensures breaks c.if-stops.ensures more)
 
 pub returns : goal.returns
 returns g c = c.steps.invariant _ _ (is_done c.args.event _ c.steps.self (grind (arith, common_steps, c.steps-test.false)))
