@@ -270,7 +270,7 @@ pub fn measure(clock: &impl Clock, alloc: Global, size: u32) -> io::Result<(Figu
     let batch = BATCH.min(size);
     let slots = size.saturating_add(batch);
     let none = (Taken::none(), Taken::none());
-    let mut figures = Figures {
+    let figures = Figures {
         start: none,
         restart: none,
         stop: none,
@@ -292,24 +292,48 @@ pub fn measure(clock: &impl Clock, alloc: Global, size: u32) -> io::Result<(Figu
         }
         number = scattered(number);
     }
+    let (figures, calls) = by_ops(
+        clock,
+        &mut parts,
+        slots,
+        loose.as_slice(),
+        set.as_slice(),
+        figures,
+    )?;
+    let (figures, more) = in_section(clock, &mut parts, slots, batch, figures)?;
+    Ok((figures, calls.saturating_add(more)))
+}
+
+/// The ops, on timers that aren't set and on timers that are.
+fn by_ops(
+    clock: &impl Clock,
+    parts: &mut Parts,
+    slots: u32,
+    loose: &[Id],
+    set: &[Id],
+    figures: Figures,
+) -> io::Result<(Figures, u32)>
+    requires { IsReady parts.old slots }
+    ensures { IsReady parts.new slots }
+{
+    let mut figures = figures;
+    let number = 88172645463325252u64;
     let mut calls = 0u32;
     'rounds: for _ in 0..ROUNDS {
-        calls = 0;
         let begun = Instant::now(clock)?;
-        let turned = start_and_back(clock, &mut parts, slots, loose.as_slice(), number)?;
+        let turned = start_and_back(clock, parts, slots, loose, number)?;
         figures.start = noted(figures.start, begun, turned, Instant::now(clock)?);
-        calls = calls.saturating_add(turned.1);
+        calls = turned.1;
         let begun = Instant::now(clock)?;
-        let turned = start_and_back(clock, &mut parts, slots, set.as_slice(), number)?;
+        let turned = start_and_back(clock, parts, slots, set, number)?;
         figures.restart = noted(figures.restart, begun, turned, Instant::now(clock)?);
         calls = calls.saturating_add(turned.1);
         let begun = Instant::now(clock)?;
-        let turned = stop_and_back(clock, &mut parts, slots, set.as_slice())?;
+        let turned = stop_and_back(clock, parts, slots, set)?;
         figures.stop = noted(figures.stop, begun, turned, Instant::now(clock)?);
         calls = calls.saturating_add(turned.1);
     }
-    let (figures, more) = in_section(clock, &mut parts, slots, batch, figures)?;
-    Ok((figures, calls.saturating_add(more)))
+    Ok((figures, calls))
 }
 
 /// The calls of the timers section, once all are due.

@@ -3,6 +3,3 @@ use Rattle.bench_timer.proofs.timers.measure.Given as goal
 
 abbrev pub invariant-fill : goal.invariant-fill
 invariant-fill g l = IsReady l.parts l.slots
-
-abbrev pub invariant-rounds : goal.invariant-rounds
-invariant-rounds g l = IsReady l.parts l.slots
