@@ -5,7 +5,7 @@ use std::{fs, io};
 use uv_engine::{Reader, Writer, converse};
 use uv_model::PlainLoop;
 
-const EXAMPLES: [&str; 13] = [
+const EXAMPLES: [&str; 20] = [
     "two-timers",
     "falls-behind",
     "step-back",
@@ -19,6 +19,13 @@ const EXAMPLES: [&str; 13] = [
     "closed-twice",
     "lost-send",
     "stale-name",
+    "never-called",
+    "break-at-a-code",
+    "what-it-waits-for",
+    "done-out-of-order",
+    "cancel-in-time",
+    "tenth-waits",
+    "next-job",
 ];
 
 fn main(rt: HostRuntime) -> io::Result<()> {

@@ -1,6 +1,6 @@
 -- An input has one answer.
 use Rattle.std.proofs.Common.{◌≡◌, ℕ, ◌==◌, List, [], ◌∷◌, ◌++◌, false, refl, ap, sym, subst, ◌∙◌}
-use Rattle.std.specs.Prelude.{zero, suc, length, nat_lt, nat_le, codes}
+use Rattle.std.specs.Prelude.{zero, suc, length, nat_lt, nat_le, Option, Some, None, codes}
 use Rattle.std.proofs.lemmas.Bool.{cond_both}
 use Rattle.uv_ids.specs.declared.event.Event.{Event}
 use Rattle.uv_ids.specs.declared.event.Event.TheVariants as event
@@ -13,26 +13,32 @@ use Rattle.uv_script.specs.Program.{Program}
 use Rattle.uv_script.proofs.SomeReading.{some_reading}
 use Rattle.uv_script.proofs.OneReading.{distinct_names, one_script, no_bad_line, one_bad_line}
 use Rattle.uv_script.proofs.Agrees.{AreDistinct}
+use Rattle.uv_session.specs.declared.breaks.Break.{Break}
 use Rattle.uv_session.specs.Shown.{Shown, moved_back}
+use Rattle.uv_session.specs.Moving.{moved_forward, BREAKS}
 use Rattle.uv_text.specs.declared.command.Command.{Command}
-use Rattle.uv_text.specs.declared.command.Command.TheVariants.{Loop, Tick, Send, Back, Trace, Quit}
+use Rattle.uv_text.specs.declared.command.Command.TheVariants.{Loop, Step, Back, Forward, AddBreak, ClearBreaks, BackToBreak, Trace, State, Quit}
 use Rattle.uv_text.specs.declared.command.Asked.{Asked}
 use Rattle.uv_text.specs.declared.command.Asked.TheVariants.{Nothing, Do, Bad}
 use Rattle.uv_text.proofs.Commands.{asks, asks_one}
 use Rattle.uv_engine.specs.declared.conversation.Ended.{Ended}
 use Rattle.uv_engine.specs.Input.{NoFeed}
 use Rattle.uv_engine.specs.Out.{IsAnswer, asked_after, Talks, input_ends, quits, goes_on, Begins, here, here_at_end, later, NeverBegins, nothing, last_line, one_line, fresh_session, Ends, BadScript, talks, bad_line, no_begin, bad_input, HasAnswer, HasOneAnswer}
-use Rattle.uv_engine.specs.Reply.{Reply, Full, reply, reply_to, reply_after, on_after, loop_after, back_after}
+use Rattle.uv_engine.specs.Reply.{Reply, Full, reply, reply_to, reply_after, may_follow, loop_after, back_after, forward_after, add_after, last_break, break_back_after}
 use Rattle.uv_engine.proofs.Starting.{some_out}
 
 -- ---- the commands
 
 prints_one : (c : Command) (s : Shown) (a b : List ℕ) → IsAnswer (Do c) s a → IsAnswer (Do c) s b → a ≡ b
 prints_one (Loop n) s a b h k = h ∙ sym k
-prints_one (Tick ms) s a b h k = h ∙ sym k
-prints_one (Send v) s a b h k = h ∙ sym k
+prints_one (Step e) s a b h k = h ∙ sym k
 prints_one (Back n) s a b h k = h ∙ sym k
+prints_one (Forward n) s a b h k = h ∙ sym k
+prints_one (AddBreak at) s a b h k = h ∙ sym k
+prints_one ClearBreaks s a b h k = h ∙ sym k
+prints_one BackToBreak s a b h k = h ∙ sym k
 prints_one Trace s a b h k = h ∙ sym k
+prints_one State s a b h k = h ∙ sym k
 prints_one Quit s a b h k = h ∙ sym k
 
 answers_one : (asked : Asked) (s : Shown) (a b : List ℕ) → IsAnswer asked s a → IsAnswer asked s b → a ≡ b
@@ -57,33 +63,41 @@ reply_program s e =
     cond_both (nat_lt (length s.standing) s.limit) (reply_to s e n) Full (λ (r : Reply). (reply_after s r).program ≡ s.program)
     (λ _. step_program s e n) (λ _. refl)
 
--- the steps behind one of the loop
-abbrev OnProgram : ℕ → Shown → Reply → Type 0
-OnProgram n s r = (on_after s r (loop_after n)).program ≡ s.program
-
-on_program : (n : ℕ) (s : Shown) (m : Next) → ((t : Shown) → (loop_after n t).program ≡ t.program) → OnProgram n s (reply_to s event.Loop m)
-on_program n s (Moves t seen) more = more (record s { standing = s.standing ++ event.Loop ∷ []; taken_back = [] })
-on_program n s (Refuses why) more = refl
-
 loop_program : (n : ℕ) (s : Shown) → (loop_after n s).program ≡ s.program
 unfolding loop_after
 loop_program zero s = refl
 loop_program (suc n) s =
-    let m = next s.program (after s.program s.standing) event.Loop in
-    cond_both (nat_lt (length s.standing) s.limit) (reply_to s event.Loop m) Full (OnProgram n s)
-    (λ _. on_program n s m (λ t. loop_program n t)) (λ _. refl)
+    let r = reply s event.Loop in
+    cond_both (may_follow r) (loop_after n (reply_after s r)) (reply_after s r) (λ (t : Shown). t.program ≡ s.program)
+    (λ _. loop_program n (reply_after s r) ∙ reply_program s event.Loop) (λ _. reply_program s event.Loop)
 
 back_program : (n : ℕ) (s : Shown) → (back_after n s).program ≡ s.program
 back_program n s = cond_both (nat_le n (length s.standing)) (moved_back n s) s (λ (t : Shown). t.program ≡ s.program) (λ _. refl) (λ _. refl)
+
+forward_program : (n : ℕ) (s : Shown) → (forward_after n s).program ≡ s.program
+forward_program n s =
+    cond_both (nat_le n (length s.taken_back)) (moved_forward n s) s (λ (t : Shown). t.program ≡ s.program) (λ _. refl) (λ _. refl)
+
+add_program : (b : Break) (s : Shown) → (add_after b s).program ≡ s.program
+add_program b s = cond_both (nat_lt (length s.breaks) BREAKS) (record s { breaks = s.breaks ++ b ∷ [] }) s (λ (t : Shown). t.program ≡ s.program)
+    (λ _. refl) (λ _. refl)
+
+break_back_program : (s : Shown) (o : Option ℕ) → (break_back_after s o).program ≡ s.program
+break_back_program s (Some step) = refl
+break_back_program s None = refl
 
 same_program : (asked : Asked) (s : Shown) → (asked_after asked s).program ≡ s.program
 same_program Nothing s = refl
 same_program Bad s = refl
 same_program (Do (Loop n)) s = loop_program n s
-same_program (Do (Tick ms)) s = reply_program s (event.Tick ms)
-same_program (Do (Send v)) s = reply_program s (event.Send v)
+same_program (Do (Step e)) s = reply_program s e
 same_program (Do (Back n)) s = back_program n s
+same_program (Do (Forward n)) s = forward_program n s
+same_program (Do (AddBreak b)) s = add_program b s
+same_program (Do ClearBreaks) s = refl
+same_program (Do BackToBreak) s = break_back_program s (last_break s)
 same_program (Do Trace) s = refl
+same_program (Do State) s = refl
 same_program (Do Quit) s = refl
 
 still_distinct : (asked : Asked) (s : Shown) → AreDistinct s.program.names → AreDistinct (asked_after asked s).program.names

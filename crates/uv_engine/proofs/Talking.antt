@@ -2,7 +2,7 @@
 use Rattle.std.proofs.Common.{◌≡◌, ◌≢◌, ℕ, List, [], ◌∷◌, ◌++◌, Result, Ok, Err, suc, ◌==◌, arith, Bool, true, false, refl, ap, sym, ◌∙◌, subst, append_assoc, append-nil}
 use Rattle.uv_ids.specs.declared.fault.Fault.{Fault}
 use Rattle.uv_session.specs.Shown.{Shown}
-use Rattle.uv_text.specs.declared.command.Command.TheVariants.{Loop, Tick, Send, Back, Trace, Quit}
+use Rattle.uv_text.specs.declared.command.Command.TheVariants.{Loop, Step, Back, Forward, AddBreak, ClearBreaks, BackToBreak, Trace, State, Quit}
 use Rattle.uv_text.specs.declared.command.Asked.{Asked}
 use Rattle.uv_text.specs.declared.command.Asked.TheVariants.{Nothing, Do, Bad}
 use Rattle.uv_text.specs.Commands.{Asks}
@@ -48,10 +48,14 @@ some_talk every (line ∷ lines) s = at (asked_of s.program.names line) (every s
   at Nothing a k = on_line line lines s Nothing [] a (λ e. cc e) refl (k s)
   at Bad a k = on_line line lines s Bad _ a (λ e. cc e) refl (k s)
   at (Do (Loop n)) a k = on_line line lines s (Do (Loop n)) _ a (λ e. cc e) refl (k _)
-  at (Do (Tick ms)) a k = on_line line lines s (Do (Tick ms)) _ a (λ e. cc e) refl (k _)
-  at (Do (Send v)) a k = on_line line lines s (Do (Send v)) _ a (λ e. cc e) refl (k _)
+  at (Do (Step e)) a k = on_line line lines s (Do (Step e)) _ a (λ q. cc q) refl (k _)
   at (Do (Back n)) a k = on_line line lines s (Do (Back n)) _ a (λ e. cc e) refl (k _)
+  at (Do (Forward n)) a k = on_line line lines s (Do (Forward n)) _ a (λ e. cc e) refl (k _)
+  at (Do (AddBreak b)) a k = on_line line lines s (Do (AddBreak b)) _ a (λ e. cc e) refl (k _)
+  at (Do ClearBreaks) a k = on_line line lines s (Do ClearBreaks) _ a (λ e. cc e) refl (k _)
+  at (Do BackToBreak) a k = on_line line lines s (Do BackToBreak) _ a (λ e. cc e) refl (k _)
   at (Do Trace) a k = on_line line lines s (Do Trace) _ a (λ e. cc e) refl (k s)
+  at (Do State) a k = on_line line lines s (Do State) _ a (λ e. cc e) refl (k s)
   at (Do Quit) a k = record { text = []; end = ended.Quit; is = quits a }
 
 all_head : (b : ℕ) (bs : List ℕ) → NoFeed (b ∷ bs) → (b == 10) ≡ false

@@ -1,9 +1,7 @@
 -- Text that is gathered before it is written.
-use Rattle.std.specs.Prelude.{◌≡◌, ℕ, List, ◌++◌, Bool, true, false, Result, Ok, Err}
+use Rattle.std.specs.Prelude.{◌≡◌, ℕ, List, ◌++◌, Result, Ok, Err}
 use Rattle.uv_ids.specs.declared.fault.Fault.{Fault}
 use Rattle.uv_ids.specs.declared.fault.Fault.TheVariants as fault
-use Rattle.uv_session.specs.Shown.{Shown}
-use Rattle.uv_engine.specs.Reply.{Reply, Took, Refused, Full}
 
 -- something, or nothing, was written after what was written before
 pub record Grown (old new : List ℕ) : Type 0 where
@@ -31,12 +29,6 @@ pub record GathersOne (Is : List ℕ → Type 0) (r : Result (Unit {0}) Fault) (
   pub text : List ℕ
   pub is : Is text
   pub gathers : Gathers r written gathered text written' gathered'
-
--- whether a step was taken, and the session after it
-abbrev pub WasTaken : Reply → Shown → Bool → Shown → Type 0
-WasTaken (Took u seen) s on t = (on ≡ true) × (t ≡ u)
-WasTaken (Refused why) s on t = (on ≡ false) × (t ≡ s)
-WasTaken Full s on t = (on ≡ false) × (t ≡ s)
 
 -- a growth was refused, or the writer failed
 abbrev pub IsWriteFault : Fault → Type 0

@@ -1,6 +1,5 @@
 -- What a conversation writes, and how it ends.
 use Rattle.std.specs.Prelude.{◌≡◌, ◌≢◌, ℕ, ◌+◌, List, [], ◌∷◌, ◌++◌, length, Result, Ok, Err, codes}
-use Rattle.uv_ids.specs.declared.event.Event.TheVariants as event
 use Rattle.uv_ids.specs.declared.fault.Fault.{Fault}
 use Rattle.uv_ids.specs.declared.fault.Fault.TheVariants as fault
 use Rattle.uv_script.specs.Program.{Program}
@@ -9,32 +8,41 @@ use Rattle.uv_script.specs.Grammar.{IsScript, IsBadLine}
 use Rattle.uv_model.specs.After.{STEPS}
 use Rattle.uv_session.specs.Shown.{Shown}
 use Rattle.uv_text.specs.declared.command.Command.{Command}
-use Rattle.uv_text.specs.declared.command.Command.TheVariants.{Loop, Tick, Send, Back, Trace, Quit}
+use Rattle.uv_text.specs.declared.command.Command.TheVariants.{Loop, Step, Back, Forward, AddBreak, ClearBreaks, BackToBreak, Trace, State, Quit}
 use Rattle.uv_text.specs.declared.command.Asked.{Asked}
 use Rattle.uv_text.specs.declared.command.Asked.TheVariants.{Nothing, Do, Bad}
 use Rattle.uv_text.specs.Commands.{Asks}
+use Rattle.uv_text.specs.State.{state_text}
 use Rattle.uv_engine.specs.declared.conversation.Ended.{Ended}
 use Rattle.uv_engine.specs.declared.conversation.Ended.TheVariants as ended
 use Rattle.uv_engine.specs.Input.{NoFeed}
 use Rattle.uv_engine.specs.Sink.{CutShort}
-use Rattle.uv_engine.specs.Reply.{reply, reply_text, reply_after, loop_text, loop_after, back_text, back_after, trace_text}
+use Rattle.uv_engine.specs.Reply.{reply, reply_text, reply_after, loop_text, loop_after, back_text, back_after, forward_text, forward_after, add_text, add_after, last_break, break_back_text, break_back_after, trace_text}
 
 -- what a command prints
 abbrev pub Prints : Command → Shown → List ℕ → Type 0
 Prints (Loop n) s text = text ≡ loop_text n s
-Prints (Tick ms) s text = text ≡ reply_text s.program (reply s (event.Tick ms))
-Prints (Send v) s text = text ≡ reply_text s.program (reply s (event.Send v))
+Prints (Step e) s text = text ≡ reply_text s.program (reply s e)
 Prints (Back n) s text = text ≡ back_text n s
+Prints (Forward n) s text = text ≡ forward_text n s
+Prints (AddBreak b) s text = text ≡ add_text s
+Prints ClearBreaks s text = text ≡ codes "break ok\n"
+Prints BackToBreak s text = text ≡ break_back_text (last_break s)
 Prints Trace s text = text ≡ trace_text s
+Prints State s text = text ≡ state_text s
 Prints Quit s text = text ≡ []
 
 -- the session after a command
 abbrev pub command_after : Command → Shown → Shown
 command_after (Loop n) s = loop_after n s
-command_after (Tick ms) s = reply_after s (reply s (event.Tick ms))
-command_after (Send v) s = reply_after s (reply s (event.Send v))
+command_after (Step e) s = reply_after s (reply s e)
 command_after (Back n) s = back_after n s
+command_after (Forward n) s = forward_after n s
+command_after (AddBreak b) s = add_after b s
+command_after ClearBreaks s = record s { breaks = [] }
+command_after BackToBreak s = break_back_after s (last_break s)
 command_after Trace s = s
+command_after State s = s
 command_after Quit s = s
 
 -- what a line prints, and the session after it

@@ -5,6 +5,7 @@ mod answer;
 mod conversation;
 mod devices;
 mod input;
+mod reply;
 mod script;
 mod sink;
 mod source;

@@ -47,6 +47,8 @@ impl Code {
 pub enum Answer {
     Code(Code),
     Id(Id),
+    /// Success, and the request that was cancelled, which isn't printed.
+    Cancelled(Id),
     /// A time in ms.
     Number(u64),
     /// Yes or no, written 1 or 0.

@@ -7,6 +7,12 @@ use crate::id::Var;
 pub enum Event {
     /// The loop's thread does its next step.
     Loop,
+    /// The worker of this number, from 0, takes the request that waits longest.
+    Take(u16),
+    /// The worker of this number finishes the request that it runs.
+    Finish(u16),
+    /// A request is cancelled between two steps of the loop (uv_cancel).
+    Cancel(Var),
     /// Another thread sends to an async handle (uv_async_send).
     Send(Var),
     /// The clock goes on by so many milliseconds.

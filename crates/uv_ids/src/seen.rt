@@ -9,6 +9,8 @@ use crate::phase::{Mode, Phase};
 pub enum Callback {
     /// That of its handle: `on` in scripts (uv_timer_cb and the like).
     Handle,
+    /// That of its request: `after` in scripts (uv_after_work_cb).
+    After,
     /// That of its close: `closed` in scripts (uv_close_cb).
     Close,
 }
@@ -35,10 +37,19 @@ pub enum Seen {
     Poll(Option<u64>),
     /// The callback of a handle began.
     Call(Var, Id),
+    /// The after callback of a request began, whose slot was freed: a worker finished it with this digest, or it was
+    /// cancelled. Fields lie in the order of the source, and with the digest first a line is smaller.
+    After(Option<[u8; 32]>, Var, Id),
     /// The close callback of a handle began, whose slot was freed.
     Closed(Var, Id),
     /// The run ended; the loop was alive or not.
     End(bool),
+    /// A worker took the request that waited longest.
+    Take(u16, Var, Id),
+    /// A worker finished the request that it ran.
+    Finish(u16, Var, Id),
+    /// A request was cancelled from outside, which was answered this.
+    Cancel(Var, Answer),
     /// An async handle was sent to from outside, which was answered this.
     Send(Var, Code),
     /// The clock went on by so many ms.

@@ -1,7 +1,8 @@
 -- A state's numbers are no larger than the number of its steps, and its times no later than the clock's limit.
-use Rattle.std.proofs.Common.{◌≡◌, ℕ, zero, suc, ◌+◌, ◌≤◌, ◌^◌, List, [], ◌∷◌, ◌++◌, length, drop, Bool, true, false, Option, Some, None, if◌then◌else◌, nat_le, nat_lt, ◌==◌, ◌&&◌, option_and_then, slice_get, slice_set, All, refl, arith, subst, replicate, add-zero, zero-add}
+use Rattle.std.proofs.Common.{◌≡◌, ℕ, zero, suc, ◌+◌, ◌≤◌, ◌^◌, List, [], ◌∷◌, ◌++◌, length, drop, Bool, true, false, Option, Some, None, if◌then◌else◌, nat_le, nat_lt, ◌==◌, ◌&&◌, option_and_then, Result, Ok, Err, slice_get, slice_set, refl, arith, subst, replicate, add-zero, zero-add}
 use Rattle.std.proofs.lemmas.Grind.{elements}
-use Rattle.std.proofs.lemmas.Bool.{cond_both, eqb-true}
+use Rattle.std.specs.List.{list_any}
+use Rattle.std.proofs.lemmas.Bool.{cond_both}
 use Rattle.std.proofs.lemmas.Option.{none-some, same_Some}
 use Rattle.std.proofs.lemmas.Bool.Decides.{nat_tests}
 use Rattle.uv_ids.specs.declared.id.Id.{Id}
@@ -10,14 +11,21 @@ use Rattle.uv_ids.specs.declared.due.Due.{Due}
 use Rattle.uv_ids.specs.declared.phase.Kind.{Kind}
 use Rattle.uv_ids.specs.declared.phase.Kind.TheVariants as kind
 use Rattle.uv_ids.specs.declared.event.Event.{Event}
-use Rattle.uv_ids.specs.declared.event.Event.TheVariants.{Loop, Send, Tick}
+use Rattle.uv_ids.specs.declared.event.Event.TheVariants.{Loop, Take, Finish, Cancel, Send, Tick}
 use Rattle.uv_script.specs.declared.op.Op.{Op}
 use Rattle.uv_script.specs.declared.op.Op.TheVariants as op
 use Rattle.uv_script.specs.declared.op.MainOp.{MainOp}
 use Rattle.uv_script.specs.declared.op.MainOp.TheVariants as main
 use Rattle.uv_script.specs.declared.op.CallbackLine.{CallbackLine}
+use Rattle.uv_script.specs.declared.task.Task.{Task}
 use Rattle.uv_script.specs.Program.{Program, arena_size}
+use Rattle.uv_script.specs.Tasks.{text_of}
+use Rattle.uv_work.specs.Digests.{digest_of}
+use Rattle.uv_work.specs.declared.outcome.Outcome.{Outcome}
+use Rattle.uv_work.specs.declared.outcome.Outcome.TheVariants.{Finished, Cancelled}
 use Rattle.uv_ids.specs.declared.code.Code.{Code}
+use Rattle.uv_ids.specs.declared.fault.Why.{Why}
+use Rattle.uv_ids.specs.declared.fault.Why.TheVariants.{IdleWorker}
 use Rattle.uv_ids.specs.declared.seen.Seen.{Seen}
 use Rattle.uv_ids.specs.declared.seen.Seen.TheVariants as seen
 use Rattle.uv_ids.specs.declared.seen.Callback.{Callback}
@@ -32,7 +40,7 @@ use Rattle.uv_records.specs.Lists.{watcher_kind}
 use Rattle.uv_records.specs.Refusals.{start_timer_refusal, start_watcher_refusal, stop_refusal, again_refusal, timer_refusal, close_refusal, no_refusal, send_refusal}
 use Rattle.uv_records.specs.Slots as slots
 use Rattle.uv_records.specs.Slots.{Slots, taken, taken_from, freed, next_free}
-use Rattle.uv_records.specs.Walks.{Walk, with_first, all_yet}
+use Rattle.uv_records.specs.Walks.{Walk, with_first, with_last, all_yet}
 use Rattle.uv_model.specs.declared.content.Content.{Content}
 use Rattle.uv_model.specs.declared.content.Content.TheVariants as content
 use Rattle.uv_model.specs.declared.named.Counts.{Counts as CallCounts}
@@ -47,280 +55,19 @@ use Rattle.uv_model.specs.declared.place.Timing.{Timing}
 use Rattle.uv_model.specs.declared.place.Timing.TheVariants.{Collecting, Firing}
 use Rattle.uv_model.specs.declared.place.Place.{Place}
 use Rattle.uv_model.specs.declared.place.Place.TheVariants.{Main, Running}
-use Rattle.uv_model.specs.Ids.{has_some}
-use Rattle.uv_model.specs.Content.{handle_in}
-use Rattle.uv_model.specs.State.{State, unbound, fresh, named, handle, with_handle, with_named, counted, count_of, with_id, live_id, live, front, watched, with_watched, refreshed}
+use Rattle.uv_model.specs.declared.request.Request.{Request}
+use Rattle.uv_model.specs.Found.{found_or}
+use Rattle.uv_model.specs.Ids.{same_id, without_id, has_some}
+use Rattle.uv_model.specs.Content.{handle_in, queued, digest_in}
+use Rattle.uv_model.specs.State.{State, unbound, fresh, named, handle, with_handle, request, with_named, counted, count_of, with_id, live, live_handle, live_request, front, front_request, watched, with_watched, refreshed}
 use Rattle.uv_model.specs.Timers.{taken_off, stopped, started, restarted}
 use Rattle.uv_model.specs.Ops as ops
 use Rattle.uv_model.specs.Ops.{do_op, refuses}
-use Rattle.uv_model.specs.Next.{Next, Moves, Refuses, next, loop_step, main_step, run_step, body_step, stage_step, tick, sent_to, timers, collected, first_due, fire, leave_timers, enter, ends, new_iteration, calls, may_leave, is_default, body_from, goes, begin_walk, after_walk, front_moved, walk, walk_async, close_front, stage_of}
+use Rattle.uv_model.specs.Next.{Next, Moves, Refuses, next, loop_step, main_step, run_step, body_step, stage_step, tick, sent_to, take, next_work, finish, work_of, cancels, begin_done, collect_request, timers, collected, first_due, fire, leave_timers, enter, ends, new_iteration, calls, may_leave, is_default, body_from, goes, begin_walk, after_walk, front_moved, walk, walk_async, close_front, stage_of}
 use Rattle.uv_model.specs.After.{after, goes_on, state_of}
-use Rattle.uv_model.specs.Bounds.{line_of, HoldsBefore, StartsBefore, AreBelow, CanStep}
-use Rattle.uv_model.proofs.Calls.{at_name}
+use Rattle.uv_model.specs.Bounds.{line_of, HoldsBefore, StartsBefore, CanStep}
 use Rattle.uv_model.proofs.Found.{found_both}
-
-abbrev AreUpTo : ℕ → CallCounts → Type 0
-AreUpTo n c = (c.handle ≤ n) × (c.close ≤ n)
-
-abbrev pub Counts : ℕ → List Named → Type 0
-Counts n names = All (λ (x : Named). AreUpTo n x.calls) names
-
-abbrev pub Drawn : ℕ → List (Slot Content) → Type 0
-Drawn n slots = All (λ (x : Slot Content). HoldsBefore n (handle_in x.content)) slots
-
--- each slot was freed so often at most
-abbrev pub Freed : ℕ → List (Slot Content) → Type 0
-Freed n slots = All (λ (x : Slot Content). x.generation ≤ n) slots
-
-pub record IsBounded (n : ℕ) (s : State) : Type 0 where
-  pub counts : Counts n s.names
-  pub starts : s.next_start ≤ n
-  pub drawn : Drawn s.next_start s.arena.slots
-  pub time : s.time ≤ 2 ^ 62
-  pub clock : s.clock ≤ 2 ^ 62
-  pub line : line_of s.place ≤ n
-  pub freed : Freed n s.arena.slots
-
-abbrev pub StaysBounded : ℕ → Next → Type 0
-StaysBounded n (Moves t seen) = IsBounded n t
-StaysBounded n (Refuses why) = Unit {0}
-
-if_keeps : {A : Type 0} (P : A → Type 0) (b : Bool) (x y : A) → P x → P y → P (if b then x else y)
-if_keeps P true x y h k = h
-if_keeps P false x y h k = k
-
--- ---- the parts
-
-counts_more : (n : ℕ) (names : List Named) → Counts n names → Counts (suc n) names
-counts_more n names h = λ k d l. let a = h k d l in (omega (arith, a.0), omega (arith, a.1))
-
-counts_set : (n : ℕ) (names : List Named) (i : ℕ) (x : Named) → Counts n names → AreUpTo n x.calls → Counts n (slice_set names i x)
-counts_set n names i x h l = grind (arith, elements, h)
-
-holds_more : (m n : ℕ) (content : Option HandleRecord) → m ≤ n → HoldsBefore m content → HoldsBefore n content
-holds_more m n None l h = tt
-holds_more m n (Some x) l h = λ t a. omega (arith, h t a)
-
-drawn_more : (m n : ℕ) (slots : List (Slot Content)) → m ≤ n → Drawn m slots → Drawn n slots
-drawn_more m n slots l h = λ k d w. holds_more m n _ l (h k d w)
-
-drawn_set : (n : ℕ) (slots : List (Slot Content)) (i : ℕ) (x : Slot Content) → Drawn n slots → HoldsBefore n (handle_in x.content)
-    → Drawn n (slice_set slots i x)
-drawn_set n slots i x h b = grind (arith, elements, h)
-
-drawn_push : (n : ℕ) (slots : List (Slot Content)) (x : Slot Content) → Drawn n slots → HoldsBefore n (handle_in x.content)
-    → Drawn n (slots ++ x ∷ [])
-drawn_push n slots x h b = grind (arith, elements, h)
-
-freed_more : (n : ℕ) (slots : List (Slot Content)) → Freed n slots → Freed (suc n) slots
-freed_more n slots h = λ k d w. let few = h k d w in omega arith
-
-freed_set : (n : ℕ) (slots : List (Slot Content)) (i : ℕ) (x : Slot Content) → Freed n slots → x.generation ≤ n → Freed n (slice_set slots i x)
-freed_set n slots i x h b = grind (arith, elements, h)
-
-freed_push : (n : ℕ) (slots : List (Slot Content)) (x : Slot Content) → Freed n slots → x.generation ≤ n → Freed n (slots ++ x ∷ [])
-freed_push n slots x h b = grind (arith, elements, h)
-
-slot_freed : (n : ℕ) (slots : List (Slot Content)) (i : ℕ) (slot : Slot Content) → slice_get slots i ≡ Some slot → Freed n slots →
-    slot.generation ≤ n
-slot_freed n slots i slot e h = grind (arith, elements, h)
-
-never : (n : ℕ) (h : HandleRecord) → h.active ≡ false → StartsBefore n h
-never n h e = λ t a. cc (a, e)
-
-never_timer : (k : Kind) (w : WatcherKind) → watcher_kind k ≡ Some w → is_timer k ≡ true → ⊥
-never_timer kind.Timer w e t = cc e
-never_timer kind.Idle w e t = cc t
-never_timer kind.Prepare w e t = cc t
-never_timer kind.Check w e t = cc t
-never_timer kind.Async w e t = cc t
-
-counts_at : (n : ℕ) (s : State) (v : Var) → Counts n s.names → AreUpTo n (named s v).calls
-counts_at n s v h =
-    let below : All (λ (x : Named). AreBelow (suc n) x.calls) s.names = λ k d w. let a = h k d w in (omega (arith, a.0), omega (arith, a.1)) in
-    let l = at_name (suc n) s.names v.0 (slice_get s.names v.0) refl below (omega arith) in
-    (omega (arith, l.0), omega (arith, l.1))
-
--- ---- a live handle
-
--- what is known of a handle that is held
-record IsHeld (m n : ℕ) (id : Id) (x : HandleRecord) : Type 0 where
-  starts : StartsBefore m x
-  freed : id.generation ≤ n
-
-abbrev LiveBefore : ℕ → ℕ → Option (Id × HandleRecord) → Type 0
-LiveBefore m n None = Unit {0}
-LiveBefore m n (Some t) = IsHeld m n t.0 t.1
-
--- what is known of what is held under an id
-record ContentBefore (m n : ℕ) (id : Id) (c : Option Content) : Type 0 where
-  starts : HoldsBefore m (handle_in c)
-  freed : (x : Content) → c ≡ Some x → id.generation ≤ n
-
-slot_before : (n : ℕ) (slots : List (Slot Content)) (i : ℕ) (slot : Slot Content) → slice_get slots i ≡ Some slot → Drawn n slots →
-    HoldsBefore n (handle_in slot.content)
-slot_before n slots i slot e h = grind (arith, elements, h)
-
-found_before : (m n : ℕ) (all : List (Slot Content)) (id : Id) (x : Option (Slot Content)) → slice_get all id.slot ≡ x → Drawn m all → Freed n all →
-    ContentBefore m n id (option_and_then (slots.held_in id) x)
-found_before m n all id None e h f = record { starts = tt; freed = λ x none. absurd (none-some x none) }
-found_before m n all id (Some slot) e h f =
-    cond_both (slot.generation == id.generation) slot.content None (ContentBefore m n id)
-    (λ same. record {
-      starts = slot_before m all id.slot slot e h;
-      freed = λ x some. subst (λ (g : ℕ). g ≤ n) (eqb-true slot.generation id.generation same) (slot_freed n all id.slot slot e f);
-    })
-    (λ other. record { starts = tt; freed = λ x none. absurd (none-some x none) })
-
-with_id_before : (m n : ℕ) (id : Id) (c : Option Content) → ContentBefore m n id c → LiveBefore m n (with_id id (handle_in c))
-with_id_before m n id None h = tt
-with_id_before m n id (Some (content.Handle x)) h = record { starts = h.starts; freed = h.freed (content.Handle x) refl }
-
-live_id_before : (m n : ℕ) (s : State) (id : Option Id) → Drawn m s.arena.slots → Freed n s.arena.slots → LiveBefore m n (live_id s id)
-live_id_before m n s None h f = tt
-live_id_before m n s (Some id) h f =
-    with_id_before m n id _ (found_before m n s.arena.slots id (slice_get s.arena.slots id.slot) refl h f)
-
-live_before : (n : ℕ) (s : State) (v : Var) → IsBounded n s → LiveBefore s.next_start n (live s v)
-live_before n s v h = live_id_before s.next_start n s (named s v).id h.drawn h.freed
-
--- ---- the changes of a state
-
-more : (n : ℕ) (s : State) → IsBounded n s → IsBounded (suc n) s
-more n s h = record {
-  counts = counts_more n s.names h.counts;
-  starts = omega arith;
-  drawn = h.drawn;
-  time = h.time;
-  clock = h.clock;
-  line = omega arith;
-  freed = freed_more n s.arena.slots h.freed;
-}
-
-placed : (n : ℕ) (s : State) (place : Place) → IsBounded n s → line_of place ≤ n → IsBounded n (record s { place = place })
-placed n s place h l = record { counts = h.counts; starts = h.starts; drawn = h.drawn; time = h.time; clock = h.clock; line = l; freed = h.freed }
-
-renamed : (n : ℕ) (s : State) (v : Var) (x : Named) → IsBounded n s → AreUpTo n x.calls → IsBounded n (with_named s v x)
-renamed n s v x h l = record {
-  counts = counts_set n s.names v.0 x h.counts l;
-  starts = h.starts;
-  drawn = h.drawn;
-  time = h.time;
-  clock = h.clock;
-  line = h.line;
-  freed = h.freed;
-}
-
-listed : (n : ℕ) (s : State) (ts : List (Due × Id)) (ready : List Id) → IsBounded n s → IsBounded n (record s { timers = ts; ready = ready })
-listed n s ts ready h = record {
-  counts = h.counts;
-  starts = h.starts;
-  drawn = h.drawn;
-  time = h.time;
-  clock = h.clock;
-  line = h.line;
-  freed = h.freed;
-}
-
-off_bounded : (n : ℕ) (s : State) (id : Id) (x : HandleRecord) → IsBounded n s → IsBounded n (taken_off s id x)
-off_bounded n s id x h = record {
-  counts = h.counts;
-  starts = h.starts;
-  drawn = h.drawn;
-  time = h.time;
-  clock = h.clock;
-  line = h.line;
-  freed = h.freed;
-}
-
-kept_in : (n : ℕ) (s : State) (id : Id) (x : HandleRecord) → IsBounded n s → IsHeld s.next_start n id x → IsBounded n (with_handle s id x)
-kept_in n s id x h b = record {
-  counts = h.counts;
-  starts = h.starts;
-  drawn = drawn_set s.next_start s.arena.slots id.slot _ h.drawn b.starts;
-  time = h.time;
-  clock = h.clock;
-  line = h.line;
-  freed = freed_set n s.arena.slots id.slot _ h.freed b.freed;
-}
-
--- so is one that isn't active any more
-rested_in : (n : ℕ) (s : State) (id : Id) (x : HandleRecord) → IsBounded n s → id.generation ≤ n → x.active ≡ false → IsBounded n (with_handle s id x)
-rested_in n s id x h few idle = kept_in n s id x h (record { starts = never s.next_start x idle; freed = few })
-
-at_clock : (n : ℕ) (s : State) → IsBounded n s → IsBounded n (refreshed s)
-at_clock n s h = record { counts = h.counts; starts = h.starts; drawn = h.drawn; time = h.clock; clock = h.clock; line = h.line; freed = h.freed }
-
-flagged : (n : ℕ) (s : State) (stop_flag idled : Bool) → IsBounded n s → IsBounded n (record s { stop_flag = stop_flag; idled = idled })
-flagged n s stop_flag idled h = record {
-  counts = h.counts;
-  starts = h.starts;
-  drawn = h.drawn;
-  time = h.time;
-  clock = h.clock;
-  line = h.line;
-  freed = h.freed;
-}
-
-watched_bounded : (n : ℕ) (s : State) (kind : WatcherKind) (w : Walk Id) → IsBounded n s → IsBounded n (with_watched s kind w)
-watched_bounded n s watcher.Idle w h = record {
-  counts = h.counts;
-  starts = h.starts;
-  drawn = h.drawn;
-  time = h.time;
-  clock = h.clock;
-  line = h.line;
-  freed = h.freed;
-}
-watched_bounded n s watcher.Prepare w h = record {
-  counts = h.counts;
-  starts = h.starts;
-  drawn = h.drawn;
-  time = h.time;
-  clock = h.clock;
-  line = h.line;
-  freed = h.freed;
-}
-watched_bounded n s watcher.Check w h = record {
-  counts = h.counts;
-  starts = h.starts;
-  drawn = h.drawn;
-  time = h.time;
-  clock = h.clock;
-  line = h.line;
-  freed = h.freed;
-}
-watched_bounded n s watcher.Async w h = record {
-  counts = h.counts;
-  starts = h.starts;
-  drawn = h.drawn;
-  time = h.time;
-  clock = h.clock;
-  line = h.line;
-  freed = h.freed;
-}
-
-watched_names : (n : ℕ) (s : State) (kind : WatcherKind) (w : Walk Id) → Counts n s.names → Counts n (with_watched s kind w).names
-watched_names n s watcher.Idle w h = h
-watched_names n s watcher.Prepare w h = h
-watched_names n s watcher.Check w h = h
-watched_names n s watcher.Async w h = h
-
-stopped_bounded : (n : ℕ) (s : State) (id : Id) (x : HandleRecord) → IsBounded n s → id.generation ≤ n → IsBounded n (stopped s id x)
-stopped_bounded n s id x h few = rested_in n (taken_off s id x) id (records.stopped x) (off_bounded n s id x h) few refl
-
-started_bounded : (n : ℕ) (s : State) (id : Id) (x : HandleRecord) (timeout repeat : ℕ) → IsBounded n s → id.generation ≤ n →
-    IsBounded (suc n) (started s id x timeout repeat)
-started_bounded n s id x timeout repeat h few = record {
-  counts = counts_more n s.names h.counts;
-  starts = omega arith;
-  drawn = drawn_set (s.next_start + 1) s.arena.slots id.slot _ (drawn_more s.next_start (s.next_start + 1) s.arena.slots (omega arith) h.drawn)
-      (λ t a. omega arith);
-  time = h.time;
-  clock = h.clock;
-  line = omega arith;
-  freed = freed_set (suc n) s.arena.slots id.slot _ (freed_more n s.arena.slots h.freed) (omega arith);
-}
+use Rattle.uv_model.proofs.Counting.{AreUpTo, Counts, Drawn, Freed, IsBounded, StaysBounded, if_keeps, drawn_set, drawn_push, freed_more, freed_set, freed_push, slot_freed, never_timer, counts_at, IsHeld, LiveBefore, handle_before, RequestBefore, request_before, NamedBefore, live_before, AskedBefore, asked_before, more, placed, renamed, listed, off_bounded, kept_in, requested, pooled, rested_in, at_clock, flagged, watched_bounded, watched_names, stopped_bounded, started_bounded}
 
 -- ---- the ops
 
@@ -332,8 +79,8 @@ inited_before n v kind.Prepare = λ t a. cc a
 inited_before n v kind.Check = λ t a. cc a
 inited_before n v kind.Async = λ t a. cc t
 
-taken_drawn : (n : ℕ) (free : List ℕ) (id : Id) (x : HandleRecord) (s : Slots Content) → Drawn n s.slots → StartsBefore n x →
-    Drawn n (taken_from free id (content.Handle x) s).slots
+taken_drawn : (n : ℕ) (free : List ℕ) (id : Id) (x : Content) (s : Slots Content) → Drawn n s.slots → HoldsBefore n (handle_in (Some x)) →
+    Drawn n (taken_from free id x s).slots
 taken_drawn n [] id x s h b = drawn_push n s.slots _ h b
 taken_drawn n (i ∷ is) id x s h b = drawn_set n s.slots id.slot _ h b
 
@@ -352,39 +99,67 @@ next_freed n all unused (i ∷ is) id h e = at (slice_get all i) refl e where
   at None f g = cc g
   at (Some slot) f g = subst (λ (j : Id). j.generation ≤ n) (same_Some _ _ g) (slot_freed n all i slot f h)
 
-new_bounded : (n : ℕ) (s : State) (v : Var) (kind : Kind) (id : Id) → IsBounded n s → next_free s.arena ≡ Some id →
-    IsBounded (suc n) (ops.with_new s v kind id)
-new_bounded n s v kind id h e =
+-- a slot that is taken
+wider : (n : ℕ) (s : State) (x : Content) (id : Id) → IsBounded n s → HoldsBefore s.next_start (handle_in (Some x)) → next_free s.arena ≡ Some id →
+    IsBounded (suc n) (record s { arena = taken id x s.arena })
+wider n s x id h b e =
     let m = more n s h in
-    let u = record s { arena = taken id (content.Handle (inited v kind)) s.arena } in
-    let wide : IsBounded (suc n) u = record {
+    record {
       counts = m.counts;
       starts = m.starts;
-      drawn = taken_drawn s.next_start s.arena.free id (inited v kind) s.arena h.drawn (inited_before s.next_start v kind);
+      drawn = taken_drawn s.next_start s.arena.free id x s.arena h.drawn b;
       time = h.time;
       clock = h.clock;
       line = m.line;
-      freed = taken_freed (suc n) s.arena.free id (content.Handle (inited v kind)) s.arena m.freed
+      freed = taken_freed (suc n) s.arena.free id x s.arena m.freed
           (next_freed (suc n) s.arena.slots s.arena.unused s.arena.free id m.freed e);
-    } in
-    let counts = counts_at n s v h.counts in
-    renamed (suc n) (ops.listed_last u kind id) v (record (named s v) { id = Some id })
-    (if_keeps (IsBounded (suc n)) (is_async kind) _ u (watched_bounded (suc n) u watcher.Async _ wide) wide)
-    (omega (arith, counts.0), omega (arith, counts.1))
+    }
 
-init_bounded : (n : ℕ) (s : State) (v : Var) (kind : Kind) (t : Option (Id × HandleRecord)) → IsBounded n s
-    → IsBounded (suc n) (ops.init s v kind t).state
-init_bounded n s v kind (Some t) h = more n s h
-init_bounded n s v kind None h = found_both (next_free s.arena) _ _ (λ (d : ops.Done). IsBounded (suc n) d.state)
-    (λ id e. new_bounded n s v kind id h e) (λ e. more n s h)
+bound_bounded : (n : ℕ) (s : State) (v : Var) (id : Id) → IsBounded n s → IsBounded n (ops.bound_to s v id)
+bound_bounded n s v id h = renamed n s v (record (named s v) { id = Some id }) h (counts_at n s v h.counts)
+
+new_bounded : (n : ℕ) (s : State) (v : Var) (kind : Kind) (id : Id) → IsBounded n s → next_free s.arena ≡ Some id →
+    IsBounded (suc n) (ops.with_new s v kind id)
+new_bounded n s v kind id h e =
+    let x = content.Handle (inited v kind) in
+    let u = record s { arena = taken id x s.arena } in
+    let wide = wider n s x id h (inited_before s.next_start v kind) e in
+    bound_bounded (suc n) (ops.listed_last u kind id) v id
+    (if_keeps (IsBounded (suc n)) (is_async kind) _ u (watched_bounded (suc n) u watcher.Async _ wide) wide)
+
+queued_bounded : (n : ℕ) (s : State) (v : Var) (task : Task) (id : Id) → IsBounded n s → next_free s.arena ≡ Some id →
+    IsBounded (suc n) (ops.with_queued s v task id)
+queued_bounded n s v task id h e =
+    let x = content.Request (queued v task) in
+    let u = record s { arena = taken id x s.arena } in
+    let waiting = s.waiting ++ id ∷ [] in
+    bound_bounded (suc n) (record u { waiting = waiting }) v id (pooled (suc n) u waiting s.running s.done (wider n s x id h tt e))
+
+make_bounded : (n : ℕ) (s : State) (t : Option (Id × Content)) (made : Id → State) → IsBounded n s →
+    ((id : Id) → next_free s.arena ≡ Some id → IsBounded (suc n) (made id)) → IsBounded (suc n) (ops.make s t made).state
+make_bounded n s (Some t) made h k = more n s h
+make_bounded n s None made h k = found_both (next_free s.arena) _ _ (λ (d : ops.Done). IsBounded (suc n) d.state) k (λ e. more n s h)
+
+ended_bounded : (n : ℕ) (s : State) (id : Id) (r : Request) (outcome : Outcome) → IsBounded n s → id.generation ≤ n →
+    IsBounded n (ops.ended s id r outcome)
+ended_bounded n s id r outcome h few =
+    let done = with_last s.done id in
+    requested n (record s { done = done }) id (record r { outcome = outcome }) (pooled n s s.waiting s.running done h) few
+
+cancel_bounded : (n : ℕ) (s : State) (t : Result (Id × Request) Code) → AskedBefore n t → IsBounded n s → IsBounded (suc n) (ops.cancel s t).state
+cancel_bounded n s (Err code) few h = more n s h
+cancel_bounded n s (Ok t) few h = if_keeps (λ (d : ops.Done). IsBounded (suc n) d.state) (list_any (same_id t.0) s.waiting) _ _
+    (let u = record s { waiting = without_id s.waiting t.0 } in
+    more n (ops.cancelled s t.0 t.1) (ended_bounded n u t.0 t.1 Cancelled (pooled n s (without_id s.waiting t.0) s.running s.done h) few))
+    (more n s h)
 
 on_handle_bounded : (n : ℕ) (s : State) (v : Var) (why : HandleRecord → Option Code) (f : Id → HandleRecord → ops.Done) → IsBounded n s →
     ((id : Id) (x : HandleRecord) → IsHeld s.next_start n id x → why x ≡ None → IsBounded (suc n) (f id x).state) →
-    IsBounded (suc n) (ops.on_handle s (live s v) why f).state
-on_handle_bounded n s v why f h k = at (live s v) (live_before n s v h) where
-  at : (t : Option (Id × HandleRecord)) → LiveBefore s.next_start n t → IsBounded (suc n) (ops.on_handle s t why f).state
-  at None l = more n s h
-  at (Some t) l = found_both (why t.1) _ (f t.0 t.1) (λ (d : ops.Done). IsBounded (suc n) d.state) (λ code e. more n s h) (λ e. k t.0 t.1 l e)
+    IsBounded (suc n) (ops.on_handle s (live_handle s v) why f).state
+on_handle_bounded n s v why f h k = at (live_handle s v) (live_before n s v h) where
+  at : (t : Result (Id × HandleRecord) Code) → NamedBefore s.next_start n t → IsBounded (suc n) (ops.on_handle s t why f).state
+  at (Err code) l = more n s h
+  at (Ok t) l = found_both (why t.1) _ (f t.0 t.1) (λ (d : ops.Done). IsBounded (suc n) d.state) (λ code e. more n s h) (λ e. k t.0 t.1 l e)
 
 start_bounded : (n : ℕ) (s : State) (timeout repeat : ℕ) (id : Id) (x : HandleRecord) → IsBounded n s → id.generation ≤ n →
     IsBounded (suc n) (ops.start s timeout repeat id x).state
@@ -434,16 +209,18 @@ closed_bounded n s id x h few =
     } in
     rested_in n u id (records.closed x) b few refl
 
-sent_bounded : (n : ℕ) (s : State) (v : Var) → IsBounded n s → IsBounded (suc n) (ops.send s (live s v)).state
-sent_bounded n s v h = at (live s v) (live_before n s v h) where
-  at : (t : Option (Id × HandleRecord)) → LiveBefore s.next_start n t → IsBounded (suc n) (ops.send s t).state
-  at None l = more n s h
-  at (Some t) l = found_both (send_refusal t.1) _ _ (λ (d : ops.Coded). IsBounded (suc n) d.state) (λ code e. more n s h)
+sent_bounded : (n : ℕ) (s : State) (v : Var) → IsBounded n s → IsBounded (suc n) (ops.send s (live_handle s v)).state
+sent_bounded n s v h = at (live_handle s v) (live_before n s v h) where
+  at : (t : Result (Id × HandleRecord) Code) → NamedBefore s.next_start n t → IsBounded (suc n) (ops.send s t).state
+  at (Err code) l = more n s h
+  at (Ok t) l = found_both (send_refusal t.1) _ _ (λ (d : ops.Coded). IsBounded (suc n) d.state) (λ code e. more n s h)
       (λ e. more n (with_handle s t.0 (records.sent t.1))
       (kept_in n s t.0 (records.sent t.1) h (record { starts = l.starts; freed = l.freed })))
 
 op_bounded : (n : ℕ) (s : State) (x : Op) → IsBounded n s → IsBounded (suc n) (do_op s x).state
-op_bounded n s (op.Init v kind) h = init_bounded n s v kind (live s v) h
+op_bounded n s (op.Init v kind) h = make_bounded n s (live s v) (ops.with_new s v kind) h (λ id e. new_bounded n s v kind id h e)
+op_bounded n s (op.Queue v task) h = make_bounded n s (live s v) (ops.with_queued s v task) h (λ id e. queued_bounded n s v task id h e)
+op_bounded n s (op.Cancel v) h = cancel_bounded n s (live_request s v) (asked_before n s v h) h
 op_bounded n s (op.Start v timeout repeat) h = on_handle_bounded n s v start_timer_refusal _ h
     (λ id x b e. start_bounded n s timeout repeat id x h b.freed)
 op_bounded n s (op.StartWatcher v) h = on_handle_bounded n s v start_watcher_refusal _ h (λ id x b e. start_watcher_bounded n s id x h b.freed)
@@ -491,8 +268,9 @@ leave_bounded n s run timers_of.Iteration h l = if_keeps (StaysBounded (suc n)) 
     (ends_bounded n s run h l)
 
 counted_up : (n : ℕ) (kind : Callback) (c : CallCounts) → AreUpTo n c → AreUpTo (suc n) (counted kind c)
-counted_up n callback.Handle c h = (omega (arith, h.0), omega (arith, h.1))
-counted_up n callback.Close c h = (omega (arith, h.0), omega (arith, h.1))
+counted_up n callback.Handle c h = (omega (arith, h.0), omega (arith, h.1), omega (arith, h.2))
+counted_up n callback.After c h = (omega (arith, h.0), omega (arith, h.1), omega (arith, h.2))
+counted_up n callback.Close c h = (omega (arith, h.0), omega (arith, h.1), omega (arith, h.2))
 
 calls_bounded : (p : Program) (n : ℕ) (s : State) (run : Run) (kind : Callback) (v : Var) (what : Seen) → IsBounded (suc n) s → Counts n s.names →
     run.line ≤ n → StaysBounded (suc n) (calls p s run kind v what)
@@ -507,7 +285,11 @@ restarted_names n s id x h = if_keeps (λ (t : State). Counts n t.names) (x.repe
 
 front_before : (n : ℕ) (s : State) (ids : List Id) (t : Id × HandleRecord) → front s ids ≡ Some t → IsBounded n s → IsHeld s.next_start n t.0 t.1
 front_before n s [] t e h = cc e
-front_before n s (id ∷ ids) t e h = subst (LiveBefore s.next_start n) e (live_id_before s.next_start n s (Some id) h.drawn h.freed)
+front_before n s (id ∷ ids) t e h = subst (LiveBefore s.next_start n) e (handle_before n s id h)
+
+request_front : (n : ℕ) (s : State) (ids : List Id) (t : Id × Request) → front_request s ids ≡ Some t → IsBounded n s → t.0.generation ≤ n
+request_front n s [] t e h = cc e
+request_front n s (id ∷ ids) t e h = subst (RequestBefore n) e (request_before n s id h)
 
 fire_bounded : (p : Program) (n : ℕ) (s : State) (run : Run) (part : TimersOf) → IsBounded n s → run.line ≤ n →
     StaysBounded (suc n) (fire p s run part)
@@ -529,7 +311,7 @@ first_due_before : (n : ℕ) (s : State) (ts : List (Due × Id)) (t : Id × Hand
 first_due_before n s [] t e h = cc e
 first_due_before n s (u ∷ ts) t e h =
     let p = chosen (nat_le u.0.at s.time) (with_id u.1 (handle s u.1)) t e in
-    subst (LiveBefore s.next_start n) p (live_id_before s.next_start n s (Some u.1) h.drawn h.freed)
+    subst (LiveBefore s.next_start n) p (handle_before n s u.1 h)
   where
     chosen : {A : Type 0} (b : Bool) (x : Option A) (y : A) → (if b then x else None) ≡ Some y → x ≡ Some y
     chosen true x y f = f
@@ -597,22 +379,44 @@ freed_freed n last id s h few = if_keeps (λ (u : Slots Content). Freed (suc n) 
     (freed_set (suc n) s.slots id.slot _ (freed_more n s.slots h) (omega arith))
     (freed_set (suc n) s.slots id.slot _ (freed_more n s.slots h) (omega arith))
 
-close_bounded : (p : Program) (n : ℕ) (s : State) (run : Run) → IsBounded n s → run.line ≤ n → StaysBounded (suc n) (close_front p s run)
-close_bounded p n s run h l = found_both (front s s.closing.yet) _ _ (StaysBounded (suc n))
-    (λ t e. let last = (arena_size p).last_generation in
-    let u = record s { arena = freed last t.0 s.arena; closing = record s.closing { yet = drop 1 s.closing.yet } } in
+-- a slot that is freed
+released : (n : ℕ) (s : State) (last : ℕ) (id : Id) → IsBounded n s → id.generation ≤ n →
+    IsBounded (suc n) (record s { arena = freed last id s.arena })
+released n s last id h few =
     let m = more n s h in
-    let b : IsBounded (suc n) u = record {
+    record {
       counts = m.counts;
       starts = m.starts;
-      drawn = freed_drawn s.next_start last t.0 s.arena h.drawn;
+      drawn = freed_drawn s.next_start last id s.arena h.drawn;
       time = h.time;
       clock = h.clock;
       line = m.line;
-      freed = freed_freed n last t.0 s.arena h.freed (front_before n s s.closing.yet t e h).freed;
-    } in
-    calls_bounded p n u run callback.Close t.1.name (seen.Closed t.1.name t.0) b h.counts l)
+      freed = freed_freed n last id s.arena h.freed few;
+    }
+
+close_bounded : (p : Program) (n : ℕ) (s : State) (run : Run) → IsBounded n s → run.line ≤ n → StaysBounded (suc n) (close_front p s run)
+close_bounded p n s run h l = found_both (front s s.closing.yet) _ _ (StaysBounded (suc n))
+    (λ t e. let last = (arena_size p).last_generation in
+    let w = record s.closing { yet = drop 1 s.closing.yet } in
+    let u = record s { arena = freed last t.0 s.arena } in
+    calls_bounded p n (record u { closing = w }) run callback.Close t.1.name (seen.Closed t.1.name t.0)
+    (closing_bounded (suc n) u w (released n s last t.0 h (front_before n s s.closing.yet t e h).freed)) h.counts l)
     (λ e. run_at n (refreshed s) (record run { stage = Timers timers_of.Iteration Collecting; body = None }) (at_clock n s h) l)
+
+collect_bounded : (p : Program) (n : ℕ) (s : State) (run : Run) → IsBounded n s → run.line ≤ n → StaysBounded (suc n) (collect_request p s run)
+collect_bounded p n s run h l = found_both (front_request s s.done.yet) _ _ (StaysBounded (suc n))
+    (λ t e. let last = (arena_size p).last_generation in
+    let w = record s.done { yet = drop 1 s.done.yet } in
+    let u = record s { arena = freed last t.0 s.arena } in
+    calls_bounded p n (record u { done = w }) run callback.After t.1.name (seen.After (digest_in t.1.outcome) t.1.name t.0)
+    (pooled (suc n) u s.waiting s.running w (released n s last t.0 h (request_front n s s.done.yet t e h))) h.counts l)
+    (λ e. begin_walk_bounded n s run watcher.Async h l)
+
+begin_done_bounded : (n : ℕ) (s : State) (run : Run) → IsBounded n s → run.line ≤ n → StaysBounded (suc n) (begin_done s run)
+begin_done_bounded n s run h l =
+    let t = refreshed s in
+    run_at n (record t { done = all_yet s.done }) (record run { stage = Done; body = None })
+    (pooled n t s.waiting s.running (all_yet s.done) (at_clock n s h)) l
 
 stage_bounded : (p : Program) (n : ℕ) (s : State) (run : Run) (stage : Stage) → IsBounded n s → run.line ≤ n →
     StaysBounded (suc n) (stage_step p s run stage)
@@ -621,8 +425,8 @@ stage_bounded p n s run Pending h l = begin_walk_bounded n s run watcher.Idle h 
 stage_bounded p n s run Idle h l = walk_bounded p n s run watcher.Idle h l
 stage_bounded p n s run Prepare h l = walk_bounded p n s run watcher.Prepare h l
 stage_bounded p n s run (Poll deadline) h l = if_keeps (StaysBounded (suc n)) (may_leave s deadline) _ _
-    (run_at n (refreshed s) (record run { stage = Done; body = None }) (at_clock n s h) l) tt
-stage_bounded p n s run Done h l = begin_walk_bounded n s run watcher.Async h l
+    (begin_done_bounded n s run h l) tt
+stage_bounded p n s run Done h l = collect_bounded p n s run h l
 stage_bounded p n s run Async h l = async_bounded p n s run h l
 stage_bounded p n s run Check h l = walk_bounded p n s run watcher.Check h l
 stage_bounded p n s run Closing h l = close_bounded p n s run h l
@@ -667,9 +471,35 @@ tick_bounded n s ms h = cond_both (nat_le (s.clock + ms) (2 ^ 62)) _ _ (StaysBou
 sent_to_bounded : (n : ℕ) (s : State) (v : Var) → IsBounded n s → StaysBounded (suc n) (sent_to s v)
 sent_to_bounded n s v h = if_keeps (StaysBounded (suc n)) (nat_lt v.0 (length s.names)) _ _ (sent_bounded n s v h) tt
 
+cancels_bounded : (n : ℕ) (s : State) (v : Var) → IsBounded n s → StaysBounded (suc n) (cancels s v)
+cancels_bounded n s v h = if_keeps (StaysBounded (suc n)) (nat_lt v.0 (length s.names)) _ _
+    (cancel_bounded n s (live_request s v) (asked_before n s v h) h) tt
+
+take_bounded : (n : ℕ) (s : State) (k : ℕ) (t : Result (Id × Request) Why) → IsBounded n s → StaysBounded (suc n) (take s k t)
+take_bounded n s k (Err why) h = tt
+take_bounded n s k (Ok t) h =
+    let waiting = drop 1 s.waiting in
+    let running = slice_set s.running k (Some t.0) in
+    more n (record s { waiting = waiting; running = running }) (pooled n s waiting running s.done h)
+
+finish_bounded : (n : ℕ) (s : State) (k : ℕ) (run : Option (Option Id)) → IsBounded n s → StaysBounded (suc n) (finish s k (work_of s run))
+finish_bounded n s k None h = tt
+finish_bounded n s k (Some None) h = tt
+finish_bounded n s k (Some (Some id)) h = at (with_id id (request s id)) (request_before n s id h) where
+  at : (t : Option (Id × Request)) → RequestBefore n t → StaysBounded (suc n) (finish s k (found_or t Ok (Err IdleWorker)))
+  at None few = tt
+  at (Some t) few =
+      let running = slice_set s.running k None in
+      let u = record s { running = running } in
+      let ending = Finished (digest_of t.1.task.rounds (text_of t.1.task)) in
+      more n (ops.ended u t.0 t.1 ending) (ended_bounded n u t.0 t.1 ending (pooled n s s.waiting running s.done h) few)
+
 pub next_bounded : (p : Program) (n : ℕ) (s : State) (e : Event) → IsBounded n s → StaysBounded (suc n) (next p s e)
 unfolding next
 next_bounded p n s Loop h = place_bounded p n s s.place h h.line
+next_bounded p n s (Take k) h = take_bounded n s k (next_work s (slice_get s.running k)) h
+next_bounded p n s (Finish k) h = finish_bounded n s k (slice_get s.running k) h
+next_bounded p n s (Cancel v) h = cancels_bounded n s v h
 next_bounded p n s (Send v) h = sent_to_bounded n s v h
 next_bounded p n s (Tick ms) h = tick_bounded n s ms h
 

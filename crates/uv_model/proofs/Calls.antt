@@ -9,7 +9,7 @@ use Rattle.uv_model.specs.Bounds.{AreBelow, CanStep}
 pub at_name : (m : ℕ) (names : List Named) (i : ℕ) (x : Option Named) → slice_get names i ≡ x → All (λ (n : Named). AreBelow m n.calls) names
     → 0 < m →
     AreBelow m (unwrap_or x unbound).calls
-at_name m names i None e h l = (l, l)
+at_name m names i None e h l = (l, l, l)
 at_name m names i (Some n) e h l = grind (arith, elements, h)
 
 pub small : (s : State) (v : Var) → All (λ (n : Named). AreBelow (2 ^ 31) n.calls) s.names → AreBelow (2 ^ 31) (named s v).calls

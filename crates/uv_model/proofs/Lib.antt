@@ -2,11 +2,13 @@ pub mod Found
 pub mod Lists
 pub mod Freeing
 pub mod Lines
+pub mod Runners
 pub mod Order
 pub mod Starts
 pub mod Calls
 pub mod Walks
 pub mod Fires
 pub mod Refusals
+pub mod Counting
 pub mod Bounded
 pub mod Runs

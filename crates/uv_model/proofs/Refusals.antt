@@ -1,5 +1,5 @@
--- Which steps are refused: those past the main program's end, those in a poll that can't be left yet, sends to names
--- that aren't there, and a clock past its limit. All others are taken.
+-- Which steps of the loop are refused: those past the main program's end, and those in a poll that can't be left yet. All others
+-- are taken.
 use Rattle.std.proofs.Common.{◌≡◌, ℕ, ◌&&◌, Option, Some, None, refl, if◌then◌else◌}
 use Rattle.std.proofs.lemmas.Bool.{cond_both}
 use Rattle.uv_ids.specs.declared.fault.Why.{Why}
@@ -18,7 +18,7 @@ use Rattle.uv_model.specs.declared.place.Timing.{Timing}
 use Rattle.uv_model.specs.declared.place.Timing.TheVariants.{Collecting, Firing}
 use Rattle.uv_records.specs.declared.lists.WatcherKind.{WatcherKind}
 use Rattle.uv_records.specs.declared.lists.WatcherKind.TheVariants as watcher
-use Rattle.uv_model.specs.State.{State, front, watched}
+use Rattle.uv_model.specs.State.{State, front, front_request, watched}
 use Rattle.uv_model.specs.Next as step
 use Rattle.uv_model.specs.Next.{Next}
 use Rattle.uv_model.specs.After.{refusal_of}
@@ -57,6 +57,9 @@ async_moves p s run = found_both (front s s.async.yet) _ _ IsTaken (λ t e. cond
 close_moves : (p : Program) (s : State) (run : Run) → IsTaken (step.close_front p s run)
 close_moves p s run = found_both (front s s.closing.yet) _ _ IsTaken (λ t e. refl) (λ e. refl)
 
+done_moves : (p : Program) (s : State) (run : Run) → IsTaken (step.collect_request p s run)
+done_moves p s run = found_both (front_request s s.done.yet) _ _ IsTaken (λ t e. refl) (λ e. refl)
+
 -- why a stage's step is refused
 abbrev pub stage_refusal : State → Stage → Option Why
 stage_refusal s (stage.Poll deadline) = if step.may_leave s deadline then None else Some Blocked
@@ -78,7 +81,7 @@ stage_moves p s run stage.Prepare = walk_moves p s run watcher.Prepare
 stage_moves p s run (stage.Poll deadline) = cond_both (step.may_leave s deadline) _ _ IsPolled (λ e. rw e refl) (λ e. rw e refl) where
   IsPolled : Next → Type 0
   IsPolled n = refusal_of n ≡ stage_refusal s (stage.Poll deadline)
-stage_moves p s run stage.Done = refl
+stage_moves p s run stage.Done = done_moves p s run
 stage_moves p s run stage.Async = async_moves p s run
 stage_moves p s run stage.Check = walk_moves p s run watcher.Check
 stage_moves p s run stage.Closing = close_moves p s run

@@ -13,8 +13,9 @@ use Rattle.uv_records.specs.Slots.{held_in, held}
 use Rattle.uv_records.specs.Walks.{Walk}
 use Rattle.uv_model.specs.declared.content.Content.{Content}
 use Rattle.uv_model.specs.declared.content.Content.TheVariants as content
-use Rattle.uv_model.specs.Content.{handle_in}
-use Rattle.uv_model.specs.State.{State, named, with_id, front, with_watched}
+use Rattle.uv_model.specs.declared.request.Request.{Request}
+use Rattle.uv_model.specs.Content.{handle_in, request_in}
+use Rattle.uv_model.specs.State.{State, named, with_id, front, front_request, with_watched}
 use Rattle.uv_model.specs.Bounds.{CanStep, AreBelow}
 use Rattle.uv_model.proofs.Calls.{able_small}
 
@@ -32,6 +33,10 @@ watched_small s kind w v h = rw (named-watched s kind w v) (able_small s v h)
 pub front_there : (s : State) (ids : List Id) (id : Id) (h : HandleRecord) → front s ids ≡ Some (id, h) → 0 < length ids
 front_there s [] id h e = cc e
 front_there s (x ∷ ids) id h e = omega arith
+
+pub request_there : (s : State) (ids : List Id) (id : Id) (r : Request) → front_request s ids ≡ Some (id, r) → 0 < length ids
+request_there s [] id r e = cc e
+request_there s (x ∷ ids) id r e = omega arith
 
 -- a slot that holds something was freed as often as its id says
 held_few : (n : ℕ) (slots : List (Slot Content)) (id : Id) (x : Option (Slot Content)) (c : Content) → slice_get slots id.slot ≡ x →
@@ -52,9 +57,21 @@ front_freed s [] id h e able = cc e
 front_freed s (x ∷ ids) id h e able = at (held s.arena.slots x) refl e where
   at : (c : Option Content) → held s.arena.slots x ≡ c → with_id x (handle_in c) ≡ Some (id, h) → id.generation < 2 ^ 31
   at None f g = cc g
+  at (Some (content.Request r)) f g = cc g
   at (Some (content.Handle k)) f g =
       let same : x ≡ id = ap (λ (t : Id × HandleRecord). t.0) (same_Some _ _ g) in
       subst (λ (i : Id). i.generation < 2 ^ 31) same
       (held_few (2 ^ 31) s.arena.slots x (slice_get s.arena.slots x.slot) (content.Handle k) refl f able.small.freed)
 
-pub ruleset walks = (watched_small, able_small, front_there, front_freed)
+pub request_freed : (s : State) (ids : List Id) (id : Id) (r : Request) → front_request s ids ≡ Some (id, r) → CanStep s → id.generation < 2 ^ 31
+request_freed s [] id r e able = cc e
+request_freed s (x ∷ ids) id r e able = at (held s.arena.slots x) refl e where
+  at : (c : Option Content) → held s.arena.slots x ≡ c → with_id x (request_in c) ≡ Some (id, r) → id.generation < 2 ^ 31
+  at None f g = cc g
+  at (Some (content.Handle h)) f g = cc g
+  at (Some (content.Request k)) f g =
+      let same : x ≡ id = ap (λ (t : Id × Request). t.0) (same_Some _ _ g) in
+      subst (λ (i : Id). i.generation < 2 ^ 31) same
+      (held_few (2 ^ 31) s.arena.slots x (slice_get s.arena.slots x.slot) (content.Request k) refl f able.small.freed)
+
+pub ruleset walks = (watched_small, able_small, front_there, front_freed, request_there, request_freed)

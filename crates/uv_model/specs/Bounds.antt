@@ -30,7 +30,7 @@ AreDrawn s = All (λ (slot : Slot Content). HoldsBefore s.next_start (handle_in 
 
 -- each of these counts is smaller than that
 abbrev pub AreBelow : ℕ → Counts → Type 0
-AreBelow n c = (c.handle < n) × (c.close < n)
+AreBelow n c = (c.handle < n) × (c.after < n) × (c.close < n)
 
 -- the numbers fit their types
 pub record IsSmall (s : State) : Type 0 where

@@ -2,6 +2,7 @@ pub mod Found
 pub mod Ids
 pub mod Content
 pub mod State
+pub mod Queries
 pub mod Timers
 pub mod Timeout
 pub mod Ops

@@ -1,5 +1,5 @@
 -- One step of the loop: a place and what holds there give the line and the next place (design overview, the order of 1.45).
-use Rattle.std.specs.Prelude.{ℕ, ◌+◌, ◌^◌, List, [], ◌∷◌, ◌++◌, Bool, true, false, ◌&&◌, not, drop, Option, Some, None, slice_get, length, nat_le, nat_lt, ◌||◌, if◌then◌else◌}
+use Rattle.std.specs.Prelude.{ℕ, ◌+◌, ◌^◌, List, [], ◌∷◌, ◌++◌, Bool, true, false, ◌&&◌, not, drop, Option, Some, None, Result, Ok, Err, slice_get, slice_set, length, nat_le, nat_lt, ◌||◌, if◌then◌else◌}
 use Rattle.uv_ids.specs.declared.id.Id.{Id}
 use Rattle.uv_ids.specs.declared.id.Var.{Var}
 use Rattle.uv_ids.specs.declared.due.Due.{Due}
@@ -8,18 +8,19 @@ use Rattle.uv_ids.specs.declared.phase.Mode.TheVariants.{Default, Once, Nowait}
 use Rattle.uv_ids.specs.declared.phase.Phase.{Phase}
 use Rattle.uv_ids.specs.declared.phase.Phase.TheVariants as phase
 use Rattle.uv_ids.specs.declared.event.Event.{Event}
-use Rattle.uv_ids.specs.declared.event.Event.TheVariants.{Loop, Send, Tick}
+use Rattle.uv_ids.specs.declared.event.Event.TheVariants.{Loop, Take, Finish, Cancel, Send, Tick}
 use Rattle.uv_ids.specs.declared.seen.Seen.{Seen}
 use Rattle.uv_ids.specs.declared.seen.Seen.TheVariants as seen
 use Rattle.uv_ids.specs.declared.seen.Callback.{Callback}
 use Rattle.uv_ids.specs.declared.seen.Callback.TheVariants as callback
 use Rattle.uv_ids.specs.declared.seen.Site.TheVariants as site
 use Rattle.uv_ids.specs.declared.fault.Why.{Why}
-use Rattle.uv_ids.specs.declared.fault.Why.TheVariants.{Blocked, Ended, Range}
+use Rattle.uv_ids.specs.declared.fault.Why.TheVariants.{Blocked, Ended, NoWork, BusyWorker, IdleWorker, NoWorker, Range}
 use Rattle.uv_script.specs.declared.op.MainOp.{MainOp}
 use Rattle.uv_script.specs.declared.op.MainOp.TheVariants as main
 use Rattle.uv_script.specs.declared.op.CallbackLine.{CallbackLine}
 use Rattle.uv_script.specs.Program.{Program, arena_size, lines_in, is_for}
+use Rattle.uv_script.specs.Tasks.{text_of}
 use Rattle.uv_model.specs.declared.place.Body.{Body}
 use Rattle.uv_model.specs.declared.place.Run.{Run}
 use Rattle.uv_model.specs.declared.place.Stage.{Stage}
@@ -37,12 +38,16 @@ use Rattle.uv_records.specs.Handles as records
 use Rattle.uv_records.specs.Lists.{phase_of}
 use Rattle.uv_records.specs.Slots.{freed}
 use Rattle.uv_records.specs.Walks.{all_yet, moved_on}
+use Rattle.uv_work.specs.Digests.{digest_of}
+use Rattle.uv_work.specs.declared.outcome.Outcome.TheVariants.{Finished}
+use Rattle.uv_model.specs.declared.request.Request.{Request}
+use Rattle.uv_model.specs.Content.{digest_in}
 use Rattle.uv_model.specs.Found.{found_or}
 use Rattle.uv_model.specs.Ids.{has_some}
-use Rattle.uv_model.specs.State.{State, live, handle, with_id, with_handle, named, with_named, count_of, counted, front, watched, with_watched, refreshed}
+use Rattle.uv_model.specs.State.{State, live_handle, live_request, handle, request, with_id, front_request, with_handle, named, with_named, count_of, counted, front, watched, with_watched, refreshed}
 use Rattle.uv_model.specs.Timers.{restarted}
 use Rattle.uv_model.specs.Timeout.{is_alive, has_pending, poll_timeout, deadline_of, has_passed}
-use Rattle.uv_model.specs.Ops.{do_op, send}
+use Rattle.uv_model.specs.Ops.{do_op, send, cancel, ended}
 
 -- what an event does: the state after it and the line that it appends, if it appends one; or why it is refused
 pub data Next : Type 0 where
@@ -105,12 +110,16 @@ begin_poll s run =
     let timeout = poll_timeout s run.mode in
     Moves (at s run (Poll (deadline_of s timeout))) (Some (seen.Poll timeout))
 
--- the poll is left when its deadline has passed, or an async handle was sent to; on leaving it the time is refreshed
+-- the poll is left when its deadline has passed, a request is done, or an async handle was sent to
 abbrev pub may_leave : State → Option ℕ → Bool
-may_leave s deadline = has_passed s.clock deadline || has_pending s
+may_leave s deadline = has_passed s.clock deadline || (has_some s.done.list || has_pending s)
+
+-- on leaving it the time is refreshed, and the requests that are done are yet to call back
+abbrev pub begin_done : State → Run → Next
+begin_done s run = begins (record (refreshed s) { done = all_yet s.done }) run Done phase.Done
 
 abbrev pub poll : State → Run → Option ℕ → Next
-poll s run deadline = if may_leave s deadline then begins (refreshed s) run Done phase.Done else Refuses Blocked
+poll s run deadline = if may_leave s deadline then begin_done s run else Refuses Blocked
 
 -- the timers of an iteration begin with the time refreshed
 abbrev pub begin_timers : State → Run → Next
@@ -208,6 +217,15 @@ close_front p s run = found_or (front s s.closing.yet)
     calls p gone run callback.Close t.1.name (seen.Closed t.1.name t.0))
     (begin_timers s run)
 
+-- the front of the requests that are done leaves its list, its slot is freed and its after callback begins; with none the async
+-- handles begin
+abbrev pub collect_request : Program → State → Run → Next
+collect_request p s run = found_or (front_request s s.done.yet)
+    (λ t.
+    let gone = record s { arena = freed (arena_size p).last_generation t.0 s.arena; done = record s.done { yet = drop 1 s.done.yet } } in
+    calls p gone run callback.After t.1.name (seen.After (digest_in t.1.outcome) t.1.name t.0))
+    (begin_walk s run watcher.Async)
+
 -- what a run does next where no body is under way
 abbrev pub stage_step : Program → State → Run → Stage → Next
 stage_step p s run Entry = enter s run
@@ -215,7 +233,7 @@ stage_step p s run Pending = begin_walk s run watcher.Idle
 stage_step p s run Idle = walk p s run watcher.Idle
 stage_step p s run Prepare = walk p s run watcher.Prepare
 stage_step p s run (Poll deadline) = poll s run deadline
-stage_step p s run Done = begin_walk s run watcher.Async
+stage_step p s run Done = collect_request p s run
 stage_step p s run Async = walk_async p s run
 stage_step p s run Check = walk p s run watcher.Check
 stage_step p s run Closing = close_front p s run
@@ -259,11 +277,47 @@ tick s ms = if nat_le (s.clock + ms) LATEST then Moves (record s { clock = s.clo
 -- an async handle is sent to from outside, by its name
 abbrev pub sent_to : State → Var → Next
 sent_to s v =
-    let done = send s (live s v) in
+    let done = send s (live_handle s v) in
     if nat_lt v.0 (length s.names) then Moves done.state (Some (seen.Send v done.code)) else Refuses Range
+
+-- ---- the thread pool
+
+-- what a worker may take, by what it runs: there has to be such a worker, which runs nothing, and the request that waits longest
+abbrev pub next_work : State → Option (Option Id) → Result (Id × Request) Why
+next_work s None = Err NoWorker
+next_work s (Some (Some id)) = Err BusyWorker
+next_work s (Some None) = found_or (front_request s s.waiting) Ok (Err NoWork)
+
+-- the worker runs it
+abbrev pub take : State → ℕ → Result (Id × Request) Why → Next
+take s k (Err why) = Refuses why
+take s k (Ok t) =
+    Moves (record s { waiting = drop 1 s.waiting; running = slice_set s.running k (Some t.0) }) (Some (seen.Take k t.1.name t.0))
+
+-- what a worker may finish, by what it runs: there has to be such a worker, and the request that it runs
+abbrev pub work_of : State → Option (Option Id) → Result (Id × Request) Why
+work_of s None = Err NoWorker
+work_of s (Some None) = Err IdleWorker
+work_of s (Some (Some id)) = found_or (with_id id (request s id)) Ok (Err IdleWorker)
+
+-- the worker runs nothing any more, and the request is finished with the digest of its job
+abbrev pub finish : State → ℕ → Result (Id × Request) Why → Next
+finish s k (Err why) = Refuses why
+finish s k (Ok t) = Moves
+    (ended (record s { running = slice_set s.running k None }) t.0 t.1 (Finished (digest_of t.1.task.rounds (text_of t.1.task))))
+    (Some (seen.Finish k t.1.name t.0))
+
+-- a request is cancelled from outside, by its name
+abbrev pub cancels : State → Var → Next
+cancels s v =
+    let done = cancel s (live_request s v) in
+    if nat_lt v.0 (length s.names) then Moves done.state (Some (seen.Cancel v done.answer)) else Refuses Range
 
 -- one step
 unfoldable pub next : Program → State → Event → Next
 next p s Loop = loop_step p s s.place
+next p s (Take k) = take s k (next_work s (slice_get s.running k))
+next p s (Finish k) = finish s k (work_of s (slice_get s.running k))
+next p s (Cancel v) = cancels s v
 next p s (Send v) = sent_to s v
 next p s (Tick ms) = tick s ms

@@ -1,14 +1,15 @@
 -- What each op answers and changes. Of several answers the first that holds is given; a refusal changes nothing.
-use Rattle.std.specs.Prelude.{ℕ, Bool, true, false, Option, Some, None, if◌then◌else◌}
+use Rattle.std.specs.Prelude.{ℕ, Bool, true, false, Option, Some, None, Result, Ok, Err, [], ◌∷◌, ◌++◌, if◌then◌else◌}
 use Rattle.std.specs.List.{list_any}
 use Rattle.uv_ids.specs.declared.id.Id.{Id}
 use Rattle.uv_ids.specs.declared.id.Var.{Var}
 use Rattle.uv_ids.specs.declared.phase.Kind.{Kind}
 use Rattle.uv_ids.specs.declared.code.Code.{Code}
-use Rattle.uv_ids.specs.declared.code.Code.TheVariants.{Ok as Success, Ebusy, Ebound, Efull, Estale}
+use Rattle.uv_ids.specs.declared.code.Code.TheVariants.{Ok as Success, Ebusy, Ebound, Efull}
 use Rattle.uv_ids.specs.declared.code.Answer.{Answer}
 use Rattle.uv_ids.specs.declared.code.Answer.TheVariants as answer
 use Rattle.uv_script.specs.declared.op.Op.{Op}
+use Rattle.uv_script.specs.declared.task.Task.{Task}
 use Rattle.uv_script.specs.declared.op.Op.TheVariants as op
 use Rattle.uv_records.specs.declared.handle.HandleRecord.{HandleRecord}
 use Rattle.uv_records.specs.declared.lists.WatcherKind.{WatcherKind}
@@ -19,11 +20,15 @@ use Rattle.uv_records.specs.Lists.{watcher_kind}
 use Rattle.uv_records.specs.Refusals.{no_refusal, timer_refusal, start_timer_refusal, start_watcher_refusal, stop_refusal, again_refusal, close_refusal, send_refusal}
 use Rattle.uv_records.specs.Slots.{next_free, taken}
 use Rattle.uv_records.specs.Walks.{with_first, with_last}
+use Rattle.uv_work.specs.declared.outcome.Outcome.{Outcome}
+use Rattle.uv_work.specs.declared.outcome.Outcome.TheVariants.{Cancelled}
 use Rattle.uv_model.specs.declared.content.Content.{Content}
 use Rattle.uv_model.specs.declared.content.Content.TheVariants as content
-use Rattle.uv_model.specs.Content.{is_used}
+use Rattle.uv_model.specs.Content.{is_used, queued}
+use Rattle.uv_model.specs.declared.request.Request.{Request}
 use Rattle.uv_model.specs.Found.{found_or}
-use Rattle.uv_model.specs.State.{State, live, named, with_named, with_handle, watched, with_watched, refreshed}
+use Rattle.uv_model.specs.Ids.{same_id, without_id}
+use Rattle.uv_model.specs.State.{State, live, live_handle, live_request, named, with_named, with_handle, with_request, watched, with_watched, refreshed}
 use Rattle.uv_model.specs.Timers.{taken_off, stopped, started, restarted, due_in}
 use Rattle.uv_model.specs.Timeout.{is_alive, backend_timeout}
 
@@ -48,22 +53,24 @@ succeeds s = says s (answer.Code Success)
 abbrev pub listed_last : State → Kind → Id → State
 listed_last s kind id = if is_async kind then record s { async = with_last s.async id } else s
 
+-- a name is bound to the id that a new handle or request of it gets
+abbrev pub bound_to : State → Var → Id → State
+bound_to s v id = with_named s v (record (named s v) { id = Some id })
+
 -- the state with a new handle of a name, under an id that is free
 abbrev pub with_new : State → Var → Kind → Id → State
-with_new s v kind id = with_named
-    (listed_last (record s { arena = taken id (content.Handle (inited v kind)) s.arena }) kind id)
-    v
-    (record (named s v) { id = Some id })
+with_new s v kind id = bound_to (listed_last (record s { arena = taken id (content.Handle (inited v kind)) s.arena }) kind id) v id
 
--- `init v KIND`: EBOUND if v is live; EFULL if no slot is left; else v is bound to a new handle, whose id is the answer
-abbrev pub init : State → Var → Kind → Option (Id × HandleRecord) → Done
-init s v kind (Some bound) = refuses s Ebound
-init s v kind None = found_or (next_free s.arena) (λ id. record { state = with_new s v kind id; answer = answer.Id id }) (refuses s Efull)
+-- `init v KIND`, `queue v r text`: EBOUND if v is live; EFULL if no slot is left; else v is bound to what is made under the next free
+-- id, which is the answer
+abbrev pub make : State → Option (Id × Content) → (Id → State) → Done
+make s (Some bound) made = refuses s Ebound
+make s None made = found_or (next_free s.arena) (λ id. record { state = made id; answer = answer.Id id }) (refuses s Efull)
 
--- an op on a handle: ESTALE if v isn't live; else refused as its record says, or done
-abbrev pub on_handle : State → Option (Id × HandleRecord) → (HandleRecord → Option Code) → (Id → HandleRecord → Done) → Done
-on_handle s None why f = refuses s Estale
-on_handle s (Some t) why f = found_or (why t.1) (refuses s) (f t.0 t.1)
+-- an op on a handle: ESTALE if v isn't live, EKIND if it is a request; else refused as its record says, or done
+abbrev pub on_handle : State → Result (Id × HandleRecord) Code → (HandleRecord → Option Code) → (Id → HandleRecord → Done) → Done
+on_handle s (Err code) why f = refuses s code
+on_handle s (Ok t) why f = found_or (why t.1) (refuses s) (f t.0 t.1)
 
 -- `stop v`: stopped
 abbrev pub stop : State → Id → HandleRecord → Done
@@ -100,10 +107,10 @@ pub record Coded : Type 0 where
   pub state : State
   pub code : Code
 
--- `send v`: ESTALE if v isn't live; else refused as its record says, or a callback is pending
-abbrev pub send : State → Option (Id × HandleRecord) → Coded
-send s None = record { state = s; code = Estale }
-send s (Some t) = found_or (send_refusal t.1)
+-- `send v`: ESTALE if v isn't live, EKIND if it is a request; else refused as its record says, or a callback is pending
+abbrev pub send : State → Result (Id × HandleRecord) Code → Coded
+send s (Err code) = record { state = s; code = code }
+send s (Ok t) = found_or (send_refusal t.1)
     (λ code. record { state = s; code = code })
     (record { state = with_handle s t.0 (records.sent t.1); code = Success })
 
@@ -131,27 +138,54 @@ set_repeat s n id h = succeeds (with_handle s id (repeating n h))
 abbrev pub is_in_use : State → Bool
 is_in_use s = list_any (λ (slot : Slot Content). is_used slot.content) s.arena.slots
 
--- `closeloop`: EBUSY if some slot holds a handle; else ok. It changes nothing (uv_loop_close)
+-- `closeloop`: EBUSY if some slot holds a handle or a request; else ok. It changes nothing (uv_loop_close)
 abbrev pub close_loop : State → Done
 close_loop s = if is_in_use s then refuses s Ebusy else succeeds s
+
+-- ---- requests
+
+-- the state with a new request of a name, under an id that is free: it waits for a worker, behind the others
+abbrev pub with_queued : State → Var → Task → Id → State
+with_queued s v task id = bound_to
+    (record s { arena = taken id (content.Request (queued v task)) s.arena; waiting = s.waiting ++ id ∷ [] })
+    v
+    id
+
+-- a request that is finished or cancelled: it goes to the end of those whose after callback is still to come
+abbrev pub ended : State → Id → Request → Outcome → State
+ended s id r outcome = with_request (record s { done = with_last s.done id }) id (record r { outcome = outcome })
+
+-- a request that waits is cancelled
+abbrev pub cancelled : State → Id → Request → State
+cancelled s id r = ended (record s { waiting = without_id s.waiting id }) id r Cancelled
+
+-- `cancel v`: ESTALE if v isn't live, EKIND if it is a handle; EBUSY unless it waits for a worker; else cancelled
+abbrev pub cancel : State → Result (Id × Request) Code → Done
+cancel s (Err code) = refuses s code
+cancel s (Ok t) =
+    if list_any (same_id t.0) s.waiting
+    then record { state = cancelled s t.0 t.1; answer = answer.Cancelled t.0 }
+    else refuses s Ebusy
 
 -- ---- any op
 
 abbrev pub do_op : State → Op → Done
-do_op s (op.Init v kind) = init s v kind (live s v)
-do_op s (op.Start v timeout repeat) = on_handle s (live s v) start_timer_refusal (start s timeout repeat)
-do_op s (op.StartWatcher v) = on_handle s (live s v) start_watcher_refusal (start_watcher s)
-do_op s (op.Stop v) = on_handle s (live s v) stop_refusal (stop s)
-do_op s (op.Again v) = on_handle s (live s v) again_refusal (again s)
-do_op s (op.SetRepeat v n) = on_handle s (live s v) timer_refusal (set_repeat s n)
-do_op s (op.DueIn v) = on_handle s (live s v) timer_refusal (λ id h. says s (answer.Number (due_in s h)))
-do_op s (op.Close v) = on_handle s (live s v) close_refusal (close s)
-do_op s (op.Ref v) = on_handle s (live s v) no_refusal (set_referenced s true)
-do_op s (op.Unref v) = on_handle s (live s v) no_refusal (set_referenced s false)
-do_op s (op.HasRef v) = on_handle s (live s v) no_refusal (λ id h. says s (answer.Flag h.referenced))
-do_op s (op.IsActive v) = on_handle s (live s v) no_refusal (λ id h. says s (answer.Flag h.active))
-do_op s (op.IsClosing v) = on_handle s (live s v) no_refusal (λ id h. says s (answer.Flag h.closing))
-do_op s (op.Send v) = says_code (send s (live s v))
+do_op s (op.Init v kind) = make s (live s v) (with_new s v kind)
+do_op s (op.Queue v task) = make s (live s v) (with_queued s v task)
+do_op s (op.Cancel v) = cancel s (live_request s v)
+do_op s (op.Start v timeout repeat) = on_handle s (live_handle s v) start_timer_refusal (start s timeout repeat)
+do_op s (op.StartWatcher v) = on_handle s (live_handle s v) start_watcher_refusal (start_watcher s)
+do_op s (op.Stop v) = on_handle s (live_handle s v) stop_refusal (stop s)
+do_op s (op.Again v) = on_handle s (live_handle s v) again_refusal (again s)
+do_op s (op.SetRepeat v n) = on_handle s (live_handle s v) timer_refusal (set_repeat s n)
+do_op s (op.DueIn v) = on_handle s (live_handle s v) timer_refusal (λ id h. says s (answer.Number (due_in s h)))
+do_op s (op.Close v) = on_handle s (live_handle s v) close_refusal (close s)
+do_op s (op.Ref v) = on_handle s (live_handle s v) no_refusal (set_referenced s true)
+do_op s (op.Unref v) = on_handle s (live_handle s v) no_refusal (set_referenced s false)
+do_op s (op.HasRef v) = on_handle s (live_handle s v) no_refusal (λ id h. says s (answer.Flag h.referenced))
+do_op s (op.IsActive v) = on_handle s (live_handle s v) no_refusal (λ id h. says s (answer.Flag h.active))
+do_op s (op.IsClosing v) = on_handle s (live_handle s v) no_refusal (λ id h. says s (answer.Flag h.closing))
+do_op s (op.Send v) = says_code (send s (live_handle s v))
 do_op s op.StopLoop = succeeds (record s { stop_flag = true })
 do_op s op.UpdateTime = succeeds (refreshed s)
 do_op s op.Now = says s (answer.Number s.time)

@@ -1,8 +1,10 @@
 -- The state of a loop: slots, plain lists, a map in the order of timers, and numbers.
-use Rattle.std.specs.Prelude.{ℕ, ◌+◌, Bool, false, List, [], ◌∷◌, length, Option, Some, None, unwrap_or, replicate, slice_get, slice_set}
+use Rattle.std.specs.Prelude.{ℕ, ◌+◌, Bool, false, List, [], ◌∷◌, length, Option, Some, None, Result, Ok, Err, unwrap_or, replicate, slice_get, slice_set}
 use Rattle.uv_ids.specs.declared.id.Id.{Id}
 use Rattle.uv_ids.specs.declared.id.Var.{Var}
 use Rattle.uv_ids.specs.declared.due.Due.{Due}
+use Rattle.uv_ids.specs.declared.code.Code.{Code}
+use Rattle.uv_ids.specs.declared.code.Code.TheVariants.{Estale, Ekind}
 use Rattle.uv_ids.specs.declared.seen.Callback.{Callback}
 use Rattle.uv_ids.specs.declared.seen.Callback.TheVariants as callback
 use Rattle.uv_records.specs.declared.handle.HandleRecord.{HandleRecord}
@@ -10,21 +12,22 @@ use Rattle.uv_records.specs.declared.lists.WatcherKind.{WatcherKind}
 use Rattle.uv_records.specs.declared.lists.WatcherKind.TheVariants as watcher
 use Rattle.uv_records.specs.Slots.{Slots, unused_slots, held, with_held}
 use Rattle.uv_records.specs.Walks.{Walk, nothing_listed}
-use Rattle.uv_script.specs.Program.{Program, arena_size}
+use Rattle.uv_script.specs.Program.{Program, arena_size, worker_count}
 use Rattle.uv_model.specs.declared.content.Content.{Content}
 use Rattle.uv_model.specs.declared.content.Content.TheVariants as content
+use Rattle.uv_model.specs.declared.request.Request.{Request}
 use Rattle.uv_model.specs.declared.named.Counts.{Counts}
 use Rattle.uv_model.specs.declared.named.Named.{Named}
 use Rattle.uv_model.specs.declared.place.Place.{Place}
 use Rattle.uv_model.specs.declared.place.Place.TheVariants.{Main}
-use Rattle.uv_model.specs.Content.{handle_in}
+use Rattle.uv_model.specs.Content.{handle_in, request_in}
 
 pub record State : Type 0 where
   -- where the loop stands
   pub place : Place
   -- for each name, what it is bound to and how often its callbacks were called
   pub names : List Named
-  -- the slots that hold the handles
+  -- the slots that hold the handles and the requests
   pub arena : Slots Content
   -- the active timers, by due time and then by start number
   pub timers : List (Due × Id)
@@ -37,6 +40,12 @@ pub record State : Type 0 where
   pub async : Walk Id
   -- the handles whose close callback is still to come
   pub closing : Walk Id
+  -- the requests that wait for a worker, the one that waits longest first
+  pub waiting : List Id
+  -- what each worker of the thread pool runs, by its number
+  pub running : List (Option Id)
+  -- the requests that were finished or cancelled, whose after callback is still to come, in that order
+  pub done : Walk Id
   -- the loop's cached time in ms (uv_now)
   pub time : ℕ
   -- the clock in ms
@@ -49,7 +58,7 @@ pub record State : Type 0 where
   pub idled : Bool
 
 abbrev pub never_called : Counts
-never_called = record { handle = 0; close = 0 }
+never_called = record { handle = 0; after = 0; close = 0 }
 
 -- a name that is bound to nothing and was never called
 abbrev pub unbound : Named
@@ -68,6 +77,9 @@ fresh p = record {
   check = nothing_listed Id;
   async = nothing_listed Id;
   closing = nothing_listed Id;
+  waiting = [];
+  running = replicate (worker_count p) None;
+  done = nothing_listed Id;
   time = 0;
   clock = 0;
   next_start = 0;
@@ -75,7 +87,7 @@ fresh p = record {
   idled = false;
 }
 
--- ---- handles
+-- ---- handles and requests
 
 -- the handle of an id whose slot still holds it
 abbrev pub handle : State → Id → Option HandleRecord
@@ -85,15 +97,28 @@ handle s id = handle_in (held s.arena.slots id)
 abbrev pub with_handle : State → Id → HandleRecord → State
 with_handle s id h = record s { arena = record s.arena { slots = with_held s.arena.slots id (content.Handle h) } }
 
--- an id with its handle
-abbrev pub with_id : Id → Option HandleRecord → Option (Id × HandleRecord)
+-- the request of an id whose slot still holds it
+abbrev pub request : State → Id → Option Request
+request s id = request_in (held s.arena.slots id)
+
+-- the state with this record in the slot of an id
+abbrev pub with_request : State → Id → Request → State
+with_request s id r = record s { arena = record s.arena { slots = with_held s.arena.slots id (content.Request r) } }
+
+-- an id with what it stands for
+abbrev pub with_id : {X : Type 0} → Id → Option X → Option (Id × X)
 with_id id None = None
-with_id id (Some h) = Some (id, h)
+with_id id (Some x) = Some (id, x)
 
 -- the front of a list of handles
 abbrev pub front : State → List Id → Option (Id × HandleRecord)
 front s [] = None
 front s (id ∷ ids) = with_id id (handle s id)
+
+-- the front of a list of requests
+abbrev pub front_request : State → List Id → Option (Id × Request)
+front_request s [] = None
+front_request s (id ∷ ids) = with_id id (request s id)
 
 -- ---- names
 
@@ -108,20 +133,46 @@ with_named s v n = record s { names = slice_set s.names v.0 n }
 -- how often one of a name's callbacks was called
 abbrev pub count_of : Callback → Counts → ℕ
 count_of callback.Handle c = c.handle
+count_of callback.After c = c.after
 count_of callback.Close c = c.close
 
 -- one call more
 abbrev pub counted : Callback → Counts → Counts
 counted callback.Handle c = record c { handle = c.handle + 1 }
+counted callback.After c = record c { after = c.after + 1 }
 counted callback.Close c = record c { close = c.close + 1 }
 
--- the id and the handle of a name that is live: its slot still holds the handle that the name was bound to
-abbrev pub live_id : State → Option Id → Option (Id × HandleRecord)
+-- the id of a name that is live, and what its slot holds: still the handle or the request that the name was bound to
+abbrev pub live_id : State → Option Id → Option (Id × Content)
 live_id s None = None
-live_id s (Some id) = with_id id (handle s id)
+live_id s (Some id) = with_id id (held s.arena.slots id)
 
-abbrev pub live : State → Var → Option (Id × HandleRecord)
+abbrev pub live : State → Var → Option (Id × Content)
 live s v = live_id s (named s v).id
+
+-- the handle of a name, for an op on handles: ESTALE if the name isn't live, EKIND if it is a request's
+abbrev pub handle_at : Id → Content → Result (Id × HandleRecord) Code
+handle_at id (content.Handle h) = Ok (id, h)
+handle_at id (content.Request r) = Err Ekind
+
+abbrev pub as_handle : Option (Id × Content) → Result (Id × HandleRecord) Code
+as_handle None = Err Estale
+as_handle (Some t) = handle_at t.0 t.1
+
+abbrev pub live_handle : State → Var → Result (Id × HandleRecord) Code
+live_handle s v = as_handle (live s v)
+
+-- the request of a name, for an op on requests: ESTALE if the name isn't live, EKIND if it is a handle's
+abbrev pub request_at : Id → Content → Result (Id × Request) Code
+request_at id (content.Handle h) = Err Ekind
+request_at id (content.Request r) = Ok (id, r)
+
+abbrev pub as_request : Option (Id × Content) → Result (Id × Request) Code
+as_request None = Err Estale
+as_request (Some t) = request_at t.0 t.1
+
+abbrev pub live_request : State → Var → Result (Id × Request) Code
+live_request s v = as_request (live s v)
 
 -- ---- lists
 

@@ -12,6 +12,8 @@ use std::marker::Model;
 use uv_ids::Id;
 use uv_records::Slot;
 
+mod queries;
+
 /// The slots that were ever used, the free ones of them, and the number of those that never were.
 #[derive(Drop)]
 pub struct Arena {

@@ -1,13 +1,15 @@
 //! What the arena's slots hold.
 ghost use Rattle.std.specs.Prelude.{◌≡◌};
-ghost use Rattle.uv_model.specs.Content.{handle_in, content_keeps, content_pends, is_used};
+ghost use Rattle.uv_model.specs.Content.{handle_in, request_in, content_keeps, content_pends, is_used};
 
+use crate::request::Request;
 use uv_records::HandleRecord;
 
 /// What a slot holds.
 #[derive(Clone, Copy, Debug, PartialEq, Eq)]
 pub enum Content {
     Handle(HandleRecord),
+    Request(Request),
 }
 
 /// The handle that a slot holds, if it holds one.
@@ -15,8 +17,18 @@ pub fn handle_in(content: Option<Content>) -> Option<HandleRecord>
     ensures { result ≡ handle_in content }
 {
     match content {
-        None => None,
         Some(Content::Handle(handle)) => Some(handle),
+        None | Some(Content::Request(_)) => None,
+    }
+}
+
+/// The request that a slot holds, if it holds one.
+pub fn request_in(content: Option<Content>) -> Option<Request>
+    ensures { result ≡ request_in content }
+{
+    match content {
+        Some(Content::Request(request)) => Some(request),
+        None | Some(Content::Handle(_)) => None,
     }
 }
 
@@ -27,6 +39,7 @@ pub fn content_keeps(content: Option<Content>) -> bool
     match content {
         None => false,
         Some(Content::Handle(handle)) => handle.keeps_alive(),
+        Some(Content::Request(_)) => true,
     }
 }
 
@@ -35,8 +48,8 @@ pub fn content_pends(content: Option<Content>) -> bool
     ensures { result ≡ content_pends content }
 {
     match content {
-        None => false,
         Some(Content::Handle(handle)) => handle.pending,
+        None | Some(Content::Request(_)) => false,
     }
 }
 

@@ -7,13 +7,17 @@ mod content;
 mod ids;
 mod machine;
 mod named;
+mod numbers;
 mod place;
 mod plain;
+mod request;
 mod state;
 mod walked;
 
 pub use content::Content;
 pub use machine::{Machine, Outcome, STEPS};
 pub use named::{Counts, Named};
+pub use numbers::Numbers;
 pub use place::{Body, Place, Run, Stage, TimersOf, Timing};
 pub use plain::PlainLoop;
+pub use request::Request;

@@ -4,8 +4,13 @@ ghost use Rattle.uv_ids.specs.declared.event.Event.{Event};
 ghost use Rattle.uv_ids.specs.declared.fault.Fault.TheVariants.{Memory};
 ghost use Rattle.uv_script.specs.Program.{Program};
 
+use crate::content::Content;
+use crate::named::Named;
+use crate::numbers::Numbers;
+use crate::place::Place;
 use std::alloc::Global;
-use uv_ids::{Event, Fault, Seen};
+use uv_ids::{Event, Fault, Id, Seen, Var};
+use uv_records::{ListName, Slot};
 use uv_script::Script;
 
 /// The most steps that a machine takes (own).
@@ -20,7 +25,10 @@ pub struct Outcome {
 
 /// A loop that goes on and back, seen as its script and its standing steps. Its state is the one after these steps.
 pub trait Machine: Drop {
-    ghost use Rattle.uv_model.specs.After.{Answers, GoesBack, seen_by, STEPS};
+    ghost use Rattle.uv_model.specs.After.{Answers, GoesBack, after, seen_by, STEPS};
+    ghost use Rattle.uv_model.specs.State.{named};
+    ghost use Rattle.uv_model.specs.Queries.{numbers, timer_ids, members, is_free, run_by, worker_of};
+    ghost use Rattle.uv_records.specs.Slots.{held};
 
     ghost program: { Self → Program };
 
@@ -53,4 +61,65 @@ pub trait Machine: Drop {
 
     fn script(&self) -> &Script
         ensures { result.now ≡ program self.now };
+
+    // What can be asked of the state.
+
+    /// Where the loop stands.
+    fn place(&self) -> Place
+        ensures { result ≡ (after (program self.now) (standing self.now)).place };
+
+    /// The numbers and flags.
+    fn numbers(&self) -> Numbers
+        ensures { result ≡ numbers (after (program self.now) (standing self.now)) };
+
+    /// What a name is bound to, and how often its callbacks were called.
+    fn named(&self, name: Var) -> Named
+        ensures { result ≡ named (after (program self.now) (standing self.now)) name };
+
+    /// How many slots were ever used.
+    fn used(&self) -> u32
+        ensures { result ≡ length (after (program self.now) (standing self.now)).arena.slots };
+
+    /// A slot that was used: its generation, and what it holds.
+    fn slot(&self, number: u32) -> Option<Slot<Content>>
+        ensures { result ≡ slice_get (after (program self.now) (standing self.now)).arena.slots number };
+
+    /// Whether a slot is on the free list.
+    fn is_free(&self, number: u32) -> bool
+        ensures { result ≡ is_free (after (program self.now) (standing self.now)) number };
+
+    /// What is held under an id.
+    fn held(&self, id: Id) -> Option<Content>
+        ensures { result ≡ held (after (program self.now) (standing self.now)).arena.slots id };
+
+    /// The numbers of the free slots, front first.
+    fn free(&self) -> Result<Vec<u32>, Fault>
+        ensures free { IfOk result (λ free. free.items ≡ (after (program self.now) (standing self.now)).arena.free) }
+        ensures err { IfErr result (λ fault. fault ≡ Memory) };
+
+    /// How many slots were never used.
+    fn unused(&self) -> u32
+        ensures { result ≡ (after (program self.now) (standing self.now)).arena.unused };
+
+    /// The active timers, in the order in which they are due.
+    fn timers(&self) -> Result<Vec<Id>, Fault>
+        ensures timers { IfOk result (λ ids. ids.items ≡ timer_ids (after (program self.now) (standing self.now))) }
+        ensures err { IfErr result (λ fault. fault ≡ Memory) };
+
+    /// How many workers the thread pool has.
+    fn workers(&self) -> usize
+        ensures { result ≡ length (after (program self.now) (standing self.now)).running };
+
+    /// The request that a worker runs, the first worker being 0.
+    fn run_by(&self, worker: usize) -> Option<Id>
+        ensures { result ≡ run_by (after (program self.now) (standing self.now)) worker };
+
+    /// The worker that runs a request.
+    fn worker_of(&self, id: Id) -> Option<usize>
+        ensures { result ≡ worker_of (after (program self.now) (standing self.now)) id };
+
+    /// The members of a list, front first.
+    fn members(&self, list: ListName) -> Result<Vec<Id>, Fault>
+        ensures members { IfOk result (λ ids. ids.items ≡ members (after (program self.now) (standing self.now)) list) }
+        ensures err { IfErr result (λ fault. fault ≡ Memory) };
 }

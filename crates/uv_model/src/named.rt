@@ -10,6 +10,8 @@ use uv_ids::{Callback, Id};
 pub struct Counts {
     /// Its handle callback.
     pub handle: u32,
+    /// Its after callback.
+    pub after: u32,
     /// Its close callback.
     pub close: u32,
 }
@@ -21,6 +23,7 @@ impl Counts {
     {
         match kind {
             Callback::Handle => self.handle,
+            Callback::After => self.after,
             Callback::Close => self.close,
         }
     }
@@ -35,6 +38,10 @@ impl Counts {
                 handle: self.handle + 1,
                 ..self
             },
+            Callback::After => Counts {
+                after: self.after + 1,
+                ..self
+            },
             Callback::Close => Counts {
                 close: self.close + 1,
                 ..self
@@ -46,7 +53,7 @@ impl Counts {
 /// What a name is bound to, and how often its callbacks were called.
 #[derive(Clone, Copy, Debug, PartialEq, Eq)]
 pub struct Named {
-    /// The id that the last `init` of the name gave. It stays when the slot is freed.
+    /// The id that the last `init` or `queue` of the name gave. It stays when the slot is freed.
     pub id: Option<Id>,
     pub calls: Counts,
 }
@@ -58,6 +65,7 @@ impl Named {
     {
         let calls = Counts {
             handle: 0,
+            after: 0,
             close: 0,
         };
         Named { id: None, calls }

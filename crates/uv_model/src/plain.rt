@@ -4,11 +4,16 @@ ghost use Rattle.uv_model.specs.After.{after, state_of, STEPS};
 ghost use Rattle.uv_model.specs.Next.{next};
 ghost use Rattle.uv_model.specs.Bounds.{CanStep};
 
+use crate::content::Content;
 use crate::machine::{Machine, Outcome, STEPS};
+use crate::named::Named;
+use crate::numbers::Numbers;
+use crate::place::Place;
 use crate::state::LoopState;
 use std::alloc::{AllocError, Global};
 use std::marker::Model;
-use uv_ids::{Event, Fault, Seen};
+use uv_ids::{Event, Fault, Id, Seen, Var};
+use uv_records::{ListName, Slot};
 use uv_script::Script;
 
 /// A machine whose every step is the model's own.
@@ -116,5 +121,64 @@ impl Machine for PlainLoop {
 
     fn script(&self) -> &Script {
         &self.script
+    }
+
+    fn place(&self) -> Place {
+        self.state.place()
+    }
+
+    fn numbers(&self) -> Numbers {
+        self.state.numbers()
+    }
+
+    fn named(&self, name: Var) -> Named {
+        self.state.named(name)
+    }
+
+    fn used(&self) -> u32 {
+        self.state.arena().used()
+    }
+
+    fn slot(&self, number: u32) -> Option<Slot<Content>> {
+        self.state.arena().slot(number)
+    }
+
+    fn is_free(&self, number: u32) -> bool {
+        self.state.arena().is_free(number)
+    }
+
+    fn held(&self, id: Id) -> Option<Content> {
+        self.state.arena().held(id)
+    }
+
+    fn free(&self) -> Result<Vec<u32>, Fault> {
+        let free = Vec::from_slice(self.alloc, self.state.arena().free())?;
+        Ok(free)
+    }
+
+    fn unused(&self) -> u32 {
+        self.state.arena().unused()
+    }
+
+    fn timers(&self) -> Result<Vec<Id>, Fault> {
+        let ids = self.state.timer_ids(self.alloc)?;
+        Ok(ids)
+    }
+
+    fn workers(&self) -> usize {
+        self.state.workers()
+    }
+
+    fn run_by(&self, worker: usize) -> Option<Id> {
+        self.state.run_by(worker)
+    }
+
+    fn worker_of(&self, id: Id) -> Option<usize> {
+        self.state.worker_of(id)
+    }
+
+    fn members(&self, list: ListName) -> Result<Vec<Id>, Fault> {
+        let ids = Vec::from_slice(self.alloc, self.state.members(list))?;
+        Ok(ids)
     }
 }

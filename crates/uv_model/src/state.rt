@@ -1,21 +1,25 @@
 //! The plain loop's state: lists, and the timers in an ordered map.
 ghost use Rattle.std.specs.Prelude.{◌≡◌, ◌<◌, ◌^◌, IfOk, OnOk, OnErr, None, Some};
-ghost use Rattle.uv_model.specs.State.{fresh, handle, with_handle, named, with_named, live, front, refreshed};
+ghost use Rattle.uv_model.specs.Ops.{bound_to};
+ghost use Rattle.uv_model.specs.State.{fresh, handle, with_handle, request, with_request, named, with_named, live, live_handle, live_request, front, front_request, refreshed};
 
 use crate::arena::Arena;
-use crate::content::{Content, handle_in};
+use crate::content::{Content, handle_in, request_in};
 use crate::named::Named;
 use crate::place::Place;
+use crate::request::Request;
 use crate::walked::Walked;
 use std::alloc::{AllocError, Global};
 use std::collections::BTreeMap;
 use std::marker::Model;
-use uv_ids::{Due, Id, Var};
+use uv_ids::{Code, Due, Id, Var};
 use uv_records::HandleRecord;
 use uv_script::Script;
 
 mod ops;
 mod phases;
+mod pool;
+mod queries;
 mod refusals;
 mod timeout;
 mod timers;
@@ -37,6 +41,12 @@ pub struct LoopState {
     asyncs: Walked,
     /// The handles whose close callback is still to come.
     closing: Walked,
+    /// The requests that wait for a worker, the one that waits longest first.
+    waiting: Vec<Id>,
+    /// What each worker of the thread pool runs, by its number.
+    running: Vec<Option<Id>>,
+    /// The requests that were finished or cancelled, whose after callback is still to come.
+    done: Walked,
     /// The loop's cached time in ms (uv_now).
     time: u64,
     /// The clock in ms.
@@ -65,6 +75,9 @@ impl Model for LoopState {
       check = a.check;
       async = a.asyncs;
       closing = a.closing;
+      waiting = a.waiting.items;
+      running = a.running.items;
+      done = a.done;
       time = a.time;
       clock = a.clock;
       next_start = a.next_start;
@@ -79,6 +92,7 @@ impl LoopState {
         ensures { IfOk result (λ state. state ≡ fresh script.now) }
     {
         let names = vec![in alloc; Named::unbound(); script.names().len()]?;
+        let running = vec![in alloc; None; script.workers() as usize]?;
         Ok(LoopState {
             place: Place::Main(0),
             names,
@@ -90,6 +104,9 @@ impl LoopState {
             check: Walked::new(alloc),
             asyncs: Walked::new(alloc),
             closing: Walked::new(alloc),
+            waiting: Vec::new(alloc),
+            running,
+            done: Walked::new(alloc),
             time: 0,
             clock: 0,
             next_start: 0,
@@ -111,8 +128,21 @@ impl LoopState {
         self.arena.set(id, Content::Handle(handle));
     }
 
+    /// The request of an id whose slot still holds it.
+    fn request(&self, id: Id) -> Option<Request>
+        ensures { result ≡ request self.now id }
+    {
+        request_in(self.arena.held(id))
+    }
+
+    fn set_request(&mut self, id: Id, request: Request)
+        ensures { self.new ≡ with_request self.old id request }
+    {
+        self.arena.set(id, Content::Request(request));
+    }
+
     /// What a name is bound to, and its counts.
-    fn named(&self, name: Var) -> Named
+    pub fn named(&self, name: Var) -> Named
         ensures { result ≡ named self.now name }
     {
         self.names
@@ -129,13 +159,49 @@ impl LoopState {
         }
     }
 
-    /// The id and the handle of a name that is live.
-    fn live(&self, name: Var) -> Option<(Id, HandleRecord)>
+    /// Binds a name to the id of its new handle or request.
+    fn bind(&mut self, name: Var, id: Id)
+        ensures { self.new ≡ bound_to self.old name id }
+    {
+        let named = self.named(name);
+        self.set_named(
+            name,
+            Named {
+                id: Some(id),
+                ..named
+            },
+        );
+    }
+
+    /// The id of a name that is live, and what its slot holds.
+    fn live(&self, name: Var) -> Option<(Id, Content)>
         ensures { result ≡ live self.now name }
     {
         let id = self.named(name).id?;
-        let handle = self.handle(id)?;
-        Some((id, handle))
+        let content = self.arena.held(id)?;
+        Some((id, content))
+    }
+
+    /// The handle of a name, for an op on handles.
+    fn live_handle(&self, name: Var) -> Result<(Id, HandleRecord), Code>
+        ensures { result ≡ live_handle self.now name }
+    {
+        match self.live(name) {
+            None => Err(Code::Estale),
+            Some((_, Content::Request(_))) => Err(Code::Ekind),
+            Some((id, Content::Handle(handle))) => Ok((id, handle)),
+        }
+    }
+
+    /// The request of a name, for an op on requests.
+    fn live_request(&self, name: Var) -> Result<(Id, Request), Code>
+        ensures { result ≡ live_request self.now name }
+    {
+        match self.live(name) {
+            None => Err(Code::Estale),
+            Some((_, Content::Handle(_))) => Err(Code::Ekind),
+            Some((id, Content::Request(request))) => Ok((id, request)),
+        }
     }
 
     /// The front of a list of handles.
@@ -145,6 +211,15 @@ impl LoopState {
         let id = *ids.first()?;
         let handle = self.handle(id)?;
         Some((id, handle))
+    }
+
+    /// The front of a list of requests.
+    fn front_request(&self, ids: &[Id]) -> Option<(Id, Request)>
+        ensures { result ≡ front_request self.now ids.now }
+    {
+        let id = *ids.first()?;
+        let request = self.request(id)?;
+        Some((id, request))
     }
 
     /// Sets the loop's time to the clock (uv_update_time).

@@ -94,6 +94,13 @@ impl Walked {
         self.list.clear();
     }
 
+    /// Those on the list, front first, those yet to run aside.
+    pub fn list(&self) -> &[Id]
+        ensures { result.now ≡ self.now.list }
+    {
+        &self.list
+    }
+
     /// Those yet to run, front first.
     pub fn yet(&self) -> &[Id]
         ensures { result.now ≡ self.now.yet }

@@ -1,16 +1,13 @@
 -- Each handle closes once: every op and every step of the loop appends a line that may follow those before it.
-use Rattle.std.proofs.Common.{◌≡◌, inl, inr, ℕ, zero, suc, ◌+◌, ◌==◌, ◌&&◌, ◌||◌, List, [], ◌∷◌, ◌++◌, Bool, true, false, drop, Option, Some, None, length, map, slice_get, slice_set, unwrap_or, option_map, replicate, nat_le, nat_lt, refl, ap, sym, subst, ◌∙◌, arith}
-use Rattle.std.proofs.lemmas.Bool.{cond_both, eqb-true}
-use Rattle.std.specs.Prelude.{option_and_then}
+use Rattle.std.proofs.Common.{◌≡◌, ◌⊎◌, inl, inr, ℕ, zero, suc, ◌+◌, ◌==◌, ◌&&◌, ◌||◌, List, [], ◌∷◌, ◌++◌, Bool, true, false, drop, Option, Some, None, Result, Ok, Err, length, map, slice_get, slice_set, unwrap_or, option_map, replicate, nat_le, nat_lt, refl, ap, sym, subst, ◌∙◌, arith}
+use Rattle.std.proofs.lemmas.Bool.{cond_both, both_ways, eqb-true}
 use Rattle.std.proofs.lemmas.Option.{same_Some}
 use Rattle.uv_ids.specs.declared.id.Id.{Id}
 use Rattle.uv_ids.specs.declared.id.Var.{Var}
-use Rattle.uv_ids.specs.declared.code.Code.{Code}
-use Rattle.uv_ids.specs.declared.code.Code.TheVariants as code
 use Rattle.uv_ids.specs.declared.code.Answer.{Answer}
-use Rattle.uv_ids.specs.declared.code.Answer.TheVariants as answer
+use Rattle.uv_ids.specs.declared.fault.Why.{Why}
 use Rattle.uv_ids.specs.declared.event.Event.{Event}
-use Rattle.uv_ids.specs.declared.event.Event.TheVariants.{Loop, Send, Tick}
+use Rattle.uv_ids.specs.declared.event.Event.TheVariants.{Loop, Take, Finish, Cancel, Send, Tick}
 use Rattle.uv_ids.specs.declared.phase.Kind.{Kind}
 use Rattle.uv_ids.specs.declared.phase.Kind.TheVariants as kind
 use Rattle.uv_ids.specs.declared.phase.Phase.{Phase}
@@ -23,21 +20,22 @@ use Rattle.uv_ids.specs.declared.seen.Site.TheVariants as site
 use Rattle.uv_script.specs.declared.op.CallbackLine.{CallbackLine}
 use Rattle.uv_script.specs.declared.op.MainOp.{MainOp}
 use Rattle.uv_script.specs.declared.op.MainOp.TheVariants as main
-use Rattle.uv_script.specs.declared.op.Op.{Op}
-use Rattle.uv_script.specs.declared.op.Op.TheVariants as op
-use Rattle.uv_script.specs.Program.{Program, arena_size, lines_in, op_at, main_op}
+use Rattle.uv_script.specs.Program.{Program, arena_size, worker_count, lines_in, main_op}
 use Rattle.uv_records.specs.declared.handle.HandleRecord.{HandleRecord}
 use Rattle.uv_records.specs.declared.lists.WatcherKind.{WatcherKind}
 use Rattle.uv_records.specs.declared.lists.WatcherKind.TheVariants as watcher
-use Rattle.uv_records.specs.declared.slot.Slot.{Slot}
 use Rattle.uv_records.specs.Handles as records
 use Rattle.uv_records.specs.Handles.{inited, referenced_as, repeating}
-use Rattle.uv_records.specs.Lists.{watcher_kind}
-use Rattle.uv_records.specs.Refusals.{no_refusal, timer_refusal, start_timer_refusal, start_watcher_refusal, stop_refusal, again_refusal, close_refusal}
-use Rattle.uv_records.specs.Slots.{Slots, freed, taken, taken_from, next_free, next_id, id_of}
+use Rattle.uv_records.specs.Slots.{Slots, held, freed}
 use Rattle.uv_model.specs.declared.content.Content.{Content}
 use Rattle.uv_model.specs.declared.content.Content.TheVariants as content
 use Rattle.uv_model.specs.declared.named.Named.{Named}
+use Rattle.uv_model.specs.declared.request.Request.{Request}
+use Rattle.uv_model.specs.Content.{request_in, digest_in}
+use Rattle.uv_script.specs.Tasks.{text_of}
+use Rattle.uv_work.specs.Digests.{digest_of}
+use Rattle.uv_work.specs.Requests.{is_open}
+use Rattle.uv_work.specs.declared.outcome.Outcome.TheVariants.{Finished}
 use Rattle.uv_model.specs.declared.place.Body.{Body}
 use Rattle.uv_model.specs.declared.place.Run.{Run}
 use Rattle.uv_model.specs.declared.place.Stage.{Stage}
@@ -49,190 +47,37 @@ use Rattle.uv_model.specs.declared.place.Timing.TheVariants.{Collecting, Firing}
 use Rattle.uv_model.specs.declared.place.Place.{Place}
 use Rattle.uv_model.specs.declared.place.Place.TheVariants.{Main, Running}
 use Rattle.uv_records.specs.Walks.{Walk, all_yet}
-use Rattle.uv_model.specs.Ids.{has_some}
+use Rattle.uv_model.specs.Ids.{same_id, has_some}
+use Rattle.uv_order.specs.Active.{has_id, AreDistinct}
 use Rattle.uv_model.specs.Timeout.{is_alive, poll_timeout}
-use Rattle.uv_model.specs.State.{State, unbound, fresh, handle, live, with_handle, front, watched, with_watched, refreshed}
-use Rattle.uv_model.specs.Timers.{stopped, started, restarted}
+use Rattle.uv_model.specs.State.{State, unbound, fresh, handle, live_handle, live_request, with_handle, with_request, front, front_request, watched, with_watched, refreshed}
+use Rattle.uv_model.specs.Timers.{started, restarted}
 use Rattle.uv_model.specs.Ops as ops
 use Rattle.uv_model.specs.Ops.{do_op}
 use Rattle.uv_model.specs.Next as step
-use Rattle.uv_model.specs.Next.{Next, Moves, Refuses, next, call, calls, first_due, collected, front_moved, goes, is_default, may_leave}
+use Rattle.uv_model.specs.Next.{Next, Moves, Refuses, next, call, calls, first_due, collected, front_moved, goes, is_default, may_leave, next_work, work_of}
 use Rattle.uv_model.specs.After.{state_of, lines}
 use Rattle.uv_model.proofs.Found.{found_both}
 use Rattle.uv_order.specs.Line.{Line}
 use Rattle.uv_order.specs.History.{line_of_step, history_from, history}
 use Rattle.uv_order.specs.Documented.{Told, nothing_told, told_by, Position, Between}
-use Rattle.uv_order.specs.Once.{MayFollow, OnceFrom, Once}
-use Rattle.uv_order.proofs.IdLists.{Each, each_back}
-use Rattle.uv_order.proofs.Holding.{slot_of, put, put_same, Grown, Fits, its_handle, Everyone}
-use Rattle.uv_order.proofs.OpCases.{live_held, live_bound, IsRefusal, refuses_none, refuses_timer, refuses_start, refuses_start_watcher, refuses_stop, refuses_again, refuses_close, on_handle_both, send_both}
-use Rattle.uv_order.proofs.Keeping.{has_number, AreFree, Watches, Closes, Rests, Kept, members, takes, not_free}
+use Rattle.uv_order.specs.Once.{SaysTrue, MayFollow, OnceFrom, Once}
+use Rattle.uv_order.proofs.IdLists.{Each, each_back, same, itself, turned, has_new_middle, distinct_back}
+use Rattle.uv_order.proofs.Holding.{same_handles, is_held, put_same, Fits, its_handle, Everyone}
+use Rattle.uv_order.proofs.Asked.{request_turns, freed_turns, FrontRequest, request_front, TakesFront, takes_front, RunsWork, runs_work}
+use Rattle.uv_order.proofs.Works.{AllAsk, IsOpen, has_middle, once_middle, run_ids, Takes, takes, LetsGo, lets_go, none_run}
+use Rattle.uv_order.proofs.Working.{Working, StaysWorking, next_working, fresh_working}
+use Rattle.uv_order.proofs.Keeping.{has_number, Watches, Closes, Rests, Kept, members, not_free}
 use Rattle.uv_order.proofs.KeptSteps.{FrontOf, front_of, first_of, opened, next_kept, fresh_kept, StaysKept}
 use Rattle.uv_order.proofs.Histories.{lines-history}
-use Rattle.uv_order.proofs.Sends.{SentAt, SentFollows, next_sent, sent_fresh}
+use Rattle.uv_order.proofs.Sends.{SentAt, SentFollows, next_sent, sent_fresh, either_right}
 use Rattle.uv_order.proofs.Standing as order
 use Rattle.uv_order.proofs.Standing.{Stands}
-use Rattle.uv_order.proofs.Follows.{follows, rested_at, stands_fresh}
-use Rattle.uv_order.proofs.Gone.{IsGone, gone_push, gone_fill}
-use Rattle.uv_order.proofs.Known.{id_in, counted_ids, Known, not_closed, not_over, known_names, known_put, IsQuiet, known_quiet, IsQuietOp, quiet_op, known_close, known_new, known_gone}
-
--- ---- ops
-
--- what is known with the line of an op
-abbrev KnownBy : Program → List Seen → Op → ops.Done → Type 0
-KnownBy p past o d = (place : Site) → op_at p place ≡ Some o → Known p (seen.Op place d.answer ∷ past) d.state.arena d.state.names
-
-abbrev KnownAt : Program → List Seen → State → Type 0
-KnownAt p past s = Known p past s.arena s.names
-
--- an op that neither binds nor closes, whatever it answers
-abbrev Harmless : Op → Type 0
-Harmless o = (a : Answer) → IsQuietOp o a
-
-known_by : (p : Program) (past : List Seen) (o : Op) (d : ops.Done) → IsQuietOp o d.answer → KnownAt p past d.state → KnownBy p past o d
-known_by p past o d q k place e = known_quiet p past (seen.Op place d.answer) d.state.arena d.state.names (quiet_op p place o d.answer e q) k
-
--- a refused `close` closes nothing
-refused_close : (v : Var) (c : Code) → IsRefusal c → IsQuietOp (op.Close v) (answer.Code c)
-refused_close v code.Ok no_success = absurd (no_success refl)
-refused_close v code.Einval no_success = record { binding = λ u b. refl; closing = refl }
-refused_close v code.Ebusy no_success = record { binding = λ u b. refl; closing = refl }
-refused_close v code.Ecanceled no_success = record { binding = λ u b. refl; closing = refl }
-refused_close v code.Ebound no_success = record { binding = λ u b. refl; closing = refl }
-refused_close v code.Efull no_success = record { binding = λ u b. refl; closing = refl }
-refused_close v code.Estale no_success = record { binding = λ u b. refl; closing = refl }
-refused_close v code.Ekind no_success = record { binding = λ u b. refl; closing = refl }
-
--- an op on a handle that goes on closing or not as before
-on_held : (p : Program) (past : List Seen) (s : State) (o : Op) (v : Var) (why : HandleRecord → Option Code) (f : Id → HandleRecord → ops.Done) →
-    Harmless o → ((h : HandleRecord) (c : Code) → why h ≡ Some c → IsRefusal c) → KnownAt p past s →
-    ((t : Id × HandleRecord) → handle s t.0 ≡ Some t.1 → KnownAt p past (f t.0 t.1).state) → KnownBy p past o (ops.on_handle s (live s v) why f)
-on_held p past s o v why f harmless codes k done = on_handle_both s v why f (KnownBy p past o) codes
-    (λ c no_success. known_by p past o (ops.refuses s c) (harmless (answer.Code c)) k)
-    (λ t e is. known_by p past o (f t.0 t.1) (harmless (f t.0 t.1).answer) (done t (live_held s v t e)))
-
--- the record of a handle changes, which goes on closing or not as before
-changed : (p : Program) (past : List Seen) (s : State) (t : Id × HandleRecord) (x : HandleRecord) → handle s t.0 ≡ Some t.1 →
-    x.closing ≡ t.1.closing →
-    KnownAt p past s → Known p past (record s.arena { slots = put s.arena.slots t.0 x }) s.names
-changed p past s t x e o k = known_put p past s.arena s.names t.0 t.1 x e o k
-
--- it changes twice
-twice : (p : Program) (past : List Seen) (s : State) (t : Id × HandleRecord) (x y : HandleRecord) → handle s t.0 ≡ Some t.1 →
-    x.closing ≡ t.1.closing → y.closing ≡ x.closing → KnownAt p past s →
-    Known p past (record s.arena { slots = put (put s.arena.slots t.0 x) t.0 y }) s.names
-twice p past s t x y e o r k = known_put p past (record s.arena { slots = put s.arena.slots t.0 x }) s.names t.0 x y
-    (put_same s.arena.slots t.0 t.1 x e) r (changed p past s t x e o k)
-
-again_known : (p : Program) (past : List Seen) (s : State) (t : Id × HandleRecord) → handle s t.0 ≡ Some t.1 → KnownAt p past s →
-    KnownAt p past (restarted (stopped s t.0 t.1) t.0 t.1)
-again_known p past s t e k = cond_both (t.1.repeat == 0) _ _ (KnownAt p past) (λ z. changed p past s t (records.stopped t.1) e refl k)
-    (λ z. twice p past s t (records.stopped t.1) _ e refl refl k)
-
-start_watcher_known : (p : Program) (past : List Seen) (s : State) (t : Id × HandleRecord) → handle s t.0 ≡ Some t.1 → KnownAt p past s →
-    KnownAt p past (ops.start_watcher s t.0 t.1).state
-start_watcher_known p past s t e k = cond_both t.1.active s _ (KnownAt p past) (λ on. k)
-    (λ off. found_both (watcher_kind t.1.kind) _ s (KnownAt p past) (λ q is. by q) (λ none. k))
-  where
-    by : (q : WatcherKind) → KnownAt p past (ops.watcher_started s q t.0 t.1)
-    by watcher.Idle = changed p past s t (records.activated t.1) e refl k
-    by watcher.Prepare = changed p past s t (records.activated t.1) e refl k
-    by watcher.Check = changed p past s t (records.activated t.1) e refl k
-    by watcher.Async = changed p past s t (records.activated t.1) e refl k
-
--- the next taking
-gone_taken : (s : Slots Content) (free : List ℕ) (id : Id) (x : HandleRecord) → s.free ≡ free → AreFree s.slots free → next_id s.slots s.unused free ≡
-    Some id →
-    (i : Id) → IsGone s.slots free i → IsGone (taken_from free id (content.Handle x) s).slots (taken_from free id (content.Handle x) s).free i
-gone_taken s [] id x same free e i g =
-    subst (λ (more : List ℕ). IsGone (s.slots ++ slot_of (record { slot = 0; generation = 0 }) x ∷ []) more i) (sym same)
-    (gone_push s.slots [] (slot_of (record { slot = 0; generation = 0 }) x) i g)
-gone_taken s (n ∷ ns) id x same free e i g =
-    let at = free.0 in
-    let is : id_of n at.slot ≡ id = same_Some _ _ (sym (ap (option_and_then (λ (slot : Slot Content). Some (id_of n slot))) at.there) ∙ e) in
-    subst (λ (j : Id). IsGone (put s.slots j x) ns i) is
-    (gone_fill s.slots n ns at.slot (slot_of (id_of n at.slot) x) i at.there (omega arith) g)
-
-new_known : (p : Program) (past : List Seen) (s : State) (v : Var) (q : Kind) (id : Id) → next_free s.arena ≡ Some id → Kept s → KnownAt p past s →
-    KnownBy p past (op.Init v q) (record { state = ops.with_new s v q id; answer = answer.Id id })
-new_known p past s v q id e kept k place at = by q at (takes s.arena s.arena.free id (inited v q) refl kept.free e).0 where
-  by : (x : Kind) → op_at p place ≡ Some (op.Init v x) →
-      Grown s.arena.slots (taken id (content.Handle (inited v x)) s.arena).slots id (inited v x) →
-      KnownAt p (seen.Op place (answer.Id id) ∷ past) (ops.with_new s v x id)
-  by kind.Timer f g = known_new p past place v kind.Timer s.arena _ s.names id (inited v kind.Timer) _ f refl g refl
-      (gone_taken s.arena s.arena.free id (inited v kind.Timer) refl kept.free e) k
-  by kind.Idle f g = known_new p past place v kind.Idle s.arena _ s.names id (inited v kind.Idle) _ f refl g refl
-      (gone_taken s.arena s.arena.free id (inited v kind.Idle) refl kept.free e) k
-  by kind.Prepare f g = known_new p past place v kind.Prepare s.arena _ s.names id (inited v kind.Prepare) _ f refl g refl
-      (gone_taken s.arena s.arena.free id (inited v kind.Prepare) refl kept.free e) k
-  by kind.Check f g = known_new p past place v kind.Check s.arena _ s.names id (inited v kind.Check) _ f refl g refl
-      (gone_taken s.arena s.arena.free id (inited v kind.Check) refl kept.free e) k
-  by kind.Async f g = known_new p past place v kind.Async s.arena _ s.names id (inited v kind.Async) _ f refl g refl
-      (gone_taken s.arena s.arena.free id (inited v kind.Async) refl kept.free e) k
-
-init_known : (p : Program) (past : List Seen) (s : State) (v : Var) (q : Kind) (t : Option (Id × HandleRecord)) → Kept s → KnownAt p past s →
-    KnownBy p past (op.Init v q) (ops.init s v q t)
-init_known p past s v q (Some t) kept k = known_by p past (op.Init v q) (ops.refuses s code.Ebound) (record {
-  binding = λ u b. refl;
-  closing =
-      refl;
-}) k
-init_known p past s v q None kept k = found_both (next_free s.arena) _ (ops.refuses s code.Efull) (KnownBy p past (op.Init v q))
-    (λ id e. new_known p past s v q id e kept k)
-    (λ e. known_by p past (op.Init v q) (ops.refuses s code.Efull) (record { binding = λ u b. refl; closing = refl }) k)
-
-close_known : (p : Program) (past : List Seen) (s : State) (v : Var) → KnownAt p past s → KnownBy p past (op.Close v) (do_op s (op.Close v))
-close_known p past s v k = on_handle_both s v close_refusal _ (KnownBy p past (op.Close v)) refuses_close
-    (λ c no_success. known_by p past (op.Close v) (ops.refuses s c) (refused_close v c no_success) k)
-    (λ t e is place at. known_close p past place v s.arena s.names t.0 t.1 (records.closed t.1) at (live_bound s v t e) (live_held s v t e) refl k)
-
-send_known : (p : Program) (past : List Seen) (s : State) (v : Var) → KnownAt p past s → KnownAt p past (ops.send s (live s v)).state
-send_known p past s v k = send_both s v (λ (c : ops.Coded). KnownAt p past c.state) (λ c no_success. k)
-    (λ t e stays. changed p past s t (records.sent t.1) (live_held s v t e) refl k)
-
-silent : (p : Program) (past : List Seen) (s : State) (o : Op) → Harmless o → KnownAt p past (do_op s o).state → KnownBy p past o (do_op s o)
-silent p past s o harmless k = known_by p past o (do_op s o) (harmless (do_op s o).answer) k
-
-op_known : (p : Program) (past : List Seen) (s : State) (o : Op) → Kept s → KnownAt p past s → KnownBy p past o (do_op s o)
-op_known p past s (op.Init v q) kept k = init_known p past s v q (live s v) kept k
-op_known p past s (op.Start v timeout repeat) kept k =
-    on_held p past s (op.Start v timeout repeat) v start_timer_refusal _ (λ a. record { binding = λ u b. refl; closing = refl }) refuses_start k
-    (λ t e. twice p past s t (records.stopped t.1) _ e refl refl k)
-op_known p past s (op.StartWatcher v) kept k =
-    on_held p past s (op.StartWatcher v) v start_watcher_refusal _ (λ a. record { binding = λ u b. refl; closing = refl }) refuses_start_watcher k
-    (λ t e. start_watcher_known p past s t e k)
-op_known p past s (op.Stop v) kept k =
-    on_held p past s (op.Stop v) v stop_refusal _ (λ a. record { binding = λ u b. refl; closing = refl }) refuses_stop k
-    (λ t e. changed p past s t (records.stopped t.1) e refl k)
-op_known p past s (op.Again v) kept k =
-    on_held p past s (op.Again v) v again_refusal _ (λ a. record { binding = λ u b. refl; closing = refl }) refuses_again k
-    (λ t e. again_known p past s t e k)
-op_known p past s (op.SetRepeat v n) kept k =
-    on_held p past s (op.SetRepeat v n) v timer_refusal _ (λ a. record { binding = λ u b. refl; closing = refl }) refuses_timer k
-    (λ t e. changed p past s t (repeating n t.1) e refl k)
-op_known p past s (op.DueIn v) kept k =
-    on_held p past s (op.DueIn v) v timer_refusal _ (λ a. record { binding = λ u b. refl; closing = refl }) refuses_timer k (λ t e. k)
-op_known p past s (op.Close v) kept k = close_known p past s v k
-op_known p past s (op.Ref v) kept k =
-    on_held p past s (op.Ref v) v no_refusal _ (λ a. record { binding = λ u b. refl; closing = refl }) refuses_none k
-    (λ t e. changed p past s t (referenced_as true t.1) e refl k)
-op_known p past s (op.Unref v) kept k =
-    on_held p past s (op.Unref v) v no_refusal _ (λ a. record { binding = λ u b. refl; closing = refl }) refuses_none k
-    (λ t e. changed p past s t (referenced_as false t.1) e refl k)
-op_known p past s (op.HasRef v) kept k =
-    on_held p past s (op.HasRef v) v no_refusal _ (λ a. record { binding = λ u b. refl; closing = refl }) refuses_none k (λ t e. k)
-op_known p past s (op.IsActive v) kept k =
-    on_held p past s (op.IsActive v) v no_refusal _ (λ a. record { binding = λ u b. refl; closing = refl }) refuses_none k (λ t e. k)
-op_known p past s (op.IsClosing v) kept k =
-    on_held p past s (op.IsClosing v) v no_refusal _ (λ a. record { binding = λ u b. refl; closing = refl }) refuses_none k (λ t e. k)
-op_known p past s (op.Send v) kept k = silent p past s (op.Send v) (λ a. record { binding = λ u b. refl; closing = refl }) (send_known p past s v k)
-op_known p past s op.StopLoop kept k = silent p past s op.StopLoop (λ a. record { binding = λ u b. refl; closing = refl }) k
-op_known p past s op.UpdateTime kept k = silent p past s op.UpdateTime (λ a. record { binding = λ u b. refl; closing = refl }) k
-op_known p past s op.Now kept k = silent p past s op.Now (λ a. record { binding = λ u b. refl; closing = refl }) k
-op_known p past s op.IsAlive kept k = silent p past s op.IsAlive (λ a. record { binding = λ u b. refl; closing = refl }) k
-op_known p past s op.Timeout kept k = silent p past s op.Timeout (λ a. record { binding = λ u b. refl; closing = refl }) k
-op_known p past s op.CloseLoop kept k = silent p past s op.CloseLoop (λ a. record { binding = λ u b. refl; closing = refl })
-    (cond_both (ops.is_in_use s) _ _ (λ (d : ops.Done). KnownAt p past d.state) (λ e. k) (λ e. k))
+use Rattle.uv_order.proofs.Follows.{follows, rested_at, calm_at, stands_fresh}
+use Rattle.uv_order.proofs.Gone.{IsGone, gone_turned, gone_emptied, gone_now}
+use Rattle.uv_order.proofs.Worked.{Worked, IsIdle, worked_ended, worked_taken, worked_finished, worked_collected, not_called, says_true}
+use Rattle.uv_order.proofs.Known.{id_in, counted_ids, Known, not_closed, not_over, known_names, IsQuiet, known_told, known_quiet, known_gone}
+use Rattle.uv_order.proofs.OpsOnce.{KnownAt, changed, cancel_known, send_known, op_known}
 
 -- ---- steps
 
@@ -243,12 +88,15 @@ Follows p past (Moves t None) = KnownAt p past t
 Follows p past (Refuses why) = Unit {0}
 
 -- a line that may stand anywhere
-plain : (p : Program) (past : List Seen) (l : Seen) (t : State) → MayFollow p past l → IsQuiet p l → KnownAt p past t →
+plain : (p : Program) (past : List Seen) (l : Seen) (t : State) → MayFollow p past l → IsQuiet p l × IsIdle p l → KnownAt p past t →
     Follows p past (Moves t (Some l))
-plain p past l t may q k = (may, known_quiet p past l t.arena t.names q k)
+plain p past l t may q k = (may, known_quiet p past l t.arena t.names q.0 q.1 k)
 
-section_line : (p : Program) (word : Phase) → IsQuiet p (seen.Section word)
-section_line p word = record { binding = λ v b. refl; closing = refl; closed = λ id. refl }
+section_line : (p : Program) (word : Phase) → IsQuiet p (seen.Section word) × IsIdle p (seen.Section word)
+section_line p word = (
+  record { binding = λ v b. refl; closing = refl; closed = λ id. refl },
+  record { queued = λ id. refl; taken = λ id. refl; finished = λ id. refl; over = λ id. refl },
+)
 
 begins_known : (p : Program) (past : List Seen) (s : State) (run : Run) (x : Stage) (word : Phase) → KnownAt p past s →
     Follows p past (step.begins s run x word)
@@ -257,12 +105,8 @@ begins_known p past s run x word k = plain p past (seen.Section word) (step.at s
 ends_known : (p : Program) (past : List Seen) (s : State) (run : Run) → KnownAt p past s → Follows p past (step.ends s run)
 ends_known p past s run k = (
   tt,
-  known_quiet p past (seen.End (is_alive s)) s.arena s.names (record {
-    binding = λ v b. refl;
-    closing =
-        refl;
-    closed = λ id. refl;
-  }) k,
+  known_quiet p past (seen.End (is_alive s)) s.arena s.names (record { binding = λ v b. refl; closing = refl; closed = λ id. refl })
+      (record { queued = λ i. refl; taken = λ i. refl; finished = λ i. refl; over = λ i. refl }) k,
 )
 
 iteration_known : (p : Program) (past : List Seen) (s : State) (run : Run) → KnownAt p past s → Follows p past (step.new_iteration s run)
@@ -283,7 +127,7 @@ leave_known p past s run timers_of.Iteration k = cond_both (is_default run.mode 
 
 -- a callback counts one call more of its name
 called_known : (p : Program) (past : List Seen) (s : State) (v : Var) (x : Named) → x.id ≡ id_in s.names v → KnownAt p past s →
-    Known p past s.arena (slice_set s.names v.0 x)
+    Known p past s.arena (slice_set s.names v.0 x) s.waiting (run_ids s.running)
 called_known p past s v x e k = known_names p past s.arena (slice_set s.names v.0 x) s.names (counted_ids s.names v x e) k
 
 -- the callback of a handle that doesn't close
@@ -292,7 +136,7 @@ call_known : (p : Program) (past : List Seen) (s : State) (run : Run) (id : Id) 
 call_known p past s run id v h e stays k = (
   not_closed p past s.arena s.names id h e stays k,
   known_quiet p past (seen.Call v id) s.arena _ (record { binding = λ u b. refl; closing = refl; closed = λ i. refl })
-      (called_known p past s v _ refl k),
+      (record { queued = λ i. refl; taken = λ i. refl; finished = λ i. refl; over = λ i. refl }) (called_known p past s v _ refl k),
 )
 
 -- the front of the ready list is called
@@ -330,7 +174,8 @@ begin_known p past s run watcher.Async k = begins_known p past (with_watched s w
 poll_known : (p : Program) (past : List Seen) (s : State) (run : Run) → KnownAt p past s → Follows p past (step.begin_poll s run)
 poll_known p past s run k = (
   tt,
-  known_quiet p past (seen.Poll (poll_timeout s run.mode)) s.arena s.names (record { binding = λ v b. refl; closing = refl; closed = λ id. refl }) k,
+  known_quiet p past (seen.Poll (poll_timeout s run.mode)) s.arena s.names (record { binding = λ v b. refl; closing = refl; closed = λ id. refl })
+      (record { queued = λ i. refl; taken = λ i. refl; finished = λ i. refl; over = λ i. refl }) k,
 )
 
 after_known : (p : Program) (past : List Seen) (s : State) (run : Run) (q : WatcherKind) → KnownAt p past s → Follows p past (step.after_walk s run q)
@@ -382,15 +227,35 @@ async_known p past s run kept k = found_both (front s s.async.yet) _ _ (Follows 
     (λ off. k))
     (λ e. after_known p past s run watcher.Async k)
 
+-- a slot is freed or retired
+gone_freed : (s : State) (last : ℕ) (id : Id) (c : Content) → held s.arena.slots id ≡ Some c → Kept s → (i : Id) →
+    IsGone s.arena.slots s.arena.free i → IsGone (freed last id s.arena).slots (freed last id s.arena).free i
+gone_freed s last id c e kept i g = cond_both (id.generation == last) _ _ (λ (u : Slots Content). IsGone u.slots u.free i)
+    (λ at. gone_emptied s.arena.slots s.arena.free s.arena.free id c id.generation i e (omega arith) (λ m d f. f) g)
+    (λ more. gone_emptied s.arena.slots s.arena.free (id.slot ∷ s.arena.free) id c (id.generation + 1) i e (omega arith) still g)
+  where
+    still : (m : ℕ) → (m ≡ id.slot → ⊥) → has_number s.arena.free m ≡ false → ((id.slot == m) || has_number s.arena.free m) ≡ false
+    still m d f = at (id.slot == m) refl where
+      at : (b : Bool) → (id.slot == m) ≡ b → (b || has_number s.arena.free m) ≡ false
+      at true g = absurd (d (sym (eqb-true id.slot m g)))
+      at false g = f
+
+-- and its id is gone
+freed_gone : (s : State) (last : ℕ) (id : Id) (c : Content) → held s.arena.slots id ≡ Some c → Kept s →
+    IsGone (freed last id s.arena).slots (freed last id s.arena).free id
+freed_gone s last id c e kept = cond_both (id.generation == last) _ _ (λ (u : Slots Content). IsGone u.slots u.free id)
+    (λ at. gone_now s.arena.slots s.arena.free id c id.generation e (inr (not_free s.arena.slots id c s.arena.free e kept.free)))
+    (λ more. gone_now s.arena.slots (id.slot ∷ s.arena.free) id c (id.generation + 1) e (inl (omega arith)))
+
 -- ---- the closing section
 
 -- its line, and its slot
 freed_known : (p : Program) (past : List Seen) (s : State) (t : Id × HandleRecord) → handle s t.0 ≡ Some t.1 → Kept s → KnownAt p past s →
-    Known p (seen.Closed t.1.name t.0 ∷ past) (freed (arena_size p).last_generation t.0 s.arena) s.names
+    Known p (seen.Closed t.1.name t.0 ∷ past) (freed (arena_size p).last_generation t.0 s.arena) s.names s.waiting (run_ids s.running)
 freed_known p past s t e kept k = cond_both (t.0.generation == (arena_size p).last_generation) _ _
-    (λ (u : Slots Content). Known p (seen.Closed t.1.name t.0 ∷ past) u s.names)
+    (λ (u : Slots Content). Known p (seen.Closed t.1.name t.0 ∷ past) u s.names s.waiting (run_ids s.running))
     (λ last. known_gone p past t.1.name s.arena s.arena.free s.names t.0 t.1 t.0.generation e (omega arith)
-    (inr (not_free s.arena.slots t.0 t.1 s.arena.free e kept.free)) (λ m d f. f) k)
+    (inr (not_free s.arena.slots t.0 (content.Handle t.1) s.arena.free (is_held s.arena.slots t.0 t.1 e) kept.free)) (λ m d f. f) k)
     (λ more. known_gone p past t.1.name s.arena (t.0.slot ∷ s.arena.free) s.names t.0 t.1 (t.0.generation + 1) e (omega arith) (inl (omega arith))
     (λ m d f. still m d f) k)
   where
@@ -418,21 +283,58 @@ close_front_known p past s run kept k = found_both (front s s.closing.yet) _ _ (
               (counted_ids s.names t.1.name _ refl) (freed_known p past s t f.holds kept k),
         )
 
+-- ---- the section of the requests that are done
+
+collect_known : (p : Program) (past : List Seen) (s : State) (run : Run) → Kept s → Working s → KnownAt p past s →
+    Follows p past (step.collect_request p s run)
+collect_known p past s run kept work k = found_both (front_request s s.done.yet) _ _ (Follows p past)
+    (λ t e. called t (request_front s s.done.yet t e)) (λ e. begin_known p past s run watcher.Async k)
+  where
+    last : ℕ
+    last = (arena_size p).last_generation
+
+    called : (t : Id × Request) → FrontRequest s s.done.yet t →
+        Follows p past (calls p (record s {
+          arena = freed last t.0 s.arena;
+          done = record s.done { yet = drop 1 s.done.yet };
+        }) run callback.After t.1.name (seen.After (digest_in t.1.outcome) t.1.name t.0))
+    called t f =
+        let turns = freed_turns last s.arena t.0 (content.Request t.1) f.holds in
+        let gone : (i : Id) → IsGone s.arena.slots s.arena.free i → IsGone (freed last t.0 s.arena).slots (freed last t.0 s.arena).free i =
+        λ i g. gone_freed s last t.0 (content.Request t.1) f.holds kept i g in
+        let asked = work.ended.each t.0 (ap (λ (ids : List Id). has_id (s.done.list ++ ids) t.0) f.are ∙ has_new_middle s.done.list f.rest t.0) in
+        let ended : is_open t.1.outcome ≡ false =
+        ap (λ (x : Request). is_open x.outcome) (same_Some _ _ (sym (ap request_in f.holds) ∙ asked.holds)) ∙ asked.fits in (
+          record {
+            task = t.1.task;
+            queued = k.worked.queued t.0 t.1 (ap request_in f.holds);
+            first = not_called p past s.arena s.waiting (run_ids s.running) t.0 t.1 f.holds k.worked;
+            says = says_true past t.0 t.1.task t.1.outcome ended (k.worked.ended t.0 t.1 (ap request_in f.holds));
+          },
+          known_names p (seen.After (digest_in t.1.outcome) t.1.name t.0 ∷ past) (freed last t.0 s.arena) _ s.names
+              (counted_ids s.names t.1.name _ refl)
+              (known_told p past (seen.After (digest_in t.1.outcome) t.1.name t.0) s.arena (freed last t.0 s.arena) s.names
+              (record { binding = λ u b. refl; closing = refl; closed = λ i. refl })
+              (same_handles s.arena.slots _ t.0 _ _ turns refl refl) gone
+              (worked_collected p past s.arena (freed last t.0 s.arena) s.waiting (run_ids s.running) (digest_in t.1.outcome) t.1.name t.0 t.1 turns
+              (freed_gone s last t.0 (content.Request t.1) f.holds kept) gone k.worked) k),
+        )
+
 -- ---- any step
 
-stage_known : (p : Program) (past : List Seen) (s : State) (run : Run) (x : Stage) → Kept s → KnownAt p past s →
+stage_known : (p : Program) (past : List Seen) (s : State) (run : Run) (x : Stage) → Kept s → Working s → KnownAt p past s →
     Follows p past (step.stage_step p s run x)
-stage_known p past s run Entry kept k = enter_known p past s run k
-stage_known p past s run Pending kept k = begin_known p past s run watcher.Idle k
-stage_known p past s run Idle kept k = walk_known p past s run watcher.Idle kept k
-stage_known p past s run Prepare kept k = walk_known p past s run watcher.Prepare kept k
-stage_known p past s run (Poll deadline) kept k = cond_both (may_leave s deadline) _ _ (Follows p past)
-    (λ h. begins_known p past (refreshed s) run Done phase.Done k) (λ h. tt)
-stage_known p past s run Done kept k = begin_known p past s run watcher.Async k
-stage_known p past s run Async kept k = async_known p past s run kept k
-stage_known p past s run Check kept k = walk_known p past s run watcher.Check kept k
-stage_known p past s run Closing kept k = close_front_known p past s run kept k
-stage_known p past s run (Timers part timing) kept k = timers_known p past s run part timing kept k
+stage_known p past s run Entry kept work k = enter_known p past s run k
+stage_known p past s run Pending kept work k = begin_known p past s run watcher.Idle k
+stage_known p past s run Idle kept work k = walk_known p past s run watcher.Idle kept k
+stage_known p past s run Prepare kept work k = walk_known p past s run watcher.Prepare kept k
+stage_known p past s run (Poll deadline) kept work k = cond_both (may_leave s deadline) _ _ (Follows p past)
+    (λ h. begins_known p past (record (refreshed s) { done = all_yet s.done }) run Done phase.Done k) (λ h. tt)
+stage_known p past s run Done kept work k = collect_known p past s run kept work k
+stage_known p past s run Async kept work k = async_known p past s run kept k
+stage_known p past s run Check kept work k = walk_known p past s run watcher.Check kept k
+stage_known p past s run Closing kept work k = close_front_known p past s run kept k
+stage_known p past s run (Timers part timing) kept work k = timers_known p past s run part timing kept k
 
 -- the line of an op may stand anywhere
 op_line : (p : Program) (past : List Seen) (place : Site) (a : Answer) → MayFollow p past (seen.Op place a)
@@ -453,32 +355,148 @@ main_known p past s i (Some (main.Run m)) e kept k = (
   tt,
   cond_both (is_default m) (refreshed s) s (KnownAt p (seen.Run m ∷ past)) (λ d. begun) (λ d. begun),
 ) where
-  begun : Known p (seen.Run m ∷ past) s.arena s.names
-  begun = known_quiet p past (seen.Run m) s.arena s.names (record { binding = λ v b. refl; closing = refl; closed = λ id. refl }) k
+  begun : KnownAt p (seen.Run m ∷ past) s
+  begun = known_quiet p past (seen.Run m) s.arena s.names (record { binding = λ v b. refl; closing = refl; closed = λ id. refl })
+      (record { queued = λ i. refl; taken = λ i. refl; finished = λ i. refl; over = λ i. refl }) k
 main_known p past s i (Some (main.Op o)) e kept k = (tt, op_known p past s o kept k (site.Main i) (ap main_op e))
 
-run_known : (p : Program) (past : List Seen) (s : State) (run : Run) (body : Option Body) → Kept s → KnownAt p past s →
+run_known : (p : Program) (past : List Seen) (s : State) (run : Run) (body : Option Body) → Kept s → Working s → KnownAt p past s →
     Follows p past (step.run_step p s run body)
-run_known p past s run None kept k = stage_known p past s run run.stage kept k
-run_known p past s run (Some body) kept k = body_known p past s run body _ refl kept k
+run_known p past s run None kept work k = stage_known p past s run run.stage kept work k
+run_known p past s run (Some body) kept work k = body_known p past s run body _ refl kept k
 
-place_known : (p : Program) (past : List Seen) (s : State) (x : Place) → Kept s → KnownAt p past s → Follows p past (step.loop_step p s x)
-place_known p past s (Main i) kept k = main_known p past s i _ refl kept k
-place_known p past s (Running run) kept k = run_known p past s run run.body kept k
+place_known : (p : Program) (past : List Seen) (s : State) (x : Place) → Kept s → Working s → KnownAt p past s →
+    Follows p past (step.loop_step p s x)
+place_known p past s (Main i) kept work k = main_known p past s i _ refl kept k
+place_known p past s (Running run) kept work k = run_known p past s run run.body kept work k
 
-next_known : (p : Program) (past : List Seen) (s : State) (e : Event) → Kept s → KnownAt p past s → Follows p past (next p s e)
+-- no request stands twice on the lists of those that wait and are run
+apart_ids : (ids : List Id) (id i : Id) → AreDistinct (id ∷ ids) → has_id ids i ≡ true → same_id id i ≡ false
+apart_ids ids id i d e = at (same_id id i) refl where
+  at : (b : Bool) → same_id id i ≡ b → b ≡ false
+  at true s = absurd (both_ways (has_id ids id) d.0 (ap (has_id ids) (same id i s) ∙ e))
+  at false s = refl
+
+take_known : (p : Program) (past : List Seen) (s : State) (n : ℕ) → Working s → KnownAt p past s →
+    Follows p past (step.take s n (next_work s (slice_get s.running n)))
+take_known p past s n work k = at (next_work s (slice_get s.running n)) refl where
+  taken : (t : Id × Request) → TakesFront s n t → Follows p past (step.take s n (Ok t))
+  taken t f =
+      let rest = f.front.rest in
+      let waits : has_id s.waiting t.0 ≡ true = ap (λ (ids : List Id). has_id ids t.0) f.front.are ∙ rw (itself t.0 t.0 refl) refl in
+      let all : AllAsk s.arena.slots IsOpen ((t.0 ∷ rest) ++ run_ids s.running) =
+      subst (λ (ids : List Id). AllAsk s.arena.slots IsOpen (ids ++ run_ids s.running)) f.front.are work.open_ones in
+      let asked = all.each t.0 (rw (itself t.0 t.0 refl) refl) in
+      let opened : is_open t.1.outcome ≡ true =
+      ap (λ (x : Request). is_open x.outcome) (same_Some _ _ (sym (ap request_in f.front.holds) ∙ asked.holds)) ∙ asked.fits in
+      let r = takes s.running n t.0 f.idle in (
+        k.worked.waits t.0 waits,
+        known_told p past (seen.Take n t.1.name t.0) s.arena s.arena s.names (record { binding = λ u b. refl; closing = refl; closed = λ i. refl })
+            (λ i. refl) (λ i g. g)
+            (worked_taken p past s.arena s.waiting (run_ids s.running) (drop 1 s.waiting) (run_ids (slice_set s.running n (Some t.0))) n t.1.name t.0
+            t.1 (ap request_in f.front.holds) opened waits
+            (λ i e. fewer_wait t f i (ap (λ (ids : List Id). has_id ids i) (sym f.front.behind) ∙ e) all.distinct)
+            (λ i e. most t r i (ap (λ (ids : List Id). has_id ids i) (sym r.are) ∙ e)) k.worked) k,
+      )
+    where
+      in_front : (xs ys : List Id) (i : Id) → has_id xs i ≡ true → has_id (xs ++ ys) i ≡ true
+      in_front [] ys i e = cc e
+      in_front (x ∷ xs) ys i e = by (same_id x i) e (in_front xs ys i) where
+        by : (b : Bool) → (b || has_id xs i) ≡ true → (has_id xs i ≡ true → has_id (xs ++ ys) i ≡ true) → (b || has_id (xs ++ ys) i) ≡ true
+        by true g rest = refl
+        by false g rest = rest g
+
+      fewer_wait : (u : Id × Request) (g : TakesFront s n u) (i : Id) → has_id g.front.rest i ≡ true →
+          AreDistinct ((u.0 ∷ g.front.rest) ++ run_ids s.running) → (has_id s.waiting i ≡ true) × (same_id u.0 i ≡ false)
+      fewer_wait u g i e d = (
+        ap (λ (ids : List Id). has_id ids i) g.front.are ∙ either_right (same_id u.0 i) (has_id g.front.rest i) e,
+        apart_ids (g.front.rest ++ run_ids s.running) u.0 i d (in_front g.front.rest (run_ids s.running) i e),
+      )
+
+      most : (u : Id × Request) (r : Takes s.running n u.0) (i : Id) → has_id (r.front ++ u.0 ∷ r.behind) i ≡ true →
+          (u.0 ≡ i) ⊎ (has_id (run_ids s.running) i ≡ true)
+      most u r i e = by (same_id i u.0) refl where
+        by : (b : Bool) → same_id i u.0 ≡ b → (u.0 ≡ i) ⊎ (has_id (run_ids s.running) i ≡ true)
+        by true s = inl (sym (same i u.0 s))
+        by false s = inr (ap (λ (ids : List Id). has_id ids i) r.were ∙ sym (has_middle r.front r.behind u.0 i s) ∙ e)
+
+  at : (t : Result (Id × Request) Why) → next_work s (slice_get s.running n) ≡ t → Follows p past (step.take s n t)
+  at (Err why) e = tt
+  at (Ok t) e = taken t (takes_front s n t e)
+
+finish_known : (p : Program) (past : List Seen) (s : State) (n : ℕ) → Working s → KnownAt p past s →
+    Follows p past (step.finish s n (work_of s (slice_get s.running n)))
+finish_known p past s n work k = at (work_of s (slice_get s.running n)) refl where
+  done : (t : Id × Request) → RunsWork s n t → Follows p past (step.finish s n (Ok t))
+  done t f =
+      let x : Request = record t.1 { outcome = Finished (digest_of t.1.task.rounds (text_of t.1.task)) } in
+      let g = lets_go s.running n t.0 f.busy in
+      let on : has_id (run_ids s.running) t.0 ≡ true =
+      ap (λ (ids : List Id). has_id ids t.0) g.were ∙ has_new_middle g.front g.behind t.0 in
+      let was = k.worked.runs_now t.0 on in
+      let apart : AreDistinct (g.front ++ t.0 ∷ g.behind) = subst AreDistinct g.were (distinct_back s.waiting
+      (run_ids s.running) work.open_ones.distinct)
+      in
+      let told : Worked p (seen.Finish n t.1.name t.0 ∷ past) s.arena s.waiting (run_ids (slice_set s.running n None)) =
+      worked_finished p past s.arena s.waiting (run_ids s.running) (run_ids (slice_set s.running n None)) n t.1.name t.0 on
+      (λ i e. fewer_run t g apart i (ap (λ (ids : List Id). has_id ids i) (sym g.are) ∙ e)) k.worked in
+      let ends : SaysTrue (seen.Finish n t.1.name t.0 ∷ past) t.0 t.1.task (Some (digest_of t.1.task.rounds (text_of t.1.task))) =
+      (was.0, rw (itself t.0 t.0 refl) refl, refl) in
+      let gone : (i : Id) → IsGone s.arena.slots s.arena.free i → IsGone (with_request s t.0 x).arena.slots (with_request s t.0 x).arena.free i =
+      λ i h. gone_turned s.arena.slots s.arena.free t.0 (content.Request t.1) (Some (content.Request x)) i f.holds h in (
+        was,
+        known_told p past (seen.Finish n t.1.name t.0) s.arena (with_request s t.0 x).arena s.names
+            (record { binding = λ u b. refl; closing = refl; closed = λ i. refl })
+            (same_handles s.arena.slots _ t.0 _ _ (request_turns s.arena.slots t.0 t.1 x f.holds) refl refl) gone
+            (worked_ended p (seen.Finish n t.1.name t.0 ∷ past) s.arena (with_request s t.0 x).arena s.waiting
+            (run_ids (slice_set s.running n None)) t.0 t.1 x (request_turns s.arena.slots t.0 t.1 x f.holds) refl ends gone told) k,
+      )
+    where
+      fewer_run : (u : Id × Request) (g : LetsGo s.running n u.0) → AreDistinct (g.front ++ u.0 ∷ g.behind) → (i : Id) →
+          has_id (g.front ++ g.behind) i ≡ true → (has_id (run_ids s.running) i ≡ true) × (same_id u.0 i ≡ false)
+      fewer_run u g d i e = by (same_id i u.0) refl where
+        by : (b : Bool) → same_id i u.0 ≡ b → (has_id (run_ids s.running) i ≡ true) × (same_id u.0 i ≡ false)
+        by true s = absurd (both_ways (has_id (g.front ++ g.behind) u.0) (once_middle g.front g.behind u.0 d)
+            (ap (has_id (g.front ++ g.behind)) (sym (same i u.0 s)) ∙ e))
+        by false s = (
+          ap (λ (ids : List Id). has_id ids i) g.were ∙ has_middle g.front g.behind u.0 i s ∙ e,
+          turned u.0 i ∙ s,
+        )
+
+  at : (t : Result (Id × Request) Why) → work_of s (slice_get s.running n) ≡ t → Follows p past (step.finish s n t)
+  at (Err why) e = tt
+  at (Ok t) e = done t (runs_work s n t e)
+
+next_known : (p : Program) (past : List Seen) (s : State) (e : Event) → Kept s → Working s → KnownAt p past s → Follows p past (next p s e)
 unfolding next
-next_known p past s Loop kept k = place_known p past s s.place kept k
-next_known p past s (Send v) kept k = cond_both (nat_lt v.0 (length s.names)) _ _ (Follows p past)
-    (λ h. plain p past (seen.Send v (ops.send s (live s v)).code) (ops.send s (live s v)).state tt
-    (record { binding = λ u b. refl; closing = refl; closed = λ id. refl }) (send_known p past s v k)) (λ h. tt)
-next_known p past s (Tick ms) kept k = cond_both (nat_le (s.clock + ms) 4611686018427387904) _ _ (Follows p past)
-    (λ h. plain p past (seen.Tick ms) (record s { clock = s.clock + ms }) tt (record {
-      binding = λ u b. refl;
-      closing = refl;
-      closed =
-          λ id. refl;
-    }) k)
+next_known p past s Loop kept work k = place_known p past s s.place kept work k
+next_known p past s (Take n) kept work k = take_known p past s n work k
+next_known p past s (Finish n) kept work k = finish_known p past s n work k
+next_known p past s (Cancel v) kept work k = cond_both (nat_lt v.0 (length s.names)) _ _ (Follows p past)
+    (λ h. plain p past (seen.Cancel v (ops.cancel s (live_request s v)).answer) (ops.cancel s (live_request s v)).state tt (
+      record { binding = λ u b. refl; closing = refl; closed = λ id. refl },
+      record {
+        queued = λ i. refl;
+        taken = λ i. refl;
+        finished = λ i. refl;
+        over = λ i. refl;
+      },
+    ) (cancel_known p past s v k)) (λ h. tt)
+next_known p past s (Send v) kept work k = cond_both (nat_lt v.0 (length s.names)) _ _ (Follows p past)
+    (λ h. plain p past (seen.Send v (ops.send s (live_handle s v)).code) (ops.send s (live_handle s v)).state tt (
+      record { binding = λ u b. refl; closing = refl; closed = λ id. refl },
+      record {
+        queued = λ i. refl;
+        taken = λ i. refl;
+        finished = λ i. refl;
+        over = λ i. refl;
+      },
+    ) (send_known p past s v k)) (λ h. tt)
+next_known p past s (Tick ms) kept work k = cond_both (nat_le (s.clock + ms) 4611686018427387904) _ _ (Follows p past)
+    (λ h. plain p past (seen.Tick ms) (record s { clock = s.clock + ms }) tt (
+      record { binding = λ u b. refl; closing = refl; closed = λ id. refl },
+      record { queued = λ i. refl; taken = λ i. refl; finished = λ i. refl; over = λ i. refl },
+    ) k)
     (λ h. tt)
 
 -- ---- all steps
@@ -489,7 +507,20 @@ known_fresh p = record {
   closing = λ id f. absurd (nothing f.handle f.holds);
   closed = λ id c. cc c;
   over = λ id c. cc c;
+  worked = record {
+    queued = λ id r e. cc e;
+    known = λ id task e. cc e;
+    over = λ id e. cc e;
+    taken = λ id e f. cc e;
+    finished = λ id e. cc e;
+    waits = λ id e. cc e;
+    runs_now = λ id e. absurd (nobody id (sym (ap (λ (ids : List Id). has_id ids id) (none_run (worker_count p))) ∙ e));
+    ended = λ id r e. cc e;
+  };
 } where
+  nobody : (id : Id) → has_id [] id ≡ true → ⊥
+  nobody id e = cc e
+
   nothing : (h : HandleRecord) → ◌≡◌ {A = Option HandleRecord} None (Some h) → ⊥
   nothing h e = cc e
 
@@ -503,22 +534,24 @@ seens ls = map (λ (l : Line). l.seen) ls
 
 -- the lines from a state on, by those of its next step and those from the state after it
 one_more : (p : Program) (told : Told) (past : List Seen) (s : State) (at : Position) (n : Next) (es : List Event) → Kept s → StaysKept n →
-    SentAt told.sent s → SentFollows p told s n → Stands p told s at → order.Follows p told at s n → KnownAt p past s → Follows p past n →
-    ((told' : Told) (before : List Seen) (t : State) (to : Position) → Kept t → SentAt told'.sent t → Stands p told' t to → KnownAt p before t →
+    SentAt told.sent s → SentFollows p told s n → Working s → StaysWorking n → Stands p told s at → order.Follows p told at s n → KnownAt p past s →
+    Follows p past n → ((told' : Told) (before : List Seen) (t : State) (to : Position) → Kept t → SentAt told'.sent t → Working t →
+    Stands p told' t to → KnownAt p before t →
     OnceFrom p before (seens (history_from p t es))) → OnceFrom p past (seens (line_of_step s n ++ history_from p (state_of s n) es))
-one_more p told past s at (Moves t (Some l)) es kept j a i h f k g more = (g.0, more (told_by p told s l) (l ∷ past) t f.to j i f.stands g.1)
-one_more p told past s at (Moves t None) es kept j a i h f k g more = more told past t at j i f.0 g
-one_more p told past s at (Refuses why) es kept j a i h f k g more = more told past s at kept a h k
+one_more p told past s at (Moves t (Some l)) es kept j a i w x h f k g more = (g.0, more (told_by p told s l) (l ∷ past) t f.to j i x f.stands g.1)
+one_more p told past s at (Moves t None) es kept j a i w x h f k g more = more told past t at j i x f.0 g
+one_more p told past s at (Refuses why) es kept j a i w x h f k g more = more told past s at kept a w h k
 
 once_from : (p : Program) (es : List Event) (told : Told) (past : List Seen) (s : State) (at : Position) → Kept s → SentAt told.sent s →
-    Stands p told s at → KnownAt p past s → OnceFrom p past (seens (history_from p s es))
-once_from p [] told past s at kept sent h k = tt
-once_from p (e ∷ es) told past s at kept sent h k =
-    one_more p told past s at (next p s e) es kept (next_kept p s e (rested_at p s s.place at h.stands) kept) sent (next_sent p told s e kept sent) h
-    (follows p told s at e kept sent h) k (next_known p past s e kept k) (once_from p es)
+    Working s → Stands p told s at → KnownAt p past s → OnceFrom p past (seens (history_from p s es))
+once_from p [] told past s at kept sent w h k = tt
+once_from p (e ∷ es) told past s at kept sent w h k =
+    one_more p told past s at (next p s e) es kept (next_kept p s e (rested_at p s s.place at h.stands) kept) sent (next_sent p told s e kept sent) w
+    (next_working p s e (calm_at p s s.place at h.stands) kept w) h (follows p told s at e kept sent w h) k (next_known p past s e kept w k)
+    (once_from p es)
 
 -- by the lines of any events each handle closes once
 pub once : (p : Program) (es : List Event) → Once p (lines p es)
 unfolding history
 once p es = subst (Once p) (sym (lines-history p es))
-    (once_from p es nothing_told [] (fresh p) (Between 0) (fresh_kept p) (sent_fresh p) (stands_fresh p) (known_fresh p))
+    (once_from p es nothing_told [] (fresh p) (Between 0) (fresh_kept p) (sent_fresh p) (fresh_working p) (stands_fresh p) (known_fresh p))

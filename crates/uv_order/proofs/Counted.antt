@@ -28,10 +28,13 @@ counted_kept p now was told same k = record { long = same.long ∙ k.long; calls
 
 no_calls : (kind : Callback) (n : ℕ) (i : ℕ) → count_of kind (unwrap_or (slice_get (replicate n unbound) i) unbound).calls ≡ 0
 no_calls callback.Handle zero i = refl
+no_calls callback.After zero i = refl
 no_calls callback.Close zero i = refl
 no_calls callback.Handle (suc n) zero = refl
+no_calls callback.After (suc n) zero = refl
 no_calls callback.Close (suc n) zero = refl
 no_calls callback.Handle (suc n) (suc i) = no_calls callback.Handle n i
+no_calls callback.After (suc n) (suc i) = no_calls callback.After n i
 no_calls callback.Close (suc n) (suc i) = no_calls callback.Close n i
 
 replicate_long : (n : ℕ) → length (replicate n unbound) ≡ n
@@ -40,6 +43,7 @@ replicate_long (suc n) = ap suc (replicate_long n)
 
 none_told : (kind : Callback) (v : Var) → times (told_of kind nothing_told) v ≡ 0
 none_told callback.Handle v = refl
+none_told callback.After v = refl
 none_told callback.Close v = refl
 
 pub counted_fresh : (p : Program) → Counted p (fresh p).names nothing_told
@@ -63,6 +67,7 @@ set_there (n ∷ names) (suc i) (suc j) x d = set_there names i j x (λ e. d (ap
 -- one call of a name's callback more is told, by the line of this id
 abbrev pub told_call : Callback → Var → Id → Told → Told
 told_call callback.Handle v id told = record told { called = v ∷ told.called; sent = without_id told.sent id }
+told_call callback.After v id told = record told { after = v ∷ told.after }
 told_call callback.Close v id told = record told { closed = v ∷ told.closed }
 
 -- whoever is sent to, the calls are as before
@@ -72,6 +77,7 @@ counted_sent p names told sent k = record { long = k.long; calls = λ kind v l. 
   at : (kind : Callback) (v : Var) → v.0 < length p.callbacks →
       count_of kind (counts_in names v) ≡ times (told_of kind (record told { sent = sent })) v
   at callback.Handle v l = k.calls callback.Handle v l
+  at callback.After v l = k.calls callback.After v l
   at callback.Close v l = k.calls callback.Close v l
 
 -- one more of a callback is none more of another
@@ -79,17 +85,27 @@ told_more : (kind other : Callback) (v u : Var) (id : Id) (told : Told) (c : Cou
     count_of other c ≡ times (told_of other told) u →
     count_of other (counted kind c) ≡ times (told_of other (told_call kind v id told)) u
 told_more callback.Handle callback.Handle v u id told c e h = rw e (omega (arith, h))
+told_more callback.After callback.After v u id told c e h = rw e (omega (arith, h))
 told_more callback.Close callback.Close v u id told c e h = rw e (omega (arith, h))
+told_more callback.Handle callback.After v u id told c e h = h
 told_more callback.Handle callback.Close v u id told c e h = h
+told_more callback.After callback.Handle v u id told c e h = h
+told_more callback.After callback.Close v u id told c e h = h
 told_more callback.Close callback.Handle v u id told c e h = h
+told_more callback.Close callback.After v u id told c e h = h
 
 told_same : (kind other : Callback) (v u : Var) (id : Id) (told : Told) → (v.0 == u.0) ≡ false →
     times (told_of other (told_call kind v id told)) u ≡ times
     (told_of other told) u
 told_same callback.Handle callback.Handle v u id told e = rw e refl
+told_same callback.After callback.After v u id told e = rw e refl
 told_same callback.Close callback.Close v u id told e = rw e refl
+told_same callback.Handle callback.After v u id told e = refl
 told_same callback.Handle callback.Close v u id told e = refl
+told_same callback.After callback.Handle v u id told e = refl
+told_same callback.After callback.Close v u id told e = refl
 told_same callback.Close callback.Handle v u id told e = refl
+told_same callback.Close callback.After v u id told e = refl
 
 -- a name is called once more
 pub counted_call : (p : Program) (names : List Named) (told : Told) (kind : Callback) (v : Var) (id : Id) (x : Named) →
@@ -119,6 +135,7 @@ past (x ∷ all) (suc i) l = past all i (omega arith)
 
 none_in : (kind : Callback) → lines_of kind no_callbacks ≡ []
 none_in callback.Handle = refl
+none_in callback.After = refl
 none_in callback.Close = refl
 
 empty_body : (p : Program) (kind : Callback) (v : Var) (call : ℕ) → lines_in p kind v ≡ [] → body_of p kind v call ≡ []

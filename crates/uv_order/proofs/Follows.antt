@@ -1,11 +1,11 @@
 -- A whole step goes on from where the state stands, and so does every list of them.
-use Rattle.std.proofs.Common.{◌≡◌, ℕ, ◌+◌, List, [], ◌∷◌, ◌++◌, Option, Some, None, length, slice_get, nat_le, nat_lt, refl, ap, sym, ◌∙◌, if◌then◌else◌}
+use Rattle.std.proofs.Common.{◌≡◌, ℕ, ◌+◌, List, [], ◌∷◌, ◌++◌, Option, Some, None, Result, Ok, Err, drop, length, slice_get, slice_set, nat_le, nat_lt, refl, ap, sym, ◌∙◌, if◌then◌else◌}
 use Rattle.std.specs.Prelude.{option_map}
 use Rattle.std.proofs.lemmas.Bool.{cond_both}
 use Rattle.uv_ids.specs.declared.id.Id.{Id}
 use Rattle.uv_ids.specs.declared.id.Var.{Var}
 use Rattle.uv_ids.specs.declared.event.Event.{Event}
-use Rattle.uv_ids.specs.declared.event.Event.TheVariants.{Loop, Send, Tick}
+use Rattle.uv_ids.specs.declared.event.Event.TheVariants.{Loop, Take, Finish, Cancel, Send, Tick}
 use Rattle.uv_ids.specs.declared.code.Code.TheVariants as code
 use Rattle.uv_ids.specs.declared.code.Answer.{Answer}
 use Rattle.uv_ids.specs.declared.code.Answer.TheVariants as answer
@@ -21,6 +21,11 @@ use Rattle.uv_script.specs.declared.op.MainOp.TheVariants as main
 use Rattle.uv_script.specs.declared.op.CallbackLine.{CallbackLine}
 use Rattle.uv_script.specs.Program.{Program, lines_in, main_op}
 use Rattle.uv_records.specs.declared.handle.HandleRecord.{HandleRecord}
+use Rattle.uv_records.specs.Slots.{held}
+use Rattle.uv_ids.specs.declared.fault.Why.{Why}
+use Rattle.uv_model.specs.declared.content.Content.TheVariants as content
+use Rattle.uv_model.specs.declared.request.Request.{Request}
+use Rattle.uv_model.specs.Ids.{without_id}
 use Rattle.uv_model.specs.declared.place.Body.{Body}
 use Rattle.uv_model.specs.declared.place.Run.{Run}
 use Rattle.uv_model.specs.declared.place.Stage.{Stage}
@@ -32,51 +37,69 @@ use Rattle.uv_model.specs.declared.place.Place.{Place}
 use Rattle.uv_model.specs.declared.place.Place.TheVariants as place
 use Rattle.uv_records.specs.declared.lists.WatcherKind.TheVariants as watcher
 use Rattle.uv_records.specs.Handles as records
-use Rattle.uv_model.specs.State.{State, fresh, handle, with_handle, refreshed}
+use Rattle.uv_model.specs.State.{State, fresh, handle, with_handle, with_request, refreshed}
 use Rattle.uv_model.specs.Ops as ops
 use Rattle.uv_model.specs.Ops.{do_op}
 use Rattle.uv_model.specs.Next as step
-use Rattle.uv_model.specs.Next.{Next, Moves, Refuses, next, goes, is_default, call, calls, first_due, collected, front_moved, may_leave, body_from}
+use Rattle.uv_model.specs.Next.{Next, Moves, Refuses, next, goes, is_default, call, calls, first_due, collected, front_moved, may_leave, body_from, next_work, work_of}
 use Rattle.uv_model.specs.After.{state_of}
 use Rattle.uv_order.specs.History.{line_of_step, history_from, history}
 use Rattle.uv_order.specs.Documented as doc
-use Rattle.uv_order.specs.Documented.{Told, nothing_told, told_of, told_by, Lasting, lasting, at_first, Section, Entry, In, word_of, part_after, part_of, Walk, Opens, IsOver, CallsNext, MayCall, is_called, callback_in, call_line, Standing, Begun, Within, Polling, MayLeave, PollsFor, Position, Between, Running, Goes, GoesOn, cut, line, Documented, body_of, next_call, taken_off}
-use Rattle.uv_order.proofs.IdLists.{left_of, more_off}
-use Rattle.uv_order.proofs.OpCases.{live_held, send_both}
+use Rattle.uv_order.specs.Documented.{Told, nothing_told, told_of, told_by, Lasting, lasting, at_first, Section, Entry, In, word_of, part_after, part_of, Walk, Opens, IsOver, CallsNext, MayCall, is_called, callback_in, IsCallLine, Standing, Begun, Within, Polling, MayLeave, PollsFor, Position, Between, Running, Goes, GoesOn, cut, line, Documented, body_of, next_call, taken_off}
+use Rattle.uv_order.proofs.IdLists.{left_of, none_off, more_off}
+use Rattle.uv_order.proofs.Holding.{SameHandles, same_handles}
+use Rattle.uv_order.proofs.OpCases.{live_held, send_both, cancel_both}
 use Rattle.uv_order.proofs.Keeping.{Kept}
 use Rattle.uv_order.proofs.KeptSteps.{StaysKept, next_kept, fresh_kept, IsRestedAt, IsRestedIn}
+use Rattle.uv_order.proofs.Working.{Working, StaysWorking, next_working, fresh_working, IsCalmIn, IsCalmAt}
+use Rattle.uv_order.proofs.Asked.{runs_work, request_turns}
 use Rattle.uv_order.proofs.Bodies.{IsBody, is_body}
 use Rattle.uv_order.proofs.OpEffects.{Effect, op_effect}
 use Rattle.uv_order.proofs.Counted.{Counted, counted_kept, counted_sent, counted_fresh}
-use Rattle.uv_order.proofs.Sends.{SentAt, SentFollows, next_sent, sent_fresh, still_sent, pass_more, pends_more}
-use Rattle.uv_order.proofs.Standing.{bare, section_of, StandsIn, waiting, rest, Leaves, NobodyLeft, due_now, StandsAt, Stands, FollowsLine, Follows, idle_next, done_next, async_next, bare_over, opens_bare, async_moved, begun, pending, idle, prepare, polls, done, async, check, closing, collects, fires, between, running}
+use Rattle.uv_order.proofs.Sends.{pends_in, SentAt, SentFollows, next_sent, sent_fresh, still_sent, pass_more, pends_more}
+use Rattle.uv_order.proofs.Standing.{bare, begun_with, are_ended, section_of, StandsIn, waiting, rest, Leaves, NobodyLeft, due_now, StandsAt, Stands, FollowsLine, Follows, idle_next, done_next, bare_over, async_moved, begun, pending, idle, prepare, polls, done, async, check, closing, collects, fires, between, running}
 use Rattle.uv_order.proofs.TimersFollow.{enter_follows, timers_left, left_timers, fire_follows, collect_follows}
-use Rattle.uv_order.proofs.WatchersFollow.{begin_follows, bare_follows, walk_follows, async_follows, closing_follows}
+use Rattle.uv_order.proofs.WatchersFollow.{begin_follows, walk_follows, async_follows, done_follows, closing_follows}
 
 -- ---- a stage
 
 -- the poll is left where it may be
-pub left_poll : (p : Program) (told : Told) (s : State) (run : Run) (deadline : Option ℕ) → Counted p s.names told → NobodyLeft (rest s.ready s) →
-    Follows p told (Running run.mode run.line (Polling deadline)) s (step.poll s run deadline)
-left_poll p told s run deadline c e = cond_both (may_leave s deadline) _ _ (Follows p told (Running run.mode run.line (Polling deadline)) s)
-    (λ h. bare_follows p told s (refreshed s) run stage.Done phase.Done (Polling deadline) h done_next (opens_bare phase.Done told _ refl refl)
-    refl done
-    (record { timers = e.timers; idle = e.idle; prepare = e.prepare; check = e.check; async = e.async; closing = e.closing }) c)
+pub left_poll : (p : Program) (told : Told) (s : State) (run : Run) (deadline : Option ℕ) → Working s → Counted p s.names told →
+    NobodyLeft (rest s.ready s) → Follows p told (Running run.mode run.line (Polling deadline)) s (step.poll s run deadline)
+left_poll p told s run deadline g c e = cond_both (may_leave s deadline) _ _ (Follows p told (Running run.mode run.line (Polling deadline)) s)
+    (λ h. record {
+      to = Running run.mode run.line (Within (In phase.Done) (begun_with s.done.list));
+      goes = doc.section (In phase.Done) h (done_next run.mode (goes s)) refl
+          (record { list = (refl, are_ended s e.done g); off = refl; sent = refl; body = refl }) refl;
+      stands = record {
+        stands = running (done refl) (record {
+          timers = e.timers;
+          idle = e.idle;
+          prepare = e.prepare;
+          check = e.check;
+          async = e.async;
+          closing = e.closing;
+          done = sym (none_off s.done.list);
+        });
+        counted = c;
+      };
+    })
     (λ h. tt)
 
 pub stage_follows : (p : Program) (told : Told) (s : State) (run : Run) (x : Stage) (at : Standing) → run.stage ≡ x → Kept s →
-    SentAt told.sent s → Counted p s.names told → StandsIn p None x at → Leaves (rest (waiting x s.ready (due_now s)) s) at →
+    SentAt told.sent s → Working s → Counted p s.names told → StandsIn p None x at → Leaves (rest (waiting x s.ready (due_now s)) s) at →
     Follows p told (Running run.mode run.line at) s (step.stage_step p s
     run x)
-stage_follows p told s run stage.Entry at st k h c begun l = enter_follows p told s run k c (record {
+stage_follows p told s run stage.Entry at st k h g c begun l = enter_follows p told s run k c (record {
   timers = l.timers;
   idle = l.idle;
   prepare = l.prepare;
   check = l.check;
   async = l.async;
   closing = l.closing;
+  done = l.done;
 })
-stage_follows p told s run stage.Pending at st k h c pending l =
+stage_follows p told s run stage.Pending at st k h g c pending l =
     begin_follows p told s run watcher.Idle (Within (In phase.Pending) bare) (bare_over phase.Pending) idle_next k h c (record {
       timers = l.timers;
       idle = l.idle;
@@ -84,31 +107,25 @@ stage_follows p told s run stage.Pending at st k h c pending l =
       check = l.check;
       async = l.async;
       closing = l.closing;
+      done = l.done;
     })
-stage_follows p told s run stage.Idle at st k h c (idle b) l = walk_follows p told s run watcher.Idle _ tt st k h c l b
-stage_follows p told s run stage.Prepare at st k h c (prepare b) l = walk_follows p told s run watcher.Prepare _ tt st k h c l b
-stage_follows p told s run (stage.Poll deadline) at st k h c polls l = left_poll p told s run deadline c (record {
+stage_follows p told s run stage.Idle at st k h g c (idle b) l = walk_follows p told s run watcher.Idle _ tt st k h c l b
+stage_follows p told s run stage.Prepare at st k h g c (prepare b) l = walk_follows p told s run watcher.Prepare _ tt st k h c l b
+stage_follows p told s run (stage.Poll deadline) at st k h g c polls l = left_poll p told s run deadline g c (record {
   timers = l.timers;
   idle = l.idle;
   prepare = l.prepare;
   check = l.check;
   async = l.async;
   closing = l.closing;
+  done = l.done;
 })
-stage_follows p told s run stage.Done at st k h c done l =
-    begin_follows p told s run watcher.Async (Within (In phase.Done) bare) (bare_over phase.Done) async_next k h c (record {
-      timers = l.timers;
-      idle = l.idle;
-      prepare = l.prepare;
-      check = l.check;
-      async = l.async;
-      closing = l.closing;
-    })
-stage_follows p told s run stage.Async at st k h c (async b) l = async_follows p told s run _ st k h c l b
-stage_follows p told s run stage.Check at st k h c (check b) l = walk_follows p told s run watcher.Check _ tt st k h c l b
-stage_follows p told s run stage.Closing at st k h c (closing b) l = closing_follows p told s run _ st k c l b
-stage_follows p told s run (stage.Timers part Collecting) at st k h c (collects b) l = collect_follows p told s run part _ k c l b
-stage_follows p told s run (stage.Timers part Firing) at st k h c (fires b) l = fire_follows p told s run part _ k c l b
+stage_follows p told s run stage.Done at st k h g c (done b) l = done_follows p told s run _ st k h g c l b
+stage_follows p told s run stage.Async at st k h g c (async b) l = async_follows p told s run _ st k h c l b
+stage_follows p told s run stage.Check at st k h g c (check b) l = walk_follows p told s run watcher.Check _ tt st k h c l b
+stage_follows p told s run stage.Closing at st k h g c (closing b) l = closing_follows p told s run _ st k c l b
+stage_follows p told s run (stage.Timers part Collecting) at st k h g c (collects b) l = collect_follows p told s run part _ k c l b
+stage_follows p told s run (stage.Timers part Firing) at st k h g c (fires b) l = fire_follows p told s run part _ k c l b
 
 -- ---- a body
 
@@ -134,6 +151,7 @@ none_left s o k l =
       check = still_none _ s.check.yet _ f.check l.check;
       async = still_none _ s.async.yet _ f.async l.async;
       closing = f.closing ∙ l.closing;
+      done = f.done ∙ l.done;
     }
 
 -- who is left after an op, in each section that calls
@@ -151,6 +169,7 @@ idle_left s o w more k l =
       check = still_none _ s.check.yet _ f.check l.check;
       async = still_none _ s.async.yet _ f.async l.async;
       closing = f.closing ∙ l.closing;
+      done = f.done ∙ l.done;
     }
 
 pub prepare_left : (s : State) (o : Op) (w : Walk) (more : List Site) → Kept s → Leaves (rest s.ready s) (Within (In phase.Prepare) w) →
@@ -165,6 +184,7 @@ prepare_left s o w more k l =
       check = still_none _ s.check.yet _ f.check l.check;
       async = still_none _ s.async.yet _ f.async l.async;
       closing = f.closing ∙ l.closing;
+      done = f.done ∙ l.done;
     }
 
 pub check_left : (s : State) (o : Op) (w : Walk) (more : List Site) → Kept s → Leaves (rest s.ready s) (Within (In phase.Check) w) →
@@ -179,6 +199,7 @@ check_left s o w more k l =
       check = more_left w.ahead w.off _ s.check.yet _ f.check l.check;
       async = still_none _ s.async.yet _ f.async l.async;
       closing = f.closing ∙ l.closing;
+      done = f.done ∙ l.done;
     }
 
 pub async_left : (s : State) (told : Told) (o : Op) (w : Walk) (more : List Site) → Kept s → SentAt told.sent s →
@@ -199,6 +220,7 @@ async_left s told o w more k h l =
         still = still_sent s told o s.async.yet _ w.sent k h f.async l.async.still;
       };
       closing = f.closing ∙ l.closing;
+      done = f.done ∙ l.done;
     }
 
 -- no op takes a handle off the closing list
@@ -212,6 +234,7 @@ closing_takes_none s o (answer.Code code.Efull) = refl
 closing_takes_none s o (answer.Code code.Estale) = refl
 closing_takes_none s o (answer.Code code.Ekind) = refl
 closing_takes_none s o (answer.Id id) = refl
+closing_takes_none s o (answer.Cancelled id) = refl
 closing_takes_none s o (answer.Number n) = refl
 closing_takes_none s o (answer.Flag b) = refl
 closing_takes_none s o (answer.Timeout t) = refl
@@ -229,6 +252,38 @@ closing_left s o w more k l =
       async = still_none _ s.async.yet _ f.async l.async;
       closing = f.closing ∙ l.closing
           ∙ ap (λ (off : List Id). left_of w.ahead (off ++ w.off)) (sym (closing_takes_none s o (do_op s o).answer));
+      done = f.done ∙ l.done;
+    }
+
+-- nor a request off the list of those that are done
+pub done_takes_none : (s : State) (o : Op) (a : Answer) → taken_off phase.Done s o a ≡ []
+done_takes_none s o (answer.Code code.Ok) = refl
+done_takes_none s o (answer.Code code.Einval) = refl
+done_takes_none s o (answer.Code code.Ebusy) = refl
+done_takes_none s o (answer.Code code.Ecanceled) = refl
+done_takes_none s o (answer.Code code.Ebound) = refl
+done_takes_none s o (answer.Code code.Efull) = refl
+done_takes_none s o (answer.Code code.Estale) = refl
+done_takes_none s o (answer.Code code.Ekind) = refl
+done_takes_none s o (answer.Id id) = refl
+done_takes_none s o (answer.Cancelled id) = refl
+done_takes_none s o (answer.Number n) = refl
+done_takes_none s o (answer.Flag b) = refl
+done_takes_none s o (answer.Timeout t) = refl
+
+pub done_left : (s : State) (o : Op) (w : Walk) (more : List Site) → Kept s → Leaves (rest s.ready s) (Within (In phase.Done) w) →
+    LeavesAfter s o (In phase.Done) w more
+done_left s o w more k l =
+    let f = op_effect s o k in
+    record {
+      timers = still_none _ s.ready _ f.ready l.timers;
+      idle = still_none _ s.idle.yet _ f.idle l.idle;
+      prepare = still_none _ s.prepare.yet _ f.prepare l.prepare;
+      check = still_none _ s.check.yet _ f.check l.check;
+      async = still_none _ s.async.yet _ f.async l.async;
+      closing = f.closing ∙ l.closing;
+      done = f.done ∙ l.done
+          ∙ ap (λ (off : List Id). left_of w.ahead (off ++ w.off)) (sym (done_takes_none s o (do_op s o).answer));
     }
 
 pub timers_after_op : (s : State) (o : Op) (part : TimersOf) (w : Walk) (more : List Site) → Kept s →
@@ -245,6 +300,7 @@ timers_after_op s o part w more k l =
       check = still_none _ s.check.yet _ f.check left.check;
       async = still_none _ s.async.yet _ f.async left.async;
       closing = f.closing ∙ left.closing;
+      done = f.done ∙ left.done;
     })
   where
     ready : (x : TimersOf) → Effect s o (do_op s o) → s.ready ≡ left_of w.ahead w.off → (do_op s o).state.ready ≡ left_of w.ahead (done_one s o
@@ -293,6 +349,7 @@ body_follows p told s run body x at None st e k h c (prepare b) l = absurd (noth
 body_follows p told s run body x at None st e k h c (check b) l = absurd (nothing_there e b.there)
 body_follows p told s run body x at None st e k h c (async b) l = absurd (nothing_there e b.there)
 body_follows p told s run body x at None st e k h c (closing b) l = absurd (nothing_there e b.there)
+body_follows p told s run body x at None st e k h c (done b) l = absurd (nothing_there e b.there)
 body_follows p told s run body x at None st e k h c (fires b) l = absurd (nothing_there e b.there)
 body_follows p told s run body x at (Some y) st e k h c (idle {w = w} b) l =
     op_follows p told s run body (In phase.Idle) w y e k c b (λ more is. rw st (running (idle is) (idle_left s y.op w more k l)))
@@ -304,6 +361,8 @@ body_follows p told s run body x at (Some y) st e k h c (async {w = w} b) l =
     op_follows p told s run body (In phase.Async) w y e k c b (λ more is. rw st (running (async is) (async_left s told y.op w more k h l)))
 body_follows p told s run body x at (Some y) st e k h c (closing {w = w} b) l =
     op_follows p told s run body (In phase.Closing) w y e k c b (λ more is. rw st (running (closing is) (closing_left s y.op w more k l)))
+body_follows p told s run body x at (Some y) st e k h c (done {w = w} b) l =
+    op_follows p told s run body (In phase.Done) w y e k c b (λ more is. rw st (running (done is) (done_left s y.op w more k l)))
 body_follows p told s run body x at (Some y) st e k h c (fires {part = part} {w = w} b) l =
     op_follows p told s run body (section_of part) w y e k c b (λ more is. rw st (running (fires is) (timers_after_op s y.op part w more k l)))
 
@@ -340,6 +399,7 @@ main_follows p told s i (Some (main.Run m)) e k c l = record {
       check = l.check;
       async = l.async;
       closing = l.closing;
+      done = l.done;
     });
     counted = c;
   }
@@ -351,6 +411,7 @@ main_follows p told s i (Some (main.Run m)) e k c l = record {
       check = l.check;
       async = l.async;
       closing = l.closing;
+      done = l.done;
     });
     counted = c;
   }
@@ -362,6 +423,7 @@ main_follows p told s i (Some (main.Run m)) e k c l = record {
       check = l.check;
       async = l.async;
       closing = l.closing;
+      done = l.done;
     });
     counted = c;
   }
@@ -376,17 +438,17 @@ main_follows p told s i (Some (main.Op o)) e k c l = record {
 }
 
 pub run_follows : (p : Program) (told : Told) (s : State) (run : Run) (body : Option Body) (at : Standing) → Kept s → SentAt told.sent s →
-    Counted p s.names told →
+    Working s → Counted p s.names told →
     StandsIn p body run.stage at → Leaves (rest (waiting run.stage s.ready (due_now s)) s) at → Follows p told (Running run.mode run.line at) s
     (step.run_step p s run body)
-run_follows p told s run None at k sent c h l = stage_follows p told s run run.stage at refl k sent c h l
-run_follows p told s run (Some body) at k sent c h l =
+run_follows p told s run None at k sent g c h l = stage_follows p told s run run.stage at refl k sent g c h l
+run_follows p told s run (Some body) at k sent g c h l =
     body_follows p told s run body run.stage at (slice_get (lines_in p body.callback body.name) body.next) refl refl k sent c h l
 
 pub place_follows : (p : Program) (told : Told) (s : State) (x : Place) (at : Position) → Kept s → SentAt told.sent s →
-    Counted p s.names told → StandsAt p s x at → Follows p told at s (step.loop_step p s x)
-place_follows p told s (place.Main i) at k sent c (between e) = main_follows p told s i (slice_get p.main i) refl k c e
-place_follows p told s (place.Running run) at k sent c (running h l) = run_follows p told s run run.body _ k sent c h l
+    Working s → Counted p s.names told → StandsAt p s x at → Follows p told at s (step.loop_step p s x)
+place_follows p told s (place.Main i) at k sent g c (between e) = main_follows p told s i (slice_get p.main i) refl k c e
+place_follows p told s (place.Running run) at k sent g c (running h l) = run_follows p told s run run.body _ k sent g c h l
 
 pub tick_follows : (p : Program) (told : Told) (s : State) (at : Position) (ms : ℕ) → Stands p told s at → Follows p told at s (step.tick s ms)
 tick_follows p told s at ms h = cond_both (nat_le (s.clock + ms) 4611686018427387904) _ _ (Follows p told at s)
@@ -427,6 +489,7 @@ send_follows p told s at v h = cond_both (nat_lt v.0 (length s.names)) _ _ (Foll
       check = e.check;
       async = e.async;
       closing = e.closing;
+      done = e.done;
     })
     moved t f (place.Running run) y (running {at = b} a l) = running a (record {
       timers = l.timers;
@@ -435,14 +498,86 @@ send_follows p told s at v h = cond_both (nat_lt v.0 (length s.names)) _ _ (Foll
       check = l.check;
       async = async_moved s.arena.slots _ (pends_more s.arena.slots t.0 t.1 (records.sent t.1) f refl) b s.async.yet l.async;
       closing = l.closing;
+      done = l.done;
     })
 
-pub follows : (p : Program) (told : Told) (s : State) (at : Position) (e : Event) → Kept s → SentAt told.sent s → Stands p told s at →
+-- the lists of requests are no places
+works_on : (p : Program) (s : State) (ids : List Id) (workers : List (Option Id)) (x : Place) (at : Position) → StandsAt p s x at →
+    StandsAt p (record s { waiting = ids; running = workers }) x at
+works_on p s ids workers (place.Main i) at (between e) = between e
+works_on p s ids workers (place.Running run) at (running a l) = running a l
+
+take_follows : (p : Program) (told : Told) (s : State) (at : Position) (n : ℕ) (t : Result (Id × Request) Why) → Stands p told s at →
+    Follows p told at s (step.take s n t)
+take_follows p told s at n (Err why) h = tt
+take_follows p told s at n (Ok t) h = record {
+  to = at;
+  goes = doc.taken n t.1.name t.0 refl refl;
+  stands = record { stands = works_on p s (drop 1 s.waiting) (slice_set s.running n (Some t.0)) s.place at h.stands; counted = h.counted };
+}
+
+-- a request ends
+ends_on : (p : Program) (s : State) (t : Id × Request) (x : Request) (ids : List Id) (workers : List (Option Id)) →
+    held s.arena.slots t.0 ≡ Some (content.Request t.1) → (y : Place) (at : Position) → StandsAt p s y at →
+    StandsAt p (record (with_request s t.0 x) { waiting = ids; running = workers; done = record s.done { list = s.done.list ++ t.0 ∷ [] } }) y at
+ends_on p s t x ids workers e (place.Main i) at (between l) = between (record {
+  timers = l.timers;
+  idle = l.idle;
+  prepare = l.prepare;
+  check = l.check;
+  async = l.async;
+  closing = l.closing;
+  done = l.done;
+})
+ends_on p s t x ids workers e (place.Running run) at (running {at = b} a l) = running a (record {
+  timers = l.timers;
+  idle = l.idle;
+  prepare = l.prepare;
+  check = l.check;
+  async = async_moved s.arena.slots _ (λ i on. ap pends_in (same i) ∙ on) b s.async.yet l.async;
+  closing = l.closing;
+  done = l.done;
+}) where
+  same : SameHandles (with_request s t.0 x).arena.slots s.arena.slots
+  same = same_handles s.arena.slots _ t.0 _ _ (request_turns s.arena.slots t.0 t.1 x e) refl refl
+
+finish_follows : (p : Program) (told : Told) (s : State) (at : Position) (n : ℕ) → Stands p told s at →
+    Follows p told at s (step.finish s n (work_of s (slice_get s.running n)))
+finish_follows p told s at n h = by (work_of s (slice_get s.running n)) refl where
+  by : (t : Result (Id × Request) Why) → work_of s (slice_get s.running n) ≡ t → Follows p told at s (step.finish s n t)
+  by (Err why) e = tt
+  by (Ok t) e = record {
+    to = at;
+    goes = doc.finished n t.1.name t.0 refl refl;
+    stands = record {
+      stands = ends_on p s t _ s.waiting (slice_set s.running n None) (runs_work s n t e).holds s.place at h.stands;
+      counted = h.counted;
+    };
+  }
+
+cancel_follows : (p : Program) (told : Told) (s : State) (at : Position) (v : Var) → Stands p told s at → Follows p told at s (step.cancels s v)
+cancel_follows p told s at v h = cond_both (nat_lt v.0 (length s.names)) _ _ (Follows p told at s)
+    (λ e. cancel_both s v (λ (d : ops.Done). FollowsLine p told at s (seen.Cancel v d.answer) d.state)
+    (λ c no_success. record { to = at; goes = doc.cancelled v (answer.Code c) refl refl; stands = h })
+    (λ t live on. record {
+      to = at;
+      goes = doc.cancelled v (answer.Cancelled t.0) refl refl;
+      stands = record {
+        stands = ends_on p s t _ (without_id s.waiting t.0) s.running live.holds s.place at h.stands;
+        counted = h.counted;
+      };
+    }))
+    (λ e. tt)
+
+pub follows : (p : Program) (told : Told) (s : State) (at : Position) (e : Event) → Kept s → SentAt told.sent s → Working s → Stands p told s at →
     Follows p told at s (next p s e)
 unfolding next
-follows p told s at Loop k sent h = place_follows p told s s.place at k sent h.counted h.stands
-follows p told s at (Send v) k sent h = send_follows p told s at v h
-follows p told s at (Tick ms) k sent h = tick_follows p told s at ms h
+follows p told s at Loop k sent g h = place_follows p told s s.place at k sent g h.counted h.stands
+follows p told s at (Take n) k sent g h = take_follows p told s at n (next_work s (slice_get s.running n)) h
+follows p told s at (Finish n) k sent g h = finish_follows p told s at n h
+follows p told s at (Cancel v) k sent g h = cancel_follows p told s at v h
+follows p told s at (Send v) k sent g h = send_follows p told s at v h
+follows p told s at (Tick ms) k sent g h = tick_follows p told s at ms h
 
 -- ---- all steps
 
@@ -455,40 +590,59 @@ rested_in p s None stage.Pending at pending l = l.idle
 rested_in p s None stage.Idle at (idle b) l = l.prepare
 rested_in p s None stage.Prepare at h l = tt
 rested_in p s None (stage.Poll deadline) at h l = tt
-rested_in p s None stage.Done at done l = l.async
+rested_in p s None stage.Done at (done b) l = l.async
 rested_in p s None stage.Async at (async b) l = l.check
 rested_in p s None stage.Check at (check b) l = l.closing
 rested_in p s None stage.Closing at h l = tt
 rested_in p s None (stage.Timers part timing) at h l = tt
+
+-- and the poll is left only where no request that is done is yet to call back
+calm_in : (p : Program) (s : State) (body : Option Body) (x : Stage) (at : Standing) → StandsIn p body x at →
+    Leaves (rest (waiting x s.ready (due_now s)) s) at → IsCalmIn body x s
+calm_in p s (Some body) x at h l = tt
+calm_in p s None stage.Entry at h l = tt
+calm_in p s None stage.Pending at h l = tt
+calm_in p s None stage.Idle at h l = tt
+calm_in p s None stage.Prepare at h l = tt
+calm_in p s None (stage.Poll deadline) at polls l = l.done
+calm_in p s None stage.Done at h l = tt
+calm_in p s None stage.Async at h l = tt
+calm_in p s None stage.Check at h l = tt
+calm_in p s None stage.Closing at h l = tt
+calm_in p s None (stage.Timers part timing) at h l = tt
+
+pub calm_at : (p : Program) (s : State) (x : Place) (at : Position) → StandsAt p s x at → IsCalmAt x s
+calm_at p s (place.Main i) at h = tt
+calm_at p s (place.Running run) at (running h l) = calm_in p s run.body run.stage _ h l
 
 pub rested_at : (p : Program) (s : State) (x : Place) (at : Position) → StandsAt p s x at → IsRestedAt x s
 rested_at p s (place.Main i) at h = tt
 rested_at p s (place.Running run) at (running h l) = rested_in p s run.body run.stage _ h l
 
 pub one_step : (p : Program) (told : Told) (s : State) (at : Position) (es : List Event) (n : Next) (was : Lasting) → lasting s ≡ was → Kept s →
-    StaysKept n → SentAt told.sent s → SentFollows p told s n → Stands p told s at → Follows p told at s n →
-    ((told' : Told) (t : State) (to : Position) (now : Lasting) → lasting t ≡ now → Kept t → SentAt told'.sent t → Stands p told' t to →
+    StaysKept n → SentAt told.sent s → SentFollows p told s n → Working s → StaysWorking n → Stands p told s at → Follows p told at s n →
+    ((told' : Told) (t : State) (to : Position) (now : Lasting) → lasting t ≡ now → Kept t → SentAt told'.sent t → Working t → Stands p told' t to →
     GoesOn p to told' now (history_from p t es)) → GoesOn p at told was (line_of_step s n ++ history_from p (state_of s n) es)
-one_step p told s at es (Moves t (Some what)) was l k j g i h f more =
-    line l f.goes (more (told_by p told s what) t f.to (lasting t) refl j i f.stands)
-one_step p told s at es (Moves t None) was l k j g i h f more = more told t at was (f.1 ∙ l) j i f.0
-one_step p told s at es (Refuses why) was l k j g i h f more = more told s at was l k g h
+one_step p told s at es (Moves t (Some what)) was l k j g i w x h f more =
+    line l f.goes (more (told_by p told s what) t f.to (lasting t) refl j i x f.stands)
+one_step p told s at es (Moves t None) was l k j g i w x h f more = more told t at was (f.1 ∙ l) j i x f.0
+one_step p told s at es (Refuses why) was l k j g i w x h f more = more told s at was l k g w h
 
 pub goes_on : (p : Program) (es : List Event) (told : Told) (s : State) (at : Position) (was : Lasting) → lasting s ≡ was → Kept s →
-    SentAt told.sent s → Stands p told s at → GoesOn p at told was (history_from p s es)
-goes_on p [] told s at was l k g h = cut
-goes_on p (e ∷ es) told s at was l k g h =
-    one_step p told s at es (next p s e) was l k (next_kept p s e (rested_at p s s.place at h.stands) k) g (next_sent p told s e k g) h
-    (follows p told s at e k g h) (goes_on p es)
+    SentAt told.sent s → Working s → Stands p told s at → GoesOn p at told was (history_from p s es)
+goes_on p [] told s at was l k g w h = cut
+goes_on p (e ∷ es) told s at was l k g w h =
+    one_step p told s at es (next p s e) was l k (next_kept p s e (rested_at p s s.place at h.stands) k) g (next_sent p told s e k g) w
+    (next_working p s e (calm_at p s s.place at h.stands) k w) h (follows p told s at e k g w h) (goes_on p es)
 
 -- where every script begins
 pub stands_fresh : (p : Program) → Stands p nothing_told (fresh p) (Between 0)
 stands_fresh p = record {
-  stands = between (record { timers = refl; idle = refl; prepare = refl; check = refl; async = refl; closing = refl });
+  stands = between (record { timers = refl; idle = refl; prepare = refl; check = refl; async = refl; closing = refl; done = refl });
   counted = counted_fresh p;
 }
 
 -- the lines of any events are in the documented order
 pub documented : (p : Program) (es : List Event) → Documented p (history p es)
 unfolding history
-documented p es = goes_on p es nothing_told (fresh p) (Between 0) at_first refl (fresh_kept p) (sent_fresh p) (stands_fresh p)
+documented p es = goes_on p es nothing_told (fresh p) (Between 0) at_first refl (fresh_kept p) (sent_fresh p) (fresh_working p) (stands_fresh p)

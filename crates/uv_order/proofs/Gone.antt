@@ -5,9 +5,11 @@ use Rattle.std.proofs.lemmas.Option.{same_Some}
 use Rattle.uv_ids.specs.declared.id.Id.{Id}
 use Rattle.uv_records.specs.declared.handle.HandleRecord.{HandleRecord}
 use Rattle.uv_records.specs.declared.slot.Slot.{Slot}
+use Rattle.uv_records.specs.Slots.{held}
 use Rattle.uv_model.specs.declared.content.Content.{Content}
-use Rattle.uv_model.specs.Content.{handle_in}
-use Rattle.uv_order.proofs.Holding.{look, held_at, slot_of, put, emptied, holds, other_generation, get_set_same, get_set_other, get_push}
+use Rattle.uv_model.specs.declared.content.Content.TheVariants as content
+use Rattle.uv_order.proofs.Contents.{look, slot_with, emptied, holds, other_generation, get_set_same, get_set_other, get_push}
+use Rattle.uv_order.proofs.Holding.{held_at, is_held, put}
 use Rattle.uv_order.proofs.Keeping.{has_number}
 
 -- the slot is past the id's generation, or empty and not free, which it stays
@@ -17,18 +19,18 @@ pub record IsGone (slots : List (Slot Content)) (free : List ℕ) (id : Id) : Ty
   pub past : (id.generation < slot.generation) ⊎ ((slot.content ≡ None) × (has_number free id.slot ≡ false))
 
 -- nothing is held under it
-pub none_held : (slots : List (Slot Content)) (free : List ℕ) (id : Id) → IsGone slots free id → held_at slots id ≡ None
+pub none_held : (slots : List (Slot Content)) (free : List ℕ) (id : Id) → IsGone slots free id → held slots id ≡ None
 none_held slots free id k = ap (look id) k.there ∙ at k.past where
-  empty : k.slot.content ≡ None → (b : Bool) → handle_in (cond b k.slot.content None) ≡ None
-  empty e true = ap handle_in e
+  empty : k.slot.content ≡ None → (b : Bool) → cond b k.slot.content None ≡ None
+  empty e true = e
   empty e false = refl
 
   at : (id.generation < k.slot.generation) ⊎ ((k.slot.content ≡ None) × (has_number free id.slot ≡ false)) → look id (Some k.slot) ≡ None
   at (inl later) = other_generation id k.slot (λ e. omega (arith, later, e))
   at (inr (e, f)) = empty e (k.slot.generation == id.generation)
 
-pub not_held : (slots : List (Slot Content)) (free : List ℕ) (id : Id) (h : HandleRecord) → IsGone slots free id → held_at slots id ≡ Some h → ⊥
-not_held slots free id h k e = cc (none_held slots free id k, e)
+pub not_held : (slots : List (Slot Content)) (free : List ℕ) (id : Id) (c : Content) → IsGone slots free id → held slots id ≡ Some c → ⊥
+not_held slots free id c k e = cc (none_held slots free id k, e)
 
 -- a slot changes that isn't empty for good, and no other one is freed
 pub gone_set : (slots : List (Slot Content)) (free more : List ℕ) (n : ℕ) (old new : Slot Content) (id : Id) → slice_get slots n ≡ Some old →
@@ -57,24 +59,29 @@ gone_set slots free more n old new id e grows unless others k = at (id.slot == n
     still (inl l) = inl l
     still (inr (c, g)) = inr (c, others id.slot away g)
 
--- a slot that holds a handle isn't empty
-pub is_filled : (slots : List (Slot Content)) (id : Id) (h : HandleRecord) (slot : Slot Content) → held_at slots id ≡ Some h →
+-- a slot that holds something isn't empty
+pub is_filled : (slots : List (Slot Content)) (id : Id) (c : Content) (slot : Slot Content) → held slots id ≡ Some c →
     slice_get slots id.slot ≡ Some slot → slot.content ≡ None → ⊥
-is_filled slots id h slot e f c =
-    let k = holds slots id h e in
+is_filled slots id c slot e f none =
+    let k = holds slots id c e in
     let one : k.at.slot ≡ slot = same_Some _ _ (sym k.at.there ∙ f) in
-    clash (sym (ap handle_in (ap (λ (s : Slot Content). s.content) one ∙ c)) ∙ k.content)
+    clash (sym (ap (λ (s : Slot Content). s.content) one ∙ none) ∙ k.content)
   where
-    clash : ◌≡◌ {A = Option HandleRecord} None (Some h) → ⊥
+    clash : ◌≡◌ {A = Option Content} None (Some c) → ⊥
     clash g = cc g
+
+-- something else is put into a slot that holds something
+pub gone_turned : (slots : List (Slot Content)) (free : List ℕ) (id : Id) (c : Content) (d : Option Content) (i : Id) → held slots id ≡ Some c →
+    IsGone slots free i → IsGone (slice_set slots id.slot (slot_with id d)) free i
+gone_turned slots free id c d i e k =
+    let at = (holds slots id c e).at in
+    gone_set slots free free id.slot at.slot (slot_with id d) i at.there (let g = at.generation in omega arith)
+    (λ none. absurd (is_filled slots id c at.slot e at.there none)) (λ m g f. f) k
 
 -- another handle is changed
 pub gone_put : (slots : List (Slot Content)) (free : List ℕ) (id : Id) (h x : HandleRecord) (i : Id) → held_at slots id ≡ Some h →
     IsGone slots free i → IsGone (put slots id x) free i
-gone_put slots free id h x i e k =
-    let at = (holds slots id h e).at in
-    gone_set slots free free id.slot at.slot (slot_of id x) i at.there (let g = at.generation in omega arith)
-    (λ c. absurd (is_filled slots id h at.slot e at.there c)) (λ m d f. f) k
+gone_put slots free id h x i e k = gone_turned slots free id (content.Handle h) (Some (content.Handle x)) i (is_held slots id h e) k
 
 -- a slot is used for the first time
 pub gone_push : (slots : List (Slot Content)) (free : List ℕ) (y : Slot Content) (i : Id) → IsGone slots free i → IsGone (slots ++ y ∷ []) free i
@@ -86,20 +93,20 @@ pub gone_fill : (slots : List (Slot Content)) (n : ℕ) (ns : List ℕ) (old new
 gone_fill slots n ns old new i e g k = gone_set slots (n ∷ ns) ns n old new i e g
     (λ c. rw (eq-eqb n n refl) refl) (λ m d f. (or_parts (n == m) (has_number ns m) f).1) k
 
--- a handle's slot is freed or retired
-pub gone_emptied : (slots : List (Slot Content)) (free more : List ℕ) (id : Id) (h : HandleRecord) (n : ℕ) (i : Id) → held_at slots id ≡ Some h →
+-- a slot that holds something is freed or retired
+pub gone_emptied : (slots : List (Slot Content)) (free more : List ℕ) (id : Id) (c : Content) (n : ℕ) (i : Id) → held slots id ≡ Some c →
     id.generation ≤ n → ((m : ℕ) → (m ≡ id.slot → ⊥) → has_number free m ≡ false → has_number more m ≡ false) → IsGone slots free i →
     IsGone (emptied slots id n) more i
-gone_emptied slots free more id h n i e l others k =
-    let at = (holds slots id h e).at in
+gone_emptied slots free more id c n i e l others k =
+    let at = (holds slots id c e).at in
     gone_set slots free more id.slot at.slot (record { generation = n; content = None }) i at.there (let g = at.generation in omega arith)
-    (λ c. absurd (is_filled slots id h at.slot e at.there c)) others k
+    (λ none. absurd (is_filled slots id c at.slot e at.there none)) others k
 
 -- and its id is gone
-pub gone_now : (slots : List (Slot Content)) (more : List ℕ) (id : Id) (h : HandleRecord) (n : ℕ) → held_at slots id ≡ Some h →
+pub gone_now : (slots : List (Slot Content)) (more : List ℕ) (id : Id) (c : Content) (n : ℕ) → held slots id ≡ Some c →
     (id.generation < n) ⊎ (has_number more id.slot ≡ false) → IsGone (emptied slots id n) more id
-gone_now slots more id h n e l =
-    let at = (holds slots id h e).at in
+gone_now slots more id c n e l =
+    let at = (holds slots id c e).at in
     let empty : Slot Content = record { generation = n; content = None } in
     record { slot = empty; there = get_set_same slots id.slot empty at.slot at.there; past = by l }
   where

@@ -1,14 +1,12 @@
 -- What the slots hold, and the lists of ids of handles.
-use Rattle.std.proofs.Common.{◌≡◌, ◌⊎◌, inl, inr, ℕ, zero, suc, ◌<◌, ◌==◌, List, [], ◌∷◌, ◌++◌, Bool, true, false, cond, Option, Some, None, length, slice_get, slice_set, refl, ap, sym, subst, ◌∙◌, arith}
-use Rattle.std.specs.Prelude.{option_and_then}
-use Rattle.std.proofs.lemmas.Bool.{eq-eqb, eqb-true}
+use Rattle.std.proofs.Common.{◌≡◌, ◌⊎◌, inl, inr, ℕ, ◌<◌, List, ◌∷◌, ◌++◌, Bool, true, false, Option, Some, None, slice_set, refl, ap, sym, subst, ◌∙◌, arith}
 use Rattle.std.proofs.lemmas.Option.{same_Some}
 use Rattle.uv_ids.specs.declared.id.Id.{Id}
 use Rattle.uv_ids.specs.declared.due.Due.{Due}
 use Rattle.uv_ids.specs.declared.phase.Kind.TheVariants as kind
 use Rattle.uv_records.specs.declared.handle.HandleRecord.{HandleRecord}
 use Rattle.uv_records.specs.declared.slot.Slot.{Slot}
-use Rattle.uv_records.specs.Slots.{held_in}
+use Rattle.uv_records.specs.Slots.{held}
 use Rattle.uv_model.specs.declared.content.Content.{Content}
 use Rattle.uv_model.specs.declared.content.Content.TheVariants as content
 use Rattle.uv_model.specs.Content.{handle_in}
@@ -16,137 +14,49 @@ use Rattle.uv_model.specs.Ids.{same_id, without_id}
 use Rattle.uv_model.specs.Timers.{with_timer, without_timer}
 use Rattle.uv_order.specs.Active.{Has, InOrder}
 use Rattle.uv_order.specs.Active.{has_id, AreDistinct}
+use Rattle.uv_order.proofs.Contents.{slot_with, holds, Turns, set_turns, emptied, emptied_turns, as_handle}
 use Rattle.uv_order.proofs.IdLists.{same, other, turned, Each, each_mapped, each_without, absent, distinct_without, still_there, without_absent, each_middle, distinct_middle, has_new_middle, has_old_middle, each_but, distinct_but, has_but}
 use Rattle.uv_order.proofs.TimerKeys.{one_id, not_before_itself, before_each, still_has, had, in_order_without, IsNew, has_new, has_old, new_or_old, in_order_with, is_new}
 
 -- ---- slots
 
--- the handle of an id, by its slot
-abbrev pub look : Id → Option (Slot Content) → Option HandleRecord
-look id slot = handle_in (option_and_then (held_in id) slot)
-
+-- the handle of an id
 abbrev pub held_at : List (Slot Content) → Id → Option HandleRecord
-held_at slots id = look id (slice_get slots id.slot)
+held_at slots id = handle_in (held slots id)
 
 abbrev pub slot_of : Id → HandleRecord → Slot Content
-slot_of id h = record { generation = id.generation; content = Some (content.Handle h) }
+slot_of id h = slot_with id (Some (content.Handle h))
 
 -- the handle of an id is put in its slot
 abbrev pub put : List (Slot Content) → Id → HandleRecord → List (Slot Content)
 put slots id h = slice_set slots id.slot (slot_of id h)
 
-pub get_set_same : (slots : List (Slot Content)) (i : ℕ) (x y : Slot Content) → slice_get slots i ≡ Some y → slice_get (slice_set slots i x) i ≡
-    Some x
-get_set_same [] i x y e = cc e
-get_set_same (s ∷ slots) zero x y e = refl
-get_set_same (s ∷ slots) (suc i) x y e = get_set_same slots i x y e
+-- an id that stands for a handle stands for what its slot holds
+pub is_held : (slots : List (Slot Content)) (id : Id) (h : HandleRecord) → held_at slots id ≡ Some h → held slots id ≡ Some (content.Handle h)
+is_held slots id h e = as_handle (held slots id) h e
 
-pub get_set_other : (slots : List (Slot Content)) (i j : ℕ) (x : Slot Content) → (j ≡ i → ⊥) → slice_get (slice_set slots i x) j ≡ slice_get slots j
-get_set_other [] i j x d = refl
-get_set_other (s ∷ slots) zero zero x d = absurd (d refl)
-get_set_other (s ∷ slots) zero (suc j) x d = refl
-get_set_other (s ∷ slots) (suc i) zero x d = refl
-get_set_other (s ∷ slots) (suc i) (suc j) x d = get_set_other slots i j x (λ e. d (ap suc e))
-
--- the slot of an id is there, with its generation
-pub record IsThere (slots : List (Slot Content)) (id : Id) : Type 0 where
-  pub slot : Slot Content
-  pub there : slice_get slots id.slot ≡ Some slot
-  pub generation : slot.generation ≡ id.generation
-
--- and holds a handle
-pub record Holds (slots : List (Slot Content)) (id : Id) (h : HandleRecord) : Type 0 where
-  pub at : IsThere slots id
-  pub content : handle_in at.slot.content ≡ Some h
-
-holds_in : (slots : List (Slot Content)) (id : Id) (h : HandleRecord) (o : Option (Slot Content)) → slice_get slots id.slot ≡ o → look id o ≡ Some h →
-    Holds slots id h
-holds_in slots id h None e k = cc k
-holds_in slots id h (Some slot) e k = by (slot.generation == id.generation) refl k where
-  by : (b : Bool) → (slot.generation == id.generation) ≡ b → handle_in (cond b slot.content None) ≡ Some h → Holds slots id h
-  by true f l = record { at = record { slot = slot; there = e; generation = eqb-true slot.generation id.generation f }; content = l }
-  by false f l = cc l
-
-pub holds : (slots : List (Slot Content)) (id : Id) (h : HandleRecord) → held_at slots id ≡ Some h → Holds slots id h
-holds slots id h e = holds_in slots id h (slice_get slots id.slot) refl e
-
-in_slot : (id : Id) (slot : Slot Content) → slot.generation ≡ id.generation → look id (Some slot) ≡ handle_in slot.content
-in_slot id slot e = rw (eq-eqb slot.generation id.generation e) refl
-
-ids_alike : (a b : Id) → a.slot ≡ b.slot → a.generation ≡ b.generation → same_id a b ≡ true
-ids_alike a b e f = rw (eq-eqb a.slot b.slot e, eq-eqb a.generation b.generation f) refl
-
-pub other_generation : (i : Id) (slot : Slot Content) → (slot.generation ≡ i.generation → ⊥) → look i (Some slot) ≡ None
-other_generation i slot d = by (slot.generation == i.generation) refl where
-  by : (b : Bool) → (slot.generation == i.generation) ≡ b → handle_in (cond b slot.content None) ≡ None
-  by true f = absurd (d (eqb-true slot.generation i.generation f))
-  by false f = refl
-
--- whatever is put into the slot, the ids of other slots are held as before
-elsewhere : (slots : List (Slot Content)) (n : ℕ) (i : Id) (y : Slot Content) → (i.slot == n) ≡ false → held_at (slice_set slots n y) i ≡ held_at
-    slots i
-elsewhere slots n i y f = ap (look i) (get_set_other slots n i.slot y (λ g. clash f (eq-eqb i.slot n g))) where
-  clash : (i.slot == n) ≡ false → (i.slot == n) ≡ true → ⊥
-  clash a b = cc (a, b)
-
-pub there_same : (slots : List (Slot Content)) (id : Id) (x : HandleRecord) → IsThere slots id → held_at (put slots id x) id ≡ Some x
-there_same slots id x k = rw (get_set_same slots id.slot (slot_of id x) k.slot k.there) (in_slot id (slot_of id x) refl)
-
-pub there_other : (slots : List (Slot Content)) (id i : Id) (x : HandleRecord) → IsThere slots id → (i ≡ id → ⊥) → held_at (put slots id x) i ≡
-    held_at slots i
-there_other slots id i x k d = by (i.slot == id.slot) refl where
-  by : (b : Bool) → (i.slot == id.slot) ≡ b → held_at (put slots id x) i ≡ held_at slots i
-  by false f = elsewhere slots id.slot i (slot_of id x) f
-  by true f =
-      let here : i.slot ≡ id.slot = eqb-true i.slot id.slot f in
-      let apart : id.generation ≡ i.generation → ⊥ = λ g. d (same i id (ids_alike i id here (sym g))) in
-      let after : slice_get (put slots id x) i.slot ≡ Some (slot_of id x) = rw here (get_set_same slots id.slot (slot_of id x) k.slot k.there) in
-      let before : slice_get slots i.slot ≡ Some k.slot = rw here k.there in
-      ap (look i) after ∙ other_generation i (slot_of id x) apart
-      ∙ sym (ap (look i) before ∙ other_generation i k.slot (λ g. apart (sym k.generation ∙ g)))
+pub put_turns : (slots : List (Slot Content)) (id : Id) (h x : HandleRecord) → held_at slots id ≡ Some h →
+    Turns slots (put slots id x) id (Some (content.Handle h)) (Some (content.Handle x))
+put_turns slots id h x e =
+    let k = holds slots id (content.Handle h) (is_held slots id h e) in
+    let t = set_turns slots id (Some (content.Handle x)) k.at in
+    record { before = is_held slots id h e; here = t.here; others = t.others }
 
 pub put_same : (slots : List (Slot Content)) (id : Id) (h x : HandleRecord) → held_at slots id ≡ Some h → held_at (put slots id x) id ≡ Some x
-put_same slots id h x e = there_same slots id x (holds slots id h e).at
+put_same slots id h x e = ap handle_in (put_turns slots id h x e).here
 
 pub put_other : (slots : List (Slot Content)) (id i : Id) (h x : HandleRecord) → held_at slots id ≡ Some h → (i ≡ id → ⊥) →
     held_at (put slots id x) i ≡ held_at slots i
-put_other slots id i h x e d = there_other slots id i x (holds slots id h e).at d
-
--- a slot that is emptied, whatever its generation is then
-abbrev pub emptied : List (Slot Content) → Id → ℕ → List (Slot Content)
-emptied slots id generation = slice_set slots id.slot (record { generation = generation; content = None })
-
--- nothing is held in an empty slot
-nothing_in : (i : Id) (generation : ℕ) → look i (Some (record { generation = generation; content = None })) ≡ None
-nothing_in i generation = by (generation == i.generation) where
-  by : (b : Bool) → handle_in (cond b None None) ≡ None
-  by true = refl
-  by false = refl
+put_other slots id i h x e d = ap handle_in ((put_turns slots id h x e).others i d)
 
 pub emptied_same : (slots : List (Slot Content)) (id : Id) (h : HandleRecord) (generation : ℕ) → held_at slots id ≡ Some h → held_at (emptied slots
     id generation) id ≡ None
-emptied_same slots id h generation e =
-    let k = (holds slots id h e).at in
-    ap (look id) (get_set_same slots id.slot (record { generation = generation; content = None }) k.slot k.there) ∙ nothing_in id generation
+emptied_same slots id h generation e = ap handle_in (emptied_turns slots id (content.Handle h) generation (is_held slots id h e)).here
 
 pub emptied_other : (slots : List (Slot Content)) (id i : Id) (h : HandleRecord) (generation : ℕ) → held_at slots id ≡ Some h → (i ≡ id → ⊥) →
     held_at (emptied slots id generation) i ≡ held_at slots i
-emptied_other slots id i h generation e d = by (i.slot == id.slot) refl where
-  by : (b : Bool) → (i.slot == id.slot) ≡ b → held_at (emptied slots id generation) i ≡ held_at slots i
-  by false f = elsewhere slots id.slot i (record { generation = generation; content = None }) f
-  by true f =
-      let k = (holds slots id h e).at in
-      let here : i.slot ≡ id.slot = eqb-true i.slot id.slot f in
-      let apart : k.slot.generation ≡ i.generation → ⊥ = λ g. d (same i id (ids_alike i id here (sym g ∙ k.generation))) in
-      let after : slice_get (emptied slots id generation) i.slot ≡ Some (record { generation = generation; content = None }) =
-      rw here (get_set_same slots id.slot (record { generation = generation; content = None }) k.slot k.there) in
-      let before : slice_get slots i.slot ≡ Some k.slot = rw here k.there in
-      ap (look i) after ∙ nothing_in i generation ∙ sym (ap (look i) before ∙ other_generation i k.slot apart)
-
-pub get_push : (slots : List (Slot Content)) (x y : Slot Content) (i : ℕ) → slice_get slots i ≡ Some y → slice_get (slots ++ x ∷ []) i ≡ Some y
-get_push [] x y i e = cc e
-get_push (s ∷ slots) x y zero e = e
-get_push (s ∷ slots) x y (suc i) e = get_push slots x y i e
+emptied_other slots id i h generation e d =
+    ap handle_in ((emptied_turns slots id (content.Handle h) generation (is_held slots id h e)).others i d)
 
 -- ---- a slot that is taken
 
@@ -156,56 +66,23 @@ pub record Grown (slots more : List (Slot Content)) (id : Id) (x : HandleRecord)
   pub others : (i : Id) → (i ≡ id → ⊥) → held_at more i ≡ held_at slots i
   pub new : held_at slots id ≡ None
 
-past_end : (slots : List (Slot Content)) (y z : Slot Content) (i : ℕ) → slice_get slots i ≡ None → slice_get (slots ++ y ∷ []) i ≡ Some z → (i ≡
-    length slots) × (y ≡ z)
-past_end [] y z zero e f = (refl, same_Some y z f)
-past_end [] y z (suc i) e f = cc f
-past_end (s ∷ slots) y z zero e f = cc e
-past_end (s ∷ slots) y z (suc i) e f = let rest = past_end slots y z i e f in (ap suc rest.0, rest.1)
+pub grown : (slots more : List (Slot Content)) (id : Id) (x : HandleRecord) → Turns slots more id None (Some (content.Handle x)) →
+    Grown slots more id x
+grown slots more id x t = record { here = ap handle_in t.here; others = λ i d. ap handle_in (t.others i d); new = ap handle_in t.before }
 
-at_end : (slots : List (Slot Content)) (y : Slot Content) → slice_get (slots ++ y ∷ []) (length slots) ≡ Some y
-at_end [] y = refl
-at_end (s ∷ slots) y = at_end slots y
+-- no handle changes
+abbrev pub SameHandles : List (Slot Content) → List (Slot Content) → Type 0
+SameHandles more slots = (i : Id) → held_at more i ≡ held_at slots i
 
-none_at_end : (slots : List (Slot Content)) → slice_get slots (length slots) ≡ None
-none_at_end [] = refl
-none_at_end (s ∷ slots) = none_at_end slots
-
--- the next unused slot
-pub grown_push : (slots : List (Slot Content)) (x : HandleRecord) → Grown slots (slots ++ slot_of (record {
-  slot = length slots;
-  generation = 0;
-}) x ∷ []) (record { slot = length slots; generation = 0 }) x
-grown_push slots x = record {
-  here = ap (look id) (at_end slots y) ∙ in_slot id y refl;
-  others = λ i d. by i d (slice_get slots i.slot) refl (slice_get (slots ++ y ∷ []) i.slot) refl;
-  new = ap (look id) (none_at_end slots);
-} where
-  id : Id
-  id = record { slot = length slots; generation = 0 }
-
-  y : Slot Content
-  y = slot_of id x
-
-  by : (i : Id) → (i ≡ id → ⊥) → (o : Option (Slot Content)) → slice_get slots i.slot ≡ o → (q : Option (Slot Content)) → slice_get (slots ++ y ∷
-      []) i.slot ≡ q →
-      held_at (slots ++ y ∷ []) i ≡ held_at slots i
-  by i d (Some s) e q f = ap (look i) (get_push slots y s i.slot e) ∙ sym (ap (look i) e)
-  by i d None e None f = ap (look i) f ∙ sym (ap (look i) e)
-  by i d None e (Some z) f =
-      let end = past_end slots y z i.slot e f in
-      let apart : z.generation ≡ i.generation → ⊥ = λ g. d (same i id (ids_alike i id end.0 (sym g ∙ ap (λ (s : Slot Content). s.generation) (sym
-      end.1)))) in
-      ap (look i) f ∙ other_generation i z apart ∙ sym (ap (look i) e)
-
--- an empty slot that was used
-pub grown_fill : (slots : List (Slot Content)) (id : Id) (x : HandleRecord) (k : IsThere slots id) → k.slot.content ≡ None → Grown slots (put slots
-    id x) id x
-grown_fill slots id x k empty = record {
-  here = there_same slots id x k;
-  others = λ i d. there_other slots id i x k d;
-  new = ap (look id) k.there ∙ in_slot id k.slot k.generation ∙ ap handle_in empty;
-}
+-- one id turns, which stands for no handle before and after
+pub same_handles : (slots more : List (Slot Content)) (id : Id) (was is : Option Content) → Turns slots more id was is → handle_in was ≡ None →
+    handle_in is ≡ None → SameHandles more slots
+same_handles slots more id was is t e f i = at (same_id i id) refl where
+  at : (b : Bool) → same_id i id ≡ b → held_at more i ≡ held_at slots i
+  at true s =
+      let here = same i id s in
+      ap (held_at more) here ∙ ap handle_in t.here ∙ f ∙ sym (ap (held_at slots) here ∙ ap handle_in t.before ∙ e)
+  at false s = ap handle_in (t.others i (other i id s))
 
 -- ---- ids of handles of which something holds
 
@@ -259,6 +136,10 @@ fits_back slots P id h x e g i l = at (same_id i id) refl where
       }
   at false s = fitted slots P id h x e i (other i id s) l
 
+-- no handle changes
+pub fits_same : (slots more : List (Slot Content)) (P : HandleRecord → Type 0) → SameHandles more slots → (i : Id) → Fits slots P i → Fits more P i
+fits_same slots more P f i k = record { handle = k.handle; holds = f i ∙ k.holds; fits = k.fits }
+
 -- ---- lists of such ids, on which none stands twice
 
 pub record Lists (slots : List (Slot Content)) (P : HandleRecord → Type 0) (ids : List Id) : Type 0 where
@@ -283,6 +164,13 @@ lists_without slots P id h x ids e k = record {
   distinct = distinct_without ids id k.distinct;
 }
 
+pub lists_same : (slots more : List (Slot Content)) (P : HandleRecord → Type 0) (ids : List Id) → SameHandles more slots → Lists slots P ids →
+    Lists more P ids
+lists_same slots more P ids f k = record {
+  each = each_mapped (Fits slots P) (Fits more P) (fits_same slots more P f) ids k.each;
+  distinct = k.distinct;
+}
+
 -- a handle that doesn't fit is on no such list
 pub not_listed : (slots : List (Slot Content)) (P : HandleRecord → Type 0) (id : Id) (h : HandleRecord) (ids : List Id) → held_at slots id ≡ Some h
     → (P h → ⊥) →
@@ -294,6 +182,13 @@ not_listed slots P id h ids e f k = absent (Fits slots P) id (λ g. f (its_handl
 pub record Everyone (slots : List (Slot Content)) (P : HandleRecord → Type 0) (ids : List Id) : Type 0 where
   pub lists : Lists slots P ids
   pub all : (id : Id) → Fits slots P id → has_id ids id ≡ true
+
+pub everyone_same : (slots more : List (Slot Content)) (P : HandleRecord → Type 0) (ids : List Id) → SameHandles more slots → Everyone slots P ids →
+    Everyone more P ids
+everyone_same slots more P ids f k = record {
+  lists = lists_same slots more P ids f k.lists;
+  all = λ i l. k.all i (fits_same more slots P (λ j. sym (f j)) i l);
+}
 
 -- a handle is changed that fits before and after, or doesn't
 pub everyone_put : (slots : List (Slot Content)) (P : HandleRecord → Type 0) (id : Id) (h x : HandleRecord) (ids : List Id) → held_at slots id ≡
@@ -457,6 +352,14 @@ pub record Times (slots : List (Slot Content)) (drawn : ℕ) (ts : List (Due × 
   pub each : (key : Due) (id : Id) → Has ts key id → Fits slots (IsSet key) id × (key.start < drawn)
   pub all : (key : Due) (id : Id) → Fits slots (IsSet key) id → Has ts key id
   pub sorted : InOrder ts
+
+pub times_same : (slots more : List (Slot Content)) (drawn : ℕ) (ts : List (Due × Id)) → SameHandles more slots → Times slots drawn ts →
+    Times more drawn ts
+times_same slots more drawn ts f k = record {
+  each = λ key i l. let m = k.each key i l in (fits_same slots more (IsSet key) f i m.0, m.1);
+  all = λ key i l. k.all key i (fits_same more slots (IsSet key) (λ j. sym (f j)) i l);
+  sorted = k.sorted;
+}
 
 -- a handle is changed that is no active timer, before or after
 pub times_put : (slots : List (Slot Content)) (drawn : ℕ) (ts : List (Due × Id)) (id : Id) (h x : HandleRecord) → held_at slots id ≡ Some h →

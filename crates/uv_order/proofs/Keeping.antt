@@ -18,19 +18,19 @@ use Rattle.uv_records.specs.declared.lists.WatcherKind.TheVariants as watcher
 use Rattle.uv_records.specs.Handles as records
 use Rattle.uv_records.specs.Handles.{inited, activated, begun_at, referenced_as, repeating, is_timer, is_async}
 use Rattle.uv_records.specs.Slots as arena
-use Rattle.uv_records.specs.Slots.{Slots, taken, freed, next_free, next_id, next_unused, id_of}
+use Rattle.uv_records.specs.Slots.{Slots, held, taken, freed, next_free, next_id, next_unused, id_of}
 use Rattle.uv_records.specs.Walks.{Walk, with_last}
 use Rattle.uv_model.specs.declared.content.Content.{Content}
 use Rattle.uv_model.specs.declared.content.Content.TheVariants as content
 use Rattle.uv_model.specs.Ids.{same_id, walk_without_id}
-use Rattle.uv_model.specs.Content.{handle_in}
 use Rattle.uv_model.specs.State.{State, handle, with_handle}
 use Rattle.uv_model.specs.Timers.{without_timer, stopped, started, restarted, due_after}
 use Rattle.uv_model.specs.Ops as ops
 use Rattle.uv_model.specs.Ops.{do_op}
 use Rattle.uv_order.specs.Active.{has_id}
 use Rattle.uv_order.proofs.IdLists.{same, other, without_absent, without_itself}
-use Rattle.uv_order.proofs.Holding.{held_at, put, slot_of, IsThere, holds, Grown, grown_push, grown_fill, Lists, lists_put, lists_without, lists_grown, Everyone, everyone_put, everyone_without, everyone_front, everyone_grown, everyone_listed, IsSet, Times, times_put, times_without, times_with, times_grown, put_same, put_other, get_set_other, get_push}
+use Rattle.uv_order.proofs.Contents.{slot_with, IsThere, holds, Turns, set_turns, pushed_turns, get_set_other, get_push}
+use Rattle.uv_order.proofs.Holding.{held_at, is_held, put, slot_of, SameHandles, Grown, grown, Lists, lists_same, everyone_same, times_same, lists_put, lists_without, lists_grown, Everyone, everyone_put, everyone_without, everyone_front, everyone_grown, everyone_listed, IsSet, Times, times_put, times_without, times_with, times_grown, put_same, put_other}
 use Rattle.uv_order.proofs.OpCases.{timer_kind, kind_as}
 
 -- ---- what is kept
@@ -129,28 +129,32 @@ sound_put slots id h x e f k i y l = at (same_id i id) refl where
   at false s = k i y (sym (put_other slots id i h x e (other i id s)) ∙ l)
 
 -- a slot that holds something is not empty
-pub filled : (slots : List (Slot Content)) (id : Id) (h : HandleRecord) (n : ℕ) → held_at slots id ≡ Some h → IsEmpty slots n → n ≡ id.slot → ⊥
-filled slots id h n e k g =
-    let f = holds slots id h e in
+pub filled : (slots : List (Slot Content)) (id : Id) (c : Content) (n : ℕ) → held slots id ≡ Some c → IsEmpty slots n → n ≡ id.slot → ⊥
+filled slots id c n e k g =
+    let f = holds slots id c e in
     let one : f.at.slot ≡ k.slot = same_Some _ _ (sym f.at.there ∙ ap (slice_get slots) (sym g) ∙ k.there) in
-    clash (sym (ap handle_in (ap (λ (s : Slot Content). s.content) one ∙ k.empty)) ∙ f.content)
+    clash (sym (ap (λ (s : Slot Content). s.content) one ∙ k.empty) ∙ f.content)
   where
-    clash : ◌≡◌ {A = Option HandleRecord} None (Some h) → ⊥
-    clash c = cc c
+    clash : ◌≡◌ {A = Option Content} None (Some c) → ⊥
+    clash d = cc d
 
-pub empty_put : (slots : List (Slot Content)) (id : Id) (h x : HandleRecord) (n : ℕ) → held_at slots id ≡ Some h → IsEmpty slots n →
-    IsEmpty (put slots
-    id x) n
-empty_put slots id h x n e k = record {
+pub empty_held : (slots : List (Slot Content)) (id : Id) (c : Content) (y : Slot Content) (n : ℕ) → held slots id ≡ Some c → IsEmpty slots n →
+    IsEmpty (slice_set slots id.slot y) n
+empty_held slots id c y n e k = record {
   slot = k.slot;
-  there = get_set_other slots id.slot n (slot_of id x) (λ g. filled slots id h n e k g) ∙ k.there;
+  there = get_set_other slots id.slot n y (λ g. filled slots id c n e k g) ∙ k.there;
   empty = k.empty;
 }
 
+-- a slot that holds something is changed
+pub free_held : (slots : List (Slot Content)) (id : Id) (c : Content) (y : Slot Content) (free : List ℕ) → held slots id ≡ Some c →
+    AreFree slots free → AreFree (slice_set slots id.slot y) free
+free_held slots id c y [] e k = tt
+free_held slots id c y (n ∷ ns) e k = (empty_held slots id c y n e k.0, k.1, free_held slots id c y ns e k.2)
+
 pub free_put : (slots : List (Slot Content)) (id : Id) (h x : HandleRecord) (free : List ℕ) → held_at slots id ≡ Some h → AreFree slots free → AreFree
     (put slots id x) free
-free_put slots id h x [] e k = tt
-free_put slots id h x (n ∷ ns) e k = (empty_put slots id h x n e k.0, k.1, free_put slots id h x ns e k.2)
+free_put slots id h x free e k = free_held slots id (content.Handle h) (slot_of id x) free (is_held slots id h e) k
 
 pub free_push : (slots : List (Slot Content)) (y : Slot Content) (free : List ℕ) → AreFree slots free → AreFree (slots ++ y ∷ []) free
 free_push slots y [] k = tt
@@ -180,16 +184,31 @@ free_set slots i y (n ∷ ns) d k =
     )
 
 -- a slot that holds something isn't free
-pub not_free : (slots : List (Slot Content)) (id : Id) (h : HandleRecord) (free : List ℕ) → held_at slots id ≡ Some h → AreFree slots free →
-    has_number
-    free id.slot ≡ false
-not_free slots id h [] e k = refl
-not_free slots id h (n ∷ ns) e k = at (n == id.slot) refl (not_free slots id h ns e k.2) where
+pub not_free : (slots : List (Slot Content)) (id : Id) (c : Content) (free : List ℕ) → held slots id ≡ Some c → AreFree slots free →
+    has_number free id.slot ≡ false
+not_free slots id c [] e k = refl
+not_free slots id c (n ∷ ns) e k = at (n == id.slot) refl (not_free slots id c ns e k.2) where
   at : (b : Bool) → (n == id.slot) ≡ b → has_number ns id.slot ≡ false → (b || has_number ns id.slot) ≡ false
-  at true f rest = absurd (filled slots id h n e k.0 (eqb-true n id.slot f))
+  at true f rest = absurd (filled slots id c n e k.0 (eqb-true n id.slot f))
   at false f rest = rest
 
 -- ---- the changes
+
+-- no handle changes
+pub agree_same : (now was : Slots Content) (s : State) → SameHandles now.slots was.slots → AreFree now.slots now.free →
+    Agree was s.next_start s.timers s.ready s.idle s.prepare s.check s.async s.closing →
+    Agree now s.next_start s.timers s.ready s.idle s.prepare s.check s.async s.closing
+agree_same now was s f free k = record {
+  sound = λ i h e. k.sound i h (sym (f i) ∙ e);
+  free = free;
+  timers = times_same was.slots now.slots s.next_start s.timers f k.timers;
+  ready = lists_same was.slots now.slots Rests s.ready f k.ready;
+  idle = everyone_same was.slots now.slots (Watches kind.Idle) (members s.idle) f k.idle;
+  prepare = everyone_same was.slots now.slots (Watches kind.Prepare) (members s.prepare) f k.prepare;
+  check = everyone_same was.slots now.slots (Watches kind.Check) (members s.check) f k.check;
+  async = everyone_same was.slots now.slots (Watches kind.Async) (members s.async) f k.async;
+  closing = everyone_same was.slots now.slots Closes (members s.closing) f k.closing;
+}
 
 -- a handle is changed in what the lists don't speak of
 pub put_kept : (s : State) (id : Id) (h x : HandleRecord) → handle s id ≡ Some h → x.kind ≡ h.kind → x.active ≡ h.active → x.due ≡ h.due → x.closing
@@ -391,7 +410,31 @@ watcher_started_kept s watcher.Async id h e t off stays k =
 
 -- ---- a new handle
 
--- where the next taking puts it
+-- where the next taking puts something
+abbrev pub Fills : Slots Content → List ℕ → Id → Content → Type 0
+Fills s free id c = Turns s.slots (arena.taken_from free id c s).slots id None (Some c)
+    × AreFree (arena.taken_from free id c s).slots (arena.taken_from free id c s).free
+
+pub fills : (s : Slots Content) (free : List ℕ) (id : Id) (c : Content) → s.free ≡ free → AreFree s.slots free → next_id s.slots s.unused free ≡
+    Some id →
+    Fills s free id c
+fills s [] id c e k n = unused s.unused n where
+  unused : (m : ℕ) → next_unused (length s.slots) m ≡ Some id → Fills s [] id c
+  unused zero f = cc f
+  unused (suc m) f = subst (λ (i : Id). Fills s [] i c) (same_Some _ _ f) (
+    pushed_turns s.slots (Some c),
+    subst (AreFree (s.slots ++ slot_with (record { slot = length s.slots; generation = 0 }) (Some c) ∷ [])) (sym e) tt,
+  )
+fills s (m ∷ ms) id c e k n =
+    let is : id_of m k.0.slot ≡ id = same_Some _ _ (sym (ap (option_and_then (λ slot. Some (id_of m slot))) k.0.there) ∙ n) in
+    let there : IsThere s.slots (id_of m k.0.slot) = record { slot = k.0.slot; there = k.0.there; generation = refl } in
+    let t = set_turns s.slots (id_of m k.0.slot) (Some c) there in
+    subst (λ (i : Id). Fills s (m ∷ ms) i c) is (
+      record { before = t.before ∙ k.0.empty; here = t.here; others = t.others },
+      free_set s.slots m (slot_with (id_of m k.0.slot) (Some c)) ms k.1 k.2,
+    )
+
+-- and where it puts a handle
 abbrev pub Takes : Slots Content → List ℕ → Id → HandleRecord → Type 0
 Takes s free id x = Grown s.slots (arena.taken_from free id (content.Handle x) s).slots id x
     × AreFree (arena.taken_from free id (content.Handle x) s).slots (arena.taken_from free id (content.Handle x) s).free
@@ -399,16 +442,9 @@ Takes s free id x = Grown s.slots (arena.taken_from free id (content.Handle x) s
 pub takes : (s : Slots Content) (free : List ℕ) (id : Id) (x : HandleRecord) → s.free ≡ free → AreFree s.slots free → next_id s.slots s.unused free ≡
     Some id →
     Takes s free id x
-takes s [] id x e k n = unused s.unused n where
-  unused : (m : ℕ) → next_unused (length s.slots) m ≡ Some id → Takes s [] id x
-  unused zero f = cc f
-  unused (suc m) f = subst (λ (i : Id). Takes s [] i x) (same_Some _ _ f)
-      (grown_push s.slots x, subst (AreFree (s.slots ++ slot_of (record { slot = length s.slots; generation = 0 }) x ∷ [])) (sym e) tt)
-takes s (m ∷ ms) id x e k n =
-    let is : id_of m k.0.slot ≡ id = same_Some _ _ (sym (ap (option_and_then (λ slot. Some (id_of m slot))) k.0.there) ∙ n) in
-    let there : IsThere s.slots (id_of m k.0.slot) = record { slot = k.0.slot; there = k.0.there; generation = refl } in
-    subst (λ (i : Id). Takes s (m ∷ ms) i x) is
-    (grown_fill s.slots (id_of m k.0.slot) x there k.0.empty, free_set s.slots m (slot_of (id_of m k.0.slot) x) ms k.1 k.2)
+takes s free id x e k n =
+    let f = fills s free id (content.Handle x) e k n in
+    (grown s.slots (arena.taken_from free id (content.Handle x) s).slots id x f.0, f.1)
 
 pub sound_grown : (slots more : List (Slot Content)) (id : Id) (x : HandleRecord) → Grown slots more id x → IsSound x → AllSound slots → AllSound more
 sound_grown slots more id x g f k i y l = at (same_id i id) refl where

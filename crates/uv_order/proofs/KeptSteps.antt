@@ -1,15 +1,14 @@
 -- Each op and each step of the loop keeps what is kept.
-use Rattle.std.proofs.Common.{◌≡◌, inl, ℕ, ◌+◌, ◌==◌, ◌&&◌, List, [], ◌∷◌, ◌++◌, Bool, true, false, Option, Some, None, drop, length, nat_le, nat_lt, refl, ap, sym, subst, ◌∙◌, append_assoc, append-nil, if◌then◌else◌}
+use Rattle.std.proofs.Common.{◌≡◌, inl, ℕ, ◌+◌, ◌==◌, ◌&&◌, List, [], ◌∷◌, ◌++◌, Bool, true, false, Option, Some, None, Result, Ok, Err, slice_get, drop, length, nat_le, nat_lt, refl, ap, sym, subst, ◌∙◌, append_assoc, append-nil, if◌then◌else◌}
 use Rattle.std.proofs.lemmas.Bool.{cond_both}
 use Rattle.std.proofs.lemmas.Option.{same_Some}
 use Rattle.uv_ids.specs.declared.id.Id.{Id}
 use Rattle.uv_ids.specs.declared.id.Var.{Var}
 use Rattle.uv_ids.specs.declared.due.Due.{Due}
-use Rattle.uv_ids.specs.declared.code.Code.TheVariants as code
-use Rattle.uv_ids.specs.declared.phase.Kind.{Kind}
+use Rattle.uv_ids.specs.declared.fault.Why.{Why}
 use Rattle.uv_ids.specs.declared.phase.Kind.TheVariants as kind
 use Rattle.uv_ids.specs.declared.event.Event.{Event}
-use Rattle.uv_ids.specs.declared.event.Event.TheVariants.{Loop, Send, Tick}
+use Rattle.uv_ids.specs.declared.event.Event.TheVariants.{Loop, Take, Finish, Cancel, Send, Tick}
 use Rattle.uv_records.specs.declared.handle.HandleRecord.{HandleRecord}
 use Rattle.uv_records.specs.declared.slot.Slot.{Slot}
 use Rattle.uv_records.specs.declared.lists.WatcherKind.{WatcherKind}
@@ -18,15 +17,19 @@ use Rattle.uv_records.specs.Handles as records
 use Rattle.uv_records.specs.Handles.{inited, activated, begun_at, referenced_as, repeating, is_timer, is_async}
 use Rattle.uv_records.specs.Lists.{watcher_kind}
 use Rattle.uv_records.specs.Refusals.{no_refusal, timer_refusal, start_timer_refusal, start_watcher_refusal, stop_refusal, again_refusal, close_refusal}
-use Rattle.uv_records.specs.Slots.{Slots, freed, next_free}
+use Rattle.uv_records.specs.Slots.{Slots, held, freed, taken, next_free}
 use Rattle.uv_records.specs.Walks.{Walk, all_yet, moved_on}
 use Rattle.uv_script.specs.declared.op.Op.{Op}
 use Rattle.uv_script.specs.declared.op.Op.TheVariants as op
 use Rattle.uv_script.specs.declared.op.MainOp.{MainOp}
 use Rattle.uv_script.specs.declared.op.MainOp.TheVariants as main
 use Rattle.uv_script.specs.declared.op.CallbackLine.{CallbackLine}
+use Rattle.uv_script.specs.declared.task.Task.{Task}
 use Rattle.uv_script.specs.Program.{Program, arena_size}
 use Rattle.uv_model.specs.declared.content.Content.{Content}
+use Rattle.uv_model.specs.declared.content.Content.TheVariants as content
+use Rattle.uv_model.specs.declared.request.Request.{Request}
+use Rattle.uv_model.specs.Content.{queued}
 use Rattle.uv_model.specs.declared.place.Body.{Body}
 use Rattle.uv_model.specs.declared.place.Run.{Run}
 use Rattle.uv_model.specs.declared.place.Stage.{Stage}
@@ -37,27 +40,43 @@ use Rattle.uv_model.specs.declared.place.Timing.{Timing}
 use Rattle.uv_model.specs.declared.place.Timing.TheVariants.{Collecting, Firing}
 use Rattle.uv_model.specs.declared.place.Place.{Place}
 use Rattle.uv_model.specs.declared.place.Place.TheVariants.{Main, Running}
-use Rattle.uv_model.specs.State.{State, fresh, handle, with_handle, with_id, live, front, watched, refreshed}
+use Rattle.uv_model.specs.State.{State, fresh, handle, with_handle, with_request, with_id, live, live_handle, live_request, front, front_request, watched, refreshed}
 use Rattle.uv_model.specs.Timers.{started, restarted}
 use Rattle.uv_model.specs.Ops as ops
 use Rattle.uv_model.specs.Ops.{do_op}
 use Rattle.uv_model.specs.Next as step
-use Rattle.uv_model.specs.Next.{Next, Moves, Refuses, next, loop_step, main_step, run_step, body_step, stage_step, sent_to, timers, collect, collected, first_due, fire, leave_timers, enter, is_default, walk, walk_async, front_moved, close_front, begin_walk, may_leave, goes}
+use Rattle.uv_model.specs.Next.{Next, Moves, Refuses, next, loop_step, main_step, run_step, body_step, stage_step, sent_to, timers, collect, collected, first_due, fire, leave_timers, enter, is_default, next_work, work_of, walk, walk_async, front_moved, close_front, begin_walk, may_leave, goes}
 use Rattle.uv_order.specs.Active.{has_id}
 use Rattle.uv_model.proofs.Found.{found_both}
 use Rattle.uv_order.proofs.IdLists.{Each, each_push, distinct_push, member, has_new_middle}
-use Rattle.uv_order.proofs.Holding.{held_at, put, holds, emptied, Fits, its_handle, Lists, lists_emptied, not_listed, Everyone, everyone_put, everyone_emptied, everyone_rest, fitted_emptied, IsSet, Times, times_rest, times_emptied, put_same, get_set_same}
-use Rattle.uv_order.proofs.OpCases.{as_watcher, live_held, refuses_none, refuses_timer, refuses_start, refuses_start_watcher, refuses_stop, refuses_again, refuses_close, start_passes, again_passes, start_watcher_passes, close_passes, on_handle_both, send_both}
-use Rattle.uv_order.proofs.Keeping.{Rests, Watches, Closes, IsSound, AreFree, members, Agree, Kept, on_off, open_shut, others, off_list, sound_put, free_put, free_set, not_free, put_kept, stopped_kept, closed_kept, started_kept, started_again_kept, restarted_again_kept, watcher_started_kept, new_kept}
+use Rattle.uv_order.proofs.Contents.{holds, emptied, get_set_same}
+use Rattle.uv_order.proofs.Holding.{is_held, put, same_handles, Fits, its_handle, Lists, lists_emptied, not_listed, Everyone, everyone_put, everyone_emptied, everyone_rest, fitted_emptied, IsSet, Times, times_rest, times_emptied, put_same}
+use Rattle.uv_order.proofs.OpCases.{as_watcher, live_held, refuses_none, refuses_timer, refuses_start, refuses_start_watcher, refuses_stop, refuses_again, refuses_close, start_passes, again_passes, start_watcher_passes, close_passes, on_handle_both, send_both, cancel_both, make_both}
+use Rattle.uv_order.proofs.Asked.{request_turns, freed_turns, FrontRequest, request_front, runs_work}
+use Rattle.uv_order.proofs.Keeping.{fills, agree_same, free_held, Rests, Watches, Closes, IsSound, AreFree, members, Agree, Kept, on_off, open_shut, others, off_list, sound_put, free_put, free_set, not_free, put_kept, stopped_kept, closed_kept, started_kept, started_again_kept, restarted_again_kept, watcher_started_kept, new_kept}
 
 -- ---- the ops
 
 abbrev pub KeptBy : ops.Done → Type 0
 KeptBy d = Kept d.state
 
-pub init_kept : (s : State) (v : Var) (q : Kind) (t : Option (Id × HandleRecord)) → Kept s → Kept (ops.init s v q t).state
-init_kept s v q (Some t) k = k
-init_kept s v q None k = found_both (next_free s.arena) _ (ops.refuses s code.Efull) KeptBy (λ id e. new_kept s v q id e k) (λ e. k)
+-- a slot is taken for a request
+queued_kept : (s : State) (v : Var) (task : Task) (id : Id) → next_free s.arena ≡ Some id → Kept s → Kept (ops.with_queued s v task id)
+queued_kept s v task id e k =
+    let c = content.Request (queued v task) in
+    let f = fills s.arena s.arena.free id c refl k.free e in
+    let now = taken id c s.arena in
+    agree_same now s.arena s (same_handles s.arena.slots now.slots id None (Some c) f.0 refl refl) f.1 k
+
+-- a request's record changes
+pub request_kept : (s : State) (id : Id) (r x : Request) → held s.arena.slots id ≡ Some (content.Request r) → Kept s → Kept (with_request s id x)
+request_kept s id r x e k =
+    let now = (with_request s id x).arena in
+    agree_same now s.arena s (same_handles s.arena.slots now.slots id _ _ (request_turns s.arena.slots id r x e) refl refl)
+    (free_held s.arena.slots id (content.Request r) _ s.arena.free e k.free) k
+
+cancel_kept : (s : State) (v : Var) → Kept s → Kept (ops.cancel s (live_request s v)).state
+cancel_kept s v k = cancel_both s v KeptBy (λ c no_success. k) (λ t live on. request_kept s t.0 t.1 _ live.holds k)
 
 pub start_watcher_kept : (s : State) (id : Id) (h : HandleRecord) → handle s id ≡ Some h → h.closing ≡ false → Kept s → Kept (ops.start_watcher s id
     h).state
@@ -68,12 +87,14 @@ pub referenced_kept : (s : State) (id : Id) (h : HandleRecord) (flag : Bool) →
     Kept (ops.set_referenced s flag id h).state
 referenced_kept s id h flag e k = put_kept s id h (referenced_as flag h) e refl refl refl refl k
 
-pub send_kept : (s : State) (v : Var) → Kept s → Kept (ops.send s (live s v)).state
+pub send_kept : (s : State) (v : Var) → Kept s → Kept (ops.send s (live_handle s v)).state
 send_kept s v k = send_both s v (λ (d : ops.Coded). Kept d.state) (λ c no_success. k)
     (λ t e stays. put_kept s t.0 t.1 (records.sent t.1) (live_held s v t e) refl refl refl refl k)
 
 pub op_kept : (s : State) (o : Op) → Kept s → Kept (do_op s o).state
-op_kept s (op.Init v q) k = init_kept s v q (live s v) k
+op_kept s (op.Init v q) k = make_both s (live s v) (ops.with_new s v q) KeptBy (λ c no_success. k) (λ id e. new_kept s v q id e k)
+op_kept s (op.Queue v task) k = make_both s (live s v) (ops.with_queued s v task) KeptBy (λ c no_success. k) (λ id e. queued_kept s v task id e k)
+op_kept s (op.Cancel v) k = cancel_kept s v k
 op_kept s (op.Start v timeout repeat) k = on_handle_both s v start_timer_refusal _ KeptBy refuses_start (λ c no_success. k)
     (λ t e is. let p = start_passes t.1 is in started_again_kept s t.0 t.1 timeout repeat (live_held s v t e) p.0 p.1 k)
 op_kept s (op.StartWatcher v) k = on_handle_both s v start_watcher_refusal _ KeptBy refuses_start_watcher (λ c no_success. k)
@@ -404,12 +425,12 @@ gone_kept s t rest n free e are f k =
     }
 
 -- the free slots, once one more is empty
-pub freed_free : (slots : List (Slot Content)) (id : Id) (h : HandleRecord) (n : ℕ) (free : List ℕ) → held_at slots id ≡ Some h → AreFree slots free →
+pub freed_free : (slots : List (Slot Content)) (id : Id) (c : Content) (n : ℕ) (free : List ℕ) → held slots id ≡ Some c → AreFree slots free →
     AreFree (emptied slots id n) free × AreFree (emptied slots id n) (id.slot ∷ free)
-freed_free slots id h n free e k =
-    let away = not_free slots id h free e k in
+freed_free slots id c n free e k =
+    let away = not_free slots id c free e k in
     let rest = free_set slots id.slot (record { generation = n; content = None }) free away k in
-    let at = (holds slots id h e).at in (
+    let at = (holds slots id c e).at in (
       rest,
       (
         record {
@@ -439,10 +460,28 @@ close_kept p s run k = found_both (front s s.closing.yet) _ _ StaysKept (λ t e.
       (cond_both (t.0.generation == (arena_size p).last_generation) _ _
       (λ (u : Slots Content). Agree u s.next_start s.timers s.ready s.idle s.prepare s.check
       s.async (record s.closing { yet = f.rest }))
-      (λ last. gone_kept s t f.rest t.0.generation s.arena.free f.holds f.are (freed_free s.arena.slots t.0 t.1 t.0.generation s.arena.free f.holds
+      (λ last. gone_kept s t f.rest t.0.generation s.arena.free f.holds f.are (freed_free s.arena.slots t.0
+      (content.Handle t.1) t.0.generation s.arena.free (is_held s.arena.slots t.0 t.1 f.holds)
       k.free).0 k)
-      (λ more. gone_kept s t f.rest (t.0.generation + 1) (t.0.slot ∷ s.arena.free) f.holds f.are (freed_free s.arena.slots t.0 t.1 (t.0.generation +
-      1) s.arena.free f.holds k.free).1 k))
+      (λ more. gone_kept s t f.rest (t.0.generation + 1) (t.0.slot ∷ s.arena.free) f.holds f.are (freed_free s.arena.slots t.0 (content.Handle t.1)
+      (t.0.generation +
+      1) s.arena.free (is_held s.arena.slots t.0 t.1 f.holds) k.free).1 k))
+
+-- the front of the requests that are done leaves, and its slot is freed
+pub collect_kept : (p : Program) (s : State) (run : Run) → s.async.yet ≡ [] → Kept s → StaysKept (step.collect_request p s run)
+collect_kept p s run r k = found_both (front_request s s.done.yet) _ _ StaysKept (λ t e. gone t (request_front s s.done.yet t e))
+    (λ e. begin_kept s run watcher.Async r k)
+  where
+    gone : (t : Id × Request) → FrontRequest s s.done.yet t →
+        Agree (freed (arena_size p).last_generation t.0 s.arena) s.next_start s.timers s.ready s.idle s.prepare s.check s.async s.closing
+    gone t f =
+        let last = (arena_size p).last_generation in
+        let c = content.Request t.1 in
+        let free = cond_both (t.0.generation == last) _ _ (λ (u : Slots Content). AreFree u.slots u.free)
+        (λ at. (freed_free s.arena.slots t.0 c t.0.generation s.arena.free f.holds k.free).0)
+        (λ more. (freed_free s.arena.slots t.0 c (t.0.generation + 1) s.arena.free f.holds k.free).1) in
+        agree_same (freed last t.0 s.arena) s.arena s
+        (same_handles s.arena.slots (freed last t.0 s.arena).slots t.0 _ _ (freed_turns last s.arena t.0 c f.holds) refl refl) free k
 
 pub stage_kept : (p : Program) (s : State) (run : Run) (stage : Stage) → IsRested stage s → Kept s → StaysKept (stage_step p s run stage)
 stage_kept p s run Entry r k = enter_kept s run k
@@ -450,7 +489,7 @@ stage_kept p s run Pending r k = begin_kept s run watcher.Idle r k
 stage_kept p s run Idle r k = walk_kept p s run watcher.Idle (begin_kept s run watcher.Prepare r k) k
 stage_kept p s run Prepare r k = walk_kept p s run watcher.Prepare k k
 stage_kept p s run (Poll deadline) r k = cond_both (may_leave s deadline) _ _ StaysKept (λ h. k) (λ h. tt)
-stage_kept p s run Done r k = begin_kept s run watcher.Async r k
+stage_kept p s run Done r k = collect_kept p s run r k
 stage_kept p s run Async r k = async_kept p s run r k
 stage_kept p s run Check r k = walk_kept p s run watcher.Check (begin_closing_kept s r k) k
 stage_kept p s run Closing r k = close_kept p s run k
@@ -481,9 +520,22 @@ pub place_kept : (p : Program) (s : State) (place : Place) → IsRestedAt place 
 place_kept p s (Main i) r k = main_kept s i _ k
 place_kept p s (Running run) r k = run_kept p s run run.body r k
 
+take_kept : (s : State) (n : ℕ) (t : Result (Id × Request) Why) → Kept s → StaysKept (step.take s n t)
+take_kept s n (Err why) k = tt
+take_kept s n (Ok t) k = k
+
+finish_kept : (s : State) (n : ℕ) → Kept s → StaysKept (step.finish s n (work_of s (slice_get s.running n)))
+finish_kept s n k = at (work_of s (slice_get s.running n)) refl where
+  at : (t : Result (Id × Request) Why) → work_of s (slice_get s.running n) ≡ t → StaysKept (step.finish s n t)
+  at (Err why) e = tt
+  at (Ok t) e = request_kept s t.0 t.1 _ (runs_work s n t e).holds k
+
 pub next_kept : (p : Program) (s : State) (e : Event) → IsRestedAt s.place s → Kept s → StaysKept (next p s e)
 unfolding next
 next_kept p s Loop r k = place_kept p s s.place r k
+next_kept p s (Take n) r k = take_kept s n (next_work s (slice_get s.running n)) k
+next_kept p s (Finish n) r k = finish_kept s n k
+next_kept p s (Cancel v) r k = cond_both (nat_lt v.0 (length s.names)) _ _ StaysKept (λ h. cancel_kept s v k) (λ h. tt)
 next_kept p s (Send v) r k = cond_both (nat_lt v.0 (length s.names)) _ _ StaysKept (λ h. send_kept s v k) (λ h. tt)
 next_kept p s (Tick ms) r k = cond_both (nat_le (s.clock + ms) 4611686018427387904) _ _ StaysKept (λ h. k) (λ h. tt)
 

@@ -7,7 +7,6 @@ use Rattle.uv_ids.specs.declared.id.Var.{Var}
 use Rattle.uv_ids.specs.declared.code.Code.TheVariants as code
 use Rattle.uv_ids.specs.declared.code.Answer.{Answer}
 use Rattle.uv_ids.specs.declared.code.Answer.TheVariants as answer
-use Rattle.uv_ids.specs.declared.phase.Kind.{Kind}
 use Rattle.uv_ids.specs.declared.seen.Seen.{Seen}
 use Rattle.uv_ids.specs.declared.seen.Seen.TheVariants as seen
 use Rattle.uv_ids.specs.declared.seen.Site.{Site}
@@ -17,15 +16,19 @@ use Rattle.uv_script.specs.Program.{Program, op_at}
 use Rattle.uv_records.specs.declared.handle.HandleRecord.{HandleRecord}
 use Rattle.uv_records.specs.Slots.{Slots}
 use Rattle.uv_model.specs.declared.content.Content.{Content}
+use Rattle.uv_model.specs.declared.content.Content.TheVariants as content
 use Rattle.uv_model.specs.declared.named.Named.{Named}
 use Rattle.uv_model.specs.Ids.{same_id}
 use Rattle.uv_model.specs.State.{unbound}
-use Rattle.uv_order.specs.Once.{Answered, answered, binds, bound_by, bound, closes, closes_by, is_some_id, is_bound, was_closed, is_closed_line, has_closed_line}
+use Rattle.uv_order.specs.Once.{answered, queues, binds, bound_by, bound, closes, closes_by, is_some_id, is_bound, was_closed, is_closed_line, has_closed_line}
 use Rattle.uv_order.proofs.IdLists.{same, other, itself}
-use Rattle.uv_order.proofs.Holding.{held_at, put, put_same, put_other, emptied, emptied_same, emptied_other, Fits, fits_put, Grown}
+use Rattle.uv_order.proofs.Contents.{emptied, emptied_turns}
+use Rattle.uv_order.proofs.Holding.{held_at, is_held, put, put_same, put_other, emptied_same, emptied_other, Fits, fits_put, fits_same, SameHandles, Grown}
 use Rattle.uv_order.proofs.Counted.{set_there}
 use Rattle.uv_order.proofs.Keeping.{has_number, Closes, open_shut}
 use Rattle.uv_order.proofs.Gone.{IsGone, not_held, gone_put, gone_emptied, gone_now}
+use Rattle.uv_order.proofs.Works.{SameRequests, same_requests, same_put}
+use Rattle.uv_order.proofs.Worked.{Worked, IsIdle, worked_idle, worked_same}
 
 -- ---- names
 
@@ -62,52 +65,58 @@ abbrev pub IsShut : Slots Content → Id → Type 0
 IsShut arena id = Fits arena.slots Closes id ⊎ IsGone arena.slots arena.free id
 
 -- names are bound as the lines tell, and just the ids of which they tell a `close` close, or are gone; those with a `closed` line are gone
-pub record Known (p : Program) (past : List Seen) (arena : Slots Content) (names : List Named) : Type 0 where
+pub record Known (p : Program) (past : List Seen) (arena : Slots Content) (names : List Named) (waiting runs : List Id) : Type 0 where
   pub binding : (v : Var) (id : Id) → id_in names v ≡ Some id → bound p past v ≡ Some id
   pub closing : (id : Id) → Fits arena.slots Closes id → was_closed p past id ≡ true
   pub closed : (id : Id) → was_closed p past id ≡ true → IsShut arena id
   pub over : (id : Id) → has_closed_line past id ≡ true → IsGone arena.slots arena.free id
+  pub worked : Worked p past arena waiting runs
 
 -- a held handle that doesn't close was not closed
-pub not_closed : (p : Program) (past : List Seen) (arena : Slots Content) (names : List Named) (id : Id) (h : HandleRecord) →
-    held_at arena.slots id ≡ Some h → h.closing ≡ false → Known p past arena names → was_closed p past id ≡ false
+pub not_closed : {waiting runs : List Id} (p : Program) (past : List Seen) (arena : Slots Content) (names : List Named) (id : Id) (h : HandleRecord) →
+    held_at arena.slots id ≡ Some h → h.closing ≡ false → Known p past arena names waiting runs → was_closed p past id ≡ false
 not_closed p past arena names id h e stays k = at (was_closed p past id) refl where
   shut : IsShut arena id → ⊥
   shut (inl f) = open_shut f.handle f.fits (ap (λ (x : HandleRecord). x.closing) (same_Some _ _ (sym f.holds ∙ e)) ∙ stays)
-  shut (inr g) = not_held arena.slots arena.free id h g e
+  shut (inr g) = not_held arena.slots arena.free id (content.Handle h) g (is_held arena.slots id h e)
 
   at : (b : Bool) → was_closed p past id ≡ b → b ≡ false
   at true c = absurd (shut (k.closed id c))
   at false c = refl
 
 -- a held handle has no `closed` line
-pub not_over : (p : Program) (past : List Seen) (arena : Slots Content) (names : List Named) (id : Id) (h : HandleRecord) →
-    held_at arena.slots id ≡ Some h → Known p past arena names → has_closed_line past id ≡ false
+pub not_over : {waiting runs : List Id} (p : Program) (past : List Seen) (arena : Slots Content) (names : List Named) (id : Id) (h : HandleRecord) →
+    held_at arena.slots id ≡ Some h → Known p past arena names waiting runs → has_closed_line past id ≡ false
 not_over p past arena names id h e k = at (has_closed_line past id) refl where
   at : (b : Bool) → has_closed_line past id ≡ b → b ≡ false
-  at true c = absurd (not_held arena.slots arena.free id h (k.over id c) e)
+  at true c = absurd (not_held arena.slots arena.free id (content.Handle h) (k.over id c) (is_held arena.slots id h e))
   at false c = refl
 
 -- ---- changes without a line
 
-pub known_names : (p : Program) (past : List Seen) (arena : Slots Content) (now was : List Named) → SameIds now was → Known p past arena was →
-    Known p past arena now
+pub known_names : {waiting runs : List Id} (p : Program) (past : List Seen) (arena : Slots Content) (now was : List Named) → SameIds now was →
+    Known p past arena was waiting runs →
+    Known p past arena now waiting runs
 known_names p past arena now was same k = record {
   binding = λ v id e. k.binding v id (sym (same v) ∙ e);
   closing = k.closing;
   closed = k.closed;
   over = k.over;
+  worked = k.worked;
 }
 
 -- a handle changes that closes as before
-pub known_put : (p : Program) (past : List Seen) (arena : Slots Content) (names : List Named) (id : Id) (h x : HandleRecord) →
-    held_at arena.slots id ≡ Some h → x.closing ≡ h.closing → Known p past arena names →
-    Known p past (record arena { slots = put arena.slots id x }) names
+pub known_put : {waiting runs : List Id} (p : Program) (past : List Seen) (arena : Slots Content) (names : List Named) (id : Id)
+    (h x : HandleRecord) →
+    held_at arena.slots id ≡ Some h → x.closing ≡ h.closing → Known p past arena names waiting runs →
+    Known p past (record arena { slots = put arena.slots id x }) names waiting runs
 known_put p past arena names id h x e o k = record {
   binding = k.binding;
   closing = λ i f. closing i f (same_id i id) refl;
   closed = λ i c. shut i (k.closed i c);
   over = λ i c. gone_put arena.slots arena.free id h x i e (k.over i c);
+  worked = worked_same p past arena (record arena { slots = put arena.slots id x }) _ _ (same_put arena.slots id h x e)
+      (λ i g. gone_put arena.slots arena.free id h x i e g) k.worked;
 } where
   closing : (i : Id) → Fits (put arena.slots id x) Closes i → (b : Bool) → same_id i id ≡ b → was_closed p past i ≡ true
   closing i f true s =
@@ -136,13 +145,16 @@ pub record IsQuiet (p : Program) (l : Seen) : Type 0 where
   pub closing : closes_by (answered p l) ≡ None
   pub closed : (id : Id) → is_closed_line l id ≡ false
 
-pub known_quiet : (p : Program) (past : List Seen) (l : Seen) (arena : Slots Content) (names : List Named) → IsQuiet p l → Known p past arena names →
-    Known p (l ∷ past) arena names
-known_quiet p past l arena names q k = record {
+-- so does a line that tells of requests
+pub known_told : {waiting runs few more : List Id} (p : Program) (past : List Seen) (l : Seen) (arena now : Slots Content) (names : List Named) →
+    IsQuiet p l → SameHandles now.slots arena.slots → ((i : Id) → IsGone arena.slots arena.free i → IsGone now.slots now.free i) →
+    Worked p (l ∷ past) now few more → Known p past arena names waiting runs → Known p (l ∷ past) now names few more
+known_told p past l arena now names q f gone w k = record {
   binding = λ v id e. q.binding v (bound p past v) ∙ k.binding v id e;
-  closing = λ id f. same_closed id ∙ k.closing id f;
-  closed = λ id c. k.closed id (sym (same_closed id) ∙ c);
-  over = λ id c. k.over id (sym (same_over id) ∙ c);
+  closing = λ id c. same_closed id ∙ k.closing id (fits_same now.slots arena.slots Closes (λ j. sym (f j)) id c);
+  closed = λ id c. later id (k.closed id (sym (same_closed id) ∙ c));
+  over = λ id c. gone id (k.over id (sym (same_over id) ∙ c));
+  worked = w;
 } where
   same_closed : (id : Id) → was_closed p (l ∷ past) id ≡ was_closed p past id
   same_closed id = rw q.closing refl
@@ -150,10 +162,23 @@ known_quiet p past l arena names q k = record {
   same_over : (id : Id) → has_closed_line (l ∷ past) id ≡ has_closed_line past id
   same_over id = rw (q.closed id) refl
 
+  later : (i : Id) → IsShut arena i → IsShut now i
+  later i (inl c) = inl (fits_same arena.slots now.slots Closes f i c)
+  later i (inr g) = inr (gone i g)
+
+pub known_quiet : {waiting runs : List Id} (p : Program) (past : List Seen) (l : Seen) (arena : Slots Content) (names : List Named) → IsQuiet p l →
+    IsIdle p l → Known p past arena names waiting runs → Known p (l ∷ past) arena names waiting runs
+known_quiet p past l arena names q idle k =
+    known_told p past l arena arena names q (λ i. refl) (λ i g. g) (worked_idle p past l arena _ _ idle k.worked) k
+
 -- an op that neither binds a name nor closes a handle
 pub record IsQuietOp (o : Op) (a : Answer) : Type 0 where
   pub binding : (v : Var) (before : Option Id) → binds o a v before ≡ before
   pub closing : closes o a ≡ None
+
+-- nor queues a request
+abbrev pub IsIdleOp : Op → Answer → Type 0
+IsIdleOp o a = (id : Id) → queues o a id ≡ None
 
 pub is_answered : (p : Program) (place : Site) (o : Op) (a : Answer) → op_at p place ≡ Some o →
     answered p (seen.Op place a) ≡ Some (record { op = o; answer = a })
@@ -164,6 +189,14 @@ quiet_op p place o a e q = record {
   binding = λ v before. rw (is_answered p place o a e) (q.binding v before);
   closing = rw (is_answered p place o a e) q.closing;
   closed = λ id. refl;
+}
+
+pub idle_op : (p : Program) (place : Site) (o : Op) (a : Answer) → op_at p place ≡ Some o → IsIdleOp o a → IsIdle p (seen.Op place a)
+idle_op p place o a e q = record {
+  queued = λ id. rw (is_answered p place o a e) (q id);
+  taken = λ id. refl;
+  finished = λ id. refl;
+  over = λ id. refl;
 }
 
 or_right : (a b : Bool) → b ≡ true → (a || b) ≡ true
@@ -179,16 +212,21 @@ either true b e = inl refl
 either false b e = inr e
 
 -- a handle that doesn't close is closed
-pub known_close : (p : Program) (past : List Seen) (place : Site) (v : Var) (arena : Slots Content) (names : List Named) (id : Id)
+pub known_close : {waiting runs : List Id} (p : Program) (past : List Seen) (place : Site) (v : Var) (arena : Slots Content) (names : List Named)
+    (id : Id)
     (h x : HandleRecord) → op_at p place ≡ Some (op.Close v) → id_in names v ≡ Some id → held_at arena.slots id ≡ Some h → x.closing ≡ true →
-    Known p past arena names →
-    Known p (seen.Op place (answer.Code code.Ok) ∷ past) (record arena { slots = put arena.slots id x }) names
+    Known p past arena names waiting runs →
+    Known p (seen.Op place (answer.Code code.Ok) ∷ past) (record arena { slots = put arena.slots id x }) names waiting runs
 known_close p past place v arena names id h x e is holds shut k = record {
   binding = λ u i f. rw said (k.binding u i f);
   closing = λ i f. rw closed_now (closing i f (same_id i id) refl);
   closed = λ i c. closed i (either (is_some_id i (bound p past v)) (was_closed p past i) (sym (ap
       (λ (o : Option Var). is_bound p past i o || was_closed p past i) closed_now) ∙ c));
   over = λ i c. gone_put arena.slots arena.free id h x i holds (k.over i c);
+  worked = worked_idle p past (seen.Op place (answer.Code code.Ok)) (record arena { slots = put arena.slots id x }) _ _
+      (idle_op p place (op.Close v) (answer.Code code.Ok) e (λ i. refl))
+      (worked_same p past arena (record arena { slots = put arena.slots id x }) _ _ (same_put arena.slots id h x holds)
+      (λ i g. gone_put arena.slots arena.free id h x i holds g) k.worked);
 } where
   said : answered p (seen.Op place (answer.Code code.Ok)) ≡ Some (record { op = op.Close v; answer = answer.Code code.Ok })
   said = is_answered p place (op.Close v) (answer.Code code.Ok) e
@@ -220,19 +258,29 @@ known_close p past place v arena names id h x e is holds shut k = record {
     earlier (inl f) = inl (fits_put arena.slots Closes id h x holds (λ g. shut) i f)
     earlier (inr g) = inr (gone_put arena.slots arena.free id h x i holds g)
 
--- a name is bound to a new handle, which doesn't close
-pub known_new : (p : Program) (past : List Seen) (place : Site) (v : Var) (q : Kind) (arena more : Slots Content) (names : List Named) (id : Id)
-    (x : HandleRecord) (n : Named) → op_at p place ≡ Some (op.Init v q) → n.id ≡ Some id → Grown arena.slots more.slots id x → x.closing ≡ false →
-    ((i : Id) → IsGone arena.slots arena.free i → IsGone more.slots more.free i) → Known p past arena names →
-    Known p (seen.Op place (answer.Id id) ∷ past) more (slice_set names v.0 n)
-known_new p past place v q arena more names id x n e is grown stays gone k = record {
-  binding = λ u i f. rw said (binding u i (v.0 == u.0) refl f);
-  closing = λ i f. rw said (k.closing i (earlier i f (same_id i id) refl));
-  closed = λ i c. later i (k.closed i (sym (ap (λ (o : Option Answered). is_bound p past i (closes_by o) || was_closed p past i) said) ∙ c));
+-- the line of an op binds a name
+pub known_bound : {waiting runs few : List Id} (p : Program) (past : List Seen) (place : Site) (v : Var) (o : Op) (arena now : Slots Content)
+    (names : List Named) (id : Id) (n : Named) → op_at p place ≡ Some o →
+    ((u : Var) (before : Option Id) → binds o (answer.Id id) u before ≡ (if v.0 == u.0 then Some id else before)) →
+    closes o (answer.Id id) ≡ None → n.id ≡ Some id → SameHandles now.slots arena.slots →
+    ((i : Id) → IsGone arena.slots arena.free i → IsGone now.slots now.free i) → Worked p (seen.Op place (answer.Id id) ∷ past) now few runs →
+    Known p past arena names waiting runs → Known p (seen.Op place (answer.Id id) ∷ past) now (slice_set names v.0 n) few runs
+known_bound p past place v o arena now names id n e bind quiet is handles gone w k = record {
+  binding = λ u i f. rw said (bind u (bound p past u) ∙ binding u i (v.0 == u.0) refl f);
+  closing = λ i f. rw said (rw quiet (k.closing i (fits_same now.slots arena.slots Closes (λ j. sym (handles j)) i f)));
+  closed = λ i c. later i (k.closed i (sym (ap (λ (x : Option Var). is_bound p past i x || was_closed p past i) nobody) ∙ c));
   over = λ i c. gone i (k.over i c);
+  worked = w;
 } where
-  said : answered p (seen.Op place (answer.Id id)) ≡ Some (record { op = op.Init v q; answer = answer.Id id })
-  said = is_answered p place (op.Init v q) (answer.Id id) e
+  later : (i : Id) → IsShut arena i → IsShut now i
+  later i (inl c) = inl (fits_same arena.slots now.slots Closes handles i c)
+  later i (inr g) = inr (gone i g)
+
+  said : answered p (seen.Op place (answer.Id id)) ≡ Some (record { op = o; answer = answer.Id id })
+  said = is_answered p place o (answer.Id id) e
+
+  nobody : closes_by (answered p (seen.Op place (answer.Id id))) ≡ None
+  nobody = ap closes_by said ∙ quiet
 
   binding : (u : Var) (i : Id) (b : Bool) → (v.0 == u.0) ≡ b → id_in (slice_set names v.0 n) u ≡ Some i →
       (if v.0 == u.0 then Some id else bound p past u) ≡ Some i
@@ -243,6 +291,19 @@ known_new p past place v q arena more names id x n e is grown stays gone k = rec
       let apart : u.0 ≡ v.0 → ⊥ = λ is. both_ways (v.0 == u.0) f (eq-eqb v.0 u.0 (sym is)) in
       rw f (k.binding u i (ap (λ (o : Option Named). (unwrap_or o unbound).id) (sym (set_there names v.0 u.0 n apart)) ∙ g))
 
+-- a slot is taken for a handle that doesn't close
+pub known_grown : {waiting runs : List Id} (p : Program) (past : List Seen) (arena more : Slots Content) (names : List Named) (id : Id)
+    (x : HandleRecord) →
+    Grown arena.slots more.slots id x → SameRequests more.slots arena.slots → x.closing ≡ false →
+    ((i : Id) → IsGone arena.slots arena.free i → IsGone more.slots more.free i) →
+    Known p past arena names waiting runs → Known p past more names waiting runs
+known_grown p past arena more names id x grown same_asked stays gone k = record {
+  binding = k.binding;
+  closing = λ i f. k.closing i (earlier i f (same_id i id) refl);
+  closed = λ i c. later i (k.closed i c);
+  over = λ i c. gone i (k.over i c);
+  worked = worked_same p past arena more _ _ same_asked gone k.worked;
+} where
   earlier : (i : Id) → Fits more.slots Closes i → (b : Bool) → same_id i id ≡ b → Fits arena.slots Closes i
   earlier i f true s =
       let y : f.handle ≡ x = same_Some _ _ (sym f.holds ∙ ap (held_at more.slots) (same i id s) ∙ grown.here) in
@@ -255,16 +316,36 @@ known_new p past place v q arena more names id x n e is grown stays gone k = rec
     away f same = none_is_none f.handle (sym grown.new ∙ ap (held_at arena.slots) (sym same) ∙ f.holds)
   later i (inr g) = inr (gone i g)
 
+-- no handle changes
+pub known_same : {waiting runs few more : List Id} (p : Program) (past : List Seen) (arena now : Slots Content) (names : List Named) →
+    SameHandles now.slots arena.slots → ((i : Id) → IsGone arena.slots arena.free i → IsGone now.slots now.free i) → Worked p past now few more →
+    Known p past arena names waiting runs → Known p past now names few more
+known_same p past arena now names f gone w k = record {
+  binding = k.binding;
+  closing = λ i c. k.closing i (fits_same now.slots arena.slots Closes (λ j. sym (f j)) i c);
+  closed = λ i c. later i (k.closed i c);
+  over = λ i c. gone i (k.over i c);
+  worked = w;
+} where
+  later : (i : Id) → IsShut arena i → IsShut now i
+  later i (inl c) = inl (fits_same arena.slots now.slots Closes f i c)
+  later i (inr g) = inr (gone i g)
+
 -- a closing handle has its `closed` line, and its slot is freed or retired
-pub known_gone : (p : Program) (past : List Seen) (v : Var) (arena : Slots Content) (more : List ℕ) (names : List Named) (id : Id) (h : HandleRecord)
+pub known_gone : {waiting runs : List Id} (p : Program) (past : List Seen) (v : Var) (arena : Slots Content) (more : List ℕ) (names : List Named)
+    (id : Id) (h : HandleRecord)
     (n : ℕ) → held_at arena.slots id ≡ Some h → id.generation ≤ n → (id.generation < n) ⊎ (has_number more id.slot ≡ false) →
-    ((m : ℕ) → (m ≡ id.slot → ⊥) → has_number arena.free m ≡ false → has_number more m ≡ false) → Known p past arena names →
-    Known p (seen.Closed v id ∷ past) (record arena { slots = emptied arena.slots id n; free = more }) names
+    ((m : ℕ) → (m ≡ id.slot → ⊥) → has_number arena.free m ≡ false → has_number more m ≡ false) → Known p past arena names waiting runs →
+    Known p (seen.Closed v id ∷ past) (record arena { slots = emptied arena.slots id n; free = more }) names waiting runs
 known_gone p past v arena more names id h n e l last others k = record {
   binding = k.binding;
   closing = λ i f. k.closing i (earlier i f (same_id i id) refl);
   closed = λ i c. later i (same_id i id) refl (k.closed i c);
   over = λ i c. over i (either (same_id id i) (has_closed_line past i) c);
+  worked = worked_idle p past (seen.Closed v id) (record arena { slots = emptied arena.slots id n; free = more }) _ _
+      (record { queued = λ i. refl; taken = λ i. refl; finished = λ i. refl; over = λ i. refl })
+      (worked_same p past arena (record arena { slots = emptied arena.slots id n; free = more }) _ _
+      (same_requests arena.slots _ id _ _ (emptied_turns arena.slots id (content.Handle h) n (is_held arena.slots id h e)) refl refl) gone k.worked);
 } where
   earlier : (i : Id) → Fits (emptied arena.slots id n) Closes i → (b : Bool) → same_id i id ≡ b → Fits arena.slots Closes i
   earlier i f true s = absurd (none_is_none f.handle (sym (emptied_same arena.slots id h n e)
@@ -272,10 +353,11 @@ known_gone p past v arena more names id h n e l last others k = record {
   earlier i f false s = record { handle = f.handle; holds = sym (emptied_other arena.slots id i h n e (other i id s)) ∙ f.holds; fits = f.fits }
 
   gone : (i : Id) → IsGone arena.slots arena.free i → IsGone (emptied arena.slots id n) more i
-  gone i g = gone_emptied arena.slots arena.free more id h n i e l others g
+  gone i g = gone_emptied arena.slots arena.free more id (content.Handle h) n i (is_held arena.slots id h e) l others g
 
   now : (i : Id) → i ≡ id → IsGone (emptied arena.slots id n) more i
-  now i is = subst (IsGone (emptied arena.slots id n) more) (sym is) (gone_now arena.slots more id h n e last)
+  now i is = subst (IsGone (emptied arena.slots id n) more) (sym is) (gone_now arena.slots more id (content.Handle h) n
+      (is_held arena.slots id h e) last)
 
   later : (i : Id) (b : Bool) → same_id i id ≡ b → IsShut arena i → IsShut (record arena { slots = emptied arena.slots id n; free = more }) i
   later i true s k = inr (now i (same i id s))

@@ -1,12 +1,14 @@
 -- An op by its cases: it is refused, or done with the handle of a live name.
-use Rattle.std.proofs.Common.{◌≡◌, Bool, true, false, Option, Some, None, refl, ap, subst}
+use Rattle.std.proofs.Common.{◌≡◌, Bool, true, false, Option, Some, None, Result, Ok, Err, refl, ap, subst, ◌∙◌}
 use Rattle.std.specs.Prelude.{not, ◌||◌}
-use Rattle.std.proofs.lemmas.Bool.{or_parts}
+use Rattle.std.specs.List.{list_any}
+use Rattle.std.proofs.lemmas.Bool.{or_parts, cond_both}
 use Rattle.std.proofs.lemmas.Option.{same_Some}
 use Rattle.uv_ids.specs.declared.id.Id.{Id}
 use Rattle.uv_ids.specs.declared.id.Var.{Var}
 use Rattle.uv_ids.specs.declared.code.Code.{Code}
-use Rattle.uv_ids.specs.declared.code.Code.TheVariants.{Ok as Success, Estale}
+use Rattle.uv_ids.specs.declared.code.Code.TheVariants.{Ok as Success, Ebusy, Ebound, Efull}
+use Rattle.uv_ids.specs.declared.code.Answer.TheVariants as answer
 use Rattle.uv_ids.specs.declared.phase.Kind.{Kind}
 use Rattle.uv_ids.specs.declared.phase.Kind.TheVariants as kind
 use Rattle.uv_records.specs.declared.handle.HandleRecord.{HandleRecord}
@@ -15,7 +17,13 @@ use Rattle.uv_records.specs.declared.lists.WatcherKind.TheVariants as watcher
 use Rattle.uv_records.specs.Handles.{is_timer, is_async, sent}
 use Rattle.uv_records.specs.Lists.{watcher_kind}
 use Rattle.uv_records.specs.Refusals.{only_if, invalid_if, is_watcher, timer_refusal, start_timer_refusal, start_watcher_refusal, stop_refusal, again_refusal, close_refusal, send_refusal, no_refusal}
-use Rattle.uv_model.specs.State.{State, handle, named, live, live_id, with_id, with_handle}
+use Rattle.uv_records.specs.Slots.{held, next_free}
+use Rattle.uv_model.specs.declared.content.Content.{Content}
+use Rattle.uv_model.specs.declared.content.Content.TheVariants as content
+use Rattle.uv_model.specs.declared.request.Request.{Request}
+use Rattle.uv_model.specs.Content.{handle_in}
+use Rattle.uv_model.specs.Ids.{same_id}
+use Rattle.uv_model.specs.State.{State, handle, named, live, live_id, live_handle, live_request, as_handle, handle_at, as_request, request_at, with_id, with_handle}
 use Rattle.uv_model.specs.Ops as ops
 use Rattle.uv_model.proofs.Found.{found_both}
 
@@ -43,29 +51,59 @@ as_watcher kind.Async k e = ap kind_as (same_Some _ _ e)
 
 -- ---- live names
 
-held_as : (s : State) (id : Id) (o : Option HandleRecord) → handle s id ≡ o → (t : Id × HandleRecord) → with_id id o ≡ Some t → handle s t.0 ≡ Some
-    t.1
-held_as s id None e t f = cc f
-held_as s id (Some h) e t f = let is = same_Some _ _ f in subst (λ (u : Id × HandleRecord). handle s u.0 ≡ Some u.1) is e
+-- what is found under an id
+pub with_id_is : {X : Type 0} (id : Id) (o : Option X) (t : Id × X) → with_id id o ≡ Some t → (id ≡ t.0) × (o ≡ Some t.1)
+with_id_is id None t e = cc e
+with_id_is {X} id (Some x) t e =
+    let is : (id, x) ≡ t = same_Some _ _ e in
+    (ap (λ (w : Id × X). w.0) is, ap (λ (w : Id × X). Some w.1) is)
 
-held_by : (s : State) (o : Option Id) (t : Id × HandleRecord) → live_id s o ≡ Some t → handle s t.0 ≡ Some t.1
-held_by s None t e = cc e
-held_by s (Some id) t e = held_as s id (handle s id) refl t e
+-- what a live name stands for is held, and the name is bound to it
+pub record IsLive (s : State) (v : Var) (id : Id) (c : Content) : Type 0 where
+  pub bound : (named s v).id ≡ Some id
+  pub holds : held s.arena.slots id ≡ Some c
+
+is_live : (s : State) (v : Var) (u : Id × Content) → live s v ≡ Some u → IsLive s v u.0 u.1
+is_live s v u e = at (named s v).id refl e where
+  at : (o : Option Id) → (named s v).id ≡ o → live_id s o ≡ Some u → IsLive s v u.0 u.1
+  at None f g = cc g
+  at (Some i) f g =
+      let is = with_id_is i (held s.arena.slots i) u g in
+      record { bound = f ∙ ap Some is.0; holds = subst (λ (j : Id). held s.arena.slots j ≡ Some u.1) is.0 is.1 }
+
+pub live_as_handle : (s : State) (v : Var) (t : Id × HandleRecord) → live_handle s v ≡ Ok t → IsLive s v t.0 (content.Handle t.1)
+live_as_handle s v t e = at (live s v) refl e where
+  by : (u : Id × Content) → IsLive s v u.0 u.1 → (c : Content) → u.1 ≡ c → handle_at u.0 c ≡ Ok t → IsLive s v t.0 (content.Handle t.1)
+  by u k (content.Request r) f g = cc g
+  by u k (content.Handle h) f g =
+      let is : (u.0, h) ≡ t = cc g in
+      let here : IsLive s v u.0 (content.Handle h) = subst (IsLive s v u.0) f k in
+      subst (λ (w : Id × HandleRecord). IsLive s v w.0 (content.Handle w.1)) is here
+
+  at : (o : Option (Id × Content)) → live s v ≡ o → as_handle o ≡ Ok t → IsLive s v t.0 (content.Handle t.1)
+  at None f g = cc g
+  at (Some u) f g = by u (is_live s v u f) u.1 refl g
+
+pub live_as_request : (s : State) (v : Var) (t : Id × Request) → live_request s v ≡ Ok t → IsLive s v t.0 (content.Request t.1)
+live_as_request s v t e = at (live s v) refl e where
+  by : (u : Id × Content) → IsLive s v u.0 u.1 → (c : Content) → u.1 ≡ c → request_at u.0 c ≡ Ok t → IsLive s v t.0 (content.Request t.1)
+  by u k (content.Handle h) f g = cc g
+  by u k (content.Request r) f g =
+      let is : (u.0, r) ≡ t = cc g in
+      let here : IsLive s v u.0 (content.Request r) = subst (IsLive s v u.0) f k in
+      subst (λ (w : Id × Request). IsLive s v w.0 (content.Request w.1)) is here
+
+  at : (o : Option (Id × Content)) → live s v ≡ o → as_request o ≡ Ok t → IsLive s v t.0 (content.Request t.1)
+  at None f g = cc g
+  at (Some u) f g = by u (is_live s v u f) u.1 refl g
 
 -- a live name's handle is held
-pub live_held : (s : State) (v : Var) (t : Id × HandleRecord) → live s v ≡ Some t → handle s t.0 ≡ Some t.1
-live_held s v t e = held_by s (named s v).id t e
-
-bound_by : (s : State) (o : Option Id) (t : Id × HandleRecord) → live_id s o ≡ Some t → o ≡ Some t.0
-bound_by s None t e = cc e
-bound_by s (Some id) t e = at (handle s id) e where
-  at : (h : Option HandleRecord) → with_id id h ≡ Some t → ◌≡◌ {A = Option Id} (Some id) (Some t.0)
-  at None f = cc f
-  at (Some h) f = ap (λ (u : Id × HandleRecord). Some u.0) (same_Some _ _ f)
+pub live_held : (s : State) (v : Var) (t : Id × HandleRecord) → live_handle s v ≡ Ok t → handle s t.0 ≡ Some t.1
+live_held s v t e = ap handle_in (live_as_handle s v t e).holds
 
 -- and it is bound to it
-pub live_bound : (s : State) (v : Var) (t : Id × HandleRecord) → live s v ≡ Some t → (named s v).id ≡ Some t.0
-live_bound s v t e = bound_by s (named s v).id t e
+pub live_bound : (s : State) (v : Var) (t : Id × HandleRecord) → live_handle s v ≡ Ok t → (named s v).id ≡ Some t.0
+live_bound s v t e = (live_as_handle s v t e).bound
 
 -- ---- ops
 
@@ -150,19 +188,52 @@ send_passes h e =
     let parts = only_passes (is_async h.kind) (invalid_if h.closing) e in
     (async_kind h.kind parts.0, invalid_passes h.closing parts.1)
 
+-- what isn't a live handle or request refuses
+no_handle : (o : Option (Id × Content)) (c : Code) → as_handle o ≡ Err c → IsRefusal c
+no_handle None c e ok = cc (e, ok)
+no_handle (Some u) c e ok = at u.1 e where
+  at : (x : Content) → handle_at u.0 x ≡ Err c → ⊥
+  at (content.Handle h) f = cc f
+  at (content.Request r) f = cc (f, ok)
+
+pub no_request : (o : Option (Id × Content)) (c : Code) → as_request o ≡ Err c → IsRefusal c
+no_request None c e ok = cc (e, ok)
+no_request (Some u) c e ok = at u.1 e where
+  at : (x : Content) → request_at u.0 x ≡ Err c → ⊥
+  at (content.Handle h) f = cc (f, ok)
+  at (content.Request r) f = cc f
+
 pub on_handle_both : (s : State) (v : Var) (why : HandleRecord → Option Code) (f : Id → HandleRecord → ops.Done) (P : ops.Done → Type 0) → Refuses
     why →
-    ((c : Code) → IsRefusal c → P (ops.refuses s c)) → ((t : Id × HandleRecord) → live s v ≡ Some t → why t.1 ≡ None → P (f t.0 t.1)) →
-    P (ops.on_handle s (live s v) why f)
-on_handle_both s v why f P codes refused done = at (live s v) refl where
-  at : (t : Option (Id × HandleRecord)) → live s v ≡ t → P (ops.on_handle s t why f)
-  at None e = refused Estale (λ g. cc g)
-  at (Some t) e = found_both (why t.1) (ops.refuses s) (f t.0 t.1) P (λ c is. refused c (codes t.1 c is)) (λ is. done t e is)
+    ((c : Code) → IsRefusal c → P (ops.refuses s c)) → ((t : Id × HandleRecord) → live_handle s v ≡ Ok t → why t.1 ≡ None → P (f t.0 t.1)) →
+    P (ops.on_handle s (live_handle s v) why f)
+on_handle_both s v why f P codes refused done = at (live_handle s v) refl where
+  at : (t : Result (Id × HandleRecord) Code) → live_handle s v ≡ t → P (ops.on_handle s t why f)
+  at (Err code) e = refused code (no_handle (live s v) code e)
+  at (Ok t) e = found_both (why t.1) (ops.refuses s) (f t.0 t.1) P (λ c is. refused c (codes t.1 c is)) (λ is. done t e is)
 
 pub send_both : (s : State) (v : Var) (P : ops.Coded → Type 0) → ((c : Code) → IsRefusal c → P (record { state = s; code = c })) →
-    ((t : Id × HandleRecord) → live s v ≡ Some t → send_refusal t.1 ≡ None → P (record { state = with_handle s t.0 (sent t.1); code = Success })) →
-    P (ops.send s (live s v))
-send_both s v P refused done = at (live s v) refl where
-  at : (t : Option (Id × HandleRecord)) → live s v ≡ t → P (ops.send s t)
-  at None e = refused Estale (λ g. cc g)
-  at (Some t) e = found_both (send_refusal t.1) _ _ P (λ c is. refused c (refuses_send t.1 c is)) (λ is. done t e is)
+    ((t : Id × HandleRecord) → live_handle s v ≡ Ok t → send_refusal t.1 ≡ None →
+    P (record { state = with_handle s t.0 (sent t.1); code = Success })) →
+    P (ops.send s (live_handle s v))
+send_both s v P refused done = at (live_handle s v) refl where
+  at : (t : Result (Id × HandleRecord) Code) → live_handle s v ≡ t → P (ops.send s t)
+  at (Err code) e = refused code (no_handle (live s v) code e)
+  at (Ok t) e = found_both (send_refusal t.1) _ _ P (λ c is. refused c (refuses_send t.1 c is)) (λ is. done t e is)
+
+-- a request is cancelled where it waits, or the cancel is refused
+pub cancel_both : (s : State) (v : Var) (P : ops.Done → Type 0) → ((c : Code) → IsRefusal c → P (ops.refuses s c)) →
+    ((t : Id × Request) → IsLive s v t.0 (content.Request t.1) → list_any (same_id t.0) s.waiting ≡ true →
+    P (record { state = ops.cancelled s t.0 t.1; answer = answer.Cancelled t.0 })) →
+    P (ops.cancel s (live_request s v))
+cancel_both s v P refused done = at (live_request s v) refl where
+  at : (t : Result (Id × Request) Code) → live_request s v ≡ t → P (ops.cancel s t)
+  at (Err code) e = refused code (no_request (live s v) code e)
+  at (Ok t) e = cond_both (list_any (same_id t.0) s.waiting) _ _ P (λ on. done t (live_as_request s v t e) on) (λ off. refused Ebusy (λ ok. cc ok))
+
+-- a slot is taken for what a name is bound to, or there is none
+pub make_both : (s : State) (t : Option (Id × Content)) (made : Id → State) (P : ops.Done → Type 0) → ((c : Code) → IsRefusal c →
+    P (ops.refuses s c)) →
+    ((id : Id) → next_free s.arena ≡ Some id → P (record { state = made id; answer = answer.Id id })) → P (ops.make s t made)
+make_both s (Some t) made P refused done = refused Ebound (λ ok. cc ok)
+make_both s None made P refused done = found_both (next_free s.arena) _ _ P done (λ none. refused Efull (λ ok. cc ok))

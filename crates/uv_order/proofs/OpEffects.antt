@@ -1,5 +1,5 @@
 -- What an op leaves of the lists that a section walks, of the counts of calls, and of what lasts from line to line.
-use Rattle.std.proofs.Common.{◌≡◌, ℕ, ◌==◌, List, [], ◌∷◌, false, Option, Some, None, length, slice_get, slice_set, unwrap_or, refl, ap, sym, ◌∙◌, zero, suc}
+use Rattle.std.proofs.Common.{◌≡◌, ℕ, ◌==◌, List, [], ◌∷◌, false, Option, Some, None, Ok, length, slice_get, slice_set, unwrap_or, refl, ap, sym, ◌∙◌, zero, suc}
 use Rattle.std.proofs.lemmas.Bool.{cond_both}
 use Rattle.uv_ids.specs.declared.id.Id.{Id}
 use Rattle.uv_ids.specs.declared.id.Var.{Var}
@@ -13,16 +13,17 @@ use Rattle.uv_ids.specs.declared.phase.Phase.{Phase}
 use Rattle.uv_ids.specs.declared.phase.Phase.TheVariants as phase
 use Rattle.uv_script.specs.declared.op.Op.{Op}
 use Rattle.uv_script.specs.declared.op.Op.TheVariants as op
+use Rattle.uv_script.specs.declared.task.Task.{Task}
+use Rattle.uv_model.specs.declared.content.Content.{Content}
 use Rattle.uv_records.specs.declared.handle.HandleRecord.{HandleRecord}
 use Rattle.uv_model.specs.declared.named.Named.{Named}
 use Rattle.uv_records.specs.declared.lists.WatcherKind.{WatcherKind}
 use Rattle.uv_records.specs.declared.lists.WatcherKind.TheVariants as watcher
 use Rattle.uv_records.specs.Lists.{watcher_kind}
 use Rattle.uv_records.specs.Refusals.{no_refusal, timer_refusal, start_timer_refusal, start_watcher_refusal, stop_refusal, again_refusal, close_refusal}
-use Rattle.uv_records.specs.Slots.{next_free}
 use Rattle.uv_records.specs.Walks.{Walk}
 use Rattle.uv_model.specs.Ids.{without_id}
-use Rattle.uv_model.specs.State.{State, handle, live, unbound}
+use Rattle.uv_model.specs.State.{State, handle, live, live_handle, live_request, unbound}
 use Rattle.uv_model.specs.Timers.{stopped, started}
 use Rattle.uv_model.specs.Ops as ops
 use Rattle.uv_model.specs.Ops.{do_op}
@@ -32,7 +33,7 @@ use Rattle.uv_order.proofs.IdLists.{left_of, none_off, one_off, without_absent, 
 use Rattle.uv_order.proofs.Holding.{Everyone, not_listed}
 use Rattle.uv_order.proofs.Keeping.{Kept, Watches, members}
 use Rattle.uv_model.proofs.Found.{found_both}
-use Rattle.uv_order.proofs.OpCases.{live_held, live_bound, IsRefusal, refuses_none, refuses_timer, refuses_start, refuses_start_watcher, refuses_stop, refuses_again, refuses_close, start_passes, again_passes, on_handle_both, send_both}
+use Rattle.uv_order.proofs.OpCases.{live_held, live_bound, IsRefusal, refuses_none, refuses_timer, refuses_start, refuses_start_watcher, refuses_stop, refuses_again, refuses_close, start_passes, again_passes, on_handle_both, send_both, cancel_both, make_both}
 
 -- ---- counts of calls
 
@@ -73,6 +74,7 @@ pub record Effect (s : State) (o : Op) (d : ops.Done) : Type 0 where
   pub check : d.state.check.yet ≡ left_of s.check.yet (taken_off phase.Check s o d.answer)
   pub async : d.state.async.yet ≡ left_of s.async.yet (taken_off phase.Async s o d.answer)
   pub closing : d.state.closing.yet ≡ s.closing.yet
+  pub done : d.state.done.yet ≡ s.done.yet
 
 -- the op takes nobody off
 abbrev TakesNone : State → Op → Answer → Type 0
@@ -86,9 +88,10 @@ record SameLists (now was : State) : Type 0 where
   check : now.check.yet ≡ was.check.yet
   async : now.async.yet ≡ was.async.yet
   closing : now.closing.yet ≡ was.closing.yet
+  done : now.done.yet ≡ was.done.yet
 
 same_lists : (s : State) → SameLists s s
-same_lists s = record { ready = refl; idle = refl; prepare = refl; check = refl; async = refl; closing = refl }
+same_lists s = record { ready = refl; idle = refl; prepare = refl; check = refl; async = refl; closing = refl; done = refl }
 
 -- nobody is taken off, and the lists stay
 quiet : (s : State) (o : Op) (d : ops.Done) → TakesNone s o d.answer → lasting d.state ≡ after_op o s → SameCalls d.state.names s.names →
@@ -102,6 +105,7 @@ quiet s o d none lasts calls lists = record {
   check = same phase.Check d.state.check.yet s.check.yet lists.check;
   async = same phase.Async d.state.async.yet s.async.yet lists.async;
   closing = lists.closing;
+  done = lists.done;
 } where
   same : (word : Phase) (now was : List Id) → now ≡ was → now ≡ left_of was (taken_off word s o d.answer)
   same word now was e = rw (none word) (e ∙ sym (none_off was))
@@ -129,13 +133,14 @@ left_one : (ids : List Id) (id : Id) → without_id ids id ≡ left_of ids (id �
 left_one ids id = sym (one_off ids [] id ∙ ap (λ (is : List Id). without_id is id) (none_off ids))
 
 -- the id of a live name
-pub one_taken : (s : State) (v : Var) (t : Id × HandleRecord) → live s v ≡ Some t → ids_of s (Some v) ≡ t.0 ∷ []
+pub one_taken : (s : State) (v : Var) (t : Id × HandleRecord) → live_handle s v ≡ Ok t → ids_of s (Some v) ≡ t.0 ∷ []
 one_taken s v t e = rw (live_bound s v t e) refl
 
-taken_one : (s : State) (v : Var) (t : Id × HandleRecord) (ids : List Id) → live s v ≡ Some t → without_id ids t.0 ≡ left_of ids (ids_of s (Some v))
+taken_one : (s : State) (v : Var) (t : Id × HandleRecord) (ids : List Id) → live_handle s v ≡ Ok t →
+    without_id ids t.0 ≡ left_of ids (ids_of s (Some v))
 taken_one s v t ids e = rw (one_taken s v t e) (left_one ids t.0)
 
-stop_effect : (s : State) (v : Var) (t : Id × HandleRecord) → live s v ≡ Some t → Effect s (op.Stop v) (ops.stop s t.0 t.1)
+stop_effect : (s : State) (v : Var) (t : Id × HandleRecord) → live_handle s v ≡ Ok t → Effect s (op.Stop v) (ops.stop s t.0 t.1)
 stop_effect s v t e = record {
   lasts = refl;
   calls = same_calls s.names;
@@ -145,9 +150,10 @@ stop_effect s v t e = record {
   check = taken_one s v t s.check.yet e;
   async = taken_one s v t s.async.yet e;
   closing = refl;
+  done = refl;
 }
 
-close_effect : (s : State) (v : Var) (t : Id × HandleRecord) → live s v ≡ Some t → Effect s (op.Close v) (ops.close s t.0 t.1)
+close_effect : (s : State) (v : Var) (t : Id × HandleRecord) → live_handle s v ≡ Ok t → Effect s (op.Close v) (ops.close s t.0 t.1)
 close_effect s v t e = record {
   lasts = refl;
   calls = same_calls s.names;
@@ -157,6 +163,7 @@ close_effect s v t e = record {
   check = taken_one s v t s.check.yet e;
   async = taken_one s v t s.async.yet e;
   closing = refl;
+  done = refl;
 }
 
 -- ---- timers
@@ -173,7 +180,7 @@ not_yet s q w id h e d l =
 apart : (h : HandleRecord) (q : Kind) → h.kind ≡ kind.Timer → (kind.Timer ≡ q → ⊥) → h.kind ≡ q → ⊥
 apart h q e d f = d (sym e ∙ f)
 
-timer_effect : (s u : State) (o : Op) (v : Var) (t : Id × HandleRecord) → live s v ≡ Some t → t.1.kind ≡ kind.Timer → Kept s →
+timer_effect : (s u : State) (o : Op) (v : Var) (t : Id × HandleRecord) → live_handle s v ≡ Ok t → t.1.kind ≡ kind.Timer → Kept s →
     ((word : Phase) → off_by word o ≡ off_by word (op.Again v)) → after_op o s ≡ lasting s → lasting u ≡ lasting s → u.names ≡ s.names →
     SameLists u (stopped s t.0 t.1) → Effect s o (ops.succeeds u)
 timer_effect s u o v t e is k off lasts same names lists = record {
@@ -188,6 +195,7 @@ timer_effect s u o v t e is k off lasts same names lists = record {
   async = lists.async ∙ not_yet s kind.Async s.async t.0 t.1 held_now (apart t.1 kind.Async is (λ f. cc f)) k.async ∙ none_by phase.Async
       s.async.yet refl;
   closing = lists.closing;
+  done = lists.done;
 } where
   held_now : handle s t.0 ≡ Some t.1
   held_now = live_held s v t e
@@ -205,19 +213,29 @@ start_off v timeout repeat phase.Check = refl
 start_off v timeout repeat phase.Closing = refl
 start_off v timeout repeat phase.Timers = refl
 
-start_effect : (s : State) (v : Var) (timeout repeat : ℕ) (t : Id × HandleRecord) → live s v ≡ Some t → t.1.kind ≡ kind.Timer → Kept s →
+start_effect : (s : State) (v : Var) (timeout repeat : ℕ) (t : Id × HandleRecord) → live_handle s v ≡ Ok t → t.1.kind ≡ kind.Timer → Kept s →
     Effect s (op.Start v timeout repeat) (ops.start s timeout repeat t.0 t.1)
 start_effect s v timeout repeat t e is k =
     timer_effect s (started (stopped s t.0 t.1) t.0 t.1 timeout repeat) (op.Start v timeout repeat) v t e is k
     (start_off v timeout repeat) refl refl refl
-    (record { ready = refl; idle = refl; prepare = refl; check = refl; async = refl; closing = refl })
+    (record { ready = refl; idle = refl; prepare = refl; check = refl; async = refl; closing = refl; done = refl })
 
-again_effect : (s : State) (v : Var) (t : Id × HandleRecord) → live s v ≡ Some t → t.1.kind ≡ kind.Timer → Kept s → Effect s (op.Again v) (ops.again
+again_effect : (s : State) (v : Var) (t : Id × HandleRecord) → live_handle s v ≡ Ok t → t.1.kind ≡ kind.Timer → Kept s →
+    Effect s (op.Again v) (ops.again
     s t.0 t.1)
 again_effect s v t e is k =
     cond_both (t.1.repeat == 0) (stopped s t.0 t.1) (started (stopped s t.0 t.1) t.0 t.1 t.1.repeat t.1.repeat) (λ (u : State). Effect s (op.Again
     v) (ops.succeeds u))
-    (λ z. by (stopped s t.0 t.1) refl refl (record { ready = refl; idle = refl; prepare = refl; check = refl; async = refl; closing = refl }))
+    (λ z. by (stopped s t.0 t.1) refl refl (record {
+      ready = refl;
+      idle = refl;
+      prepare = refl;
+      check = refl;
+      async = refl;
+      closing = refl;
+      done =
+          refl;
+    }))
     (λ z. by (started (stopped s t.0 t.1) t.0 t.1 t.1.repeat t.1.repeat) refl refl (record {
       ready = refl;
       idle = refl;
@@ -225,6 +243,7 @@ again_effect s v t e is k =
       check = refl;
       async = refl;
       closing = refl;
+      done = refl;
     }))
   where
     by : (u : State) → lasting u ≡ lasting s → u.names ≡ s.names → SameLists u (stopped s t.0 t.1) → Effect s (op.Again v) (ops.succeeds u)
@@ -242,6 +261,7 @@ none_taken s o (answer.Code code.Efull) e word = refl
 none_taken s o (answer.Code code.Estale) e word = refl
 none_taken s o (answer.Code code.Ekind) e word = refl
 none_taken s o (answer.Id id) e word = refl
+none_taken s o (answer.Cancelled id) e word = refl
 none_taken s o (answer.Number n) e word = refl
 none_taken s o (answer.Flag b) e word = refl
 none_taken s o (answer.Timeout t) e word = refl
@@ -269,24 +289,34 @@ still s o d harmless = quiet s o d (none_taken s o d.answer harmless)
 new_effect : (s : State) (v : Var) (q : Kind) (id : Id) → Effect s (op.Init v q) (record { state = ops.with_new s v q id; answer = answer.Id id })
 new_effect s v kind.Timer id = still s (op.Init v kind.Timer) _ (by_word (op.Init v kind.Timer) refl refl refl refl refl refl refl refl) refl
     (bound_calls s.names v.0 _ refl)
-    (record { ready = refl; idle = refl; prepare = refl; check = refl; async = refl; closing = refl })
+    (record { ready = refl; idle = refl; prepare = refl; check = refl; async = refl; closing = refl; done = refl })
 new_effect s v kind.Idle id = still s (op.Init v kind.Idle) _ (by_word (op.Init v kind.Idle) refl refl refl refl refl refl refl refl) refl
     (bound_calls s.names v.0 _ refl)
-    (record { ready = refl; idle = refl; prepare = refl; check = refl; async = refl; closing = refl })
+    (record { ready = refl; idle = refl; prepare = refl; check = refl; async = refl; closing = refl; done = refl })
 new_effect s v kind.Prepare id = still s (op.Init v kind.Prepare) _ (by_word (op.Init v kind.Prepare) refl refl refl refl refl refl refl refl) refl
     (bound_calls s.names v.0 _ refl)
-    (record { ready = refl; idle = refl; prepare = refl; check = refl; async = refl; closing = refl })
+    (record { ready = refl; idle = refl; prepare = refl; check = refl; async = refl; closing = refl; done = refl })
 new_effect s v kind.Check id = still s (op.Init v kind.Check) _ (by_word (op.Init v kind.Check) refl refl refl refl refl refl refl refl) refl
     (bound_calls s.names v.0 _ refl)
-    (record { ready = refl; idle = refl; prepare = refl; check = refl; async = refl; closing = refl })
+    (record { ready = refl; idle = refl; prepare = refl; check = refl; async = refl; closing = refl; done = refl })
 new_effect s v kind.Async id = still s (op.Init v kind.Async) _ (by_word (op.Init v kind.Async) refl refl refl refl refl refl refl refl) refl
     (bound_calls s.names v.0 _ refl)
-    (record { ready = refl; idle = refl; prepare = refl; check = refl; async = refl; closing = refl })
+    (record { ready = refl; idle = refl; prepare = refl; check = refl; async = refl; closing = refl; done = refl })
 
-init_effect : (s : State) (v : Var) (q : Kind) (t : Option (Id × HandleRecord)) → Effect s (op.Init v q) (ops.init s v q t)
-init_effect s v q (Some t) = refused_effect s (op.Init v q) refl code.Ebound (λ f. cc f)
-init_effect s v q None = found_both (next_free s.arena) _ (ops.refuses s code.Efull) (Effect s (op.Init v q))
-    (λ id e. new_effect s v q id) (λ e. refused_effect s (op.Init v q) refl code.Efull (λ f. cc f))
+queued_effect : (s : State) (v : Var) (task : Task) (id : Id) →
+    Effect s (op.Queue v task) (record { state = ops.with_queued s v task id; answer = answer.Id id })
+queued_effect s v task id = still s (op.Queue v task) _ (by_word (op.Queue v task) refl refl refl refl refl refl refl refl) refl
+    (bound_calls s.names v.0 _ refl)
+    (record { ready = refl; idle = refl; prepare = refl; check = refl; async = refl; closing = refl; done = refl })
+
+init_effect : (s : State) (v : Var) (q : Kind) (t : Option (Id × Content)) → Effect s (op.Init v q) (ops.make s t (ops.with_new s v q))
+init_effect s v q t = make_both s t (ops.with_new s v q) (Effect s (op.Init v q)) (refused_effect s (op.Init v q) refl)
+    (λ id e. new_effect s v q id)
+
+queue_effect : (s : State) (v : Var) (task : Task) (t : Option (Id × Content)) →
+    Effect s (op.Queue v task) (ops.make s t (ops.with_queued s v task))
+queue_effect s v task t = make_both s t (ops.with_queued s v task) (Effect s (op.Queue v task)) (refused_effect s (op.Queue v task) refl)
+    (λ id e. queued_effect s v task id)
 
 start_watcher_effect : (s : State) (v : Var) (id : Id) (h : HandleRecord) → Effect s (op.StartWatcher v) (ops.start_watcher s id h)
 start_watcher_effect s v id h = cond_both h.active s _ (λ (u : State). Effect s (op.StartWatcher v) (ops.succeeds u))
@@ -305,6 +335,7 @@ start_watcher_effect s v id h = cond_both h.active s _ (λ (u : State). Effect s
       check = refl;
       async = refl;
       closing = refl;
+      done = refl;
     })
     put watcher.Prepare = by _ refl (same_calls s.names) (record {
       ready = refl;
@@ -313,6 +344,7 @@ start_watcher_effect s v id h = cond_both h.active s _ (λ (u : State). Effect s
       check = refl;
       async = refl;
       closing = refl;
+      done = refl;
     })
     put watcher.Check = by _ refl (same_calls s.names) (record {
       ready = refl;
@@ -321,6 +353,7 @@ start_watcher_effect s v id h = cond_both h.active s _ (λ (u : State). Effect s
       check = refl;
       async = refl;
       closing = refl;
+      done = refl;
     })
     put watcher.Async = by _ refl (same_calls s.names) (record {
       ready = refl;
@@ -329,6 +362,7 @@ start_watcher_effect s v id h = cond_both h.active s _ (λ (u : State). Effect s
       check = refl;
       async = refl;
       closing = refl;
+      done = refl;
     })
 
 -- such an op changes one record, or nothing
@@ -336,7 +370,7 @@ simple : (s : State) (o : Op) (d : ops.Done) → Harmless o → lasting d.state 
     Effect s o d
 simple s o d harmless lasts names lists = still s o d harmless lasts (rw names (same_calls s.names)) lists
 
-pub send_effect : (s : State) (v : Var) → Effect s (op.Send v) (ops.says_code (ops.send s (live s v)))
+pub send_effect : (s : State) (v : Var) → Effect s (op.Send v) (ops.says_code (ops.send s (live_handle s v)))
 send_effect s v = send_both s v (λ (c : ops.Coded). Effect s (op.Send v) (ops.says_code c)) (refused_effect s (op.Send v) refl)
     (λ t e stays. simple s (op.Send v) _ (by_word (op.Send v) refl refl refl refl refl refl refl refl) refl refl (record {
       ready = refl;
@@ -345,10 +379,25 @@ send_effect s v = send_both s v (λ (c : ops.Coded). Effect s (op.Send v) (ops.s
       check = refl;
       async = refl;
       closing = refl;
+      done = refl;
+    }))
+
+cancel_effect : (s : State) (v : Var) → Effect s (op.Cancel v) (ops.cancel s (live_request s v))
+cancel_effect s v = cancel_both s v (Effect s (op.Cancel v)) (refused_effect s (op.Cancel v) refl)
+    (λ t live on. simple s (op.Cancel v) _ (by_word (op.Cancel v) refl refl refl refl refl refl refl refl) refl refl (record {
+      ready = refl;
+      idle = refl;
+      prepare = refl;
+      check = refl;
+      async = refl;
+      closing = refl;
+      done = refl;
     }))
 
 pub op_effect : (s : State) (o : Op) → Kept s → Effect s o (do_op s o)
 op_effect s (op.Init v q) k = init_effect s v q (live s v)
+op_effect s (op.Queue v task) k = queue_effect s v task (live s v)
+op_effect s (op.Cancel v) k = cancel_effect s v
 op_effect s (op.Start v timeout repeat) k =
     on_handle_both s v start_timer_refusal _ (Effect s (op.Start v timeout repeat)) refuses_start (refused_effect s (op.Start v timeout repeat) refl)
     (λ t e is. start_effect s v timeout repeat t e (start_passes t.1 is).0 k)
@@ -370,6 +419,7 @@ op_effect s (op.SetRepeat v n) k = on_handle_both s v timer_refusal _ (Effect s 
       check = refl;
       async = refl;
       closing = refl;
+      done = refl;
     }))
 op_effect s (op.DueIn v) k = on_handle_both s v timer_refusal _ (Effect s (op.DueIn v)) refuses_timer (refused_effect s (op.DueIn v) refl)
     (λ t e is. simple s (op.DueIn v) _ (by_word (op.DueIn v) refl refl refl refl refl refl refl refl) refl refl (same_lists s))
@@ -381,6 +431,7 @@ op_effect s (op.Ref v) k = on_handle_both s v no_refusal _ (Effect s (op.Ref v))
       check = refl;
       async = refl;
       closing = refl;
+      done = refl;
     }))
 op_effect s (op.Unref v) k = on_handle_both s v no_refusal _ (Effect s (op.Unref v)) refuses_none (refused_effect s (op.Unref v) refl)
     (λ t e is. simple s (op.Unref v) _ (by_word (op.Unref v) refl refl refl refl refl refl refl refl) refl refl (record {
@@ -390,6 +441,7 @@ op_effect s (op.Unref v) k = on_handle_both s v no_refusal _ (Effect s (op.Unref
       check = refl;
       async = refl;
       closing = refl;
+      done = refl;
     }))
 op_effect s (op.HasRef v) k = on_handle_both s v no_refusal _ (Effect s (op.HasRef v)) refuses_none (refused_effect s (op.HasRef v) refl)
     (λ t e is. simple s (op.HasRef v) _ (by_word (op.HasRef v) refl refl refl refl refl refl refl refl) refl refl (same_lists s))
@@ -405,6 +457,7 @@ op_effect s op.StopLoop k = simple s op.StopLoop _ (by_word op.StopLoop refl ref
   check = refl;
   async = refl;
   closing = refl;
+  done = refl;
 })
 op_effect s op.UpdateTime k = simple s op.UpdateTime _ (by_word op.UpdateTime refl refl refl refl refl refl refl refl) refl refl (record {
   ready =
@@ -414,6 +467,7 @@ op_effect s op.UpdateTime k = simple s op.UpdateTime _ (by_word op.UpdateTime re
   check = refl;
   async = refl;
   closing = refl;
+  done = refl;
 })
 op_effect s op.Now k = simple s op.Now _ (by_word op.Now refl refl refl refl refl refl refl refl) refl refl (same_lists s)
 op_effect s op.IsAlive k = simple s op.IsAlive _ (by_word op.IsAlive refl refl refl refl refl refl refl refl) refl refl (same_lists s)

@@ -1,5 +1,5 @@
 -- Who was sent to, by the lines and by the handles: each step keeps that they agree.
-use Rattle.std.proofs.Common.{◌≡◌, ℕ, ◌+◌, ◌==◌, ◌&&◌, ◌||◌, List, [], ◌∷◌, ◌++◌, Bool, true, false, drop, Option, Some, None, length, slice_get, nat_le, nat_lt, refl, ap, sym, subst, ◌∙◌, if◌then◌else◌}
+use Rattle.std.proofs.Common.{◌≡◌, ℕ, ◌+◌, ◌==◌, ◌&&◌, ◌||◌, List, [], ◌∷◌, ◌++◌, Bool, true, false, drop, Option, Some, None, Result, Ok, Err, length, slice_get, nat_le, nat_lt, refl, ap, sym, subst, ◌∙◌, if◌then◌else◌}
 use Rattle.std.specs.Prelude.{option_map, not}
 use Rattle.std.proofs.lemmas.Bool.{cond_both, both_ways, or_parts}
 use Rattle.std.proofs.lemmas.Option.{same_Some}
@@ -9,8 +9,9 @@ use Rattle.uv_ids.specs.declared.code.Code.{Code}
 use Rattle.uv_ids.specs.declared.code.Code.TheVariants as code
 use Rattle.uv_ids.specs.declared.code.Answer.{Answer}
 use Rattle.uv_ids.specs.declared.code.Answer.TheVariants as answer
+use Rattle.uv_ids.specs.declared.fault.Why.{Why}
 use Rattle.uv_ids.specs.declared.event.Event.{Event}
-use Rattle.uv_ids.specs.declared.event.Event.TheVariants.{Loop, Send, Tick}
+use Rattle.uv_ids.specs.declared.event.Event.TheVariants.{Loop, Take, Finish, Cancel, Send, Tick}
 use Rattle.uv_ids.specs.declared.phase.Kind.{Kind}
 use Rattle.uv_ids.specs.declared.phase.Kind.TheVariants as kind
 use Rattle.uv_ids.specs.declared.phase.Phase.TheVariants as phase
@@ -19,6 +20,7 @@ use Rattle.uv_script.specs.declared.op.MainOp.{MainOp}
 use Rattle.uv_script.specs.declared.op.MainOp.TheVariants as main
 use Rattle.uv_script.specs.declared.op.Op.{Op}
 use Rattle.uv_script.specs.declared.op.Op.TheVariants as op
+use Rattle.uv_script.specs.declared.task.Task.{Task}
 use Rattle.uv_script.specs.Program.{Program, arena_size, lines_in, main_op}
 use Rattle.uv_records.specs.declared.handle.HandleRecord.{HandleRecord}
 use Rattle.uv_records.specs.declared.lists.WatcherKind.{WatcherKind}
@@ -28,10 +30,12 @@ use Rattle.uv_records.specs.Handles as records
 use Rattle.uv_records.specs.Handles.{inited, referenced_as, repeating}
 use Rattle.uv_records.specs.Lists.{watcher_kind}
 use Rattle.uv_records.specs.Refusals.{no_refusal, timer_refusal, start_timer_refusal, start_watcher_refusal, stop_refusal, again_refusal, close_refusal}
-use Rattle.uv_records.specs.Slots.{Slots, freed, taken, next_free}
+use Rattle.uv_records.specs.Slots.{Slots, held, freed, taken, next_free}
 use Rattle.uv_records.specs.Walks.{Walk}
 use Rattle.uv_model.specs.declared.content.Content.{Content}
 use Rattle.uv_model.specs.declared.content.Content.TheVariants as content
+use Rattle.uv_model.specs.declared.request.Request.{Request}
+use Rattle.uv_model.specs.Content.{queued}
 use Rattle.uv_model.specs.declared.place.Body.{Body}
 use Rattle.uv_model.specs.declared.place.Run.{Run}
 use Rattle.uv_model.specs.declared.place.Stage.{Stage}
@@ -43,20 +47,22 @@ use Rattle.uv_model.specs.declared.place.Timing.TheVariants.{Collecting, Firing}
 use Rattle.uv_model.specs.declared.place.Place.{Place}
 use Rattle.uv_model.specs.declared.place.Place.TheVariants.{Main, Running}
 use Rattle.uv_model.specs.Ids.{same_id, without_id}
-use Rattle.uv_model.specs.State.{State, fresh, handle, live, front, watched, refreshed}
+use Rattle.uv_model.specs.State.{State, fresh, handle, with_request, live, live_handle, live_request, front, front_request, watched, refreshed}
 use Rattle.uv_model.specs.Timers.{stopped, started, restarted}
 use Rattle.uv_model.specs.Ops as ops
 use Rattle.uv_model.specs.Ops.{do_op}
 use Rattle.uv_model.specs.Next as step
-use Rattle.uv_model.specs.Next.{Next, Moves, Refuses, next, call, calls, first_due, front_moved, goes, is_default, may_leave}
+use Rattle.uv_model.specs.Next.{Next, Moves, Refuses, next, call, calls, first_due, front_moved, goes, is_default, may_leave, next_work, work_of}
 use Rattle.uv_model.proofs.Found.{found_both}
 use Rattle.uv_order.specs.Active.{has_id}
 use Rattle.uv_order.specs.Documented.{Told, told_by, sent_by, sent_after, ids_of, without_ids, taken_off, AllOff, AllOffOrUnsent}
 use Rattle.uv_order.proofs.IdLists.{Each, each_back, same, other, itself, turned, left_of, without_itself, without_absent, still_there, still_absent}
-use Rattle.uv_order.proofs.Holding.{held_at, put, put_same, put_other, emptied, emptied_same, emptied_other, Fits, its_handle, Grown, Everyone}
-use Rattle.uv_order.proofs.OpCases.{live_held, IsRefusal, refuses_none, refuses_timer, refuses_start, refuses_start_watcher, refuses_stop, refuses_again, refuses_close, send_passes, on_handle_both, send_both}
+use Rattle.uv_order.proofs.Contents.{emptied}
+use Rattle.uv_order.proofs.Holding.{SameHandles, same_handles, held_at, put, put_same, put_other, emptied_same, emptied_other, Fits, its_handle, Grown, Everyone}
+use Rattle.uv_order.proofs.OpCases.{live_held, IsRefusal, refuses_none, refuses_timer, refuses_start, refuses_start_watcher, refuses_stop, refuses_again, refuses_close, send_passes, on_handle_both, send_both, cancel_both, make_both}
+use Rattle.uv_order.proofs.Asked.{request_turns, freed_turns, request_front, runs_work}
 use Rattle.uv_order.proofs.OpEffects.{one_taken}
-use Rattle.uv_order.proofs.Keeping.{Watches, Closes, Rests, Kept, members, takes, open_shut}
+use Rattle.uv_order.proofs.Keeping.{Watches, Closes, Rests, Kept, members, fills, takes, open_shut}
 use Rattle.uv_order.proofs.KeptSteps.{FrontOf, front_of, first_of}
 
 -- ---- what agrees
@@ -178,6 +184,13 @@ sent_new sent slots more id x g p k = record { are = λ i. are i (same_id i id) 
       absurd (both_ways x.pending p (ap (λ (z : HandleRecord). z.pending) is ∙ on))
   each i y l on false s = k.each i y (sym (g.others i (other i id s)) ∙ l) on
 
+-- no handle changes
+pub sent_same : (sent : List Id) (slots more : List (Slot Content)) → SameHandles more slots → Sent sent slots → Sent sent more
+sent_same sent slots more f k = record {
+  are = λ i. k.are i ∙ sym (ap pends_in (f i));
+  each = λ i h e on. k.each i h (sym (f i) ∙ e) on;
+}
+
 -- a closing handle goes
 pub sent_gone : (sent : List Id) (slots : List (Slot Content)) (id : Id) (h : HandleRecord) (n : ℕ) → held_at slots id ≡ Some h →
     h.closing ≡ true → Sent sent slots → Sent sent (emptied slots id n)
@@ -237,7 +250,7 @@ refused_close s sent v code.Ekind no_success = refl
 -- an op on a handle that stays pending or not
 on_held : (s : State) (sent : List Id) (o : Op) (v : Var) (why : HandleRecord → Option Code) (f : Id → HandleRecord → ops.Done) →
     Harmless s sent o → ((h : HandleRecord) (c : Code) → why h ≡ Some c → IsRefusal c) → SentAt sent s →
-    ((t : Id × HandleRecord) → handle s t.0 ≡ Some t.1 → SentAt sent (f t.0 t.1).state) → SentBy s sent o (ops.on_handle s (live s v) why f)
+    ((t : Id × HandleRecord) → handle s t.0 ≡ Some t.1 → SentAt sent (f t.0 t.1).state) → SentBy s sent o (ops.on_handle s (live_handle s v) why f)
 on_held s sent o v why f harmless codes k done = on_handle_both s v why f (SentBy s sent o) codes
     (λ c no_success. by_harmless s sent o (ops.refuses s c) harmless k)
     (λ t e is. by_harmless s sent o (f t.0 t.1) harmless (done t (live_held s v t e)))
@@ -281,11 +294,27 @@ new_sent s sent v q id e kept k = by q where
   by kind.Check = new kind.Check
   by kind.Async = new kind.Async
 
-init_sent : (s : State) (sent : List Id) (v : Var) (q : Kind) (t : Option (Id × HandleRecord)) → Kept s → SentAt sent s →
-    SentBy s sent (op.Init v q) (ops.init s v q t)
-init_sent s sent v q (Some t) kept k = k
-init_sent s sent v q None kept k = found_both (next_free s.arena) _ (ops.refuses s code.Efull) (SentBy s sent (op.Init v q))
-    (λ id e. new_sent s sent v q id e kept k) (λ e. k)
+init_sent : (s : State) (sent : List Id) (v : Var) (q : Kind) → Kept s → SentAt sent s →
+    SentBy s sent (op.Init v q) (ops.make s (live s v) (ops.with_new s v q))
+init_sent s sent v q kept k = make_both s (live s v) (ops.with_new s v q) (SentBy s sent (op.Init v q)) (λ c no_success. k)
+    (λ id e. new_sent s sent v q id e kept k)
+
+-- requests change no handle
+queue_sent : (s : State) (sent : List Id) (v : Var) (task : Task) → Kept s → SentAt sent s → SentAt sent (do_op s (op.Queue v task)).state
+queue_sent s sent v task kept k = make_both s (live s v) (ops.with_queued s v task) (λ (d : ops.Done). SentAt sent d.state) (λ c no_success. k)
+    (λ id e. let c = content.Request (queued v task) in
+    let now = taken id c s.arena in
+    sent_same sent s.arena.slots now.slots
+    (same_handles s.arena.slots now.slots id None (Some c) (fills s.arena s.arena.free id c refl kept.free e).0 refl refl) k)
+
+request_sent : (s : State) (sent : List Id) (id : Id) (r x : Request) → held s.arena.slots id ≡ Some (content.Request r) → SentAt sent s →
+    SentAt sent (with_request s id x)
+request_sent s sent id r x e k = sent_same sent s.arena.slots (with_request s id x).arena.slots
+    (same_handles s.arena.slots _ id _ _ (request_turns s.arena.slots id r x e) refl refl) k
+
+cancel_sent : (s : State) (sent : List Id) (v : Var) → SentAt sent s → SentAt sent (ops.cancel s (live_request s v)).state
+cancel_sent s sent v k = cancel_both s v (λ (d : ops.Done). SentAt sent d.state) (λ c no_success. k)
+    (λ t live on. request_sent s sent t.0 t.1 _ live.holds k)
 
 close_sent : (s : State) (sent : List Id) (v : Var) → SentAt sent s → SentBy s sent (op.Close v) (do_op s (op.Close v))
 close_sent s sent v k = on_handle_both s v close_refusal _ (SentBy s sent (op.Close v)) refuses_close
@@ -295,7 +324,7 @@ close_sent s sent v k = on_handle_both s v close_refusal _ (SentBy s sent (op.Cl
 
 -- a send, as an op and from outside
 pub send_sent : (s : State) (sent : List Id) (v : Var) → SentAt sent s →
-    SentAt (sent_by (op.Send v) (answer.Code (ops.send s (live s v)).code) s sent) (ops.send s (live s v)).state
+    SentAt (sent_by (op.Send v) (answer.Code (ops.send s (live_handle s v)).code) s sent) (ops.send s (live_handle s v)).state
 send_sent s sent v k = send_both s v (λ (c : ops.Coded). SentAt (sent_by (op.Send v) (answer.Code c.code) s sent) c.state)
     (λ c no_success. subst (λ (ids : List Id). SentAt ids s) (sym (refused_send s sent v c no_success)) k)
     (λ t e is. let p = send_passes t.1 is in
@@ -303,7 +332,10 @@ send_sent s sent v k = send_both s v (λ (c : ops.Coded). SentAt (sent_by (op.Se
     (sent_more sent s.arena.slots t.0 t.1 (records.sent t.1) (live_held s v t e) refl p.0 p.1 k))
 
 pub op_sent : (s : State) (sent : List Id) (o : Op) → Kept s → SentAt sent s → SentBy s sent o (do_op s o)
-op_sent s sent (op.Init v q) kept k = init_sent s sent v q (live s v) kept k
+op_sent s sent (op.Init v q) kept k = init_sent s sent v q kept k
+op_sent s sent (op.Queue v task) kept k =
+    by_harmless s sent (op.Queue v task) (do_op s (op.Queue v task)) (λ a. refl) (queue_sent s sent v task kept k)
+op_sent s sent (op.Cancel v) kept k = by_harmless s sent (op.Cancel v) (do_op s (op.Cancel v)) (λ a. refl) (cancel_sent s sent v k)
 op_sent s sent (op.Start v timeout repeat) kept k = on_held s sent (op.Start v timeout repeat) v start_timer_refusal _ (λ a. refl) refuses_start k
     (λ t e. twice s sent t (records.stopped t.1) _ e refl refl refl refl refl refl k)
 op_sent s sent (op.StartWatcher v) kept k = on_held s sent (op.StartWatcher v) v start_watcher_refusal _ (λ a. refl) refuses_start_watcher k
@@ -418,6 +450,16 @@ close_front_sent p told s run kept k = found_both (front s s.closing.yet) _ _ (S
         (λ last. sent_gone told.sent s.arena.slots t.0 t.1 t.0.generation f.holds shut k)
         (λ more. sent_gone told.sent s.arena.slots t.0 t.1 (t.0.generation + 1) f.holds shut k)
 
+-- a request calls back
+collect_sent : (p : Program) (told : Told) (s : State) (run : Run) → SentAt told.sent s → SentFollows p told s (step.collect_request p s run)
+collect_sent p told s run k = found_both (front_request s s.done.yet) _ _ (SentFollows p told s)
+    (λ t e. let f = request_front s s.done.yet t e in
+    let now = freed (arena_size p).last_generation t.0 s.arena in
+    sent_same told.sent s.arena.slots now.slots
+    (same_handles s.arena.slots now.slots t.0 _ _
+    (freed_turns (arena_size p).last_generation s.arena t.0 (content.Request t.1) f.holds) refl refl) k)
+    (λ e. k)
+
 stage_sent : (p : Program) (told : Told) (s : State) (run : Run) (x : Stage) → Kept s → SentAt told.sent s →
     SentFollows p told s (step.stage_step p s run x)
 stage_sent p told s run Entry kept k = cond_both (goes s) _ _ (SentFollows p told s)
@@ -428,7 +470,7 @@ stage_sent p told s run Idle kept k =
 stage_sent p told s run Prepare kept k =
     walk_sent p told s run watcher.Prepare (λ t f. unsent_called s told.sent kind.Prepare s.prepare t (λ c. cc c) kept.prepare f k) k
 stage_sent p told s run (Poll deadline) kept k = cond_both (may_leave s deadline) _ _ (SentFollows p told s) (λ h. k) (λ h. tt)
-stage_sent p told s run Done kept k = k
+stage_sent p told s run Done kept k = collect_sent p told s run k
 stage_sent p told s run Async kept k = async_sent p told s run k
 stage_sent p told s run Check kept k =
     walk_sent p told s run watcher.Check (λ t f. unsent_called s told.sent kind.Check s.check t (λ c. cc c) kept.check f k) k
@@ -462,9 +504,24 @@ place_sent : (p : Program) (told : Told) (s : State) (x : Place) → Kept s → 
 place_sent p told s (Main i) kept k = main_sent p told s i _ refl kept k
 place_sent p told s (Running run) kept k = run_sent p told s run run.body kept k
 
+take_sent : (p : Program) (told : Told) (s : State) (n : ℕ) (t : Result (Id × Request) Why) → SentAt told.sent s →
+    SentFollows p told s (step.take s n t)
+take_sent p told s n (Err why) k = tt
+take_sent p told s n (Ok t) k = k
+
+finish_sent : (p : Program) (told : Told) (s : State) (n : ℕ) → SentAt told.sent s →
+    SentFollows p told s (step.finish s n (work_of s (slice_get s.running n)))
+finish_sent p told s n k = at (work_of s (slice_get s.running n)) refl where
+  at : (t : Result (Id × Request) Why) → work_of s (slice_get s.running n) ≡ t → SentFollows p told s (step.finish s n t)
+  at (Err why) e = tt
+  at (Ok t) e = request_sent s told.sent t.0 t.1 _ (runs_work s n t e).holds k
+
 pub next_sent : (p : Program) (told : Told) (s : State) (e : Event) → Kept s → SentAt told.sent s → SentFollows p told s (next p s e)
 unfolding next
 next_sent p told s Loop kept k = place_sent p told s s.place kept k
+next_sent p told s (Take n) kept k = take_sent p told s n (next_work s (slice_get s.running n)) k
+next_sent p told s (Finish n) kept k = finish_sent p told s n k
+next_sent p told s (Cancel v) kept k = cond_both (nat_lt v.0 (length s.names)) _ _ (SentFollows p told s) (λ h. cancel_sent s told.sent v k) (λ h. tt)
 next_sent p told s (Send v) kept k = cond_both (nat_lt v.0 (length s.names)) _ _ (SentFollows p told s) (λ h. send_sent s told.sent v k) (λ h. tt)
 next_sent p told s (Tick ms) kept k = cond_both (nat_le (s.clock + ms) 4611686018427387904) _ _ (SentFollows p told s) (λ h. k) (λ h. tt)
 
@@ -489,11 +546,9 @@ stays_sent s sent (op.Init v q) id kept d on e = at (live s v) where
         absurd (both_ways (pends s.arena.slots id) (ap (pends s.arena.slots) (same id i g) ∙ ap pends_in grown.new) on)
     by false g = refl
 
-  at : (t : Option (Id × HandleRecord)) → has_id (sent_by (op.Init v q) (ops.init s v q t).answer s sent) id ≡ true
-  at (Some t) = e
-  at None = found_both (next_free s.arena) _ (ops.refuses s code.Efull)
-      (λ (x : ops.Done). has_id (sent_by (op.Init v q) x.answer s sent) id ≡ true)
-      (λ i f. still_there sent i id (new i f) e) (λ f. e)
+  at : (t : Option (Id × Content)) → has_id (sent_by (op.Init v q) (ops.make s t (ops.with_new s v q)).answer s sent) id ≡ true
+  at t = make_both s t (ops.with_new s v q) (λ (x : ops.Done). has_id (sent_by (op.Init v q) x.answer s sent) id ≡ true)
+      (λ c no_success. e) (λ i f. still_there sent i id (new i f) e)
 stays_sent s sent (op.Close v) id kept d on e =
     on_handle_both s v close_refusal (ops.close s)
     (λ (x : ops.Done). has_id (taken_off phase.Async s (op.Close v) x.answer) id ≡ false → has_id (sent_by (op.Close v) x.answer s sent) id ≡ true)
@@ -510,6 +565,8 @@ stays_sent s sent (op.Send v) id kept d on e = send_both s v
     (λ (c : ops.Coded). has_id (sent_by (op.Send v) (answer.Code c.code) s sent) id ≡ true)
     (λ c no_success. subst (λ (ids : List Id). has_id ids id ≡ true) (sym (refused_send s sent v c no_success)) e)
     (λ t f is. subst (λ (ids : List Id). has_id (ids ++ sent) id ≡ true) (sym (one_taken s v t f)) (either_right (same_id t.0 id) (has_id sent id) e))
+stays_sent s sent (op.Queue v task) id kept d on e = e
+stays_sent s sent (op.Cancel v) id kept d on e = e
 stays_sent s sent (op.Start v timeout repeat) id kept d on e = e
 stays_sent s sent (op.StartWatcher v) id kept d on e = e
 stays_sent s sent (op.Stop v) id kept d on e = e

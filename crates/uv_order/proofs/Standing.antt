@@ -24,13 +24,15 @@ use Rattle.uv_model.specs.declared.content.Content.{Content}
 use Rattle.uv_model.specs.State.{State}
 use Rattle.uv_model.specs.Next.{Next, Moves, Refuses, goes, is_default}
 use Rattle.uv_order.specs.Line.{Line}
-use Rattle.uv_order.specs.Active.{has_id, IsTimer, AreTimers, AreDistinct, IsActive, AreActive, IsClosing, AreClosing}
+use Rattle.uv_order.specs.Active.{has_id, IsTimer, AreTimers, AreDistinct, IsActive, AreActive, IsClosing, AreClosing, IsEnded, AreEnded}
 use Rattle.uv_order.specs.Documented as doc
-use Rattle.uv_order.specs.Documented.{Told, nothing_told, told_of, told_by, AllOffOrUnsent, Lasting, lasting, at_first, Section, Entry, In, word_of, part_after, part_of, Walk, Opens, IsOver, CallsNext, MayCall, is_called, callback_in, call_line, Standing, Begun, Within, Polling, MayLeave, PollsFor, Position, Between, Running, Goes, GoesOn, cut, line, Documented, body_of, next_call, taken_off}
+use Rattle.uv_order.specs.Documented.{Told, nothing_told, told_of, told_by, AllOffOrUnsent, Lasting, lasting, at_first, Section, Entry, In, word_of, part_after, part_of, Walk, Opens, IsOver, CallsNext, MayCall, is_called, callback_in, IsCallLine, Standing, Begun, Within, Polling, MayLeave, PollsFor, Position, Between, Running, Goes, GoesOn, cut, line, Documented, body_of, next_call, taken_off}
 use Rattle.uv_order.proofs.IdLists.{left_of, member}
 use Rattle.uv_order.proofs.TimerKeys.{due_ids, distinct_due}
 use Rattle.uv_order.proofs.Holding.{Fits, its_handle, Everyone, IsSet, Times}
 use Rattle.uv_order.proofs.Keeping.{Kept, Watches, Closes, members}
+use Rattle.uv_order.proofs.Works.{Asks, AllAsk, HasEnded}
+use Rattle.uv_order.proofs.Working.{Working}
 use Rattle.uv_order.proofs.Bodies.{IsBody}
 use Rattle.uv_order.proofs.Counted.{Counted}
 use Rattle.uv_order.proofs.Sends.{pends}
@@ -60,7 +62,7 @@ pub data StandsIn (p : Program) : Option Body → Stage → Standing → Type 0 
   idle : {w : Walk} {body : Option Body} → IsBody p body w.body → StandsIn p body stage.Idle (Within (In phase.Idle) w)
   prepare : {w : Walk} {body : Option Body} → IsBody p body w.body → StandsIn p body stage.Prepare (Within (In phase.Prepare) w)
   polls : {deadline : Option ℕ} → StandsIn p None (stage.Poll deadline) (Polling deadline)
-  done : StandsIn p None stage.Done (Within (In phase.Done) bare)
+  done : {w : Walk} {body : Option Body} → IsBody p body w.body → StandsIn p body stage.Done (Within (In phase.Done) w)
   async : {w : Walk} {body : Option Body} → IsBody p body w.body → StandsIn p body stage.Async (Within (In phase.Async) w)
   check : {w : Walk} {body : Option Body} → IsBody p body w.body → StandsIn p body stage.Check (Within (In phase.Check) w)
   closing : {w : Walk} {body : Option Body} → IsBody p body w.body → StandsIn p body stage.Closing (Within (In phase.Closing) w)
@@ -80,6 +82,7 @@ rest_in phase.Prepare phase.Prepare w = left_of w.ahead w.off
 rest_in phase.Check phase.Check w = left_of w.ahead w.off
 rest_in phase.Timers phase.Timers w = left_of w.ahead w.off
 rest_in phase.Closing phase.Closing w = left_of w.ahead w.off
+rest_in phase.Done phase.Done w = left_of w.ahead w.off
 rest_in x y w = []
 
 abbrev pub rest_of : Phase → Standing → List Id
@@ -138,6 +141,7 @@ pub record Rest : Type 0 where
   pub check : List Id
   pub async : List Id
   pub closing : List Id
+  pub done : List Id
   -- what they are members of
   pub slots : List (Slot Content)
 
@@ -149,6 +153,7 @@ rest ready s = record {
   check = s.check.yet;
   async = s.async.yet;
   closing = s.closing.yet;
+  done = s.done.yet;
   slots = s.arena.slots;
 }
 
@@ -160,6 +165,7 @@ pub record Leaves (r : Rest) (at : Standing) : Type 0 where
   pub check : r.check ≡ rest_of phase.Check at
   pub async : AsyncLeft r.slots at r.async
   pub closing : r.closing ≡ rest_of phase.Closing at
+  pub done : r.done ≡ rest_of phase.Done at
 
 -- nobody is left
 pub record NobodyLeft (r : Rest) : Type 0 where
@@ -169,6 +175,7 @@ pub record NobodyLeft (r : Rest) : Type 0 where
   pub check : r.check ≡ []
   pub async : r.async ≡ []
   pub closing : r.closing ≡ []
+  pub done : r.done ≡ []
 
 abbrev pub due_now : State → List Id
 due_now s = due_ids s.time s.timers
@@ -329,6 +336,21 @@ bare_over word = record { done = refl; may_pass = nobody word } where
 
 pub opens_bare : (word : Phase) (told : Told) (l : Line) → doc.sent_at word told ≡ [] → doc.HasList word l [] → Opens word told l bare
 opens_bare word told l e h = record { list = h; off = refl; sent = sym e; body = refl }
+
+pub are_ended : (s : State) → s.done.yet ≡ [] → Working s → AreEnded s s.done.list
+are_ended s e k = record {
+  each = λ id h. ended id (all.each id h);
+  all = λ id a. all.all id (asks id a);
+  distinct = all.distinct;
+} where
+  all : AllAsk s.arena.slots HasEnded s.done.list
+  all = subst (AllAsk s.arena.slots HasEnded) (ap (λ (ids : List Id). s.done.list ++ ids) e ∙ append-nil s.done.list) k.ended
+
+  ended : (id : Id) → Asks s.arena.slots HasEnded id → IsEnded s id
+  ended id a = record { its = a.request; holds = a.holds; ended = a.fits }
+
+  asks : (id : Id) → IsEnded s id → Asks s.arena.slots HasEnded id
+  asks id a = record { request = a.its; holds = a.holds; fits = a.ended }
 
 pub are_closing : (s : State) → s.closing.yet ≡ [] → Kept s → AreClosing s s.closing.list
 are_closing s e k = record {

@@ -23,11 +23,11 @@ use Rattle.uv_model.specs.Next as step
 use Rattle.uv_model.specs.Next.{Next, Moves, Refuses, next, goes, is_default, call, calls, first_due, collected, front_moved, may_leave, body_from}
 use Rattle.uv_order.specs.Active.{AreDue, has_id}
 use Rattle.uv_order.specs.Documented as doc
-use Rattle.uv_order.specs.Documented.{Told, nothing_told, told_of, told_by, Lasting, lasting, at_first, Section, Entry, In, word_of, part_after, part_of, Walk, Opens, IsOver, CallsNext, MayCall, is_called, callback_in, call_line, Standing, Begun, Within, Polling, MayLeave, PollsFor, Position, Between, Running, Goes, GoesOn, cut, line, Documented, body_of, next_call, taken_off}
+use Rattle.uv_order.specs.Documented.{Told, nothing_told, told_of, told_by, Lasting, lasting, at_first, Section, Entry, In, word_of, part_after, part_of, Walk, Opens, IsOver, CallsNext, MayCall, is_called, callback_in, IsCallLine, Standing, Begun, Within, Polling, MayLeave, PollsFor, Position, Between, Running, Goes, GoesOn, cut, line, Documented, body_of, next_call, taken_off, name_in, IsOf}
 use Rattle.uv_model.proofs.Found.{found_both}
 use Rattle.uv_order.proofs.IdLists.{left_of, none_off, all_off, first_left}
 use Rattle.uv_order.proofs.TimerKeys.{due_ids, none_due}
-use Rattle.uv_order.proofs.Holding.{Fits, IsSet, Times}
+use Rattle.uv_order.proofs.Holding.{is_held, Fits, IsSet, Times}
 use Rattle.uv_order.proofs.Keeping.{Kept, Rests}
 use Rattle.uv_order.proofs.KeptSteps.{FrontOf, front_of, no_front, FirstOf, first_of}
 use Rattle.uv_order.proofs.Bodies.{IsBody}
@@ -52,6 +52,7 @@ enter_follows p told s run k c e = cond_both (goes s) _ _ (Follows p told (Runni
           check = e.check;
           async = e.async;
           closing = e.closing;
+          done = e.done;
         });
         counted = c;
       };
@@ -67,6 +68,7 @@ enter_follows p told s run k c e = cond_both (goes s) _ _ (Follows p told (Runni
           check = e.check;
           async = e.async;
           closing = e.closing;
+          done = e.done;
         });
         counted = c;
       };
@@ -82,6 +84,7 @@ enter_follows p told s run k c e = cond_both (goes s) _ _ (Follows p told (Runni
           check = e.check;
           async = e.async;
           closing = e.closing;
+          done = e.done;
         });
         counted = c;
       };
@@ -105,6 +108,7 @@ goes_iteration p told s run part w d over c e = record {
       check = e.check;
       async = e.async;
       closing = e.closing;
+      done = e.done;
     });
     counted = c;
   };
@@ -125,6 +129,7 @@ goes_end p told s run part w d over c e = record {
       check = e.check;
       async = e.async;
       closing = e.closing;
+      done = e.done;
     });
     counted = c;
   };
@@ -144,9 +149,8 @@ leave_follows p told s run timers_of.Iteration w over c e =
 
 -- ---- callbacks
 
-pub named_of : (s : State) (t : Id × HandleRecord) → handle s t.0 ≡ Some t.1 →
-    option_map (λ (h : HandleRecord). h.name) (handle s t.0) ≡ Some t.1.name
-named_of s t e = ap (option_map (λ (h : HandleRecord). h.name)) e
+pub named_of : (s : State) (t : Id × HandleRecord) → handle s t.0 ≡ Some t.1 → IsOf s t.0 t.1.name
+named_of s t e = ap (option_map name_in) (is_held s.arena.slots t.0 t.1 e)
 
 -- the walk with the first that is left called
 pub record NextCall (w : Walk) (id : Id) (more : List Id) : Type 0 where
@@ -178,6 +182,7 @@ call_counted p told s kind v id c = counted_call p s.names told kind v id (recor
 pub its_body : (p : Program) (told : Told) (s : State) (kind : Callback) (v : Var) → Counted p s.names told →
     IsBody p (body_from p kind v (count_of kind (counted kind (named s v).calls)) 0) (body_of p kind v (next_call told kind v))
 its_body p told s callback.Handle v c = next_body p s.names told callback.Handle v ((named s v).calls.handle + 1) refl c
+its_body p told s callback.After v c = next_body p s.names told callback.After v ((named s v).calls.after + 1) refl c
 its_body p told s callback.Close v c = next_body p s.names told callback.Close v ((named s v).calls.close + 1) refl c
 
 -- the walk with a member called
@@ -194,6 +199,7 @@ pub record OnlyReady (r : Rest) (w : Walk) : Type 0 where
   pub check : r.check ≡ []
   pub async : r.async ≡ []
   pub closing : r.closing ≡ []
+  pub done : r.done ≡ []
 
 pub timers_left : (part : TimersOf) (r : Rest) (w : Walk) → OnlyReady r w → Leaves r (Within (section_of part) w)
 timers_left timers_of.Entry r w o = record {
@@ -203,6 +209,7 @@ timers_left timers_of.Entry r w o = record {
   check = o.check;
   async = o.async;
   closing = o.closing;
+  done = o.done;
 }
 timers_left timers_of.Iteration r w o = record {
   timers = o.ready;
@@ -211,6 +218,7 @@ timers_left timers_of.Iteration r w o = record {
   check = o.check;
   async = o.async;
   closing = o.closing;
+  done = o.done;
 }
 
 pub left_timers : (part : TimersOf) (r : Rest) (w : Walk) → Leaves r (Within (section_of part) w) → OnlyReady r w
@@ -221,6 +229,7 @@ left_timers timers_of.Entry r w l = record {
   check = l.check;
   async = l.async;
   closing = l.closing;
+  done = l.done;
 }
 left_timers timers_of.Iteration r w l = record {
   ready = l.timers;
@@ -229,6 +238,7 @@ left_timers timers_of.Iteration r w l = record {
   check = l.check;
   async = l.async;
   closing = l.closing;
+  done = l.done;
 }
 
 pub timers_word : (part : TimersOf) → callback_in (word_of (section_of part)) ≡ callback.Handle
@@ -276,7 +286,16 @@ call_timer p told s u run part w t more h names lasts o ready b c =
       stands = record {
         stands = running (fires (its_body p told u callback.Handle v cu))
             (timers_left part (rest u.ready u) (called p told callback.Handle w next.behind v)
-            (record { ready = ready ∙ next.left; idle = o.idle; prepare = o.prepare; check = o.check; async = o.async; closing = o.closing }));
+            (record {
+              ready = ready ∙ next.left;
+              idle = o.idle;
+              prepare = o.prepare;
+              check = o.check;
+              async = o.async;
+              closing = o.closing;
+              done =
+                  o.done;
+            }));
         counted = call_counted p told u callback.Handle v t.0 cu;
       };
     }
@@ -290,7 +309,7 @@ fire_follows p told s run part w k c l b =
     (λ t e. fired o t (front_of s s.ready t e))
     (λ e. let none : s.ready ≡ [] = no_front s Rests s.ready k.ready.each e in
     leave_follows p told s run part w (timers_over part w b (all_off w.ahead w.off (sym o.ready ∙ none))) c
-    (record { timers = none; idle = o.idle; prepare = o.prepare; check = o.check; async = o.async; closing = o.closing }))
+    (record { timers = none; idle = o.idle; prepare = o.prepare; check = o.check; async = o.async; closing = o.closing; done = o.done }))
   where
     fired : OnlyReady (rest s.ready s) w → (t : Id × HandleRecord) → FrontOf s s.ready t →
         Follows p told (Running run.mode run.line (Within (section_of part) w)) s
@@ -298,7 +317,16 @@ fire_follows p told s run part w k c l b =
     fired o t f =
         let u : State = record s { ready = drop 1 s.ready } in
         let only : OnlyReady (rest (t.0 ∷ f.rest) u) w =
-        record { ready = sym f.are ∙ o.ready; idle = o.idle; prepare = o.prepare; check = o.check; async = o.async; closing = o.closing } in
+        record {
+          ready = sym f.are ∙ o.ready;
+          idle = o.idle;
+          prepare = o.prepare;
+          check = o.check;
+          async = o.async;
+          closing = o.closing;
+          done =
+              o.done;
+        } in
         cond_both (t.1.repeat == 0) u (started u t.0 t.1 t.1.repeat t.1.repeat)
         (λ (x : State). Follows p told (Running run.mode run.line (Within (section_of part) w)) s (call p x (record run {
           stage = stage.Timers part
@@ -306,7 +334,16 @@ fire_follows p told s run part w k c l b =
         }) t.0 t.1.name))
         (λ z. call_timer p told s u run part w t f.rest f.holds refl refl only f.behind b c)
         (λ z. call_timer p told s (started u t.0 t.1 t.1.repeat t.1.repeat) run part w t f.rest f.holds refl refl
-        (record { ready = only.ready; idle = only.idle; prepare = only.prepare; check = only.check; async = only.async; closing = only.closing })
+        (record {
+          ready = only.ready;
+          idle = only.idle;
+          prepare = only.prepare;
+          check = only.check;
+          async = only.async;
+          closing = only.closing;
+          done
+              = only.done;
+        })
         f.behind b c)
 
 pub one_more : (time : ℕ) (t : Due × Id) (ts : List (Due × Id)) → nat_le t.0.at time ≡ true → due_ids time (t ∷ ts) ≡ t.1 ∷ due_ids time ts
@@ -338,6 +375,7 @@ collect_follows p told s run part w k c l b =
       check = o.check;
       async = o.async;
       closing = o.closing;
+      done = o.done;
     })) b)
   where
     moved : OnlyReady (rest (s.ready ++ due_now s) s) w → (t : Id × HandleRecord) → FirstOf s s.timers t →
@@ -351,5 +389,5 @@ collect_follows p told s run part w k c l b =
         let same : (s.ready ++ t.0 ∷ []) ++ due_ids s.time later ≡ left_of w.ahead w.off =
         append_assoc s.ready (t.0 ∷ []) (due_ids s.time later) ∙ ap (λ (ids : List Id). s.ready ++ ids) (sym all) ∙ o.ready in
         let only : OnlyReady (rest ((s.ready ++ t.0 ∷ []) ++ due_ids s.time later) (collected s t.0 t.1)) w =
-        record { ready = same; idle = o.idle; prepare = o.prepare; check = o.check; async = o.async; closing = o.closing } in
+        record { ready = same; idle = o.idle; prepare = o.prepare; check = o.check; async = o.async; closing = o.closing; done = o.done } in
         (record { stands = running (collects b) (timers_left part _ w only); counted = c }, refl)

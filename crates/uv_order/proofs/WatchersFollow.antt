@@ -1,17 +1,15 @@
 -- The sections of watchers, of async handles and of closing ones: each step goes on from where the state stands.
-use Rattle.std.proofs.Common.{◌≡◌, ◌||◌, Bool, true, false, subst, List, [], ◌∷◌, ◌++◌, drop, None, refl, ap, sym, ◌∙◌, append_assoc, if◌then◌else◌}
+use Rattle.std.proofs.Common.{◌≡◌, ◌||◌, Bool, true, false, subst, List, [], ◌∷◌, ◌++◌, drop, Option, None, refl, ap, sym, ◌∙◌, append_assoc, if◌then◌else◌}
 use Rattle.std.proofs.lemmas.Bool.{cond_both, both_ways}
-use Rattle.std.specs.Prelude.{not}
+use Rattle.std.specs.Prelude.{not, option_map}
 use Rattle.uv_ids.specs.declared.id.Id.{Id}
 use Rattle.uv_ids.specs.declared.phase.Kind.TheVariants as kind
-use Rattle.uv_ids.specs.declared.phase.Phase.{Phase}
 use Rattle.uv_ids.specs.declared.phase.Phase.TheVariants as phase
 use Rattle.uv_ids.specs.declared.seen.Seen.TheVariants as seen
 use Rattle.uv_ids.specs.declared.seen.Callback.TheVariants as callback
 use Rattle.uv_script.specs.Program.{Program, arena_size}
 use Rattle.uv_records.specs.declared.handle.HandleRecord.{HandleRecord}
 use Rattle.uv_model.specs.declared.place.Run.{Run}
-use Rattle.uv_model.specs.declared.place.Stage.{Stage}
 use Rattle.uv_model.specs.declared.place.Stage.TheVariants as stage
 use Rattle.uv_model.specs.declared.place.TimersOf.TheVariants as timers_of
 use Rattle.uv_model.specs.declared.place.Timing.TheVariants.{Collecting}
@@ -23,24 +21,30 @@ use Rattle.uv_records.specs.Lists.{phase_of}
 use Rattle.uv_records.specs.Slots.{freed}
 use Rattle.uv_records.specs.declared.slot.Slot.{Slot}
 use Rattle.uv_model.specs.declared.content.Content.{Content}
+use Rattle.uv_model.specs.declared.content.Content.TheVariants as content
+use Rattle.uv_model.specs.declared.request.Request.{Request}
+use Rattle.uv_model.specs.Content.{request_in, digest_in}
 use Rattle.uv_model.specs.Ids.{same_id}
-use Rattle.uv_model.specs.State.{State, with_handle, front, watched, refreshed}
+use Rattle.uv_model.specs.State.{State, with_handle, front, front_request, watched, refreshed}
 use Rattle.uv_model.specs.Timeout.{poll_timeout, deadline_of}
 use Rattle.uv_model.specs.Next as step
 use Rattle.uv_model.specs.Next.{Next, Moves, Refuses, next, goes, is_default, call, calls, first_due, collected, front_moved, may_leave, body_from}
 use Rattle.uv_order.specs.Active.{has_id, AreDistinct, AreDue}
 use Rattle.uv_order.specs.Documented as doc
-use Rattle.uv_order.specs.Documented.{Told, nothing_told, told_of, told_by, AllOff, AllOffOrUnsent, Lasting, lasting, at_first, Section, Entry, In, word_of, part_after, part_of, Walk, Opens, IsOver, CallsNext, MayCall, is_called, callback_in, call_line, Standing, Begun, Within, Polling, MayLeave, PollsFor, Position, Between, Running, Goes, GoesOn, cut, line, Documented, body_of, next_call, taken_off}
+use Rattle.uv_order.specs.Documented.{Told, nothing_told, told_of, told_by, AllOff, AllOffOrUnsent, Lasting, lasting, at_first, Section, Entry, In, word_of, part_after, part_of, Walk, Opens, IsOver, CallsNext, MayCall, is_called, callback_in, IsCallLine, Standing, Begun, Within, Polling, MayLeave, PollsFor, Position, Between, Running, Goes, GoesOn, cut, line, Documented, body_of, next_call, taken_off, name_in}
 use Rattle.uv_model.proofs.Found.{found_both}
 use Rattle.uv_order.proofs.IdLists.{left_of, none_off, all_off, each_back, distinct_back, same, itself}
 use Rattle.uv_order.proofs.TimerKeys.{due_ids}
-use Rattle.uv_order.proofs.Holding.{Fits, Everyone}
+use Rattle.uv_order.proofs.Holding.{SameHandles, same_handles, Fits, Everyone}
+use Rattle.uv_order.proofs.Asked.{freed_turns, FrontRequest, request_front}
+use Rattle.uv_order.proofs.Works.{HasEnded}
+use Rattle.uv_order.proofs.Working.{Working, no_request}
 use Rattle.uv_order.proofs.OpCases.{kind_as}
 use Rattle.uv_order.proofs.Keeping.{Kept, Watches, Closes, members}
 use Rattle.uv_order.proofs.KeptSteps.{FrontOf, front_of, no_front}
 use Rattle.uv_order.proofs.Counted.{Counted}
 use Rattle.uv_order.proofs.Sends.{pends, pends_in, pends_there, SentAt, either_right, pass_both, pass_off}
-use Rattle.uv_order.proofs.Standing.{bare, begun_with, async_with, StandsIn, waiting, rest, Leaves, NobodyLeft, due_now, Follows, IsNext, prepare_next, poll_next, check_next, closing_next, timers_after, are_timers, due_distinct, are_active, are_closing, idle, prepare, polls, async, check, closing, collects, running}
+use Rattle.uv_order.proofs.Standing.{begun_with, async_with, rest, Leaves, NobodyLeft, Follows, IsNext, async_next, async_moved, prepare_next, poll_next, check_next, closing_next, timers_after, are_timers, due_distinct, are_active, are_closing, idle, prepare, polls, done, async, check, closing, collects, running}
 use Rattle.uv_order.proofs.TimersFollow.{named_of, next_of, call_counted, its_body, called}
 
 -- ---- sections of watchers, and of async handles
@@ -78,6 +82,7 @@ begin_follows p told s run watcher.Idle at over next k h c e = record {
       check = e.check;
       async = e.async;
       closing = e.closing;
+      done = e.done;
     });
     counted = c;
   };
@@ -93,6 +98,7 @@ begin_follows p told s run watcher.Prepare at over next k h c e = record {
       check = e.check;
       async = e.async;
       closing = e.closing;
+      done = e.done;
     });
     counted = c;
   };
@@ -108,6 +114,7 @@ begin_follows p told s run watcher.Check at over next k h c e = record {
       check = sym (none_off s.check.list);
       async = e.async;
       closing = e.closing;
+      done = e.done;
     });
     counted = c;
   };
@@ -130,21 +137,10 @@ begin_follows p told s run watcher.Async at over next k h c e = record {
         still = λ id on was. sym (h.are id) ∙ was;
       };
       closing = e.closing;
+      done = e.done;
     });
     counted = c;
   };
-}
-
--- a section without callbacks begins behind a part that may be left
-pub bare_follows : (p : Program) (told : Told) (s t : State) (run : Run) (x : Stage) (word : Phase) (at : Standing) → MayLeave s at → IsNext (part_of
-    at) (doc.Of (In word)) →
-    Opens word told (record { before = s; seen = seen.Section word; after = step.at t run x }) bare → lasting t ≡ doc.after_line word s →
-    StandsIn p None x (Within (In word) bare) → Leaves (rest (waiting x t.ready (due_now t)) t) (Within (In word) bare) → Counted p t.names told →
-    Follows p told (Running run.mode run.line at) s (step.begins t run x word)
-bare_follows p told s t run x word at over next opens lasts stands left c = record {
-  to = Running run.mode run.line (Within (In word) bare);
-  goes = doc.section (In word) over (next run.mode (goes s)) refl opens lasts;
-  stands = record { stands = running stands left; counted = c };
 }
 
 -- the poll begins
@@ -163,6 +159,7 @@ poll_follows p told s run w over k c e = record {
       check = e.check;
       async = e.async;
       closing = e.closing;
+      done = e.done;
     });
     counted = c;
   };
@@ -184,6 +181,7 @@ closing_begins p told s run w over k c e = record {
       check = e.check;
       async = e.async;
       closing = sym (none_off s.closing.list);
+      done = e.done;
     });
     counted = c;
   };
@@ -233,6 +231,7 @@ call_watcher p told s run watcher.Idle w t d st f l b c =
           check = l.check;
           async = l.async;
           closing = l.closing;
+          done = l.done;
         }));
         counted = call_counted p told s callback.Handle v t.0 c;
       };
@@ -261,6 +260,7 @@ call_watcher p told s run watcher.Prepare w t d st f l b c =
           check = l.check;
           async = l.async;
           closing = l.closing;
+          done = l.done;
         }));
         counted = call_counted p told s callback.Handle v t.0 c;
       };
@@ -289,6 +289,7 @@ call_watcher p told s run watcher.Check w t d st f l b c =
           check = f.behind ∙ next.left;
           async = l.async;
           closing = l.closing;
+          done = l.done;
         }));
         counted = call_counted p told s callback.Handle v t.0 c;
       };
@@ -306,9 +307,33 @@ own_list s watcher.Async w d l = absurd d
 -- with none of its own left, nobody is left
 pub none_own : (s : State) (q : WatcherKind) (w : Walk) → IsPlain q → (watched s q).yet ≡ [] → Leaves (rest s.ready s) (Within (In (phase_of q)) w) →
     NobodyLeft (rest s.ready s)
-none_own s watcher.Idle w d e l = record { timers = l.timers; idle = e; prepare = l.prepare; check = l.check; async = l.async; closing = l.closing }
-none_own s watcher.Prepare w d e l = record { timers = l.timers; idle = l.idle; prepare = e; check = l.check; async = l.async; closing = l.closing }
-none_own s watcher.Check w d e l = record { timers = l.timers; idle = l.idle; prepare = l.prepare; check = e; async = l.async; closing = l.closing }
+none_own s watcher.Idle w d e l = record {
+  timers = l.timers;
+  idle = e;
+  prepare = l.prepare;
+  check = l.check;
+  async = l.async;
+  closing = l.closing;
+  done = l.done;
+}
+none_own s watcher.Prepare w d e l = record {
+  timers = l.timers;
+  idle = l.idle;
+  prepare = e;
+  check = l.check;
+  async = l.async;
+  closing = l.closing;
+  done = l.done;
+}
+none_own s watcher.Check w d e l = record {
+  timers = l.timers;
+  idle = l.idle;
+  prepare = l.prepare;
+  check = e;
+  async = l.async;
+  closing = l.closing;
+  done = l.done;
+}
 none_own s watcher.Async w d e l = absurd d
 
 pub plain_over : (q : WatcherKind) (w : Walk) → IsPlain q → w.body ≡ [] → doc.AllOff w.off w.ahead → IsOver (phase_of q) w
@@ -385,6 +410,7 @@ async_follows p told s run w st k h c l b = found_both (front s s.async.yet) _ _
       check = l.check;
       async = none;
       closing = l.closing;
+      done = l.done;
     }))
   where
     at : (t : Id × HandleRecord) → FrontOf s s.async.yet t → Follows p told (Running run.mode run.line (Within (In phase.Async) w)) s
@@ -434,6 +460,7 @@ async_follows p told s run w st k h c l b = found_both (front s s.async.yet) _ _
                         ∙ a.still id (in_all s s.async.yet t id f behind) was;
                   };
                   closing = l.closing;
+                  done = l.done;
                 }));
             counted = call_counted p told s callback.Handle v t.0 c;
           };
@@ -454,11 +481,72 @@ async_follows p told s run w st k h c l b = found_both (front s s.async.yet) _ _
                 still = λ id behind was. a.still id (in_all s s.async.yet t id f behind) was;
               };
               closing = l.closing;
+              done = l.done;
             });
             counted = c;
           },
           refl,
         ))
+
+-- ---- the section of the requests that are done
+
+pub done_follows : (p : Program) (told : Told) (s : State) (run : Run) (w : Walk) → run.stage ≡ stage.Done → Kept s → SentAt told.sent s → Working s →
+    Counted p s.names told → Leaves (rest s.ready s) (Within (In phase.Done) w) → w.body ≡ [] →
+    Follows p told (Running run.mode run.line (Within (In phase.Done) w)) s (step.collect_request p s run)
+done_follows p told s run w st k h g c l b = found_both (front_request s s.done.yet) _ _ (Follows p told (Running run.mode run.line (Within (In
+    phase.Done) w)) s)
+    (λ t e. at t (request_front s s.done.yet t e))
+    (λ e. let none : s.done.yet ≡ [] = no_request s HasEnded s.done.list s.done.yet g.ended e in
+    begin_follows p told s run watcher.Async (Within (In phase.Done) w)
+    (record { done = b; may_pass = all_off w.ahead w.off (sym l.done ∙ none) }) async_next k h c (record {
+      timers = l.timers;
+      idle = l.idle;
+      prepare = l.prepare;
+      check = l.check;
+      async = l.async;
+      closing = l.closing;
+      done = none;
+    }))
+  where
+    at : (t : Id × Request) → FrontRequest s s.done.yet t → Follows p told (Running run.mode run.line (Within (In phase.Done) w)) s
+        (calls p (record s {
+          arena = freed (arena_size p).last_generation t.0 s.arena;
+          done = record s.done { yet = drop 1 s.done.yet };
+        }) run callback.After t.1.name (seen.After (digest_in t.1.outcome) t.1.name t.0))
+    at t f =
+        let v = t.1.name in
+        let next = next_of w t.0 f.rest (sym l.done ∙ f.are) in
+        record {
+          to = Running run.mode run.line (Within (In phase.Done) (called p told callback.After w next.behind v));
+          goes = doc.call callback.After v t.0 next.behind refl
+              (record {
+                done = b;
+                passed = next.passed;
+                list = next.list;
+                may_pass = next.off;
+                may_call = record {
+                  on = next.on;
+                  called = refl;
+                };
+              }) (ap (option_map name_in) f.holds)
+              (ap (λ (o : Option Content). option_map (λ (r : Request). seen.After (digest_in r.outcome) v t.0) (request_in o)) f.holds) refl;
+          stands = record {
+            stands = rw st (running (done (its_body p told s callback.After v c)) (record {
+              timers = l.timers;
+              idle = l.idle;
+              prepare = l.prepare;
+              check = l.check;
+              async = async_moved s.arena.slots _ (λ i on. ap pends_in (same t f i) ∙ on) (Within (In phase.Done) w) s.async.yet l.async;
+              closing = l.closing;
+              done = f.behind ∙ next.left;
+            }));
+            counted = call_counted p told s callback.After v t.0 c;
+          };
+        }
+      where
+        same : (u : Id × Request) → FrontRequest s s.done.yet u → SameHandles (freed (arena_size p).last_generation u.0 s.arena).slots s.arena.slots
+        same u r = same_handles s.arena.slots _ u.0 _ _ (freed_turns (arena_size p).last_generation s.arena u.0
+            (content.Request u.1) r.holds) refl refl
 
 -- ---- the closing section
 
@@ -484,6 +572,7 @@ timers_begin p told s run w over k c e = record {
       check = e.check;
       async = e.async;
       closing = e.closing;
+      done = e.done;
     });
     counted = c;
   };
@@ -511,6 +600,7 @@ closing_follows p told s run w st k c l b = found_both (front s s.closing.yet) _
       check = l.check;
       async = l.async;
       closing = none;
+      done = l.done;
     }))
   where
     at : (t : Id × HandleRecord) → FrontOf s s.closing.yet t → Follows p told (Running run.mode run.line (Within (In phase.Closing) w)) s
@@ -542,6 +632,7 @@ closing_follows p told s run w st k c l b = found_both (front s s.closing.yet) _
               check = l.check;
               async = l.async;
               closing = f.behind ∙ next.left;
+              done = l.done;
             }));
             counted = call_counted p told s callback.Close v t.0 c;
           };

@@ -8,7 +8,9 @@ use Rattle.uv_ids.specs.declared.phase.Kind.{Kind}
 use Rattle.uv_ids.specs.declared.phase.Kind.TheVariants as kind
 use Rattle.uv_records.specs.declared.handle.HandleRecord.{HandleRecord}
 use Rattle.uv_model.specs.Ids.{same_id}
-use Rattle.uv_model.specs.State.{State, handle}
+use Rattle.uv_work.specs.Requests.{is_open}
+use Rattle.uv_model.specs.declared.request.Request.{Request}
+use Rattle.uv_model.specs.State.{State, handle, request}
 
 -- ---- ids
 
@@ -48,6 +50,20 @@ pub record IsClosing (s : State) (id : Id) : Type 0 where
 pub record AreClosing (s : State) (ids : List Id) : Type 0 where
   pub each : (id : Id) → has_id ids id ≡ true → IsClosing s id
   pub all : (id : Id) → IsClosing s id → has_id ids id ≡ true
+  pub distinct : AreDistinct ids
+
+-- ---- requests
+
+-- the id is that of a request that was finished or cancelled, and whose after callback is still to come
+pub record IsEnded (s : State) (id : Id) : Type 0 where
+  pub its : Request
+  pub holds : request s id ≡ Some its
+  pub ended : is_open its.outcome ≡ false
+
+-- these are all of them and no others, and none twice
+pub record AreEnded (s : State) (ids : List Id) : Type 0 where
+  pub each : (id : Id) → has_id ids id ≡ true → IsEnded s id
+  pub all : (id : Id) → IsEnded s id → has_id ids id ≡ true
   pub distinct : AreDistinct ids
 
 -- ---- timers

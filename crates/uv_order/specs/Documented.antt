@@ -26,12 +26,16 @@ use Rattle.uv_script.specs.declared.op.Op.TheVariants as op
 use Rattle.uv_script.specs.declared.op.MainOp.TheVariants as main
 use Rattle.uv_script.specs.declared.op.CallbackLine.{CallbackLine}
 use Rattle.uv_script.specs.Program.{Program, lines_in, is_for, op_at}
-use Rattle.uv_records.specs.declared.handle.HandleRecord.{HandleRecord}
+use Rattle.uv_records.specs.Slots.{held}
+use Rattle.uv_model.specs.declared.content.Content.{Content}
+use Rattle.uv_model.specs.declared.content.Content.TheVariants as content
+use Rattle.uv_model.specs.declared.request.Request.{Request}
+use Rattle.uv_model.specs.Content.{digest_in}
 use Rattle.uv_model.specs.Ids.{has_some, without_id}
-use Rattle.uv_model.specs.State.{State, handle, named}
+use Rattle.uv_model.specs.State.{State, request, named}
 use Rattle.uv_model.specs.Timeout.{is_alive, has_pending, poll_timeout_by, deadline_of, has_passed}
 use Rattle.uv_order.specs.Line.{Line}
-use Rattle.uv_order.specs.Active.{has_id, AreActive, AreClosing, AreTimers, AreDue}
+use Rattle.uv_order.specs.Active.{has_id, AreActive, AreClosing, AreEnded, AreTimers, AreDue}
 
 -- ---- what lasts from line to line
 
@@ -100,17 +104,20 @@ ids_of s (Some v) = ids_or_none (named s v).id where
 pub record Told : Type 0 where
   -- the names whose handle callback was called, the last one first
   pub called : List Var
+  -- the names whose after callback was called, the last one first
+  pub after : List Var
   -- the names whose close callback was called, the last one first
   pub closed : List Var
   -- the handles that were sent to since they were made and since their last call, and that weren't closed
   pub sent : List Id
 
 abbrev pub nothing_told : Told
-nothing_told = record { called = []; closed = []; sent = [] }
+nothing_told = record { called = []; after = []; closed = []; sent = [] }
 
 -- the names of which this callback was called
 abbrev pub told_of : Callback → Told → List Var
 told_of callback.Handle told = told.called
+told_of callback.After told = told.after
 told_of callback.Close told = told.closed
 
 -- how often a name is among these
@@ -142,6 +149,7 @@ sent_after (Some o) a s sent = sent_by o a s sent
 -- with one line more: a call is one more of its name, and takes in what was sent
 abbrev pub told_by : Program → Told → State → Seen → Told
 told_by p told s (seen.Call v id) = record told { called = v ∷ told.called; sent = without_id told.sent id }
+told_by p told s (seen.After digest v id) = record told { after = v ∷ told.after }
 told_by p told s (seen.Closed v id) = record told { closed = v ∷ told.closed }
 told_by p told s (seen.Op place a) = record told { sent = sent_after (op_at p place) a s told.sent }
 told_by p told s (seen.Send v code) = record told { sent = sent_by (op.Send v) (Says code) s told.sent }
@@ -149,6 +157,9 @@ told_by p told s (seen.Run m) = told
 told_by p told s (seen.Section word) = told
 told_by p told s (seen.Poll timeout) = told
 told_by p told s (seen.End alive) = told
+told_by p told s (seen.Take k v id) = told
+told_by p told s (seen.Finish k v id) = told
+told_by p told s (seen.Cancel v a) = told
 told_by p told s (seen.Tick ms) = told
 
 abbrev pub told_with : Program → Told → Line → Told
@@ -225,21 +236,22 @@ after_section (In word) s = after_line word s
 -- ---- sections
 
 -- the list of a section, by its line: for idle, prepare, check and async the list of that word before it, which has all active handles
--- of the kind; for closing the list before it, which has all handles that close; for timers all active timers that are due after it, in
--- their order. Nothing is called in the others.
+-- of the kind; for done the list before it, which has all requests that were finished or cancelled; for closing the list before it, which
+-- has all handles that close; for timers all active timers that are due after it, in their order. Nothing is called in the other one.
 abbrev pub HasList : Phase → Line → List Id → Type 0
 HasList phase.Idle l ids = (ids ≡ l.before.idle.list) × AreActive l.before kind.Idle ids
 HasList phase.Prepare l ids = (ids ≡ l.before.prepare.list) × AreActive l.before kind.Prepare ids
 HasList phase.Check l ids = (ids ≡ l.before.check.list) × AreActive l.before kind.Check ids
 HasList phase.Timers l ids = AreDue l.after ids
 HasList phase.Pending l ids = ids ≡ []
-HasList phase.Done l ids = ids ≡ []
+HasList phase.Done l ids = (ids ≡ l.before.done.list) × AreEnded l.before ids
 HasList phase.Async l ids = (ids ≡ l.before.async.list) × AreActive l.before kind.Async ids
 HasList phase.Closing l ids = (ids ≡ l.before.closing.list) × AreClosing l.before ids
 
 -- whom an accepted op takes off the list of a section: one that it stops or closes, and in a section of timers one that it starts. A
--- handle that closes is called whatever is done to it
+-- request that is done and a handle that closes are called whatever is done
 abbrev pub off_by : Phase → Op → Option Var
+off_by phase.Done o = None
 off_by phase.Closing o = None
 off_by word (op.Stop v) = Some v
 off_by word (op.Close v) = Some v
@@ -311,9 +323,14 @@ pub record IsOver (word : Phase) (w : Walk) : Type 0 where
   pub done : w.body ≡ []
   pub may_pass : MayPass word w w.ahead
 
--- the id is that of a handle of this name
+-- the name of what a slot holds
+abbrev pub name_in : Content → Var
+name_in (content.Handle h) = h.name
+name_in (content.Request r) = r.name
+
+-- the id is that of a handle or a request of this name
 abbrev pub IsOf : State → Id → Var → Type 0
-IsOf s id v = option_map (λ (h : HandleRecord). h.name) (handle s id) ≡ Some v
+IsOf s id v = option_map name_in (held s.arena.slots id) ≡ Some v
 
 -- ---- runs
 
@@ -331,11 +348,12 @@ part_of Begun = Start
 part_of (Within part w) = Of part
 part_of (Polling deadline) = Poll
 
--- it may go on to its next part: a section that is over, and a poll whose deadline the clock has reached, or that an async handle ends
+-- it may go on to its next part: a section that is over, and a poll whose deadline the clock has reached, or that a request ends which is
+-- done, or an async handle
 abbrev pub MayLeave : State → Standing → Type 0
 MayLeave s Begun = Unit {0}
 MayLeave s (Within part w) = IsOver (word_of part) w
-MayLeave s (Polling deadline) = (has_passed s.clock deadline || has_pending s) ≡ true
+MayLeave s (Polling deadline) = (has_passed s.clock deadline || (has_some s.done.list || has_pending s)) ≡ true
 
 -- the poll may wait so long, by the active timers as the handles say
 pub record PollsFor (s : State) (m : Mode) (timeout : Option ℕ) : Type 0 where
@@ -345,12 +363,15 @@ pub record PollsFor (s : State) (m : Mode) (timeout : Option ℕ) : Type 0 where
 
 -- the callbacks of a section, and their lines
 abbrev pub callback_in : Phase → Callback
+callback_in phase.Done = callback.After
 callback_in phase.Closing = callback.Close
 callback_in word = callback.Handle
 
-abbrev pub call_line : Callback → Var → Id → Seen
-call_line callback.Handle v id = seen.Call v id
-call_line callback.Close v id = seen.Closed v id
+-- that of an after callback says what became of the request
+abbrev pub IsCallLine : State → Callback → Var → Id → Seen → Type 0
+IsCallLine s callback.Handle v id what = what ≡ seen.Call v id
+IsCallLine s callback.After v id what = option_map (λ (r : Request). seen.After (digest_in r.outcome) v id) (request s id) ≡ Some what
+IsCallLine s callback.Close v id what = what ≡ seen.Closed v id
 
 -- where a trace stands
 pub data Position : Type 0 where
@@ -401,7 +422,7 @@ pub data Goes (p : Program) (told : Told) : Position → Line → Position → T
       → callback_in (word_of part) ≡ kind
       → CallsNext (word_of part) told w id behind
       → IsOf l.before id v
-      → l.seen ≡ call_line kind v id
+      → IsCallLine l.before kind v id l.seen
       → lasting l.after ≡ lasting l.before
       → Goes p told (Running m i (Within part w)) l (Running m i (Within part (record w {
         ahead = behind;
@@ -418,6 +439,18 @@ pub data Goes (p : Program) (told : Told) : Position → Line → Position → T
   -- steps from outside stand anywhere
   sent : {l : Line} {at : Position} (v : Var) (code : Code)
       → l.seen ≡ seen.Send v code
+      → lasting l.after ≡ lasting l.before
+      → Goes p told at l at
+  taken : {l : Line} {at : Position} (k : ℕ) (v : Var) (id : Id)
+      → l.seen ≡ seen.Take k v id
+      → lasting l.after ≡ lasting l.before
+      → Goes p told at l at
+  finished : {l : Line} {at : Position} (k : ℕ) (v : Var) (id : Id)
+      → l.seen ≡ seen.Finish k v id
+      → lasting l.after ≡ lasting l.before
+      → Goes p told at l at
+  cancelled : {l : Line} {at : Position} (v : Var) (a : Answer)
+      → l.seen ≡ seen.Cancel v a
       → lasting l.after ≡ lasting l.before
       → Goes p told at l at
   outside : {l : Line} {at : Position} (ms : ℕ)

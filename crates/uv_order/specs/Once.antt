@@ -1,6 +1,8 @@
--- Each handle closes once: a predicate over the lines of a trace alone, without a state (uv_close). An id has at most one `closed` line,
--- which stands behind an accepted `close` of it, and no `call` line behind that `close`.
-use Rattle.std.specs.Prelude.{◌≡◌, ◌==◌, ◌||◌, List, [], ◌∷◌, Bool, true, false, Option, Some, None, option_map, if◌then◌else◌}
+-- What happens once: a predicate over the lines of a trace alone, without a state. The id of a handle has at most one `closed` line,
+-- which stands behind an accepted `close` of it, and no `call` line behind that `close` (uv_close). The id of a request has at most one
+-- `after` line, behind the `queue` that answered it: with ECANCELED where no worker took it, else behind one `out take` and one
+-- `out finish` line of it, with the digest of what was queued (uv_queue_work, uv_cancel).
+use Rattle.std.specs.Prelude.{◌≡◌, ℕ, ◌==◌, ◌||◌, List, [], ◌∷◌, Bool, true, false, Option, Some, None, option_map, if◌then◌else◌}
 use Rattle.uv_ids.specs.declared.id.Id.{Id}
 use Rattle.uv_ids.specs.declared.id.Var.{Var}
 use Rattle.uv_ids.specs.declared.code.Code.TheVariants.{Ok as Success}
@@ -10,7 +12,10 @@ use Rattle.uv_ids.specs.declared.seen.Seen.{Seen}
 use Rattle.uv_ids.specs.declared.seen.Seen.TheVariants as seen
 use Rattle.uv_script.specs.declared.op.Op.{Op}
 use Rattle.uv_script.specs.declared.op.Op.TheVariants as op
+use Rattle.uv_script.specs.declared.task.Task.{Task}
 use Rattle.uv_script.specs.Program.{Program, op_at}
+use Rattle.uv_script.specs.Tasks.{text_of}
+use Rattle.uv_work.specs.Digests.{digest_of}
 use Rattle.uv_model.specs.Ids.{same_id}
 
 -- an op with what was answered to it
@@ -25,9 +30,10 @@ answered p l = None
 
 -- ---- names
 
--- the id that a name is bound to: that which its last `init` answered. Lines stand with the last one first
+-- the id that a name is bound to: that which its last `init` or `queue` answered. Lines stand with the last one first
 abbrev pub binds : Op → Answer → Var → Option Id → Option Id
 binds (op.Init u kind) (answer.Id id) v before = if u.0 == v.0 then Some id else before
+binds (op.Queue u task) (answer.Id id) v before = if u.0 == v.0 then Some id else before
 binds o a v before = before
 
 abbrev pub bound_by : Option Answered → Var → Option Id → Option Id
@@ -71,12 +77,76 @@ abbrev pub has_closed_line : List Seen → Id → Bool
 has_closed_line [] id = false
 has_closed_line (l ∷ past) id = is_closed_line l id || has_closed_line past id
 
+-- ---- requests
+
+-- the task that an accepted `queue` asks for, whose answer is this id
+abbrev pub queues : Op → Answer → Id → Option Task
+queues (op.Queue v task) (answer.Id i) id = if same_id i id then Some task else None
+queues o a id = None
+
+abbrev pub queued_by : Option Answered → Id → Option Task
+queued_by None id = None
+queued_by (Some x) id = queues x.op x.answer id
+
+abbrev pub first_task : Option Task → Option Task → Option Task
+first_task (Some task) before = Some task
+first_task None before = before
+
+-- what was queued under an id
+abbrev pub queued_task : Program → List Seen → Id → Option Task
+queued_task p [] id = None
+queued_task p (l ∷ past) id = first_task (queued_by (answered p l) id) (queued_task p past id)
+
+-- a worker took the request
+abbrev pub is_take_line : Seen → Id → Bool
+is_take_line (seen.Take k v i) id = same_id i id
+is_take_line l id = false
+
+abbrev pub has_take_line : List Seen → Id → Bool
+has_take_line [] id = false
+has_take_line (l ∷ past) id = is_take_line l id || has_take_line past id
+
+-- a worker finished it
+abbrev pub is_finish_line : Seen → Id → Bool
+is_finish_line (seen.Finish k v i) id = same_id i id
+is_finish_line l id = false
+
+abbrev pub has_finish_line : List Seen → Id → Bool
+has_finish_line [] id = false
+has_finish_line (l ∷ past) id = is_finish_line l id || has_finish_line past id
+
+-- its after callback began
+abbrev pub is_after_line : Seen → Id → Bool
+is_after_line (seen.After digest v i) id = same_id i id
+is_after_line l id = false
+
+abbrev pub has_after_line : List Seen → Id → Bool
+has_after_line [] id = false
+has_after_line (l ∷ past) id = is_after_line l id || has_after_line past id
+
+-- what an after callback says: with ECANCELED no worker took the request; else one took it and then finished it, and the digest is that of
+-- the task that was queued
+abbrev pub SaysTrue : List Seen → Id → Task → Option (List ℕ) → Type 0
+SaysTrue past id task None = has_take_line past id ≡ false
+SaysTrue past id task (Some digest) =
+    (has_take_line past id ≡ true) × (has_finish_line past id ≡ true) × (digest ≡ digest_of task.rounds (text_of task))
+
+-- an after callback of a request: it was queued, it has had none, and what it says is true
+pub record CallsBack (p : Program) (past : List Seen) (digest : Option (List ℕ)) (id : Id) : Type 0 where
+  pub task : Task
+  pub queued : queued_task p past id ≡ Some task
+  pub first : has_after_line past id ≡ false
+  pub says : SaysTrue past id task digest
+
 -- ---- the lines
 
--- a line may follow these
+-- a line may follow these: one worker takes a request once, and finishes it once after that
 abbrev pub MayFollow : Program → List Seen → Seen → Type 0
 MayFollow p past (seen.Call v id) = was_closed p past id ≡ false
 MayFollow p past (seen.Closed v id) = (was_closed p past id ≡ true) × (has_closed_line past id ≡ false)
+MayFollow p past (seen.Take k v id) = has_take_line past id ≡ false
+MayFollow p past (seen.Finish k v id) = (has_take_line past id ≡ true) × (has_finish_line past id ≡ false)
+MayFollow p past (seen.After digest v id) = CallsBack p past digest id
 MayFollow p past l = Unit {0}
 
 -- each of these may follow those before it
@@ -84,6 +154,6 @@ abbrev pub OnceFrom : Program → List Seen → List Seen → Type 0
 OnceFrom p past [] = Unit {0}
 OnceFrom p past (l ∷ ls) = MayFollow p past l × OnceFrom p (l ∷ past) ls
 
--- each handle closes once, by these lines
+-- each handle closes once, and each request calls back once, by these lines
 abbrev pub Once : Program → List Seen → Type 0
 Once p ls = OnceFrom p [] ls

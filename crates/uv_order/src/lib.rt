@@ -4,6 +4,8 @@
 
 mod once;
 mod phase_order;
+mod pool;
 
 pub use once::closes_once;
 pub use phase_order::documented_order;
+pub use pool::pool_follows;

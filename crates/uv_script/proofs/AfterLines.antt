@@ -10,10 +10,10 @@ use Rattle.std.proofs.lemmas.Option.{same_Some, cond_some, none-some, slice_get_
 use Rattle.uv_ids.specs.declared.fault.Fault.{Fault}
 use Rattle.uv_ids.specs.declared.fault.Fault.TheVariants as fault
 use Rattle.uv_ids.specs.declared.seen.Callback.TheVariants as callback
-use Rattle.uv_script.specs.Grammar.{Statement, Declares, InMain, InCallback, Sizes, HasWorkers, Says, declares, in_main, runs, closes_loop, in_callback, in_call, sizes, sizes_to, has_workers, HasRoom, with_statement, Reads, skips, says, ReadsAll, none, one, blank, IsBadLine, Parses}
+use Rattle.uv_script.specs.Grammar.{Statement, Declares, InMain, InCallback, Sizes, HasWorkers, Says, declares, in_main, runs, closes_loop, in_callback, in_call, sizes, sizes_to, has_workers, HasRoom, with_statement, Reads, skips, says, ReadsAll, none, one, blank, WasRead, IsBadLine, Parses}
 use Rattle.uv_script.specs.Lines.{lines_of, fields_of}
 use Rattle.uv_script.specs.Program.{Program, line_count}
-use Rattle.uv_script.specs.Reading.{statement_of, has_room, IsSound, after_line, ReadsLine}
+use Rattle.uv_script.specs.Reading.{statement_of, has_room, IsSound, IsSaid, after_line, ReadsLine}
 use Rattle.uv_script.specs.Checks.{is_line, is_skipped}
 use Rattle.uv_script.proofs.Agrees.{AreDistinct, bound, statement_sound, statement_complete}
 use Rattle.uv_script.proofs.Checks.{is_line_decides, is_skipped_decides}
@@ -75,8 +75,10 @@ says_no_skip names line s (in_main rest op e is) = line_begins line _ _ _ e
 says_no_skip names line s (runs mode e) = line_begins line _ _ _ e
 says_no_skip names line s (closes_loop e) = line_begins line _ _ _ e
 says_no_skip names line s (in_callback callback.Handle name v rest op e declared is) = line_begins line _ _ _ e
+says_no_skip names line s (in_callback callback.After name v rest op e declared is) = line_begins line _ _ _ e
 says_no_skip names line s (in_callback callback.Close name v rest op e declared is) = line_begins line _ _ _ e
 says_no_skip names line s (in_call callback.Handle name v number k rest op e declared is first last op_is) = line_begins line _ _ _ e
+says_no_skip names line s (in_call callback.After name v number k rest op e declared is first last op_is) = line_begins line _ _ _ e
 says_no_skip names line s (in_call callback.Close name v number k rest op e declared is first last op_is) = line_begins line _ _ _ e
 says_no_skip names line s (sizes slots n e is fits) = line_begins line _ _ _ e
 says_no_skip names line s (sizes_to slots last n g e is fits last_is small) = line_begins line _ _ _ e
@@ -117,7 +119,7 @@ after_complete p q line distinct (says s is said room) =
     ) refl
 
 -- the names of a script are distinct
-distinct_push : (p : Program) (s : Statement) → AreDistinct p.names → IsSound p s → AreDistinct (with_statement p s).names
+pub distinct_push : (p : Program) (s : Statement) → AreDistinct p.names → IsSound p s → AreDistinct (with_statement p s).names
 distinct_push p (Declares name) distinct (is, fresh) =
     all_pairs_push (λ a b. a ≢ b) p.names name distinct (λ k d h e. fresh (subst (Contains p.names) e (Contains-get_or p.names k d h)))
 distinct_push p (InMain op) distinct sound = distinct
@@ -141,6 +143,19 @@ pub ReadsAll-push : (p q r : Program) (lines : List (List ℕ)) (line : List ℕ
     ReadsAll p (lines ++ line ∷ []) r
 ReadsAll-push p q r [] line none last = one last none
 ReadsAll-push p q r (a ∷ lines) line (one {q = m} first rest) last = one first (ReadsAll-push m q r lines line rest last)
+
+-- what some line says can be added, and the script is still one that was read
+pub said_sound : (p : Program) (s : Statement) → IsSaid p s → IsSound p s
+said_sound p s said = says_sound p (fields_of said.line) s said.says
+
+pub read_more : (p : Program) (s : Statement) → WasRead p → IsSaid p s → HasRoom p s → WasRead (with_statement p s)
+read_more p s read said room = record {
+  lines = read.lines ++ said.line ∷ [];
+  read = ReadsAll-push blank p (with_statement p s) read.lines said.line read.read (says s said.is said.says room);
+}
+
+pub read_none : WasRead blank
+read_none = record { lines = []; read = none }
 
 -- a line that the reader refuses is outside the grammar
 pub refused_line : (p : Program) (before : List (List ℕ)) (line : List ℕ) → ReadsAll blank before p → after_line p line ≡ None → (q : Program) →

@@ -1,7 +1,7 @@
 -- The reader's functions agree with the grammar.
 use Rattle.std.proofs.Common.{◌≡◌, ◌≢◌, inl, inr, ℕ, ◌<◌, ◌≤◌, ◌^◌, true, false, ◌&&◌, ◌==◌, cond, nat_le, nat_lt, List, [], ◌∷◌, Option, Some, None, slice_get, option_map, Contains, refl, ap, sym, subst, ◌∙◌}
 use Rattle.std.specs.Prelude.{codes, is_none, option_and_then}
-use Rattle.std.specs.List.{AllPairs}
+use Rattle.std.specs.List.{AllPairs, join_with_byte}
 use Rattle.std.specs.Str.{bytes_eq}
 use Rattle.std.proofs.lemmas.Bool.{cases_order, and_parts, and_from, eqb-true, ltb-true, lt-ltb, leb-true, le-leb}
 use Rattle.std.proofs.lemmas.Option.{same_Some, none-some, cond_some, slice_get_within, get_or_from_slice_get}
@@ -13,14 +13,19 @@ use Rattle.uv_ids.specs.Words.{kind_word, mode_word}
 use Rattle.uv_script.specs.declared.op.Op.{Op}
 use Rattle.uv_script.specs.declared.op.Op.TheVariants as op
 use Rattle.uv_script.specs.declared.op.MainOp.TheVariants as main
-use Rattle.uv_script.specs.Grammar.{Statement, Declares, InMain, InCallback, Sizes, HasWorkers, named_word, bare_word, IsOp, init, start, repeat, on_name, bare, callback_word, Says, declares, in_main, runs, closes_loop, in_callback, in_call, sizes, sizes_to, has_workers}
-use Rattle.uv_script.specs.Reading.{first_of, none_left, place_of, kind_of, mode_of, init_of, timer_start_of, start_by, start_of, repeat_of, bare_op, named_op, name_alone, short_op_of, op_of, declaration_of, run_of, close_loop_of, main_by, main_of, call_of, marked, in_calls_of, in_call_of, calls_of, callback_of, last_of, size_of, workers_of, setting_of, statement_of}
+use Rattle.uv_script.specs.Grammar.{Statement, Declares, InMain, InCallback, Sizes, HasWorkers, named_word, bare_word, IsOp, init, start, repeat, queue, queue_text, on_name, bare, callback_word, Says, declares, in_main, runs, closes_loop, in_callback, in_call, sizes, sizes_to, has_workers}
+use Rattle.uv_script.specs.Reading.{first_of, none_left, place_of, kind_of, mode_of, init_of, timer_start_of, start_by, start_of, repeat_of, filled, text_by, queue_of, bare_op, named_op, name_alone, short_op_of, op_of, declaration_of, run_of, close_loop_of, main_by, main_of, call_of, marked, in_calls_of, in_call_of, calls_of, callback_of, last_of, size_of, workers_of, setting_of, statement_of}
+use Rattle.uv_script.specs.declared.task.Task.{Task}
+use Rattle.uv_script.specs.Lines.{rest_of}
+use Rattle.uv_script.specs.TaskReading.{task_of}
+use Rattle.uv_script.specs.Tasks.{IsTask, text_of}
 use Rattle.uv_script.specs.Program.{IsSlotCount, LAST_GENERATION, IsWorkerCount}
 use Rattle.uv_script.specs.Checks.{is_name, number_of}
 use Rattle.uv_script.specs.Words.{IsName, IsNumber, IsDeclared}
 use Rattle.uv_script.proofs.OpWords.{named_op-sound, bare_op-sound}
 use Rattle.uv_script.proofs.KindWords.{kind_of-some, kind_of-sound, mode_of-some, mode_of-sound, choice_cases}
 use Rattle.uv_script.proofs.Places.{place_of-sound, place_of-finds}
+use Rattle.uv_script.proofs.TaskLemmas.{task_of-complete, task_of-sound}
 use Rattle.uv_script.proofs.Checks.{is_name_decides, number_of-sound, number_of-complete}
 
 -- a step of a reader that went well
@@ -102,6 +107,42 @@ repeat_sound names fields o e =
     (ap (λ s. codes "repeat" ∷ s) (a ∙ ap (λ s. name.0.0 ∷ s) (b ∙ ap (λ s. number.0.0 ∷ s) z)))
     (place_of-sound names name.0.0 v.0 v.1) (number_of-sound number.0.0 n.0 n.1))
 
+filled_is : (bytes text : List ℕ) → filled bytes ≡ Some text → (bytes ≡ text) × (text ≢ [])
+filled_is [] text e = cc
+filled_is (b ∷ bs) text e =
+    let same = same_Some _ _ e in (
+      same,
+      λ empty.
+          let wrong : b ∷ bs ≡ [] = same ∙ empty in
+          cc,
+    )
+
+queue_says : (names : List (List ℕ)) (name : List ℕ) (v : Var) (rounds : List ℕ) (r : ℕ) (rest : List (List ℕ)) (text : List ℕ) (t : Task) →
+    IsDeclared names name v → IsNumber rounds r → IsTask r text t → text_by (rest_of rest) ≡ Some text →
+    IsOp names (codes "queue" ∷ name ∷ rounds ∷ rest) (op.Queue v t)
+queue_says names name v rounds r [] text t is number task e =
+    queue name v rounds t refl is (subst (IsNumber rounds) (sym task.rounds_are) number) (task.text_is ∙ sym (same_Some _ _ e))
+queue_says names name v rounds r (field ∷ fields) text t is number task e =
+    let p = filled_is (join_with_byte 32 (field ∷ fields)) text e in
+    queue_text name v rounds t (field ∷ fields) refl is (subst (IsNumber rounds) (sym task.rounds_are) number) (task.text_is ∙ sym p.0)
+    (λ empty. p.1 (sym task.text_is ∙ empty))
+
+queue_sound : (names fields : List (List ℕ)) (o : Op) → queue_of names fields ≡ Some o → IsOp names (codes "queue" ∷ fields) o
+unfolding queue_of
+queue_sound names fields o e =
+    let name = bound _ (first_of fields) o e in
+    let v = bound _ (place_of names name.0.0) o name.2 in
+    let rounds = bound _ (first_of name.0.1) o v.2 in
+    let r = bound _ (number_of rounds.0.0) o rounds.2 in
+    let text = bound _ (text_by (rest_of rounds.0.1)) o r.2 in
+    let t = bound _ (task_of r.0 text.0) o text.2 in
+    let a = first_is fields name.0 name.1 in
+    let b = first_is name.0.1 rounds.0 rounds.1 in
+    subst (IsOp names (codes "queue" ∷ fields)) (same_Some _ _ t.2)
+    (subst (λ (s : List (List ℕ)). IsOp names (codes "queue" ∷ s) (op.Queue v.0 t.0)) (sym (a ∙ ap (λ s. name.0.0 ∷ s) b))
+    (queue_says names name.0.0 v.0 rounds.0.0 r.0 rounds.0.1 text.0 t.0 (place_of-sound names name.0.0 v.0 v.1)
+    (number_of-sound rounds.0.0 r.0 r.1) (task_of-sound r.0 text.0 t.0 t.1) text.1))
+
 -- the fields are a declared name
 record IsNameAlone (names fields : List (List ℕ)) (v : Var) : Type 0 where
   name : List ℕ
@@ -147,7 +188,10 @@ op_sound names word fields o e =
         | inl a ↦ op_word names (codes "start") word fields o a.0 (start_sound names fields o a.1)
         | inr e'' ↦ elim (choice_cases word (codes "repeat") _ _ (Some o) e'') [
           | inl a ↦ op_word names (codes "repeat") word fields o a.0 (repeat_sound names fields o a.1)
-          | inr short ↦ short_op_sound names fields word (bare_op word) o refl short
+          | inr e''' ↦ elim (choice_cases word (codes "queue") _ _ (Some o) e''') [
+            | inl a ↦ op_word names (codes "queue") word fields o a.0 (queue_sound names fields o a.1)
+            | inr short ↦ short_op_sound names fields word (bare_op word) o refl short
+          ]
         ]
       ]
     ]
@@ -353,9 +397,12 @@ statement_sound names fields s e =
         | inl is ↦ says_word names (codes "main") word.0.0 word.0.1 s is.0 (main_sound names word.0.1 s is.1)
         | inr e'' ↦ elim (choice_cases word.0.0 (codes "on") _ _ (Some s) e'') [
           | inl is ↦ says_word names (codes "on") word.0.0 word.0.1 s is.0 (callback_sound names callback.Handle word.0.1 s is.1)
-          | inr e''' ↦ elim (choice_cases word.0.0 (codes "closed") _ _ (Some s) e''') [
-            | inl is ↦ says_word names (codes "closed") word.0.0 word.0.1 s is.0 (callback_sound names callback.Close word.0.1 s is.1)
-            | inr last ↦ setting_sound names word.0.0 word.0.1 s last
+          | inr e''' ↦ elim (choice_cases word.0.0 (codes "after") _ _ (Some s) e''') [
+            | inl is ↦ says_word names (codes "after") word.0.0 word.0.1 s is.0 (callback_sound names callback.After word.0.1 s is.1)
+            | inr e4 ↦ elim (choice_cases word.0.0 (codes "closed") _ _ (Some s) e4) [
+              | inl is ↦ says_word names (codes "closed") word.0.0 word.0.1 s is.0 (callback_sound names callback.Close word.0.1 s is.1)
+              | inr last ↦ setting_sound names word.0.0 word.0.1 s last
+            ]
           ]
         ]
       ]
@@ -440,6 +487,7 @@ named_parts names o word name v place e = at o e
     at (op.Close w) is = by (op.Close w) (codes "close") w is refl refl refl (λ found. rw found refl)
     at (op.IsClosing w) is = by (op.IsClosing w) (codes "closing") w is refl refl refl (λ found. rw found refl)
     at (op.Send w) is = by (op.Send w) (codes "send") w is refl refl refl (λ found. rw found refl)
+    at (op.Cancel w) is = by (op.Cancel w) (codes "cancel") w is refl refl refl (λ found. rw found refl)
     at _ is = absurd (none-some _ is)
 
 -- an op of one word
@@ -462,8 +510,17 @@ bare_parts names o word e = at o e
     at op.Timeout is = by op.Timeout (codes "timeout") is refl refl refl refl
     at _ is = absurd (none-some _ is)
 
+filled_some : (bytes : List ℕ) → bytes ≢ [] → filled bytes ≡ Some bytes
+filled_some [] some = absurd (some refl)
+filled_some (b ∷ bs) some = refl
+
+text_complete : (rest : List (List ℕ)) (text : List ℕ) → text ≡ join_with_byte 32 rest → text ≢ [] → text_by (rest_of rest) ≡ Some text
+text_complete [] text e some = absurd (some e)
+text_complete (field ∷ fields) text e some =
+    filled_some (join_with_byte 32 (field ∷ fields)) (λ empty. some (e ∙ empty)) ∙ ap Some (sym e)
+
 op_parts : (names fields : List (List ℕ)) (o : Op) → AreDistinct names → IsOp names fields o → OpParts names fields o
-unfolding op_of init_of start_of timer_start_of repeat_of
+unfolding op_of init_of start_of timer_start_of repeat_of queue_of
 op_parts names fields o distinct (init name v kind e is) = record {
   word = codes "init";
   rest = name ∷ kind_word kind ∷ [];
@@ -490,6 +547,33 @@ op_parts names fields o distinct (repeat name v number n e is value) = record {
   no_close = refl;
   no_mark = refl;
   reads = rw (place_complete names name v distinct is, number_of-complete number n value) refl;
+}
+op_parts names fields o distinct (queue name v rounds t e is number text) = record {
+  word = codes "queue";
+  rest = name ∷ rounds ∷ [];
+  parts = e;
+  no_run = refl;
+  no_close = refl;
+  no_mark = refl;
+  reads = rw (
+    place_complete names name v distinct is,
+    number_of-complete rounds t.rounds number,
+    task_of-complete t.rounds [] t (record { rounds_are = refl; text_is = text }),
+  ) refl;
+}
+op_parts names fields o distinct (queue_text name v rounds t rest e is number text some) = record {
+  word = codes "queue";
+  rest = name ∷ rounds ∷ rest;
+  parts = e;
+  no_run = refl;
+  no_close = refl;
+  no_mark = refl;
+  reads = rw (
+    place_complete names name v distinct is,
+    number_of-complete rounds t.rounds number,
+    text_complete rest (text_of t) text some,
+    task_of-complete t.rounds (text_of t) t (record { rounds_are = refl; text_is = refl }),
+  ) refl;
 }
 op_parts names fields o distinct (on_name x word name v said e is) =
     subst (λ (r : List (List ℕ)). OpParts names r o) (sym e) (named_parts names o word name v (place_complete names name v distinct is) said)
@@ -551,6 +635,7 @@ by_word : (names : List (List ℕ)) (kind : Callback) (fields : List (List ℕ))
     → statement_of names (callback_word kind ∷ fields) ≡ callback_of names kind fields
 unfolding statement_of
 by_word names callback.Handle fields = refl
+by_word names callback.After fields = refl
 by_word names callback.Close fields = refl
 
 pub statement_complete : (names fields : List (List ℕ)) (s : Statement) → AreDistinct names → Says names fields s → statement_of names fields ≡ Some s

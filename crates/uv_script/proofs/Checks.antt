@@ -15,7 +15,7 @@ use Rattle.uv_script.specs.Lines.{IsLine, IsSkipped, empty, comment}
 use Rattle.uv_script.specs.Words.{IsLetter, IsDigit, IsName, IsNumber}
 use Rattle.uv_script.specs.Checks.{is_printable, is_line, is_skipped, is_name_byte, is_name, is_canonical, is_number, number_of}
 
-within : (low high b : ℕ) → Decides (nat_le low b && nat_le b high) ((low ≤ b) × (b ≤ high))
+pub within : (low high b : ℕ) → Decides (nat_le low b && nat_le b high) ((low ≤ b) × (b ≤ high))
 within low high b = (
   λ e. let p = and_parts _ _ e in (leb-true low b p.0, leb-true b high p.1),
   λ h. and_from _ _ (le-leb low b h.0) (le-leb b high h.1),

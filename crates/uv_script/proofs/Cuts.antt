@@ -1,11 +1,13 @@
 -- Lines and fields, one at a time.
-use Rattle.std.proofs.Common.{◌≡◌, ℕ, ◌==◌, false, cond, List, [], ◌∷◌, ◌++◌, length, All, refl, ap, ◌∙◌}
-use Rattle.std.specs.List.{onto_first}
+use Rattle.std.proofs.Common.{◌≡◌, ℕ, ◌==◌, false, cond, List, [], ◌∷◌, ◌++◌, length, Option, Some, None, option_map, All, refl, ap, sym, ◌∙◌, arith}
+use Rattle.std.specs.Borrow.{Bor}
+use Rattle.std.specs.List.{onto_first, join_with_byte}
 use Rattle.std.proofs.lemmas.List.Elements.{All-head, All-tail}
-use Rattle.std.proofs.lemmas.List.Splits.{slice_split_at, slice_split_none}
-use Rattle.uv_script.specs.Lines.{lines_of, fields_of, IsCut}
+use Rattle.std.proofs.lemmas.List.Splits.{slice_split_at, slice_split_none, length-slice_split, join_with_byte-slice_split}
+use Rattle.uv_script.specs.Fields.{fields_left}
+use Rattle.uv_script.specs.Lines.{lines_of, fields_of, rest_of, IsCut}
 
-abbrev AreNot : ℕ → List ℕ → Type 0
+abbrev pub AreNot : ℕ → List ℕ → Type 0
 AreNot byte bs = All (λ b. (b == byte) ≡ false) bs
 
 pub fields-cut : (line before after : List ℕ) → IsCut 32 line before after → fields_of line ≡ before ∷ fields_of after
@@ -14,7 +16,7 @@ fields-cut line before after cut = ap fields_of cut.whole ∙ slice_split_at (λ
 pub fields-last : (line : List ℕ) → All (λ b. (b == 32) ≡ false) line → fields_of line ≡ line ∷ []
 fields-last line h = slice_split_none (λ b. b == 32) line h
 
-lines_append : (before after : List ℕ) → AreNot 10 before → lines_of (before ++ 10 ∷ after) ≡ before ∷ lines_of after
+pub lines_append : (before after : List ℕ) → AreNot 10 before → lines_of (before ++ 10 ∷ after) ≡ before ∷ lines_of after
 lines_append [] after h = refl
 lines_append (b ∷ before) after h =
     ap (λ t. cond t ([] ∷ lines_of (before ++ 10 ∷ after)) (onto_first b (lines_of (before ++ 10 ∷ after))))
@@ -33,3 +35,18 @@ lines-last b (c ∷ bs) h =
 pub lines-rest : (text : List ℕ) → (length text ≡ 0 → ⊥) → All (λ b. (b == 10) ≡ false) text → lines_of text ≡ text ∷ []
 lines-rest [] some h = absurd (some refl)
 lines-rest (b ∷ bs) some h = lines-last b bs h
+
+-- the fields of a line, joined again
+rest_is : (line : List ℕ) → rest_of (fields_of line) ≡ Some line
+rest_is line = by (fields_of line) refl where
+  by : (parts : List (List ℕ)) → fields_of line ≡ parts → rest_of parts ≡ Some line
+  by [] e =
+      let some = length-slice_split (λ b. b == 32) line in
+      let none = ap length e in
+      absurd (omega arith)
+  by (part ∷ parts) e = ap Some (ap (join_with_byte 32) (sym e) ∙ join_with_byte-slice_split 32 line)
+
+pub rest_left : (rest : Option (Bor (List ℕ))) (fields : List (List ℕ)) → fields_left rest ≡ fields →
+    option_map (λ line. line.now) rest ≡ rest_of fields
+rest_left None fields e = ap rest_of e
+rest_left (Some line) fields e = sym (rest_is line.now) ∙ ap rest_of e

@@ -4,8 +4,14 @@ pub mod Cuts
 pub mod KindWords
 pub mod Fresh
 pub mod Spelled
+pub mod TaskLemmas
 pub mod OpWords
 pub mod Agrees
 pub mod AfterLines
 pub mod OneReading
 pub mod SomeReading
+pub mod Exact
+pub mod Texts
+pub mod Written
+pub mod ReadBack
+pub mod Kept

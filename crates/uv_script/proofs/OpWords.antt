@@ -32,7 +32,8 @@ named_op-sound word v o =
     (is_word (codes "active") (op.IsActive v) _ refl
     (is_word (codes "close") (op.Close v) _ refl
     (is_word (codes "closing") (op.IsClosing v) _ refl
-    (is_word (codes "send") (op.Send v) None refl (λ e. cc))))))))))
+    (is_word (codes "send") (op.Send v) _ refl
+    (is_word (codes "cancel") (op.Cancel v) None refl (λ e. cc)))))))))))
   where
     is_word : (this : List ℕ) (x : Op) (others : Option Op) → named_word x ≡ Some (this, v) → (others ≡ Some o → named_word o ≡ Some (word, v)) →
         cond (bytes_eq word this) (Some x) others ≡ Some o → named_word o ≡ Some (word, v)

@@ -1,5 +1,6 @@
 -- The grammar of scripts: which lines make which script.
-use Rattle.std.specs.Prelude.{◌≡◌, ℕ, ◌+◌, ◌<◌, ◌≤◌, ◌^◌, List, [], ◌∷◌, ◌++◌, length, Contains, Option, Some, None, Result, Ok, Err, slice_set, codes}
+use Rattle.std.specs.Prelude.{◌≡◌, ◌≢◌, ℕ, ◌+◌, ◌<◌, ◌≤◌, ◌^◌, List, [], ◌∷◌, ◌++◌, length, Contains, Option, Some, None, Result, Ok, Err, slice_set, codes}
+use Rattle.std.specs.List.{join_with_byte}
 use Rattle.uv_ids.specs.declared.id.Var.{Var}
 use Rattle.uv_ids.specs.declared.phase.Kind.{Kind}
 use Rattle.uv_ids.specs.declared.seen.Callback.{Callback}
@@ -14,8 +15,10 @@ use Rattle.uv_script.specs.declared.op.MainOp.{MainOp}
 use Rattle.uv_script.specs.declared.op.MainOp.TheVariants as main
 use Rattle.uv_script.specs.declared.op.CallbackLine.{CallbackLine}
 use Rattle.uv_script.specs.declared.size.ArenaSize.{ArenaSize}
+use Rattle.uv_script.specs.declared.task.Task.{Task}
 use Rattle.uv_script.specs.Lines.{lines_of, fields_of, IsLine, IsSkipped}
-use Rattle.uv_script.specs.Program.{Program, no_callbacks, callbacks_of, with_line, line_count, IsSlotCount, LAST_GENERATION, IsWorkerCount}
+use Rattle.uv_script.specs.Program.{Program, no_callbacks, callbacks_of, with_line, line_count, IsSlotCount, LAST_GENERATION, IsWorkerCount, IsCounted}
+use Rattle.uv_script.specs.Tasks.{text_of}
 use Rattle.uv_script.specs.Words.{IsName, IsNumber, IsDeclared}
 
 -- what a line says
@@ -24,7 +27,7 @@ pub data Statement : Type 0 where
   Declares : List ℕ → Statement
   -- `main OP`
   InMain : MainOp → Statement
-  -- `on NAME [@k] OP`, `closed NAME [@k] OP`
+  -- `on NAME [@k] OP`, `after NAME [@k] OP`, `closed NAME [@k] OP`
   InCallback : Callback → Var → CallbackLine → Statement
   -- `slots n [g]`
   Sizes : ArenaSize → Statement
@@ -44,6 +47,7 @@ named_word (op.IsActive v) = Some (codes "active", v)
 named_word (op.Close v) = Some (codes "close", v)
 named_word (op.IsClosing v) = Some (codes "closing", v)
 named_word (op.Send v) = Some (codes "send", v)
+named_word (op.Cancel v) = Some (codes "cancel", v)
 named_word _ = None
 
 -- the word of an op that says nothing more, and stands anywhere
@@ -63,6 +67,11 @@ pub data IsOp (names : List (List ℕ)) (fields : List (List ℕ)) : Op → Type
       IsDeclared names name v → IsNumber timeout t → IsNumber repeat r → IsOp names fields (op.Start v t r)
   repeat : (name : List ℕ) (v : Var) (number : List ℕ) (n : ℕ) → fields ≡ codes "repeat" ∷ name ∷ number ∷ [] → IsDeclared names name v →
       IsNumber number n → IsOp names fields (op.SetRepeat v n)
+  queue : (name : List ℕ) (v : Var) (rounds : List ℕ) (t : Task) → fields ≡ codes "queue" ∷ name ∷ rounds ∷ [] → IsDeclared names name v →
+      IsNumber rounds t.rounds → text_of t ≡ [] → IsOp names fields (op.Queue v t)
+  -- the text is the rest of the line, in which a space may stand anywhere; it isn't empty
+  queue_text : (name : List ℕ) (v : Var) (rounds : List ℕ) (t : Task) (rest : List (List ℕ)) → fields ≡ codes "queue" ∷ name ∷ rounds ∷ rest →
+      IsDeclared names name v → IsNumber rounds t.rounds → text_of t ≡ join_with_byte 32 rest → text_of t ≢ [] → IsOp names fields (op.Queue v t)
   on_name : (o : Op) (word name : List ℕ) (v : Var) → named_word o ≡ Some (word, v) → fields ≡ word ∷ name ∷ [] → IsDeclared names name v →
       IsOp names fields o
   bare : (o : Op) (word : List ℕ) → bare_word o ≡ Some word → fields ≡ word ∷ [] → IsOp names fields o
@@ -70,6 +79,7 @@ pub data IsOp (names : List (List ℕ)) (fields : List (List ℕ)) : Op → Type
 -- the word of a callback's lines
 abbrev pub callback_word : Callback → List ℕ
 callback_word callback.Handle = codes "on"
+callback_word callback.After = codes "after"
 callback_word callback.Close = codes "closed"
 
 -- the fields of a line, and what it says
@@ -122,6 +132,16 @@ pub data ReadsAll : Program → List (List ℕ) → Program → Type 0 where
 -- the script of no line
 abbrev pub blank : Program
 blank = record { names = []; main = []; callbacks = []; size = None; workers = None }
+
+-- the script was read from some lines
+pub record WasRead (p : Program) : Type 0 where
+  pub lines : List (List ℕ)
+  pub read : ReadsAll blank lines p
+
+-- so many of its lines count
+pub record IsReadScript (lines : ℕ) (p : Program) : Type 0 where
+  pub counted : IsCounted lines p
+  pub read : WasRead p
 
 -- the script of a text
 abbrev pub IsScript : List ℕ → Program → Type 0

@@ -1,11 +1,14 @@
+pub mod TaskFields
+pub mod Tasks
 pub mod Program
 pub mod Lines
 pub mod Fields
 pub mod Words
 pub mod Checks
 pub mod Names
+pub mod TaskReading
 pub mod Grammar
-pub mod Laws
 pub mod Text
+pub mod Laws
 pub mod Reading
 pub mod Said

@@ -1,6 +1,6 @@
 -- A text as lines, and a line as fields.
-use Rattle.std.specs.Prelude.{◌≡◌, ℕ, ◌≤◌, ◌==◌, false, List, [], ◌∷◌, ◌++◌, length, All, if◌then◌else◌}
-use Rattle.std.specs.List.{slice_split, onto_first}
+use Rattle.std.specs.Prelude.{◌≡◌, ℕ, ◌≤◌, ◌==◌, false, List, [], ◌∷◌, ◌++◌, length, All, Option, Some, None, if◌then◌else◌}
+use Rattle.std.specs.List.{slice_split, onto_first, join_with_byte}
 
 -- a text cut at each line feed; a last line that lacks its line feed counts too
 abbrev pub lines_of : List ℕ → List (List ℕ)
@@ -15,6 +15,11 @@ pub record IsLine (line : List ℕ) : Type 0 where
 -- a line cut at each space, so that a space too many leaves an empty field, which is no word, name or number
 abbrev pub fields_of : List ℕ → List (List ℕ)
 fields_of line = slice_split (λ b. b == 32) line
+
+-- the rest of a line, from these of its fields on; none where there is none of them
+abbrev pub rest_of : List (List ℕ) → Option (List ℕ)
+rest_of [] = None
+rest_of (field ∷ fields) = Some (join_with_byte 32 (field ∷ fields))
 
 -- a line that says nothing: an empty one, or one that begins with `#`
 pub data IsSkipped (line : List ℕ) : Type 0 where

@@ -15,6 +15,8 @@ use Rattle.uv_script.specs.declared.size.ArenaSize.{ArenaSize}
 pub record Callbacks : Type 0 where
   -- of its handle callback
   pub handle : List CallbackLine
+  -- of its request's after callback
+  pub after : List CallbackLine
   -- of its close callback
   pub close : List CallbackLine
 
@@ -31,7 +33,7 @@ pub record Program : Type 0 where
   pub workers : Option ℕ
 
 abbrev pub no_callbacks : Callbacks
-no_callbacks = record { handle = []; close = [] }
+no_callbacks = record { handle = []; after = []; close = [] }
 
 abbrev pub callbacks_of : Program → Var → Callbacks
 callbacks_of p v = unwrap_or (slice_get p.callbacks v.0) no_callbacks
@@ -39,11 +41,13 @@ callbacks_of p v = unwrap_or (slice_get p.callbacks v.0) no_callbacks
 -- the lines of one of these
 abbrev pub lines_of : Callback → Callbacks → List CallbackLine
 lines_of callback.Handle c = c.handle
+lines_of callback.After c = c.after
 lines_of callback.Close c = c.close
 
 -- these with one line more in one of them
 abbrev pub with_line : Callback → Callbacks → CallbackLine → Callbacks
 with_line callback.Handle c line = record c { handle = c.handle ++ line ∷ [] }
+with_line callback.After c line = record c { after = c.after ++ line ∷ [] }
 with_line callback.Close c line = record c { close = c.close ++ line ∷ [] }
 
 -- the lines of a name's callback
@@ -67,7 +71,7 @@ is_for call None = true
 is_for call (Some k) = k == call
 
 abbrev pub callback_count : Callbacks → ℕ
-callback_count c = length c.handle + length c.close
+callback_count c = length c.handle + length c.after + length c.close
 
 -- the generation at which a slot that is freed is retired, where no line says it (own)
 abbrev pub LAST_GENERATION : ℕ

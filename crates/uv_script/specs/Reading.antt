@@ -14,10 +14,11 @@ use Rattle.uv_ids.specs.declared.fault.Fault.TheVariants as fault
 use Rattle.uv_script.specs.declared.op.Op.{Op}
 use Rattle.uv_script.specs.declared.op.Op.TheVariants as op
 use Rattle.uv_script.specs.declared.op.MainOp.TheVariants as main
-use Rattle.uv_script.specs.Grammar.{Statement, Declares, InMain, InCallback, Sizes, HasWorkers, with_statement}
-use Rattle.uv_script.specs.Lines.{fields_of}
+use Rattle.uv_script.specs.Grammar.{Statement, Declares, InMain, InCallback, Sizes, HasWorkers, Says, with_statement}
+use Rattle.uv_script.specs.Lines.{fields_of, rest_of, IsLine}
 use Rattle.uv_script.specs.Program.{Program, line_count, IsSlotCount, LAST_GENERATION, IsWorkerCount}
 use Rattle.uv_script.specs.Checks.{is_line, is_skipped, is_name, number_of}
+use Rattle.uv_script.specs.TaskReading.{task_of}
 use Rattle.uv_script.specs.Words.{IsName}
 
 infixl 10 ◌>>=◌
@@ -93,6 +94,25 @@ repeat_of names fields = do
   end ← none_left repeat.1
   Some (op.SetRepeat v r)
 
+-- the text of a task, which is the rest of the line; it isn't empty where fields are left
+abbrev pub filled : List ℕ → Option (List ℕ)
+filled [] = None
+filled (b ∷ bs) = Some (b ∷ bs)
+
+abbrev pub text_by : Option (List ℕ) → Option (List ℕ)
+text_by None = Some []
+text_by (Some rest) = filled rest
+
+unfoldable pub queue_of : List (List ℕ) → List (List ℕ) → Option Op
+queue_of names fields = do
+  name ← first_of fields
+  v ← place_of names name.0
+  rounds ← first_of name.1
+  r ← number_of rounds.0
+  text ← text_by (rest_of rounds.1)
+  t ← task_of r text
+  Some (op.Queue v t)
+
 -- an op of a word alone
 unfoldable pub bare_op : List ℕ → Option Op
 bare_op word =
@@ -116,6 +136,7 @@ named_op word v =
     else if bytes_eq word (codes "close") then Some (op.Close v)
     else if bytes_eq word (codes "closing") then Some (op.IsClosing v)
     else if bytes_eq word (codes "send") then Some (op.Send v)
+    else if bytes_eq word (codes "cancel") then Some (op.Cancel v)
     else None
 
 -- a name and nothing more
@@ -141,6 +162,7 @@ op_of names word fields =
     if bytes_eq word (codes "init") then init_of names fields
     else if bytes_eq word (codes "start") then start_of names fields
     else if bytes_eq word (codes "repeat") then repeat_of names fields
+    else if bytes_eq word (codes "queue") then queue_of names fields
     else short_op_of names fields word (bare_op word)
 
 -- what stands behind `var`
@@ -247,6 +269,7 @@ statement_of names fields = do
   if bytes_eq word.0 (codes "var") then declaration_of names word.1
       else if bytes_eq word.0 (codes "main") then main_of names word.1
       else if bytes_eq word.0 (codes "on") then callback_of names callback.Handle word.1
+      else if bytes_eq word.0 (codes "after") then callback_of names callback.After word.1
       else if bytes_eq word.0 (codes "closed") then callback_of names callback.Close word.1
       else setting_of word.0 word.1
 
@@ -265,6 +288,12 @@ IsSound p (InMain op) = Unit {0}
 IsSound p (InCallback kind v line) = v.0 < length p.names
 IsSound p (Sizes size) = IsSlotCount size.slots
 IsSound p (HasWorkers n) = IsWorkerCount n
+
+-- some line says this
+pub record IsSaid (p : Program) (s : Statement) : Type 0 where
+  pub line : List ℕ
+  pub is : IsLine line
+  pub says : Says p.names (fields_of line) s
 
 -- the script after one more line
 unfoldable pub after_line : Program → List ℕ → Option Program

@@ -8,16 +8,18 @@ mod parse;
 mod script;
 mod size;
 mod statement;
+mod task;
 mod text;
 mod words;
 
 pub use lines::{Fields, Lines, is_line, is_skipped, line_count};
 pub use names::Names;
 pub use op::{CallbackLine, MainOp, Op};
-pub use parse::one_reading;
+pub use parse::{one_reading, text_read_back};
 pub use script::Script;
 pub use size::ArenaSize;
-pub use text::push_number;
+pub use task::Task;
+pub use text::{push_number, push_task_text};
 pub use words::{is_name, number};
 
 #[cfg(test)]

@@ -1,7 +1,7 @@
 //! A text as lines, and a line as fields.
-ghost use Rattle.std.specs.Prelude.{◌≡◌, ◌==◌, ◌↔◌, false, All, IfNone, IfSome, IsTrue, length, ◌≤◌};
+ghost use Rattle.std.specs.Prelude.{◌≡◌, ◌==◌, ◌↔◌, false, All, IfNone, IfSome, IsTrue, length, ◌≤◌, option_map};
 ghost use Rattle.std.specs.Iterator.{YieldsFirstRef, item_count};
-ghost use Rattle.uv_script.specs.Lines.{lines_of, fields_of, IsLine, IsSkipped, IsCut};
+ghost use Rattle.uv_script.specs.Lines.{lines_of, fields_of, rest_of, IsLine, IsSkipped, IsCut};
 ghost use Rattle.uv_script.specs.Checks.{is_printable, is_line, is_skipped};
 
 use std::marker::Model;
@@ -120,6 +120,13 @@ impl<'a> Fields<'a> {
         ensures { result ≡ fields_of line.now }
     {
         Fields { rest: Some(line) }
+    }
+
+    /// The rest of the line, in which a space may stand anywhere; none where no field is left.
+    pub fn rest(self) -> Option<&'a [u8]>
+        ensures { option_map (λ rest. rest.now) result ≡ rest_of self.entry }
+    {
+        self.rest
     }
 }
 

@@ -3,6 +3,7 @@
 ghost use Rattle.std.specs.Prelude.{◌≡◌, OnOk, OnErr};
 ghost use Rattle.uv_script.specs.Program.{no_callbacks, lines_of, with_line};
 
+use crate::task::Task;
 use std::alloc::{AllocError, Global};
 use std::marker::Model;
 use uv_ids::{Callback, Kind, Mode, Var};
@@ -38,6 +39,11 @@ pub enum Op {
     IsClosing(Var),
     /// `send NAME`: wakes the loop for an async handle (uv_async_send).
     Send(Var),
+    /// `queue NAME ROUNDS [TEXT]`: takes a slot for a request, binds the name to it, and asks a worker to hash the text
+    /// so many times (uv_queue_work).
+    Queue(Var, Task),
+    /// `cancel NAME`: the request is done without a worker, if none took it (uv_cancel).
+    Cancel(Var),
     /// `closeloop`, which stands in the main program only (uv_loop_close).
     CloseLoop,
     /// `stoploop`: the run ends before its next iteration (uv_stop).
@@ -64,6 +70,7 @@ pub enum MainOp {
 #[derive(Drop)]
 pub struct Callbacks {
     handle: Vec<CallbackLine>,
+    after: Vec<CallbackLine>,
     close: Vec<CallbackLine>,
 }
 
@@ -72,7 +79,7 @@ impl Model for Callbacks {
 
     ghost Value = { parts.Callbacks };
 
-    ghost view = { λ a. record { handle = a.handle.items; close = a.close.items } };
+    ghost view = { λ a. record { handle = a.handle.items; after = a.after.items; close = a.close.items } };
 }
 
 impl Callbacks {
@@ -82,6 +89,7 @@ impl Callbacks {
     {
         Callbacks {
             handle: Vec::new(alloc),
+            after: Vec::new(alloc),
             close: Vec::new(alloc),
         }
     }
@@ -92,6 +100,7 @@ impl Callbacks {
     {
         match kind {
             Callback::Handle => &self.handle,
+            Callback::After => &self.after,
             Callback::Close => &self.close,
         }
     }
@@ -103,6 +112,7 @@ impl Callbacks {
     {
         match kind {
             Callback::Handle => self.handle.push(line)?,
+            Callback::After => self.after.push(line)?,
             Callback::Close => self.close.push(line)?,
         }
         Ok(())

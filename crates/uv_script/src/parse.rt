@@ -1,7 +1,8 @@
 //! Reading a script's text.
 ghost use Rattle.std.specs.Prelude.{◌≡◌, ℕ, List};
-ghost use Rattle.uv_script.specs.Grammar.{Parses};
-ghost use Rattle.uv_script.specs.Laws.{HasReading, HasOneScript, HasNoBadLine, HasOneBadLine};
+ghost use Rattle.uv_script.specs.Grammar.{IsScript, Parses};
+ghost use Rattle.uv_script.specs.Laws.{HasReading, HasOneScript, HasNoBadLine, HasOneBadLine, IsReadBack};
+ghost use Rattle.uv_script.specs.Program.{Program};
 ghost use Rattle.uv_script.specs.Reading.{ReadsLine};
 
 use crate::lines::{Lines, is_line, is_skipped};
@@ -17,6 +18,11 @@ pub fn one_reading()
     ensures script { (text : List ℕ) → HasOneScript text }
     ensures apart { (text : List ℕ) → HasNoBadLine text }
     ensures bad_line { (text : List ℕ) → HasOneBadLine text }
+{}
+
+/// The text of a script is read back as the same script, unless memory runs out.
+pub fn text_read_back()
+    ensures { (text : List ℕ) (p : Program) → IsScript text p → IsReadBack p }
 {}
 
 impl Script {

@@ -1,7 +1,7 @@
 //! A script's parts.
 ghost use Rattle.std.specs.Prelude.{◌≡◌, slice_get, length, OnOk, Some};
-ghost use Rattle.uv_script.specs.Grammar.{Declares, InMain, InCallback, Sizes, HasRoom, with_statement, blank};
-ghost use Rattle.uv_script.specs.Reading.{has_room, IsSound};
+ghost use Rattle.uv_script.specs.Grammar.{Declares, InMain, InCallback, Sizes, HasRoom, WasRead, with_statement, blank};
+ghost use Rattle.uv_script.specs.Reading.{has_room, IsSound, IsSaid};
 ghost use Rattle.uv_script.specs.Said.{said};
 ghost use Rattle.uv_script.specs.Program.{lines_in, op_at, arena_size, worker_count, IsWorkerCount, IsWhole};
 
@@ -33,7 +33,8 @@ const MAX_NAMES: usize = 4096;
 const DEFAULT_WORKERS: u16 = 4;
 
 impl Model for Script {
-    ghost use Rattle.uv_script.specs.Program.{Program, IsCounted};
+    ghost use Rattle.uv_script.specs.Program.{Program};
+    ghost use Rattle.uv_script.specs.Grammar.{IsReadScript};
 
     ghost Value = { Program };
 
@@ -45,7 +46,7 @@ impl Model for Script {
       workers = script.workers;
     } };
 
-    ghost invariant = { λ script. IsCounted script.lines (record {
+    ghost invariant = { λ script. IsReadScript script.lines (record {
       names = script.names;
       main = script.main.items;
       callbacks = script.callbacks.items;
@@ -85,7 +86,7 @@ impl Script {
     /// Adds what one more line says.
     pub(crate) fn add(&mut self, alloc: Global, statement: Statement<'_>) -> Result<(), AllocError>
         requires room { HasRoom self.old (said statement) }
-        requires sound { IsSound self.old (said statement) }
+        requires said { IsSaid self.old (said statement) }
         ensures { OnOk result (self.new ≡ with_statement self.old (said statement.entry)) }
     {
         match statement {
@@ -106,6 +107,7 @@ impl Script {
     fn declare(&mut self, alloc: Global, name: &[u8]) -> Result<(), AllocError>
         requires room { HasRoom self.old (Declares name.now) }
         requires sound { IsSound self.old (Declares name.now) }
+        requires said { IsSaid self.old (Declares name.now) }
         ensures { OnOk result (self.new ≡ with_statement self.old (Declares name.now)) }
     {
         self.callbacks.reserve(1)?;
@@ -116,7 +118,8 @@ impl Script {
     }
 
     fn push_main(&mut self, op: MainOp) -> Result<(), AllocError>
-        requires { HasRoom self.old (InMain op) }
+        requires room { HasRoom self.old (InMain op) }
+        requires said { IsSaid self.old (InMain op) }
         ensures { OnOk result (self.new ≡ with_statement self.old (InMain op)) }
     {
         self.main.push(op)?;
@@ -132,12 +135,18 @@ impl Script {
     ) -> Result<(), AllocError>
         requires room { HasRoom self.old (InCallback kind name line) }
         requires sound { IsSound self.old (InCallback kind name line) }
+        requires said { IsSaid self.old (InCallback kind name line) }
         ensures { OnOk result (self.new ≡ with_statement self.old (InCallback kind name line)) }
     {
         let callbacks = &mut self.callbacks[name.0 as usize];
         callbacks.push(kind, line)?;
         self.lines += 1;
         Ok(())
+    }
+
+    /// Where its memory comes from.
+    pub(crate) fn allocator(&self) -> Global {
+        *self.main.allocator()
     }
 
     /// The declared names.
@@ -161,6 +170,14 @@ impl Script {
         ensures within { IsWorkerCount result }
     {
         self.workers.unwrap_or(DEFAULT_WORKERS)
+    }
+
+    /// The lines of the main program.
+    pub(crate) fn main(&self) -> &[MainOp]
+        ensures main { result.now ≡ self.now.main }
+        ensures read { WasRead self.now }
+    {
+        &self.main
     }
 
     /// A line of the main program, from 0.

@@ -1,13 +1,15 @@
 //! What the lines of a script say, one at a time.
 ghost use Rattle.std.specs.Prelude.{◌≡◌, Some, option_map};
 ghost use Rattle.uv_script.specs.Lines.{fields_of};
-ghost use Rattle.uv_script.specs.Reading.{none_left, kind_of, mode_of, init_of, timer_start_of, start_of, repeat_of, bare_op, named_op, name_alone, short_op_of, op_of, declaration_of, run_of, main_of, main_by, close_loop_of, call_of, marked, in_calls_of, in_call_of, callback_of, last_of, size_of, workers_of, setting_of, statement_of};
+ghost use Rattle.uv_script.specs.Reading.{none_left, kind_of, mode_of, init_of, timer_start_of, start_of, repeat_of, text_by, queue_of, bare_op, named_op, name_alone, short_op_of, op_of, declaration_of, run_of, main_of, main_by, close_loop_of, call_of, marked, in_calls_of, in_call_of, callback_of, last_of, size_of, workers_of, setting_of, statement_of};
 ghost use Rattle.uv_script.specs.Said.{said};
+ghost use Rattle.uv_script.specs.TaskReading.{task_of};
 
 use crate::lines::Fields;
 use crate::names::Names;
 use crate::op::{CallbackLine, MainOp, Op};
 use crate::size::ArenaSize;
+use crate::task::Task;
 use crate::words::{is_name, number};
 use uv_ids::{Callback, Kind, Mode, Var};
 
@@ -18,7 +20,7 @@ pub(crate) enum Statement<'a> {
     Declares(&'a [u8]),
     /// `main OP`
     InMain(MainOp),
-    /// `on NAME [@k] OP`, `closed NAME [@k] OP`
+    /// `on NAME [@k] OP`, `after NAME [@k] OP`, `closed NAME [@k] OP`
     InCallback(Callback, Var, CallbackLine),
     /// `slots n [g]`
     Sizes(ArenaSize),
@@ -79,6 +81,39 @@ fn set_repeat(names: &Names, mut fields: Fields<'_>) -> Option<Op>
     Some(Op::SetRepeat(name, repeat))
 }
 
+/// The text of a task: the rest of the line, and no text where nothing is left.
+fn task_text<'a>(rest: Option<&'a [u8]>) -> Option<&'a [u8]>
+    ensures { option_map (λ text. text.now) result ≡ text_by (option_map (λ rest. rest.now) rest.entry) }
+{
+    match rest {
+        Some([]) => None,
+        Some(text) => Some(text),
+        None => Some(&[]),
+    }
+}
+
+#[tactic(auto, unfolding(crate::specs::Reading::queue_of))]
+fn queue(names: &Names, mut fields: Fields<'_>) -> Option<Op>
+    ensures { result ≡ queue_of names.now fields.entry }
+{
+    let name = names.number(fields.next()?)?;
+    let rounds = number(fields.next()?)?;
+    let text = task_text(fields.rest())?;
+    let task = task(rounds, text)?;
+    Some(Op::Queue(name, task))
+}
+
+/// A task of so many rounds, if there may be so many.
+#[tactic(auto, using(crate::proofs::TaskLemmas::tasks))]
+fn task(rounds: u64, text: &[u8]) -> Option<Task>
+    ensures { result ≡ task_of rounds text.now }
+{
+    if rounds > 1000 {
+        return None;
+    }
+    Task::new(rounds as u16, text)
+}
+
 /// The op of a word alone.
 #[tactic(auto, unfolding(crate::specs::Reading::bare_op))]
 fn bare_op(word: &[u8]) -> Option<Op>
@@ -110,6 +145,7 @@ fn named_op(word: &[u8], name: Var) -> Option<Op>
         b"close" => Some(Op::Close(name)),
         b"closing" => Some(Op::IsClosing(name)),
         b"send" => Some(Op::Send(name)),
+        b"cancel" => Some(Op::Cancel(name)),
         _ => None,
     }
 }
@@ -149,6 +185,7 @@ fn op_by_word(names: &Names, word: &[u8], fields: Fields<'_>) -> Option<Op>
         b"init" => init(names, fields),
         b"start" => start(names, fields),
         b"repeat" => set_repeat(names, fields),
+        b"queue" => queue(names, fields),
         _ => short_op(names, word, fields),
     }
 }
@@ -162,6 +199,7 @@ pub(crate) fn statement_in<'a>(names: &Names, line: &'a [u8]) -> Option<Statemen
         b"var" => declaration(names, fields),
         b"main" => main_line(names, fields),
         b"on" => callback(names, Callback::Handle, fields),
+        b"after" => callback(names, Callback::After, fields),
         b"closed" => callback(names, Callback::Close, fields),
         word => setting(word, fields),
     }

@@ -1,5 +1,5 @@
 use crate::{
-    CallbackLine, Fields, Lines, MainOp, Op, Script, is_line, is_name, is_skipped, number,
+    CallbackLine, Fields, Lines, MainOp, Op, Script, Task, is_line, is_name, is_skipped, number,
     push_number,
 };
 use std::alloc::{AllocError, Global};
@@ -125,8 +125,69 @@ fn reads_each_op_of_a_callback(rt: HostRuntime) -> Result<(), Fail> {
     Ok(())
 }
 
+/// Requests in the main program and in callbacks; the text of one may hold spaces anywhere.
+const REQUESTS: &[u8] = b"var v\nvar w\nmain queue w 1\nmain queue v 1000 abc\nmain queue v 1  x\n\
+    main queue v 2 a  b \nmain queue v 3  \nmain queue w 7 # 3456789 123456789 123456789 123456789 123456789 1234567890123~\n\
+    main cancel w\nclosed w stop v\nafter w queue v 1 on\non w stop w\nafter w @2 cancel v\nafter w cancel w";
+
+#[test]
+fn reads_requests(rt: HostRuntime) -> Result<(), Fail> {
+    let script = Script::parse(rt.alloc(), REQUESTS)?;
+    let (v, w) = (Var(0), Var(1));
+    let queued: [(Var, u16, &[u8]); 6] = [
+        (w, 1, b""),
+        (v, 1000, b"abc"),
+        (v, 1, b" x"),
+        (v, 2, b"a  b "),
+        (v, 3, b" "),
+        (
+            w,
+            7,
+            b"# 3456789 123456789 123456789 123456789 123456789 1234567890123~",
+        ),
+    ];
+    for (line, (name, rounds, text)) in queued.iter().enumerate() {
+        let Some(MainOp::Op(Op::Queue(queued, task))) = script.main_op(line) else {
+            return Err(Fail::new("a line asks for no work"));
+        };
+        assert_eq!(rt; (queued, task.rounds()), (*name, *rounds));
+        assert_eq!(rt; task.text(), *text);
+    }
+    assert_eq!(rt; script.main_op(6), Some(MainOp::Op(Op::Cancel(w))));
+    let task = Task::new(1, b"on");
+    let after = script.lines_in(Callback::After, w);
+    assert_eq!(rt; after.len(), 3);
+    assert_eq!(rt;
+        after.first().map(|line| line.op),
+        task.map(|task| Op::Queue(v, task))
+    );
+    assert_eq!(rt; (after[1].call, after[1].op), (Some(2), Op::Cancel(v)));
+    assert_eq!(rt; (after[2].call, after[2].op), (None, Op::Cancel(w)));
+    for kind in [Callback::Handle, Callback::Close] {
+        assert_eq!(rt; script.lines_in(kind, w).len(), 1);
+    }
+    assert_eq!(rt; script.lines_in(Callback::After, v).len(), 0);
+    Ok(())
+}
+
+#[test]
+fn tasks_have_their_limits(rt: HostRuntime) {
+    let text = [b'a'; 65];
+    for (rounds, length, is_one) in [
+        (0, 0, false),
+        (1, 0, true),
+        (1000, 64, true),
+        (1001, 64, false),
+        (1000, 65, false),
+        (u16::MAX, 0, false),
+    ] {
+        let task = Task::new(rounds, &text[..length]);
+        assert_eq!(rt; task.is_some(), is_one, "{rounds} rounds, {length} bytes");
+    }
+}
+
 /// Texts, and the first bad line of each.
-const BAD: [(&[u8], usize); 72] = [
+const BAD: [(&[u8], usize); 99] = [
     (b"\x1f", 1),
     (b"#\x7f", 1),
     (b"var a\r\n", 1),
@@ -139,7 +200,7 @@ const BAD: [(&[u8], usize); 72] = [
     (b"workers 04", 1),
     (b"workers 4 4", 1),
     (b"workers 4\nworkers 4", 2),
-    (b"var a\nafter a stop a", 2),
+    (b"var a\nafter a @0 stop a", 2),
     (b"var", 1),
     (b"var a b", 1),
     (b"var  a", 1),
@@ -199,6 +260,36 @@ const BAD: [(&[u8], usize); 72] = [
     (b"slots 7 1 1", 1),
     (b"slots 7\nslots 7", 2),
     (b"var slots\nslots 1 0\nslots 1 0", 3),
+    (b"var a\nmain queue", 2),
+    (b"var a\nmain queue a", 2),
+    (b"var a\nmain queue a ", 2),
+    (b"var a\nmain queue a 0", 2),
+    (b"var a\nmain queue a 1001", 2),
+    (b"var a\nmain queue a 65537", 2),
+    (b"var a\nmain queue a 01", 2),
+    (b"var a\nmain queue a x", 2),
+    (b"var a\nmain queue a  1", 2),
+    (b"var a\nmain queue  a 1", 2),
+    (b"var a\nmain queue a 1 ", 2),
+    (b"var a\nafter a queue a 1 ", 2),
+    (b"var a\nmain queue a 1 \t", 2),
+    (b"var a\nmain queue b 1 x", 2),
+    (b"main queue a 1 x\nvar a", 1),
+    (
+        b"var a\nmain queue a 1 xxxxxxxxxxxxxxxxxxxxxxxxxxxxxxxxxxxxxxxxxxxxxxxxxxxxxxxxxxxxxxxxx",
+        2,
+    ),
+    (b"var a\nmain cancel", 2),
+    (b"var a\nmain cancel b", 2),
+    (b"var a\nmain cancel a 1", 2),
+    (b"var a\nafter", 2),
+    (b"var a\nafter a", 2),
+    (b"var a\nafter b stop a", 2),
+    (b"var a\nafter a stop b", 2),
+    (b"after a stop a\nvar a", 1),
+    (b"var a\nafter a @4294967296 stop a", 2),
+    (b"var a\nafter a run default", 2),
+    (b"var a\nafter a closeloop", 2),
 ];
 
 #[test]
@@ -300,7 +391,14 @@ fn limits_names_and_lines(rt: HostRuntime) -> Result<(), Fail> {
 fn writes_ops(rt: HostRuntime) -> Result<(), Fail> {
     let script = Script::parse(rt.alloc(), b"var a\nvar b")?;
     let mut text = Vec::new(rt.alloc());
+    for (rounds, of_task) in [(1, b"".as_slice()), (1000, b" a  b ")] {
+        if let Some(task) = Task::new(rounds, of_task) {
+            Op::Queue(Var(1), task).push_text(&mut text, script.names())?;
+            text.push(b';')?;
+        }
+    }
     for op in [
+        Op::Cancel(Var(0)),
         Op::Init(Var(1), Kind::Timer),
         Op::Start(Var(0), 0, u64::MAX),
         Op::StartWatcher(Var(1)),
@@ -323,9 +421,35 @@ fn writes_ops(rt: HostRuntime) -> Result<(), Fail> {
     }
     script.names().push_name(&mut text, Var(0))?;
     let want =
-        b"init b timer;start a 0 18446744073709551615;start b;stop b;again a;repeat a 10;due a;ref a;unref a;\
+        b"queue b 1;queue b 1000  a  b ;cancel a;init b timer;start a 0 18446744073709551615;start b;stop b;again a;repeat a 10;due a;ref a;unref a;\
         hasref b;active b;stoploop;updatetime;now;alive;timeout;a";
     assert_eq!(rt; text.as_slice(), want.as_slice());
+    Ok(())
+}
+
+/// Scripts, and the texts of what was read.
+const TEXTS: [(&[u8], &[u8]); 3] = [
+    (b"", b"workers 4\nslots 1024 4294967295\n"),
+    (
+        b"slots 7\nvar a\nworkers 2\nmain run default",
+        b"workers 2\nslots 7 4294967295\nvar a\nmain run default\n",
+    ),
+    (
+        b"var w\n# a comment\nclosed w now\nmain queue w 2  a \nvar t\non t @3 start t 5 0\nslots 65535 0\n\n\
+        after w @1 cancel w\nmain run once\non w alive\non t close t\nmain closeloop\nafter w queue w 1000",
+        b"workers 4\nslots 65535 0\nvar w\nvar t\nmain queue w 2  a \nmain run once\nmain closeloop\n\
+        on w alive\nafter w @1 cancel w\nafter w queue w 1000\nclosed w now\non t @3 start t 5 0\non t close t\n",
+    ),
+];
+
+#[test]
+fn writes_scripts(rt: HostRuntime) -> Result<(), Fail> {
+    for (case, (written, want)) in TEXTS.iter().enumerate() {
+        let text = Script::parse(rt.alloc(), *written)?.text()?;
+        assert_eq!(rt; text.as_slice(), *want, "case {case}");
+        let again = Script::parse(rt.alloc(), &text)?.text()?;
+        assert_eq!(rt; again.as_slice(), *want, "case {case}, read back");
+    }
     Ok(())
 }
 
@@ -339,6 +463,9 @@ fn reads_the_parts_of_lines(rt: HostRuntime) {
     assert_eq!(rt; fields.next(), Some(b"".as_slice()));
     assert_eq!(rt; fields.next(), Some(b"1".as_slice()));
     assert_eq!(rt; fields.next(), None);
+    let mut fields = Fields::of(b"a  b ");
+    assert_eq!(rt; fields.next(), Some(b"a".as_slice()));
+    assert_eq!(rt; fields.rest(), Some(b" b ".as_slice()));
     assert!(rt; is_line(b" ~") && !is_line(b"\n"));
     assert!(rt; is_skipped(b"") && is_skipped(b"# a") && !is_skipped(b" #") && !is_skipped(b"a"));
     assert!(rt; is_name(b"a_9z") && !is_name(b"_a"));

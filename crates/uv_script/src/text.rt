@@ -1,12 +1,18 @@
 //! The text of a script's parts.
-ghost use Rattle.std.specs.Prelude.{◌≡◌, ◌++◌, decimal, OnOk};
-ghost use Rattle.uv_script.specs.Text.{op_text, name_text};
+ghost use Rattle.std.specs.Prelude.{◌≡◌, ◌++◌, ◌∷◌, [], map, decimal, OnOk, IfOk, IfErr};
+ghost use Rattle.uv_ids.specs.declared.fault.Fault.TheVariants.{Memory};
+ghost use Rattle.uv_script.specs.Laws.{IsReadBack};
+ghost use Rattle.uv_script.specs.Program.{arena_size, worker_count};
+ghost use Rattle.uv_script.specs.declared.op.Op.TheVariants.{Start, Queue};
+ghost use Rattle.uv_script.specs.Text.{op_text, name_text, task_text, workers_line, slots_line, var_line, main_line, call_text, front_text, callback_line, name_lines, callback_lines, lines_text, script_text};
 
 use crate::names::Names;
-use crate::op::Op;
+use crate::op::{CallbackLine, MainOp, Op};
+use crate::script::Script;
+use crate::task::Task;
 use itoa::Buffer;
 use std::alloc::AllocError;
-use uv_ids::Var;
+use uv_ids::{Callback, Fault, Var};
 
 /// Writes a number at the end of a text, in decimal digits.
 pub fn push_number(text: &mut Vec<u8>, number: u64) -> Result<(), AllocError>
@@ -14,6 +20,17 @@ pub fn push_number(text: &mut Vec<u8>, number: u64) -> Result<(), AllocError>
 {
     let mut buffer = Buffer::new();
     text.extend_from_slice(buffer.format(number).as_bytes())
+}
+
+/// Writes the text of a task at the end of a text, behind a space; nothing where it is empty.
+pub fn push_task_text(text: &mut Vec<u8>, of_task: &[u8]) -> Result<(), AllocError>
+    ensures { OnOk result (text.new.items ≡ text.old.items ++ task_text of_task.now) }
+{
+    if of_task.is_empty() {
+        return Ok(());
+    }
+    text.extend_from_slice(b" ")?;
+    text.extend_from_slice(of_task)
 }
 
 impl Names {
@@ -34,6 +51,33 @@ impl Names {
         text.extend_from_slice(word)?;
         self.push_name(text, name)
     }
+
+    /// Writes a timer's start.
+    fn push_start(
+        &self,
+        text: &mut Vec<u8>,
+        name: Var,
+        timeout: u64,
+        repeat: u64,
+    ) -> Result<(), AllocError>
+        ensures { OnOk result (text.new.items ≡ text.old.items ++ op_text self.now (Start name timeout repeat)) }
+    {
+        self.push_named(text, b"start ", name)?;
+        text.extend_from_slice(b" ")?;
+        push_number(text, timeout)?;
+        text.extend_from_slice(b" ")?;
+        push_number(text, repeat)
+    }
+
+    /// Writes the op that asks for work.
+    fn push_queue(&self, text: &mut Vec<u8>, name: Var, task: Task) -> Result<(), AllocError>
+        ensures { OnOk result (text.new.items ≡ text.old.items ++ op_text self.now (Queue name task)) }
+    {
+        self.push_named(text, b"queue ", name)?;
+        text.extend_from_slice(b" ")?;
+        push_number(text, task.rounds() as u64)?;
+        push_task_text(text, task.text())
+    }
 }
 
 impl Op {
@@ -47,13 +91,7 @@ impl Op {
                 text.extend_from_slice(b" ")?;
                 text.extend_from_slice(kind.word().as_bytes())
             }
-            Op::Start(name, timeout, repeat) => {
-                names.push_named(text, b"start ", name)?;
-                text.extend_from_slice(b" ")?;
-                push_number(text, timeout)?;
-                text.extend_from_slice(b" ")?;
-                push_number(text, repeat)
-            }
+            Op::Start(name, timeout, repeat) => names.push_start(text, name, timeout, repeat),
             Op::SetRepeat(name, repeat) => {
                 names.push_named(text, b"repeat ", name)?;
                 text.extend_from_slice(b" ")?;
@@ -70,6 +108,8 @@ impl Op {
             Op::Close(name) => names.push_named(text, b"close ", name),
             Op::IsClosing(name) => names.push_named(text, b"closing ", name),
             Op::Send(name) => names.push_named(text, b"send ", name),
+            Op::Queue(name, task) => names.push_queue(text, name, task),
+            Op::Cancel(name) => names.push_named(text, b"cancel ", name),
             Op::CloseLoop => text.extend_from_slice(b"closeloop"),
             Op::StopLoop => text.extend_from_slice(b"stoploop"),
             Op::UpdateTime => text.extend_from_slice(b"updatetime"),
@@ -77,5 +117,178 @@ impl Op {
             Op::IsAlive => text.extend_from_slice(b"alive"),
             Op::Timeout => text.extend_from_slice(b"timeout"),
         }
+    }
+}
+
+impl MainOp {
+    /// Writes the line of the main program.
+    fn push_line(self, text: &mut Vec<u8>, names: &Names) -> Result<(), AllocError>
+        ensures { OnOk result (text.new.items ≡ text.old.items ++ main_line names.now self) }
+    {
+        match self {
+            MainOp::Op(op) => {
+                text.extend_from_slice(b"main ")?;
+                op.push_text(text, names)
+            }
+            MainOp::Run(mode) => {
+                text.extend_from_slice(b"main run ")?;
+                text.extend_from_slice(mode.word().as_bytes())
+            }
+        }
+    }
+}
+
+/// The word of a callback's lines, with the space behind it.
+fn front(kind: Callback) -> &'static [u8]
+    ensures { result.now ≡ front_text kind }
+{
+    match kind {
+        Callback::Handle => b"on ",
+        Callback::After => b"after ",
+        Callback::Close => b"closed ",
+    }
+}
+
+impl CallbackLine {
+    /// Writes the op, behind the call that it is for.
+    fn push_op(self, text: &mut Vec<u8>, names: &Names) -> Result<(), AllocError>
+        ensures { OnOk result (text.new.items ≡ text.old.items ++ call_text self.call (op_text names.now self.op)) }
+    {
+        if let Some(call) = self.call {
+            text.extend_from_slice(b"@")?;
+            push_number(text, call as u64)?;
+            text.extend_from_slice(b" ")?;
+        }
+        self.op.push_text(text, names)
+    }
+
+    /// Writes the line of a name's callback.
+    fn push_line(
+        self,
+        text: &mut Vec<u8>,
+        names: &Names,
+        kind: Callback,
+        name: Var,
+    ) -> Result<(), AllocError>
+        ensures { OnOk result (text.new.items ≡ text.old.items ++ callback_line names.now kind name self) }
+    {
+        names.push_named(text, front(kind), name)?;
+        text.extend_from_slice(b" ")?;
+        self.push_op(text, names)
+    }
+}
+
+/// Writes the lines of the main program.
+fn push_main(text: &mut Vec<u8>, names: &Names, main: &[MainOp]) -> Result<(), AllocError>
+    ensures { OnOk result (text.new.items ≡ text.old.items ++ lines_text (map (main_line names.now) main.now)) }
+{
+    for op in main {
+        op.push_line(text, names)?;
+        text.extend_from_slice(b"\n")?;
+    }
+    Ok(())
+}
+
+/// Writes the lines of a name's callback.
+fn push_callback(
+    text: &mut Vec<u8>,
+    names: &Names,
+    kind: Callback,
+    name: Var,
+    lines: &[CallbackLine],
+) -> Result<(), AllocError>
+    ensures { OnOk result (text.new.items ≡ text.old.items ++ lines_text (map (callback_line names.now kind name) lines.now)) }
+{
+    for line in lines {
+        line.push_line(text, names, kind, name)?;
+        text.extend_from_slice(b"\n")?;
+    }
+    Ok(())
+}
+
+impl Names {
+    /// Writes the declarations.
+    fn push_declarations(&self, text: &mut Vec<u8>) -> Result<(), AllocError>
+        ensures { OnOk result (text.new.items ≡ text.old.items ++ lines_text (map var_line self.now)) }
+    {
+        for number in 0..self.len() {
+            self.push_named(text, b"var ", Var(number as u32))?;
+            text.extend_from_slice(b"\n")?;
+        }
+        Ok(())
+    }
+}
+
+impl Script {
+    /// The script as a text, which says how large the arena is and how many workers there are: the lines `workers` and
+    /// `slots`, the names, the main program, and then for each name the lines of its callbacks. Such a text is read
+    /// back as this script.
+    pub fn text(&self) -> Result<Vec<u8>, Fault>
+        ensures text { IfOk result (λ text. text.items ≡ script_text self.now) }
+        ensures err { IfErr result (λ fault. fault ≡ Memory) }
+        ensures read_back { IsReadBack self.now }
+    {
+        let main = self.main();
+        let mut text = Vec::new(self.allocator());
+        self.push_settings(&mut text)?;
+        self.names().push_declarations(&mut text)?;
+        push_main(&mut text, self.names(), main)?;
+        self.push_callbacks(&mut text)?;
+        Ok(text)
+    }
+
+    /// Writes how many workers there are.
+    fn push_workers(&self, text: &mut Vec<u8>) -> Result<(), AllocError>
+        ensures { OnOk result (text.new.items ≡ text.old.items ++ workers_line (worker_count self.now)) }
+    {
+        text.extend_from_slice(b"workers ")?;
+        push_number(text, self.workers() as u64)
+    }
+
+    /// Writes how large the arena is.
+    fn push_slots(&self, text: &mut Vec<u8>) -> Result<(), AllocError>
+        ensures { OnOk result (text.new.items ≡ text.old.items ++ slots_line (arena_size self.now)) }
+    {
+        let size = self.arena_size();
+        text.extend_from_slice(b"slots ")?;
+        push_number(text, size.slots as u64)?;
+        text.extend_from_slice(b" ")?;
+        push_number(text, size.last_generation as u64)
+    }
+
+    /// Writes the lines of both.
+    fn push_settings(&self, text: &mut Vec<u8>) -> Result<(), AllocError>
+        ensures { OnOk result (text.new.items
+            ≡ text.old.items ++ lines_text (workers_line (worker_count self.now) ∷ slots_line (arena_size self.now) ∷ [])) }
+    {
+        self.push_workers(text)?;
+        text.extend_from_slice(b"\n")?;
+        self.push_slots(text)?;
+        text.extend_from_slice(b"\n")?;
+        Ok(())
+    }
+
+    /// Writes the lines of all callbacks of a name.
+    fn push_callbacks_of(&self, text: &mut Vec<u8>, name: Var) -> Result<(), AllocError>
+        ensures { OnOk result (text.new.items ≡ text.old.items ++ lines_text (name_lines self.now name)) }
+    {
+        let names = self.names();
+        let handle = self.lines_in(Callback::Handle, name);
+        push_callback(text, names, Callback::Handle, name, handle)?;
+        let after = self.lines_in(Callback::After, name);
+        push_callback(text, names, Callback::After, name, after)?;
+        let close = self.lines_in(Callback::Close, name);
+        push_callback(text, names, Callback::Close, name, close)?;
+        Ok(())
+    }
+
+    /// Writes the lines of all callbacks.
+    fn push_callbacks(&self, text: &mut Vec<u8>) -> Result<(), AllocError>
+        ensures { OnOk result (text.new.items ≡ text.old.items ++ lines_text (callback_lines self.now 0 self.now.names)) }
+    {
+        for number in 0..self.names().len() {
+            self.push_callbacks_of(text, Var(number as u32))?;
+        }
+        Ok(())
     }
 }

@@ -4,6 +4,7 @@ use Rattle.std.specs.List.{list_any}
 use Rattle.uv_ids.specs.declared.id.Var.{Var}
 use Rattle.uv_ids.specs.declared.code.Code.{Code}
 use Rattle.uv_ids.specs.declared.code.Code.TheVariants as code
+use Rattle.uv_ids.specs.declared.code.Answer.{Answer}
 use Rattle.uv_ids.specs.declared.code.Answer.TheVariants as answer
 use Rattle.uv_ids.specs.declared.fault.Fault.{Fault}
 use Rattle.uv_ids.specs.declared.fault.Fault.TheVariants as fault
@@ -41,12 +42,22 @@ same_phase a b = false
 -- the line begins a callback of this name
 abbrev pub calls_name : Var → Seen → Bool
 calls_name v (seen.Call u id) = u.0 == v.0
+calls_name v (seen.After digest u id) = u.0 == v.0
 calls_name v (seen.Closed u id) = u.0 == v.0
 calls_name v l = false
 
--- the line answers this code, to an op or to a step from outside
+-- the answer is printed as this code; a cancel that succeeds is printed as `ok`
+abbrev pub is_code : Code → Answer → Bool
+is_code c (answer.Code d) = same_code d c
+is_code c (answer.Cancelled id) = same_code code.Ok c
+is_code c a = false
+
+-- the line answers this code: to an op, to a step from outside, or to the after callback of a request
 abbrev pub answers_code : Code → Seen → Bool
-answers_code c (seen.Op place (answer.Code d)) = same_code d c
+answers_code c (seen.Op place a) = is_code c a
+answers_code c (seen.After (Some digest) v id) = same_code code.Ok c
+answers_code c (seen.After None v id) = same_code code.Ecanceled c
+answers_code c (seen.Cancel v a) = is_code c a
 answers_code c (seen.Send v d) = same_code d c
 answers_code c l = false
 

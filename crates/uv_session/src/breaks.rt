@@ -1,16 +1,16 @@
 //! Where a run is to stop, and where it stopped.
 ghost use Rattle.std.specs.Prelude.{◌≡◌};
 ghost use Rattle.std.specs.List.{list_any};
-ghost use Rattle.uv_session.specs.Breaks.{calls_name, answers_code, begins_section, matches, stops, stop_of, same_code, same_phase};
+ghost use Rattle.uv_session.specs.Breaks.{calls_name, is_code, answers_code, begins_section, matches, stops, stop_of, same_code, same_phase};
 
 use uv_ids::{Answer, Code, Fault, Phase, Seen, Var, Why};
 
 /// Where a run is to stop (own). A step matches by the line that it appended.
 #[derive(Clone, Copy, Debug, PartialEq, Eq)]
 pub enum Break {
-    /// A callback of this name: that of its handle, or that of its close.
+    /// A callback of this name: that of its handle, that of its request, or that of its close.
     Call(Var),
-    /// A line that answers this code, to an op of the script or to a step from outside.
+    /// A line that answers this code: to an op of the script, to a step from outside, or to an after callback.
     Code(Code),
     /// The beginning of this section.
     Section(Phase),
@@ -36,9 +36,9 @@ impl Break {
     {
         match (self, line) {
             (Break::Call(name), Seen::Call(called, _)) => called.0 == name.0,
+            (Break::Call(name), Seen::After(_, called, _)) => called.0 == name.0,
             (Break::Call(name), Seen::Closed(called, _)) => called.0 == name.0,
-            (Break::Code(code), Seen::Op(_, Answer::Code(answered))) => is_code(answered, code),
-            (Break::Code(code), Seen::Send(_, answered)) => is_code(answered, code),
+            (Break::Code(code), line) => answers_code(line, code),
             (Break::Section(word), Seen::Section(begun)) => is_phase(begun, word),
             (Break::Poll, Seen::Poll(_)) => true,
             _ => false,
@@ -46,8 +46,33 @@ impl Break {
     }
 }
 
+/// Whether a line answers this code.
+fn answers_code(line: Seen, code: Code) -> bool
+    ensures { result ≡ answers_code code line }
+{
+    match line {
+        Seen::Op(_, answer) => is_code(answer, code),
+        Seen::After(Some(_), _, _) => same_code(Code::Ok, code),
+        Seen::After(None, _, _) => same_code(Code::Ecanceled, code),
+        Seen::Cancel(_, answer) => is_code(answer, code),
+        Seen::Send(_, answered) => same_code(answered, code),
+        _ => false,
+    }
+}
+
+/// Whether an answer is printed as this code.
+fn is_code(answer: Answer, code: Code) -> bool
+    ensures { result ≡ is_code code answer }
+{
+    match answer {
+        Answer::Code(answered) => same_code(answered, code),
+        Answer::Cancelled(_) => same_code(Code::Ok, code),
+        _ => false,
+    }
+}
+
 /// Whether one code is the other.
-fn is_code(one: Code, other: Code) -> bool
+fn same_code(one: Code, other: Code) -> bool
     ensures { result ≡ same_code one other }
 {
     one == other

@@ -1,9 +1,18 @@
 -- The tests of the code decide which commands there are.
-use Rattle.std.proofs.Common.{if◌then◌else◌, Bool, ◌≡◌, ℕ, List, [], ◌∷◌, true, false, ◌&&◌, nat_le, Option, Some, None, option_map}
-use Rattle.std.proofs.Common.{codes, refl, ap, sym, ◌∙◌, arith}
+use Rattle.std.proofs.Common.{if◌then◌else◌, Bool, ◌≡◌, ℕ, ◌≤◌, List, [], ◌∷◌, true, false, ◌&&◌, nat_le, Option, Some, None, option_map}
+use Rattle.std.proofs.Common.{codes, refl, ap, sym, ◌∙◌}
 use Rattle.std.specs.Str.{bytes_eq}
 use Rattle.std.proofs.lemmas.Slice.Eq.{bytes_eq-Decides}
-use Rattle.std.proofs.lemmas.Bool.{and_parts, and_from, cond_both, leb-true, le-leb, both_ways}
+use Rattle.std.proofs.lemmas.Option.{same_Some}
+use Rattle.std.proofs.lemmas.Bool.{and_parts, cond_both, leb-true, le-leb, both_ways}
+use Rattle.uv_ids.specs.declared.id.Var.{Var}
+use Rattle.uv_ids.specs.declared.code.Code.{Code}
+use Rattle.uv_ids.specs.declared.code.Code.TheVariants as code
+use Rattle.uv_ids.specs.declared.event.Event.{Event}
+use Rattle.uv_ids.specs.declared.event.Event.TheVariants.{Take, Finish, Cancel, Send, Tick}
+use Rattle.uv_ids.specs.declared.phase.Phase.{Phase}
+use Rattle.uv_ids.specs.declared.phase.Phase.TheVariants as phase
+use Rattle.uv_ids.specs.Words.{code_word, phase_word}
 use Rattle.uv_script.specs.Lines.{fields_of}
 use Rattle.uv_script.specs.Words.{IsNumber, IsDeclared}
 use Rattle.uv_script.specs.Checks.{is_line, is_skipped, number_of}
@@ -12,232 +21,374 @@ use Rattle.uv_script.proofs.Checks.{is_line_decides, is_skipped_decides, number_
 use Rattle.uv_script.specs.Reading.{place_of}
 use Rattle.uv_script.proofs.Places.{place_of-sound, place_of-finds}
 use Rattle.uv_script.proofs.Agrees.{AreDistinct, declared_contains, place_complete}
-use Rattle.uv_ids.specs.declared.id.Var.{Var}
+use Rattle.uv_session.specs.declared.breaks.Break.{Break}
+use Rattle.uv_session.specs.declared.breaks.Break.TheVariants as at
 use Rattle.uv_text.specs.declared.command.Command.{Command}
-use Rattle.uv_text.specs.declared.command.Command.TheVariants.{Loop, Send, Back}
+use Rattle.uv_text.specs.declared.command.Command.TheVariants.{Loop, Step, Back, Forward, AddBreak}
 use Rattle.uv_text.specs.declared.command.Asked.{Asked}
 use Rattle.uv_text.specs.declared.command.Asked.TheVariants.{Nothing, Bad}
-use Rattle.uv_text.specs.Commands.{IsCommand, IsNoCommand, one_step, steps, tick, send, back, trace, quit, Asks, nothing, command, bad, MOST}
-use Rattle.uv_text.specs.Reading.{command_alone, command_by, command_with, command_of, asked_for, asked_of}
-
--- what was found for the fields is right
-abbrev Tells : List (List ℕ) → List (List ℕ) → Option Command → Type 0
-Tells names fields (Some c) = IsCommand names fields c
-Tells names fields None = IsNoCommand names fields
+use Rattle.uv_text.specs.Commands as is
+use Rattle.uv_text.specs.Commands.{IsBreak, IsStep, IsCommand, IsNoCommand, Asks, nothing, command, bad, MOST, LAST_WORKER}
+use Rattle.uv_text.specs.Reading.{code_of, phase_of, section_of, break_of, command_alone, worker_step, step_by, command_by, clears, command_with, command_with_two, command_of, asked_for, asked_of}
 
 same : (a b : List ℕ) → bytes_eq a b ≡ true → a ≡ b
 same a b e = (bytes_eq-Decides a b).0 e
 
-other : (a b : List ℕ) → bytes_eq a b ≡ false → a ≡ b → ⊥
-other a b e h = both_ways (bytes_eq a b) e ((bytes_eq-Decides a b).1 h)
+-- ---- words of codes and sections
 
-first : {a b : List ℕ} {xs ys : List (List ℕ)} → a ∷ xs ≡ b ∷ ys → a ≡ b
-first e = cc e
+-- what was found for a word is named by it
+abbrev IsOf : {A : Type 0} → (A → List ℕ) → List ℕ → Option A → Type 0
+IsOf named word (Some x) = word ≡ named x
+IsOf named word None = Unit {0}
 
-second : {a b c d : List ℕ} {xs ys : List (List ℕ)} → a ∷ b ∷ xs ≡ c ∷ d ∷ ys → b ≡ d
-second e = cc e
+code_right : (word : List ℕ) → IsOf code_word word (code_of word)
+unfolding code_of
+code_right word =
+    let P : Option Code → Type 0 = IsOf code_word word in
+    cond_both (bytes_eq word (codes "ok")) _ _ P (λ a. same _ _ a)
+    (λ _. cond_both (bytes_eq word (codes "EINVAL")) _ _ P (λ a. same _ _ a)
+    (λ _. cond_both (bytes_eq word (codes "EBUSY")) _ _ P (λ a. same _ _ a)
+    (λ _. cond_both (bytes_eq word (codes "ECANCELED")) _ _ P (λ a. same _ _ a)
+    (λ _. cond_both (bytes_eq word (codes "EBOUND")) _ _ P (λ a. same _ _ a)
+    (λ _. cond_both (bytes_eq word (codes "EFULL")) _ _ P (λ a. same _ _ a)
+    (λ _. cond_both (bytes_eq word (codes "ESTALE")) _ _ P (λ a. same _ _ a)
+    (λ _. cond_both (bytes_eq word (codes "EKIND")) _ _ P (λ a. same _ _ a) (λ _. tt))))))))
 
--- ---- a word alone
-none_alone : (names : List (List ℕ)) (word : List ℕ) → bytes_eq word (codes "loop") ≡ false
-    → bytes_eq word (codes "trace") ≡ false → bytes_eq word (codes "quit") ≡ false
-    → IsNoCommand names (word ∷ [])
-none_alone names word a b d c (one_step e) = other _ _ a (first e)
-none_alone names word a b d c (steps number n e h l m) = cc e
-none_alone names word a b d c (tick number ms e h) = cc e
-none_alone names word a b d c (send name v e held) = cc e
-none_alone names word a b d c (back number n e h l) = cc e
-none_alone names word a b d c (trace e) = other _ _ b (first e)
-none_alone names word a b d c (quit e) = other _ _ d (first e)
+code_found : (c : Code) → code_of (code_word c) ≡ Some c
+unfolding code_of
+code_found code.Ok = refl
+code_found code.Einval = refl
+code_found code.Ebusy = refl
+code_found code.Ecanceled = refl
+code_found code.Ebound = refl
+code_found code.Efull = refl
+code_found code.Estale = refl
+code_found code.Ekind = refl
 
-alone_tells : (names : List (List ℕ)) (word : List ℕ) → Tells names (word ∷ []) (command_alone word)
-alone_tells names word =
-    let P : Option Command → Type 0 = Tells names (word ∷ []) in
-    cond_both (bytes_eq word (codes "loop")) _ _ P (λ a. one_step (ap (λ (w : List ℕ). w ∷ []) (same _ _ a)))
-    (λ a. cond_both (bytes_eq word (codes "trace")) _ _ P (λ b. trace (ap (λ (w : List ℕ). w ∷ []) (same _ _ b)))
-    (λ b. cond_both (bytes_eq word (codes "quit")) _ _ P (λ d. quit (ap (λ (w : List ℕ). w ∷ []) (same _ _ d)))
-    (λ d. none_alone names word a b d)))
+phase_right : (word : List ℕ) → IsOf phase_word word (phase_of word)
+unfolding phase_of
+phase_right word =
+    let P : Option Phase → Type 0 = IsOf phase_word word in
+    cond_both (bytes_eq word (codes "pending")) _ _ P (λ a. same _ _ a)
+    (λ _. cond_both (bytes_eq word (codes "idle")) _ _ P (λ a. same _ _ a)
+    (λ _. cond_both (bytes_eq word (codes "prepare")) _ _ P (λ a. same _ _ a)
+    (λ _. cond_both (bytes_eq word (codes "done")) _ _ P (λ a. same _ _ a)
+    (λ _. cond_both (bytes_eq word (codes "async")) _ _ P (λ a. same _ _ a)
+    (λ _. cond_both (bytes_eq word (codes "check")) _ _ P (λ a. same _ _ a)
+    (λ _. cond_both (bytes_eq word (codes "closing")) _ _ P (λ a. same _ _ a)
+    (λ _. cond_both (bytes_eq word (codes "timers")) _ _ P (λ a. same _ _ a) (λ _. tt))))))))
 
--- ---- a word with a number
-none_without : (names : List (List ℕ)) (word argument : List ℕ) → bytes_eq word (codes "send") ≡ false → number_of argument ≡ None
-    → IsNoCommand names (word ∷ argument ∷ [])
-none_without names word argument x z c (one_step e) = cc e
-none_without names word argument x z c (steps number n e h l m) = let same_number : number ≡ argument = sym (second e) in cc
-    (number_of-complete number n h, ap number_of same_number, z)
-none_without names word argument x z c (tick number ms e h) = let same_number : number ≡ argument = sym (second e) in cc
-    (number_of-complete number ms h, ap number_of same_number, z)
-none_without names word argument x z c (send name v e held) = other _ _ x (first e)
-none_without names word argument x z c (back number n e h l) = let same_number : number ≡ argument = sym (second e) in cc
-    (number_of-complete number n h, ap number_of same_number, z)
-none_without names word argument x z c (trace e) = cc e
-none_without names word argument x z c (quit e) = cc e
+section_found : (x : Phase) → section_of (phase_word x) ≡ Some (at.Section x)
+unfolding phase_of
+section_found phase.Pending = refl
+section_found phase.Idle = refl
+section_found phase.Prepare = refl
+section_found phase.Done = refl
+section_found phase.Async = refl
+section_found phase.Check = refl
+section_found phase.Closing = refl
+section_found phase.Timers = refl
 
--- the number of a command's argument is the one that was read
-same_value : (number argument : List ℕ) (m n : ℕ) → number ≡ argument → IsNumber number m → IsNumber argument n → m ≡ n
-same_value number argument m n e h k = let x = number_of-complete number m h in let y = number_of-complete argument n k in let z = ap number_of e in
-    cc (x, y, z)
+-- ---- what is read is so
 
-none_loops : (names : List (List ℕ)) (word argument : List ℕ) (n : ℕ) → word ≡ codes "loop" → IsNumber argument n
-    → (nat_le 1 n && nat_le n MOST) ≡ false
-    → IsNoCommand names (word ∷ argument ∷ [])
-none_loops names word argument n w k z c (one_step e) = cc e
-none_loops names word argument n w k z c (steps number m e h l u) =
-    let same_n = same_value number argument m n (sym (second e)) h k in
-    both_ways _ z (and_from _ _ (le-leb 1 n (omega arith)) (le-leb n MOST (omega arith)))
-none_loops names word argument n w k z c (tick number ms e h) = other (codes "loop") (codes "tick") refl (sym w ∙ first e)
-none_loops names word argument n w k z c (send name v e held) = other (codes "loop") (codes "send") refl (sym w ∙ first e)
-none_loops names word argument n w k z c (back number m e h l) = other (codes "loop") (codes "back") refl (sym w ∙ first e)
-none_loops names word argument n w k z c (trace e) = cc e
-none_loops names word argument n w k z c (quit e) = cc e
+-- what was found for the fields is right
+abbrev Right : List (List ℕ) → List (List ℕ) → Option Command → Type 0
+Right names fields (Some c) = IsCommand names fields c
+Right names fields None = Unit {0}
 
-none_back : (names : List (List ℕ)) (word argument : List ℕ) (n : ℕ) → word ≡ codes "back" → IsNumber argument n
-    → nat_le n MOST ≡ false → IsNoCommand names (word ∷ argument ∷ [])
-none_back names word argument n w k z c (one_step e) = cc e
-none_back names word argument n w k z c (steps number m e h l u) = other (codes "back") (codes "loop") refl (sym w ∙ first e)
-none_back names word argument n w k z c (tick number ms e h) = other (codes "back") (codes "tick") refl (sym w ∙ first e)
-none_back names word argument n w k z c (send name v e held) = other (codes "back") (codes "send") refl (sym w ∙ first e)
-none_back names word argument n w k z c (back number m e h l) = let same_n = same_value number argument m n (sym (second e)) h k in both_ways _ z
-    (le-leb n MOST (omega arith))
-none_back names word argument n w k z c (trace e) = cc e
-none_back names word argument n w k z c (quit e) = cc e
-
-none_with : (names : List (List ℕ)) (word argument : List ℕ) → bytes_eq word (codes "send") ≡ false
-    → bytes_eq word (codes "loop") ≡ false → bytes_eq word (codes "tick") ≡ false
-    → bytes_eq word (codes "back") ≡ false → IsNoCommand names (word ∷ argument ∷ [])
-none_with names word argument x a b d c (one_step e) = cc e
-none_with names word argument x a b d c (steps number n e h l u) = other _ _ a (first e)
-none_with names word argument x a b d c (tick number ms e h) = other _ _ b (first e)
-none_with names word argument x a b d c (send name v e held) = other _ _ x (first e)
-none_with names word argument x a b d c (back number n e h l) = other _ _ d (first e)
-none_with names word argument x a b d c (trace e) = cc e
-none_with names word argument x a b d c (quit e) = cc e
+alone : (word first : List ℕ) → word ≡ first → word ∷ [] ≡ first ∷ []
+alone word first e = ap (λ (w : List ℕ). w ∷ []) e
 
 pair : (word argument first : List ℕ) → word ≡ first → word ∷ argument ∷ [] ≡ first ∷ argument ∷ []
 pair word argument first e = ap (λ (w : List ℕ). w ∷ argument ∷ []) e
 
-by_tells : (names : List (List ℕ)) (word argument : List ℕ) (r : Option ℕ) → bytes_eq word (codes "send") ≡ false → number_of argument ≡ r
-    → Tells names (word ∷ argument ∷ []) (command_by word r)
-by_tells names word argument None x z = none_without names word argument x z
-by_tells names word argument (Some n) x z =
-    let P : Option Command → Type 0 = Tells names (word ∷ argument ∷ []) in
+alone_right : (names : List (List ℕ)) (word : List ℕ) → Right names (word ∷ []) (command_alone word)
+alone_right names word =
+    let P : Option Command → Type 0 = Right names (word ∷ []) in
+    cond_both (bytes_eq word (codes "loop")) _ _ P (λ a. is.one_step (alone word _ (same _ _ a)))
+    (λ _. cond_both (bytes_eq word (codes "rback")) _ _ P (λ a. is.back_to_break (alone word _ (same _ _ a)))
+    (λ _. cond_both (bytes_eq word (codes "trace")) _ _ P (λ a. is.trace (alone word _ (same _ _ a)))
+    (λ _. cond_both (bytes_eq word (codes "state")) _ _ P (λ a. is.state (alone word _ (same _ _ a)))
+    (λ _. cond_both (bytes_eq word (codes "quit")) _ _ P (λ a. is.quit (alone word _ (same _ _ a))) (λ _. tt)))))
+
+-- what was found for a word and what follows it is right
+abbrev RightStep : List (List ℕ) → List ℕ → List ℕ → Option Event → Type 0
+RightStep names word argument (Some e) = IsStep names word argument e
+RightStep names word argument None = Unit {0}
+
+worker_right : (names : List (List ℕ)) (word argument : List ℕ) (n : ℕ) → IsNumber argument n → n ≤ LAST_WORKER →
+    RightStep names word argument (worker_step word n)
+worker_right names word argument n k l =
+    let P : Option Event → Type 0 = RightStep names word argument in
+    cond_both (bytes_eq word (codes "take")) _ _ P (λ a. is.take n (same _ _ a) k l)
+    (λ _. cond_both (bytes_eq word (codes "finish")) _ _ P (λ a. is.finish n (same _ _ a) k l) (λ _. tt))
+
+step_right : (names : List (List ℕ)) (word argument : List ℕ) (n : ℕ) → IsNumber argument n → RightStep names word argument (step_by word n)
+step_right names word argument n k =
+    let P : Option Event → Type 0 = RightStep names word argument in
+    cond_both (bytes_eq word (codes "tick")) _ _ P (λ a. is.tick n (same _ _ a) k)
+    (λ _. cond_both (nat_le n LAST_WORKER) (worker_step word n) None P (λ u. worker_right names word argument n k (leb-true n LAST_WORKER u))
+    (λ _. tt))
+
+steps_right : (names : List (List ℕ)) (word argument : List ℕ) (o : Option Event) → RightStep names word argument o →
+    Right names (word ∷ argument ∷ []) (option_map Step o)
+steps_right names word argument None h = tt
+steps_right names word argument (Some e) h = is.step word argument e refl h
+
+by_right : (names : List (List ℕ)) (word argument : List ℕ) (r : Option ℕ) → number_of argument ≡ r →
+    Right names (word ∷ argument ∷ []) (command_by word r)
+by_right names word argument None z = tt
+by_right names word argument (Some n) z =
+    let P : Option Command → Type 0 = Right names (word ∷ argument ∷ []) in
     let k = number_of-sound argument n z in
     cond_both (bytes_eq word (codes "loop")) _ _ P
     (λ a. cond_both (nat_le 1 n && nat_le n MOST) (Some (Loop n)) None P
-    (λ u. let parts = and_parts _ _ u in steps argument n (pair word argument _ (same _ _ a)) k (leb-true 1 n parts.0) (leb-true n MOST parts.1))
-    (λ u. none_loops names word argument n (same _ _ a) k u))
-    (λ a. cond_both (bytes_eq word (codes "tick")) _ _ P (λ b. tick argument n (pair word argument _ (same _ _ b)) k)
-    (λ b. cond_both (bytes_eq word (codes "back")) _ _ P
-    (λ d. cond_both (nat_le n MOST) (Some (Back n)) None P
-    (λ u. back argument n (pair word argument _ (same _ _ d)) k (leb-true n MOST u))
-    (λ u. none_back names word argument n (same _ _ d) k u))
-    (λ d. none_with names word argument x a b d)))
+    (λ u. let parts = and_parts _ _ u in is.steps argument n (pair word argument _ (same _ _ a)) k (leb-true 1 n parts.0) (leb-true n MOST parts.1))
+    (λ _. tt))
+    (λ _. cond_both (bytes_eq word (codes "back")) _ _ P
+    (λ a. cond_both (nat_le n MOST) (Some (Back n)) None P
+    (λ u. is.back argument n (pair word argument _ (same _ _ a)) k (leb-true n MOST u)) (λ _. tt))
+    (λ _. cond_both (bytes_eq word (codes "forward")) _ _ P
+    (λ a. cond_both (nat_le n MOST) (Some (Forward n)) None P
+    (λ u. is.forward argument n (pair word argument _ (same _ _ a)) k (leb-true n MOST u)) (λ _. tt))
+    (λ _. steps_right names word argument (step_by word n) (step_right names word argument n k))))
 
--- ---- a send
+clears_right : (names : List (List ℕ)) (word argument : List ℕ) → word ≡ codes "break" → Right names (word ∷ argument ∷ []) (clears argument)
+clears_right names word argument w =
+    cond_both (bytes_eq argument (codes "clear")) _ _ (Right names (word ∷ argument ∷ []))
+    (λ a. is.clear_breaks (pair word argument _ w ∙ ap (λ (x : List ℕ). codes "break" ∷ x ∷ []) (same _ _ a))) (λ _. tt)
 
-undeclared : (names : List (List ℕ)) (name : List ℕ) (v : Var) → place_of names name ≡ None → IsDeclared names name v → ⊥
-undeclared names name v z d = place_of-finds names name z (declared_contains names name v d)
+cancels_right : (names : List (List ℕ)) (word argument : List ℕ) (v : Option Var) → word ≡ codes "cancel" → place_of names argument ≡ v →
+    Right names (word ∷ argument ∷ []) (option_map (λ (u : Var). Step (Cancel u)) v)
+cancels_right names word argument None w z = tt
+cancels_right names word argument (Some v) w z = is.step word argument (Cancel v) refl (is.cancel v w (place_of-sound names argument v z))
 
--- a name that isn't declared
-none_sends : (names : List (List ℕ)) (word argument : List ℕ) → word ≡ codes "send" → place_of names argument ≡ None
-    → IsNoCommand names (word ∷ argument ∷ [])
-none_sends names word argument w z c (one_step e) = cc e
-none_sends names word argument w z c (steps number n e h l u) = other (codes "send") (codes "loop") refl (sym w ∙ first e)
-none_sends names word argument w z c (tick number ms e h) = other (codes "send") (codes "tick") refl (sym w ∙ first e)
-none_sends names word argument w z c (send name v e held) = let its = second e in undeclared names argument v z (rw its held)
-none_sends names word argument w z c (back number n e h l) = other (codes "send") (codes "back") refl (sym w ∙ first e)
-none_sends names word argument w z c (trace e) = cc e
-none_sends names word argument w z c (quit e) = cc e
+sends_right : (names : List (List ℕ)) (word argument : List ℕ) (v : Option Var) → word ≡ codes "send" → place_of names argument ≡ v →
+    Right names (word ∷ argument ∷ []) (option_map (λ (u : Var). Step (Send u)) v)
+sends_right names word argument None w z = tt
+sends_right names word argument (Some v) w z = is.step word argument (Send v) refl (is.send v w (place_of-sound names argument v z))
 
-sends_tell : (names : List (List ℕ)) (word argument : List ℕ) (v : Option Var) → word ≡ codes "send" → place_of names argument ≡ v
-    → Tells names (word ∷ argument ∷ []) (option_map Send v)
-sends_tell names word argument None w z = none_sends names word argument w z
-sends_tell names word argument (Some v) w z = send argument v (pair word argument _ w) (place_of-sound names argument v z)
+with_right : (names : List (List ℕ)) (word argument : List ℕ) → Right names (word ∷ argument ∷ []) (command_with names word argument)
+with_right names word argument =
+    let P : Option Command → Type 0 = Right names (word ∷ argument ∷ []) in
+    cond_both (bytes_eq word (codes "cancel")) _ _ P (λ a. cancels_right names word argument (place_of names argument) (same _ _ a) refl)
+    (λ _. cond_both (bytes_eq word (codes "send")) _ _ P (λ a. sends_right names word argument (place_of names argument) (same _ _ a) refl)
+    (λ _. cond_both (bytes_eq word (codes "break")) _ _ P (λ a. clears_right names word argument (same _ _ a))
+    (λ _. by_right names word argument (number_of argument) refl)))
 
-with_tells : (names : List (List ℕ)) (word argument : List ℕ) → Tells names (word ∷ argument ∷ []) (command_with names word argument)
-with_tells names word argument =
-    cond_both (bytes_eq word (codes "send")) _ _ (Tells names (word ∷ argument ∷ []))
-    (λ x. sends_tell names word argument (place_of names argument) (same _ _ x) refl)
-    (λ x. by_tells names word argument (number_of argument) x refl)
+-- ---- a break
+
+-- what was found for the fields behind `break` is right
+abbrev RightBreak : List (List ℕ) → List ℕ → List ℕ → Option Break → Type 0
+RightBreak names what argument (Some b) = IsBreak names what argument b
+RightBreak names what argument None = Unit {0}
+
+calls_right : (names : List (List ℕ)) (what argument : List ℕ) (v : Option Var) → what ≡ codes "call" → place_of names argument ≡ v →
+    RightBreak names what argument (option_map at.Call v)
+calls_right names what argument None w z = tt
+calls_right names what argument (Some v) w z = is.call v w (place_of-sound names argument v z)
+
+codes_right : (names : List (List ℕ)) (what argument : List ℕ) (c : Option Code) → what ≡ codes "code" → IsOf code_word argument c →
+    RightBreak names what argument (option_map at.Code c)
+codes_right names what argument None w h = tt
+codes_right names what argument (Some c) w h = is.code c w h
+
+phases_right : (names : List (List ℕ)) (what argument : List ℕ) (x : Option Phase) → what ≡ codes "section" → IsOf phase_word argument x →
+    RightBreak names what argument (option_map at.Section x)
+phases_right names what argument None w h = tt
+phases_right names what argument (Some x) w h = is.section x w h
+
+break_right : (names : List (List ℕ)) (what argument : List ℕ) → RightBreak names what argument (break_of names what argument)
+break_right names what argument =
+    let P : Option Break → Type 0 = RightBreak names what argument in
+    cond_both (bytes_eq what (codes "call")) _ _ P (λ a. calls_right names what argument (place_of names argument) (same _ _ a) refl)
+    (λ _. cond_both (bytes_eq what (codes "code")) _ _ P
+    (λ a. codes_right names what argument (code_of argument) (same _ _ a) (code_right argument))
+    (λ _. cond_both (bytes_eq what (codes "section")) _ _ P
+    (λ a. cond_both (bytes_eq argument (codes "poll")) (Some at.Poll) (option_map at.Section (phase_of argument)) P
+    (λ p. is.poll (same _ _ a) (same _ _ p)) (λ _. phases_right names what argument (phase_of argument) (same _ _ a) (phase_right argument)))
+    (λ _. tt)))
+
+adds_right : (names : List (List ℕ)) (word what argument : List ℕ) (b : Option Break) → word ≡ codes "break" → RightBreak names what argument b →
+    Right names (word ∷ what ∷ argument ∷ []) (option_map AddBreak b)
+adds_right names word what argument None w h = tt
+adds_right names word what argument (Some b) w h = is.add_break what argument b (ap (λ (x : List ℕ). x ∷ what ∷ argument ∷ []) w) h
+
+two_right : (names : List (List ℕ)) (word what argument : List ℕ) →
+    Right names (word ∷ what ∷ argument ∷ []) (command_with_two names word what argument)
+two_right names word what argument =
+    cond_both (bytes_eq word (codes "break")) _ _ (Right names (word ∷ what ∷ argument ∷ []))
+    (λ a. adds_right names word what argument (break_of names what argument) (same _ _ a) (break_right names what argument)) (λ _. tt)
 
 -- ---- any fields
-none_of_none : (names : List (List ℕ)) → IsNoCommand names []
-none_of_none names c (one_step e) = cc e
-none_of_none names c (steps number n e h l u) = cc e
-none_of_none names c (tick number ms e h) = cc e
-none_of_none names c (send name v e held) = cc e
-none_of_none names c (back number n e h l) = cc e
-none_of_none names c (trace e) = cc e
-none_of_none names c (quit e) = cc e
+fields_right : (names fields : List (List ℕ)) → Right names fields (command_of names fields)
+fields_right names [] = tt
+fields_right names (word ∷ []) = alone_right names word
+fields_right names (word ∷ argument ∷ []) = with_right names word argument
+fields_right names (word ∷ what ∷ argument ∷ []) = two_right names word what argument
+fields_right names (word ∷ what ∷ argument ∷ more ∷ rest) = tt
 
-none_of_many : (names : List (List ℕ)) (a b d : List ℕ) (rest : List (List ℕ)) → IsNoCommand names (a ∷ b ∷ d ∷ rest)
-none_of_many names a b d rest c (one_step e) = cc e
-none_of_many names a b d rest c (steps number n e h l u) = cc e
-none_of_many names a b d rest c (tick number ms e h) = cc e
-none_of_many names a b d rest c (send name v e held) = cc e
-none_of_many names a b d rest c (back number n e h l) = cc e
-none_of_many names a b d rest c (trace e) = cc e
-none_of_many names a b d rest c (quit e) = cc e
+-- ---- every command is read
 
-fields_tell : (names fields : List (List ℕ)) → Tells names fields (command_of names fields)
-fields_tell names [] = none_of_none names
-fields_tell names (word ∷ []) = alone_tells names word
-fields_tell names (word ∷ argument ∷ []) = with_tells names word argument
-fields_tell names (word ∷ argument ∷ more ∷ rest) = none_of_many names word argument more rest
+-- the number that a declared name has; it is the declared one where no name is declared twice
+record Place (names : List (List ℕ)) (name : List ℕ) (v : Var) : Type 0 where
+  number : Var
+  found : place_of names name ≡ Some number
+  same : AreDistinct names → number ≡ v
+
+place : (names : List (List ℕ)) (name : List ℕ) (v : Var) → IsDeclared names name v → Place names name v
+place names name v held = by (place_of names name) refl where
+  by : (o : Option Var) → place_of names name ≡ o → Place names name v
+  by None e = absurd (place_of-finds names name e (declared_contains names name v held))
+  by (Some w) e = record { number = w; found = e; same = λ d. same_Some _ _ (sym e ∙ place_complete names name v d held) }
+
+-- the break that is read from fields that are one
+record ReadsBreak (names : List (List ℕ)) (what argument : List ℕ) (b : Break) : Type 0 where
+  break : Break
+  found : break_of names what argument ≡ Some break
+  same : AreDistinct names → break ≡ b
+
+reads_break : (names : List (List ℕ)) (what argument : List ℕ) (b : Break) → IsBreak names what argument b → ReadsBreak names what argument b
+reads_break names what argument b (is.call v w held) =
+    let p = place names argument v held in
+    record { break = at.Call p.number; found = rw w (ap (option_map at.Call) p.found); same = λ d. ap at.Call (p.same d) }
+reads_break names what argument b (is.code c w e) =
+    record { break = at.Code c; found = rw (w, e) (ap (option_map at.Code) (code_found c)); same = λ d. refl }
+reads_break names what argument b (is.section x w e) = record { break = at.Section x; found = rw (w, e) (section_found x); same = λ d. refl }
+reads_break names what argument b (is.poll w e) = record { break = at.Poll; found = rw (w, e) refl; same = λ d. refl }
+
+-- the command that is read from fields that are one
+record Reads (names fields : List (List ℕ)) (c : Command) : Type 0 where
+  command : Command
+  found : command_of names fields ≡ Some command
+  same : AreDistinct names → command ≡ c
+
+reads : (names fields : List (List ℕ)) (c : Command) → command_of names fields ≡ Some c → Reads names fields c
+reads names fields c e = record { command = c; found = e; same = λ d. refl }
+
+-- the step from outside that is read from fields that are one
+record ReadsStep (names : List (List ℕ)) (word argument : List ℕ) (e : Event) : Type 0 where
+  step : Event
+  found : command_with names word argument ≡ Some (Step step)
+  same : AreDistinct names → step ≡ e
+
+reads_step : (names : List (List ℕ)) (word argument : List ℕ) (e : Event) → IsStep names word argument e → ReadsStep names word argument e
+reads_step names word argument e (is.take worker w h l) = record {
+  step = Take worker;
+  found = rw w (ap (command_by (codes "take")) (number_of-complete argument worker h) ∙ rw (le-leb worker LAST_WORKER l) refl);
+  same = λ d. refl;
+}
+reads_step names word argument e (is.finish worker w h l) = record {
+  step = Finish worker;
+  found = rw w (ap (command_by (codes "finish")) (number_of-complete argument worker h) ∙ rw (le-leb worker LAST_WORKER l) refl);
+  same = λ d. refl;
+}
+reads_step names word argument e (is.cancel v w held) =
+    let p = place names argument v held in
+    record {
+      step = Cancel p.number;
+      found = rw w (ap (option_map (λ (u : Var). Step (Cancel u))) p.found);
+      same = λ d. ap Cancel (p.same d);
+    }
+reads_step names word argument e (is.send v w held) =
+    let p = place names argument v held in
+    record {
+      step = Send p.number;
+      found = rw w (ap (option_map (λ (u : Var). Step (Send u))) p.found);
+      same = λ d. ap Send (p.same d);
+    }
+reads_step names word argument e (is.tick ms w h) = record {
+  step = Tick ms;
+  found = rw w (ap (command_by (codes "tick")) (number_of-complete argument ms h));
+  same = λ d. refl;
+}
+
+reads_command : (names fields : List (List ℕ)) (c : Command) → IsCommand names fields c → Reads names fields c
+reads_command names fields c (is.one_step e) = reads names fields c (ap (command_of names) e)
+reads_command names fields c (is.steps number n e h l u) = reads names fields c
+    (ap (command_of names) e ∙ ap (command_by (codes "loop")) (number_of-complete number n h) ∙ rw (le-leb 1 n l, le-leb n MOST u) refl)
+reads_command names fields c (is.step word argument e f h) =
+    let r = reads_step names word argument e h in
+    record { command = Step r.step; found = ap (command_of names) f ∙ r.found; same = λ d. ap Step (r.same d) }
+reads_command names fields c (is.back number n e h l) = reads names fields c
+    (ap (command_of names) e ∙ ap (command_by (codes "back")) (number_of-complete number n h) ∙ rw (le-leb n MOST l) refl)
+reads_command names fields c (is.forward number n e h l) = reads names fields c
+    (ap (command_of names) e ∙ ap (command_by (codes "forward")) (number_of-complete number n h) ∙ rw (le-leb n MOST l) refl)
+reads_command names fields c (is.add_break what argument b e h) =
+    let p = reads_break names what argument b h in
+    record {
+      command = AddBreak p.break;
+      found = ap (command_of names) e ∙ ap (λ (o : Option Break). option_map AddBreak o) p.found;
+      same = λ d. ap AddBreak (p.same d);
+    }
+reads_command names fields c (is.clear_breaks e) = reads names fields c (ap (command_of names) e)
+reads_command names fields c (is.back_to_break e) = reads names fields c (ap (command_of names) e)
+reads_command names fields c (is.trace e) = reads names fields c (ap (command_of names) e)
+reads_command names fields c (is.state e) = reads names fields c (ap (command_of names) e)
+reads_command names fields c (is.quit e) = reads names fields c (ap (command_of names) e)
+
+-- where nothing is read there is no command
+none_read : (names fields : List (List ℕ)) → command_of names fields ≡ None → IsNoCommand names fields
+none_read names fields z c h = let found = (reads_command names fields c h).found in cc (found, z)
 
 -- ---- any line
 told : (names : List (List ℕ)) (line : List ℕ) → is_line line ≡ true → is_skipped line ≡ false → (r : Option Command)
-    → Tells names (fields_of line) r → Asks names line (asked_for r)
-told names line e s (Some c) h = command c ((is_line_decides line).0 e) h
-told names line e s None h = bad (λ _ k. both_ways _ s ((is_skipped_decides line).1 k)) (λ _. h)
+    → command_of names (fields_of line) ≡ r → Right names (fields_of line) r → Asks names line (asked_for r)
+told names line e s (Some c) z h = command c ((is_line_decides line).0 e) h
+told names line e s None z h = bad (λ _ k. both_ways _ s ((is_skipped_decides line).1 k)) (λ _. none_read names (fields_of line) z)
 
 pub asks : (names : List (List ℕ)) (line : List ℕ) → Asks names line (asked_of names line)
 asks names line = cond_both (is_line line) _ _ (Asks names line)
     (λ e. cond_both (is_skipped line) _ _ (Asks names line)
     (λ s. nothing ((is_line_decides line).0 e) ((is_skipped_decides line).0 s))
-    (λ s. told names line e s (command_of names (fields_of line)) (fields_tell names (fields_of line))))
+    (λ s. told names line e s (command_of names (fields_of line)) refl (fields_right names (fields_of line))))
     (λ e. bad (λ l _. both_ways _ e ((is_line_decides line).1 l)) (λ l. absurd (both_ways _ e ((is_line_decides line).1 l))))
 
 -- ---- one line asks for one thing
 
-reads_command : (names fields : List (List ℕ)) (c : Command) → AreDistinct names → IsCommand names fields c → command_of names fields ≡ Some c
-reads_command names fields c distinct (one_step e) = ap (command_of names) e
-reads_command names fields c distinct (steps number n e h l u) =
-    ap (command_of names) e ∙ ap (command_by (codes "loop")) (number_of-complete number n h) ∙ rw (le-leb 1 n l, le-leb n MOST u) refl
-reads_command names fields c distinct (tick number ms e h) =
-    ap (command_of names) e ∙ ap (command_by (codes "tick")) (number_of-complete number ms h)
-reads_command names fields c distinct (send name v e held) =
-    ap (command_of names) e ∙ ap (λ (o : Option Var). option_map Send o) (place_complete names name v distinct held)
-reads_command names fields c distinct (back number n e h l) =
-    ap (command_of names) e ∙ ap (command_by (codes "back")) (number_of-complete number n h) ∙ rw (le-leb n MOST l) refl
-reads_command names fields c distinct (trace e) = ap (command_of names) e
-reads_command names fields c distinct (quit e) = ap (command_of names) e
+-- a step from outside isn't skipped
+step_says : {names : List (List ℕ)} {e : Event} (line word argument : List ℕ) → fields_of line ≡ word ∷ argument ∷ [] → IsStep names word argument e →
+    is_skipped line ≡ false
+step_says line word argument f (is.take worker w h l) = line_begins line _ _ _ (f ∙ pair word argument _ w)
+step_says line word argument f (is.finish worker w h l) = line_begins line _ _ _ (f ∙ pair word argument _ w)
+step_says line word argument f (is.cancel v w held) = line_begins line _ _ _ (f ∙ pair word argument _ w)
+step_says line word argument f (is.send v w held) = line_begins line _ _ _ (f ∙ pair word argument _ w)
+step_says line word argument f (is.tick ms w h) = line_begins line _ _ _ (f ∙ pair word argument _ w)
 
 -- a command isn't skipped
 says_something : (names : List (List ℕ)) (line : List ℕ) (c : Command) → IsCommand names (fields_of line) c → is_skipped line ≡ false
-says_something names line c (one_step e) = line_begins line _ _ _ e
-says_something names line c (steps number n e h l u) = line_begins line _ _ _ e
-says_something names line c (tick number ms e h) = line_begins line _ _ _ e
-says_something names line c (send name v e held) = line_begins line _ _ _ e
-says_something names line c (back number n e h l) = line_begins line _ _ _ e
-says_something names line c (trace e) = line_begins line _ _ _ e
-says_something names line c (quit e) = line_begins line _ _ _ e
+says_something names line c (is.one_step e) = line_begins line _ _ _ e
+says_something names line c (is.steps number n e h l u) = line_begins line _ _ _ e
+says_something names line c (is.step word argument e f h) = step_says line word argument f h
+says_something names line c (is.back number n e h l) = line_begins line _ _ _ e
+says_something names line c (is.forward number n e h l) = line_begins line _ _ _ e
+says_something names line c (is.add_break what argument b e h) = line_begins line _ _ _ e
+says_something names line c (is.clear_breaks e) = line_begins line _ _ _ e
+says_something names line c (is.back_to_break e) = line_begins line _ _ _ e
+says_something names line c (is.trace e) = line_begins line _ _ _ e
+says_something names line c (is.state e) = line_begins line _ _ _ e
+says_something names line c (is.quit e) = line_begins line _ _ _ e
+
+reads_only : (names fields : List (List ℕ)) (c : Command) → AreDistinct names → IsCommand names fields c → command_of names fields ≡ Some c
+reads_only names fields c distinct h = let r = reads_command names fields c h in r.found ∙ ap Some (r.same distinct)
 
 no_command : (names fields : List (List ℕ)) → IsNoCommand names fields → command_of names fields ≡ None
-no_command names fields none = at (command_of names fields) refl (fields_tell names fields) where
-  at : (o : Option Command) → command_of names fields ≡ o → Tells names fields o → o ≡ None
-  at None e h = refl
-  at (Some c) e h = absurd (none c h)
+no_command names fields none = by (command_of names fields) refl (fields_right names fields) where
+  by : (o : Option Command) → command_of names fields ≡ o → Right names fields o → o ≡ None
+  by None e h = refl
+  by (Some c) e h = absurd (none c h)
 
 -- what a line asks for is what the code reads
 pub asks_only : (names : List (List ℕ)) (line : List ℕ) (asked : Asked) → AreDistinct names → Asks names line asked → asked ≡ asked_of names line
 asks_only names line asked distinct (nothing l s) = rw ((is_line_decides line).1 l, (is_skipped_decides line).1 s) refl
 asks_only names line asked distinct (command c l h) =
-    rw ((is_line_decides line).1 l, says_something names line c h, reads_command names (fields_of line) c distinct h) refl
-asks_only names line asked distinct (bad skip none) = at (is_line line) refl (is_skipped line) refl where
-  at : (a : Bool) → is_line line ≡ a → (b : Bool) → is_skipped line ≡ b
+    rw ((is_line_decides line).1 l, says_something names line c h, reads_only names (fields_of line) c distinct h) refl
+asks_only names line asked distinct (bad skip none) = by (is_line line) refl (is_skipped line) refl where
+  by : (a : Bool) → is_line line ≡ a → (b : Bool) → is_skipped line ≡ b
       → ◌≡◌ {A = Asked} Bad (if a then (if b then Nothing else asked_for (command_of names (fields_of line))) else Bad)
-  at false e b f = refl
-  at true e true f = absurd (skip ((is_line_decides line).0 e) ((is_skipped_decides line).0 f))
-  at true e false f = rw (no_command names (fields_of line) (none ((is_line_decides line).0 e))) refl
+  by false e b f = refl
+  by true e true f = absurd (skip ((is_line_decides line).0 e) ((is_skipped_decides line).0 f))
+  by true e false f = rw (no_command names (fields_of line) (none ((is_line_decides line).0 e))) refl
 
 pub asks_one : (names : List (List ℕ)) (line : List ℕ) (a b : Asked) → AreDistinct names → Asks names line a → Asks names line b → a ≡ b
 asks_one names line a b distinct h k = asks_only names line a distinct h ∙ sym (asks_only names line b distinct k)

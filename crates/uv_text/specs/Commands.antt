@@ -1,11 +1,18 @@
 -- The commands of a conversation, and how a line is read.
 use Rattle.std.specs.Prelude.{◌≡◌, ℕ, ◌≤◌, List, [], ◌∷◌, codes}
 use Rattle.uv_ids.specs.declared.id.Var.{Var}
+use Rattle.uv_ids.specs.declared.code.Code.{Code}
+use Rattle.uv_ids.specs.declared.event.Event.{Event}
+use Rattle.uv_ids.specs.declared.event.Event.TheVariants.{Take, Finish, Cancel, Send, Tick}
+use Rattle.uv_ids.specs.declared.phase.Phase.{Phase}
+use Rattle.uv_ids.specs.Words.{code_word, phase_word}
 use Rattle.uv_script.specs.Lines.{fields_of, IsLine, IsSkipped}
 use Rattle.uv_script.specs.Words.{IsNumber, IsDeclared}
 use Rattle.uv_model.specs.After.{STEPS}
+use Rattle.uv_session.specs.declared.breaks.Break.{Break}
+use Rattle.uv_session.specs.declared.breaks.Break.TheVariants as at
 use Rattle.uv_text.specs.declared.command.Command.{Command}
-use Rattle.uv_text.specs.declared.command.Command.TheVariants.{Loop, Tick, Send, Back, Trace, Quit}
+use Rattle.uv_text.specs.declared.command.Command.TheVariants.{Loop, Step, Back, Forward, AddBreak, ClearBreaks, BackToBreak, Trace, State, Quit}
 use Rattle.uv_text.specs.declared.command.Asked.{Asked}
 use Rattle.uv_text.specs.declared.command.Asked.TheVariants.{Nothing, Do, Bad}
 
@@ -13,15 +20,40 @@ use Rattle.uv_text.specs.declared.command.Asked.TheVariants.{Nothing, Do, Bad}
 abbrev pub MOST : ℕ
 MOST = STEPS
 
+-- the largest number that a worker is named by
+abbrev pub LAST_WORKER : ℕ
+LAST_WORKER = 65535
+
+-- the two fields behind `break`, and the break that they are, where these names are declared
+pub data IsBreak (names : List (List ℕ)) (what argument : List ℕ) : Break → Type 0 where
+  call : (v : Var) → what ≡ codes "call" → IsDeclared names argument v → IsBreak names what argument (at.Call v)
+  code : (c : Code) → what ≡ codes "code" → argument ≡ code_word c → IsBreak names what argument (at.Code c)
+  -- the poll is a section here, though its trace line shows its timeout too
+  section : (x : Phase) → what ≡ codes "section" → argument ≡ phase_word x → IsBreak names what argument (at.Section x)
+  poll : what ≡ codes "section" → argument ≡ codes "poll" → IsBreak names what argument at.Poll
+
+-- the two fields of a line, and the step from outside that they are, where these names are declared
+pub data IsStep (names : List (List ℕ)) (word argument : List ℕ) : Event → Type 0 where
+  take : (worker : ℕ) → word ≡ codes "take" → IsNumber argument worker → worker ≤ LAST_WORKER → IsStep names word argument (Take worker)
+  finish : (worker : ℕ) → word ≡ codes "finish" → IsNumber argument worker → worker ≤ LAST_WORKER → IsStep names word argument (Finish worker)
+  cancel : (v : Var) → word ≡ codes "cancel" → IsDeclared names argument v → IsStep names word argument (Cancel v)
+  send : (v : Var) → word ≡ codes "send" → IsDeclared names argument v → IsStep names word argument (Send v)
+  tick : (ms : ℕ) → word ≡ codes "tick" → IsNumber argument ms → IsStep names word argument (Tick ms)
+
 -- the fields of a line, and the command that they are, where these names are declared
 pub data IsCommand (names fields : List (List ℕ)) : Command → Type 0 where
   -- `loop` is one step of the loop, `loop n` so many
   one_step : fields ≡ codes "loop" ∷ [] → IsCommand names fields (Loop 1)
   steps : (number : List ℕ) (n : ℕ) → fields ≡ codes "loop" ∷ number ∷ [] → IsNumber number n → 1 ≤ n → n ≤ MOST → IsCommand names fields (Loop n)
-  tick : (number : List ℕ) (ms : ℕ) → fields ≡ codes "tick" ∷ number ∷ [] → IsNumber number ms → IsCommand names fields (Tick ms)
-  send : (name : List ℕ) (v : Var) → fields ≡ codes "send" ∷ name ∷ [] → IsDeclared names name v → IsCommand names fields (Send v)
+  step : (word argument : List ℕ) (e : Event) → fields ≡ word ∷ argument ∷ [] → IsStep names word argument e → IsCommand names fields (Step e)
   back : (number : List ℕ) (n : ℕ) → fields ≡ codes "back" ∷ number ∷ [] → IsNumber number n → n ≤ MOST → IsCommand names fields (Back n)
+  forward : (number : List ℕ) (n : ℕ) → fields ≡ codes "forward" ∷ number ∷ [] → IsNumber number n → n ≤ MOST → IsCommand names fields (Forward n)
+  add_break : (what argument : List ℕ) (b : Break) → fields ≡ codes "break" ∷ what ∷ argument ∷ [] → IsBreak names what argument b →
+      IsCommand names fields (AddBreak b)
+  clear_breaks : fields ≡ codes "break" ∷ codes "clear" ∷ [] → IsCommand names fields ClearBreaks
+  back_to_break : fields ≡ codes "rback" ∷ [] → IsCommand names fields BackToBreak
   trace : fields ≡ codes "trace" ∷ [] → IsCommand names fields Trace
+  state : fields ≡ codes "state" ∷ [] → IsCommand names fields State
   quit : fields ≡ codes "quit" ∷ [] → IsCommand names fields Quit
 
 -- the fields are no command

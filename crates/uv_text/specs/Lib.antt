@@ -1,3 +1,4 @@
 pub mod Trace
 pub mod Commands
 pub mod Reading
+pub mod State

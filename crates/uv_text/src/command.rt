@@ -1,26 +1,36 @@
 //! The commands of a conversation.
 ghost use Rattle.std.specs.Prelude.{◌≡◌, ◌≢◌, ℕ, List, AllPairs};
 ghost use Rattle.uv_text.specs.declared.command.Asked.{Asked};
-ghost use Rattle.uv_text.specs.Commands.{Asks, MOST};
-ghost use Rattle.uv_text.specs.Reading.{asked_of, command_of, command_alone, command_by, command_with, loops, goes_back};
+ghost use Rattle.uv_text.specs.Commands.{Asks, MOST, LAST_WORKER};
+ghost use Rattle.uv_text.specs.Reading.{asked_of, command_of, command_alone, command_by, command_with, command_with_two, clears, step_by, loops, goes_back, goes_forward};
 
-use uv_ids::Var;
+use crate::breaks::read_break;
+use uv_ids::Event;
 use uv_model::STEPS;
 use uv_script::{Fields, Names, is_line, is_skipped, number};
+use uv_session::Break;
 
 /// What a line of a conversation asks for.
 #[derive(Clone, Copy, Debug, PartialEq, Eq)]
 pub enum Command {
     /// `loop [n]`: so many steps of the loop, 1 to 2^24.
     Loop(u32),
-    /// `tick MS`: the clock goes on.
-    Tick(u64),
-    /// `send NAME`: sends to an async handle, from outside.
-    Send(Var),
+    /// One step from outside: `take K`, `finish K`, `cancel NAME`, `send NAME`, `tick MS`.
+    Step(Event),
     /// `back n`: takes so many steps back, 0 to 2^24.
     Back(u32),
+    /// `forward n`: runs so many steps again that were taken back, 0 to 2^24.
+    Forward(u32),
+    /// `break call NAME`, `break code CODE`, `break section WORD`: runs stop there from now on.
+    AddBreak(Break),
+    /// `break clear`: runs stop nowhere.
+    ClearBreaks,
+    /// `rback`: goes back to the last step that matches a break.
+    BackToBreak,
     /// `trace`: shows the lines of the standing steps.
     Trace,
+    /// `state`: shows the state.
+    State,
     /// `quit`: ends the conversation.
     Quit,
 }
@@ -37,6 +47,9 @@ pub enum Asked {
 
 /// The most steps that one command names (own): as many as there may be.
 const MOST: u64 = STEPS as u64;
+
+/// The largest number that a worker is named by in a command; whether there is such a worker, the loop says.
+const LAST_WORKER: u64 = u16::MAX as u64;
 
 /// Reads a line, without its line feed, where these names are declared.
 #[tactic(auto, using(crate::proofs::Commands::reading))]
@@ -66,11 +79,14 @@ fn read_fields(names: &Names, mut fields: Fields) -> Option<Command>
     ensures { result ≡ command_of names.now fields.entry }
 {
     let word = fields.next()?;
-    let Some(argument) = fields.next() else {
+    let Some(second) = fields.next() else {
         return alone(word);
     };
+    let Some(third) = fields.next() else {
+        return with_argument(names, word, second);
+    };
     match fields.next() {
-        None => with_argument(names, word, argument),
+        None => with_two(names, word, second, third),
         Some(_) => None,
     }
 }
@@ -80,8 +96,12 @@ fn alone(word: &[u8]) -> Option<Command>
 {
     if word == b"loop".as_slice() {
         Some(Command::Loop(1))
+    } else if word == b"rback".as_slice() {
+        Some(Command::BackToBreak)
     } else if word == b"trace".as_slice() {
         Some(Command::Trace)
+    } else if word == b"state".as_slice() {
+        Some(Command::State)
     } else if word == b"quit".as_slice() {
         Some(Command::Quit)
     } else {
@@ -92,13 +112,37 @@ fn alone(word: &[u8]) -> Option<Command>
 fn with_argument(names: &Names, word: &[u8], argument: &[u8]) -> Option<Command>
     ensures { result ≡ command_with names.now word.now argument.now }
 {
-    if word != b"send".as_slice() {
-        return with_number(word, number(argument));
+    if word == b"cancel".as_slice() {
+        let name = names.number(argument)?;
+        Some(Command::Step(Event::Cancel(name)))
+    } else if word == b"send".as_slice() {
+        let name = names.number(argument)?;
+        Some(Command::Step(Event::Send(name)))
+    } else if word == b"break".as_slice() {
+        clears(argument)
+    } else {
+        with_number(word, number(argument))
     }
-    match names.number(argument) {
-        Some(name) => Some(Command::Send(name)),
-        None => None,
+}
+
+fn clears(argument: &[u8]) -> Option<Command>
+    ensures { result ≡ clears argument.now }
+{
+    if argument == b"clear".as_slice() {
+        Some(Command::ClearBreaks)
+    } else {
+        None
     }
+}
+
+fn with_two(names: &Names, word: &[u8], what: &[u8], argument: &[u8]) -> Option<Command>
+    ensures { result ≡ command_with_two names.now word.now what.now argument.now }
+{
+    if word != b"break".as_slice() {
+        return None;
+    }
+    let at = read_break(names, what, argument)?;
+    Some(Command::AddBreak(at))
 }
 
 fn with_number(word: &[u8], number: Option<u64>) -> Option<Command>
@@ -107,10 +151,30 @@ fn with_number(word: &[u8], number: Option<u64>) -> Option<Command>
     let n = number?;
     if word == b"loop".as_slice() {
         loops(n)
-    } else if word == b"tick".as_slice() {
-        Some(Command::Tick(n))
     } else if word == b"back".as_slice() {
         goes_back(n)
+    } else if word == b"forward".as_slice() {
+        goes_forward(n)
+    } else {
+        let event = step_with(word, n)?;
+        Some(Command::Step(event))
+    }
+}
+
+/// A step from outside with a number: a worker's, or the clock's.
+fn step_with(word: &[u8], n: u64) -> Option<Event>
+    ensures { result ≡ step_by word.now n }
+{
+    if word == b"tick".as_slice() {
+        return Some(Event::Tick(n));
+    }
+    if n > LAST_WORKER {
+        return None;
+    }
+    if word == b"take".as_slice() {
+        Some(Event::Take(n as u16))
+    } else if word == b"finish".as_slice() {
+        Some(Event::Finish(n as u16))
     } else {
         None
     }
@@ -131,6 +195,16 @@ fn goes_back(n: u64) -> Option<Command>
 {
     if n <= MOST {
         Some(Command::Back(n as u32))
+    } else {
+        None
+    }
+}
+
+fn goes_forward(n: u64) -> Option<Command>
+    ensures { result ≡ goes_forward n }
+{
+    if n <= MOST {
+        Some(Command::Forward(n as u32))
     } else {
         None
     }

@@ -1,10 +1,11 @@
 //! The text of a trace.
-ghost use Rattle.std.specs.Prelude.{◌≡◌, ◌++◌, IfOk, IfErr, OnOk};
+ghost use Rattle.std.specs.Prelude.{◌≡◌, ◌++◌, IfOk, IfErr, OnOk, codes};
 ghost use Rattle.uv_ids.specs.declared.fault.Fault.TheVariants.{Memory};
-ghost use Rattle.uv_text.specs.Trace.{id_text, handle_text, timeout_text, answer_text, site_text, line_text, seen_text};
+ghost use Rattle.hex.specs.Hex.{encode_lower};
+ghost use Rattle.uv_text.specs.Trace.{id_text, handle_text, timeout_text, answer_text, end_text, worker_text, outside_text, site_text, line_text, seen_text};
 
 use std::alloc::{AllocError, Global};
-use uv_ids::{Answer, Fault, Id, Seen, Site, Var};
+use uv_ids::{Answer, Code, Fault, Id, Seen, Site, Var};
 use uv_script::{Script, push_number};
 
 /// A trace line with its line feed.
@@ -43,22 +44,19 @@ fn push_line(text: &mut Vec<u8>, script: &Script, seen: Seen) -> Result<(), Allo
             text.extend_from_slice(b"poll ")?;
             push_timeout(text, timeout)
         }
-        Seen::Call(name, id) => {
-            text.extend_from_slice(b"call ")?;
-            push_handle(text, script, name, id)
+        Seen::Call(name, id) => push_handle(text, script, b"call ", name, id),
+        Seen::After(digest, name, id) => {
+            push_handle(text, script, b"after ", name, id)?;
+            text.extend_from_slice(b" ")?;
+            push_end(text, digest)
         }
-        Seen::Closed(name, id) => {
-            text.extend_from_slice(b"closed ")?;
-            push_handle(text, script, name, id)
-        }
+        Seen::Closed(name, id) => push_handle(text, script, b"closed ", name, id),
         Seen::End(true) => text.extend_from_slice(b"end 1"),
         Seen::End(false) => text.extend_from_slice(b"end 0"),
-        Seen::Send(name, code) => {
-            text.extend_from_slice(b"out send ")?;
-            script.names().push_name(text, name)?;
-            text.extend_from_slice(b" = ")?;
-            text.extend_from_slice(code.word().as_bytes())
-        }
+        Seen::Take(worker, name, id) => push_worker(text, script, b"take ", worker, name, id),
+        Seen::Finish(worker, name, id) => push_worker(text, script, b"finish ", worker, name, id),
+        Seen::Cancel(name, answer) => push_outside(text, script, b"cancel ", name, answer),
+        Seen::Send(name, code) => push_outside(text, script, b"send ", name, Answer::Code(code)),
         Seen::Tick(ms) => {
             text.extend_from_slice(b"out tick ")?;
             push_number(text, ms)
@@ -66,10 +64,74 @@ fn push_line(text: &mut Vec<u8>, script: &Script, seen: Seen) -> Result<(), Allo
     }
 }
 
-/// A handle, by its name and its id.
-fn push_handle(text: &mut Vec<u8>, script: &Script, name: Var, id: Id) -> Result<(), AllocError>
-    ensures { OnOk result (text.new.items ≡ text.old.items ++ handle_text script.now name id) }
+/// How a request ended.
+fn push_end(text: &mut Vec<u8>, digest: Option<[u8; 32]>) -> Result<(), AllocError>
+    ensures { OnOk result (text.new.items ≡ text.old.items ++ end_text digest) }
 {
+    match digest {
+        Some(digest) => {
+            text.extend_from_slice(Code::Ok.word().as_bytes())?;
+            text.extend_from_slice(b" ")?;
+            push_digest(text, digest)
+        }
+        None => text.extend_from_slice(Code::Ecanceled.word().as_bytes()),
+    }
+}
+
+/// A digest, in hexadecimal digits.
+fn push_digest(text: &mut Vec<u8>, digest: [u8; 32]) -> Result<(), AllocError>
+    ensures { OnOk result (text.new.items ≡ text.old.items ++ encode_lower digest) }
+{
+    let mut digits = [0; 64];
+    hex::encode_to_slice(digest, &mut digits).unwrap();
+    text.extend_from_slice(&digits)
+}
+
+/// What a worker did, by its word, and the request that it did it with.
+fn push_worker(
+    text: &mut Vec<u8>,
+    script: &Script,
+    word: &[u8],
+    worker: u16,
+    name: Var,
+    id: Id,
+) -> Result<(), AllocError>
+    ensures { OnOk result (text.new.items ≡ text.old.items ++ codes "out " ++ word.now ++ worker_text script.now worker name id) }
+{
+    text.extend_from_slice(b"out ")?;
+    text.extend_from_slice(word)?;
+    push_number(text, u64::from(worker))?;
+    push_handle(text, script, b" ", name, id)
+}
+
+/// A step from outside, by its word, with the name that it is of and what was answered.
+fn push_outside(
+    text: &mut Vec<u8>,
+    script: &Script,
+    word: &[u8],
+    name: Var,
+    answer: Answer,
+) -> Result<(), AllocError>
+    ensures { OnOk result (text.new.items ≡ text.old.items ++ codes "out " ++ word.now ++ outside_text script.now name answer) }
+{
+    text.extend_from_slice(b"out ")?;
+    text.extend_from_slice(word)?;
+    script.names().push_name(text, name)?;
+    text.extend_from_slice(b" = ")?;
+    push_answer(text, answer)
+}
+
+/// A word, and a handle or a request by its name and its id.
+fn push_handle(
+    text: &mut Vec<u8>,
+    script: &Script,
+    word: &[u8],
+    name: Var,
+    id: Id,
+) -> Result<(), AllocError>
+    ensures { OnOk result (text.new.items ≡ text.old.items ++ word.now ++ handle_text script.now name id) }
+{
+    text.extend_from_slice(word)?;
     script.names().push_name(text, name)?;
     text.extend_from_slice(b" ")?;
     push_id(text, id)
@@ -91,6 +153,7 @@ fn push_answer(text: &mut Vec<u8>, answer: Answer) -> Result<(), AllocError>
     match answer {
         Answer::Code(code) => text.extend_from_slice(code.word().as_bytes()),
         Answer::Id(id) => push_id(text, id),
+        Answer::Cancelled(_) => text.extend_from_slice(Code::Ok.word().as_bytes()),
         Answer::Number(number) => push_number(text, number),
         Answer::Flag(true) => text.extend_from_slice(b"1"),
         Answer::Flag(false) => text.extend_from_slice(b"0"),
@@ -98,7 +161,7 @@ fn push_answer(text: &mut Vec<u8>, answer: Answer) -> Result<(), AllocError>
     }
 }
 
-fn push_id(text: &mut Vec<u8>, id: Id) -> Result<(), AllocError>
+pub(crate) fn push_id(text: &mut Vec<u8>, id: Id) -> Result<(), AllocError>
     ensures { OnOk result (text.new.items ≡ text.old.items ++ id_text id) }
 {
     push_number(text, u64::from(id.slot))?;
@@ -106,7 +169,7 @@ fn push_id(text: &mut Vec<u8>, id: Id) -> Result<(), AllocError>
     push_number(text, u64::from(id.generation))
 }
 
-fn push_timeout(text: &mut Vec<u8>, timeout: Option<u64>) -> Result<(), AllocError>
+pub(crate) fn push_timeout(text: &mut Vec<u8>, timeout: Option<u64>) -> Result<(), AllocError>
     ensures { OnOk result (text.new.items ≡ text.old.items ++ timeout_text timeout) }
 {
     match timeout {

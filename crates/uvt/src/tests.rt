@@ -1,14 +1,23 @@
 //! The program over memory: whole conversations, bad input, and devices that fail.
 
 mod conversations;
+mod debugging;
+mod requests;
+mod states;
 
-use self::conversations::CONVERSATIONS;
+use self::conversations::{CONVERSATIONS, Conversation};
+use self::debugging::DEBUGGING;
+use self::requests::REQUESTS;
+use self::states::STATES;
 use crate::run::run;
 use std::alloc::{AllocError, Global};
 use std::io;
 use std::io::{Read, Write};
 use std::test::Fail;
 use uv_engine::{Reader, Writer};
+
+/// All conversations, in groups.
+const GROUPS: [&[Conversation]; 4] = [&CONVERSATIONS, &DEBUGGING, &REQUESTS, &STATES];
 
 /// What the program wrote, and its status.
 #[derive(Drop)]
@@ -34,7 +43,7 @@ fn run_on(alloc: Global, words: &[&str], input: &[u8]) -> Ran {
 #[test]
 fn answers_whole_conversations(rt: HostRuntime) {
     let alloc = rt.alloc();
-    for one in &CONVERSATIONS {
+    for one in GROUPS.iter().flat_map(|group| group.iter()) {
         let ran = run_on(alloc, &["uvt", "debug"], one.input.as_bytes());
         assert_eq!(rt;
             ran.output.as_slice(),
@@ -56,7 +65,7 @@ struct Outside {
     errors: &'static str,
 }
 
-const OUTSIDE: [Outside; 24] = [
+const OUTSIDE: [Outside; 37] = [
     Outside {
         what: "a name that is not declared",
         input: b"var a\nmain start b 1 0\nbegin\n",
@@ -149,6 +158,56 @@ const OUTSIDE: [Outside; 24] = [
         errors: "uvt: bad script line 3\n",
     },
     Outside {
+        what: "a request of no round",
+        input: b"var w\nmain queue w 0 abc\nbegin\n",
+        output: "",
+        status: 2,
+        errors: "uvt: bad script line 2\n",
+    },
+    Outside {
+        what: "a request of a round too many",
+        input: b"var w\nmain queue w 1000 abc\nmain queue w 1001 abc\nbegin\n",
+        output: "",
+        status: 2,
+        errors: "uvt: bad script line 3\n",
+    },
+    Outside {
+        what: "a request whose text has no byte behind its space",
+        input: b"var w\nmain queue w 1\nmain queue w 1 \nbegin\n",
+        output: "",
+        status: 2,
+        errors: "uvt: bad script line 3\n",
+    },
+    Outside {
+        what: "a request whose text has a byte too many",
+        input: b"var w\nmain queue w 1 xxxxxxxxxxxxxxxxxxxxxxxxxxxxxxxxxxxxxxxxxxxxxxxxxxxxxxxxxxxxxxxx\n\
+            main queue w 1 xxxxxxxxxxxxxxxxxxxxxxxxxxxxxxxxxxxxxxxxxxxxxxxxxxxxxxxxxxxxxxxxx\nbegin\n",
+        output: "",
+        status: 2,
+        errors: "uvt: bad script line 3\n",
+    },
+    Outside {
+        what: "a cancel of a name that is not declared, in the script",
+        input: b"var w\nmain cancel w\nmain cancel v\nbegin\n",
+        output: "",
+        status: 2,
+        errors: "uvt: bad script line 3\n",
+    },
+    Outside {
+        what: "an after callback of a name that is not declared",
+        input: b"var w\nafter w cancel w\nafter v cancel w\nbegin\n",
+        output: "",
+        status: 2,
+        errors: "uvt: bad script line 3\n",
+    },
+    Outside {
+        what: "an after callback's call has number 0",
+        input: b"var w\nafter w @0 cancel w\nbegin\n",
+        output: "",
+        status: 2,
+        errors: "uvt: bad script line 2\n",
+    },
+    Outside {
         what: "no line `begin`",
         input: b"var a\nmain init a timer\n",
         output: "",
@@ -187,6 +246,53 @@ const OUTSIDE: [Outside; 24] = [
         what: "a send to a name that is not declared, and to one that has no handle",
         input: b"var a\nbegin\nsend b\nsend\nsend a a\nsend a\n",
         output: "bad command\nbad command\nbad command\nout send a = ESTALE\n",
+        status: 0,
+        errors: "",
+    },
+    Outside {
+        what: "a worker's number that is out of range, or none",
+        input: b"begin\ntake\ntake 65535\ntake 65536\ntake 00\ntake 0 0\ntake a\n\
+            finish\nfinish 65535\nfinish 65536\nfinish -1\nfinish 1 \ntakes 1\n",
+        output: "bad command\nrefused noworker\nbad command\nbad command\nbad command\nbad command\n\
+            bad command\nrefused noworker\nbad command\nbad command\nbad command\nbad command\n",
+        status: 0,
+        errors: "",
+    },
+    Outside {
+        what: "a cancel of a name that is not declared, and of one that has no request",
+        input: b"var a\nmain init a idle\nbegin\ncancel b\ncancel\ncancel a a\ncancel a\nloop\ncancel a\n",
+        output: "bad command\nbad command\nbad command\nout cancel a = ESTALE\n\
+            init a idle = 0.0\nout cancel a = EKIND\n",
+        status: 0,
+        errors: "",
+    },
+    Outside {
+        what: "a break that stops nowhere",
+        input: b"var a\nbegin\nbreak\nbreak call\nbreak call b\nbreak call a a\nbreak code OK\nbreak code EAGAIN\n\
+            break section\nbreak section main\nbreak poll\nbreak clear a\nbreak clear \nbreak at 3\n",
+        output: "bad command\nbad command\nbad command\nbad command\nbad command\nbad command\n\
+            bad command\nbad command\nbad command\nbad command\nbad command\nbad command\n",
+        status: 0,
+        errors: "",
+    },
+    Outside {
+        what: "a number of steps to run again that is out of range",
+        input: b"begin\nforward\nforward 16777217\nforward 01\nforward 1 1\nforward a\nforward 0\nforward 1\n",
+        output: "bad command\nbad command\nbad command\nbad command\nbad command\nat 0\nrefused range\n",
+        status: 0,
+        errors: "",
+    },
+    Outside {
+        what: "a state of something, and one with a space too many",
+        input: b"begin\nstate 1\nstate \nstates\n",
+        output: "bad command\nbad command\nbad command\n",
+        status: 0,
+        errors: "",
+    },
+    Outside {
+        what: "back to a break, by how many, and with none",
+        input: b"begin\nrback 1\ntick 1\ntick 1\nrback\n",
+        output: "bad command\nout tick 1\nout tick 1\nrefused range\n",
         status: 0,
         errors: "",
     },
@@ -261,6 +367,23 @@ fn a_line_of_257_bytes(rt: HostRuntime) -> Result<(), Fail> {
     }
     let ran = run_on(alloc, &["uvt", "debug"], input.as_slice());
     assert_eq!(rt; ran.output.as_slice(), b"bad command\n".as_slice());
+    assert_eq!(rt; ran.status, 0);
+    Ok(())
+}
+
+#[test]
+fn a_session_has_256_breaks(rt: HostRuntime) -> Result<(), Fail> {
+    let alloc = rt.alloc();
+    let mut input = Vec::from_slice(alloc, b"begin\n")?;
+    let mut wanted = Vec::new(alloc);
+    for _ in 0..256 {
+        input.extend_from_slice(b"break code ok\n")?;
+        wanted.extend_from_slice(b"break ok\n")?;
+    }
+    input.extend_from_slice(b"break code ok\nbreak clear\nbreak section poll\n")?;
+    wanted.extend_from_slice(b"refused limit\nbreak ok\nbreak ok\n")?;
+    let ran = run_on(alloc, &["uvt", "debug"], input.as_slice());
+    assert_eq!(rt; ran.output.as_slice(), wanted.as_slice());
     assert_eq!(rt; ran.status, 0);
     Ok(())
 }
@@ -376,7 +499,7 @@ fn unbarred(alloc: Global, text: &[u8]) -> Result<Vec<u8>, AllocError> {
 #[test]
 fn devices_fail(rt: HostRuntime) -> Result<(), Fail> {
     let alloc = rt.alloc();
-    for one in &CONVERSATIONS {
+    for one in GROUPS.iter().flat_map(|group| group.iter()) {
         for k in 0..80u32 {
             for reads in [true, false] {
                 let mut reader = Reader::new(Lines {
@@ -425,7 +548,7 @@ fn devices_fail(rt: HostRuntime) -> Result<(), Fail> {
 #[test]
 fn want_of_memory(rt: HostRuntime) {
     let alloc = rt.alloc();
-    for one in &CONVERSATIONS {
+    for one in GROUPS.iter().flat_map(|group| group.iter()) {
         let ran = run_on(alloc, &["uvt", "debug"], one.input.as_bytes());
         assert!(rt;
             one.output.as_bytes().starts_with(ran.output.as_slice()),

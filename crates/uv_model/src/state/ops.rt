@@ -4,12 +4,11 @@ ghost use Rattle.uv_records.specs.Handles.{inited};
 ghost use Rattle.uv_records.specs.Refusals.{no_refusal};
 ghost use Rattle.uv_records.specs.Slots.{next_free, taken};
 ghost use Rattle.uv_model.specs.declared.content.Content.TheVariants as content;
-ghost use Rattle.uv_model.specs.State.{live};
+ghost use Rattle.uv_model.specs.State.{live_handle};
 ghost use Rattle.uv_model.specs.Ops.{do_op, on_handle, set_referenced, listed_last, closed, send};
 ghost use Rattle.uv_model.specs.Bounds.{CanStep};
 
 use crate::content::Content;
-use crate::named::Named;
 use crate::state::LoopState;
 use std::alloc::AllocError;
 use uv_ids::{Answer, Code, Id, Kind, Var};
@@ -25,6 +24,8 @@ impl LoopState {
     {
         match op {
             Op::Init(name, kind) => self.init(name, kind),
+            Op::Queue(name, task) => self.queue(name, task),
+            Op::Cancel(name) => self.cancel(name),
             Op::Start(name, timeout, repeat) => self.start(name, timeout, repeat),
             Op::StartWatcher(name) => self.start_watcher(name),
             Op::Stop(name) => Ok(self.stop(name)),
@@ -82,14 +83,7 @@ impl LoopState {
             return Ok(Answer::Code(Code::Efull));
         };
         self.add(name, kind, id)?;
-        let named = self.named(name);
-        self.set_named(
-            name,
-            Named {
-                id: Some(id),
-                ..named
-            },
-        );
+        self.bind(name, id);
         Ok(Answer::Id(id))
     }
 
@@ -99,8 +93,9 @@ impl LoopState {
         ensures ok { IfOk result (λ answer. do_op self.old (Op.Start name timeout repeat) ≡ record { state = self.new; answer = answer }) }
         ensures err { OnErr result (self.new ≡ self.old) }
     {
-        let Some((id, handle)) = self.live(name) else {
-            return Ok(Answer::Code(Code::Estale));
+        let (id, handle) = match self.live_handle(name) {
+            Ok(live) => live,
+            Err(code) => return Ok(Answer::Code(code)),
         };
         if let Some(code) = handle.start_timer_refusal() {
             return Ok(Answer::Code(code));
@@ -114,8 +109,9 @@ impl LoopState {
         ensures ok { IfOk result (λ answer. do_op self.old (Op.StartWatcher name) ≡ record { state = self.new; answer = answer }) }
         ensures err { OnErr result (self.new ≡ self.old) }
     {
-        let Some((id, handle)) = self.live(name) else {
-            return Ok(Answer::Code(Code::Estale));
+        let (id, handle) = match self.live_handle(name) {
+            Ok(live) => live,
+            Err(code) => return Ok(Answer::Code(code)),
         };
         if let Some(code) = handle.start_watcher_refusal() {
             return Ok(Answer::Code(code));
@@ -133,8 +129,9 @@ impl LoopState {
     fn stop(&mut self, name: Var) -> Answer
         ensures { do_op self.old (Op.Stop name) ≡ record { state = self.new; answer = result } }
     {
-        let Some((id, handle)) = self.live(name) else {
-            return Answer::Code(Code::Estale);
+        let (id, handle) = match self.live_handle(name) {
+            Ok(live) => live,
+            Err(code) => return Answer::Code(code),
         };
         if let Some(code) = handle.stop_refusal() {
             return Answer::Code(code);
@@ -149,8 +146,9 @@ impl LoopState {
         ensures ok { IfOk result (λ answer. do_op self.old (Op.Again name) ≡ record { state = self.new; answer = answer }) }
         ensures err { OnErr result (self.new ≡ self.old) }
     {
-        let Some((id, handle)) = self.live(name) else {
-            return Ok(Answer::Code(Code::Estale));
+        let (id, handle) = match self.live_handle(name) {
+            Ok(live) => live,
+            Err(code) => return Ok(Answer::Code(code)),
         };
         if let Some(code) = handle.again_refusal() {
             return Ok(Answer::Code(code));
@@ -163,8 +161,9 @@ impl LoopState {
     fn set_repeat(&mut self, name: Var, repeat: u64) -> Answer
         ensures { do_op self.old (Op.SetRepeat name repeat) ≡ record { state = self.new; answer = result } }
     {
-        let Some((id, handle)) = self.live(name) else {
-            return Answer::Code(Code::Estale);
+        let (id, handle) = match self.live_handle(name) {
+            Ok(live) => live,
+            Err(code) => return Answer::Code(code),
         };
         if let Some(code) = handle.timer_refusal() {
             return Answer::Code(code);
@@ -177,8 +176,9 @@ impl LoopState {
     fn due(&self, name: Var) -> Answer
         ensures { do_op self.now (Op.DueIn name) ≡ record { state = self.now; answer = result } }
     {
-        let Some((_, handle)) = self.live(name) else {
-            return Answer::Code(Code::Estale);
+        let handle = match self.live_handle(name) {
+            Ok((_, handle)) => handle,
+            Err(code) => return Answer::Code(code),
         };
         match handle.timer_refusal() {
             Some(code) => Answer::Code(code),
@@ -202,8 +202,9 @@ impl LoopState {
         ensures ok { IfOk result (λ answer. do_op self.old (Op.Close name) ≡ record { state = self.new; answer = answer }) }
         ensures err { OnErr result (self.new ≡ self.old) }
     {
-        let Some((id, handle)) = self.live(name) else {
-            return Ok(Answer::Code(Code::Estale));
+        let (id, handle) = match self.live_handle(name) {
+            Ok(live) => live,
+            Err(code) => return Ok(Answer::Code(code)),
         };
         if let Some(code) = handle.close_refusal() {
             return Ok(Answer::Code(code));
@@ -214,11 +215,12 @@ impl LoopState {
 
     /// References a handle, or doesn't (uv_ref, uv_unref).
     fn set_referenced(&mut self, name: Var, referenced: bool) -> Answer
-        ensures { on_handle self.old (live self.old name) no_refusal (set_referenced self.old referenced)
+        ensures { on_handle self.old (live_handle self.old name) no_refusal (set_referenced self.old referenced)
             ≡ record { state = self.new; answer = result } }
     {
-        let Some((id, handle)) = self.live(name) else {
-            return Answer::Code(Code::Estale);
+        let (id, handle) = match self.live_handle(name) {
+            Ok(live) => live,
+            Err(code) => return Answer::Code(code),
         };
         self.set_handle(id, handle.referenced_as(referenced));
         Answer::Code(Code::Ok)
@@ -228,9 +230,9 @@ impl LoopState {
     fn has_ref(&self, name: Var) -> Answer
         ensures { do_op self.now (Op.HasRef name) ≡ record { state = self.now; answer = result } }
     {
-        match self.live(name) {
-            None => Answer::Code(Code::Estale),
-            Some((_, handle)) => Answer::Flag(handle.referenced),
+        match self.live_handle(name) {
+            Err(code) => Answer::Code(code),
+            Ok((_, handle)) => Answer::Flag(handle.referenced),
         }
     }
 
@@ -238,9 +240,9 @@ impl LoopState {
     fn is_active(&self, name: Var) -> Answer
         ensures { do_op self.now (Op.IsActive name) ≡ record { state = self.now; answer = result } }
     {
-        match self.live(name) {
-            None => Answer::Code(Code::Estale),
-            Some((_, handle)) => Answer::Flag(handle.active),
+        match self.live_handle(name) {
+            Err(code) => Answer::Code(code),
+            Ok((_, handle)) => Answer::Flag(handle.active),
         }
     }
 
@@ -248,18 +250,19 @@ impl LoopState {
     fn is_closing(&self, name: Var) -> Answer
         ensures { do_op self.now (Op.IsClosing name) ≡ record { state = self.now; answer = result } }
     {
-        match self.live(name) {
-            None => Answer::Code(Code::Estale),
-            Some((_, handle)) => Answer::Flag(handle.closing),
+        match self.live_handle(name) {
+            Err(code) => Answer::Code(code),
+            Ok((_, handle)) => Answer::Flag(handle.closing),
         }
     }
 
     /// Has an async handle called (uv_async_send).
     pub(super) fn send(&mut self, name: Var) -> Code
-        ensures { send self.old (live self.old name) ≡ record { state = self.new; code = result } }
+        ensures { send self.old (live_handle self.old name) ≡ record { state = self.new; code = result } }
     {
-        let Some((id, handle)) = self.live(name) else {
-            return Code::Estale;
+        let (id, handle) = match self.live_handle(name) {
+            Ok(live) => live,
+            Err(code) => return code,
         };
         if let Some(code) = handle.send_refusal() {
             return code;

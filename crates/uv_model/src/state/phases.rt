@@ -16,7 +16,7 @@ use uv_records::{HandleRecord, WatcherKind};
 use uv_script::{CallbackLine, MainOp, Script};
 
 /// A step that appended a line.
-fn seen(seen: Seen) -> Outcome
+pub(super) fn seen(seen: Seen) -> Outcome
     ensures { result.seen ≡ Some seen }
 {
     Outcome { seen: Some(seen) }
@@ -120,15 +120,14 @@ impl LoopState {
         seen(Seen::Poll(timeout))
     }
 
-    /// Leaves the poll once its deadline has passed.
+    /// Leaves the poll, if it may be left.
     fn poll(&mut self, run: Run, deadline: Option<u64>) -> Result<Outcome, Why>
         ensures { Falls (poll self.old run deadline) self.old result self.new }
     {
         if !self.may_leave(deadline) {
             return Err(Why::Blocked);
         }
-        self.refresh();
-        Ok(self.begin(run, Stage::Done, Phase::Done))
+        Ok(self.begin_done(run))
     }
 
     /// Begins the timers of an iteration.
@@ -272,7 +271,7 @@ impl LoopState {
             Stage::Idle => self.in_walk(script, run, WatcherKind::Idle),
             Stage::Prepare => self.in_walk(script, run, WatcherKind::Prepare),
             Stage::Poll(deadline) => self.poll(run, deadline).map_err(Fault::Refused),
-            Stage::Done => Ok(self.begin_walk(run, WatcherKind::Async)),
+            Stage::Done => self.in_done(script, run),
             Stage::Async => self.in_async(script, run),
             Stage::Check => self.in_walk(script, run, WatcherKind::Check),
             Stage::Closing => self.in_closing(script, run),
@@ -363,6 +362,9 @@ impl LoopState {
         ensures { Steps (next script.now self.old event) self.old result self.new }
     {
         match event {
+            Event::Take(worker) => self.take(worker).map_err(Fault::Refused),
+            Event::Finish(worker) => self.finish(worker),
+            Event::Cancel(name) => self.cancels(name),
             Event::Send(name) => self.send_to(name).map_err(Fault::Refused),
             Event::Tick(ms) => self.tick(ms).map_err(Fault::Refused),
             Event::Loop => match self.place {

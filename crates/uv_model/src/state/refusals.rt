@@ -1,6 +1,6 @@
 //! Why a step is to be refused. It is found before anything is changed, and before memory is asked for.
 ghost use Rattle.std.specs.Prelude.{◌≡◌, ◌+◌, ◌≤◌, IfSome, IfNone, slice_get, None};
-ghost use Rattle.uv_model.specs.Next.{main_step, run_step, sent_to, tick, next, LATEST};
+ghost use Rattle.uv_model.specs.Next.{main_step, run_step, next_work, take, work_of, finish, cancels, sent_to, tick, next, LATEST};
 ghost use Rattle.uv_model.specs.After.{refusal_of};
 
 use crate::place::{Place, Run, Stage};
@@ -42,7 +42,7 @@ impl LoopState {
         }
     }
 
-    /// The poll isn't left before its deadline unless an async handle was sent to.
+    /// The poll isn't left before its deadline unless a request is done or an async handle was sent to.
     #[tactic(auto, using(crate::proofs::Refusals::run_moves))]
     fn run_refusal(&self, script: &Script, run: Run) -> Option<Why>
         ensures { result ≡ refusal_of (run_step script.now self.now run run.body) }
@@ -53,9 +53,24 @@ impl LoopState {
         }
     }
 
+    /// A worker has to be there and to run nothing, and a request has to wait.
+    fn take_refusal(&self, worker: u16) -> Option<Why>
+        ensures { result ≡ refusal_of (take self.now worker (next_work self.now (slice_get self.now.running worker))) }
+    {
+        self.next_work(worker).err()
+    }
+
+    /// A worker has to be there and to run a request.
+    fn finish_refusal(&self, worker: u16) -> Option<Why>
+        ensures { result ≡ refusal_of (finish self.now worker (work_of self.now (slice_get self.now.running worker))) }
+    {
+        self.work_of(worker).err()
+    }
+
     /// There has to be such a name.
-    fn send_refusal(&self, name: Var) -> Option<Why>
-        ensures { result ≡ refusal_of (sent_to self.now name) }
+    fn name_refusal(&self, name: Var) -> Option<Why>
+        ensures cancels { result ≡ refusal_of (cancels self.now name) }
+        ensures sends { result ≡ refusal_of (sent_to self.now name) }
     {
         if (name.0 as usize) < self.names.len() {
             None
@@ -70,7 +85,9 @@ impl LoopState {
         ensures { result ≡ refusal_of (next script.now self.now event) }
     {
         match event {
-            Event::Send(name) => self.send_refusal(name),
+            Event::Take(worker) => self.take_refusal(worker),
+            Event::Finish(worker) => self.finish_refusal(worker),
+            Event::Cancel(name) | Event::Send(name) => self.name_refusal(name),
             Event::Tick(ms) => self.tick_refusal(ms),
             Event::Loop => match self.place {
                 Place::Main(line) => self.main_refusal(script, line),

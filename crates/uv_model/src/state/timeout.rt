@@ -35,7 +35,7 @@ impl LoopState {
     pub(super) fn may_leave(&self, deadline: Option<u64>) -> bool
         ensures { result ≡ may_leave self.now deadline }
     {
-        self.has_passed(deadline) || self.has_pending()
+        self.has_passed(deadline) || self.done.any_listed() || self.has_pending()
     }
 
     /// In how many ms the first timer is due; none is infinite.

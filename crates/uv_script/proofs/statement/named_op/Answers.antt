@@ -18,3 +18,8 @@ pub returns-in-closing : goal.returns-in-closing
 unfolding named_op
 returns-in-closing c =
     ap (λ word. named_op word c.args.name) (sym (spelled c.args.word.now (codes "closing") (omega arith) (search rules)))
+
+pub returns-in-cancel : goal.returns-in-cancel
+unfolding named_op
+returns-in-cancel c =
+    ap (λ word. named_op word c.args.name) (sym (spelled c.args.word.now (codes "cancel") (omega arith) (search rules)))

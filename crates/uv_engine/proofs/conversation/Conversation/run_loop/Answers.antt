@@ -12,30 +12,33 @@ returns-in_err-tell-clause-text g c = λ tells.
 pub loop-preserved : goal.loop-preserved
 loop-preserved g c =
     let on = rw c.if-not-branch.false at c.in_ok-tell.ensures.on in
+    let after = c.in_ok-tell.ensures.session in
     record {
       text = λ tells.
-          let before = rw (turn_on c.args.n c.loop.counter c.loop.self.session c.tell.new.session c.loop-test.true on) at
+          let before = rw (turn_on c.args.n c.loop.counter c.loop.self.session c.tell.new.session c.loop-test.true on after) at
           (c.loop.invariant.text tells) in
           gathered_by [] (gathered_more _ before c.in_ok-tell.ensures.text) (c.in_ok-spill.ensures.text tells);
-      session = sym (turn_after c.args.n c.loop.counter c.loop.self.session c.tell.new.session c.loop-test.true on) ∙ c.loop.invariant.session;
+      session = sym (turn_after c.args.n c.loop.counter c.loop.self.session c.tell.new.session c.loop-test.true on after) ∙ c.loop.invariant.session;
       none_failed = c.in_ok-spill.ensures.writer ∙ c.loop.invariant.none_failed;
     }
 
 pub returns-then-not-branch-clause-text : goal.returns-then-not-branch-clause-text
 returns-then-not-branch-clause-text g c = λ tells.
     let off = rw c.if-not-branch.true at c.in_ok-tell.ensures.on in
-    let before = rw (turn_off c.args.n c.loop.counter c.loop.self.session c.tell.new.session c.loop-test.true off) at (c.loop.invariant.text tells) in
+    let before = rw (turn_off c.args.n c.loop.counter c.loop.self.session c.loop-test.true off) at (c.loop.invariant.text tells) in
     gathered_all _ _ (gathered_more _ {rest = []} before c.in_ok-tell.ensures.text)
 
 pub returns-then-not-branch-clause-session : goal.returns-then-not-branch-clause-session
 returns-then-not-branch-clause-session g c =
     let off = rw c.if-not-branch.true at c.in_ok-tell.ensures.on in
-    sym (off_after c.args.n c.loop.counter c.loop.self.session c.tell.new.session c.loop-test.true off) ∙ c.loop.invariant.session
+    sym (off_after c.args.n c.loop.counter c.loop.self.session c.tell.new.session c.loop-test.true off c.in_ok-tell.ensures.session)
+    ∙ c.loop.invariant.session
 
 pub returns-in_err-spill-clause-text : goal.returns-in_err-spill-clause-text
 returns-in_err-spill-clause-text g c = λ tells.
     let on = rw c.if-not-branch.false at c.in_ok-tell.ensures.on in
-    let before = rw (turn_on c.args.n c.loop.counter c.loop.self.session c.tell.new.session c.loop-test.true on) at (c.loop.invariant.text tells) in
+    let before = rw (turn_on c.args.n c.loop.counter c.loop.self.session c.tell.new.session c.loop-test.true on c.in_ok-tell.ensures.session) at
+    (c.loop.invariant.text tells) in
     rw ((err_from_is_err_and c.from_residual-in_err-spill.result c.from_residual-in_err-spill.ensures.1).1)
     (cut_by [] _ (gathered_more _ before c.in_ok-tell.ensures.text) (c.in_err-spill.ensures.text tells))
 

@@ -1,0 +1,164 @@
+//! What a session answers to one command, as text.
+ghost use Rattle.std.specs.Prelude.{◌≡◌, ◌<◌, ◌++◌, [], length, IfOk, OnOk, codes};
+ghost use Rattle.uv_engine.specs.Reply.{reply, reply_text, reply_after, may_follow, appended_text, break_text, at_text, back_text, back_after, forward_text, forward_after, add_text, add_after, last_break, break_back_text, break_back_after};
+ghost use Rattle.uv_engine.specs.Steps.{last_seen};
+
+use std::alloc::AllocError;
+use uv_ids::{Event, Fault, Seen};
+use uv_model::Machine;
+use uv_script::{Script, push_number};
+use uv_session::{Break, Session, Stop};
+use uv_text::push_seen;
+
+fn push_appended(text: &mut Vec<u8>, script: &Script, seen: Option<Seen>) -> Result<(), AllocError>
+    ensures { OnOk result (text.new.items ≡ text.old.items ++ appended_text script.now seen) }
+{
+    match seen {
+        Some(seen) => push_seen(text, script, seen),
+        None => Ok(()),
+    }
+}
+
+fn push_refused(text: &mut Vec<u8>, why: &str) -> Result<(), AllocError>
+    ensures { OnOk result (text.new.items ≡ text.old.items ++ (codes "refused " ++ why.now ++ codes "\n")) }
+{
+    text.extend_from_slice(b"refused ")?;
+    text.extend_from_slice(why.as_bytes())?;
+    text.extend_from_slice(b"\n")
+}
+
+fn push_break(text: &mut Vec<u8>, length: usize) -> Result<(), AllocError>
+    ensures { OnOk result (text.new.items ≡ text.old.items ++ break_text length) }
+{
+    text.extend_from_slice(b"break ")?;
+    push_at(text, length)
+}
+
+fn push_at(text: &mut Vec<u8>, length: usize) -> Result<(), AllocError>
+    ensures { OnOk result (text.new.items ≡ text.old.items ++ at_text length) }
+{
+    text.extend_from_slice(b"at ")?;
+    push_number(text, length as u64)?;
+    text.extend_from_slice(b"\n")
+}
+
+/// The line of the last step.
+fn push_last<M: Machine>(text: &mut Vec<u8>, session: &Session<M>) -> Result<(), AllocError>
+    requires { 0 < length session.now.standing }
+    ensures { OnOk result (text.new.items ≡ text.old.items ++ appended_text session.now.program (last_seen session.now)) }
+{
+    let machine = session.machine();
+    push_appended(text, machine.script(), machine.seen(machine.len()))
+}
+
+/// One step, and what it prints. Says whether one more may follow.
+#[tactic(auto, using(crate::proofs::Replies::replies))]
+pub(crate) fn tell<M: Machine>(
+    session: &mut Session<M>,
+    text: &mut Vec<u8>,
+    event: Event,
+) -> Result<bool, AllocError>
+    ensures on { IfOk result (λ on. on ≡ may_follow (reply session.old event)) }
+    ensures session { OnOk result (session.new ≡ reply_after session.old (reply session.old event)) }
+    ensures text { OnOk result (text.new.items ≡ text.old.items ++ reply_text session.old.program (reply session.old event)) }
+{
+    match session.run_to_break(event, 1) {
+        Ok(Stop::All) => {
+            push_last(text, session)?;
+            Ok(true)
+        }
+        Ok(Stop::Break(length)) => {
+            push_last(text, session)?;
+            push_break(text, length)?;
+            Ok(false)
+        }
+        Ok(Stop::Refused(why)) => {
+            push_refused(text, why.word())?;
+            Ok(false)
+        }
+        Err(Fault::StepsFull) => {
+            push_refused(text, "steps")?;
+            Ok(false)
+        }
+        Err(_) => Err(AllocError),
+    }
+}
+
+/// Takes steps back.
+#[tactic(auto, using(crate::proofs::Replies::backs))]
+pub(crate) fn go_back<M: Machine>(
+    session: &mut Session<M>,
+    text: &mut Vec<u8>,
+    n: u32,
+) -> Result<(), AllocError>
+    ensures text { OnOk result (text.new.items ≡ text.old.items ++ back_text n session.old) }
+    ensures session { OnOk result (session.new ≡ back_after n session.old) }
+{
+    match session.back(n as usize) {
+        Ok(()) => push_at(text, session.steps().len()),
+        Err(Fault::Refused(why)) => push_refused(text, why.word()),
+        Err(_) => Err(AllocError),
+    }
+}
+
+/// Runs steps again that were taken back.
+#[tactic(auto, using(crate::proofs::Replies::forwards))]
+pub(crate) fn go_forward<M: Machine>(
+    session: &mut Session<M>,
+    text: &mut Vec<u8>,
+    n: u32,
+) -> Result<(), AllocError>
+    ensures text { OnOk result (text.new.items ≡ text.old.items ++ forward_text n session.old) }
+    ensures session { OnOk result (session.new ≡ forward_after n session.old) }
+{
+    match session.forward(n as usize) {
+        Ok(()) => push_at(text, session.steps().len()),
+        Err(Fault::Refused(why)) => push_refused(text, why.word()),
+        Err(_) => Err(AllocError),
+    }
+}
+
+/// Has runs stop at one break more.
+#[tactic(auto, using(crate::proofs::Replies::adds))]
+pub(crate) fn add_break<M: Machine>(
+    session: &mut Session<M>,
+    text: &mut Vec<u8>,
+    at: Break,
+) -> Result<(), AllocError>
+    ensures text { OnOk result (text.new.items ≡ text.old.items ++ add_text session.old) }
+    ensures session { OnOk result (session.new ≡ add_after at session.old) }
+{
+    match session.add_break(at) {
+        Ok(()) => text.extend_from_slice(b"break ok\n"),
+        Err(Fault::Limit) => push_refused(text, "limit"),
+        Err(_) => Err(AllocError),
+    }
+}
+
+/// Has runs stop nowhere.
+pub(crate) fn clear_breaks<M: Machine>(
+    session: &mut Session<M>,
+    text: &mut Vec<u8>,
+) -> Result<(), AllocError>
+    ensures text { OnOk result (text.new.items ≡ text.old.items ++ codes "break ok\n") }
+    ensures session { session.new ≡ record session.old { breaks = [] } }
+{
+    session.clear_breaks();
+    text.extend_from_slice(b"break ok\n")
+}
+
+/// Goes back to the last step that matches a break, but for the present one.
+#[tactic(auto, using(crate::proofs::Replies::breaks_back))]
+pub(crate) fn back_to_break<M: Machine>(
+    session: &mut Session<M>,
+    text: &mut Vec<u8>,
+) -> Result<(), AllocError>
+    ensures text { OnOk result (text.new.items ≡ text.old.items ++ break_back_text (last_break session.old)) }
+    ensures session { OnOk result (session.new ≡ break_back_after session.old (last_break session.old)) }
+{
+    match session.back_to_break() {
+        Ok(length) => push_break(text, length),
+        Err(Fault::Refused(why)) => push_refused(text, why.word()),
+        Err(_) => Err(AllocError),
+    }
+}

@@ -1,0 +1,369 @@
+-- What the lines of a trace tell of requests, and how each change keeps it.
+use Rattle.std.proofs.Common.{◌≡◌, ◌⊎◌, inl, inr, ℕ, ◌||◌, List, ◌∷◌, Bool, true, false, Option, Some, None, option_map, refl, ap, sym, subst, ◌∙◌, if◌then◌else◌}
+use Rattle.std.proofs.lemmas.Bool.{both_ways}
+use Rattle.std.proofs.lemmas.Option.{same_Some}
+use Rattle.uv_ids.specs.declared.id.Id.{Id}
+use Rattle.uv_ids.specs.declared.id.Var.{Var}
+use Rattle.uv_ids.specs.declared.code.Answer.TheVariants as answer
+use Rattle.uv_ids.specs.declared.seen.Seen.{Seen}
+use Rattle.uv_ids.specs.declared.seen.Seen.TheVariants as seen
+use Rattle.uv_ids.specs.declared.seen.Site.{Site}
+use Rattle.uv_script.specs.declared.op.Op.{Op}
+use Rattle.uv_script.specs.declared.op.Op.TheVariants as op
+use Rattle.uv_script.specs.declared.task.Task.{Task}
+use Rattle.uv_script.specs.Program.{Program, op_at}
+use Rattle.uv_records.specs.Slots.{Slots, held}
+use Rattle.uv_work.specs.Requests.{is_open}
+use Rattle.uv_work.specs.declared.outcome.Outcome.{Outcome}
+use Rattle.uv_work.specs.declared.outcome.Outcome.TheVariants.{Open, Finished, Cancelled}
+use Rattle.uv_model.specs.declared.content.Content.{Content}
+use Rattle.uv_model.specs.declared.content.Content.TheVariants as content
+use Rattle.uv_model.specs.declared.request.Request.{Request}
+use Rattle.uv_model.specs.Content.{request_in, queued, digest_in}
+use Rattle.uv_model.specs.Ids.{same_id}
+use Rattle.uv_order.specs.Active.{has_id}
+use Rattle.uv_order.specs.Once.{Answered, answered, queued_by, first_task, queued_task, is_take_line, has_take_line, is_finish_line, has_finish_line, is_after_line, has_after_line, SaysTrue}
+use Rattle.uv_order.proofs.IdLists.{same, other, itself, turned}
+use Rattle.uv_order.proofs.Contents.{Turns}
+use Rattle.uv_order.proofs.Works.{asked_at, SameRequests}
+use Rattle.uv_order.proofs.Gone.{IsGone, not_held}
+
+-- ---- what is known
+
+-- what the lines tell of a request that ended
+abbrev pub EndsTrue : List Seen → Id → Task → Outcome → Type 0
+EndsTrue past id task Open = Unit {0}
+EndsTrue past id task (Finished digest) = SaysTrue past id task (Some digest)
+EndsTrue past id task Cancelled = SaysTrue past id task None
+
+-- it is held still, or its id is gone
+pub record IsAsked (arena : Slots Content) (id : Id) : Type 0 where
+  pub request : Request
+  pub holds : asked_at arena.slots id ≡ Some request
+
+-- the requests that are held were queued as the lines tell; those that wait have no `out take` line, and those that are run one, but no
+-- `out finish` line; what ended did so as the lines tell. An id of which the lines tell anything was queued, and is held or gone; it is gone
+-- once it has its `after` line
+pub record Worked (p : Program) (past : List Seen) (arena : Slots Content) (waiting runs : List Id) : Type 0 where
+  pub queued : (id : Id) (r : Request) → asked_at arena.slots id ≡ Some r → queued_task p past id ≡ Some r.task
+  pub known : (id : Id) (task : Task) → queued_task p past id ≡ Some task → IsAsked arena id ⊎ IsGone arena.slots arena.free id
+  pub over : (id : Id) → has_after_line past id ≡ true → IsGone arena.slots arena.free id
+  pub taken : (id : Id) → has_take_line past id ≡ true → queued_task p past id ≡ None → ⊥
+  pub finished : (id : Id) → has_finish_line past id ≡ true → has_take_line past id ≡ true
+  pub waits : (id : Id) → has_id waiting id ≡ true → has_take_line past id ≡ false
+  pub runs_now : (id : Id) → has_id runs id ≡ true → (has_take_line past id ≡ true) × (has_finish_line past id ≡ false)
+  pub ended : (id : Id) (r : Request) → asked_at arena.slots id ≡ Some r → EndsTrue past id r.task r.outcome
+
+none_is_none : {X : Type 0} (x : X) → ◌≡◌ {A = Option X} None (Some x) → ⊥
+none_is_none x e = cc e
+
+-- a held request isn't gone
+not_gone : (arena : Slots Content) (id : Id) (r : Request) → held arena.slots id ≡ Some (content.Request r) → IsGone arena.slots arena.free id → ⊥
+not_gone arena id r e g = not_held arena.slots arena.free id (content.Request r) g e
+
+-- so it has had no after callback
+pub not_called : (p : Program) (past : List Seen) (arena : Slots Content) (waiting runs : List Id) (id : Id) (r : Request) →
+    held arena.slots id ≡ Some (content.Request r) → Worked p past arena waiting runs → has_after_line past id ≡ false
+not_called p past arena waiting runs id r e k = at (has_after_line past id) refl where
+  at : (b : Bool) → has_after_line past id ≡ b → b ≡ false
+  at true h = absurd (not_gone arena id r e (k.over id h))
+  at false h = refl
+
+-- ---- lines
+
+-- a line that tells nothing of requests
+pub record IsIdle (p : Program) (l : Seen) : Type 0 where
+  pub queued : (id : Id) → queued_by (answered p l) id ≡ None
+  pub taken : (id : Id) → is_take_line l id ≡ false
+  pub finished : (id : Id) → is_finish_line l id ≡ false
+  pub over : (id : Id) → is_after_line l id ≡ false
+
+pub worked_idle : (p : Program) (past : List Seen) (l : Seen) (arena : Slots Content) (waiting runs : List Id) → IsIdle p l →
+    Worked p past arena waiting runs → Worked p (l ∷ past) arena waiting runs
+worked_idle p past l arena waiting runs q k = record {
+  queued = λ id r e. same_task id ∙ k.queued id r e;
+  known = λ id task e. k.known id task (sym (same_task id) ∙ e);
+  over = λ id e. k.over id (sym (same_over id) ∙ e);
+  taken = λ id e f. k.taken id (sym (same_take id) ∙ e) (sym (same_task id) ∙ f);
+  finished = λ id e. same_take id ∙ k.finished id (sym (same_finish id) ∙ e);
+  waits = λ id e. same_take id ∙ k.waits id e;
+  runs_now = λ id e. let r = k.runs_now id e in (same_take id ∙ r.0, same_finish id ∙ r.1);
+  ended = λ id r e. ends id r.task r.outcome (k.ended id r e);
+} where
+  same_task : (id : Id) → queued_task p (l ∷ past) id ≡ queued_task p past id
+  same_task id = rw (q.queued id) refl
+
+  same_take : (id : Id) → has_take_line (l ∷ past) id ≡ has_take_line past id
+  same_take id = rw (q.taken id) refl
+
+  same_finish : (id : Id) → has_finish_line (l ∷ past) id ≡ has_finish_line past id
+  same_finish id = rw (q.finished id) refl
+
+  same_over : (id : Id) → has_after_line (l ∷ past) id ≡ has_after_line past id
+  same_over id = rw (q.over id) refl
+
+  ends : (id : Id) (task : Task) (o : Outcome) → EndsTrue past id task o → EndsTrue (l ∷ past) id task o
+  ends id task Open e = tt
+  ends id task (Finished digest) e = (same_take id ∙ e.0, same_finish id ∙ e.1, e.2)
+  ends id task Cancelled e = same_take id ∙ e
+
+-- ---- changes without a line
+
+-- no request changes
+pub worked_same : (p : Program) (past : List Seen) (arena more : Slots Content) (waiting runs : List Id) → SameRequests more.slots arena.slots →
+    ((i : Id) → IsGone arena.slots arena.free i → IsGone more.slots more.free i) → Worked p past arena waiting runs →
+    Worked p past more waiting runs
+worked_same p past arena more waiting runs f gone k = record {
+  queued = λ id r e. k.queued id r (sym (f id) ∙ e);
+  known = λ id task e. later id (k.known id task e);
+  over = λ id e. gone id (k.over id e);
+  taken = k.taken;
+  finished = k.finished;
+  waits = k.waits;
+  runs_now = k.runs_now;
+  ended = λ id r e. k.ended id r (sym (f id) ∙ e);
+} where
+  later : (id : Id) → IsAsked arena id ⊎ IsGone arena.slots arena.free id → IsAsked more id ⊎ IsGone more.slots more.free id
+  later id (inl a) = inl (record { request = a.request; holds = f id ∙ a.holds })
+  later id (inr g) = inr (gone id g)
+
+-- fewer wait, and fewer are run
+pub worked_fewer : (p : Program) (past : List Seen) (arena : Slots Content) (waiting runs few_waiting few_runs : List Id) →
+    ((i : Id) → has_id few_waiting i ≡ true → has_id waiting i ≡ true) → ((i : Id) → has_id few_runs i ≡ true → has_id runs i ≡ true) →
+    Worked p past arena waiting runs → Worked p past arena few_waiting few_runs
+worked_fewer p past arena waiting runs few_waiting few_runs f g k = record {
+  queued = k.queued;
+  known = k.known;
+  over = k.over;
+  taken = k.taken;
+  finished = k.finished;
+  waits = λ i e. k.waits i (f i e);
+  runs_now = λ i e. k.runs_now i (g i e);
+  ended = k.ended;
+}
+
+-- a request ends, as the lines tell
+pub worked_ended : (p : Program) (past : List Seen) (arena more : Slots Content) (waiting runs : List Id) (id : Id) (r x : Request) →
+    Turns arena.slots more.slots id (Some (content.Request r)) (Some (content.Request x)) → x.task ≡ r.task → EndsTrue past id x.task x.outcome →
+    ((i : Id) → IsGone arena.slots arena.free i → IsGone more.slots more.free i) → Worked p past arena waiting runs →
+    Worked p past more waiting runs
+worked_ended p past arena more waiting runs id r x t same_task ends gone k = record {
+  queued = λ i y e. queued_now i y e (same_id i id) refl;
+  known = λ i task e. later i (k.known i task e);
+  over = λ i e. gone i (k.over i e);
+  taken = k.taken;
+  finished = k.finished;
+  waits = k.waits;
+  runs_now = k.runs_now;
+  ended = λ i y e. ended_now i y e (same_id i id) refl;
+} where
+  its : (i : Id) (y : Request) → asked_at more.slots i ≡ Some y → same_id i id ≡ true → x ≡ y
+  its i y e s = same_Some _ _ (sym (ap request_in t.here) ∙ ap (asked_at more.slots) (sym (same i id s)) ∙ e)
+
+  queued_now : (i : Id) (y : Request) → asked_at more.slots i ≡ Some y → (b : Bool) → same_id i id ≡ b → queued_task p past i ≡ Some y.task
+  queued_now i y e true s = ap (queued_task p past) (same i id s) ∙ k.queued id r (ap request_in t.before)
+      ∙ ap Some (sym same_task ∙ ap (λ (z : Request). z.task) (its i y e s))
+  queued_now i y e false s = k.queued i y (sym (ap request_in (t.others i (other i id s))) ∙ e)
+
+  later : (i : Id) → IsAsked arena i ⊎ IsGone arena.slots arena.free i → IsAsked more i ⊎ IsGone more.slots more.free i
+  later i (inr g) = inr (gone i g)
+  later i (inl a) = at (same_id i id) refl where
+    at : (b : Bool) → same_id i id ≡ b → IsAsked more i ⊎ IsGone more.slots more.free i
+    at true s = inl (record { request = x; holds = ap (asked_at more.slots) (same i id s) ∙ ap request_in t.here })
+    at false s = inl (record { request = a.request; holds = ap request_in (t.others i (other i id s)) ∙ a.holds })
+
+  ended_now : (i : Id) (y : Request) → asked_at more.slots i ≡ Some y → (b : Bool) → same_id i id ≡ b → EndsTrue past i y.task y.outcome
+  ended_now i y e true s =
+      subst (λ (j : Id). EndsTrue past j y.task y.outcome) (sym (same i id s))
+      (subst (λ (z : Request). EndsTrue past id z.task z.outcome) (its i y e s) ends)
+  ended_now i y e false s = k.ended i y (sym (ap request_in (t.others i (other i id s))) ∙ e)
+
+-- ---- the lines of requests
+
+either : (a b : Bool) → (a || b) ≡ true → (a ≡ true) ⊎ (b ≡ true)
+either true b e = inl refl
+either false b e = inr e
+
+-- a worker takes a request that waits
+pub worked_taken : (p : Program) (past : List Seen) (arena : Slots Content) (waiting runs rest more : List Id) (n : ℕ) (v : Var) (id : Id)
+    (r : Request) → asked_at arena.slots id ≡ Some r → is_open r.outcome ≡ true → has_id waiting id ≡ true →
+    ((i : Id) → has_id rest i ≡ true → (has_id waiting i ≡ true) × (same_id id i ≡ false)) →
+    ((i : Id) → has_id more i ≡ true → (id ≡ i) ⊎ (has_id runs i ≡ true)) → Worked p past arena waiting runs →
+    Worked p (seen.Take n v id ∷ past) arena rest more
+worked_taken p past arena waiting runs rest more n v id r holds opened waits fewer most k = record {
+  queued = k.queued;
+  known = k.known;
+  over = k.over;
+  taken = λ i e f. taken i (either (same_id id i) (has_take_line past i) e) f;
+  finished = λ i e. rw (k.finished i e) (either_true (same_id id i));
+  waits = λ i e. let w = fewer i e in rw (w.1, k.waits i w.0) refl;
+  runs_now = λ i e. runs_now i (most i e);
+  ended = λ i y e. ends i y e y.outcome refl (k.ended i y e);
+} where
+  either_true : (b : Bool) → (b || true) ≡ true
+  either_true true = refl
+  either_true false = refl
+
+  taken : (i : Id) → (same_id id i ≡ true) ⊎ (has_take_line past i ≡ true) → queued_task p past i ≡ None → ⊥
+  taken i (inl s) f =
+      none_is_none r.task (sym f ∙ ap (queued_task p past) (sym (same id i s)) ∙ k.queued id r holds)
+  taken i (inr e) f = k.taken i e f
+
+  unfinished : (b : Bool) → has_finish_line past id ≡ b → b ≡ false
+  unfinished true e = absurd (both_ways (has_take_line past id) (k.waits id waits) (k.finished id e))
+  unfinished false e = refl
+
+  runs_now : (i : Id) → (id ≡ i) ⊎ (has_id runs i ≡ true) → ((same_id id i || has_take_line past i) ≡ true) × (has_finish_line past i ≡ false)
+  runs_now i (inl is) = (rw (itself id i is) refl, ap (has_finish_line past) (sym is) ∙ unfinished (has_finish_line past id) refl)
+  runs_now i (inr e) = let was = k.runs_now i e in (rw was.0 (either_true (same_id id i)), was.1)
+
+  ends : (i : Id) (y : Request) → asked_at arena.slots i ≡ Some y → (o : Outcome) → y.outcome ≡ o → EndsTrue past i y.task o →
+      EndsTrue (seen.Take n v id ∷ past) i y.task o
+  ends i y e Open f g = tt
+  ends i y e (Finished digest) f g = (rw g.0 (either_true (same_id id i)), g.1, g.2)
+  ends i y e Cancelled f g = at (same_id id i) refl where
+    clash : ◌≡◌ {A = Bool} false true → ⊥
+    clash c = cc c
+
+    at : (b : Bool) → same_id id i ≡ b → (b || has_take_line past i) ≡ false
+    at false s = g
+    at true s =
+        let is : r ≡ y = same_Some _ _ (sym holds ∙ ap (asked_at arena.slots) (same id i s) ∙ e) in
+        absurd (clash (sym (ap (λ (z : Request). is_open z.outcome) is ∙ ap is_open f) ∙ opened))
+
+-- a worker finishes a request that it runs
+pub worked_finished : (p : Program) (past : List Seen) (arena : Slots Content) (waiting runs few : List Id) (n : ℕ) (v : Var) (id : Id) →
+    has_id runs id ≡ true → ((i : Id) → has_id few i ≡ true → (has_id runs i ≡ true) × (same_id id i ≡ false)) →
+    Worked p past arena waiting runs → Worked p (seen.Finish n v id ∷ past) arena waiting few
+worked_finished p past arena waiting runs few n v id on fewer k = record {
+  queued = k.queued;
+  known = k.known;
+  over = k.over;
+  taken = k.taken;
+  finished = λ i e. finished i (either (same_id id i) (has_finish_line past i) e);
+  waits = k.waits;
+  runs_now = λ i e. let f = fewer i e in let was = k.runs_now i f.0 in (was.0, rw (f.1, was.1) refl);
+  ended = λ i y e. ends i y.task y.outcome (k.ended i y e);
+} where
+  finished : (i : Id) → (same_id id i ≡ true) ⊎ (has_finish_line past i ≡ true) → has_take_line past i ≡ true
+  finished i (inl s) = ap (has_take_line past) (sym (same id i s)) ∙ (k.runs_now id on).0
+  finished i (inr e) = k.finished i e
+
+  ends : (i : Id) (task : Task) (o : Outcome) → EndsTrue past i task o → EndsTrue (seen.Finish n v id ∷ past) i task o
+  ends i task Open g = tt
+  ends i task (Finished digest) g = (g.0, at (same_id id i), g.2) where
+    at : (b : Bool) → (b || has_finish_line past i) ≡ true
+    at true = refl
+    at false = g.1
+  ends i task Cancelled g = g
+
+-- a request is queued under an id that isn't gone and stands for nothing
+pub worked_queued : (p : Program) (past : List Seen) (place : Site) (v : Var) (task : Task) (arena more : Slots Content)
+    (waiting runs listed : List Id)
+    (id : Id) → op_at p place ≡ Some (op.Queue v task) → Turns arena.slots more.slots id None (Some (content.Request (queued v task))) →
+    (IsGone arena.slots arena.free id → ⊥) → ((i : Id) → has_id listed i ≡ true → (id ≡ i) ⊎ (has_id waiting i ≡ true)) →
+    ((i : Id) → IsGone arena.slots arena.free i → IsGone more.slots more.free i) → Worked p past arena waiting runs →
+    Worked p (seen.Op place (answer.Id id) ∷ past) more listed runs
+worked_queued p past place v task arena more waiting runs listed id e t fresh most gone k = record {
+  queued = λ i y h. rw (asked i) (queued_now i y h (same_id i id) refl);
+  known = λ i x h. known_now i x (sym (asked i) ∙ h) (same_id id i) refl;
+  over = λ i h. gone i (k.over i h);
+  taken = λ i h f. k.taken i h (still_none i (sym (asked i) ∙ f));
+  finished = k.finished;
+  waits = λ i h. waits i (most i h);
+  runs_now = k.runs_now;
+  ended = λ i y h. ended_now i y h (same_id i id) refl;
+} where
+  asked : (i : Id) → queued_task p (seen.Op place (answer.Id id) ∷ past) i ≡ first_task (if same_id id i then Some task else None)
+      (queued_task p past i)
+  asked i = ap (λ (o : Option Answered). first_task (queued_by o i) (queued_task p past i))
+      (ap (option_map (λ (o : Op). record { op = o; answer = answer.Id id })) e)
+
+  never : (b : Option Task) → queued_task p past id ≡ b → b ≡ None
+  never None f = refl
+  never (Some x) f = absurd (at (k.known id x f)) where
+    at : IsAsked arena id ⊎ IsGone arena.slots arena.free id → ⊥
+    at (inl a) = none_is_none a.request (sym (ap request_in t.before) ∙ a.holds)
+    at (inr g) = fresh g
+
+  untaken : (b : Bool) → has_take_line past id ≡ b → b ≡ false
+  untaken true h = absurd (k.taken id h (never (queued_task p past id) refl))
+  untaken false h = refl
+
+  still_none : (i : Id) → first_task (if same_id id i then Some task else None) (queued_task p past i) ≡ None → queued_task p past i ≡ None
+  still_none i f = at (same_id id i) f where
+    at : (b : Bool) → first_task (if b then Some task else None) (queued_task p past i) ≡ None → queued_task p past i ≡ None
+    at true g = cc g
+    at false g = g
+
+  its : (i : Id) (y : Request) → asked_at more.slots i ≡ Some y → same_id i id ≡ true → queued v task ≡ y
+  its i y h s = same_Some _ _ (sym (ap request_in t.here) ∙ ap (asked_at more.slots) (sym (same i id s)) ∙ h)
+
+  queued_now : (i : Id) (y : Request) → asked_at more.slots i ≡ Some y → (b : Bool) → same_id i id ≡ b →
+      first_task (if same_id id i then Some task else None) (queued_task p past i) ≡ Some y.task
+  queued_now i y h true s = rw (turned id i, s) (ap (λ (z : Request). Some z.task) (its i y h s))
+  queued_now i y h false s = rw (turned id i, s) (k.queued i y (sym (ap request_in (t.others i (other i id s))) ∙ h))
+
+  known_now : (i : Id) (x : Task) → first_task (if same_id id i then Some task else None) (queued_task p past i) ≡ Some x → (b : Bool) →
+      same_id id i ≡ b → IsAsked more i ⊎ IsGone more.slots more.free i
+  known_now i x h true s =
+      inl (record { request = queued v task; holds = ap (asked_at more.slots) (sym (same id i s)) ∙ ap request_in t.here })
+  known_now i x h false s = at (k.known i x (sym (ap (λ (b : Bool). first_task (if b then Some task else None) (queued_task p past i)) s) ∙ h)) where
+    at : IsAsked arena i ⊎ IsGone arena.slots arena.free i → IsAsked more i ⊎ IsGone more.slots more.free i
+    at (inl a) = inl (record { request = a.request; holds = ap request_in (t.others i (other i id (turned i id ∙ s))) ∙ a.holds })
+    at (inr g) = inr (gone i g)
+
+  waits : (i : Id) → (id ≡ i) ⊎ (has_id waiting i ≡ true) → has_take_line past i ≡ false
+  waits i (inl is) = ap (has_take_line past) (sym is) ∙ untaken (has_take_line past id) refl
+  waits i (inr h) = k.waits i h
+
+  ended_now : (i : Id) (y : Request) → asked_at more.slots i ≡ Some y → (b : Bool) → same_id i id ≡ b →
+      EndsTrue (seen.Op place (answer.Id id) ∷ past) i y.task y.outcome
+  ended_now i y h true s = subst (λ (z : Request). EndsTrue (seen.Op place (answer.Id id) ∷ past) i z.task z.outcome) (its i y h s) tt
+  ended_now i y h false s = lines i y.task y.outcome (k.ended i y (sym (ap request_in (t.others i (other i id s))) ∙ h)) where
+    lines : (j : Id) (x : Task) (o : Outcome) → EndsTrue past j x o → EndsTrue (seen.Op place (answer.Id id) ∷ past) j x o
+    lines j x Open g = tt
+    lines j x (Finished digest) g = g
+    lines j x Cancelled g = g
+
+-- the request's after callback begins, and its slot is freed
+pub worked_collected : (p : Program) (past : List Seen) (arena more : Slots Content) (waiting runs : List Id) (digest : Option (List ℕ)) (v : Var)
+    (id : Id) (r : Request) → Turns arena.slots more.slots id (Some (content.Request r)) None → IsGone more.slots more.free id →
+    ((i : Id) → IsGone arena.slots arena.free i → IsGone more.slots more.free i) → Worked p past arena waiting runs →
+    Worked p (seen.After digest v id ∷ past) more waiting runs
+worked_collected p past arena more waiting runs digest v id r t now gone k = record {
+  queued = λ i y e. k.queued i y (earlier i y e);
+  known = λ i x e. later i (same_id i id) refl (k.known i x e);
+  over = λ i e. over i (either (same_id id i) (has_after_line past i) e);
+  taken = k.taken;
+  finished = k.finished;
+  waits = k.waits;
+  runs_now = k.runs_now;
+  ended = λ i y e. lines i y.task y.outcome (k.ended i y (earlier i y e));
+} where
+  earlier : (i : Id) (y : Request) → asked_at more.slots i ≡ Some y → asked_at arena.slots i ≡ Some y
+  earlier i y e = at (same_id i id) refl where
+    at : (b : Bool) → same_id i id ≡ b → asked_at arena.slots i ≡ Some y
+    at true s = absurd (none_is_none y (sym (ap request_in t.here) ∙ ap (asked_at more.slots) (sym (same i id s)) ∙ e))
+    at false s = sym (ap request_in (t.others i (other i id s))) ∙ e
+
+  later : (i : Id) (b : Bool) → same_id i id ≡ b → IsAsked arena i ⊎ IsGone arena.slots arena.free i → IsAsked more i ⊎ IsGone more.slots more.free i
+  later i true s a = inr (subst (IsGone more.slots more.free) (sym (same i id s)) now)
+  later i false s (inl a) = inl (record { request = a.request; holds = ap request_in (t.others i (other i id s)) ∙ a.holds })
+  later i false s (inr g) = inr (gone i g)
+
+  over : (i : Id) → (same_id id i ≡ true) ⊎ (has_after_line past i ≡ true) → IsGone more.slots more.free i
+  over i (inl s) = subst (IsGone more.slots more.free) (same id i s) now
+  over i (inr e) = gone i (k.over i e)
+
+  lines : (j : Id) (x : Task) (o : Outcome) → EndsTrue past j x o → EndsTrue (seen.After digest v id ∷ past) j x o
+  lines j x Open g = tt
+  lines j x (Finished d) g = g
+  lines j x Cancelled g = g
+
+-- what the after callback of a request that ended says
+pub says_true : (past : List Seen) (id : Id) (task : Task) (o : Outcome) → is_open o ≡ false → EndsTrue past id task o →
+    SaysTrue past id task (digest_in o)
+says_true past id task Open e f = cc e
+says_true past id task (Finished digest) e f = f
+says_true past id task Cancelled e f = f

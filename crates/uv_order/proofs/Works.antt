@@ -1,0 +1,379 @@
+-- The requests: those that wait for a worker or are run by one are open, those that are done are ended; none stands twice, and no other
+-- request is held.
+use Rattle.std.proofs.Common.{◌≡◌, ℕ, zero, suc, ◌||◌, List, [], ◌∷◌, ◌++◌, Bool, true, false, Option, Some, None, slice_get, slice_set, replicate, refl, ap, sym, subst, ◌∙◌, append_assoc, append-nil}
+use Rattle.std.specs.List.{list_any}
+use Rattle.std.proofs.lemmas.Bool.{both_ways, or_parts}
+use Rattle.std.proofs.lemmas.Option.{same_Some}
+use Rattle.uv_ids.specs.declared.id.Id.{Id}
+use Rattle.uv_records.specs.declared.handle.HandleRecord.{HandleRecord}
+use Rattle.uv_records.specs.declared.slot.Slot.{Slot}
+use Rattle.uv_records.specs.Slots.{held}
+use Rattle.uv_records.specs.Walks.{Walk}
+use Rattle.uv_work.specs.Requests.{is_open}
+use Rattle.uv_model.specs.declared.content.Content.{Content}
+use Rattle.uv_model.specs.declared.content.Content.TheVariants as content
+use Rattle.uv_model.specs.declared.request.Request.{Request}
+use Rattle.uv_model.specs.Content.{request_in}
+use Rattle.uv_model.specs.Ids.{same_id, without_id}
+use Rattle.uv_order.specs.Active.{has_id, AreDistinct}
+use Rattle.uv_order.proofs.IdLists.{same, other, itself, turned, has_new_middle, distinct_middle, distinct_but, without_absent}
+use Rattle.uv_order.proofs.Contents.{Turns}
+use Rattle.uv_order.proofs.Holding.{held_at, put, put_turns}
+
+-- ---- requests of which something holds
+
+abbrev pub asked_at : List (Slot Content) → Id → Option Request
+asked_at slots id = request_in (held slots id)
+
+pub record Asks (slots : List (Slot Content)) (P : Request → Type 0) (id : Id) : Type 0 where
+  pub request : Request
+  pub holds : asked_at slots id ≡ Some request
+  pub fits : P request
+
+-- these are all of them and no others, and none twice
+pub record AllAsk (slots : List (Slot Content)) (P : Request → Type 0) (ids : List Id) : Type 0 where
+  pub each : (id : Id) → has_id ids id ≡ true → Asks slots P id
+  pub all : (id : Id) → Asks slots P id → has_id ids id ≡ true
+  pub distinct : AreDistinct ids
+
+-- what is held there is no such request
+abbrev pub FitsNot : (Request → Type 0) → Option Content → Type 0
+FitsNot P c = (r : Request) → request_in c ≡ Some r → P r → ⊥
+
+-- no request changes
+abbrev pub SameRequests : List (Slot Content) → List (Slot Content) → Type 0
+SameRequests more slots = (i : Id) → asked_at more i ≡ asked_at slots i
+
+-- one id turns, which stands for no request before and after
+pub same_requests : (slots more : List (Slot Content)) (id : Id) (was is : Option Content) → Turns slots more id was is → request_in was ≡ None →
+    request_in is ≡ None → SameRequests more slots
+same_requests slots more id was is t e f i = at (same_id i id) refl where
+  at : (b : Bool) → same_id i id ≡ b → asked_at more i ≡ asked_at slots i
+  at true s =
+      let here = same i id s in
+      ap (asked_at more) here ∙ ap request_in t.here ∙ f ∙ sym (ap (asked_at slots) here ∙ ap request_in t.before ∙ e)
+  at false s = ap request_in (t.others i (other i id s))
+
+-- the record of a handle changes
+pub same_put : (slots : List (Slot Content)) (id : Id) (h x : HandleRecord) → held_at slots id ≡ Some h → SameRequests (put slots id x) slots
+same_put slots id h x e = same_requests slots (put slots id x) id _ _ (put_turns slots id h x e) refl refl
+
+asks_same : (slots more : List (Slot Content)) (P : Request → Type 0) (i : Id) → asked_at more i ≡ asked_at slots i → Asks slots P i → Asks more P i
+asks_same slots more P i f k = record { request = k.request; holds = f ∙ k.holds; fits = k.fits }
+
+pub all_same : (slots more : List (Slot Content)) (P : Request → Type 0) (ids : List Id) → SameRequests more slots → AllAsk slots P ids →
+    AllAsk more P ids
+all_same slots more P ids f k = record {
+  each = λ i h. asks_same slots more P i (f i) (k.each i h);
+  all = λ i a. k.all i (asks_same more slots P i (sym (f i)) a);
+  distinct = k.distinct;
+}
+
+-- ---- lists with one more in the middle
+
+-- the others stand on it as before
+pub has_middle : (xs ys : List Id) (id i : Id) → same_id i id ≡ false → has_id (xs ++ id ∷ ys) i ≡ has_id (xs ++ ys) i
+has_middle [] ys id i d = rw (turned id i, d) refl
+has_middle (x ∷ xs) ys id i d = ap (λ (b : Bool). same_id x i || b) (has_middle xs ys id i d)
+
+-- where none stands twice, it stands nowhere else
+pub once_middle : (xs ys : List Id) (id : Id) → AreDistinct (xs ++ id ∷ ys) → has_id (xs ++ ys) id ≡ false
+once_middle [] ys id d = d.0
+once_middle (x ∷ xs) ys id d = rw (apart (same_id x id) refl, once_middle xs ys id d.1) refl where
+  apart : (b : Bool) → same_id x id ≡ b → same_id x id ≡ false
+  apart false s = s
+  apart true s = absurd (both_ways (has_id (xs ++ id ∷ ys) x) d.0 (ap (has_id (xs ++ id ∷ ys)) (same x id s) ∙ has_new_middle xs ys id))
+
+-- one that doesn't fit any more leaves
+pub less_middle : (slots more : List (Slot Content)) (P : Request → Type 0) (id : Id) (was is : Option Content) (xs ys : List Id) →
+    Turns slots more id was is → FitsNot P is → AllAsk slots P (xs ++ id ∷ ys) → AllAsk more P (xs ++ ys)
+less_middle slots more P id was is xs ys t d k = record {
+  each = λ i h. each i h (same_id i id) refl;
+  all = λ i a. all i a (same_id i id) refl;
+  distinct = distinct_but xs ys id k.distinct;
+} where
+  each : (i : Id) → has_id (xs ++ ys) i ≡ true → (b : Bool) → same_id i id ≡ b → Asks more P i
+  each i h true s = absurd (both_ways (has_id (xs ++ ys) id) (once_middle xs ys id k.distinct) (ap (has_id (xs ++ ys)) (sym (same i id s)) ∙ h))
+  each i h false s = asks_same slots more P i (ap request_in (t.others i (other i id s))) (k.each i (has_middle xs ys id i s ∙ h))
+
+  all : (i : Id) → Asks more P i → (b : Bool) → same_id i id ≡ b → has_id (xs ++ ys) i ≡ true
+  all i a true s = absurd (d a.request (sym (ap request_in t.here) ∙ ap (asked_at more) (sym (same i id s)) ∙ a.holds) a.fits)
+  all i a false s =
+      sym (has_middle xs ys id i s) ∙ k.all i (asks_same more slots P i (sym (ap request_in (t.others i (other i id s)))) a)
+
+-- one that fits from now on comes
+pub more_middle : (slots more : List (Slot Content)) (P : Request → Type 0) (id : Id) (was is : Option Content) (r : Request) (xs ys : List Id) →
+    Turns slots more id was is → FitsNot P was → request_in is ≡ Some r → P r → AllAsk slots P (xs ++ ys) → AllAsk more P (xs ++ id ∷ ys)
+more_middle slots more P id was is r xs ys t d e f k = record {
+  each = λ i h. each i h (same_id i id) refl;
+  all = λ i a. all i a (same_id i id) refl;
+  distinct = distinct_middle xs ys id k.distinct (new (has_id (xs ++ ys) id) refl);
+} where
+  new : (b : Bool) → has_id (xs ++ ys) id ≡ b → b ≡ false
+  new true h = let a = k.each id h in absurd (d a.request (sym (ap request_in t.before) ∙ a.holds) a.fits)
+  new false h = refl
+
+  its : Asks more P id
+  its = record { request = r; holds = ap request_in t.here ∙ e; fits = f }
+
+  each : (i : Id) → has_id (xs ++ id ∷ ys) i ≡ true → (b : Bool) → same_id i id ≡ b → Asks more P i
+  each i h true s = subst (Asks more P) (sym (same i id s)) its
+  each i h false s = asks_same slots more P i (ap request_in (t.others i (other i id s))) (k.each i (sym (has_middle xs ys id i s) ∙ h))
+
+  all : (i : Id) → Asks more P i → (b : Bool) → same_id i id ≡ b → has_id (xs ++ id ∷ ys) i ≡ true
+  all i a true s = ap (has_id (xs ++ id ∷ ys)) (same i id s) ∙ has_new_middle xs ys id
+  all i a false s = has_middle xs ys id i s ∙ k.all i (asks_same more slots P i (sym (ap request_in (t.others i (other i id s)))) a)
+
+-- one that fits neither before nor after turns
+pub all_apart : (slots more : List (Slot Content)) (P : Request → Type 0) (id : Id) (was is : Option Content) (ids : List Id) →
+    Turns slots more id was is → FitsNot P was → FitsNot P is → AllAsk slots P ids → AllAsk more P ids
+all_apart slots more P id was is ids t d e k = record {
+  each = λ i h. each i h (same_id i id) refl;
+  all = λ i a. all i a (same_id i id) refl;
+  distinct = k.distinct;
+} where
+  each : (i : Id) → has_id ids i ≡ true → (b : Bool) → same_id i id ≡ b → Asks more P i
+  each i h true s =
+      let a = k.each i h in
+      absurd (d a.request (sym (ap request_in t.before) ∙ ap (asked_at slots) (sym (same i id s)) ∙ a.holds) a.fits)
+  each i h false s = asks_same slots more P i (ap request_in (t.others i (other i id s))) (k.each i h)
+
+  all : (i : Id) → Asks more P i → (b : Bool) → same_id i id ≡ b → has_id ids i ≡ true
+  all i a true s = absurd (e a.request (sym (ap request_in t.here) ∙ ap (asked_at more) (sym (same i id s)) ∙ a.holds) a.fits)
+  all i a false s = k.all i (asks_same more slots P i (sym (ap request_in (t.others i (other i id s)))) a)
+
+-- one moves on the list
+pub moved_middle : (slots : List (Slot Content)) (P : Request → Type 0) (id : Id) (fronts backs cs ds : List Id) → fronts ++ backs ≡ cs ++ ds →
+    AllAsk slots P (fronts ++ id ∷ backs) → AllAsk slots P (cs ++ id ∷ ds)
+moved_middle slots P id fronts backs cs ds e k = record {
+  each = λ i h. k.each i (there i (same_id i id) refl ∙ h);
+  all = λ i a. sym (there i (same_id i id) refl) ∙ k.all i a;
+  distinct = distinct_middle cs ds id (subst AreDistinct e (distinct_but fronts backs id k.distinct))
+      (ap (λ (ids : List Id). has_id ids id) (sym e) ∙ once_middle fronts backs id k.distinct);
+} where
+  there : (i : Id) (b : Bool) → same_id i id ≡ b → has_id (fronts ++ id ∷ backs) i ≡ has_id (cs ++ id ∷ ds) i
+  there i true s =
+      let is = same i id s in
+      ap (has_id (fronts ++ id ∷ backs)) is ∙ has_new_middle fronts backs id ∙ sym (ap (has_id (cs ++ id ∷ ds)) is ∙ has_new_middle cs ds id)
+  there i false s = has_middle fronts backs id i s ∙ ap (λ (ids : List Id). has_id ids i) e ∙ sym (has_middle cs ds id i s)
+
+-- ---- where one stands
+
+-- who stands on a list, by what is in front of it and behind it
+pub record Splits (ids : List Id) (id : Id) : Type 0 where
+  pub front : List Id
+  pub behind : List Id
+  pub are : ids ≡ front ++ id ∷ behind
+
+pub splits : (ids : List Id) (id : Id) → list_any (same_id id) ids ≡ true → Splits ids id
+splits [] id e = cc e
+splits (x ∷ ids) id e = at (same_id id x) refl e (splits ids id) where
+  at : (b : Bool) → same_id id x ≡ b → (b || list_any (same_id id) ids) ≡ true → (list_any (same_id id) ids ≡ true → Splits ids id) →
+      Splits (x ∷ ids) id
+  at true s h rest = record { front = []; behind = ids; are = ap (λ (i : Id). i ∷ ids) (sym (same id x s)) }
+  at false s h rest = let k = rest h in record { front = x ∷ k.front; behind = k.behind; are = ap (λ (is : List Id). x ∷ is) k.are }
+
+-- the list without it
+pub without_middle : (xs ys : List Id) (id : Id) → AreDistinct (xs ++ id ∷ ys) → without_id (xs ++ id ∷ ys) id ≡ xs ++ ys
+without_middle [] ys id d = rw (itself id id refl) (without_absent ys id d.0)
+without_middle (x ∷ xs) ys id d = rw (apart (same_id x id) refl) (ap (λ (is : List Id). x ∷ is) (without_middle xs ys id d.1)) where
+  apart : (b : Bool) → same_id x id ≡ b → same_id x id ≡ false
+  apart false s = s
+  apart true s = absurd (both_ways (has_id (xs ++ id ∷ ys) x) d.0 (ap (has_id (xs ++ id ∷ ys)) (same x id s) ∙ has_new_middle xs ys id))
+
+-- ---- the workers
+
+-- the requests that workers run
+abbrev pub run_ids : List (Option Id) → List Id
+run_ids [] = []
+run_ids (None ∷ running) = run_ids running
+run_ids (Some id ∷ running) = id ∷ run_ids running
+
+-- a worker that runs nothing takes a request
+pub record Takes (running : List (Option Id)) (k : ℕ) (id : Id) : Type 0 where
+  pub front : List Id
+  pub behind : List Id
+  pub were : run_ids running ≡ front ++ behind
+  pub are : run_ids (slice_set running k (Some id)) ≡ front ++ id ∷ behind
+
+pub takes : (running : List (Option Id)) (k : ℕ) (id : Id) → slice_get running k ≡ Some None → Takes running k id
+takes [] k id e = cc e
+takes (None ∷ running) zero id e = record { front = []; behind = run_ids running; were = refl; are = refl }
+takes (Some x ∷ running) zero id e = cc e
+takes (None ∷ running) (suc k) id e =
+    let t = takes running k id e in record { front = t.front; behind = t.behind; were = t.were; are = t.are }
+takes (Some x ∷ running) (suc k) id e =
+    let t = takes running k id e in
+    record {
+      front = x ∷ t.front;
+      behind = t.behind;
+      were = ap (λ (is : List Id). x ∷ is) t.were;
+      are = ap (λ (is : List Id). x ∷ is) t.are;
+    }
+
+-- a worker lets the request go that it runs
+pub record LetsGo (running : List (Option Id)) (k : ℕ) (id : Id) : Type 0 where
+  pub front : List Id
+  pub behind : List Id
+  pub were : run_ids running ≡ front ++ id ∷ behind
+  pub are : run_ids (slice_set running k None) ≡ front ++ behind
+
+pub lets_go : (running : List (Option Id)) (k : ℕ) (id : Id) → slice_get running k ≡ Some (Some id) → LetsGo running k id
+lets_go [] k id e = cc e
+lets_go (None ∷ running) zero id e = cc e
+lets_go (Some x ∷ running) zero id e =
+    let is : x ≡ id = cc e in record { front = []; behind = run_ids running; were = ap (λ (i : Id). i ∷ run_ids running) is; are = refl }
+lets_go (None ∷ running) (suc k) id e =
+    let t = lets_go running k id e in record { front = t.front; behind = t.behind; were = t.were; are = t.are }
+lets_go (Some x ∷ running) (suc k) id e =
+    let t = lets_go running k id e in
+    record {
+      front = x ∷ t.front;
+      behind = t.behind;
+      were = ap (λ (is : List Id). x ∷ is) t.were;
+      are = ap (λ (is : List Id). x ∷ is) t.are;
+    }
+
+pub none_run : (n : ℕ) → run_ids (replicate n None) ≡ []
+none_run zero = refl
+none_run (suc n) = none_run n
+
+-- ---- what is kept
+
+-- it waits for a worker, or one runs it
+abbrev pub IsOpen : Request → Type 0
+IsOpen r = is_open r.outcome ≡ true
+
+-- it was finished or cancelled
+abbrev pub HasEnded : Request → Type 0
+HasEnded r = is_open r.outcome ≡ false
+
+pub record Works (slots : List (Slot Content)) (waiting : List Id) (running : List (Option Id)) (done : Walk Id) : Type 0 where
+  pub open_ones : AllAsk slots IsOpen (waiting ++ run_ids running)
+  pub ended : AllAsk slots HasEnded (done.list ++ done.yet)
+
+-- no request changes
+pub works_same : (slots more : List (Slot Content)) (waiting : List Id) (running : List (Option Id)) (done : Walk Id) → SameRequests more slots →
+    Works slots waiting running done → Works more waiting running done
+works_same slots more waiting running done f k = record {
+  open_ones = all_same slots more IsOpen (waiting ++ run_ids running) f k.open_ones;
+  ended = all_same slots more HasEnded (done.list ++ done.yet) f k.ended;
+}
+
+-- nothing, or no request
+pub none_fits : (P : Request → Type 0) → FitsNot P None
+none_fits P r e f = cc e
+
+-- a request that doesn't fit
+pub request_fits_not : (P : Request → Type 0) (x : Request) → (P x → ⊥) → FitsNot P (Some (content.Request x))
+request_fits_not P x d r e f = d (subst P (sym (same_Some _ _ e)) f)
+
+open_over : (r : Request) → IsOpen r → HasEnded r → ⊥
+open_over r a b = both_ways (is_open r.outcome) b a
+
+-- a new request waits behind the others
+pub works_queued : (slots more : List (Slot Content)) (waiting : List Id) (running : List (Option Id)) (done : Walk Id) (id : Id) (r : Request) →
+    Turns slots more id None (Some (content.Request r)) → IsOpen r → Works slots waiting running done → Works more (waiting ++ id ∷ []) running done
+works_queued slots more waiting running done id r t opened k = record {
+  open_ones = subst (AllAsk more IsOpen) (sym (append_assoc waiting (id ∷ []) (run_ids running)))
+      (more_middle slots more IsOpen id None (Some (content.Request r)) r waiting (run_ids running) t (none_fits IsOpen) refl opened k.open_ones);
+  ended = all_apart slots more HasEnded id None (Some (content.Request r)) (done.list ++ done.yet) t (none_fits HasEnded)
+      (request_fits_not HasEnded r (open_over r opened)) k.ended;
+}
+
+-- a request ends
+ended_by : (slots more : List (Slot Content)) (done : Walk Id) (id : Id) (r x : Request) →
+    Turns slots more id (Some (content.Request r)) (Some (content.Request x)) → IsOpen r → HasEnded x →
+    AllAsk slots HasEnded (done.list ++ done.yet) →
+    AllAsk more HasEnded ((done.list ++ id ∷ []) ++ done.yet)
+ended_by slots more done id r x t opened over k = subst (AllAsk more HasEnded) (sym (append_assoc done.list (id ∷ []) done.yet))
+    (more_middle slots more HasEnded id (Some (content.Request r)) (Some (content.Request x)) x done.list done.yet t
+    (request_fits_not HasEnded r (open_over r opened)) refl over k)
+
+-- the request that stands there is open
+its_open : (slots : List (Slot Content)) (ids : List Id) (id : Id) (r : Request) → asked_at slots id ≡ Some r → has_id ids id ≡ true →
+    AllAsk slots IsOpen ids → IsOpen r
+its_open slots ids id r e h k = let a = k.each id h in subst IsOpen (same_Some _ _ (sym a.holds ∙ e)) a.fits
+
+-- a request that waits is cancelled
+pub works_cancelled : (slots more : List (Slot Content)) (waiting : List Id) (running : List (Option Id)) (done : Walk Id) (id : Id)
+    (r x : Request) → Turns slots more id (Some (content.Request r)) (Some (content.Request x)) → list_any (same_id id) waiting ≡ true → HasEnded x →
+    Works slots waiting running done → Works more (without_id waiting id) running (record done { list = done.list ++ id ∷ [] })
+works_cancelled slots more waiting running done id r x t on over k =
+    let s = splits waiting id on in
+    let runs = run_ids running in
+    let all : (waiting ++ runs) ≡ s.front ++ id ∷ (s.behind ++ runs) =
+    ap (λ (ids : List Id). ids ++ runs) s.are ∙ append_assoc s.front (id ∷ s.behind) runs in
+    let listed : AllAsk slots IsOpen (s.front ++ id ∷ (s.behind ++ runs)) = subst (AllAsk slots IsOpen) all k.open_ones in
+    let apart : AreDistinct (s.front ++ id ∷ s.behind) = subst AreDistinct s.are (distinct_first waiting runs k.open_ones.distinct) in
+    let left : without_id waiting id ≡ s.front ++ s.behind =
+    ap (λ (ids : List Id). without_id ids id) s.are ∙ without_middle s.front s.behind id apart in
+    let opened = its_open slots (s.front ++ id ∷ (s.behind ++ runs)) id r (ap request_in t.before) (has_new_middle s.front (s.behind ++ runs) id)
+    listed in
+    record {
+      open_ones = subst (AllAsk more IsOpen) (sym (append_assoc s.front s.behind runs) ∙ ap (λ (ids : List Id). ids ++ runs) (sym left))
+          (less_middle slots more IsOpen id (Some (content.Request r)) (Some (content.Request x)) s.front (s.behind ++ runs) t
+          (request_fits_not IsOpen x (λ o. open_over x o over)) listed);
+      ended = ended_by slots more done id r x t opened over k.ended;
+    }
+  where
+    distinct_first : (xs ys : List Id) → AreDistinct (xs ++ ys) → AreDistinct xs
+    distinct_first [] ys d = tt
+    distinct_first (z ∷ xs) ys d = (away xs ys z d.0, distinct_first xs ys d.1) where
+      away : (us vs : List Id) (i : Id) → has_id (us ++ vs) i ≡ false → has_id us i ≡ false
+      away [] vs i e = refl
+      away (u ∷ us) vs i e = let parts = or_parts (same_id u i) (has_id (us ++ vs) i) e in rw (parts.0, away us vs i parts.1) refl
+
+-- a worker takes the one that waits longest
+pub works_taken : (slots : List (Slot Content)) (id : Id) (rest : List Id) (running : List (Option Id)) (done : Walk Id) (k : ℕ) →
+    slice_get running k ≡ Some None → Works slots (id ∷ rest) running done → Works slots rest (slice_set running k (Some id)) done
+works_taken slots id rest running done n e k =
+    let t = takes running n id e in
+    record {
+      open_ones = subst (AllAsk slots IsOpen) (append_assoc rest t.front (id ∷ t.behind) ∙ ap (λ (ids : List Id). rest ++ ids) (sym t.are))
+          (moved_middle slots IsOpen id [] (rest ++ run_ids running) (rest ++ t.front) t.behind
+          (ap (λ (ids : List Id). rest ++ ids) t.were ∙ sym (append_assoc rest t.front t.behind)) k.open_ones);
+      ended = k.ended;
+    }
+
+-- a worker finishes the one that it runs
+pub works_finished : (slots more : List (Slot Content)) (waiting : List Id) (running : List (Option Id)) (done : Walk Id) (n : ℕ) (id : Id)
+    (r x : Request) → Turns slots more id (Some (content.Request r)) (Some (content.Request x)) → slice_get running n ≡ Some (Some id) → HasEnded x →
+    Works slots waiting running done → Works more waiting (slice_set running n None) (record done { list = done.list ++ id ∷ [] })
+works_finished slots more waiting running done n id r x t e over k =
+    let g = lets_go running n id e in
+    let all : (waiting ++ run_ids running) ≡ (waiting ++ g.front) ++ id ∷ g.behind =
+    ap (λ (ids : List Id). waiting ++ ids) g.were ∙ sym (append_assoc waiting g.front (id ∷ g.behind)) in
+    let listed : AllAsk slots IsOpen ((waiting ++ g.front) ++ id ∷ g.behind) = subst (AllAsk slots IsOpen) all k.open_ones in
+    let opened = its_open slots ((waiting ++ g.front) ++ id ∷ g.behind) id r (ap request_in t.before) (has_new_middle
+    (waiting ++ g.front) g.behind id)
+    listed in
+    record {
+      open_ones = subst (AllAsk more IsOpen) (append_assoc waiting g.front g.behind ∙ ap (λ (ids : List Id). waiting ++ ids) (sym g.are))
+          (less_middle slots more IsOpen id (Some (content.Request r)) (Some (content.Request x)) (waiting ++ g.front) g.behind t
+          (request_fits_not IsOpen x (λ o. open_over x o over)) listed);
+      ended = ended_by slots more done id r x t opened over k.ended;
+    }
+
+-- the first of those that are done calls back, and its slot is freed
+pub works_collected : (slots more : List (Slot Content)) (waiting : List Id) (running : List (Option Id)) (done : Walk Id) (id : Id) (rest : List Id)
+    (r : Request) → Turns slots more id (Some (content.Request r)) None → done.yet ≡ id ∷ rest → Works slots waiting running done →
+    Works more waiting running (record done { yet = rest })
+works_collected slots more waiting running done id rest r t e k =
+    let listed : AllAsk slots HasEnded (done.list ++ id ∷ rest) =
+    subst (λ (ids : List Id). AllAsk slots HasEnded (done.list ++ ids)) e k.ended in
+    let a = listed.each id (has_new_middle done.list rest id) in
+    let over : HasEnded r = subst HasEnded (same_Some _ _ (sym a.holds ∙ ap request_in t.before)) a.fits in
+    record {
+      open_ones = all_apart slots more IsOpen id (Some (content.Request r)) None (waiting ++ run_ids running) t
+          (request_fits_not IsOpen r (λ o. open_over r o over)) (none_fits IsOpen) k.open_ones;
+      ended = less_middle slots more HasEnded id (Some (content.Request r)) None done.list rest t (none_fits HasEnded) listed;
+    }
+
+-- the section of those that are done begins
+pub works_begun : (slots : List (Slot Content)) (waiting : List Id) (running : List (Option Id)) (done : Walk Id) → done.yet ≡ [] →
+    Works slots waiting running done → Works slots waiting running (record { list = []; yet = done.list })
+works_begun slots waiting running done e k = record {
+  open_ones = k.open_ones;
+  ended = subst (AllAsk slots HasEnded) (ap (λ (ids : List Id). done.list ++ ids) e ∙ append-nil done.list) k.ended;
+}

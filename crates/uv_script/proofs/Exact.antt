@@ -1,0 +1,220 @@
+-- A line that says something is the text of what it says, byte for byte.
+use Rattle.std.proofs.Common.{◌≡◌, ◌≢◌, ℕ, ◌<◌, List, [], ◌∷◌, ◌++◌, length, Option, Some, None, refl, ap, sym, ◌∙◌, arith, length-append, append-nil, append_assoc}
+use Rattle.std.specs.Prelude.{codes, decimal}
+use Rattle.std.specs.List.{join_with_byte}
+use Rattle.std.proofs.Math.Seq.{append_snoc}
+use Rattle.std.proofs.lemmas.List.{get_or_append_left}
+use Rattle.std.proofs.lemmas.List.Splits.{join_with_byte-slice_split}
+use Rattle.std.proofs.lemmas.Option.{same_Some, none-some, slice_get_within, slice_get-get_or, get_or_from_slice_get}
+use Rattle.uv_ids.specs.declared.id.Var.{Var}
+use Rattle.uv_ids.specs.declared.seen.Callback.{Callback}
+use Rattle.uv_ids.specs.declared.seen.Callback.TheVariants as callback
+use Rattle.uv_ids.specs.Words.{kind_word}
+use Rattle.uv_script.specs.declared.op.Op.{Op}
+use Rattle.uv_script.specs.declared.op.Op.TheVariants as op
+use Rattle.uv_script.specs.declared.op.CallbackLine.{CallbackLine}
+use Rattle.uv_script.specs.Grammar.{Statement, Declares, InMain, InCallback, Sizes, HasWorkers, named_word, bare_word, IsOp, init, start, repeat, queue, queue_text, on_name, bare, callback_word, Says, declares, in_main, runs, closes_loop, in_callback, in_call, sizes, sizes_to, has_workers}
+use Rattle.uv_script.specs.Lines.{fields_of}
+use Rattle.uv_script.specs.Tasks.{text_of}
+use Rattle.uv_script.specs.Text.{text_or_none, name_text, task_text, op_text, call_text, front_text, callback_line, main_line, var_line, workers_line, slots_line}
+use Rattle.uv_script.specs.Words.{IsDeclared}
+
+abbrev joined : List (List ℕ) → List ℕ
+joined fields = join_with_byte 32 fields
+
+joined_onto : (word : List ℕ) (rest : List (List ℕ)) → rest ≢ [] → joined (word ∷ rest) ≡ word ++ 32 ∷ joined rest
+joined_onto word [] some = absurd (some refl)
+joined_onto word (field ∷ fields) some = refl
+
+-- a declared name is written as it stands
+named : (names : List (List ℕ)) (name : List ℕ) (v : Var) → IsDeclared names name v → name ≡ name_text names v
+named names name v is = sym (ap text_or_none is)
+
+named_exact : (names : List (List ℕ)) (o : Op) (word name : List ℕ) (v : Var) → IsDeclared names name v → named_word o ≡ Some (word, v) →
+    word ++ 32 ∷ name ≡ op_text names o
+named_exact names o word name v is e = at o e
+  where
+    by : (x : Op) (this : List ℕ) (w : Var) → ◌≡◌ {A = Option (List ℕ × Var)} (Some (this, w)) (Some (word, v)) →
+        this ++ 32 ∷ name_text names w ≡ op_text names x → word ++ 32 ∷ name ≡ op_text names x
+    by x this w said text =
+        let same = same_Some _ _ said in
+        ap (λ n. word ++ 32 ∷ n) (named names name v is)
+        ∙ ap (λ (p : List ℕ × Var). p.0 ++ 32 ∷ name_text names p.1) (sym same) ∙ text
+
+    at : (x : Op) → named_word x ≡ Some (word, v) → word ++ 32 ∷ name ≡ op_text names x
+    at (op.StartWatcher w) e = by (op.StartWatcher w) (codes "start") w e refl
+    at (op.Stop w) e = by (op.Stop w) (codes "stop") w e refl
+    at (op.Again w) e = by (op.Again w) (codes "again") w e refl
+    at (op.DueIn w) e = by (op.DueIn w) (codes "due") w e refl
+    at (op.Ref w) e = by (op.Ref w) (codes "ref") w e refl
+    at (op.Unref w) e = by (op.Unref w) (codes "unref") w e refl
+    at (op.HasRef w) e = by (op.HasRef w) (codes "hasref") w e refl
+    at (op.IsActive w) e = by (op.IsActive w) (codes "active") w e refl
+    at (op.Close w) e = by (op.Close w) (codes "close") w e refl
+    at (op.IsClosing w) e = by (op.IsClosing w) (codes "closing") w e refl
+    at (op.Send w) e = by (op.Send w) (codes "send") w e refl
+    at (op.Cancel w) e = by (op.Cancel w) (codes "cancel") w e refl
+    at _ e = absurd (none-some _ e)
+
+bare_exact : (names : List (List ℕ)) (o : Op) (word : List ℕ) → bare_word o ≡ Some word → word ≡ op_text names o
+bare_exact names op.StopLoop word e = sym (same_Some _ _ e)
+bare_exact names op.UpdateTime word e = sym (same_Some _ _ e)
+bare_exact names op.Now word e = sym (same_Some _ _ e)
+bare_exact names op.IsAlive word e = sym (same_Some _ _ e)
+bare_exact names op.Timeout word e = sym (same_Some _ _ e)
+bare_exact names _ word e = absurd (none-some _ e)
+
+task_text-some : (text : List ℕ) → text ≢ [] → 32 ∷ text ≡ task_text text
+task_text-some [] some = absurd (some refl)
+task_text-some (b ∷ bs) some = refl
+
+abbrev queued : List ℕ → List ℕ → List ℕ → List ℕ
+queued name rounds text = codes "queue " ++ (name ++ 32 ∷ (rounds ++ text))
+
+queue_exact : (name name' rounds rounds' text text' : List ℕ) → name ≡ name' → rounds ≡ rounds' → text ≡ text' →
+    queued name rounds text ≡ queued name' rounds' text'
+queue_exact name name' rounds rounds' text text' a b c = λ i. queued (a i) (b i) (c i)
+
+rest_some : (rest : List (List ℕ)) (text : List ℕ) → text ≡ joined rest → text ≢ [] → rest ≢ []
+rest_some rest text e some none = some (e ∙ ap joined none)
+
+-- texts behind one another, with a space in front of each but the first
+pub two_parts : (a b : List ℕ) → a ++ 32 ∷ b ≡ a ++ codes " " ++ b
+two_parts a b = sym (append_snoc a 32 b)
+
+three_parts : (a b c : List ℕ) → a ++ 32 ∷ (b ++ 32 ∷ c) ≡ a ++ codes " " ++ b ++ codes " " ++ c
+three_parts a b c =
+    sym (append_snoc (a ++ codes " " ++ b) 32 c ∙ ap (λ x. x ++ 32 ∷ c) (append_snoc a 32 b) ∙ append_assoc a (32 ∷ b) (32 ∷ c))
+
+-- a further one right behind
+two_and_more : (a b c : List ℕ) → a ++ 32 ∷ (b ++ c) ≡ a ++ codes " " ++ b ++ c
+two_and_more a b c = sym (ap (λ x. x ++ c) (append_snoc a 32 b) ∙ append_assoc a (32 ∷ b) c)
+
+pub op_exact : (names fields : List (List ℕ)) (o : Op) → IsOp names fields o → joined fields ≡ op_text names o
+op_exact names fields o (init name v kind e is) =
+    ap joined e ∙ ap (λ n. codes "init " ++ (n ++ 32 ∷ kind_word kind)) (named names name v is)
+    ∙ ap (λ x. codes "init " ++ x) (two_parts (name_text names v) (kind_word kind))
+op_exact names fields o (start name v timeout period t r e is first second) =
+    let a = named names name v is in
+    let b = first.is in
+    let c = second.is in
+    let same : codes "start " ++ (name ++ 32 ∷ (timeout ++ 32 ∷ period)) ≡ codes "start " ++ (name_text names v ++ 32 ∷
+    (decimal t ++ 32 ∷ decimal r)) =
+    λ i. codes "start " ++ (a i ++ 32 ∷ (b i ++ 32 ∷ c i)) in
+    ap joined e ∙ same ∙ ap (λ x. codes "start " ++ x) (three_parts (name_text names v) (decimal t) (decimal r))
+op_exact names fields o (repeat name v number n e is value) =
+    let a = named names name v is in
+    let b = value.is in
+    let same : codes "repeat " ++ (name ++ 32 ∷ number) ≡ codes "repeat " ++ (name_text names v ++ 32 ∷ decimal n) =
+    λ i. codes "repeat " ++ (a i ++ 32 ∷ b i) in
+    ap joined e ∙ same ∙ ap (λ x. codes "repeat " ++ x) (two_parts (name_text names v) (decimal n))
+op_exact names fields o (queue name v rounds t e is number text) =
+    ap joined e ∙ ap (λ r. codes "queue " ++ (name ++ 32 ∷ r)) (sym (append-nil rounds))
+    ∙ queue_exact name (name_text names v) rounds (decimal t.rounds) [] (task_text (text_of t)) (named names name v is) number.is
+    (ap task_text (sym text))
+    ∙ ap (λ x. codes "queue " ++ x) (two_and_more (name_text names v) (decimal t.rounds) (task_text (text_of t)))
+op_exact names fields o (queue_text name v rounds t rest e is number text some) =
+    ap joined e ∙ ap (λ r. codes "queue " ++ (name ++ 32 ∷ r)) (joined_onto rounds rest (rest_some rest (text_of t) text some))
+    ∙ queue_exact name (name_text names v) rounds (decimal t.rounds) (32 ∷ joined rest) (task_text (text_of t)) (named names name v is) number.is
+    (ap (λ s. 32 ∷ s) (sym text) ∙ task_text-some (text_of t) some)
+    ∙ ap (λ x. codes "queue " ++ x) (two_and_more (name_text names v) (decimal t.rounds) (task_text (text_of t)))
+op_exact names fields o (on_name x word name v said e is) = ap joined e ∙ named_exact names o word name v is said
+op_exact names fields o (bare x word said e) = ap joined e ∙ bare_exact names o word said
+
+op_some : (names fields : List (List ℕ)) (o : Op) → IsOp names fields o → fields ≢ []
+op_some names fields o (init name v kind e is) none = let wrong = sym e ∙ none in cc
+op_some names fields o (start name v timeout period t r e is first second) none = let wrong = sym e ∙ none in cc
+op_some names fields o (repeat name v number n e is value) none = let wrong = sym e ∙ none in cc
+op_some names fields o (queue name v rounds t e is number text) none = let wrong = sym e ∙ none in cc
+op_some names fields o (queue_text name v rounds t rest e is number text some) none = let wrong = sym e ∙ none in cc
+op_some names fields o (on_name x word name v said e is) none = let wrong = sym e ∙ none in cc
+op_some names fields o (bare x word said e) none = let wrong = sym e ∙ none in cc
+
+-- the text of what a line says
+abbrev pub statement_text : List (List ℕ) → Statement → List ℕ
+statement_text names (Declares name) = var_line name
+statement_text names (InMain o) = main_line names o
+statement_text names (InCallback kind v line) = callback_line names kind v line
+statement_text names (Sizes size) = slots_line size
+statement_text names (HasWorkers n) = workers_line n
+
+-- all but the size of the arena, whose last generation may be left out
+abbrev pub IsKept : Statement → Type 0
+IsKept (Sizes size) = ⊥
+IsKept _ = Unit {0}
+
+front : (kind : Callback) (text : List ℕ) → callback_word kind ++ 32 ∷ text ≡ front_text kind ++ text
+front callback.Handle text = refl
+front callback.After text = refl
+front callback.Close text = refl
+
+callback_exact : (names : List (List ℕ)) (kind : Callback) (name : List ℕ) (v : Var) (rest : List (List ℕ)) (line : CallbackLine) → rest ≢ [] →
+    IsDeclared names name v → joined rest ≡ call_text line.call (op_text names line.op) →
+    joined (callback_word kind ∷ name ∷ rest) ≡ callback_line names kind v line
+callback_exact names kind name v rest line some is text =
+    let a = named names name v is in
+    let call = call_text line.call (op_text names line.op) in
+    let same : front_text kind ++ (name ++ 32 ∷ joined rest) ≡ front_text kind ++ (name_text names v ++ 32 ∷ call) =
+    λ i. front_text kind ++ (a i ++ 32 ∷ text i) in
+    ap (λ r. callback_word kind ++ 32 ∷ r) (joined_onto name rest some) ∙ front kind (name ++ 32 ∷ joined rest) ∙ same
+    ∙ sym (append_assoc (front_text kind) (name_text names v) (32 ∷ call))
+    ∙ two_parts (front_text kind ++ name_text names v) call
+
+pub says_exact : (names fields : List (List ℕ)) (s : Statement) → IsKept s → Says names fields s → joined fields ≡ statement_text names s
+says_exact names fields s kept (declares name e is fresh) = ap joined e
+says_exact names fields s kept (in_main rest o e is) =
+    ap joined e ∙ joined_onto (codes "main") rest (op_some names rest o is) ∙ ap (λ text. codes "main " ++ text) (op_exact names rest o is)
+says_exact names fields s kept (runs mode e) = ap joined e
+says_exact names fields s kept (closes_loop e) = ap joined e
+says_exact names fields s kept (in_callback kind name v rest o e declared is) =
+    ap joined e ∙ callback_exact names kind name v rest (record { call = None; op = o }) (op_some names rest o is) declared (op_exact names rest o is)
+says_exact names fields s kept (in_call kind name v number k rest o e declared is first last op_is) =
+    let a = is.is in
+    let b = op_exact names rest o op_is in
+    let same : 64 ∷ (number ++ 32 ∷ joined rest) ≡ 64 ∷ (decimal k ++ 32 ∷ op_text names o) = λ i. 64 ∷ (a i ++ 32 ∷ b i) in
+    ap joined e
+    ∙ callback_exact names kind name v ((64 ∷ number) ∷ rest) (record { call = Some k; op = o }) (λ none. cc) declared
+    (joined_onto (64 ∷ number) rest (op_some names rest o op_is) ∙ same ∙ ap (λ x. 64 ∷ x) (two_parts (decimal k) (op_text names o)))
+says_exact names fields s kept (sizes slots n e is fits) = absurd kept
+says_exact names fields s kept (sizes_to slots last n g e is fits last_is small) = absurd kept
+says_exact names fields s kept (has_workers number n e is fits) = ap joined e ∙ ap (λ digits. codes "workers " ++ digits) is.is
+
+pub line_exact : (names : List (List ℕ)) (line : List ℕ) (s : Statement) → IsKept s → Says names (fields_of line) s → line ≡ statement_text names s
+line_exact names line s kept said = sym (join_with_byte-slice_split 32 line) ∙ says_exact names (fields_of line) s kept said
+
+-- what a line says stays where further names are declared
+declared_more : (names more : List (List ℕ)) (name : List ℕ) (v : Var) → IsDeclared names name v → IsDeclared (names ++ more) name v
+declared_more names more name v is =
+    let within = slice_get_within names v.0 name is in
+    let wider : v.0 < length (names ++ more) = omega (arith, length-append names more) in
+    slice_get-get_or (names ++ more) v.0 name wider
+    ∙ ap Some (get_or_append_left names more name v.0 within ∙ get_or_from_slice_get names v.0 name name is)
+
+op_more : (names more fields : List (List ℕ)) (o : Op) → IsOp names fields o → IsOp (names ++ more) fields o
+op_more names more fields o (init name v kind e is) = init name v kind e (declared_more names more name v is)
+op_more names more fields o (start name v timeout period t r e is first second) =
+    start name v timeout period t r e (declared_more names more name v is) first second
+op_more names more fields o (repeat name v number n e is value) = repeat name v number n e (declared_more names more name v is) value
+op_more names more fields o (queue name v rounds t e is number text) = queue name v rounds t e (declared_more names more name v is) number text
+op_more names more fields o (queue_text name v rounds t rest e is number text some) =
+    queue_text name v rounds t rest e (declared_more names more name v is) number text some
+op_more names more fields o (on_name x word name v said e is) = on_name o word name v said e (declared_more names more name v is)
+op_more names more fields o (bare x word said e) = bare o word said e
+
+-- what isn't a declaration
+abbrev pub IsNoName : Statement → Type 0
+IsNoName (Declares name) = ⊥
+IsNoName _ = Unit {0}
+
+pub says_more : (names more fields : List (List ℕ)) (s : Statement) → IsNoName s → Says names fields s → Says (names ++ more) fields s
+says_more names more fields s other (declares name e is fresh) = absurd other
+says_more names more fields s other (in_main rest o e is) = in_main rest o e (op_more names more rest o is)
+says_more names more fields s other (runs mode e) = runs mode e
+says_more names more fields s other (closes_loop e) = closes_loop e
+says_more names more fields s other (in_callback kind name v rest o e declared is) =
+    in_callback kind name v rest o e (declared_more names more name v declared) (op_more names more rest o is)
+says_more names more fields s other (in_call kind name v number k rest o e declared is first last op_is) =
+    in_call kind name v number k rest o e (declared_more names more name v declared) is first last (op_more names more rest o op_is)
+says_more names more fields s other (sizes slots n e is fits) = sizes slots n e is fits
+says_more names more fields s other (sizes_to slots last n g e is fits last_is small) = sizes_to slots last n g e is fits last_is small
+says_more names more fields s other (has_workers number n e is fits) = has_workers number n e is fits

@@ -1,0 +1,62 @@
+-- What the type of scripts keeps.
+use Rattle.std.proofs.Common.{◌≡◌, ℕ, ◌+◌, ◌<◌, [], ◌∷◌, length, sym, ap, ◌∙◌, subst, refl, arith, length-append}
+use Rattle.std.proofs.lemmas.List.Sums.{sum_by_push, sum_by-set}
+use Rattle.std.proofs.lemmas.Option.{unwrap_or-slice_get}
+use Rattle.uv_script.specs.Grammar.{Statement, Declares, InMain, InCallback, Sizes, HasWorkers, HasRoom, with_statement, WasRead, IsReadScript, blank}
+use Rattle.uv_script.specs.Program.{Program, no_callbacks, callbacks_of, with_line, callback_count, line_count, IsWhole}
+use Rattle.uv_script.specs.Reading.{IsSound, IsSaid}
+use Rattle.uv_script.proofs.AfterLines.{said_sound, read_more, read_none}
+use Rattle.uv_script.proofs.ReadBack.{workers_fit, size_fits}
+use Rattle.uv_script.proofs.Written.{AreWritten, count_more, script_written}
+
+-- a script that was read is whole
+pub whole : (p : Program) → WasRead p → IsWhole p
+whole p read =
+    let is = script_written p read.lines read.read in
+    record { callbacks = is.each; few = is.few; slots = (size_fits p.size is.size).slots; workers = workers_fit p.workers is.workers }
+
+-- how many lines count more
+abbrev pub added : Statement → ℕ
+added (Declares name) = 1
+added (InMain o) = 1
+added (InCallback kind v line) = 1
+added (Sizes size) = 0
+added (HasWorkers n) = 0
+
+count_statement : (p : Program) (s : Statement) → AreWritten p → IsSound p s → line_count (with_statement p s) ≡ line_count p + added s
+count_statement p (Declares name) is sound =
+    omega (arith, length-append p.names (name ∷ []), sum_by_push callback_count p.callbacks no_callbacks)
+count_statement p (InMain o) is sound = omega (arith, length-append p.main (o ∷ []))
+count_statement p (InCallback kind v line) is sound =
+    let c = callbacks_of p v in
+    let within : v.0 < length p.callbacks = omega (arith, is.each, sound) in
+    let sum = sum_by-set callback_count p.callbacks v.0 (with_line kind c line) no_callbacks within in
+    let here = ap callback_count (unwrap_or-slice_get p.callbacks v.0 no_callbacks) in
+    omega (arith, sum, here, count_more kind c line)
+count_statement p (Sizes size) is sound = omega arith
+count_statement p (HasWorkers n) is sound = omega arith
+
+-- one more line
+more : (lines n : ℕ) (p q : Program) (s : Statement) → IsReadScript lines p → IsSaid p s → HasRoom p s → with_statement p s ≡ q →
+    n ≡ lines + added s →
+    IsReadScript n q
+more lines n p q s is said room same count =
+    let read = read_more p s is.read said room in
+    let counted = count_statement p s (script_written p is.read.lines is.read.read) (said_sound p s said) in
+    subst (IsReadScript n) same (record {
+      counted = record { whole = whole (with_statement p s) read; counted = count ∙ ap (λ k. k + added s) is.counted.counted ∙ sym counted };
+      read = read;
+    })
+
+pub counted_more : (lines : ℕ) (p q : Program) (s : Statement) → added s ≡ 1 → IsReadScript lines p → IsSaid p s → HasRoom p s →
+    with_statement p s ≡ q →
+    IsReadScript (lines + 1) q
+counted_more lines p q s counts is said room same = more lines (lines + 1) p q s is said room same (ap (λ k. lines + k) (sym counts))
+
+pub uncounted_more : (lines : ℕ) (p q : Program) (s : Statement) → added s ≡ 0 → IsReadScript lines p → IsSaid p s → HasRoom p s →
+    with_statement p s ≡ q →
+    IsReadScript lines q
+uncounted_more lines p q s counts is said room same = more lines lines p q s is said room same (omega (arith, counts))
+
+pub blank_read : IsReadScript 0 blank
+blank_read = record { counted = record { whole = whole blank read_none; counted = refl }; read = read_none }

@@ -1,0 +1,384 @@
+-- A script's text is read back.
+use Rattle.std.proofs.Common.{◌≡◌, ◌⊎◌, inl, inr, ℕ, zero, suc, ◌+◌, ◌<◌, ◌≤◌, ◌^◌, true, false, ◌&&◌, ◌==◌, nat_le, List, [], ◌∷◌, ◌++◌, length, map, get_or, Option, Some, None, Ok, Err, Result, slice_get, unwrap_or, Contains, All, refl, ap, sym, subst, ◌∙◌, arith, length-append, append-nil, append_assoc}
+use Rattle.std.specs.Prelude.{codes, decimal, slice_set, sum_by}
+use Rattle.std.specs.List.{list_all}
+use Rattle.std.specs.Char.{is_ascii_digit}
+use Rattle.std.specs.Str.{all_ascii_digits}
+use Rattle.std.proofs.Math.Seq.{get_or-append_seam, set-append_seam}
+use Rattle.std.proofs.lemmas.Bool.{ne_eqb}
+use Rattle.std.proofs.lemmas.Bool.Decides.{Decides-by_and}
+use Rattle.std.proofs.lemmas.Fmt.{digits_decimal, length-decimal-le}
+use Rattle.std.proofs.lemmas.List.{get_or_append_left}
+use Rattle.std.proofs.lemmas.List.Elements.{All-append}
+use Rattle.std.proofs.lemmas.List.Sums.{sum_by-cons, sum_by-append}
+use Rattle.std.proofs.lemmas.Option.{unwrap_or-slice_get}
+use Rattle.std.proofs.lemmas.Str.Parse.{numerals_by_value, tells_all_ascii_digits}
+use Rattle.uv_ids.specs.declared.fault.Fault.{Fault}
+use Rattle.uv_ids.specs.declared.fault.Fault.TheVariants as fault
+use Rattle.uv_ids.specs.declared.id.Var.{Var}
+use Rattle.uv_ids.specs.declared.seen.Callback.{Callback}
+use Rattle.uv_ids.specs.declared.seen.Callback.TheVariants as callback
+use Rattle.uv_script.specs.declared.op.MainOp.{MainOp}
+use Rattle.uv_script.specs.declared.op.CallbackLine.{CallbackLine}
+use Rattle.uv_script.specs.declared.size.ArenaSize.{ArenaSize}
+use Rattle.uv_script.specs.Grammar.{Declares, InMain, InCallback, Sizes, HasWorkers, declares, sizes_to, has_workers, Reads, skips, says, ReadsAll, none, one, blank, WasRead, IsScript, Parses}
+use Rattle.uv_script.specs.Laws.{IsBack, IsReadBack}
+use Rattle.uv_script.specs.Lines.{lines_of, fields_of, IsLine}
+use Rattle.uv_script.specs.Program.{Program, Callbacks, no_callbacks, callbacks_of, lines_of as lines_in_callbacks, with_line, callback_count, line_count, arena_size, worker_count, DEFAULT_SIZE, DEFAULT_WORKERS, IsWorkerCount}
+use Rattle.uv_script.specs.Text.{workers_line, slots_line, var_line, main_line, callback_line, name_lines, callback_lines, script_lines, lines_text, script_text, said_whole}
+use Rattle.uv_script.specs.Words.{IsLetter, IsDigit, IsName, IsNumber}
+use Rattle.uv_script.proofs.Agrees.{AreDistinct}
+use Rattle.uv_script.proofs.Checks.{within}
+use Rattle.uv_script.proofs.Cuts.{fields-cut, fields-last, lines_append, AreNot}
+use Rattle.uv_script.proofs.Exact.{two_parts}
+use Rattle.uv_script.proofs.OneReading.{one_script, no_bad_line}
+use Rattle.uv_script.proofs.Written.{IsWritten, IsSize, AreWritten, count_more, script_written}
+
+-- of elements
+contains_first : {A : Type 0} (x : A) (xs : List A) → Contains (x ∷ xs) x
+contains_first x xs = (0, omega arith, refl)
+
+contains_later : {A : Type 0} (x y : A) (xs : List A) → Contains xs y → Contains (x ∷ xs) y
+contains_later x y xs h = (suc h.0, omega (arith, h.1), h.2)
+
+-- lines behind others
+reads_on : (p q r : Program) (xs ys : List (List ℕ)) → ReadsAll p xs q → ReadsAll q ys r → ReadsAll p (xs ++ ys) r
+reads_on p q r [] ys none second = second
+reads_on p q r (x ∷ xs) ys (one {q = m} first rest) second = one first (reads_on m q r xs ys rest second)
+
+-- numbers
+digits_within : (text : List ℕ) → all_ascii_digits text ≡ true → All (λ b. (48 ≤ b) × (b ≤ 57)) text
+digits_within text e = (Decides-by_and is_ascii_digit (λ b. (48 ≤ b) × (b ≤ 57)) all_ascii_digits (within 48 57) refl (λ _ _. refl) text).0 e
+
+decimal_within : (n : ℕ) → n < 2 ^ 64 → All (λ b. (48 ≤ b) × (b ≤ 57)) (decimal n)
+decimal_within n h = digits_within (decimal n) (digits_decimal (numerals_by_value _ tells_all_ascii_digits) n h)
+
+decimal_printable : (n : ℕ) → n < 2 ^ 64 → All (λ b. (32 ≤ b) × (b ≤ 126)) (decimal n)
+decimal_printable n h = λ k d inside. let at = decimal_within n h k d inside in (omega (arith, at.0), omega (arith, at.1))
+
+decimal_unspaced : (n : ℕ) → n < 2 ^ 64 → AreNot 32 (decimal n)
+decimal_unspaced n h = λ k d inside. let at = decimal_within n h k d inside in ne_eqb _ 32 (λ e. omega (arith, at.0, e))
+
+decimal_short : (n : ℕ) → n < 2 ^ 32 → length (decimal n) ≤ 10
+decimal_short n h = length-decimal-le 10 n (omega arith) (omega (arith, h)) (omega (arith, h))
+
+printable_front : (front : List ℕ) → list_all (λ b. nat_le 32 b && nat_le b 126) front ≡ true → All (λ b. (32 ≤ b) × (b ≤ 126)) front
+printable_front front e =
+    (Decides-by_and (λ b. nat_le 32 b && nat_le b 126) (λ b. (32 ≤ b) × (b ≤ 126)) (list_all (λ b. nat_le 32 b && nat_le b 126)) (within 32 126) refl
+    (λ _ _. refl) front).0 e
+
+printable_more : (front text : List ℕ) → list_all (λ b. nat_le 32 b && nat_le b 126) front ≡ true → All (λ b. (32 ≤ b) × (b ≤ 126)) text →
+    All (λ b. (32 ≤ b) × (b ≤ 126)) (front ++ text)
+printable_more front text e h = All-append (λ b. (32 ≤ b) × (b ≤ 126)) front text (printable_front front e) h
+
+is_number : (n : ℕ) → n < 2 ^ 64 → IsNumber (decimal n) n
+is_number n h = record { is = refl; fits = h }
+
+-- the number of workers, and the size of the arena
+workers_read : (p : Program) (n : ℕ) → IsWorkerCount n → p.workers ≡ None → Reads p (workers_line n) (record p { workers = Some n })
+workers_read p n fits unsaid =
+    let small : n < 2 ^ 64 = omega (arith, fits.1) in
+    let line : IsLine (workers_line n) = record {
+      short = omega (arith, length-append (codes "workers ") (decimal n), decimal_short n (omega (arith, fits.1)));
+      printable = printable_more (codes "workers ") (decimal n) refl (decimal_printable n small);
+    } in
+    let fields : fields_of (workers_line n) ≡ codes "workers" ∷ decimal n ∷ [] = ap (λ r. codes "workers" ∷ r)
+    (fields-last (decimal n) (decimal_unspaced n small)) in
+    says (HasWorkers n) line (has_workers (decimal n) n fields (is_number n small) fits) unsaid
+
+slots_read : (p : Program) (size : ArenaSize) → IsSize size → p.size ≡ None → Reads p (slots_line size) (record p { size = Some size })
+slots_read p size is unsaid =
+    let n = size.slots in
+    let g = size.last_generation in
+    let small : n < 2 ^ 64 = omega (arith, is.slots.1) in
+    let last_small : g < 2 ^ 64 = omega (arith, is.last) in
+    let text : slots_line size ≡ codes "slots " ++ (decimal n ++ 32 ∷ decimal g) = ap (λ x. codes "slots " ++ x) (sym (two_parts (decimal n)
+    (decimal g))) in
+    let spaced : All (λ b. (32 ≤ b) × (b ≤ 126)) (32 ∷ decimal g) = printable_more (32 ∷ []) (decimal g) refl (decimal_printable g last_small) in
+    let numbers : All (λ b. (32 ≤ b) × (b ≤ 126)) (decimal n ++ 32 ∷ decimal g) = All-append (λ b. (32 ≤ b) × (b ≤ 126)) (decimal n) (32 ∷ decimal g)
+    (decimal_printable n small) spaced in
+    let line : IsLine (codes "slots " ++ (decimal n ++ 32 ∷ decimal g)) = record {
+      short = omega (
+        arith,
+        length-append (codes "slots ") (decimal n ++ 32 ∷ decimal g),
+        length-append (decimal n) (32 ∷ decimal g),
+        decimal_short n (omega (arith, is.slots.1)),
+        decimal_short g is.last,
+      );
+      printable = printable_more (codes "slots ") (decimal n ++ 32 ∷ decimal g) refl numbers;
+    } in
+    let parts : fields_of (decimal n ++ 32 ∷ decimal g) ≡ decimal n ∷ decimal g ∷ [] =
+    fields-cut (decimal n ++ 32 ∷ decimal g) (decimal n) (decimal g) (record { whole = refl; first = decimal_unspaced n small })
+    ∙ ap (λ r. decimal n ∷ r) (fields-last (decimal g) (decimal_unspaced g last_small)) in
+    let fields : fields_of (slots_line size) ≡ codes "slots" ∷ decimal n ∷ decimal g ∷ [] = ap fields_of text ∙ ap (λ r. codes "slots" ∷ r) parts in
+    says (Sizes size) (subst IsLine (sym text) line)
+    (sizes_to (decimal n) (decimal g) n g fields (is_number n small) is.slots (is_number g last_small) is.last) unsaid
+
+-- no callbacks for each of these
+blanks : {A : Type 0} → List A → List Callbacks
+blanks [] = []
+blanks (x ∷ xs) = no_callbacks ∷ blanks xs
+
+blanks_sum : {A : Type 0} (xs : List A) → sum_by callback_count (blanks xs) ≡ 0
+unfolding blanks
+blanks_sum [] = refl
+blanks_sum (x ∷ xs) = omega (arith, sum_by-cons callback_count no_callbacks (blanks xs), blanks_sum xs)
+
+blanks_push : {A : Type 0} (xs : List A) (x : A) → blanks (xs ++ x ∷ []) ≡ blanks xs ++ no_callbacks ∷ []
+unfolding blanks
+blanks_push [] x = refl
+blanks_push (y ∷ xs) x = ap (λ cs. no_callbacks ∷ cs) (blanks_push xs x)
+
+blanks_same : {A B : Type 0} (xs : List A) (ys : List B) → length xs ≡ length ys → blanks xs ≡ blanks ys
+unfolding blanks
+blanks_same [] [] e = refl
+blanks_same [] (y ∷ ys) e = absurd (omega arith)
+blanks_same (x ∷ xs) [] e = absurd (omega arith)
+blanks_same (x ∷ xs) (y ∷ ys) e = ap (λ cs. no_callbacks ∷ cs) (blanks_same xs ys (omega arith))
+
+-- the script of these names alone
+abbrev declared : Option ArenaSize → Option ℕ → List (List ℕ) → Program
+declared size workers names = record { names = names; main = []; callbacks = blanks names; size = size; workers = workers }
+
+name_unspaced : (name : List ℕ) → IsName name → AreNot 32 name
+name_unspaced name is = subst (AreNot 32) (sym is.is) (by is.first is.rest is.letter is.others)
+  where
+    other : (b : ℕ) → IsLetter b ⊎ (IsDigit b ⊎ (b ≡ 95)) → (b == 32) ≡ false
+    other b (inl letter) = ne_eqb b 32 (λ e. omega (arith, letter.0, e))
+    other b (inr (inl digit)) = ne_eqb b 32 (λ e. omega (arith, digit.0, e))
+    other b (inr (inr line)) = ne_eqb b 32 (λ e. omega (arith, line, e))
+
+    by : (first : ℕ) (rest : List ℕ) → IsLetter first → All (λ b. IsLetter b ⊎ (IsDigit b ⊎ (b ≡ 95))) rest → AreNot 32 (first ∷ rest)
+    by first rest letter others zero d inside = other first (inl letter)
+    by first rest letter others (suc k) d inside = other (get_or rest k d) (others k d (omega (arith, inside)))
+
+-- a name behind others that differ from it
+fresh_name : (before after : List (List ℕ)) (name : List ℕ) → AreDistinct (before ++ name ∷ after) → Contains before name → ⊥
+fresh_name before after name distinct (k, inside, is) =
+    let longer = length-append before (name ∷ after) in
+    distinct k (length before) name inside (omega arith)
+    (get_or_append_left before (name ∷ after) name k inside ∙ is ∙ sym (get_or-append_seam before name after name))
+
+names_read : (size : Option ArenaSize) (workers : Option ℕ) (before names : List (List ℕ)) →
+    ((name : List ℕ) → Contains names name → IsName name × IsLine (var_line name)) → AreDistinct (before ++ names) →
+    length before + length names ≤ 4096 →
+    ReadsAll (declared size workers before) (map var_line names) (declared size workers (before ++ names))
+names_read size workers before [] each distinct few =
+    subst (λ (ns : List (List ℕ)). ReadsAll (declared size workers before) [] (declared size workers ns)) (sym (append-nil before)) none
+names_read size workers before (name ∷ names) each distinct few =
+    let p = declared size workers before in
+    let here = each name (contains_first name names) in
+    let none_counted = blanks_sum before in
+    let first : Reads p (var_line name) (record p { names = before ++ name ∷ []; callbacks = blanks before ++ no_callbacks ∷ [] }) =
+    says (Declares name) here.1
+    (declares name (ap (λ r. codes "var" ∷ r) (fields-last name (name_unspaced name here.0))) here.0 (fresh_name before names name distinct))
+    (omega (arith, none_counted, few), omega (arith, few)) in
+    let onto = subst (λ (cs : List Callbacks). Reads p (var_line name) (record p { names = before ++ name ∷ []; callbacks = cs }))
+    (sym (blanks_push before name)) first in
+    let same = append_assoc before (name ∷ []) names in
+    let rest = names_read size workers (before ++ name ∷ []) names (λ x h. each x (contains_later name x names h))
+    (subst AreDistinct (sym same) distinct) (omega (arith, length-append before (name ∷ []), few)) in
+    subst (λ (ns : List (List ℕ)). ReadsAll p (map var_line (name ∷ names)) (declared size workers ns)) same (one onto rest)
+
+-- the main program
+main_read : (p : Program) (ops : List MainOp) → ((o : MainOp) → Contains ops o → IsWritten p.names (InMain o)) →
+    line_count p + length ops ≤ 65535 → ReadsAll p (map (main_line p.names) ops) (record p { main = p.main ++ ops })
+main_read p [] each few = subst (λ (m : List MainOp). ReadsAll p [] (record p { main = m })) (sym (append-nil p.main)) none
+main_read p (o ∷ ops) each few =
+    let here = each o (contains_first o ops) in
+    let first : Reads p (main_line p.names o) (record p { main = p.main ++ o ∷ [] }) = says (InMain o) here.line here.says (omega (arith, few)) in
+    let rest = main_read (record p { main = p.main ++ o ∷ [] }) ops (λ x h. each x (contains_later o x ops h))
+    (omega (arith, length-append p.main (o ∷ []), few)) in
+    subst (λ (m : List MainOp). ReadsAll p (map (main_line p.names) (o ∷ ops)) (record p { main = m })) (append_assoc p.main (o ∷ []) ops)
+    (one first rest)
+
+-- the lines of callbacks, in a script that says how large its arena is and how many workers it has
+abbrev with_callbacks : Program → List Callbacks → Program
+with_callbacks p cs = record p { callbacks = cs; size = Some (arena_size p); workers = Some (worker_count p) }
+
+with_lines : Callback → Callbacks → List CallbackLine → Callbacks
+with_lines callback.Handle c lines = record c { handle = c.handle ++ lines }
+with_lines callback.After c lines = record c { after = c.after ++ lines }
+with_lines callback.Close c lines = record c { close = c.close ++ lines }
+
+with_lines_none : (kind : Callback) (c : Callbacks) → with_lines kind c [] ≡ c
+unfolding with_lines
+with_lines_none callback.Handle c = ap (λ l. record c { handle = l }) (append-nil c.handle)
+with_lines_none callback.After c = ap (λ l. record c { after = l }) (append-nil c.after)
+with_lines_none callback.Close c = ap (λ l. record c { close = l }) (append-nil c.close)
+
+with_lines_one : (kind : Callback) (c : Callbacks) (line : CallbackLine) (lines : List CallbackLine) →
+    with_lines kind (with_line kind c line) lines ≡ with_lines kind c (line ∷ lines)
+unfolding with_lines
+with_lines_one callback.Handle c line lines = ap (λ l. record c { handle = l }) (append_assoc c.handle (line ∷ []) lines)
+with_lines_one callback.After c line lines = ap (λ l. record c { after = l }) (append_assoc c.after (line ∷ []) lines)
+with_lines_one callback.Close c line lines = ap (λ l. record c { close = l }) (append_assoc c.close (line ∷ []) lines)
+
+sum_seam : (done later : List Callbacks) (c : Callbacks) →
+    sum_by callback_count (done ++ c ∷ later) ≡ sum_by callback_count done + callback_count c + sum_by callback_count later
+sum_seam done later c = omega (arith, sum_by-append callback_count done (c ∷ later), sum_by-cons callback_count c later)
+
+abbrev place : List Callbacks → Var
+place done = record { 0 = length done }
+
+callbacks_at : (done later : List Callbacks) (c : Callbacks) → unwrap_or (slice_get (done ++ c ∷ later) (length done)) no_callbacks ≡ c
+callbacks_at done later c =
+    unwrap_or-slice_get (done ++ c ∷ later) (length done) no_callbacks ∙ get_or-append_seam done c later no_callbacks
+
+module _ (p : Program) where
+  lines_read : (kind : Callback) (done later : List Callbacks) (c : Callbacks) (lines : List CallbackLine) →
+      ((line : CallbackLine) → Contains lines line → IsWritten p.names (InCallback kind (place done) line)) →
+      line_count (with_callbacks p (done ++ c ∷ later)) + length lines ≤ 65535 →
+      ReadsAll (with_callbacks p (done ++ c ∷ later)) (map (callback_line p.names kind (place done)) lines)
+      (with_callbacks p (done ++ with_lines kind c lines ∷ later))
+  lines_read kind done later c [] each few =
+      subst (λ (x : Callbacks). ReadsAll (with_callbacks p (done ++ c ∷ later)) [] (with_callbacks p (done ++ x ∷ later)))
+      (sym (with_lines_none kind c)) none
+  lines_read kind done later c (line ∷ lines) each few =
+      let v = place done in
+      let before = with_callbacks p (done ++ c ∷ later) in
+      let here = each line (contains_first line lines) in
+      let first : Reads before (callback_line p.names kind v line)
+      (with_callbacks p (slice_set (done ++ c ∷ later) (length done) (with_line kind (callbacks_of before v) line))) =
+      says (InCallback kind v line) here.line here.says (omega (arith, few)) in
+      let put : slice_set (done ++ c ∷ later) (length done) (with_line kind (callbacks_of before v) line) ≡ done ++ with_line kind c line ∷ later =
+      ap (λ (x : Callbacks). slice_set (done ++ c ∷ later) (length done) (with_line kind x line)) (callbacks_at done later c)
+      ∙ set-append_seam done c later (with_line kind c line) in
+      let onto = subst (λ (cs : List Callbacks). Reads before (callback_line p.names kind v line) (with_callbacks p cs)) put first in
+      let rest = lines_read kind done later (with_line kind c line) lines (λ x h. each x (contains_later line x lines h))
+      (omega (arith, few, sum_seam done later c, sum_seam done later (with_line kind c line), count_more kind c line)) in
+      subst (λ (x : Callbacks). ReadsAll before (map (callback_line p.names kind v) (line ∷ lines)) (with_callbacks p (done ++ x ∷ later)))
+      (with_lines_one kind c line lines) (one onto rest)
+
+  own_lines : Var → Callbacks → List (List ℕ)
+  own_lines v c = map (callback_line p.names callback.Handle v) c.handle
+      ++ map (callback_line p.names callback.After v) c.after
+      ++ map (callback_line p.names callback.Close v) c.close
+
+  -- all of one name
+  name_read : (done later : List Callbacks) (c : Callbacks) →
+      ((kind : Callback) (line : CallbackLine) → Contains (lines_in_callbacks kind c) line → IsWritten p.names (InCallback kind (place done) line)) →
+      line_count (with_callbacks p (done ++ c ∷ later)) ≤ 65535 →
+      ReadsAll (with_callbacks p (done ++ no_callbacks ∷ later)) (own_lines (place done) c) (with_callbacks p (done ++ c ∷ later))
+  unfolding with_lines own_lines
+  name_read done later c each few =
+      let v = place done in
+      let c₁ : Callbacks = record { handle = c.handle; after = []; close = [] } in
+      let c₂ : Callbacks = record { handle = c.handle; after = c.after; close = [] } in
+      let none_yet = sum_seam done later no_callbacks in
+      let first_yet = sum_seam done later c₁ in
+      let second_yet = sum_seam done later c₂ in
+      let all = sum_seam done later c in
+      let first = lines_read callback.Handle done later no_callbacks c.handle (each callback.Handle) (omega arith) in
+      let second = lines_read callback.After done later c₁ c.after (each callback.After) (omega arith) in
+      let third = lines_read callback.Close done later c₂ c.close (each callback.Close) (omega arith) in
+      reads_on (with_callbacks p (done ++ no_callbacks ∷ later)) (with_callbacks p (done ++ c₂ ∷ later)) (with_callbacks p (done ++ c ∷ later)) _ _
+      (reads_on (with_callbacks p (done ++ no_callbacks ∷ later)) (with_callbacks p (done ++ c₁ ∷ later)) (with_callbacks p (done ++ c₂ ∷ later)) _ _
+      first second) third
+
+  -- of every name
+  callbacks_read : (done cs : List Callbacks) (names : List (List ℕ)) → p.callbacks ≡ done ++ cs → length names ≡ length cs → AreWritten p →
+      ReadsAll (with_callbacks p (done ++ blanks cs)) (callback_lines p (length done) names) (with_callbacks p (done ++ cs))
+  unfolding blanks own_lines
+  callbacks_read done [] [] e same is = none
+  callbacks_read done [] (name ∷ names) e same is = absurd (omega arith)
+  callbacks_read done (c ∷ cs) [] e same is = absurd (omega arith)
+  callbacks_read done (c ∷ cs) (name ∷ names) e same is =
+      let v = place done in
+      let own : callbacks_of p v ≡ c = ap (λ (l : List Callbacks). unwrap_or (slice_get l (length done)) no_callbacks) e ∙ callbacks_at done cs c in
+      let lines : name_lines p v ≡ own_lines v c = ap (own_lines v) own in
+      let next : length (done ++ c ∷ []) ≡ length done + 1 = length-append done (c ∷ []) in
+      let count = is.few in
+      let whole = ap (sum_by callback_count) e in
+      let few : line_count (with_callbacks p (done ++ c ∷ blanks cs)) ≤ 65535 =
+      omega (arith, sum_seam done cs c, sum_seam done (blanks cs) c, blanks_sum cs) in
+      let first = name_read done (blanks cs) c
+      (λ kind line h. is.callbacks kind v line (subst (λ (x : Callbacks). Contains (lines_in_callbacks kind x) line) (sym own) h)) few in
+      let further = callbacks_read (done ++ c ∷ []) cs names (e ∙ sym (append_assoc done (c ∷ []) cs)) (omega arith) is in
+      let rest : ReadsAll (with_callbacks p (done ++ c ∷ blanks cs)) (callback_lines p (length done + 1) names) (with_callbacks p (done ++ c ∷ cs)) =
+      subst (λ (l : List Callbacks). ReadsAll (with_callbacks p (done ++ c ∷ blanks cs)) (callback_lines p (length done + 1) names)
+      (with_callbacks p l))
+      (append_assoc done (c ∷ []) cs)
+      (subst (λ (l : List Callbacks). ReadsAll (with_callbacks p l) (callback_lines p (length done + 1) names) (with_callbacks p
+      ((done ++ c ∷ []) ++ cs)))
+      (append_assoc done (c ∷ []) (blanks cs))
+      (subst (λ (n : ℕ). ReadsAll (with_callbacks p ((done ++ c ∷ []) ++ blanks cs)) (callback_lines p n names) (with_callbacks p
+      ((done ++ c ∷ []) ++ cs)))
+      next further)) in
+      reads_on (with_callbacks p (done ++ no_callbacks ∷ blanks cs)) (with_callbacks p (done ++ c ∷ blanks cs)) (with_callbacks p
+      (done ++ c ∷ cs)) _ _
+      (subst (λ (l : List (List ℕ)). ReadsAll (with_callbacks p (done ++ no_callbacks ∷ blanks cs)) l (with_callbacks p (done ++ c ∷ blanks cs)))
+      (sym lines) first) rest
+
+-- a text of lines, cut into its lines
+line_unfed : (line : List ℕ) → IsLine line → AreNot 10 line
+line_unfed line is = λ k d inside. ne_eqb _ 10 (λ e. omega (arith, (is.printable k d inside).0, e))
+
+read_line : (p q : Program) (line : List ℕ) → Reads p line q → IsLine line
+read_line p q line (skips is skipped) = is
+read_line p q line (says s is said room) = is
+
+lines_back : (p q : Program) (lines : List (List ℕ)) → ReadsAll p lines q → lines_of (lines_text lines) ≡ lines
+lines_back p q [] none = refl
+lines_back p q (line ∷ lines) (one {q = m} first rest) =
+    lines_append line (lines_text lines) (line_unfed line (read_line p m line first)) ∙ ap (λ ls. line ∷ ls) (lines_back m q lines rest)
+
+pub workers_fit : (said : Option ℕ) → ((n : ℕ) → said ≡ Some n → IsWorkerCount n) → IsWorkerCount (unwrap_or said DEFAULT_WORKERS)
+workers_fit (Some n) fits = fits n refl
+workers_fit None fits = (omega arith, omega arith)
+
+pub size_fits : (said : Option ArenaSize) → ((size : ArenaSize) → said ≡ Some size → IsSize size) → IsSize (unwrap_or said DEFAULT_SIZE)
+size_fits (Some size) fits = fits size refl
+size_fits None fits = record { slots = (omega arith, omega arith); last = omega arith }
+
+lines_read_back : (p : Program) → AreWritten p → ReadsAll blank (script_lines p) (said_whole p)
+unfolding blanks
+lines_read_back p is =
+    let n = worker_count p in
+    let size = arena_size p in
+    let workers = workers_read blank n (workers_fit p.workers is.workers) refl in
+    let slots = slots_read (record blank { workers = Some n }) size (size_fits p.size is.size) refl in
+    let named = declared (Some size) (Some n) p.names in
+    let few = is.few in
+    let names = names_read (Some size) (Some n) [] p.names is.names is.distinct (omega (arith, is.few_names)) in
+    let main = main_read named p.main is.main (omega (arith, blanks_sum p.names)) in
+    let callbacks = subst
+    (λ (cs : List Callbacks). ReadsAll (with_callbacks p cs) (callback_lines p 0 p.names) (said_whole p)) (blanks_same p.callbacks p.names is.each)
+    (callbacks_read p [] p.callbacks p.names refl (sym is.each) is) in
+    let front = reads_on (declared (Some size) (Some n) []) named (with_callbacks p (blanks p.names)) _ _ names main in
+    let rest = reads_on (declared (Some size) (Some n) []) (with_callbacks p (blanks p.names)) (said_whole p) _ _ front callbacks in
+    one workers (one slots rest)
+
+read_back : (p : Program) (lines : List (List ℕ)) → ReadsAll blank lines p → IsScript (script_text p) (said_whole p)
+unfolding script_text
+read_back p lines read =
+    let all = lines_read_back p (script_written p lines read) in
+    subst (λ (ls : List (List ℕ)). ReadsAll blank ls (said_whole p)) (sym (lines_back blank (said_whole p) (script_lines p) all)) all
+
+-- the lines of callbacks are those of the names and the callbacks alone
+lines_alike : (p : Program) (n : ℕ) (names : List (List ℕ)) → callback_lines p n names ≡ callback_lines (said_whole p) n names
+lines_alike p n [] = refl
+lines_alike p n (name ∷ names) = ap (λ lines. name_lines p (record { 0 = n }) ++ lines) (lines_alike p (n + 1) names)
+
+text_alike : (p : Program) → script_text p ≡ script_text (said_whole p)
+unfolding script_text
+text_alike p = ap (λ lines. lines_text (workers_line (worker_count p) ∷ slots_line (arena_size p) ∷
+    map var_line p.names ++ map (main_line p.names) p.main ++ lines)) (lines_alike p 0 p.names)
+
+pub back : (p : Program) → WasRead p → IsReadBack p
+back p was =
+    let is = read_back p was.lines was.read in
+    record {
+      script = is;
+      alike = record { names = refl; main = refl; lines = λ kind v. refl; size = refl; workers = refl; text = text_alike p };
+      answer = answered is;
+    }
+  where
+    answered : IsScript (script_text p) (said_whole p) → (answer : Result Program Fault) → Parses (script_text p) answer → IsBack p answer
+    answered is (Ok q) parses = one_script (script_text p) q (said_whole p) parses is
+    answered is (Err (fault.Script line)) parses = no_bad_line (script_text p) (said_whole p) line is parses
+    answered is (Err fault.Memory) parses = tt
+    answered is (Err _) parses = parses
+
+pub back_of_text : (text : List ℕ) (p : Program) → IsScript text p → IsReadBack p
+back_of_text text p is = back p (record { lines = lines_of text; read = is })

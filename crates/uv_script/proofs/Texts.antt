@@ -1,0 +1,89 @@
+-- The text of lines, a line at a time.
+use Rattle.std.proofs.Common.{◌≡◌, ℕ, ◌+◌, ◌<◌, List, [], ◌∷◌, ◌++◌, suc, length, map, drop, get_or, refl, ap, sym, ◌∙◌, arith, append_assoc, append-nil}
+use Rattle.std.specs.Prelude.{codes}
+use Rattle.std.proofs.Math.Seq.{drop-length, drop-cons}
+use Rattle.std.proofs.lemmas.Option.{slice_get-get_or}
+use Rattle.uv_script.specs.Program.{Program, arena_size, worker_count}
+use Rattle.uv_script.specs.Text.{text_or_none, name_text, workers_line, slots_line, var_line, main_line, name_lines, callback_lines, lines_text, script_text}
+
+pub lines_text-append : (xs ys : List (List ℕ)) → lines_text (xs ++ ys) ≡ lines_text xs ++ lines_text ys
+lines_text-append [] ys = refl
+lines_text-append (x ∷ xs) ys = ap (λ t. x ++ 10 ∷ t) (lines_text-append xs ys) ∙ sym (append_assoc x (10 ∷ lines_text xs) (lines_text ys))
+
+-- a line more in front of the rest
+pub line_more : (text line : List ℕ) (rest : List (List ℕ)) → text ++ line ++ 10 ∷ [] ++ lines_text rest ≡ text ++ lines_text (line ∷ rest)
+line_more text line rest =
+    append_assoc (text ++ line) (10 ∷ []) (lines_text rest) ∙ append_assoc text line (10 ∷ lines_text rest)
+
+-- in a loop over a slice that writes a line for each element: what is written, with the lines that are left, is all
+pub line_turn : {A : Type 0} (f : A → List ℕ) (xs : List A) (i : ℕ) (d : A) (start text : List ℕ) → i < length xs →
+    text ++ lines_text (map f (drop i xs)) ≡ start ++ lines_text (map f xs) →
+    text ++ f (get_or xs i d) ++ 10 ∷ [] ++ lines_text (map f (drop (i + 1) xs)) ≡ start ++ lines_text (map f xs)
+line_turn f xs i d start text within all =
+    line_more text (f (get_or xs i d)) (map f (drop (i + 1) xs))
+    ∙ ap (λ l. text ++ lines_text (map f l)) (ap (λ n. get_or xs i d ∷ drop n xs) add_one ∙ sym (drop-cons xs i d within)) ∙ all
+  where
+    add_one : i + 1 ≡ suc i
+    add_one = omega arith
+
+pub lines_end : {A : Type 0} (f : A → List ℕ) (xs : List A) (start text : List ℕ) →
+    text ++ lines_text (map f (drop (length xs) xs)) ≡ start ++ lines_text (map f xs) → text ≡ start ++ lines_text (map f xs)
+lines_end f xs start text all =
+    sym (append-nil text) ∙ ap (λ l. text ++ lines_text (map f l)) (sym (drop-length xs)) ∙ all
+
+-- two lines
+pub two_lines : (text a b : List ℕ) → text ++ a ++ 10 ∷ [] ++ b ++ 10 ∷ [] ≡ text ++ lines_text (a ∷ b ∷ [])
+two_lines text a b =
+    append_assoc (text ++ a ++ 10 ∷ []) b (10 ∷ []) ∙ append_assoc (text ++ a) (10 ∷ []) (b ++ 10 ∷ []) ∙ append_assoc text a (10 ∷ (b ++ 10 ∷ []))
+
+-- the texts of three lists of lines
+pub three_lists : (text : List ℕ) (xs ys zs : List (List ℕ)) →
+    text ++ lines_text xs ++ lines_text ys ++ lines_text zs ≡ text ++ lines_text (xs ++ ys ++ zs)
+three_lists text xs ys zs =
+    ap (λ t. t ++ lines_text zs) (append_assoc text (lines_text xs) (lines_text ys) ∙ ap (λ t. text ++ t) (sym (lines_text-append xs ys)))
+    ∙ append_assoc text (lines_text (xs ++ ys)) (lines_text zs) ∙ ap (λ t. text ++ t) (sym (lines_text-append (xs ++ ys) zs))
+
+-- a name's number is its place
+name_at : (names : List (List ℕ)) (i : ℕ) → i < length names → name_text names (record { 0 = i }) ≡ get_or names i []
+name_at names i within = ap text_or_none (slice_get-get_or names i [] within)
+
+-- in the loop over the names
+pub name_turn : (names : List (List ℕ)) (i : ℕ) (start text : List ℕ) → i < length names →
+    text ++ lines_text (map var_line (drop i names)) ≡ start ++ lines_text (map var_line names) →
+    text ++ (codes "var " ++ name_text names (record { 0 = i })) ++ 10 ∷ [] ++ lines_text (map var_line (drop (i + 1) names))
+    ≡ start ++ lines_text (map var_line names)
+name_turn names i start text within all =
+    ap (λ name. text ++ (codes "var " ++ name) ++ 10 ∷ [] ++ lines_text (map var_line (drop (i + 1) names))) (name_at names i within)
+    ∙ line_turn var_line names i [] start text within all
+
+-- and in that over their callbacks
+pub callbacks_turn : (p : Program) (i : ℕ) (start text : List ℕ) → i < length p.names →
+    text ++ lines_text (callback_lines p i (drop i p.names)) ≡ start ++ lines_text (callback_lines p 0 p.names) →
+    text ++ lines_text (name_lines p (record { 0 = i })) ++ lines_text (callback_lines p (i + 1) (drop (i + 1) p.names))
+    ≡ start ++ lines_text (callback_lines p 0 p.names)
+callbacks_turn p i start text within all =
+    append_assoc text (lines_text (name_lines p (record { 0 = i }))) (lines_text (callback_lines p (i + 1) (drop (i + 1) p.names)))
+    ∙ ap (λ t. text ++ t) (sym (lines_text-append (name_lines p (record { 0 = i })) (callback_lines p (i + 1) (drop (i + 1) p.names))))
+    ∙ ap (λ names. text ++ lines_text (callback_lines p i names))
+    (ap (λ n. get_or p.names i [] ∷ drop n p.names) add_one ∙ sym (drop-cons p.names i [] within)) ∙ all
+  where
+    add_one : i + 1 ≡ suc i
+    add_one = omega arith
+
+pub callbacks_end : (p : Program) (start text : List ℕ) →
+    text ++ lines_text (callback_lines p (length p.names) (drop (length p.names) p.names)) ≡ start ++ lines_text (callback_lines p 0 p.names) →
+    text ≡ start ++ lines_text (callback_lines p 0 p.names)
+callbacks_end p start text all =
+    sym (append-nil text) ∙ ap (λ names. text ++ lines_text (callback_lines p (length p.names) names)) (sym (drop-length p.names)) ∙ all
+
+-- the texts of a script's parts
+pub whole_text : (p : Program) →
+    [] ++ lines_text (workers_line (worker_count p) ∷ slots_line (arena_size p) ∷ []) ++ lines_text (map var_line p.names)
+    ++ lines_text (map (main_line p.names) p.main) ++ lines_text (callback_lines p 0 p.names) ≡ script_text p
+unfolding script_text
+whole_text p =
+    let settings = workers_line (worker_count p) ∷ slots_line (arena_size p) ∷ [] in
+    let names = map var_line p.names in
+    let main = map (main_line p.names) p.main in
+    let callbacks = callback_lines p 0 p.names in
+    three_lists (lines_text settings) names main callbacks ∙ sym (lines_text-append settings (names ++ main ++ callbacks))

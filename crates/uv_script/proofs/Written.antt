@@ -1,0 +1,264 @@
+-- What every script's parts are: each was written in a line of its own.
+use Rattle.std.proofs.Common.{◌≡◌, ◌⊎◌, inl, inr, ℕ, zero, suc, ◌+◌, ◌<◌, ◌≤◌, ◌^◌, List, [], ◌∷◌, ◌++◌, length, get_or, Some, None, slice_get, unwrap_or, Contains, refl, ap, sym, subst, ◌∙◌, arith, length-append, length-set}
+use Rattle.std.specs.Prelude.{slice_set}
+use Rattle.std.proofs.lemmas.Bool.{cases_order}
+use Rattle.std.proofs.lemmas.List.{get_or-set_same, get_or-set_other}
+use Rattle.std.proofs.lemmas.List.Elements.{Contains-push_cases}
+use Rattle.std.proofs.lemmas.List.Sums.{sum_by_push, sum_by-set}
+use Rattle.std.proofs.lemmas.Option.{same_Some, unwrap_or-slice_get}
+use Rattle.uv_ids.specs.declared.id.Var.{Var}
+use Rattle.uv_ids.specs.declared.seen.Callback.{Callback}
+use Rattle.uv_ids.specs.declared.seen.Callback.TheVariants as callback
+use Rattle.uv_script.specs.declared.op.MainOp.{MainOp}
+use Rattle.uv_script.specs.declared.op.CallbackLine.{CallbackLine}
+use Rattle.uv_script.specs.declared.size.ArenaSize.{ArenaSize}
+use Rattle.uv_script.specs.Grammar.{Statement, Declares, InMain, InCallback, Sizes, HasWorkers, Says, declares, in_main, runs, closes_loop, in_callback, in_call, sizes, sizes_to, has_workers, HasRoom, with_statement, Reads, skips, says, ReadsAll, none, one, blank}
+use Rattle.uv_script.specs.Lines.{fields_of, IsLine}
+use Rattle.uv_script.specs.Program.{Program, Callbacks, no_callbacks, callbacks_of, lines_of, with_line, lines_in, callback_count, line_count, IsSlotCount, IsWorkerCount}
+use Rattle.uv_script.specs.Reading.{IsSound}
+use Rattle.uv_script.specs.Text.{var_line}
+use Rattle.uv_script.specs.Words.{IsName}
+use Rattle.uv_script.proofs.Agrees.{AreDistinct}
+use Rattle.uv_script.proofs.AfterLines.{says_sound, distinct_push, distinct_none}
+use Rattle.uv_script.proofs.Exact.{statement_text, IsKept, IsNoName, line_exact, says_more}
+
+-- the text of what a line says is a line that says it
+pub record IsWritten (names : List (List ℕ)) (s : Statement) : Type 0 where
+  pub line : IsLine (statement_text names s)
+  pub says : Says names (fields_of (statement_text names s)) s
+
+pub record IsSize (size : ArenaSize) : Type 0 where
+  pub slots : IsSlotCount size.slots
+  pub last : size.last_generation < 2 ^ 32
+
+pub record AreWritten (p : Program) : Type 0 where
+  pub names : (name : List ℕ) → Contains p.names name → IsName name × IsLine (var_line name)
+  pub distinct : AreDistinct p.names
+  pub few_names : length p.names ≤ 4096
+  pub main : (o : MainOp) → Contains p.main o → IsWritten p.names (InMain o)
+  pub callbacks : (kind : Callback) (v : Var) (line : CallbackLine) → Contains (lines_in p kind v) line →
+      IsWritten p.names (InCallback kind v line)
+  pub each : length p.callbacks ≡ length p.names
+  pub few : line_count p ≤ 65535
+  pub size : (size : ArenaSize) → p.size ≡ Some size → IsSize size
+  pub workers : (n : ℕ) → p.workers ≡ Some n → IsWorkerCount n
+
+written : (names : List (List ℕ)) (line : List ℕ) (s : Statement) → IsKept s → IsLine line → Says names (fields_of line) s → IsWritten names s
+written names line s kept is said =
+    let same = line_exact names line s kept said in
+    record { line = subst IsLine same is; says = subst (λ (l : List ℕ). Says names (fields_of l) s) same said }
+
+written_more : (names more : List (List ℕ)) (s : Statement) → IsKept s → IsNoName s → IsWritten names s → IsWritten (names ++ more) s
+written_more names more s kept other w =
+    written (names ++ more) (statement_text names s) s kept w.line (says_more names more (fields_of (statement_text names s)) s other w.says)
+
+none_there : {A : Type 0} (x : A) → Contains [] x → ⊥
+none_there x (k, inside, is) = omega arith
+
+-- one more list, which is empty, changes no list
+push_default : {A : Type 0} (xs : List A) (d : A) (k : ℕ) → get_or (xs ++ d ∷ []) k d ≡ get_or xs k d
+push_default [] d zero = refl
+push_default [] d (suc k) = refl
+push_default (x ∷ xs) d zero = refl
+push_default (x ∷ xs) d (suc k) = push_default xs d k
+
+unwrapped : {A : Type 0} (xs ys : List A) (d : A) (k : ℕ) → get_or xs k d ≡ get_or ys k d →
+    unwrap_or (slice_get xs k) d ≡ unwrap_or (slice_get ys k) d
+unwrapped xs ys d k e = unwrap_or-slice_get xs k d ∙ e ∙ sym (unwrap_or-slice_get ys k d)
+
+-- the last generation of what a line says
+last_fits : Statement → Type 0
+last_fits (Sizes size) = size.last_generation < 2 ^ 32
+last_fits _ = Unit {0}
+
+says_last : (names fields : List (List ℕ)) (s : Statement) → Says names fields s → last_fits s
+unfolding last_fits
+says_last names fields s (declares name e is fresh) = tt
+says_last names fields s (in_main rest o e is) = tt
+says_last names fields s (runs mode e) = tt
+says_last names fields s (closes_loop e) = tt
+says_last names fields s (in_callback kind name v rest o e declared is) = tt
+says_last names fields s (in_call kind name v number k rest o e declared is first last op_is) = tt
+says_last names fields s (sizes slots n e is fits) = omega arith
+says_last names fields s (sizes_to slots last n g e is fits last_is small) = small
+says_last names fields s (has_workers number n e is fits) = tt
+
+-- a line of a callback to which one was added is the added one, or was there
+line_there : (kind added : Callback) (c : Callbacks) (line more : CallbackLine) → Contains (lines_of kind (with_line added c more)) line →
+    Contains (lines_of kind c) line ⊎ ((added ≡ kind) × (more ≡ line))
+line_there callback.Handle callback.Handle c line more h = elim (Contains-push_cases c.handle more line h) [
+  | inl old ↦ inl old
+  | inr new ↦ inr
+      (refl, new)
+]
+line_there callback.Handle callback.After c line more h = inl h
+line_there callback.Handle callback.Close c line more h = inl h
+line_there callback.After callback.Handle c line more h = inl h
+line_there callback.After callback.After c line more h = elim (Contains-push_cases c.after more line h) [
+  | inl old ↦ inl old
+  | inr new ↦ inr
+      (refl, new)
+]
+line_there callback.After callback.Close c line more h = inl h
+line_there callback.Close callback.Handle c line more h = inl h
+line_there callback.Close callback.After c line more h = inl h
+line_there callback.Close callback.Close c line more h = elim (Contains-push_cases c.close more line h) [
+  | inl old ↦ inl old
+  | inr new ↦ inr
+      (refl, new)
+]
+
+pub count_more : (kind : Callback) (c : Callbacks) (line : CallbackLine) → callback_count (with_line kind c line) ≡ callback_count c + 1
+count_more callback.Handle c line = omega (arith, length-append c.handle (line ∷ []))
+count_more callback.After c line = omega (arith, length-append c.after (line ∷ []))
+count_more callback.Close c line = omega (arith, length-append c.close (line ∷ []))
+
+module _ (p : Program) (is : AreWritten p) where
+  after_name : (name : List ℕ) → IsName name → (Contains p.names name → ⊥) → IsLine (var_line name) → HasRoom p (Declares name) →
+      AreWritten (with_statement p (Declares name))
+  after_name name is_name fresh line room = record {
+    names = λ other h. elim (Contains-push_cases p.names name other h) [
+      | inl old ↦ is.names other old
+      | inr new ↦ subst (λ (n : List ℕ). IsName n × IsLine (var_line n)) new (is_name, line)
+    ];
+    distinct = distinct_push p (Declares name) is.distinct (is_name, fresh);
+    few_names = omega (arith, length-append p.names (name ∷ []), room.1);
+    main = λ o h. written_more p.names (name ∷ []) (InMain o) tt tt (is.main o h);
+    callbacks = λ kind v line h. written_more p.names (name ∷ []) (InCallback kind v line) tt tt
+        (is.callbacks kind v line (subst (λ (c : Callbacks). Contains (lines_of kind c) line)
+        (unwrapped (p.callbacks ++ no_callbacks ∷ []) p.callbacks no_callbacks v.0 (push_default p.callbacks no_callbacks v.0)) h));
+    each = omega (arith, length-append p.names (name ∷ []), length-append p.callbacks (no_callbacks ∷ []), is.each);
+    few = omega (arith, length-append p.names (name ∷ []), sum_by_push callback_count p.callbacks no_callbacks, room.0);
+    size = is.size;
+    workers = is.workers;
+  }
+
+  after_main : (o : MainOp) → IsWritten p.names (InMain o) → HasRoom p (InMain o) → AreWritten (with_statement p (InMain o))
+  after_main o line room = record {
+    names = is.names;
+    distinct = is.distinct;
+    few_names = is.few_names;
+    main = λ other h. elim (Contains-push_cases p.main o other h) [
+      | inl old ↦ is.main other old
+      | inr new ↦ subst (λ (x : MainOp). IsWritten p.names (InMain x)) new line
+    ];
+    callbacks = is.callbacks;
+    each = is.each;
+    few = omega (arith, length-append p.main (o ∷ []), room);
+    size = is.size;
+    workers = is.workers;
+  }
+
+  -- the callbacks of a name, where those of this one were changed
+  callbacks_after : (v w : Var) (c : Callbacks) → v.0 < length p.callbacks →
+      ((v.0 ≡ w.0) × (unwrap_or (slice_get (slice_set p.callbacks v.0 c) w.0) no_callbacks ≡ c))
+      ⊎ (unwrap_or (slice_get (slice_set p.callbacks v.0 c) w.0) no_callbacks ≡ callbacks_of p w)
+  callbacks_after v w c within =
+      elim (cases_order v.0 w.0) [
+        | inl same ↦ inl (
+          same,
+          subst (λ (k : ℕ). unwrap_or (slice_get (slice_set p.callbacks v.0 c) k) no_callbacks ≡ c) same
+              (unwrap_or-slice_get (slice_set p.callbacks v.0 c) v.0 no_callbacks ∙ get_or-set_same p.callbacks v.0 c no_callbacks within),
+        )
+        | inr order ↦ inr (unwrapped (slice_set p.callbacks v.0 c) p.callbacks no_callbacks w.0
+            (get_or-set_other p.callbacks v.0 w.0 c no_callbacks (λ e. elim order [ inl less ↦ omega (arith, e) | inr more ↦ omega (arith, e) ])))
+      ]
+
+  callback_there : (kind : Callback) (v : Var) (line : CallbackLine) → v.0 < length p.callbacks → IsWritten p.names (InCallback kind v line) →
+      (other : Callback) (w : Var) (x : CallbackLine) →
+      Contains (lines_in (with_statement p (InCallback kind v line)) other w) x → IsWritten p.names (InCallback other w x)
+  callback_there kind v line within new other w x h =
+      elim (callbacks_after v w (with_line kind (callbacks_of p v) line) within) [
+        | inl same ↦
+            let at : Contains (lines_of other (with_line kind (callbacks_of p v) line)) x = subst
+            (λ (c : Callbacks). Contains (lines_of other c) x) same.1 h in
+            elim (line_there other kind (callbacks_of p v) x line at) [
+              | inl old ↦ is.callbacks other w x (subst (λ (k : ℕ). Contains (lines_of other (unwrap_or
+                  (slice_get p.callbacks k) no_callbacks)) x) same.0 old)
+              | inr added ↦
+                  let all : ◌≡◌ {A = Callback × ℕ × CallbackLine} (kind, v.0, line) (other, w.0, x) = λ i. (added.0 i, same.0 i, added.1 i) in
+                  subst (λ (q : Callback × ℕ × CallbackLine). IsWritten p.names (InCallback q.0 (record { 0 = q.1 }) q.2)) all new
+            ]
+        | inr kept ↦ is.callbacks other w x (subst (λ (c : Callbacks). Contains (lines_of other c) x) kept h)
+      ]
+
+  after_callback : (kind : Callback) (v : Var) (line : CallbackLine) → v.0 < length p.names → IsWritten p.names (InCallback kind v line) →
+      HasRoom p (InCallback kind v line) → AreWritten (with_statement p (InCallback kind v line))
+  after_callback kind v line declared new room =
+      let c = callbacks_of p v in
+      let within : v.0 < length p.callbacks = omega (arith, is.each) in
+      let sum = sum_by-set callback_count p.callbacks v.0 (with_line kind c line) no_callbacks within in
+      let here = ap callback_count (unwrap_or-slice_get p.callbacks v.0 no_callbacks) in
+      record {
+        names = is.names;
+        distinct = is.distinct;
+        few_names = is.few_names;
+        main = is.main;
+        callbacks = callback_there kind v line within new;
+        each = simp length-set is.each;
+        few = omega (arith, sum, here, count_more kind c line, room);
+        size = is.size;
+        workers = is.workers;
+      }
+
+  after_statement : (s : Statement) → IsSound p s → last_fits s → HasRoom p s → (IsKept s → IsWritten p.names s) → AreWritten (with_statement p s)
+  unfolding last_fits
+  after_statement (Declares name) (is_name, fresh) last room new = after_name name is_name fresh (new tt).line room
+  after_statement (InMain o) sound last room new = after_main o (new tt) room
+  after_statement (InCallback kind v line) sound last room new = after_callback kind v line sound (new tt) room
+  after_statement (Sizes size) sound last room new = record {
+    names = is.names;
+    distinct = is.distinct;
+    few_names = is.few_names;
+    main = is.main;
+    callbacks = is.callbacks;
+    each = is.each;
+    few = is.few;
+    size = λ other e. subst IsSize (same_Some _ _ e) (record { slots = sound; last = last });
+    workers = is.workers;
+  }
+  after_statement (HasWorkers n) sound last room new = record {
+    names = is.names;
+    distinct = is.distinct;
+    few_names = is.few_names;
+    main = is.main;
+    callbacks = is.callbacks;
+    each = is.each;
+    few = is.few;
+    size = is.size;
+    workers = λ other e. subst IsWorkerCount (same_Some _ _ e) sound;
+  }
+
+after_one : (p q : Program) (line : List ℕ) → AreWritten p → Reads p line q → AreWritten q
+after_one p q line is (skips rule skipped) = is
+after_one p q line is (says s rule said room) =
+    after_statement p is s (says_sound p (fields_of line) s said) (says_last p.names (fields_of line) s said) room
+    (λ kept. written p.names line s kept rule said)
+
+after_all : (p q : Program) (lines : List (List ℕ)) → AreWritten p → ReadsAll p lines q → AreWritten q
+after_all p q [] is none = is
+after_all p q (line ∷ lines) is (one {q = m} first rest) = after_all m q lines (after_one p m line is first) rest
+
+written_none : AreWritten blank
+written_none = record {
+  names = λ name h. absurd (none_there name h);
+  distinct = distinct_none;
+  few_names = omega arith;
+  main = λ o h. absurd (none_there o h);
+  callbacks = λ kind v line h. absurd (nowhere kind line h);
+  each = refl;
+  few = omega arith;
+  size = λ size e. absurd (none_said e);
+  workers = λ n e. absurd (none_said e);
+} where
+  nowhere : (kind : Callback) (line : CallbackLine) → Contains (lines_of kind no_callbacks) line → ⊥
+  nowhere callback.Handle line h = none_there line h
+  nowhere callback.After line h = none_there line h
+  nowhere callback.Close line h = none_there line h
+
+  none_said : {A : Type 0} {x : A} → None ≡ Some x → ⊥
+  none_said e = cc
+
+-- so it is with every script
+pub script_written : (p : Program) (lines : List (List ℕ)) → ReadsAll blank lines p → AreWritten p
+script_written p lines read = after_all blank p lines written_none read

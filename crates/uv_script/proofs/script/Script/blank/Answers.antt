@@ -1,0 +1,7 @@
+use Rattle.std.proofs.Common.{subst, rules}
+use Rattle.uv_script.specs.Grammar.{IsReadScript}
+use Rattle.uv_script.proofs.Kept.{blank_read}
+use Rattle.uv_script.proofs.script.Script.blank.Goals as goal
+
+pub invariant_of-result : goal.invariant_of-result
+invariant_of-result c = subst (IsReadScript 0) (search rules) blank_read

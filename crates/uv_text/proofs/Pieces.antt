@@ -1,0 +1,33 @@
+-- A text that is written a piece at a time.
+use Rattle.std.proofs.Common.{◌≡◌, ℕ, ◌+◌, ◌<◌, List, [], ◌∷◌, ◌++◌, length, take, get_or, ap, ◌∙◌, append-nil, add-one}
+use Rattle.std.proofs.lemmas.List.{take_more}
+use Rattle.std.proofs.lemmas.Grind.{flat_map-append}
+use Rattle.std.specs.List.{flat_map}
+use Rattle.std.specs.Prelude.{slice_get}
+use Rattle.uv_script.specs.Program.{Program}
+use Rattle.uv_model.specs.State.{State, named}
+use Rattle.uv_model.specs.Queries.{run_by}
+use Rattle.uv_text.specs.State.{name_line, names_upto, slot_or_none, slots_upto, run_text, runs_upto}
+
+-- one more of a list
+pub flat_map-more : {A : Type 0} (f : A → List ℕ) (xs : List A) (i : ℕ) (d : A) → i < length xs →
+    flat_map f (take (i + 1) xs) ≡ flat_map f (take i xs) ++ f (get_or xs i d)
+flat_map-more f xs i d l =
+    ap (flat_map f) (take_more xs i d l) ∙ flat_map-append f (take i xs) (get_or xs i d ∷ [])
+    ∙ ap (λ (ys : List ℕ). flat_map f (take i xs) ++ ys) (append-nil (f (get_or xs i d)))
+
+-- one more name
+pub names_upto-more : (p : Program) (s : State) (n : ℕ) →
+    names_upto p s (n + 1) ≡ names_upto p s n ++ name_line p (record { 0 = n }) (named s (record { 0 = n }))
+names_upto-more p s n = ap (names_upto p s) (add-one n)
+
+-- one more slot
+pub slots_upto-more : (p : Program) (s : State) (n : ℕ) →
+    slots_upto p s (n + 1) ≡ slots_upto p s n ++ slot_or_none p s n (slice_get s.arena.slots n)
+slots_upto-more p s n = ap (slots_upto p s) (add-one n)
+
+-- one more worker
+pub runs_upto-more : (p : Program) (s : State) (n : ℕ) → runs_upto p s (n + 1) ≡ runs_upto p s n ++ run_text p s n (run_by s n)
+runs_upto-more p s n = ap (runs_upto p s) (add-one n)
+
+pub ruleset pieces = (flat_map-more, names_upto-more, slots_upto-more, runs_upto-more)

@@ -1,0 +1,8 @@
+use Rattle.std.proofs.Common.{◌≡◌, ◌++◌, take, codes}
+use Rattle.std.specs.List.{flat_map}
+use Rattle.uv_text.specs.State.{numbered}
+use Rattle.uv_text.proofs.state.push_numbers.Given as goal
+
+-- those before this one
+abbrev pub invariant-loop-number : goal.invariant-loop-number
+invariant-loop-number l = l.text.items ≡ l.initial.text.items ++ flat_map (numbered (codes " ")) (take l.number-index l.numbers)

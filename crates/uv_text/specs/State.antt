@@ -1,0 +1,242 @@
+-- The text of a session's state.
+use Rattle.std.specs.Prelude.{ℕ, zero, suc, List, [], ◌++◌, Bool, true, false, length, Option, Some, None, slice_get, codes, decimal}
+use Rattle.std.specs.List.{flat_map}
+use Rattle.uv_ids.specs.Words.{kind_word, mode_word}
+use Rattle.uv_ids.specs.declared.id.Id.{Id}
+use Rattle.uv_ids.specs.declared.id.Var.{Var}
+use Rattle.uv_ids.specs.declared.phase.Kind.{Kind}
+use Rattle.uv_ids.specs.declared.phase.Kind.TheVariants as kind
+use Rattle.uv_ids.specs.declared.seen.Callback.{Callback}
+use Rattle.uv_ids.specs.declared.seen.Callback.TheVariants as callback
+use Rattle.uv_records.specs.declared.handle.HandleRecord.{HandleRecord}
+use Rattle.uv_records.specs.declared.lists.ListName.TheVariants as name
+use Rattle.uv_records.specs.declared.slot.Slot.{Slot}
+use Rattle.uv_records.specs.Slots.{held, id_of}
+use Rattle.uv_script.specs.Program.{Program}
+use Rattle.uv_script.specs.Text.{name_text, task_text}
+use Rattle.uv_script.specs.Tasks.{text_of}
+use Rattle.uv_work.specs.declared.outcome.Outcome.{Outcome}
+use Rattle.uv_work.specs.declared.outcome.Outcome.TheVariants as outcome
+use Rattle.uv_model.specs.declared.content.Content.{Content}
+use Rattle.uv_model.specs.declared.content.Content.TheVariants as content
+use Rattle.uv_model.specs.declared.request.Request.{Request}
+use Rattle.uv_model.specs.declared.named.Counts.{Counts}
+use Rattle.uv_model.specs.declared.named.Named.{Named}
+use Rattle.uv_model.specs.declared.numbers.Numbers.{Numbers}
+use Rattle.uv_model.specs.declared.place.Body.{Body}
+use Rattle.uv_model.specs.declared.place.Place.{Place}
+use Rattle.uv_model.specs.declared.place.Place.TheVariants.{Main, Running}
+use Rattle.uv_model.specs.declared.place.Stage.{Stage}
+use Rattle.uv_model.specs.declared.place.Stage.TheVariants.{Entry, Pending, Idle, Prepare, Poll, Done, Async, Check, Closing, Timers}
+use Rattle.uv_model.specs.declared.place.TimersOf.{TimersOf}
+use Rattle.uv_model.specs.declared.place.TimersOf.TheVariants as timers_of
+use Rattle.uv_model.specs.declared.place.Timing.{Timing}
+use Rattle.uv_model.specs.declared.place.Timing.TheVariants.{Collecting, Firing}
+use Rattle.uv_model.specs.State.{State, named}
+use Rattle.uv_model.specs.Queries.{numbers, timer_ids, members, is_free, run_by, worker_of}
+use Rattle.uv_model.specs.After.{after}
+use Rattle.uv_session.specs.Shown.{Shown}
+use Rattle.uv_text.specs.Trace.{id_text, timeout_text}
+
+-- a word, with the spaces that it has, and a number
+abbrev pub numbered : List ℕ → ℕ → List ℕ
+numbered word n = word ++ decimal n
+
+-- a word and 1 or 0
+abbrev pub flagged : List ℕ → Bool → List ℕ
+flagged word true = word ++ codes "1"
+flagged word false = word ++ codes "0"
+
+-- how many steps stand, and the numbers and flags
+unfoldable pub steps_line : ℕ → Numbers → List ℕ
+steps_line n m =
+    numbered (codes "steps ") n ++ numbered (codes " now ") m.time ++ numbered (codes " clock ") m.clock ++ flagged (codes " stop ") m.stop_flag
+    ++ numbered (codes " next ") m.next_start ++ flagged (codes " idled ") m.idled ++ codes "\n"
+
+-- ---- where the loop stands
+
+abbrev pub timers_text : TimersOf → Timing → List ℕ
+timers_text timers_of.Entry Collecting = codes "first collect"
+timers_text timers_of.Entry Firing = codes "first fire"
+timers_text timers_of.Iteration Collecting = codes "timers collect"
+timers_text timers_of.Iteration Firing = codes "timers fire"
+
+abbrev pub stage_text : Stage → List ℕ
+stage_text Entry = codes "entry"
+stage_text Pending = codes "pending"
+stage_text Idle = codes "idle"
+stage_text Prepare = codes "prepare"
+stage_text (Poll deadline) = codes "poll " ++ timeout_text deadline
+stage_text Done = codes "done"
+stage_text Async = codes "async"
+stage_text Check = codes "check"
+stage_text Closing = codes "closing"
+stage_text (Timers which timing) = timers_text which timing
+
+-- the word of the lines of a callback
+abbrev pub callback_word : Callback → List ℕ
+callback_word callback.Handle = codes "on"
+callback_word callback.After = codes "after"
+callback_word callback.Close = codes "closed"
+
+-- the callback under way: which call it is, and its next line, from 0
+abbrev pub body_text : Program → Option Body → List ℕ
+body_text p None = []
+body_text p (Some b) =
+    codes " + " ++ callback_word b.callback ++ codes " " ++ name_text p.names b.name ++ numbered (codes " ") b.call ++ numbered (codes " ") b.next
+
+unfoldable pub place_line : Program → Place → List ℕ
+place_line p (Main line) = numbered (codes "place main ") line ++ codes "\n"
+place_line p (Running run) =
+    codes "place " ++ mode_word run.mode ++ numbered (codes " ") run.line ++ codes " " ++ stage_text run.stage ++ body_text p run.body ++ codes "\n"
+
+-- ---- names
+
+abbrev pub bound_text : Option Id → List ℕ
+bound_text (Some id) = id_text id
+bound_text None = codes "none"
+
+-- how often its callbacks were called
+abbrev pub counts_text : Counts → List ℕ
+counts_text c = numbered (codes " ") c.handle ++ numbered (codes " ") c.after ++ numbered (codes " ") c.close
+
+abbrev pub name_line : Program → Var → Named → List ℕ
+name_line p v n = codes "name " ++ name_text p.names v ++ codes " " ++ bound_text n.id ++ counts_text n.calls ++ codes "\n"
+
+-- the lines of the first so many names
+abbrev pub names_upto : Program → State → ℕ → List ℕ
+names_upto p s zero = []
+names_upto p s (suc n) = names_upto p s n ++ name_line p (record { 0 = n }) (named s (record { 0 = n }))
+
+-- ---- slots
+
+-- what a handle has that those of another kind have not
+abbrev pub kind_text : Kind → HandleRecord → List ℕ
+kind_text kind.Timer h =
+    flagged (codes " begun ") h.begun ++ numbered (codes " due ") h.due.at ++ numbered (codes " start ") h.due.start
+    ++ numbered (codes " repeat ") h.repeat
+kind_text kind.Idle h = []
+kind_text kind.Prepare h = []
+kind_text kind.Check h = []
+kind_text kind.Async h = flagged (codes " pending ") h.pending
+
+abbrev pub record_text : Program → HandleRecord → List ℕ
+record_text p h =
+    kind_word h.kind ++ codes " " ++ name_text p.names h.name ++ flagged (codes " ref ") h.referenced ++ flagged (codes " active ") h.active
+    ++ flagged (codes " closing ") h.closing ++ kind_text h.kind h
+
+-- an open request: which worker runs it, or that it waits for one
+abbrev pub open_text : Option ℕ → List ℕ
+open_text (Some worker) = numbered (codes "running ") worker
+open_text None = codes "waiting"
+
+-- what became of a request
+abbrev pub outcome_text : Option ℕ → Outcome → List ℕ
+outcome_text worker outcome.Open = open_text worker
+outcome_text worker (outcome.Finished digest) = codes "done"
+outcome_text worker outcome.Cancelled = codes "cancelled"
+
+abbrev pub request_text : Program → Option ℕ → Request → List ℕ
+request_text p worker r =
+    codes "work " ++ name_text p.names r.name ++ codes " " ++ outcome_text worker r.outcome ++ numbered (codes " ") r.task.rounds
+    ++ task_text (text_of r.task)
+
+-- what a slot holds; an empty one is on the free list or retired. A request is shown with the worker that runs it
+abbrev pub content_text : Program → Bool → Option ℕ → Option Content → List ℕ
+content_text p free worker (Some (content.Handle h)) = record_text p h
+content_text p free worker (Some (content.Request r)) = request_text p worker r
+content_text p true worker None = codes "empty"
+content_text p false worker None = codes "retired"
+
+abbrev pub slot_line : Program → Bool → Option ℕ → Id → Option Content → List ℕ
+slot_line p free worker id c = codes "slot " ++ id_text id ++ codes " " ++ content_text p free worker c ++ codes "\n"
+
+abbrev pub slot_or_none : Program → State → ℕ → Option (Slot Content) → List ℕ
+slot_or_none p s n (Some slot) = slot_line p (is_free s n) (worker_of s (id_of n slot)) (id_of n slot) slot.content
+slot_or_none p s n None = []
+
+-- the lines of the first so many slots
+abbrev pub slots_upto : Program → State → ℕ → List ℕ
+slots_upto p s zero = []
+slots_upto p s (suc n) = slots_upto p s n ++ slot_or_none p s n (slice_get s.arena.slots n)
+
+-- the free slots from the front, and how many were never used
+unfoldable pub free_line : List ℕ → List ℕ
+free_line free = codes "free" ++ flat_map (numbered (codes " ")) free ++ codes "\n"
+
+unfoldable pub unused_line : ℕ → List ℕ
+unused_line n = numbered (codes "unused ") n ++ codes "\n"
+
+-- ---- lists
+
+-- the name of what is held
+abbrev pub holder_text : Program → Option Content → List ℕ
+holder_text p (Some (content.Handle h)) = name_text p.names h.name
+holder_text p (Some (content.Request r)) = name_text p.names r.name
+holder_text p None = []
+
+abbrev pub member_text : Program → State → Id → List ℕ
+member_text p s id = codes " " ++ holder_text p (held s.arena.slots id)
+
+-- a word and the names of these, front first
+unfoldable pub list_line : Program → State → List ℕ → List Id → List ℕ
+list_line p s word ids = word ++ flat_map (member_text p s) ids ++ codes "\n"
+
+-- the handles whose section is before the poll
+unfoldable pub before_poll : Program → State → List ℕ
+before_poll p s =
+    list_line p s (codes "idle") (members s name.Idle)
+    ++ list_line p s (codes "idle-yet") (members s name.IdleYet)
+    ++ list_line p s (codes "prepare") (members s name.Prepare)
+    ++ list_line p s (codes "prepare-yet") (members s name.PrepareYet)
+
+-- those whose section is behind it
+unfoldable pub after_poll : Program → State → List ℕ
+after_poll p s =
+    list_line p s (codes "check") (members s name.Check)
+    ++ list_line p s (codes "check-yet") (members s name.CheckYet)
+    ++ list_line p s (codes "async") (members s name.Async)
+    ++ list_line p s (codes "async-yet") (members s name.AsyncYet)
+
+-- a worker and the request that it runs, `K:NAME`; nothing where it runs none
+abbrev pub run_text : Program → State → ℕ → Option Id → List ℕ
+run_text p s worker (Some id) = numbered (codes " ") worker ++ codes ":" ++ holder_text p (held s.arena.slots id)
+run_text p s worker None = []
+
+-- the first so many workers
+abbrev pub runs_upto : Program → State → ℕ → List ℕ
+runs_upto p s zero = []
+runs_upto p s (suc worker) = runs_upto p s worker ++ run_text p s worker (run_by s worker)
+
+unfoldable pub running_line : Program → State → List ℕ
+running_line p s = codes "running" ++ runs_upto p s (length s.running) ++ codes "\n"
+
+-- those that wait for a worker, those that one runs, and those that are done
+unfoldable pub work_text : Program → State → List ℕ
+work_text p s =
+    list_line p s (codes "waiting") (members s name.Waiting)
+    ++ running_line p s
+    ++ list_line p s (codes "done") (members s name.Done)
+    ++ list_line p s (codes "done-yet") (members s name.DoneYet)
+
+unfoldable pub lists_text : Program → State → List ℕ
+lists_text p s =
+    list_line p s (codes "timers") (timer_ids s)
+    ++ list_line p s (codes "ready") (members s name.Ready)
+    ++ before_poll p s
+    ++ after_poll p s
+    ++ list_line p s (codes "closing") (members s name.Closing)
+    ++ list_line p s (codes "closing-yet") (members s name.ClosingYet)
+    ++ work_text p s
+
+-- ---- all of it
+
+-- the state, after so many steps
+abbrev pub text_after : Program → ℕ → State → List ℕ
+text_after p n s =
+    steps_line n (numbers s) ++ place_line p s.place ++ names_upto p s (length p.names) ++ slots_upto p s (length s.arena.slots)
+    ++ free_line s.arena.free ++ unused_line s.arena.unused ++ lists_text p s
+
+-- the state of a session: the one after its standing steps
+abbrev pub state_text : Shown → List ℕ
+state_text s = text_after s.program (length s.standing) (after s.program s.standing)

@@ -1,0 +1,526 @@
+//! The text of a state.
+ghost use Rattle.std.specs.Prelude.{◌≡◌, ◌++◌, length, slice_get, IfOk, IfErr, OnOk, codes};
+ghost use Rattle.std.specs.List.{flat_map};
+ghost use Rattle.uv_ids.specs.declared.fault.Fault.TheVariants.{Memory};
+ghost use Rattle.uv_records.specs.Slots.{held};
+ghost use Rattle.uv_model.specs.After.{after};
+ghost use Rattle.uv_model.specs.Queries.{timer_ids, members};
+ghost use Rattle.uv_text.specs.State.{numbered, flagged, steps_line, timers_text, stage_text, callback_word, body_text, place_line, bound_text, counts_text, name_line, names_upto, kind_text, record_text, open_text, outcome_text, request_text, content_text, slot_line, slot_or_none, slots_upto, free_line, unused_line, holder_text, member_text, list_line, before_poll, after_poll, run_text, runs_upto, running_line, work_text, lists_text, state_text};
+
+use crate::trace::{push_id, push_timeout};
+use std::alloc::{AllocError, Global};
+use uv_ids::{Callback, Fault, Id, Kind, Var};
+use uv_model::{
+    Body, Content, Counts, Machine, Named, Numbers, Place, Request, Stage, TimersOf, Timing,
+};
+use uv_records::{HandleRecord, ListName};
+use uv_script::{Script, push_number, push_task_text};
+use uv_session::Session;
+use uv_work::Outcome;
+
+/// The text of a session's state: its numbers, its place, its names, its slots and its lists.
+pub fn state_text<M: Machine>(alloc: Global, session: &Session<M>) -> Result<Vec<u8>, Fault>
+    ensures text { IfOk result (λ text. text.items ≡ state_text session.now) }
+    ensures err { IfErr result (λ fault. fault ≡ Memory) }
+{
+    let mut text = Vec::new(alloc);
+    push_state(&mut text, session)?;
+    Ok(text)
+}
+
+/// Puts the text of a session's state behind a text.
+pub fn push_state<M: Machine>(text: &mut Vec<u8>, session: &Session<M>) -> Result<(), AllocError>
+    ensures { OnOk result (text.new.items ≡ text.old.items ++ state_text session.now) }
+{
+    let machine = session.machine();
+    push_steps(text, session.steps().len(), machine.numbers())?;
+    push_place(text, machine.script(), machine.place())?;
+    push_names(text, machine)?;
+    push_slots(text, machine)?;
+    push_free(text, machine)?;
+    push_unused(text, machine.unused())?;
+    push_lists(text, machine)
+}
+
+/// A word and a number.
+fn push_numbered(text: &mut Vec<u8>, word: &str, n: u64) -> Result<(), AllocError>
+    ensures { OnOk result (text.new.items ≡ text.old.items ++ numbered word.now n) }
+{
+    text.extend_from_slice(word.as_bytes())?;
+    push_number(text, n)
+}
+
+/// A word and 1 or 0.
+fn push_flagged(text: &mut Vec<u8>, word: &str, flag: bool) -> Result<(), AllocError>
+    ensures { OnOk result (text.new.items ≡ text.old.items ++ flagged word.now flag) }
+{
+    text.extend_from_slice(word.as_bytes())?;
+    text.extend_from_slice(if flag { b"1" } else { b"0" })
+}
+
+#[tactic(auto, unfolding(crate::specs::State::steps_line))]
+fn push_steps(text: &mut Vec<u8>, steps: usize, numbers: Numbers) -> Result<(), AllocError>
+    ensures { OnOk result (text.new.items ≡ text.old.items ++ steps_line steps numbers) }
+{
+    push_numbered(text, "steps ", steps as u64)?;
+    push_numbered(text, " now ", numbers.time)?;
+    push_numbered(text, " clock ", numbers.clock)?;
+    push_flagged(text, " stop ", numbers.stop_flag)?;
+    push_numbered(text, " next ", numbers.next_start)?;
+    push_flagged(text, " idled ", numbers.idled)?;
+    text.extend_from_slice(b"\n")
+}
+
+fn push_timers(text: &mut Vec<u8>, which: TimersOf, timing: Timing) -> Result<(), AllocError>
+    ensures { OnOk result (text.new.items ≡ text.old.items ++ timers_text which timing) }
+{
+    match (which, timing) {
+        (TimersOf::Entry, Timing::Collecting) => text.extend_from_slice(b"first collect"),
+        (TimersOf::Entry, Timing::Firing) => text.extend_from_slice(b"first fire"),
+        (TimersOf::Iteration, Timing::Collecting) => text.extend_from_slice(b"timers collect"),
+        (TimersOf::Iteration, Timing::Firing) => text.extend_from_slice(b"timers fire"),
+    }
+}
+
+fn push_stage(text: &mut Vec<u8>, stage: Stage) -> Result<(), AllocError>
+    ensures { OnOk result (text.new.items ≡ text.old.items ++ stage_text stage) }
+{
+    match stage {
+        Stage::Entry => text.extend_from_slice(b"entry"),
+        Stage::Pending => text.extend_from_slice(b"pending"),
+        Stage::Idle => text.extend_from_slice(b"idle"),
+        Stage::Prepare => text.extend_from_slice(b"prepare"),
+        Stage::Poll(deadline) => {
+            text.extend_from_slice(b"poll ")?;
+            push_timeout(text, deadline)
+        }
+        Stage::Done => text.extend_from_slice(b"done"),
+        Stage::Async => text.extend_from_slice(b"async"),
+        Stage::Check => text.extend_from_slice(b"check"),
+        Stage::Closing => text.extend_from_slice(b"closing"),
+        Stage::Timers(which, timing) => push_timers(text, which, timing),
+    }
+}
+
+fn push_callback(text: &mut Vec<u8>, callback: Callback) -> Result<(), AllocError>
+    ensures { OnOk result (text.new.items ≡ text.old.items ++ callback_word callback) }
+{
+    match callback {
+        Callback::Handle => text.extend_from_slice(b"on"),
+        Callback::After => text.extend_from_slice(b"after"),
+        Callback::Close => text.extend_from_slice(b"closed"),
+    }
+}
+
+/// The callback under way, if there is one.
+fn push_body(text: &mut Vec<u8>, script: &Script, body: Option<Body>) -> Result<(), AllocError>
+    ensures { OnOk result (text.new.items ≡ text.old.items ++ body_text script.now body) }
+{
+    let Some(body) = body else {
+        return Ok(());
+    };
+    text.extend_from_slice(b" + ")?;
+    push_callback(text, body.callback)?;
+    text.extend_from_slice(b" ")?;
+    script.names().push_name(text, body.name)?;
+    push_numbered(text, " ", u64::from(body.call))?;
+    push_numbered(text, " ", body.next as u64)
+}
+
+#[tactic(auto, unfolding(crate::specs::State::place_line))]
+fn push_place(text: &mut Vec<u8>, script: &Script, place: Place) -> Result<(), AllocError>
+    ensures { OnOk result (text.new.items ≡ text.old.items ++ place_line script.now place) }
+{
+    match place {
+        Place::Main(line) => push_numbered(text, "place main ", line as u64)?,
+        Place::Running(run) => {
+            text.extend_from_slice(b"place ")?;
+            text.extend_from_slice(run.mode.word().as_bytes())?;
+            push_numbered(text, " ", run.line as u64)?;
+            text.extend_from_slice(b" ")?;
+            push_stage(text, run.stage)?;
+            push_body(text, script, run.body)?;
+        }
+    }
+    text.extend_from_slice(b"\n")
+}
+
+fn push_bound(text: &mut Vec<u8>, id: Option<Id>) -> Result<(), AllocError>
+    ensures { OnOk result (text.new.items ≡ text.old.items ++ bound_text id) }
+{
+    match id {
+        Some(id) => push_id(text, id),
+        None => text.extend_from_slice(b"none"),
+    }
+}
+
+fn push_counts(text: &mut Vec<u8>, counts: Counts) -> Result<(), AllocError>
+    ensures { OnOk result (text.new.items ≡ text.old.items ++ counts_text counts) }
+{
+    push_numbered(text, " ", u64::from(counts.handle))?;
+    push_numbered(text, " ", u64::from(counts.after))?;
+    push_numbered(text, " ", u64::from(counts.close))
+}
+
+fn push_name(text: &mut Vec<u8>, script: &Script, name: Var, named: Named) -> Result<(), AllocError>
+    ensures { OnOk result (text.new.items ≡ text.old.items ++ name_line script.now name named) }
+{
+    text.extend_from_slice(b"name ")?;
+    script.names().push_name(text, name)?;
+    text.extend_from_slice(b" ")?;
+    push_bound(text, named.id)?;
+    push_counts(text, named.calls)?;
+    text.extend_from_slice(b"\n")
+}
+
+/// All names.
+#[tactic(auto, using(crate::proofs::Pieces::pieces))]
+fn push_names<M: Machine>(text: &mut Vec<u8>, machine: &M) -> Result<(), AllocError>
+    ensures { OnOk result (text.new.items ≡ text.old.items ++ names_upto
+        (M.program machine.now) (after (M.program machine.now) (M.standing machine.now))
+        (length (M.program machine.now).names)) }
+{
+    let script = machine.script();
+    for number in 0..script.names().len() {
+        let name = Var(number as u32);
+        push_name(text, script, name, machine.named(name))?;
+    }
+    Ok(())
+}
+
+/// What a handle has that those of another kind have not.
+fn push_kind(text: &mut Vec<u8>, handle: HandleRecord) -> Result<(), AllocError>
+    ensures { OnOk result (text.new.items ≡ text.old.items ++ kind_text handle.kind handle) }
+{
+    match handle.kind {
+        Kind::Timer => {
+            push_flagged(text, " begun ", handle.begun)?;
+            push_numbered(text, " due ", handle.due.at)?;
+            push_numbered(text, " start ", handle.due.start)?;
+            push_numbered(text, " repeat ", handle.repeat)
+        }
+        Kind::Async => push_flagged(text, " pending ", handle.pending),
+        Kind::Idle | Kind::Prepare | Kind::Check => Ok(()),
+    }
+}
+
+fn push_record(text: &mut Vec<u8>, script: &Script, handle: HandleRecord) -> Result<(), AllocError>
+    ensures { OnOk result (text.new.items ≡ text.old.items ++ record_text script.now handle) }
+{
+    text.extend_from_slice(handle.kind.word().as_bytes())?;
+    text.extend_from_slice(b" ")?;
+    script.names().push_name(text, handle.name)?;
+    push_flagged(text, " ref ", handle.referenced)?;
+    push_flagged(text, " active ", handle.active)?;
+    push_flagged(text, " closing ", handle.closing)?;
+    push_kind(text, handle)
+}
+
+fn push_open(text: &mut Vec<u8>, worker: Option<usize>) -> Result<(), AllocError>
+    ensures { OnOk result (text.new.items ≡ text.old.items ++ open_text worker) }
+{
+    match worker {
+        Some(worker) => push_numbered(text, "running ", worker as u64),
+        None => text.extend_from_slice(b"waiting"),
+    }
+}
+
+/// What became of a request.
+fn push_outcome(
+    text: &mut Vec<u8>,
+    worker: Option<usize>,
+    outcome: Outcome,
+) -> Result<(), AllocError>
+    ensures { OnOk result (text.new.items ≡ text.old.items ++ outcome_text worker outcome) }
+{
+    match outcome {
+        Outcome::Open => push_open(text, worker),
+        Outcome::Finished(_) => text.extend_from_slice(b"done"),
+        Outcome::Cancelled => text.extend_from_slice(b"cancelled"),
+    }
+}
+
+fn push_request(
+    text: &mut Vec<u8>,
+    script: &Script,
+    worker: Option<usize>,
+    request: Request,
+) -> Result<(), AllocError>
+    ensures { OnOk result (text.new.items ≡ text.old.items ++ request_text script.now worker request) }
+{
+    text.extend_from_slice(b"work ")?;
+    script.names().push_name(text, request.name)?;
+    text.extend_from_slice(b" ")?;
+    push_outcome(text, worker, request.outcome)?;
+    push_numbered(text, " ", u64::from(request.task.rounds()))?;
+    push_task_text(text, request.task.text())
+}
+
+fn push_content(
+    text: &mut Vec<u8>,
+    script: &Script,
+    is_free: bool,
+    worker: Option<usize>,
+    content: Option<Content>,
+) -> Result<(), AllocError>
+    ensures { OnOk result (text.new.items ≡ text.old.items ++ content_text script.now is_free worker content) }
+{
+    match content {
+        Some(Content::Handle(handle)) => push_record(text, script, handle),
+        Some(Content::Request(request)) => push_request(text, script, worker, request),
+        None if is_free => text.extend_from_slice(b"empty"),
+        None => text.extend_from_slice(b"retired"),
+    }
+}
+
+fn push_slot_line(
+    text: &mut Vec<u8>,
+    script: &Script,
+    is_free: bool,
+    worker: Option<usize>,
+    id: Id,
+    content: Option<Content>,
+) -> Result<(), AllocError>
+    ensures { OnOk result (text.new.items ≡ text.old.items ++ slot_line script.now is_free worker id content) }
+{
+    text.extend_from_slice(b"slot ")?;
+    push_id(text, id)?;
+    text.extend_from_slice(b" ")?;
+    push_content(text, script, is_free, worker, content)?;
+    text.extend_from_slice(b"\n")
+}
+
+/// A slot that was used.
+fn push_slot<M: Machine>(text: &mut Vec<u8>, machine: &M, number: u32) -> Result<(), AllocError>
+    ensures { OnOk result (text.new.items ≡ text.old.items ++ slot_or_none
+        (M.program machine.now) (after (M.program machine.now) (M.standing machine.now)) number
+        (slice_get (after (M.program machine.now) (M.standing machine.now)).arena.slots number)) }
+{
+    let Some(slot) = machine.slot(number) else {
+        return Ok(());
+    };
+    let id = Id {
+        slot: number,
+        generation: slot.generation,
+    };
+    push_slot_line(
+        text,
+        machine.script(),
+        machine.is_free(number),
+        machine.worker_of(id),
+        id,
+        slot.content,
+    )
+}
+
+/// All slots that were used.
+#[tactic(auto, using(crate::proofs::Pieces::pieces))]
+fn push_slots<M: Machine>(text: &mut Vec<u8>, machine: &M) -> Result<(), AllocError>
+    ensures { OnOk result (text.new.items ≡ text.old.items ++ slots_upto
+        (M.program machine.now) (after (M.program machine.now) (M.standing machine.now))
+        (length (after (M.program machine.now) (M.standing machine.now)).arena.slots)) }
+{
+    for number in 0..machine.used() {
+        push_slot(text, machine, number)?;
+    }
+    Ok(())
+}
+
+#[tactic(auto, using(crate::proofs::Pieces::pieces))]
+fn push_numbers(text: &mut Vec<u8>, numbers: &[u32]) -> Result<(), AllocError>
+    ensures { OnOk result (text.new.items ≡ text.old.items ++ flat_map (numbered (codes " ")) numbers.now) }
+{
+    for number in numbers {
+        push_numbered(text, " ", u64::from(*number))?;
+    }
+    Ok(())
+}
+
+/// The free slots.
+#[tactic(auto, unfolding(crate::specs::State::free_line))]
+fn push_free<M: Machine>(text: &mut Vec<u8>, machine: &M) -> Result<(), AllocError>
+    ensures { OnOk result (text.new.items ≡ text.old.items ++ free_line (after (M.program machine.now) (M.standing machine.now)).arena.free) }
+{
+    let Ok(free) = machine.free() else {
+        return Err(AllocError);
+    };
+    text.extend_from_slice(b"free")?;
+    push_numbers(text, free.as_slice())?;
+    text.extend_from_slice(b"\n")
+}
+
+#[tactic(auto, unfolding(crate::specs::State::unused_line))]
+fn push_unused(text: &mut Vec<u8>, unused: u32) -> Result<(), AllocError>
+    ensures { OnOk result (text.new.items ≡ text.old.items ++ unused_line unused) }
+{
+    push_numbered(text, "unused ", u64::from(unused))?;
+    text.extend_from_slice(b"\n")
+}
+
+/// The name of what is held.
+fn push_holder(
+    text: &mut Vec<u8>,
+    script: &Script,
+    content: Option<Content>,
+) -> Result<(), AllocError>
+    ensures { OnOk result (text.new.items ≡ text.old.items ++ holder_text script.now content) }
+{
+    match content {
+        Some(Content::Handle(handle)) => script.names().push_name(text, handle.name),
+        Some(Content::Request(request)) => script.names().push_name(text, request.name),
+        None => Ok(()),
+    }
+}
+
+fn push_member<M: Machine>(text: &mut Vec<u8>, machine: &M, id: Id) -> Result<(), AllocError>
+    ensures { OnOk result (text.new.items ≡ text.old.items ++ member_text
+        (M.program machine.now) (after (M.program machine.now) (M.standing machine.now)) id) }
+{
+    text.extend_from_slice(b" ")?;
+    push_holder(text, machine.script(), machine.held(id))
+}
+
+#[tactic(auto, using(crate::proofs::Pieces::pieces))]
+fn push_ids<M: Machine>(text: &mut Vec<u8>, machine: &M, ids: &[Id]) -> Result<(), AllocError>
+    ensures { OnOk result (text.new.items ≡ text.old.items ++
+        flat_map (member_text (M.program machine.now) (after (M.program machine.now) (M.standing machine.now))) ids.now) }
+{
+    for id in ids {
+        push_member(text, machine, *id)?;
+    }
+    Ok(())
+}
+
+/// A word and the names of these.
+#[tactic(auto, unfolding(crate::specs::State::list_line))]
+fn push_line<M: Machine>(
+    text: &mut Vec<u8>,
+    machine: &M,
+    word: &str,
+    ids: &[Id],
+) -> Result<(), AllocError>
+    ensures { OnOk result (text.new.items ≡ text.old.items ++ list_line
+        (M.program machine.now) (after (M.program machine.now) (M.standing machine.now)) word.now ids.now) }
+{
+    text.extend_from_slice(word.as_bytes())?;
+    push_ids(text, machine, ids)?;
+    text.extend_from_slice(b"\n")
+}
+
+/// The active timers.
+fn push_timer_list<M: Machine>(text: &mut Vec<u8>, machine: &M) -> Result<(), AllocError>
+    ensures { OnOk result (text.new.items ≡ text.old.items ++ list_line
+        (M.program machine.now) (after (M.program machine.now) (M.standing machine.now))
+        (codes "timers") (timer_ids (after (M.program machine.now) (M.standing machine.now)))) }
+{
+    let Ok(ids) = machine.timers() else {
+        return Err(AllocError);
+    };
+    push_line(text, machine, "timers", ids.as_slice())
+}
+
+fn push_list<M: Machine>(
+    text: &mut Vec<u8>,
+    machine: &M,
+    word: &str,
+    list: ListName,
+) -> Result<(), AllocError>
+    ensures { OnOk result (text.new.items ≡ text.old.items ++ list_line
+        (M.program machine.now) (after (M.program machine.now) (M.standing machine.now))
+        word.now (members (after (M.program machine.now) (M.standing machine.now)) list)) }
+{
+    let Ok(ids) = machine.members(list) else {
+        return Err(AllocError);
+    };
+    push_line(text, machine, word, ids.as_slice())
+}
+
+/// The handles whose section is before the poll.
+#[tactic(auto, unfolding(crate::specs::State::before_poll))]
+fn push_before_poll<M: Machine>(text: &mut Vec<u8>, machine: &M) -> Result<(), AllocError>
+    ensures { OnOk result (text.new.items ≡ text.old.items ++ before_poll
+        (M.program machine.now) (after (M.program machine.now) (M.standing machine.now))) }
+{
+    push_list(text, machine, "idle", ListName::Idle)?;
+    push_list(text, machine, "idle-yet", ListName::IdleYet)?;
+    push_list(text, machine, "prepare", ListName::Prepare)?;
+    push_list(text, machine, "prepare-yet", ListName::PrepareYet)
+}
+
+/// Those whose section is behind it.
+#[tactic(auto, unfolding(crate::specs::State::after_poll))]
+fn push_after_poll<M: Machine>(text: &mut Vec<u8>, machine: &M) -> Result<(), AllocError>
+    ensures { OnOk result (text.new.items ≡ text.old.items ++ after_poll
+        (M.program machine.now) (after (M.program machine.now) (M.standing machine.now))) }
+{
+    push_list(text, machine, "check", ListName::Check)?;
+    push_list(text, machine, "check-yet", ListName::CheckYet)?;
+    push_list(text, machine, "async", ListName::Async)?;
+    push_list(text, machine, "async-yet", ListName::AsyncYet)
+}
+
+/// A worker, and the request that it runs.
+fn push_run<M: Machine>(
+    text: &mut Vec<u8>,
+    machine: &M,
+    worker: usize,
+    run: Option<Id>,
+) -> Result<(), AllocError>
+    ensures { OnOk result (text.new.items ≡ text.old.items ++ run_text
+        (M.program machine.now) (after (M.program machine.now) (M.standing machine.now)) worker run) }
+{
+    let Some(id) = run else {
+        return Ok(());
+    };
+    push_numbered(text, " ", worker as u64)?;
+    text.extend_from_slice(b":")?;
+    push_holder(text, machine.script(), machine.held(id))
+}
+
+/// All workers that run a request.
+#[tactic(auto, using(crate::proofs::Pieces::pieces))]
+fn push_runs<M: Machine>(text: &mut Vec<u8>, machine: &M) -> Result<(), AllocError>
+    ensures { OnOk result (text.new.items ≡ text.old.items ++ runs_upto
+        (M.program machine.now) (after (M.program machine.now) (M.standing machine.now))
+        (length (after (M.program machine.now) (M.standing machine.now)).running)) }
+{
+    for worker in 0..machine.workers() {
+        push_run(text, machine, worker, machine.run_by(worker))?;
+    }
+    Ok(())
+}
+
+#[tactic(auto, unfolding(crate::specs::State::running_line))]
+fn push_running<M: Machine>(text: &mut Vec<u8>, machine: &M) -> Result<(), AllocError>
+    ensures { OnOk result (text.new.items ≡ text.old.items ++ running_line
+        (M.program machine.now) (after (M.program machine.now) (M.standing machine.now))) }
+{
+    text.extend_from_slice(b"running")?;
+    push_runs(text, machine)?;
+    text.extend_from_slice(b"\n")
+}
+
+#[tactic(auto, unfolding(crate::specs::State::work_text))]
+fn push_work<M: Machine>(text: &mut Vec<u8>, machine: &M) -> Result<(), AllocError>
+    ensures { OnOk result (text.new.items ≡ text.old.items ++ work_text
+        (M.program machine.now) (after (M.program machine.now) (M.standing machine.now))) }
+{
+    push_list(text, machine, "waiting", ListName::Waiting)?;
+    push_running(text, machine)?;
+    push_list(text, machine, "done", ListName::Done)?;
+    push_list(text, machine, "done-yet", ListName::DoneYet)
+}
+
+#[tactic(auto, unfolding(crate::specs::State::lists_text))]
+fn push_lists<M: Machine>(text: &mut Vec<u8>, machine: &M) -> Result<(), AllocError>
+    ensures { OnOk result (text.new.items ≡ text.old.items ++ lists_text
+        (M.program machine.now) (after (M.program machine.now) (M.standing machine.now))) }
+{
+    push_timer_list(text, machine)?;
+    push_list(text, machine, "ready", ListName::Ready)?;
+    push_before_poll(text, machine)?;
+    push_after_poll(text, machine)?;
+    push_list(text, machine, "closing", ListName::Closing)?;
+    push_list(text, machine, "closing-yet", ListName::ClosingYet)?;
+    push_work(text, machine)
+}
