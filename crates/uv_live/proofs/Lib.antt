@@ -1,0 +1,4 @@
+pub mod Legal
+pub mod Places
+pub mod Entered
+pub mod Shares
