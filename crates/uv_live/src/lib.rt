@@ -6,13 +6,16 @@
 #![tactic(auto)]
 
 mod clock;
+mod crew;
 mod follower;
 mod following;
+mod running;
 mod settling;
 mod turning;
 
 pub use clock::{Clock, JumpClock};
 pub use follower::{Did, Follower, ThreadLine};
 pub use following::sync;
+pub use running::live;
 pub use settling::settle;
 pub use turning::turn;
