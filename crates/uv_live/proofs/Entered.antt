@@ -35,24 +35,24 @@ not_full : (s t : Hold) (e : PoolEvent) → IsNext s e → IsFull s t → ⊥
 not_full s t e n f = let less = n.less in let full = f.0 in omega (arith, less, full)
 
 -- the pool of the book may take the event
-may_be : (s : Hold) (e : PoolEvent) (n : IsNext s e) → then_event (Some (pool_of s.contents)) e ≡ Some n.legal.0
-may_be s e n =
-    ap (λ (o : Option Pool). then_event o e) (sym n.replay)
-    ∙ (sym (replay_more (length s.contents.running) s.contents.log e) ∙ n.legal.1)
+pub may_be : (c : Contents) (e : PoolEvent) → IsReplay c → (l : IsLegal (length c.running) (c.log ++ e ∷ []))
+    → then_event (Some (pool_of c)) e ≡ Some l.0
+may_be c e replay l =
+    ap (λ (o : Option Pool). then_event o e) (sym replay) ∙ (sym (replay_more (length c.running) c.log e) ∙ l.1)
 
 is_false : (b : Bool) (p q : Pool) → cond b None (Some p) ≡ Some q → b ≡ false
 is_false true p q h = cc
 is_false false p q h = refl
 
-is_true : (b : Bool) (p q : Pool) → cond b (Some p) None ≡ Some q → b ≡ true
+pub is_true : (b : Bool) (p q : Pool) → cond b (Some p) None ≡ Some q → b ≡ true
 is_true true p q h = refl
 is_true false p q h = cc
 
 is_new : (s : Hold) (id : Id) → IsNext s (event.Queue id) → has (pool_of s.contents) id ≡ false
-is_new s id n = is_false (has (pool_of s.contents) id) _ n.legal.0 (may_be s (event.Queue id) n)
+is_new s id n = is_false (has (pool_of s.contents) id) _ n.legal.0 (may_be s.contents (event.Queue id) n.replay n.legal)
 
 is_waiting : (s : Hold) (id : Id) → IsNext s (event.Cancel id) → waits (pool_of s.contents).waiting id ≡ true
-is_waiting s id n = is_true (waits (pool_of s.contents).waiting id) _ n.legal.0 (may_be s (event.Cancel id) n)
+is_waiting s id n = is_true (waits (pool_of s.contents).waiting id) _ n.legal.0 (may_be s.contents (event.Cancel id) n.replay n.legal)
 
 abbrev log_of : Contents → List PoolEvent
 log_of c = c.log
@@ -94,10 +94,10 @@ none_done p id done q e h =
 pub collect_entered : (s t : Hold) (id : Id) (r : Result (Option Collected) Fault) → IsNext s (event.Collect id) → CollectsNext s r t
     → t.contents.log ≡ s.contents.log ++ event.Collect id ∷ []
 collect_entered s t id (Ok (Some c)) n h =
-    let front = front_is (pool_of s.contents) id s.contents.done t.contents.done c n.legal.0 h.0 (may_be s (event.Collect id) n) in
+    let front = front_is (pool_of s.contents) id s.contents.done t.contents.done c n.legal.0 h.0 (may_be s.contents (event.Collect id) n.replay n.legal) in
     ap log_of h.1 ∙ ap (λ (i : Id). s.contents.log ++ event.Collect i ∷ []) front
 collect_entered s t id (Ok None) n h =
-    absurd (none_done (pool_of s.contents) id s.contents.done n.legal.0 h.0 (may_be s (event.Collect id) n))
+    absurd (none_done (pool_of s.contents) id s.contents.done n.legal.0 h.0 (may_be s.contents (event.Collect id) n.replay n.legal))
 collect_entered s t id (Err fault.Memory) n h = absurd (no_want s t _ n h.1)
 collect_entered s t id (Err fault.Limit) n h = absurd (not_full s t _ n h.1)
 collect_entered s t id (Err f) n h = absurd h

@@ -19,3 +19,6 @@ pub use following::sync;
 pub use running::live;
 pub use settling::settle;
 pub use turning::turn;
+
+#[cfg(test)]
+mod tests;
