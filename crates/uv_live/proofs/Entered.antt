@@ -94,7 +94,8 @@ none_done p id done q e h =
 pub collect_entered : (s t : Hold) (id : Id) (r : Result (Option Collected) Fault) → IsNext s (event.Collect id) → CollectsNext s r t
     → t.contents.log ≡ s.contents.log ++ event.Collect id ∷ []
 collect_entered s t id (Ok (Some c)) n h =
-    let front = front_is (pool_of s.contents) id s.contents.done t.contents.done c n.legal.0 h.0 (may_be s.contents (event.Collect id) n.replay n.legal) in
+    let may = may_be s.contents (event.Collect id) n.replay n.legal in
+    let front = front_is (pool_of s.contents) id s.contents.done t.contents.done c n.legal.0 h.0 may in
     ap log_of h.1 ∙ ap (λ (i : Id). s.contents.log ++ event.Collect i ∷ []) front
 collect_entered s t id (Ok None) n h =
     absurd (none_done (pool_of s.contents) id s.contents.done n.legal.0 h.0 (may_be s.contents (event.Collect id) n.replay n.legal))

@@ -10,13 +10,13 @@ use Rattle.uv_live.specs.Following.{IsWorkers, MayTake}
 use Rattle.uv_live.proofs.Legal.{legal_take}
 
 -- the next entry may follow the session's events
-pub next_legal : (workers asked : ℕ) (log events : List PoolEvent) (n : ℕ) (d : PoolEvent) → asked ≡ workers → IsLegal workers log
-    → events ≡ take n log → n < length log → IsLegal asked (events ++ get_or log n d ∷ [])
-next_legal workers asked log events n d same legal done within =
+pub next_legal : (workers asked : ℕ) (log : List PoolEvent) (s t : Course) (n : ℕ) (d : PoolEvent) → asked ≡ workers → IsLegal workers log
+    → t ≡ taken n log s → n < length log → IsLegal asked (t.events ++ get_or log n d ∷ [])
+next_legal workers asked log s t n d same legal done within =
     let P : List PoolEvent → Type 0 = λ xs. IsLegal workers xs in
-    let Q : ℕ → Type 0 = λ k. IsLegal k (events ++ get_or log n d ∷ []) in
-    let more : take (n + 1) log ≡ events ++ get_or log n d ∷ [] =
-    take_more log n d within ∙ ap (λ (xs : List PoolEvent). xs ++ get_or log n d ∷ []) (sym done) in
+    let Q : ℕ → Type 0 = λ k. IsLegal k (t.events ++ get_or log n d ∷ []) in
+    let more : take (n + 1) log ≡ t.events ++ get_or log n d ∷ [] =
+    take_more log n d within ∙ ap (λ (u : Course). u.events ++ get_or log n d ∷ []) (sym done) in
     subst Q (sym same) (subst P more (legal_take workers (n + 1) log legal))
 
 theirs_more : (log : List PoolEvent) (from n : ℕ) (e : PoolEvent) → ((m : ℕ) → from ≤ m → m < n → IsWorkers (slice_get log m))

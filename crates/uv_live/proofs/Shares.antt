@@ -31,13 +31,14 @@ AreBelow log shifts k = (j : ℕ) → j < k → (x : Worked) → slice_get shift
 
 pub shift_more : {X : Type 0} (f : X → Worked) (log : List PoolEvent) (xs : List X) (k : ℕ) (d : X) → k < length xs
     → IsShift k log (f (get_or xs k d)) → AreBelow log (map f xs) k → AreBelow log (map f xs) (k + 1)
-shift_more f log xs k d within here before = one_more (λ (j : ℕ). (x : Worked) → slice_get (map f xs) j ≡ Some x → IsShift j log x) k before last where
-  last : (x : Worked) → slice_get (map f xs) k ≡ Some x → IsShift k log x
-  last x at =
-      let P : Worked → Type 0 = λ y. IsShift k log y in
-      let some : Some (f (get_or xs k d)) ≡ Some x = sym (mapped_at f xs k d within) ∙ at in
-      let same : f (get_or xs k d) ≡ x = cc in
-      subst P same here
+shift_more f log xs k d within here before =
+    one_more (λ (j : ℕ). (x : Worked) → slice_get (map f xs) j ≡ Some x → IsShift j log x) k before last where
+      last : (x : Worked) → slice_get (map f xs) k ≡ Some x → IsShift k log x
+      last x at =
+          let P : Worked → Type 0 = λ y. IsShift k log y in
+          let some : Some (f (get_or xs k d)) ≡ Some x = sym (mapped_at f xs k d within) ∙ at in
+          let same : f (get_or xs k d) ≡ x = cc in
+          subst P same here
 
 pub shift_all : (log : List PoolEvent) (shifts : List Worked) (k : ℕ) → length shifts ≤ k → AreBelow log shifts k → AreShifts log shifts
 shift_all log shifts k past before j x at = before j (let within = slice_get_within shifts j x at in omega arith) x at

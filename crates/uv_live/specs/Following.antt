@@ -1,5 +1,6 @@
 -- How a session follows the log of a book.
-use Rattle.std.specs.Prelude.{◌≡◌, ◌<◌, ◌≤◌, ◌⊎◌, ◌+◌, ℕ, List, [], ◌∷◌, Option, Some, None, Result, Ok, Err, length, take, slice_get}
+use Rattle.std.specs.Prelude.{◌≡◌, ◌<◌, ◌≤◌, ◌⊎◌, ◌+◌, ℕ, List, [], ◌∷◌, Bool, Option, Some, None, Result, Ok, Err, length, take, slice_get}
+use Rattle.std.specs.Bool.{MatchBool}
 use Rattle.uv_ids.specs.declared.event.Event.{Event}
 use Rattle.uv_ids.specs.declared.fault.Fault.{Fault}
 use Rattle.uv_ids.specs.declared.fault.Fault.TheVariants as fault
@@ -8,6 +9,10 @@ use Rattle.uv_ids.specs.declared.fault.Why.TheVariants as why
 use Rattle.uv_work.specs.declared.event.PoolEvent.{PoolEvent}
 use Rattle.uv_work.specs.declared.event.PoolEvent.TheVariants as event
 use Rattle.uv_live.specs.Course.{Course, stepped, step_of, taken}
+
+-- the answer of a test
+abbrev pub Decides : Bool → Type 0 → Type 0
+Decides answer P = MatchBool answer P (P → ⊥)
 
 -- a step from outside the pool stands, or nothing changed
 abbrev pub Adds : Event → Course → Result (Unit {0}) Fault → Course → Type 0

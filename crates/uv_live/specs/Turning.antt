@@ -9,8 +9,8 @@ use Rattle.uv_live.specs.declared.follower.Did.{Did}
 use Rattle.uv_live.specs.Course.{Course, stepped, events_of, taken}
 use Rattle.uv_live.specs.Following.{MayTake, TakesSome, TearsAt}
 
--- the loop's step stands with its event, where nothing refuses it; or it was refused for just that, or there is no memory or no step left, and nothing
--- changed
+-- the loop's step stands with its event, where nothing refuses it; or it was refused for just that, or there is no memory or no step
+-- left, and nothing changed
 abbrev pub Steps : Option Why → Course → Result Did Fault → Course → Type 0
 Steps refusal s (Ok d) t = (refusal ≡ None) × (t ≡ stepped step.Loop (events_of d) s)
 Steps refusal s (Err (fault.Refused w)) t = (refusal ≡ Some w) × (t ≡ s)
@@ -22,8 +22,8 @@ Steps refusal s (Err _) t = ⊥
 abbrev pub TakesAll : List PoolEvent → Course → Course → Type 0
 TakesAll log s t = MayTake (length log) log s.events × (t ≡ taken (length log) log s)
 
--- on success all of the log's rest was applied and then one step of the loop, whose event is the log's new entry. On a fault the log is as before, and so
--- is the session but for what was applied
+-- on success all of the log's rest was applied and then one step of the loop, whose event is the log's new entry. On a fault the log is
+-- as before, and so is the session but for what was applied
 abbrev pub Turns : List PoolEvent → Course → Result Did Fault → List PoolEvent → Course → Type 0
 Turns log s (Ok d) log' t =
     MayTake (length log) log s.events × (t ≡ stepped step.Loop (events_of d) (taken (length log) log s)) × (log' ≡ t.events)

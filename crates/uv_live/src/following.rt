@@ -1,8 +1,7 @@
 //! How a session follows a book.
 ghost use Rattle.std.specs.Prelude.{◌≡◌, ◌++◌, ◌∷◌, [], Some, length};
-ghost use Rattle.std.specs.Bool.{MatchBool};
 ghost use Rattle.uv_work.specs.Pool.{IsLegal};
-ghost use Rattle.uv_live.specs.Following.{Applies, IsWorkers, PartsAt, StaysEnded, Syncs};
+ghost use Rattle.uv_live.specs.Following.{Applies, Decides, IsWorkers, PartsAt, StaysEnded, Syncs};
 
 use crate::follower::Follower;
 use std::sync::ledger::Ledger;
@@ -12,7 +11,7 @@ use uv_work::PoolEvent;
 
 /// Whether the two are one event.
 pub(crate) fn is_same(a: PoolEvent, b: PoolEvent) -> bool
-    ensures { MatchBool result (a ≡ b) (a ≡ b → ⊥) }
+    ensures { Decides result (a ≡ b) }
 {
     a == b
 }
@@ -34,7 +33,7 @@ pub(crate) fn first_apart(events: &[PoolEvent], log: &[PoolEvent]) -> Option<usi
 
 /// Whether it is an event of a worker.
 fn is_workers(event: PoolEvent) -> bool
-    ensures { MatchBool result (IsWorkers (Some event)) (IsWorkers (Some event) → ⊥) }
+    ensures { Decides result (IsWorkers (Some event)) }
 {
     match event {
         PoolEvent::Take(_, _) => true,

@@ -1,8 +1,8 @@
 //! Whether a session, its book, the shifts and the loop's seat tell the same story.
 ghost use Rattle.std.specs.Prelude.{◌≡◌, ◌<◌, map, length, count_by};
-ghost use Rattle.std.specs.Bool.{MatchBool};
 ghost use Rattle.uv_pool.specs.Book.{finish_count};
 ghost use Rattle.uv_wake.specs.Seats.{names_of};
+ghost use Rattle.uv_live.specs.Following.{Decides};
 ghost use Rattle.uv_live.specs.Settling as spec;
 ghost use Rattle.uv_live.specs.Settling.{worked, part_of, IsShift, AreShifts, counted, SendsFit, AllSendsFit, IsSettled, Settles};
 
@@ -26,7 +26,7 @@ fn is_of(k: u16, event: PoolEvent) -> bool
 
 /// Whether the events are the log's part for the worker.
 fn is_part(k: u16, log: &[PoolEvent], events: &[PoolEvent]) -> bool
-    ensures { MatchBool result (events.now ≡ part_of k log.now) (events.now ≡ part_of k log.now → ⊥) }
+    ensures { Decides result (events.now ≡ part_of k log.now) }
 {
     let mut left = events;
     'entries: for n in 0..log.len() {
@@ -47,9 +47,7 @@ fn is_part(k: u16, log: &[PoolEvent], events: &[PoolEvent]) -> bool
 }
 
 fn is_shift<L: Ledger>(k: u16, log: &[PoolEvent], shift: &Shift<L>) -> bool
-    ensures { MatchBool result
-        (IsShift k log.now (worked shift.now.worker shift.now.events.items shift.now.share.amount))
-        (IsShift k log.now (worked shift.now.worker shift.now.events.items shift.now.share.amount) → ⊥) }
+    ensures { Decides result (IsShift k log.now (worked shift.now.worker shift.now.events.items shift.now.share.amount)) }
 {
     if shift.worker != k {
         return false;
@@ -60,9 +58,7 @@ fn is_shift<L: Ledger>(k: u16, log: &[PoolEvent], shift: &Shift<L>) -> bool
 /// Whether the shifts are those of the workers 0, 1, .. in order.
 fn are_shifts<L: Ledger>(log: &[PoolEvent], shifts: &[Shift<L>]) -> bool
     requires { length shifts.now < 65536 }
-    ensures { MatchBool result
-        (AreShifts log.now (map (λ s. worked s.worker s.events.items s.share.amount) shifts.now))
-        (AreShifts log.now (map (λ s. worked s.worker s.events.items s.share.amount) shifts.now) → ⊥) }
+    ensures { Decides result (AreShifts log.now (map (λ s. worked s.worker s.events.items s.share.amount) shifts.now)) }
 {
     'shifts: for k in 0..shifts.len() {
         if !is_shift(k as u16, log, &shifts[k]) {
@@ -93,9 +89,7 @@ fn share_of<L: Ledger>(shift: &Shift<L>) -> usize
 
 /// Whether the shares together count the finishes of the log.
 fn do_add_up<L: Ledger>(log: &[PoolEvent], shifts: &[Shift<L>]) -> bool
-    ensures { MatchBool result
-        (finish_count log.now ≡ counted (map (λ s. worked s.worker s.events.items s.share.amount) shifts.now))
-        (finish_count log.now ≡ counted (map (λ s. worked s.worker s.events.items s.share.amount) shifts.now) → ⊥) }
+    ensures { Decides result (finish_count log.now ≡ counted (map (λ s. worked s.worker s.events.items s.share.amount) shifts.now)) }
 {
     let mut left = finishes(log);
     'shifts: for k in 0..shifts.len() {
@@ -143,9 +137,7 @@ fn cancels(steps: &[Event]) -> usize
 
 fn sends_fit(name: Var, steps: &[Event], lines: &[ThreadLine], seat: &LoopSeat) -> bool
     requires { name.0 < names_of seat.now.board }
-    ensures { MatchBool result
-        (SendsFit steps.now lines.now seat.now.knows.counts name.0)
-        (SendsFit steps.now lines.now seat.now.knows.counts name.0 → ⊥) }
+    ensures { Decides result (SendsFit steps.now lines.now seat.now.knows.counts name.0) }
 {
     let sent = sends_of(name, steps);
     sent as u64 == seat.count(name) && sent <= lines_of(name, lines)
@@ -153,9 +145,7 @@ fn sends_fit(name: Var, steps: &[Event], lines: &[ThreadLine], seat: &LoopSeat) 
 
 fn all_sends_fit<F: Follower>(session: &F, seat: &LoopSeat) -> bool
     requires { names_of seat.now.board ≡ (F.plan session.now).names }
-    ensures { MatchBool result
-        (AllSendsFit (F.course session.now).steps (F.plan session.now) seat.now.knows.counts)
-        (AllSendsFit (F.course session.now).steps (F.plan session.now) seat.now.knows.counts → ⊥) }
+    ensures { Decides result (AllSendsFit (F.course session.now).steps (F.plan session.now) seat.now.knows.counts) }
 {
     'names: for v in 0..session.name_count() {
         if !sends_fit(Var(v), session.steps(), session.thread_lines(), seat) {
@@ -174,9 +164,13 @@ fn do_agree<F: Follower, L: Ledger>(
 ) -> bool
     requires names { names_of seat.now.board ≡ (F.plan session.now).names }
     requires whole { (F.course session.now).events ≡ book.now.hold.contents.log }
-    ensures { MatchBool result
-        (IsSettled (F.plan session.now) (F.course session.now) book.now (map (λ s. worked s.worker s.events.items s.share.amount) shifts.now) seat.now.knows.counts)
-        (IsSettled (F.plan session.now) (F.course session.now) book.now (map (λ s. worked s.worker s.events.items s.share.amount) shifts.now) seat.now.knows.counts → ⊥) }
+    ensures { Decides result
+        (IsSettled
+        (F.plan session.now)
+        (F.course session.now)
+        book.now
+        (map (λ s. worked s.worker s.events.items s.share.amount) shifts.now)
+        seat.now.knows.counts) }
 {
     if !book.closed() {
         return false;
@@ -209,7 +203,12 @@ pub fn settle<F: Follower, L: Ledger>(
 ) -> Result<(), Fault>
     requires { names_of seat.now.board ≡ (F.plan session.now).names }
     ensures { Settles
-        (IsSettled (F.plan session.now) (F.course session.now) book.now (map (λ s. worked s.worker s.events.items s.share.amount) shifts.now) seat.now.knows.counts)
+        (IsSettled
+        (F.plan session.now)
+        (F.course session.now)
+        book.now
+        (map (λ s. worked s.worker s.events.items s.share.amount) shifts.now)
+        seat.now.knows.counts)
         (F.course session.now).events
         book.now.hold.contents.log
         result }

@@ -1,6 +1,6 @@
 use Rattle.std.proofs.Common.{◌∙◌, ap}
 use Rattle.std.proofs.lemmas.Option.{slice_get-get_or}
-use Rattle.uv_live.specs.Course.{Course, Plan}
+use Rattle.uv_live.specs.Course.{Plan}
 use Rattle.uv_live.proofs.Legal.{book_legal}
 use Rattle.uv_live.proofs.Places.{next_legal, may_more, more_taken}
 use Rattle.uv_live.proofs.following.sync.Goals as goal
@@ -9,8 +9,8 @@ pub apply-requires-clause-legal : goal.apply-requires-clause-legal
 apply-requires-clause-legal g c =
     let log = c.log-log.result.now in
     let legal = book_legal c.args.book.now.hold.contents log c.log-log.ensures.replay c.log-log.ensures.log in
-    next_legal _ _ log _ c.rest.n _ (ap (λ (p : Plan). p.workers) c.rest.invariant.plan ∙ c.requires) legal
-    (ap (λ (s : Course). s.events) c.rest.invariant.course) c.rest-test.true
+    next_legal _ _ log _ _ c.rest.n _ (ap (λ (p : Plan). p.workers) c.rest.invariant.plan ∙ c.requires) legal c.rest.invariant.course
+    c.rest-test.true
 
 pub rest-preserved : goal.rest-preserved
 rest-preserved g c =
