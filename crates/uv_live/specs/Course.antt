@@ -8,8 +8,9 @@ use Rattle.uv_live.specs.declared.follower.ThreadLine.{ThreadLine}
 use Rattle.uv_live.specs.declared.follower.Did.{Did}
 use Rattle.uv_live.specs.declared.follower.Did.TheVariants as did
 
--- what the script says: how many workers and names there are, and its `thread` lines
-pub record Plan : Type 0 where
+-- the script, whatever it is to the session, and what it says of a run: how many workers and names there are, and its `thread` lines
+pub record Plan (Script : Type 0) : Type 0 where
+  pub script : Script
   pub workers : ℕ
   pub names : ℕ
   pub lines : List ThreadLine

@@ -13,5 +13,5 @@ HaltsAt (Ok true) refusal = refusal ≡ Some why.Ended
 HaltsAt _ refusal = Unit {0}
 
 -- with some book, shifts and counts of absorbed words the run is settled
-abbrev pub RunSettles : Plan → Course → Type 0
+abbrev pub RunSettles : {S : Type 0} → Plan S → Course → Type 0
 RunSettles plan s = (book : Standing) × (shifts : List Worked) × (counts : List ℕ) × IsSettled plan s book shifts counts

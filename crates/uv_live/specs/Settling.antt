@@ -56,10 +56,10 @@ abbrev pub SendsFit : List Event → List ThreadLine → List ℕ → ℕ → Ty
 SendsFit steps lines counts v =
     (count_by (is_send v) steps ≡ slice_index counts v) × (count_by (is_send v) steps ≤ count_by (is_line v) lines)
 
-abbrev pub AllSendsFit : List Event → Plan → List ℕ → Type 0
+abbrev pub AllSendsFit : {S : Type 0} → List Event → Plan S → List ℕ → Type 0
 AllSendsFit steps plan counts = (v : ℕ) → v < plan.names → SendsFit steps plan.lines counts v
 
-pub record IsSettled (plan : Plan) (s : Course) (book : Standing) (shifts : List Worked) (counts : List ℕ) : Type 0 where
+pub record IsSettled {S : Type 0} (plan : Plan S) (s : Course) (book : Standing) (shifts : List Worked) (counts : List ℕ) : Type 0 where
   pub closed : book.rest.closed ≡ true
   pub whole : s.events ≡ book.hold.contents.log
   pub crew : length shifts ≡ length book.hold.contents.running

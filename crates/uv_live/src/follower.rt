@@ -24,7 +24,7 @@ pub enum Did {
     Collected(Id),
 }
 
-/// A session, as a live run needs it. Contracts see what its script says of the run (`plan`), the steps that stand and the pool's
+/// A session, as a live run needs it. Contracts see its script and what that says of the run (`plan`), the steps that stand and the pool's
 /// events that they are (`course`), why a step of the loop would be refused (`refusal`), and whether the loop is at a poll
 /// (`polling`).
 pub trait Follower {
@@ -37,8 +37,11 @@ pub trait Follower {
     ghost use Rattle.uv_live.specs.Following.{Adds, Applies, StaysEnded};
     ghost use Rattle.uv_live.specs.Turning.{Steps};
 
-    // What the script says of the run. No call changes it.
-    ghost plan: { Self → Plan };
+    // What a script is to the session.
+    ghost Script: { Type 0 };
+
+    // The script, and what it says of the run. No call changes it.
+    ghost plan: { Self → Plan Script };
 
     // The steps that stand, and the pool's events that they are.
     ghost course: { Self → Course };

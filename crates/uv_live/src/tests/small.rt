@@ -229,7 +229,14 @@ fn go_on(progress: &mut Progress) {
 impl<L: Ledger> Follower for Small<L> {
     ghost use Rattle.std.specs.Prelude.{length};
 
-    ghost plan = { λ s. record { workers = length s.book.hold.contents.running; names = s.script.names; lines = s.script.lines.items } };
+    ghost Script = { Unit {0} };
+
+    ghost plan = { λ s. record {
+      script = tt;
+      workers = length s.book.hold.contents.running;
+      names = s.script.names;
+      lines = s.script.lines.items;
+    } };
 
     ghost course = { λ s. record { steps = s.steps.items; events = s.book.hold.contents.log } };
 
