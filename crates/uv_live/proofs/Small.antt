@@ -1,11 +1,10 @@
 -- For the small session of the tests: the request that a worker takes or finishes is the one that may be taken or finished next.
-use Rattle.std.proofs.Common.{◌≡◌, ◌∙◌, ℕ, List, [], ◌∷◌, ◌++◌, Option, Some, None, Result, Ok, option_map, length, map, slice_get, refl, ap, subst}
+use Rattle.std.proofs.Common.{◌≡◌, ◌∙◌, ℕ, List, [], ◌∷◌, ◌++◌, Option, Some, None, Ok, option_map, length, map, slice_get, ap, subst}
 use Rattle.std.proofs.lemmas.Option.{slice_get-map}
 use Rattle.uv_ids.specs.declared.id.Id.{Id}
 use Rattle.uv_work.specs.Ids.{same_id}
 use Rattle.uv_work.specs.Work.{Work}
 use Rattle.uv_work.specs.Pool.{Pool, IsLegal, taken_by, finished_by}
-use Rattle.uv_work.specs.declared.event.PoolEvent.{PoolEvent}
 use Rattle.uv_work.specs.declared.event.PoolEvent.TheVariants as event
 use Rattle.uv_work.specs.declared.result.WorkResult.{WorkResult}
 use Rattle.uv_work.proofs.Replays.{same_when}

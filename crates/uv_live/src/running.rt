@@ -30,6 +30,18 @@ const SEATS: u64 = 64;
 /// The count of a name past which its word is absorbed no more (own). No run comes so far.
 const MOST_ABSORBED: u64 = 1 << 62;
 
+/// Absorbs the word of a name, and answers whether a send stood in it.
+fn absorb(board: &Board, seat: &mut LoopSeat, name: Var) -> Result<bool, Fault>
+    requires board { seat.old.board ≡ board.now.board }
+    requires name { name.0 < names_of board.now.board }
+    ensures { seat.new.board ≡ board.now.board }
+{
+    if seat.count(name) >= MOST_ABSORBED {
+        return Err(Fault::Limit);
+    }
+    Ok(board.absorb(seat, name))
+}
+
 /// Absorbs every word, in the order of the names, and records a send for each that one stood in.
 fn absorb_all<S: Follower>(session: &mut S, board: &Board, seat: &mut LoopSeat) -> Result<(), Fault>
     requires polling { S.polling session.old ≡ true }
@@ -40,14 +52,13 @@ fn absorb_all<S: Follower>(session: &mut S, board: &Board, seat: &mut LoopSeat) 
 {
     'names: for v in 0..session.name_count() {
         let name = Var(v);
-        if seat.count(name) >= MOST_ABSORBED {
-            return Err(Fault::Limit);
-        }
-        if board.absorb(seat, name) {
-            match session.send(name) {
+        match absorb(board, seat, name) {
+            Ok(true) => match session.send(name) {
                 Ok(()) => {}
                 Err(fault) => return Err(fault),
-            }
+            },
+            Ok(false) => {}
+            Err(fault) => return Err(fault),
         }
     }
     Ok(())

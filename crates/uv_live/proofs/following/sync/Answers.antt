@@ -9,7 +9,8 @@ pub apply-requires-clause-legal : goal.apply-requires-clause-legal
 apply-requires-clause-legal g c =
     let log = c.log-log.result.now in
     let legal = book_legal c.args.book.now.hold.contents log c.log-log.ensures.replay c.log-log.ensures.log in
-    next_legal _ _ log _ _ c.rest.n _ (ap (λ (p : Plan g.F.Follower.Script). p.workers) c.rest.invariant.plan ∙ c.requires) legal c.rest.invariant.course
+    let workers = ap (λ (p : Plan g.F.Follower.Script). p.workers) c.rest.invariant.plan ∙ c.requires in
+    next_legal _ _ log _ _ c.rest.n _ workers legal c.rest.invariant.course
     c.rest-test.true
 
 pub rest-preserved : goal.rest-preserved
