@@ -198,10 +198,14 @@ fn act<L: Ledger>(
         return Some(Did::Queued(job));
     }
     if progress.polling && progress.done > 0 {
+        match progress.after.reserve(1) {
+            Ok(()) => {}
+            Err(_) => return None,
+        }
         return match collect(book) {
             Some(id) => {
                 progress.done -= 1;
-                let _ = progress.after.push(id);
+                progress.after.push_reserved(id);
                 Some(Did::Collected(id))
             }
             None => None,
