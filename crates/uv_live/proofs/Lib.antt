@@ -1,0 +1,5 @@
+pub mod Legal
+pub mod Places
+pub mod Entered
+pub mod Shares
+pub mod Small

@@ -1,0 +1,76 @@
+-- One place further along a log.
+use Rattle.std.proofs.Common.{◌≡◌, ◌∙◌, ◌<◌, ◌≤◌, ⊎_elim, ℕ, ◌+◌, List, [], ◌∷◌, ◌++◌, Option, Some, take, drop, map, length, get_or, slice_get, sym, ap, subst, arith, append_assoc}
+use Rattle.std.proofs.lemmas.Bool.{cases_lt}
+use Rattle.std.proofs.lemmas.List.{take_more, length-take-le, drop_all, drop-append-le, map-append, append-nil}
+use Rattle.uv_ids.specs.declared.event.Event.{Event}
+use Rattle.uv_work.specs.Pool.{IsLegal}
+use Rattle.uv_work.specs.declared.event.PoolEvent.{PoolEvent}
+use Rattle.uv_live.specs.Course.{Course, step_of, stepped, taken}
+use Rattle.uv_live.specs.Following.{IsWorkers, MayTake}
+use Rattle.uv_live.proofs.Legal.{legal_take}
+
+-- the next entry may follow the session's events
+pub next_legal : (workers asked : ℕ) (log : List PoolEvent) (s t : Course) (n : ℕ) (d : PoolEvent) → asked ≡ workers → IsLegal workers log
+    → t ≡ taken n log s → n < length log → IsLegal asked (t.events ++ get_or log n d ∷ [])
+next_legal workers asked log s t n d same legal done within =
+    let P : List PoolEvent → Type 0 = λ xs. IsLegal workers xs in
+    let Q : ℕ → Type 0 = λ k. IsLegal k (t.events ++ get_or log n d ∷ []) in
+    let more : take (n + 1) log ≡ t.events ++ get_or log n d ∷ [] =
+    take_more log n d within ∙ ap (λ (u : Course). u.events ++ get_or log n d ∷ []) (sym done) in
+    subst Q (sym same) (subst P more (legal_take workers (n + 1) log legal))
+
+theirs_more : (log : List PoolEvent) (from n : ℕ) (e : PoolEvent) → ((m : ℕ) → from ≤ m → m < n → IsWorkers (slice_get log m))
+    → slice_get log n ≡ Some e → IsWorkers (Some e) → (m : ℕ) → from ≤ m → m < n + 1 → IsWorkers (slice_get log m)
+theirs_more log from n e before here is m low high =
+    let P : Option PoolEvent → Type 0 = λ o. IsWorkers o in
+    let Q : ℕ → Type 0 = λ k. IsWorkers (slice_get log k) in
+    let same : n ≤ m → n ≡ m = λ past. omega arith in
+    ⊎_elim (λ (less : m < n). before m low less) (λ (past : n ≤ m). subst Q (same past) (subst P (sym here) is)) (cases_lt m n)
+
+pub may_more : (log events : List PoolEvent) (n : ℕ) (e : PoolEvent) → n < length log → slice_get log n ≡ Some e → IsWorkers (Some e)
+    → MayTake n log events → MayTake (n + 1) log events
+may_more log events n e within here is h = record {
+  begins = h.begins;
+  from = omega (arith, h.from);
+  within = omega (arith, within);
+  theirs = theirs_more log (length events) n e h.theirs here is;
+}
+
+-- the log begins with the events
+pub may_none : (log events : List PoolEvent) → length events ≤ length log → take (length events) log ≡ events → MayTake (length events) log events
+may_none log events within begins = record {
+  begins = begins;
+  from = omega arith;
+  within = within;
+  theirs = λ m low high. absurd (omega (arith, low, high));
+}
+
+same_course : (s t : Course) → s.steps ≡ t.steps → s.events ≡ t.events → s ≡ t
+same_course s t a b = λ l. record { steps = a l; events = b l }
+
+-- nothing was applied yet
+pub none_taken : (log : List PoolEvent) (s : Course) → take (length s.events) log ≡ s.events → s ≡ taken (length s.events) log s
+none_taken log s begins =
+    let rest : drop (length s.events) (take (length s.events) log) ≡ [] =
+    ap (λ (xs : List PoolEvent). drop (length s.events) xs) begins ∙ drop_all (length s.events) s.events (omega arith) in
+    let steps : s.steps ++ map step_of (drop (length s.events) (take (length s.events) log)) ≡ s.steps =
+    ap (λ (xs : List PoolEvent). s.steps ++ map step_of xs) rest ∙ append-nil s.steps in
+    same_course s (taken (length s.events) log s) (sym steps) (sym begins)
+
+steps_more : (log : List PoolEvent) (from n : ℕ) (d : PoolEvent) (steps : List Event) → from ≤ n → n < length log
+    → (steps ++ map step_of (drop from (take n log))) ++ step_of (get_or log n d) ∷ [] ≡ steps ++ map step_of (drop from (take (n + 1) log))
+steps_more log from n d steps low within =
+    let long : from ≤ length (take n log) = rw (length-take-le n log (omega arith)) low in
+    let rest : drop from (take (n + 1) log) ≡ drop from (take n log) ++ get_or log n d ∷ [] =
+    ap (λ (xs : List PoolEvent). drop from xs) (take_more log n d within) ∙ drop-append-le from (take n log) (get_or log n d ∷ []) long in
+    let more : map step_of (drop from (take (n + 1) log)) ≡ map step_of (drop from (take n log)) ++ step_of (get_or log n d) ∷ [] =
+    ap (map step_of) rest ∙ map-append step_of (drop from (take n log)) (get_or log n d ∷ []) in
+    append_assoc steps (map step_of (drop from (take n log))) (step_of (get_or log n d) ∷ []) ∙ ap (λ (xs : List Event). steps ++ xs) (sym more)
+
+-- one entry more
+pub more_taken : (log : List PoolEvent) (s t u : Course) (n : ℕ) (d : PoolEvent) → length s.events ≤ n → n < length log → t ≡ taken n log s
+    → u ≡ stepped (step_of (get_or log n d)) (get_or log n d ∷ []) t → u ≡ taken (n + 1) log s
+more_taken log s t u n d low within before more =
+    more ∙ (ap (stepped (step_of (get_or log n d)) (get_or log n d ∷ [])) before
+    ∙ same_course (stepped (step_of (get_or log n d)) (get_or log n d ∷ []) (taken n log s)) (taken (n + 1) log s)
+    (steps_more log (length s.events) n d s.steps low within) (sym (take_more log n d within)))

@@ -1,0 +1,5 @@
+pub mod Course
+pub mod Following
+pub mod Turning
+pub mod Settling
+pub mod Running

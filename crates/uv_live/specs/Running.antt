@@ -1,0 +1,17 @@
+-- A live run.
+use Rattle.std.specs.Prelude.{◌≡◌, ℕ, List, Bool, true, Option, Some, Result, Ok}
+use Rattle.uv_ids.specs.declared.fault.Fault.{Fault}
+use Rattle.uv_ids.specs.declared.fault.Why.{Why}
+use Rattle.uv_ids.specs.declared.fault.Why.TheVariants as why
+use Rattle.uv_pool.specs.Book.{Standing}
+use Rattle.uv_live.specs.Course.{Course, Plan}
+use Rattle.uv_live.specs.Settling.{Worked, IsSettled}
+
+-- a run that came to its end
+abbrev pub HaltsAt : Result Bool Fault → Option Why → Type 0
+HaltsAt (Ok true) refusal = refusal ≡ Some why.Ended
+HaltsAt _ refusal = Unit {0}
+
+-- with some book, shifts and counts of absorbed words the run is settled
+abbrev pub RunSettles : {S : Type 0} → Plan S → Course → Type 0
+RunSettles plan s = (book : Standing) × (shifts : List Worked) × (counts : List ℕ) × IsSettled plan s book shifts counts

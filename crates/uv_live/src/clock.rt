@@ -1,0 +1,42 @@
+//! The clock of a live run.
+ghost use Rattle.std.specs.Prelude.{◌≡◌};
+
+/// Whom a live run asks for the time (own). Times are milliseconds.
+pub trait Clock {
+    /// The time now.
+    fn moment(&self) -> u64;
+
+    /// Waits until that time, and answers the time then.
+    fn until(&mut self, due: u64) -> u64;
+}
+
+/// A clock that doesn't wait: it jumps to each time that it is asked to wait for.
+#[derive(Clone, Copy, Debug)]
+pub struct JumpClock {
+    time: u64,
+}
+
+impl JumpClock {
+    /// A clock that stands at this time.
+    pub fn new(moment: u64) -> JumpClock
+        ensures { result.time ≡ moment }
+    {
+        JumpClock { time: moment }
+    }
+}
+
+impl Clock for JumpClock {
+    fn moment(&self) -> u64
+        ensures { result ≡ self.now.time }
+    {
+        self.time
+    }
+
+    fn until(&mut self, due: u64) -> u64
+        ensures stands { self.new.time ≡ due }
+        ensures answer { result ≡ due }
+    {
+        self.time = due;
+        due
+    }
+}

@@ -1,0 +1,24 @@
+//! A live run: a session that is what real threads did.
+//!
+//! Workers and senders run on threads of their own (libuv's "Thread pool work scheduling", uv_async_send). The loop's thread takes
+//! the steps of a session, beside a book that it shares with the workers and a board by which senders wake it. What the workers did
+//! it applies to the session, as the same events in the same order, whenever it holds the book's lock.
+#![tactic(auto)]
+
+mod clock;
+mod crew;
+mod follower;
+mod following;
+mod running;
+mod settling;
+mod turning;
+
+pub use clock::{Clock, JumpClock};
+pub use follower::{Did, Follower, ThreadLine};
+pub use following::sync;
+pub use running::live;
+pub use settling::settle;
+pub use turning::turn;
+
+#[cfg(test)]
+mod tests;

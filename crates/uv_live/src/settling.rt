@@ -1,0 +1,231 @@
+//! Whether a session, its book, the shifts and the loop's seat tell the same story.
+ghost use Rattle.std.specs.Prelude.{◌≡◌, ◌<◌, map, length, count_by};
+ghost use Rattle.uv_pool.specs.Book.{finish_count};
+ghost use Rattle.uv_wake.specs.Seats.{names_of};
+ghost use Rattle.uv_live.specs.Following.{Decides};
+ghost use Rattle.uv_live.specs.Settling as spec;
+ghost use Rattle.uv_live.specs.Settling.{worked, part_of, IsShift, AreShifts, counted, SendsFit, AllSendsFit, IsSettled, Settles};
+
+use crate::follower::{Follower, ThreadLine};
+use crate::following::{first_apart, is_same};
+use std::sync::ledger::Ledger;
+use uv_ids::{Event, Fault, Var};
+use uv_pool::{PoolBook, Shift};
+use uv_wake::LoopSeat;
+use uv_work::PoolEvent;
+
+fn is_of(k: u16, event: PoolEvent) -> bool
+    ensures { result ≡ spec.is_of k event }
+{
+    match event {
+        PoolEvent::Take(other, _) => other == k,
+        PoolEvent::Finish(other, _) => other == k,
+        _ => false,
+    }
+}
+
+/// Whether the events are the log's part for the worker.
+fn is_part(k: u16, log: &[PoolEvent], events: &[PoolEvent]) -> bool
+    ensures { Decides result (events.now ≡ part_of k log.now) }
+{
+    let mut left = events;
+    'entries: for n in 0..log.len() {
+        let entry = log[n];
+        if is_of(k, entry) {
+            match left.split_first() {
+                None => return false,
+                Some((event, rest)) => {
+                    if !is_same(*event, entry) {
+                        return false;
+                    }
+                    left = rest;
+                }
+            }
+        }
+    }
+    left.is_empty()
+}
+
+fn is_shift<L: Ledger>(k: u16, log: &[PoolEvent], shift: &Shift<L>) -> bool
+    ensures { Decides result (IsShift k log.now (worked shift.now.worker shift.now.events.items shift.now.share.amount)) }
+{
+    if shift.worker != k {
+        return false;
+    }
+    is_part(k, log, shift.events.as_slice())
+}
+
+/// Whether the shifts are those of the workers 0, 1, .. in order.
+fn are_shifts<L: Ledger>(log: &[PoolEvent], shifts: &[Shift<L>]) -> bool
+    requires { length shifts.now < 65536 }
+    ensures { Decides result (AreShifts log.now (map (λ s. worked s.worker s.events.items s.share.amount) shifts.now)) }
+{
+    'shifts: for k in 0..shifts.len() {
+        if !is_shift(k as u16, log, &shifts[k]) {
+            return false;
+        }
+    }
+    true
+}
+
+fn is_finish(event: PoolEvent) -> bool
+    ensures { result ≡ Rattle.uv_pool.specs.Book.is_finish event }
+{
+    matches!(event, PoolEvent::Finish(_, _))
+}
+
+fn finishes(events: &[PoolEvent]) -> usize
+    ensures { result ≡ finish_count events.now }
+{
+    events.iter().filter(|event| is_finish(**event)).count()
+}
+
+/// What the shift's share counts. A share has no bytes: its shift keeps that it counts the finishes.
+fn share_of<L: Ledger>(shift: &Shift<L>) -> usize
+    ensures { result ≡ shift.now.share.amount }
+{
+    finishes(shift.events.as_slice())
+}
+
+/// Whether the shares together count the finishes of the log.
+fn do_add_up<L: Ledger>(log: &[PoolEvent], shifts: &[Shift<L>]) -> bool
+    ensures { Decides result (finish_count log.now ≡ counted (map (λ s. worked s.worker s.events.items s.share.amount) shifts.now)) }
+{
+    let mut left = finishes(log);
+    'shifts: for k in 0..shifts.len() {
+        let share = share_of(&shifts[k]);
+        if left < share {
+            return false;
+        }
+        left -= share;
+    }
+    left == 0
+}
+
+fn is_send(name: Var, event: Event) -> bool
+    ensures { result ≡ spec.is_send name.0 event }
+{
+    match event {
+        Event::Send(other) => other.0 == name.0,
+        _ => false,
+    }
+}
+
+fn is_cancel(event: Event) -> bool
+    ensures { result ≡ spec.is_cancel event }
+{
+    matches!(event, Event::Cancel(_))
+}
+
+fn sends_of(name: Var, steps: &[Event]) -> usize
+    ensures { result ≡ count_by (spec.is_send name.0) steps.now }
+{
+    steps.iter().filter(|event| is_send(name, **event)).count()
+}
+
+fn lines_of(name: Var, lines: &[ThreadLine]) -> usize
+    ensures { result ≡ count_by (spec.is_line name.0) lines.now }
+{
+    lines.iter().filter(|line| line.name.0 == name.0).count()
+}
+
+fn cancels(steps: &[Event]) -> usize
+    ensures { result ≡ count_by spec.is_cancel steps.now }
+{
+    steps.iter().filter(|event| is_cancel(**event)).count()
+}
+
+fn sends_fit(name: Var, steps: &[Event], lines: &[ThreadLine], seat: &LoopSeat) -> bool
+    requires { name.0 < names_of seat.now.board }
+    ensures { Decides result (SendsFit steps.now lines.now seat.now.knows.counts name.0) }
+{
+    let sent = sends_of(name, steps);
+    sent as u64 == seat.count(name) && sent <= lines_of(name, lines)
+}
+
+fn all_sends_fit<F: Follower>(session: &F, seat: &LoopSeat) -> bool
+    requires { names_of seat.now.board ≡ (F.plan session.now).names }
+    ensures { Decides result (AllSendsFit (F.course session.now).steps (F.plan session.now) seat.now.knows.counts) }
+{
+    'names: for v in 0..session.name_count() {
+        if !sends_fit(Var(v), session.steps(), session.thread_lines(), seat) {
+            return false;
+        }
+    }
+    true
+}
+
+/// All comparisons but that of the session's events with the log.
+fn do_agree<F: Follower, L: Ledger>(
+    session: &F,
+    book: &PoolBook<L>,
+    shifts: &[Shift<L>],
+    seat: &LoopSeat,
+) -> bool
+    requires names { names_of seat.now.board ≡ (F.plan session.now).names }
+    requires whole { (F.course session.now).events ≡ book.now.hold.contents.log }
+    ensures { Decides result
+        (IsSettled
+        (F.plan session.now)
+        (F.course session.now)
+        book.now
+        (map (λ s. worked s.worker s.events.items s.share.amount) shifts.now)
+        seat.now.knows.counts) }
+{
+    if !book.closed() {
+        return false;
+    }
+    if shifts.len() != book.workers() as usize {
+        return false;
+    }
+    if !are_shifts(book.log(), shifts) {
+        return false;
+    }
+    if !do_add_up(book.log(), shifts) {
+        return false;
+    }
+    if !all_sends_fit(session, seat) {
+        return false;
+    }
+    cancels(session.steps()) == 0
+}
+
+/// Compares what the session did with what the threads did. `Ok` comes just where all agrees: the book is closed, and its whole log
+/// are the session's events; the shifts are those of all workers, and together count the log's finishes; the sends of each name
+/// are as many as were absorbed, and no more than its `thread` lines; and nothing was cancelled from outside.
+///
+/// `Torn` names the first place, from 1, where the session's events and the log part. It is 0 where they don't.
+pub fn settle<F: Follower, L: Ledger>(
+    session: &F,
+    book: &PoolBook<L>,
+    shifts: &[Shift<L>],
+    seat: &LoopSeat,
+) -> Result<(), Fault>
+    requires { names_of seat.now.board ≡ (F.plan session.now).names }
+    ensures { Settles
+        (IsSettled
+        (F.plan session.now)
+        (F.course session.now)
+        book.now
+        (map (λ s. worked s.worker s.events.items s.share.amount) shifts.now)
+        seat.now.knows.counts)
+        (F.course session.now).events
+        book.now.hold.contents.log
+        result }
+{
+    let log = book.log();
+    let events = session.pool_events();
+    if let Some(n) = first_apart(events, log) {
+        return Err(Fault::Torn { at: n + 1 });
+    }
+    if events.len() < log.len() {
+        return Err(Fault::Torn {
+            at: events.len() + 1,
+        });
+    }
+    if do_agree(session, book, shifts, seat) {
+        Ok(())
+    } else {
+        Err(Fault::Torn { at: 0 })
+    }
+}

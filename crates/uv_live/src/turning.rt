@@ -1,0 +1,88 @@
+//! One turn of the loop, with its entry in the book.
+ghost use Rattle.std.specs.Prelude.{◌≡◌, ◌<◌, ◌++◌, ◌∷◌, [], true, length};
+ghost use Rattle.uv_work.specs.Pool.{IsLegal};
+ghost use Rattle.uv_work.specs.declared.event.PoolEvent.TheVariants as event;
+ghost use Rattle.uv_live.specs.Course.{events_of};
+ghost use Rattle.uv_live.specs.Turning.{Turns, Refuses};
+
+use crate::follower::{Did, Follower};
+use crate::following::sync;
+use std::sync::ledger::Ledger;
+use uv_ids::{Fault, Id};
+use uv_pool::PoolBook;
+use uv_work::Job;
+
+fn enter_queue<L: Ledger>(book: &mut PoolBook<L>, job: Job)
+    requires room { book.old.hold.room ≡ true }
+    requires less { length book.old.hold.contents.log < 16777216 }
+    requires legal { IsLegal (length book.old.hold.contents.running) (book.old.hold.contents.log ++ event.Queue job.req ∷ []) }
+    ensures { book.new.hold.contents.log ≡ book.old.hold.contents.log ++ event.Queue job.req ∷ [] }
+{
+    let _ = book.log();
+    let _ = book.submit(job);
+}
+
+fn enter_cancel<L: Ledger>(book: &mut PoolBook<L>, id: Id)
+    requires room { book.old.hold.room ≡ true }
+    requires less { length book.old.hold.contents.log < 16777216 }
+    requires legal { IsLegal (length book.old.hold.contents.running) (book.old.hold.contents.log ++ event.Cancel id ∷ []) }
+    ensures { book.new.hold.contents.log ≡ book.old.hold.contents.log ++ event.Cancel id ∷ [] }
+{
+    let _ = book.log();
+    let _ = book.cancel(id);
+}
+
+fn enter_collect<L: Ledger>(book: &mut PoolBook<L>, id: Id)
+    requires room { book.old.hold.room ≡ true }
+    requires less { length book.old.hold.contents.log < 16777216 }
+    requires legal { IsLegal (length book.old.hold.contents.running) (book.old.hold.contents.log ++ event.Collect id ∷ []) }
+    ensures { book.new.hold.contents.log ≡ book.old.hold.contents.log ++ event.Collect id ∷ [] }
+{
+    let _ = book.log();
+    let _ = book.collect();
+}
+
+/// Enters what a step of the loop did. With room, an event that may follow the log can't be refused.
+fn enter<L: Ledger>(book: &mut PoolBook<L>, did: Did)
+    requires room { book.old.hold.room ≡ true }
+    requires less { length book.old.hold.contents.log < 16777216 }
+    requires legal { IsLegal (length book.old.hold.contents.running) (book.old.hold.contents.log ++ events_of did) }
+    ensures { book.new.hold.contents.log ≡ book.old.hold.contents.log ++ events_of did }
+{
+    match did {
+        Did::Nothing => {}
+        Did::Queued(job) => enter_queue(book, job),
+        Did::Cancelled(id) => enter_cancel(book, id),
+        Did::Collected(id) => enter_collect(book, id),
+    }
+}
+
+/// Applies the rest of the book's log to the session, does one step of the loop, and enters in the book what that did.
+///
+/// Room in the book is made before the step, so `Memory` and `Limit` of the book come before any refusal of the step. On a fault
+/// neither has taken the step, and what was applied stands.
+pub fn turn<F: Follower, L: Ledger>(session: &mut F, book: &mut PoolBook<L>) -> Result<Did, Fault>
+    requires { (F.plan session.old).workers ≡ length book.old.hold.contents.running }
+    ensures plan { F.plan session.new ≡ F.plan session.old }
+    ensures turned { Turns book.old.hold.contents.log (F.course session.old) result book.new.hold.contents.log (F.course session.new) }
+    ensures refused { Refuses result (F.refusal session.new) }
+{
+    let _ = book.log();
+    match sync(session, book) {
+        Ok(_) => {}
+        Err(fault) => return Err(fault),
+    }
+    match book.reserve() {
+        Ok(()) => {}
+        Err(fault) => return Err(fault),
+    }
+    match session.step() {
+        Ok(did) => {
+            let answer = did;
+            let _ = session.pool_events();
+            enter(book, did);
+            Ok(answer)
+        }
+        Err(fault) => Err(fault),
+    }
+}
