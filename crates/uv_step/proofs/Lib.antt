@@ -4,3 +4,4 @@ pub mod Counting
 pub mod Fits
 pub mod Rows
 pub mod Steps
+pub mod Trails

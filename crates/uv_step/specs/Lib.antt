@@ -5,3 +5,4 @@ pub mod Names
 pub mod Parts
 pub mod Undo
 pub mod Does
+pub mod Trail

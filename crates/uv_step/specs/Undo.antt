@@ -77,3 +77,10 @@ module _ {P : Type 0} where
   -- a step was refused, and nothing changed
   abbrev pub Same : Held P → Held P → Type 0
   Same old new = new ≡ old
+
+  -- a step did this besides, and its record grew with it: it gives back the same
+  pub record Extended (r s : Record P) (old new : Held P) : Type 0 where
+    pub back : unwind s new.image ≡ unwind r old.image
+    pub can : CanUnwind new.room s new.image
+    pub fit : IsFit new.image
+    pub room : new.room ≡ old.room

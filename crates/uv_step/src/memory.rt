@@ -1,5 +1,5 @@
 //! The memory of a loop.
-ghost use Rattle.std.specs.Prelude.{◌≡◌, IfOk};
+ghost use Rattle.std.specs.Prelude.{◌≡◌, ◌<◌, ◌≤◌, IfOk, OnOk};
 ghost use Rattle.uv_step.specs.Image.{held, fresh};
 ghost use Rattle.uv_step.specs.Fit.{IsFit};
 ghost use Rattle.uv_step.specs.Does.{changed};
@@ -11,7 +11,7 @@ use std::alloc::{AllocError, Global};
 use uv_arena::Slots;
 use uv_handle::Handles;
 use uv_heap::TimerHeap;
-use uv_requests::Requests;
+use uv_requests::{Requests, fresh_requests};
 use uv_timer::Times;
 
 /// All that the steps of a loop change. `P` says where the loop stands.
@@ -34,6 +34,52 @@ pub struct Memory<P: Copy> {
 }
 
 impl<P: Copy> Memory<P> {
+    /// The memory of a loop that was never run: it stands here, has so many names and workers, and room for so many slots, which
+    /// are retired when they are freed at the last generation.
+    pub fn new(
+        alloc: Global,
+        place: P,
+        names: usize,
+        slots: u32,
+        last_generation: u32,
+        workers: u16,
+    ) -> Result<Memory<P>, AllocError>
+        ensures image { IfOk result (λ m. (held m).image ≡ fresh place names slots last_generation workers) }
+        ensures fit { IfOk result (λ m. IsFit (held m).image) }
+    {
+        fresh_requests::<Content>();
+        let names = vec![in alloc; Named::unbound(); names]?;
+        let slots = Slots::new(alloc, slots, last_generation)?;
+        let requests = Requests::new(alloc, workers)?;
+        Ok(Memory {
+            place,
+            names,
+            slots,
+            handles: Handles::new(),
+            requests,
+            heap: TimerHeap::new(alloc),
+            times: Times {
+                time: 0,
+                next_start: 0,
+            },
+            clock: 0,
+            stop_flag: false,
+            idled: false,
+        })
+    }
+
+    /// Makes room on the heap for the timer of a slot. No other call takes memory.
+    pub fn reserve(&mut self, slot: u32) -> Result<(), AllocError>
+        ensures image { (held self.new).image ≡ (held self.old).image }
+        ensures ok { OnOk result (slot < (held self.new).room) }
+        ensures kept { (held self.old).room ≤ (held self.new).room }
+    {
+        match self.heap.reserve(slot) {
+            Ok(()) => Ok(()),
+            Err(_) => Err(AllocError),
+        }
+    }
+
     /// The record of a change, where no name was touched.
     pub(crate) fn record(&self, change: Change) -> Record<P>
         ensures { result ≡ changed self.now.place change }

@@ -1,6 +1,6 @@
 //! What the names of a loop are bound to, and how often their callbacks were called.
 ghost use Rattle.std.specs.Prelude.{◌≡◌};
-ghost use Rattle.uv_step.specs.Names.{count_of, with_count};
+ghost use Rattle.uv_step.specs.Names.{count_of, with_count, unbound};
 
 use uv_ids::{Callback, Id};
 
@@ -54,4 +54,18 @@ pub struct Named {
     /// What the last handle or request made under the name got as its id. It stays when the slot is freed.
     pub id: Option<Id>,
     pub calls: Calls,
+}
+
+impl Named {
+    /// A name that is bound to nothing and was never called.
+    pub fn unbound() -> Named
+        ensures { result ≡ unbound }
+    {
+        let calls = Calls {
+            handle: 0,
+            after: 0,
+            close: 0,
+        };
+        Named { id: None, calls }
+    }
 }

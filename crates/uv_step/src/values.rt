@@ -3,11 +3,11 @@ ghost use Rattle.std.specs.Prelude.{◌≡◌, ◌<◌, ◌+◌, ◌^◌, ◌-�
 ghost use Rattle.uv_step.specs.declared.record.Naming.TheVariants.{Same as same};
 ghost use Rattle.uv_step.specs.Names.{count_of, named, binding, calling};
 ghost use Rattle.uv_step.specs.Image.{held, standing};
-ghost use Rattle.uv_step.specs.Parts.{unwind};
 ghost use Rattle.uv_step.specs.Fit.{IsFit};
-ghost use Rattle.uv_step.specs.Undo.{Recorded, CanUnwind};
+ghost use Rattle.uv_step.specs.Undo.{Recorded, CanUnwind, Extended};
 
 use crate::memory::Memory;
+use crate::named::Named;
 use crate::record::{Change, Naming, Record};
 use uv_ids::{Callback, Id, Var};
 
@@ -70,12 +70,54 @@ impl<P: Copy> Memory<P> {
         requires can { CanUnwind (held self.old).room record1 (held self.old).image }
         requires fit { IsFit (held self.old).image }
         ensures place { (held self.new).image ≡ standing place (held self.old).image }
-        ensures back { unwind record1 (held self.new).image ≡ unwind record1 (held self.old).image }
-        ensures can { CanUnwind (held self.new).room record1 (held self.new).image }
-        ensures fit { IsFit (held self.new).image }
-        ensures room { (held self.new).room ≡ (held self.old).room }
+        ensures extended { Extended record1 record1 (held self.old) (held self.new) }
     {
         let _ = record1;
         self.place = place;
+    }
+
+    /// The step of this record binds a name to this as well.
+    pub fn bind(&mut self, record1: Record<P>, name: Var, id: Option<Id>) -> Record<P>
+        requires can { CanUnwind (held self.old).room record1 (held self.old).image }
+        requires fit { IsFit (held self.old).image }
+        requires unnamed { record1.naming ≡ same }
+        requires name { name.0 < length (held self.old).image.names }
+        ensures names { (held self.new).image.names ≡ binding name.0 id (held self.old).image.names }
+        ensures extended { Extended record1 result (held self.old) (held self.new) }
+    {
+        let named = self.names[name.0 as usize];
+        self.names[name.0 as usize] = Named {
+            id,
+            calls: named.calls,
+        };
+        Record {
+            place: record1.place,
+            naming: Naming::Bound(name, named.id),
+            change: record1.change,
+        }
+    }
+
+    /// The step of this record calls a callback of a name as well.
+    pub fn count_call(&mut self, record1: Record<P>, name: Var, callback: Callback) -> Record<P>
+        requires can { CanUnwind (held self.old).room record1 (held self.old).image }
+        requires fit { IsFit (held self.old).image }
+        requires unnamed { record1.naming ≡ same }
+        requires name { name.0 < length (held self.old).image.names }
+        requires few { count_of callback (named (held self.old).image.names name.0).calls < 2 ^ 32 - 1 }
+        ensures names { (held self.new).image.names
+            ≡ calling name.0 callback (count_of callback (named (held self.old).image.names name.0).calls + 1) (held self.old).image.names }
+        ensures extended { Extended record1 result (held self.old) (held self.new) }
+    {
+        let named = self.names[name.0 as usize];
+        let count = named.calls.of(callback);
+        self.names[name.0 as usize] = Named {
+            id: named.id,
+            calls: named.calls.with(callback, count + 1),
+        };
+        Record {
+            place: record1.place,
+            naming: Naming::Called(name, callback, count),
+            change: record1.change,
+        }
     }
 }
