@@ -166,9 +166,9 @@ module _ {P : Type 0} where
       let j = record i { names = ns } in
       let t : Record P = record { place = r.place; naming = n; change = r.change } in
       let before : unwind_parts (naming_parts r.naming) (standing r.place i) ≡ standing r.place i =
-          ap (λ m. unwind_parts (naming_parts m) (standing r.place i)) same in
+      ap (λ m. unwind_parts (naming_parts m) (standing r.place i)) same in
       let whole : unwind t j ≡ unwind r i =
-          unwind_apart t j ∙ ap (unwind_parts (change_parts r.change)) (back ∙ sym before) ∙ sym (unwind_apart r i) in
+      unwind_apart t j ∙ ap (unwind_parts (change_parts r.change)) (back ∙ sym before) ∙ sym (unwind_apart r i) in
       subst (λ q. Extended r q (record { image = i; room = room }) (record { image = j; room = room })) (sym is) (record {
         back = whole;
         can = record {

@@ -5,7 +5,7 @@ use Rattle.uv_step.specs.Image.{Image, Held}
 use Rattle.uv_step.specs.Parts.{unwind}
 use Rattle.uv_step.specs.Undo.{CanUnwind, Recorded}
 use Rattle.uv_step.specs.Fit.{IsFit}
-use Rattle.uv_step.specs.Trail.{Walk, DropsOne, IsTrail, unwound, CanGoBack, beginning}
+use Rattle.uv_step.specs.Trail.{Walk, DropsOne, IsTrail, unwound, CanGoBack, AreSteps, beginning}
 
 module _ {P : Type 0} where
   pub unwound-push : (rs : List (Record P)) (r : Record P) (i : Image P) → unwound (rs ++ r ∷ []) i ≡ unwound rs (unwind r i)
@@ -55,3 +55,9 @@ module _ {P : Type 0} where
         can = subst (λ i. CanGoBack k.room rs i) (sym image) (subst (λ n. CanGoBack n rs (unwind r h.image)) (sym room) h2.can);
         room = subst (λ n. slots ≤ n) (sym room) h2.room;
       }
+
+  pub steps_back : (room : ℕ) (i k : Image P) (rs : List (Record P)) → AreSteps room i rs k → (unwound rs k ≡ i) × CanGoBack room rs k
+  steps_back room i k [] s = (s, tt)
+  steps_back room i k (r ∷ rs) s =
+      let rest = steps_back room s.0 k rs s.3 in
+      (ap (unwind r) rest.0 ∙ s.1, (subst (CanUnwind room r) (sym rest.0) s.2, rest.1))

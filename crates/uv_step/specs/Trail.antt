@@ -22,6 +22,11 @@ module _ {P : Type 0} where
   CanGoBack room [] i = Unit {0}
   CanGoBack room (r ∷ rs) i = CanUnwind room r (unwound rs i) × CanGoBack room rs i
 
+  -- steps in a row, from one memory to another: the record of each gives back the one before it, where the heap has so much room
+  abbrev pub AreSteps : ℕ → Image P → List (Record P) → Image P → Type 0
+  AreSteps room i [] k = k ≡ i
+  AreSteps room i (r ∷ rs) k = (j : Image P) × (unwind r j ≡ i) × CanUnwind room r j × AreSteps room j rs k
+
   -- the memory before all steps
   abbrev pub beginning : Walk P → Image P
   beginning w = unwound w.records w.image

@@ -4,20 +4,21 @@
 
 mod content;
 mod handles;
+mod law;
 mod memory;
 mod named;
 mod pool;
 mod record;
-mod step;
 mod timers;
-mod trail;
 mod unwinding;
 mod values;
 mod watchers;
 
 pub use content::Content;
+pub use law::steps_unwind;
 pub use memory::Memory;
 pub use named::{Calls, Named};
 pub use record::{Added, Change, Naming, Polled, Record};
-pub use step::Step;
-pub use trail::Trail;
+
+#[cfg(test)]
+mod tests;

@@ -4,9 +4,9 @@ ghost use Rattle.uv_step.specs.Image.{held};
 ghost use Rattle.uv_step.specs.Fit.{IsFit};
 ghost use Rattle.uv_step.specs.Trail.{Walk, Takes, DropsOne, beginning};
 
+use super::step::Step;
 use crate::memory::Memory;
 use crate::record::Record;
-use crate::step::Step;
 use std::alloc::{AllocError, Global};
 use std::marker::Model;
 

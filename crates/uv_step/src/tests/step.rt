@@ -51,10 +51,24 @@ impl<P: Copy> Memory<P> {
         ensures none { IfNone result (held self.new ≡ held self.old) }
     {
         match step {
-            Step::Init(..) | Step::SetRef(..) | Step::Send(_) | Step::Close(_) | Step::StartWatcher(_) | Step::StopWatcher(_) | Step::Begin(_)
-            | Step::Walk(_) | Step::BeginClosing | Step::EndHandle => self.step_handles(step),
-            Step::Tick(_) | Step::UpdateTime | Step::SetStop(_) | Step::SetIdled(_) => self.step_values(step),
-            Step::Queue(_) | Step::Take(_) | Step::Finish(..) | Step::Cancel(_) | Step::LeavePoll | Step::EndRequest => self.step_requests(step),
+            Step::Init(..)
+            | Step::SetRef(..)
+            | Step::Send(_)
+            | Step::Close(_)
+            | Step::StartWatcher(_)
+            | Step::StopWatcher(_)
+            | Step::Begin(_)
+            | Step::Walk(_)
+            | Step::BeginClosing
+            | Step::EndHandle => self.step_handles(step),
+            Step::Tick(_) | Step::UpdateTime | Step::SetStop(_) | Step::SetIdled(_) =>
+                self.step_values(step),
+            Step::Queue(_)
+            | Step::Take(_)
+            | Step::Finish(..)
+            | Step::Cancel(_)
+            | Step::LeavePoll
+            | Step::EndRequest => self.step_requests(step),
             _ => self.step_timers(step, slots),
         }
     }

@@ -3,7 +3,7 @@ use Rattle.uv_step.specs.declared.record.Record.{Record}
 use Rattle.uv_step.specs.Image.{held, image_of}
 use Rattle.uv_step.specs.Trail.{Walk, unwound, beginning}
 use Rattle.uv_step.proofs.Trails.{trail_pushed, begins_same}
-use Rattle.uv_step.proofs.trail.Trail.step.Goals as goal
+use Rattle.uv_step.proofs.tests.trail.Trail.step.Goals as goal
 
 pub invariant_of-self-in-Some : goal.invariant_of-self-in-Some
 invariant_of-self-in-Some g c =
