@@ -1,26 +1,19 @@
 -- A handle's slot is changed: the requests are as before. A request's slot is changed: the handles are counted as before.
-use Rattle.std.proofs.Common.{◌≡◌, ◌≢◌, ℕ, zero, suc, ◌+◌, ◌<◌, Bool, true, false, if◌then◌else◌, eqb, List, [], ◌∷◌, ◌++◌, length, set, slice_get, Option, Some, None, option_and_then, refl, sym, ap, ◌∙◌, subst, inl, inr, arith}
-use Rattle.std.proofs.lemmas.Bool.Decides.{eqb_tells}
+use Rattle.std.proofs.Common.{◌≡◌, ℕ, Bool, true, false, if◌then◌else◌, eqb, List, Some, None, option_and_then, refl, ap, ◌∙◌, inl, inr}
 use Rattle.uv_ids.specs.declared.id.Id.{Id}
 use Rattle.uv_records.specs.declared.handle.HandleRecord.{HandleRecord}
-use Rattle.uv_records.specs.declared.slot.Slot.{Slot}
 use Rattle.uv_records.specs.declared.lists.ListName.{ListName}
 use Rattle.uv_records.specs.declared.lists.ListName.TheVariants.{Waiting, Done as Ended, DoneYet as EndedYet}
-use Rattle.uv_records.specs.Count.{one_if, content_keeps, keeps_in, active_count}
-use Rattle.uv_records.specs.Slots as plain
 use Rattle.uv_records.specs.Walks.{without}
 use Rattle.uv_arena.specs.Chains.{IsIn}
 use Rattle.uv_arena.specs.Image as arena
 use Rattle.uv_arena.specs.Image.{members, held, on_list, plain_slots, held_slots}
-use Rattle.uv_arena.specs.Calls.{SameSlots, IsPushed}
 use Rattle.uv_arena.proofs.Memories.{or_none}
 use Rattle.uv_arena.proofs.Lookups.{without_none}
 use Rattle.uv_handle.specs.Counted.{record_at}
 use Rattle.uv_handle.proofs.Counts.{content_of}
-use Rattle.uv_work.specs.Requests.{Request}
-use Rattle.uv_requests.specs.Working.{Running, working, id_in, request_in as asked_at, IsHeld, IsWork}
+use Rattle.uv_requests.specs.Working.{Running, working, id_in, request_in as asked_at, IsWork}
 use Rattle.uv_requests.proofs.Holding.{one_id}
-use Rattle.uv_requests.proofs.Beside.{kept_beside}
 use Rattle.uv_step.specs.declared.content.Content.{Content}
 use Rattle.uv_step.specs.Content.{handle_in, request_in}
 use Rattle.uv_step.proofs.Contents.{no_request}

@@ -1,18 +1,17 @@
 -- What becomes of a request leaves the count of active referenced handles.
-use Rattle.std.proofs.Common.{◌≡◌, ◌≢◌, ℕ, zero, suc, ◌+◌, ◌<◌, Bool, true, false, if◌then◌else◌, List, [], ◌∷◌, ◌++◌, set, slice_get, Option, Some, None, option_and_then, refl, sym, ap, ◌∙◌, subst, inl, inr, arith}
+use Rattle.std.proofs.Common.{◌≡◌, ℕ, zero, suc, ◌+◌, ◌<◌, Bool, false, if◌then◌else◌, List, [], ◌∷◌, ◌++◌, set, slice_get, Option, Some, None, option_and_then, refl, sym, ap, ◌∙◌, inl, inr, arith}
 use Rattle.std.proofs.lemmas.Bool.Decides.{eqb_tells}
 use Rattle.uv_ids.specs.declared.id.Id.{Id}
 use Rattle.uv_records.specs.declared.slot.Slot.{Slot}
 use Rattle.uv_records.specs.Count.{one_if, content_keeps, keeps_in, active_count}
 use Rattle.uv_records.specs.Slots as plain
 use Rattle.uv_arena.specs.declared.links.Place.{Place}
-use Rattle.uv_arena.specs.declared.links.Cell.{Cell}
 use Rattle.uv_arena.specs.Chains.{IsIn}
 use Rattle.uv_arena.specs.Image as arena
 use Rattle.uv_arena.specs.Image.{held, held_slots, plain_slots, slot_at, place_at, FREE, IsSound}
 use Rattle.uv_arena.specs.Undo.{push_undone, unlink_undone}
 use Rattle.uv_arena.specs.Calls.{SameSlots}
-use Rattle.uv_arena.proofs.Memories.{or_none, get-slots, member_tells, slots_relinked, slots_edited}
+use Rattle.uv_arena.proofs.Memories.{get-slots, member_tells, slots_relinked, slots_edited}
 use Rattle.uv_arena.proofs.Lookups.{held_tells}
 use Rattle.uv_handle.specs.Counted.{alive_count}
 use Rattle.uv_work.specs.Requests.{Request, reopened}
@@ -29,7 +28,8 @@ count_set : (ss : List (Slot Content)) (x : ℕ) (s t : Slot Content) → slice_
 count_set [] x s t e a b = cc
 count_set (r ∷ rs) zero s t e a b =
     let same : r ≡ s = cc in
-    ap (λ q. one_if q + active_count handle_in rs) b ∙ sym (ap (λ (q : Slot Content). one_if (content_keeps handle_in q.content) + active_count handle_in rs) same
+    ap (λ q. one_if q + active_count handle_in rs) b ∙ sym (ap (λ (q : Slot Content). one_if
+    (content_keeps handle_in q.content) + active_count handle_in rs) same
     ∙ ap (λ q. one_if q + active_count handle_in rs) a)
 count_set (r ∷ rs) (suc x) s t e a b =
     let rest = count_set rs x s t e a b in ap (λ n. one_if (content_keeps handle_in r.content) + n) rest

@@ -1,5 +1,5 @@
 -- What each step of handles leaves of the requests.
-use Rattle.std.proofs.Common.{◌≡◌, ◌≢◌, ℕ, Bool, true, false, eqb, List, [], ◌∷◌, ◌++◌, length, slice_get, Option, Some, None, option_map, option_and_then, refl, sym, ap, ◌∙◌, subst, arith}
+use Rattle.std.proofs.Common.{◌≡◌, ◌≢◌, ℕ, Bool, List, length, slice_get, Some, None, option_map, option_and_then, ap, ◌∙◌, subst, arith}
 use Rattle.std.proofs.lemmas.Option.{slice_get_past}
 use Rattle.uv_ids.specs.declared.id.Id.{Id}
 use Rattle.uv_records.specs.declared.handle.HandleRecord.{HandleRecord}
@@ -12,15 +12,14 @@ use Rattle.uv_records.specs.Handles.{woken}
 use Rattle.uv_records.specs.Slots as plain
 use Rattle.uv_arena.specs.Image as arena
 use Rattle.uv_arena.specs.Image.{members, held, on_list, plain_slots}
-use Rattle.uv_arena.specs.Calls.{SameSlots, IsPushed, IsSet}
+use Rattle.uv_arena.specs.Calls.{SameSlots, IsPushed}
 use Rattle.uv_arena.proofs.Lookups.{without_none}
 use Rattle.uv_handle.specs.declared.undo.RecordUndo.{RecordUndo}
 use Rattle.uv_handle.specs.declared.undo.ListUndo.{ListUndo}
 use Rattle.uv_handle.specs.declared.undo.DelistUndo.{DelistUndo}
 use Rattle.uv_handle.specs.declared.undo.TakeUndo.{TakeUndo}
-use Rattle.uv_handle.specs.Counted.{Counted, counted, record_at}
+use Rattle.uv_handle.specs.Counted.{Counted, record_at}
 use Rattle.uv_handle.specs.Changes.{IsChanged, IsEnlisted, IsDelisted, IsTaken}
-use Rattle.uv_handle.proofs.Counts.{content_of}
 use Rattle.uv_timer.specs.declared.undo.CollectUndo.{CollectUndo}
 use Rattle.uv_timer.specs.Timed.{Timed}
 use Rattle.uv_timer.specs.Timers.{IsCollected}
@@ -63,7 +62,8 @@ yet_not watcher.Async o = o
 pub work_changed : (a b : Counted Content) (r : Running) (d : Id) (from to : HandleRecord) (u : RecordUndo) → Work a.arena r
     → record_at handle_in a.arena d ≡ Some from → IsChanged handle_in Handle a b d from to u → Work b.arena r
 work_changed a b r d from to u w there c =
-    beside a.arena b.arena r d w c.set.contents (λ e ne. c.set.kept e) (alone a.arena d from there) (alone b.arena d to c.handle) (λ l o. c.set.lists l)
+    beside a.arena b.arena r d w c.set.contents (λ e ne. c.set.kept e) (alone a.arena d from there) (alone b.arena d to c.handle)
+    (λ l o. c.set.lists l)
 
 pub work_delisted : (a b : Counted Content) (r : Running) (d : Id) (from to : HandleRecord) (leaves : Bool) (u : DelistUndo) → Work a.arena r
     → IsDelisted handle_in Handle a b d from to leaves u → Work b.arena r
@@ -75,13 +75,15 @@ work_delisted a b r d from to leaves u w c =
 pub work_pushed : (i j : arena.Image Content) (r : Running) (d : Id) (h : HandleRecord) (list : ListName) (now : List ℕ) → Work i r
     → record_at handle_in i d ≡ Some h → (OfRequests list → ⊥) → IsPushed i j list d now → Work j r
 work_pushed i j r d h list now w there bar p =
-    beside i j r d w (λ e ne. p.slots.contents e) p.kept (alone i d h there) (alone j d h (ap (option_and_then handle_in) (p.slots.contents d) ∙ there))
+    beside i j r d w (λ e ne. p.slots.contents e) p.kept (alone i d h there) (alone j d h (ap (option_and_then handle_in) (p.slots.contents d)
+    ∙ there))
     (λ l o. p.others l (other l list bar o))
 
 pub work_enlisted : (a b : Counted Content) (r : Running) (d : Id) (from to : HandleRecord) (list : ListName) (u : ListUndo) → Work a.arena r
     → (OfRequests list → ⊥) → IsEnlisted handle_in Handle a b d from to list u → Work b.arena r
 work_enlisted a b r d from to list u w bar c =
-    beside a.arena b.arena r d w c.contents c.kept (alone a.arena d from c.there) (alone b.arena d to c.handle) (λ l o. c.others l (other l list bar o))
+    beside a.arena b.arena r d w c.contents c.kept (alone a.arena d from c.there) (alone b.arena d to c.handle) (λ l o. c.others l
+    (other l list bar o))
 
 pub work_walked : (a b : Counted Content) (r : Running) (d : Id) (h : HandleRecord) (k : WatcherKind) (pending : Bool) (u : WalkUndo) → Work a.arena r
     → record_at handle_in a.arena d ≡ Some h → IsMovedOn handle_in Handle a b k d pending u → Work b.arena r

@@ -6,9 +6,7 @@ use Rattle.uv_ids.specs.declared.seen.Callback.{Callback}
 use Rattle.uv_ids.specs.declared.seen.Callback.TheVariants as callback
 use Rattle.uv_arena.specs.declared.links.Place.{Place}
 use Rattle.uv_handle.specs.declared.undo.RecordUndo.{RecordUndo}
-use Rattle.uv_handle.specs.declared.undo.AddUndo.{AddUndo}
-use Rattle.uv_handle.specs.declared.undo.DelistUndo.{DelistUndo}
-use Rattle.uv_handle.specs.Counted.{counted, add_undone, delist_undone}
+use Rattle.uv_handle.specs.Counted.{delist_undone}
 use Rattle.uv_heap.specs.declared.undo.RemoveUndo.{RemoveUndo}
 use Rattle.uv_timer.specs.declared.undo.SetUndo.{SetUndo}
 use Rattle.uv_timer.specs.declared.undo.TimerUndo.{TimerUndo}
@@ -30,8 +28,8 @@ use Rattle.uv_handle.specs.Counted.{alive_count}
 use Rattle.uv_requests.specs.Working.{working, idle_workers, IsWork}
 use Rattle.uv_step.specs.declared.content.Content.{Content}
 use Rattle.uv_step.specs.Content.{handle_in, request_in}
-use Rattle.uv_step.specs.Image.{Image, Held, counted_of, timed_of, with_counted, with_timed, standing}
-use Rattle.uv_step.specs.Parts.{Part, Stood, TakenOff, PutOn, unwind_parts, unwind, edit_parts, woken_parts, off_parts, put_parts, removed_parts, set_parts, off_list_parts, timer_parts, change_parts, naming_parts}
+use Rattle.uv_step.specs.Image.{Image, counted_of, timed_of, with_counted, with_timed, standing}
+use Rattle.uv_step.specs.Parts.{Part, Stood, TakenOff, PutOn, unwind_parts, unwind, edit_parts, woken_parts, off_parts, put_parts, removed_parts, set_parts, timer_parts, change_parts, naming_parts}
 use Rattle.uv_step.specs.Undo.{CanRename, CanUndo, CanUnwind, Recorded, Extended, off_if}
 use Rattle.uv_step.specs.Fit.{IsFit}
 use Rattle.uv_step.specs.Does.{changed}
@@ -76,7 +74,11 @@ module _ {P : Type 0} where
   put_back true x i = refl
 
   pub delist_back : (o : Option Place) (c : RecordUndo) (i : Image P)
-      → unwind_parts (off_parts o ++ edit_parts c) i ≡ with_counted (delist_undone handle_in Handle (record { unlinked = o; changed = c }) (counted_of i)) i
+      → unwind_parts (off_parts o ++ edit_parts c) i ≡ with_counted (delist_undone handle_in Handle (record {
+        unlinked = o;
+        changed =
+            c;
+      }) (counted_of i)) i
   delist_back None c i = refl
   delist_back (Some t) c i = refl
 
@@ -97,7 +99,8 @@ module _ {P : Type 0} where
 
   pub moved_back : (u : CollectUndo) (i : Image P)
       → unwind_parts (change_parts (change.Moved u)) i ≡ with_timed (collect_undone handle_in Handle u (timed_of i)) i
-  moved_back u i = let put : List (Part P) = PutOn u.pushed.slot ∷ [] in unwind_append (timer_parts u.timer) put i ∙ timer_back u.timer (unwind_parts put i)
+  moved_back u i = let put : List (Part P) = PutOn u.pushed.slot ∷ [] in unwind_append (timer_parts u.timer) put i
+      ∙ timer_back u.timer (unwind_parts put i)
 
   walk_cases : (t : Place) (x : ℕ) (w : Option RecordUndo) (i : Image P)
       → unwind_parts (TakenOff t ∷ PutOn x ∷ woken_parts w) i
@@ -180,7 +183,8 @@ module _ {P : Type 0} where
         room = refl;
       })
 
-  pub bound : (r s : Record P) (i : Image P) (room : ℕ) (v : Var) (id old : Option Id) (ns : List Named) → CanUnwind room r i → IsFit i → r.naming ≡ naming.Same
+  pub bound : (r s : Record P) (i : Image P) (room : ℕ) (v : Var) (id old : Option Id) (ns : List Named) → CanUnwind room r i → IsFit i
+      → r.naming ≡ naming.Same
       → v.0 < length i.names → ns ≡ binding v.0 id i.names → old ≡ (named i.names v.0).id
       → s ≡ record { place = r.place; naming = naming.Bound v old; change = r.change }
       → Extended r s (record { image = i; room = room }) (record { image = record i { names = ns }; room = room })
@@ -195,7 +199,8 @@ module _ {P : Type 0} where
       (omega (arith, within, length_set i.names v.0 new))
       (ap (λ q. record (standing r.place i) { names = q }) (names_back i.names v.0 new old e)))
 
-  pub called : (r s : Record P) (i : Image P) (room : ℕ) (v : Var) (which : Callback) (n o : ℕ) (ns : List Named) → CanUnwind room r i → IsFit i → r.naming ≡ naming.Same
+  pub called : (r s : Record P) (i : Image P) (room : ℕ) (v : Var) (which : Callback) (n o : ℕ) (ns : List Named) → CanUnwind room r i
+      → IsFit i → r.naming ≡ naming.Same
       → v.0 < length i.names
       → ns ≡ calling v.0 which n i.names → o ≡ count_of which (named i.names v.0).calls
       → s ≡ record { place = r.place; naming = naming.Called v which o; change = r.change }
@@ -214,7 +219,8 @@ module _ {P : Type 0} where
       (ap (λ q. record (standing r.place i) { names = q }) (names_back i.names v.0 new (back (named (set i.names v.0 new) v.0)) e)))
 
   -- a loop that was never run
-  pub fresh_fit : (i : Image P) (slots last workers : ℕ) → i.arena ≡ arena.fresh_image Content slots last → i.running ≡ idle_workers workers → i.active ≡ 0
+  pub fresh_fit : (i : Image P) (slots last workers : ℕ) → i.arena ≡ arena.fresh_image Content slots last → i.running ≡ idle_workers workers
+      → i.active ≡ 0
       → IsWork request_in (working (arena.fresh_image Content slots last) (idle_workers workers)) → IsFit i
   fresh_fit i slots last workers a r n work = record {
     counts = n ∙ ap (alive_count handle_in) (sym a);

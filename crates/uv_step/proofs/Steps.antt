@@ -1,5 +1,5 @@
 -- Each step leaves a record that gives back the very image from before it.
-use Rattle.std.proofs.Common.{◌≡◌, ◌≢◌, ℕ, Bool, true, false, List, [], ◌∷◌, ◌++◌, Option, Some, None, option_and_then, refl, sym, ap, ◌∙◌, subst}
+use Rattle.std.proofs.Common.{◌≡◌, ℕ, Bool, true, false, List, Option, Some, refl, sym, ap, ◌∙◌, subst}
 use Rattle.uv_ids.specs.declared.id.Id.{Id}
 use Rattle.uv_ids.specs.declared.id.Var.{Var}
 use Rattle.uv_ids.specs.declared.code.Code.{Code}
@@ -9,7 +9,7 @@ use Rattle.uv_records.specs.declared.lists.ListName.{ListName}
 use Rattle.uv_records.specs.declared.lists.ListName.TheVariants as name
 use Rattle.uv_records.specs.declared.lists.WatcherKind.{WatcherKind}
 use Rattle.uv_records.specs.Lists.{list_of, yet_of}
-use Rattle.uv_records.specs.Handles.{inited, closed, activated, stopped}
+use Rattle.uv_records.specs.Handles.{inited}
 use Rattle.uv_arena.specs.Image as arena
 use Rattle.uv_arena.specs.Image.{members, IsSound}
 use Rattle.uv_arena.specs.Undo.{push_undone, splice_undone, CanUndoPush, CanUndoSplice}
@@ -20,14 +20,14 @@ use Rattle.uv_handle.specs.declared.undo.ListUndo.{ListUndo}
 use Rattle.uv_handle.specs.declared.undo.DelistUndo.{DelistUndo}
 use Rattle.uv_handle.specs.declared.undo.TakeUndo.{TakeUndo}
 use Rattle.uv_arena.specs.declared.undo.SpliceUndo.{SpliceUndo}
-use Rattle.uv_handle.specs.Counted.{Counted, counted, record_at, alive_count, add_undone, CanUndoAdd}
+use Rattle.uv_handle.specs.Counted.{counted, record_at, alive_count, add_undone, CanUndoAdd}
 use Rattle.uv_handle.specs.Changes.{IsTaken, IsAdded, IsChanged, IsEnlisted, IsDelisted, Did}
 use Rattle.uv_heap.specs.Array.{Heap}
 use Rattle.uv_timer.specs.declared.change.Times.{Times}
 use Rattle.uv_timer.specs.declared.change.Change as timer
 use Rattle.uv_timer.specs.declared.undo.TimerUndo.{TimerUndo}
 use Rattle.uv_timer.specs.declared.undo.CollectUndo.{CollectUndo}
-use Rattle.uv_timer.specs.Timed.{Timed, timed, with_arena, timer_undone, CanUndoTimer}
+use Rattle.uv_timer.specs.Timed.{timed, timer_undone, CanUndoTimer}
 use Rattle.uv_timer.specs.Timers.{IsRescheduled, IsStarted, IsStopped, IsStartedAgain, IsFired, IsCollected}
 use Rattle.uv_requests.specs.Working.{Running, working, id_in, IsWork}
 use Rattle.uv_requests.proofs.Beside.{kept_by_insert}
@@ -86,7 +86,8 @@ module _ {P : Type 0} where
       → r ≡ changed i.place (change.Edited u) → Recorded r (at i room) (at (record i { arena = k; active = m }) room)
   did i k m room r d why row u fit h is = edited i k m room r d h.from (row h.from) u fit h.there h.changed is
 
-  pub enlisted : (i : Image P) (k : arena.Image Content) (m room : ℕ) (r : Record P) (d : Id) (from to : HandleRecord) (list : ListName) (u : ListUndo)
+  pub enlisted : (i : Image P) (k : arena.Image Content) (m room : ℕ) (r : Record P) (d : Id) (from to : HandleRecord) (list : ListName)
+      (u : ListUndo)
       → IsFit i → (OfRequests list → ⊥) → IsEnlisted handle_in Handle (counted i.arena i.active) (counted k m) d from to list u
       → r ≡ changed i.place (change.Enlisted u) → Recorded r (at i room) (at (record i { arena = k; active = m }) room)
   enlisted i k m room r d from to list u fit bar c is =
@@ -101,7 +102,8 @@ module _ {P : Type 0} where
       let h = subst (λ q. watch.Starts handle_in Handle (counted i.arena i.active) (counted k m) d q) e s in
       enlisted i k m room r d _ _ _ u fit (list_not h.kind) h.enlisted is
 
-  pub delisted : (i : Image P) (k : arena.Image Content) (m room : ℕ) (r : Record P) (d : Id) (from to : HandleRecord) (leaves : Bool) (u : DelistUndo)
+  pub delisted : (i : Image P) (k : arena.Image Content) (m room : ℕ) (r : Record P) (d : Id) (from to : HandleRecord) (leaves : Bool)
+      (u : DelistUndo)
       → IsFit i → IsDelisted handle_in Handle (counted i.arena i.active) (counted k m) d from to leaves u
       → r ≡ changed i.place (change.Delisted u) → Recorded r (at i room) (at (record i { arena = k; active = m }) room)
   delisted i k m room r d from to leaves u fit c is =
@@ -111,16 +113,22 @@ module _ {P : Type 0} where
 
   -- a handle as it is made, off all lists
   pub added : (i : Image P) (k : arena.Image Content) (m room : ℕ) (r : Record P) (d : Id) (v : Var) (kind : Kind) (u : AddUndo) → IsFit i
-      → IsAdded handle_in Handle (counted i.arena i.active) (counted k m) v kind d u → r ≡ changed i.place (change.Added (record { added = u; listed = false }))
+      → IsAdded handle_in Handle (counted i.arena i.active) (counted k m) v kind d u
+      → r ≡ changed i.place (change.Added (record { added = u; listed = false }))
       → Recorded r (at i room) (at (record i { arena = k; active = m }) room)
   added i k m room r d v kind u fit c is =
       let j = record i { arena = k; active = m } in
       recorded (change.Added (record { added = u; listed = false })) r i j room room refl is (ap (λ q. with_counted q j) c.undone)
       (record { pushed = tt; added = c.can_undo }) fit
-      (record { counts = c.counts; work = kept_by_insert request_in i.arena k d i.running fit.work (Handle (inited v kind)) u.inserted refl c.inserted }) refl
+      (record {
+        counts = c.counts;
+        work = kept_by_insert request_in i.arena k d i.running fit.work (Handle
+            (inited v kind)) u.inserted refl c.inserted;
+      }) refl
 
   -- and one at the end of its list
-  pub joined : (i : Image P) (k l : arena.Image Content) (m room : ℕ) (r : Record P) (d : Id) (v : Var) (kind : Kind) (u : AddUndo) (now : List ℕ) → IsFit i
+  pub joined : (i : Image P) (k l : arena.Image Content) (m room : ℕ) (r : Record P) (d : Id) (v : Var) (kind : Kind) (u : AddUndo)
+      (now : List ℕ) → IsFit i
       → IsAdded handle_in Handle (counted i.arena i.active) (counted k m) v kind d u → IsPushed k l name.Async d now
       → r ≡ changed i.place (change.Added (record { added = u; listed = true }))
       → Recorded r (at i room) (at (record i { arena = l; active = m }) room)
@@ -141,7 +149,8 @@ module _ {P : Type 0} where
 
   -- ---- timers
 
-  pub rescheduled : (i : Image P) (k : arena.Image Content) (m room : ℕ) (h : Heap) (t : Times) (r : Record P) (d : Id) (c : timer.Change) (u : TimerUndo)
+  pub rescheduled : (i : Image P) (k : arena.Image Content) (m room : ℕ) (h : Heap) (t : Times) (r : Record P) (d : Id) (c : timer.Change)
+      (u : TimerUndo)
       → IsFit i → h.room ≡ room → IsRescheduled handle_in Handle h.room (timed_of i) (timed k m h t) d c u
       → r ≡ changed i.place (change.Timer u)
       → Recorded r (at i room) (at (record i { arena = k; active = m; heap = h.array; times = t }) h.room)
@@ -153,7 +162,8 @@ module _ {P : Type 0} where
         work = work_delisted (counted_of i) (counted k m) i.running d c.from c.to c.leaves u.delisted fit.work s.handles;
       }) refl
 
-  pub started : (i : Image P) (k : arena.Image Content) (m room : ℕ) (h : Heap) (t : Times) (r : Record P) (d : Id) (timeout repeat : ℕ) (u : TimerUndo)
+  pub started : (i : Image P) (k : arena.Image Content) (m room : ℕ) (h : Heap) (t : Times) (r : Record P) (d : Id) (timeout repeat : ℕ)
+      (u : TimerUndo)
       → IsFit i → h.room ≡ room → IsStarted handle_in Handle h.room (timed_of i) (timed k m h t) d timeout repeat u
       → r ≡ changed i.place (change.Timer u)
       → Recorded r (at i room) (at (record i { arena = k; active = m; heap = h.array; times = t }) h.room)
@@ -187,7 +197,8 @@ module _ {P : Type 0} where
       (record { counts = s.counts; work = work_collected h.room (timed_of i) (timed k m h t) i.running d u fit.work s }) refl
 
   -- a handle is off its list and the heap, and at the front of the closing list
-  pub shut : (i : Image P) (k l : arena.Image Content) (m room : ℕ) (h : Heap) (t : Times) (r : Record P) (d : Id) (c : timer.Change) (now : List ℕ) (u : CollectUndo)
+  pub shut : (i : Image P) (k l : arena.Image Content) (m room : ℕ) (h : Heap) (t : Times) (r : Record P) (d : Id) (c : timer.Change)
+      (now : List ℕ) (u : CollectUndo)
       → IsFit i → h.room ≡ room → IsRescheduled handle_in Handle h.room (timed_of i) (timed k m h t) d c u.timer → IsPushed k l name.Closing d now
       → u.pushed.slot ≡ d.slot → r ≡ changed i.place (change.Moved u)
       → Recorded r (at i room) (at (record i { arena = l; active = m; heap = h.array; times = t }) h.room)
@@ -203,7 +214,8 @@ module _ {P : Type 0} where
       (record {
         counts = s.handles.counts ∙ sym (count_moved k l p.slots);
         work = work_pushed k l i.running d c.to name.Closing now
-            (work_delisted (counted_of i) (counted k m) i.running d c.from c.to c.leaves u.timer.delisted fit.work s.handles) s.handles.handle (λ o. o) p;
+            (work_delisted (counted_of i) (counted k m) i.running d c.from c.to c.leaves u.timer.delisted fit.work s.handles) s.handles.handle
+            (λ o. o) p;
       }) refl
 
   -- ---- watchers and sections
@@ -211,7 +223,8 @@ module _ {P : Type 0} where
   pub nothing : (i : Image P) (room : ℕ) (r : Record P) → IsFit i → r ≡ changed i.place change.Nothing → Recorded r (at i room) (at i room)
   nothing i room r fit is = recorded change.Nothing r i i room room refl is refl tt fit fit refl
 
-  pub walked : (i : Image P) (k : arena.Image Content) (m room : ℕ) (r : Record P) (d e : Id) (h : HandleRecord) (w : WatcherKind) (pending : Bool) (u : WalkUndo)
+  pub walked : (i : Image P) (k : arena.Image Content) (m room : ℕ) (r : Record P) (d e : Id) (h : HandleRecord) (w : WatcherKind)
+      (pending : Bool) (u : WalkUndo)
       → IsFit i → FirstIs i.arena (yet_of w) e h → IsMovedOn handle_in Handle (counted i.arena i.active) (counted k m) w d pending u
       → r ≡ changed i.place (change.Walked u) → Recorded r (at i room) (at (record i { arena = k; active = m }) room)
   walked i k m room r d e h w pending u fit f c is =
@@ -238,10 +251,12 @@ module _ {P : Type 0} where
       recorded (change.Begun u) r i j room room refl is (ap (λ q. record i { arena = q }) back) can fit
       (record { counts = fit.counts ∙ sym (count_moved i.arena k same); work = work }) refl
 
-  pub begun : (i : Image P) (k : arena.Image Content) (room : ℕ) (r : Record P) (w : WatcherKind) (u : SpliceUndo) → IsFit i → watch.IsBegun i.arena k w u
+  pub begun : (i : Image P) (k : arena.Image Content) (room : ℕ) (r : Record P) (w : WatcherKind) (u : SpliceUndo) → IsFit i
+      → watch.IsBegun i.arena k w u
       → r ≡ changed i.place (change.Begun u) → Recorded r (at i room) (at (record i { arena = k }) room)
   begun i k room r w u fit c is =
-      spliced i k room r u fit (work_spliced i.arena k i.running fit.work c.slots c.kept (λ l o. c.others l (other l (list_of w) (list_not w) o) (other l (yet_of w) (yet_not w) o)))
+      spliced i k room r u fit (work_spliced i.arena k i.running fit.work c.slots c.kept (λ l o. c.others l (other l (list_of w) (list_not w) o)
+      (other l (yet_of w) (yet_not w) o)))
       c.slots c.undone c.can_undo is
 
   pub begun_closing : (i : Image P) (k : arena.Image Content) (room : ℕ) (r : Record P) (u : SpliceUndo) → IsFit i
@@ -270,14 +285,17 @@ module _ {P : Type 0} where
       recorded (change.Taken u) r i j room room refl is (ap (λ z. with_working z j) c.undone) c.can_undo fit
       (record { counts = fit.counts ∙ sym (count_moved i.arena k c.slots); work = c.work }) refl
 
-  pub finished : (i : Image P) (k : arena.Image Content) (q : Running) (room : ℕ) (r : Record P) (worker : ℕ) (d : Id) (asked : Work) (digest : List ℕ) (u : FinishUndo)
-      → IsFit i → IsFinished request_in Asked (working i.arena i.running) (working k q) worker d asked digest u → r ≡ changed i.place (change.Finished u)
+  pub finished : (i : Image P) (k : arena.Image Content) (q : Running) (room : ℕ) (r : Record P) (worker : ℕ) (d : Id) (asked : Work)
+      (digest : List ℕ) (u : FinishUndo)
+      → IsFit i → IsFinished request_in Asked (working i.arena i.running) (working k q) worker d asked digest u
+      → r ≡ changed i.place (change.Finished u)
       → Recorded r (at i room) (at (record i { arena = k; running = q }) room)
   finished i k q room r worker d asked digest u fit c is =
       let j = record i { arena = k; running = q } in
       recorded (change.Finished u) r i j room room refl is (ap (λ z. with_working z j) c.undone) c.can_undo fit
       (record {
-        counts = fit.counts ∙ ap (λ z. alive_count handle_in z.arena) (sym c.undone) ∙ count_reopened u.id (push_undone u.id.slot k) ∙ count_pushed u.id.slot k;
+        counts = fit.counts ∙ ap (λ z. alive_count handle_in z.arena) (sym c.undone) ∙ count_reopened u.id (push_undone u.id.slot k)
+            ∙ count_pushed u.id.slot k;
         work = c.work;
       }) refl
 
@@ -294,7 +312,8 @@ module _ {P : Type 0} where
         work = c.work;
       }) refl
 
-  pub ended : (i : Image P) (k : arena.Image Content) (q : Running) (room : ℕ) (r : Record P) (d : Id) (asked : Request) (u : collecting.CollectUndo Content) → IsFit i
+  pub ended : (i : Image P) (k : arena.Image Content) (q : Running) (room : ℕ) (r : Record P) (d : Id) (asked : Request)
+      (u : collecting.CollectUndo Content) → IsFit i
       → requests.IsCollected request_in (working i.arena i.running) (working k q) d asked u → r ≡ changed i.place (change.Ended u)
       → Recorded r (at i room) (at (record i { arena = k; running = q }) room)
   ended i k q room r d asked u fit c is =

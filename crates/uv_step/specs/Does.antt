@@ -1,5 +1,5 @@
 -- What a step of the memory did, beside its record.
-use Rattle.std.specs.Prelude.{◌≡◌, ℕ, ◌∷◌, [], ◌++◌, ◌⊎◌, Bool, true, false, Option, Some, None}
+use Rattle.std.specs.Prelude.{◌≡◌, ℕ, ◌∷◌, [], ◌++◌, ◌⊎◌, Bool, true, false, Some, None}
 use Rattle.uv_ids.specs.declared.id.Id.{Id}
 use Rattle.uv_ids.specs.declared.id.Var.{Var}
 use Rattle.uv_ids.specs.declared.phase.Kind.{Kind}
@@ -13,7 +13,6 @@ use Rattle.uv_arena.specs.Image as arena
 use Rattle.uv_arena.specs.Calls.{IsPushed, IsFirst}
 use Rattle.uv_handle.specs.Counted.{Counted, record_at}
 use Rattle.uv_handle.specs.Changes.{IsAdded}
-use Rattle.uv_timer.specs.declared.change.Change as timer
 use Rattle.uv_timer.specs.declared.undo.CollectUndo.{CollectUndo}
 use Rattle.uv_timer.specs.Changes.{becoming}
 use Rattle.uv_timer.specs.Timed.{Timed, with_arena}
@@ -27,7 +26,6 @@ use Rattle.uv_step.specs.declared.record.Change.TheVariants as change
 use Rattle.uv_step.specs.declared.record.Naming.TheVariants.{Same as unnamed}
 use Rattle.uv_step.specs.declared.record.Record.{Record}
 use Rattle.uv_step.specs.Content.{handle_in}
-use Rattle.uv_step.specs.Image.{Image}
 
 -- the record of a change alone
 abbrev pub changed : {P : Type 0} → P → Change → Record P

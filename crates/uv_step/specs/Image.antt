@@ -1,5 +1,5 @@
 -- The memory of a loop, as it lies there: all that a step may change.
-use Rattle.std.specs.Prelude.{ℕ, List, [], Bool, false, Option, Some, None, replicate}
+use Rattle.std.specs.Prelude.{ℕ, List, [], Bool, false, replicate}
 use Rattle.uv_handle.specs.Counted.{Counted, counted}
 use Rattle.uv_heap.specs.declared.entry.Entry.{Entry}
 use Rattle.uv_timer.specs.declared.change.Times.{Times}

@@ -1,7 +1,7 @@
 -- When a record may be unwound, and what each step of the memory leaves for that.
 use Rattle.std.specs.Prelude.{◌≡◌, ℕ, ◌<◌, Bool, true, false, length}
 use Rattle.uv_arena.specs.Undo.{push_undone, CanUndoPush, CanUndoSplice}
-use Rattle.uv_handle.specs.Counted.{counted, CanUndoRecord, CanUndoAdd, CanUndoEnlist, CanUndoDelist, CanUndoTake}
+use Rattle.uv_handle.specs.Counted.{CanUndoRecord, CanUndoAdd, CanUndoEnlist, CanUndoDelist, CanUndoTake}
 use Rattle.uv_timer.specs.Timed.{CanUndoTimer, CanUndoCollect}
 use Rattle.uv_watch.specs.Undo.{CanUndoWalk}
 use Rattle.uv_requests.specs.Undo as work
@@ -73,10 +73,6 @@ module _ {P : Type 0} where
     pub fit : IsFit new.image
     pub place : new.image.place ≡ old.image.place
     pub room : new.room ≡ old.room
-
-  -- a step was refused, and nothing changed
-  abbrev pub Same : Held P → Held P → Type 0
-  Same old new = new ≡ old
 
   -- a step did this besides, and its record grew with it: it gives back the same
   pub record Extended (r s : Record P) (old new : Held P) : Type 0 where

@@ -119,8 +119,8 @@ impl<P: Copy> Memory<P> {
         match self.requests.collect(&mut self.slots) {
             None => None,
             Some(ended) => {
-                let record1 = self.record(Change::Ended(ended.2));
-                Some((ended.0, ended.1, record1))
+                let step_record = self.record(Change::Ended(ended.2));
+                Some((ended.0, ended.1, step_record))
             }
         }
     }

@@ -18,15 +18,15 @@ use uv_watch::{WalkUndo, undo_take};
 
 impl<P: Copy> Memory<P> {
     /// Gives back the very memory from before the step of this record.
-    pub fn unwind(&mut self, record1: Record<P>)
-        requires { CanUnwind (held self.old).room record1 (held self.old).image }
-        ensures image { (held self.new).image ≡ unwind record1 (held self.old).image }
+    pub fn unwind(&mut self, step_record: Record<P>)
+        requires { CanUnwind (held self.old).room step_record (held self.old).image }
+        ensures image { (held self.new).image ≡ unwind step_record (held self.old).image }
         ensures fit { IsFit (held self.new).image }
         ensures room { (held self.new).room ≡ (held self.old).room }
     {
-        self.place = record1.place;
-        self.unname(record1.naming);
-        self.undo(record1.change);
+        self.place = step_record.place;
+        self.unname(step_record.naming);
+        self.undo(step_record.change);
     }
 
     /// What became of a name is undone.

@@ -66,24 +66,24 @@ impl<P: Copy> Memory<P> {
     }
 
     /// The loop stands here after the step of this record.
-    pub fn stand_at(&mut self, place: P, record1: Record<P>)
-        requires can { CanUnwind (held self.old).room record1 (held self.old).image }
+    pub fn stand_at(&mut self, place: P, step_record: Record<P>)
+        requires can { CanUnwind (held self.old).room step_record (held self.old).image }
         requires fit { IsFit (held self.old).image }
         ensures place { (held self.new).image ≡ standing place (held self.old).image }
-        ensures extended { Extended record1 record1 (held self.old) (held self.new) }
+        ensures extended { Extended step_record step_record (held self.old) (held self.new) }
     {
-        let _ = record1;
+        let _ = step_record;
         self.place = place;
     }
 
     /// The step of this record binds a name to this as well.
-    pub fn bind(&mut self, record1: Record<P>, name: Var, id: Option<Id>) -> Record<P>
-        requires can { CanUnwind (held self.old).room record1 (held self.old).image }
+    pub fn bind(&mut self, step_record: Record<P>, name: Var, id: Option<Id>) -> Record<P>
+        requires can { CanUnwind (held self.old).room step_record (held self.old).image }
         requires fit { IsFit (held self.old).image }
-        requires unnamed { record1.naming ≡ same }
+        requires unnamed { step_record.naming ≡ same }
         requires name { name.0 < length (held self.old).image.names }
         ensures names { (held self.new).image.names ≡ binding name.0 id (held self.old).image.names }
-        ensures extended { Extended record1 result (held self.old) (held self.new) }
+        ensures extended { Extended step_record result (held self.old) (held self.new) }
     {
         let named = self.names[name.0 as usize];
         self.names[name.0 as usize] = Named {
@@ -91,22 +91,22 @@ impl<P: Copy> Memory<P> {
             calls: named.calls,
         };
         Record {
-            place: record1.place,
+            place: step_record.place,
             naming: Naming::Bound(name, named.id),
-            change: record1.change,
+            change: step_record.change,
         }
     }
 
     /// The step of this record calls a callback of a name as well.
-    pub fn count_call(&mut self, record1: Record<P>, name: Var, callback: Callback) -> Record<P>
-        requires can { CanUnwind (held self.old).room record1 (held self.old).image }
+    pub fn count_call(&mut self, step_record: Record<P>, name: Var, callback: Callback) -> Record<P>
+        requires can { CanUnwind (held self.old).room step_record (held self.old).image }
         requires fit { IsFit (held self.old).image }
-        requires unnamed { record1.naming ≡ same }
+        requires unnamed { step_record.naming ≡ same }
         requires name { name.0 < length (held self.old).image.names }
         requires few { count_of callback (named (held self.old).image.names name.0).calls < 2 ^ 32 - 1 }
         ensures names { (held self.new).image.names
             ≡ calling name.0 callback (count_of callback (named (held self.old).image.names name.0).calls + 1) (held self.old).image.names }
-        ensures extended { Extended record1 result (held self.old) (held self.new) }
+        ensures extended { Extended step_record result (held self.old) (held self.new) }
     {
         let named = self.names[name.0 as usize];
         let count = named.calls.of(callback);
@@ -115,9 +115,9 @@ impl<P: Copy> Memory<P> {
             calls: named.calls.with(callback, count + 1),
         };
         Record {
-            place: record1.place,
+            place: step_record.place,
             naming: Naming::Called(name, callback, count),
-            change: record1.change,
+            change: step_record.change,
         }
     }
 }

@@ -57,8 +57,8 @@ impl<P: Copy> Trail<P> {
         }
         match self.memory.step(step, self.slots) {
             None => Ok(false),
-            Some(record1) => {
-                self.records.push_reserved(record1);
+            Some(step_record) => {
+                self.records.push_reserved(step_record);
                 Ok(true)
             }
         }
@@ -70,10 +70,10 @@ impl<P: Copy> Trail<P> {
         ensures some { result ≡ true → DropsOne self.old self.new }
         ensures beginning { beginning self.new ≡ beginning self.old }
     {
-        let Some(record1) = self.records.pop() else {
+        let Some(step_record) = self.records.pop() else {
             return false;
         };
-        self.memory.unwind(record1);
+        self.memory.unwind(step_record);
         true
     }
 

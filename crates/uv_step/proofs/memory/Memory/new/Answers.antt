@@ -1,4 +1,3 @@
-use Rattle.uv_step.specs.Image.{image_of}
 use Rattle.uv_step.proofs.Rows.{fresh_fit}
 use Rattle.uv_step.proofs.memory.Memory.new.Goals as goal
 
