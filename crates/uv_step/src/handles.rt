@@ -28,7 +28,8 @@ impl<P: Copy> Memory<P> {
     pub fn init(&mut self, name: Var, kind: Kind) -> Result<(Id, Record<P>), Full>
         requires fit { IsFit (held self.old).image }
         ensures recorded { IfOk result (λ r. Recorded r.1 (held self.old) (held self.new)) }
-        ensures made { IfOk result (λ r. By added (λ u. IsMade (counted_of (held self.old).image) (counted_of (held self.new).image) name kind r.0 u) r.1.change) }
+        ensures made { IfOk result (λ r. By added (λ u. IsMade
+            (counted_of (held self.old).image) (counted_of (held self.new).image) name kind r.0 u) r.1.change) }
         ensures full { IfErr result (λ _. (next_free (plain_slots (held self.old).image.arena) ≡ None) × (held self.new ≡ held self.old)) }
     {
         match self.handles.add(&mut self.slots, name, kind) {

@@ -1,5 +1,5 @@
 //! The memory of a loop.
-ghost use Rattle.std.specs.Prelude.{◌≡◌, ◌<◌, ◌≤◌, IfOk, OnOk};
+ghost use Rattle.std.specs.Prelude.{◌≡◌, ◌<◌, ◌≤◌, IfOk, OnOk, OnErr};
 ghost use Rattle.uv_step.specs.Image.{held, fresh};
 ghost use Rattle.uv_step.specs.Fit.{IsFit};
 ghost use Rattle.uv_step.specs.Does.{changed};
@@ -73,6 +73,7 @@ impl<P: Copy> Memory<P> {
         ensures image { (held self.new).image ≡ (held self.old).image }
         ensures ok { OnOk result (slot < (held self.new).room) }
         ensures kept { (held self.old).room ≤ (held self.new).room }
+        ensures wanted { OnErr result ((held self.old).room ≤ slot) }
     {
         match self.heap.reserve(slot) {
             Ok(()) => Ok(()),

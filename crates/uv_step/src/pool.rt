@@ -99,7 +99,8 @@ impl<P: Copy> Memory<P> {
         requires empty { members (held self.old).image.arena DoneYet ≡ [] }
         ensures recorded { Recorded result (held self.old) (held self.new) }
         ensures time { (held self.new).image.times.time ≡ (held self.old).image.clock }
-        ensures does { By polled (λ u. IsBegun request_in (working_of (held self.old).image) (working_of (held self.new).image) u.spliced) result.change }
+        ensures does { By polled (λ u. IsBegun request_in
+            (working_of (held self.old).image) (working_of (held self.new).image) u.spliced) result.change }
     {
         let spliced = self.requests.begin(&mut self.slots);
         let time = self.times.time;

@@ -7,7 +7,8 @@ use Rattle.uv_step.proofs.tests.trail.Trail.back.Goals as goal
 
 pub unwind-requires : goal.unwind-requires
 unwind-requires g c =
-    (trail_popped c.self.inside.slots c.pop.new.self.items _ c.in-Some.step_record (held c.self.inside.memory) c.self.invariant c.in-Some.ensures.items).0
+    (trail_popped c.self.inside.slots c.pop.new.self.items _ c.in-Some.step_record
+    (held c.self.inside.memory) c.self.invariant c.in-Some.ensures.items).0
 
 pub invariant_of-self-2 : goal.invariant_of-self-2
 invariant_of-self-2 g c =
