@@ -1,0 +1,7 @@
+pub mod Contents
+pub mod Alone
+pub mod Counting
+pub mod Fits
+pub mod Rows
+pub mod Steps
+pub mod Trails

@@ -1,0 +1,338 @@
+-- Each step leaves a record that gives back the very image from before it.
+use Rattle.std.proofs.Common.{◌≡◌, ℕ, Bool, true, false, List, Option, Some, refl, sym, ap, ◌∙◌, subst}
+use Rattle.uv_ids.specs.declared.id.Id.{Id}
+use Rattle.uv_ids.specs.declared.id.Var.{Var}
+use Rattle.uv_ids.specs.declared.code.Code.{Code}
+use Rattle.uv_ids.specs.declared.phase.Kind.{Kind}
+use Rattle.uv_records.specs.declared.handle.HandleRecord.{HandleRecord}
+use Rattle.uv_records.specs.declared.lists.ListName.{ListName}
+use Rattle.uv_records.specs.declared.lists.ListName.TheVariants as name
+use Rattle.uv_records.specs.declared.lists.WatcherKind.{WatcherKind}
+use Rattle.uv_records.specs.Lists.{list_of, yet_of}
+use Rattle.uv_records.specs.Handles.{inited}
+use Rattle.uv_arena.specs.Image as arena
+use Rattle.uv_arena.specs.Image.{members, IsSound}
+use Rattle.uv_arena.specs.Undo.{push_undone, splice_undone, CanUndoPush, CanUndoSplice}
+use Rattle.uv_arena.specs.Calls.{IsPushed, IsFirst, IsSpliced, SameSlots}
+use Rattle.uv_handle.specs.declared.undo.RecordUndo.{RecordUndo}
+use Rattle.uv_handle.specs.declared.undo.AddUndo.{AddUndo}
+use Rattle.uv_handle.specs.declared.undo.ListUndo.{ListUndo}
+use Rattle.uv_handle.specs.declared.undo.DelistUndo.{DelistUndo}
+use Rattle.uv_handle.specs.declared.undo.TakeUndo.{TakeUndo}
+use Rattle.uv_arena.specs.declared.undo.SpliceUndo.{SpliceUndo}
+use Rattle.uv_handle.specs.Counted.{counted, record_at, alive_count, add_undone, CanUndoAdd}
+use Rattle.uv_handle.specs.Changes.{IsTaken, IsAdded, IsChanged, IsEnlisted, IsDelisted, Did}
+use Rattle.uv_heap.specs.Array.{Heap}
+use Rattle.uv_timer.specs.declared.change.Times.{Times}
+use Rattle.uv_timer.specs.declared.change.Change as timer
+use Rattle.uv_timer.specs.declared.undo.TimerUndo.{TimerUndo}
+use Rattle.uv_timer.specs.declared.undo.CollectUndo.{CollectUndo}
+use Rattle.uv_timer.specs.Timed.{timed, timer_undone, CanUndoTimer}
+use Rattle.uv_timer.specs.Timers.{IsRescheduled, IsStarted, IsStopped, IsStartedAgain, IsFired, IsCollected}
+use Rattle.uv_requests.specs.Working.{Running, working, id_in, IsWork}
+use Rattle.uv_requests.proofs.Beside.{kept_by_insert}
+use Rattle.uv_requests.specs.declared.undo.QueueUndo.{QueueUndo}
+use Rattle.uv_requests.specs.declared.undo.TakeUndo as taking
+use Rattle.uv_requests.specs.declared.undo.CollectUndo as collecting
+use Rattle.uv_requests.specs.declared.undo.FinishUndo.{FinishUndo}
+use Rattle.uv_requests.specs.declared.undo.CancelUndo.{CancelUndo}
+use Rattle.uv_requests.specs.Undo.{reopened_in}
+use Rattle.uv_requests.specs.Calls as requests
+use Rattle.uv_requests.specs.Calls.{IsQueued, IsFinished, IsCancelled}
+use Rattle.uv_requests.proofs.Holding.{listed_id}
+use Rattle.uv_work.specs.Requests.{Request}
+use Rattle.uv_work.specs.Work.{Work}
+use Rattle.uv_watch.specs.declared.undo.WalkUndo.{WalkUndo}
+use Rattle.uv_watch.specs.Watch as watch
+use Rattle.uv_watch.specs.Watch.{IsMovedOn}
+use Rattle.uv_step.specs.declared.content.Content.{Content}
+use Rattle.uv_step.specs.declared.content.Content.TheVariants.{Handle, Request as Asked}
+use Rattle.uv_step.specs.declared.record.Change.TheVariants as change
+use Rattle.uv_step.specs.declared.record.Record.{Record}
+use Rattle.uv_step.specs.Content.{handle_in, request_in}
+use Rattle.uv_step.specs.Image.{Image, Held, counted_of, timed_of, with_counted, with_timed, with_working}
+use Rattle.uv_step.specs.Undo.{Recorded}
+use Rattle.uv_step.specs.Fit.{IsFit}
+use Rattle.uv_step.specs.Does.{changed, FirstIs}
+use Rattle.uv_step.proofs.Rows.{recorded, delist_back, timer_back, moved_back, walk_back}
+use Rattle.uv_step.proofs.Alone.{OfRequests}
+use Rattle.uv_step.proofs.Counting.{count_moved, count_pushed, count_unlinked, count_reopened, count_queued, count_freed}
+use Rattle.uv_step.proofs.Fits.{work_changed, work_delisted, work_pushed, work_enlisted, work_collected, work_walked, work_freed, work_spliced, other, list_not, yet_not}
+
+-- two firsts of one list are one
+first_there : (i : arena.Image Content) (l : ListName) (d e : Id) (h : HandleRecord) → FirstIs i l e h → IsFirst i l d
+    → record_at handle_in i d ≡ Some h
+first_there i l d e h f g =
+    let slot : d.slot ≡ e.slot = cc (f.first.is, g.is) in
+    let one : d ≡ e = sym (listed_id i d g.listed.held) ∙ ap (id_in i) slot ∙ listed_id i e f.first.listed.held in
+    ap (record_at handle_in i) one ∙ f.handle
+
+module _ {P : Type 0} where
+  abbrev at : Image P → ℕ → Held P
+  at i room = record { image = i; room = room }
+
+  -- ---- handles
+
+  pub edited : (i : Image P) (k : arena.Image Content) (m room : ℕ) (r : Record P) (d : Id) (from to : HandleRecord) (u : RecordUndo) → IsFit i
+      → record_at handle_in i.arena d ≡ Some from → IsChanged handle_in Handle (counted i.arena i.active) (counted k m) d from to u
+      → r ≡ changed i.place (change.Edited u) → Recorded r (at i room) (at (record i { arena = k; active = m }) room)
+  edited i k m room r d from to u fit there c is =
+      let j = record i { arena = k; active = m } in
+      recorded (change.Edited u) r i j room room refl is (ap (λ q. with_counted q j) c.undone) c.can_undo fit
+      (record { counts = c.counts; work = work_changed (counted_of i) (counted k m) i.running d from to u fit.work there c }) refl
+
+  pub did : (i : Image P) (k : arena.Image Content) (m room : ℕ) (r : Record P) (d : Id) (why : HandleRecord → Option Code)
+      (row : HandleRecord → HandleRecord) (u : RecordUndo) → IsFit i → Did handle_in Handle why row (counted i.arena i.active) (counted k m) d u
+      → r ≡ changed i.place (change.Edited u) → Recorded r (at i room) (at (record i { arena = k; active = m }) room)
+  did i k m room r d why row u fit h is = edited i k m room r d h.from (row h.from) u fit h.there h.changed is
+
+  pub enlisted : (i : Image P) (k : arena.Image Content) (m room : ℕ) (r : Record P) (d : Id) (from to : HandleRecord) (list : ListName)
+      (u : ListUndo)
+      → IsFit i → (OfRequests list → ⊥) → IsEnlisted handle_in Handle (counted i.arena i.active) (counted k m) d from to list u
+      → r ≡ changed i.place (change.Enlisted u) → Recorded r (at i room) (at (record i { arena = k; active = m }) room)
+  enlisted i k m room r d from to list u fit bar c is =
+      let j = record i { arena = k; active = m } in
+      recorded (change.Enlisted u) r i j room room refl is (ap (λ q. with_counted q j) c.undone) c.can_undo fit
+      (record { counts = c.counts; work = work_enlisted (counted_of i) (counted k m) i.running d from to list u fit.work bar c }) refl
+
+  pub watched : (i : Image P) (k : arena.Image Content) (m room : ℕ) (r : Record P) (d : Id) (o : Option ListUndo) (u : ListUndo) → IsFit i
+      → watch.Starts handle_in Handle (counted i.arena i.active) (counted k m) d o → o ≡ Some u → r ≡ changed i.place (change.Enlisted u)
+      → Recorded r (at i room) (at (record i { arena = k; active = m }) room)
+  watched i k m room r d o u fit s e is =
+      let h = subst (λ q. watch.Starts handle_in Handle (counted i.arena i.active) (counted k m) d q) e s in
+      enlisted i k m room r d _ _ _ u fit (list_not h.kind) h.enlisted is
+
+  pub delisted : (i : Image P) (k : arena.Image Content) (m room : ℕ) (r : Record P) (d : Id) (from to : HandleRecord) (leaves : Bool)
+      (u : DelistUndo)
+      → IsFit i → IsDelisted handle_in Handle (counted i.arena i.active) (counted k m) d from to leaves u
+      → r ≡ changed i.place (change.Delisted u) → Recorded r (at i room) (at (record i { arena = k; active = m }) room)
+  delisted i k m room r d from to leaves u fit c is =
+      let j = record i { arena = k; active = m } in
+      recorded (change.Delisted u) r i j room room refl is (delist_back u.unlinked u.changed j ∙ ap (λ q. with_counted q j) c.undone) c.can_undo fit
+      (record { counts = c.counts; work = work_delisted (counted_of i) (counted k m) i.running d from to leaves u fit.work c }) refl
+
+  -- a handle as it is made, off all lists
+  pub added : (i : Image P) (k : arena.Image Content) (m room : ℕ) (r : Record P) (d : Id) (v : Var) (kind : Kind) (u : AddUndo) → IsFit i
+      → IsAdded handle_in Handle (counted i.arena i.active) (counted k m) v kind d u
+      → r ≡ changed i.place (change.Added (record { added = u; listed = false }))
+      → Recorded r (at i room) (at (record i { arena = k; active = m }) room)
+  added i k m room r d v kind u fit c is =
+      let j = record i { arena = k; active = m } in
+      recorded (change.Added (record { added = u; listed = false })) r i j room room refl is (ap (λ q. with_counted q j) c.undone)
+      (record { pushed = tt; added = c.can_undo }) fit
+      (record {
+        counts = c.counts;
+        work = kept_by_insert request_in i.arena k d i.running fit.work (Handle
+            (inited v kind)) u.inserted refl c.inserted;
+      }) refl
+
+  -- and one at the end of its list
+  pub joined : (i : Image P) (k l : arena.Image Content) (m room : ℕ) (r : Record P) (d : Id) (v : Var) (kind : Kind) (u : AddUndo)
+      (now : List ℕ) → IsFit i
+      → IsAdded handle_in Handle (counted i.arena i.active) (counted k m) v kind d u → IsPushed k l name.Async d now
+      → r ≡ changed i.place (change.Added (record { added = u; listed = true }))
+      → Recorded r (at i room) (at (record i { arena = l; active = m }) room)
+  joined i k l m room r d v kind u now fit c p is =
+      let j = record i { arena = l; active = m } in
+      let off : push_undone u.inserted.slot l ≡ k = ap (λ x. push_undone x l) c.inserted.slot ∙ p.undone in
+      let work = kept_by_insert request_in i.arena k d i.running fit.work (Handle (inited v kind)) u.inserted refl c.inserted in
+      recorded (change.Added (record { added = u; listed = true })) r i j room room refl is
+      (ap (λ q. with_counted (add_undone handle_in u (counted q m)) j) off ∙ ap (λ q. with_counted q j) c.undone)
+      (record {
+        pushed = subst (λ x. CanUndoPush l x) (sym c.inserted.slot) p.can_undo;
+        added = subst (λ q. CanUndoAdd handle_in (counted q m) u) (sym off) c.can_undo;
+      }) fit
+      (record {
+        counts = c.counts ∙ sym (count_moved k l p.slots);
+        work = work_pushed k l i.running d (inited v kind) name.Async now work c.handle (λ o. o) p;
+      }) refl
+
+  -- ---- timers
+
+  pub rescheduled : (i : Image P) (k : arena.Image Content) (m room : ℕ) (h : Heap) (t : Times) (r : Record P) (d : Id) (c : timer.Change)
+      (u : TimerUndo)
+      → IsFit i → h.room ≡ room → IsRescheduled handle_in Handle h.room (timed_of i) (timed k m h t) d c u
+      → r ≡ changed i.place (change.Timer u)
+      → Recorded r (at i room) (at (record i { arena = k; active = m; heap = h.array; times = t }) h.room)
+  rescheduled i k m room h t r d c u fit same s is =
+      let j = record i { arena = k; active = m; heap = h.array; times = t } in
+      recorded (change.Timer u) r i j room h.room same is (timer_back u j ∙ ap (λ q. with_timed q j) s.undone) s.can_undo fit
+      (record {
+        counts = s.handles.counts;
+        work = work_delisted (counted_of i) (counted k m) i.running d c.from c.to c.leaves u.delisted fit.work s.handles;
+      }) refl
+
+  pub started : (i : Image P) (k : arena.Image Content) (m room : ℕ) (h : Heap) (t : Times) (r : Record P) (d : Id) (timeout repeat : ℕ)
+      (u : TimerUndo)
+      → IsFit i → h.room ≡ room → IsStarted handle_in Handle h.room (timed_of i) (timed k m h t) d timeout repeat u
+      → r ≡ changed i.place (change.Timer u)
+      → Recorded r (at i room) (at (record i { arena = k; active = m; heap = h.array; times = t }) h.room)
+  started i k m room h t r d timeout repeat u fit same s is = rescheduled i k m room h t r d _ u fit same s.changed is
+
+  pub stopped_timer : (i : Image P) (k : arena.Image Content) (m room : ℕ) (h : Heap) (t : Times) (r : Record P) (d : Id) (u : TimerUndo)
+      → IsFit i → h.room ≡ room → IsStopped handle_in Handle h.room (timed_of i) (timed k m h t) d u
+      → r ≡ changed i.place (change.Timer u)
+      → Recorded r (at i room) (at (record i { arena = k; active = m; heap = h.array; times = t }) h.room)
+  stopped_timer i k m room h t r d u fit same s is = rescheduled i k m room h t r d _ u fit same s.changed is
+
+  pub started_again : (i : Image P) (k : arena.Image Content) (m room : ℕ) (h : Heap) (t : Times) (r : Record P) (d : Id) (u : TimerUndo)
+      → IsFit i → h.room ≡ room → IsStartedAgain handle_in Handle h.room (timed_of i) (timed k m h t) d u
+      → r ≡ changed i.place (change.Timer u)
+      → Recorded r (at i room) (at (record i { arena = k; active = m; heap = h.array; times = t }) h.room)
+  started_again i k m room h t r d u fit same s is = rescheduled i k m room h t r d _ u fit same s.changed is
+
+  pub fired : (i : Image P) (k : arena.Image Content) (m room : ℕ) (h : Heap) (t : Times) (r : Record P) (d : Id) (u : TimerUndo)
+      → IsFit i → h.room ≡ room → IsFired handle_in Handle h.room (timed_of i) (timed k m h t) d u
+      → r ≡ changed i.place (change.Timer u)
+      → Recorded r (at i room) (at (record i { arena = k; active = m; heap = h.array; times = t }) h.room)
+  fired i k m room h t r d u fit same s is = rescheduled i k m room h t r d _ u fit same s.changed is
+
+  pub collected : (i : Image P) (k : arena.Image Content) (m room : ℕ) (h : Heap) (t : Times) (r : Record P) (d : Id) (u : CollectUndo)
+      → IsFit i → h.room ≡ room → IsCollected handle_in Handle h.room (timed_of i) (timed k m h t) d u
+      → r ≡ changed i.place (change.Moved u)
+      → Recorded r (at i room) (at (record i { arena = k; active = m; heap = h.array; times = t }) h.room)
+  collected i k m room h t r d u fit same s is =
+      let j = record i { arena = k; active = m; heap = h.array; times = t } in
+      recorded (change.Moved u) r i j room h.room same is (moved_back u j ∙ ap (λ q. with_timed q j) s.undone) s.can_undo fit
+      (record { counts = s.counts; work = work_collected h.room (timed_of i) (timed k m h t) i.running d u fit.work s }) refl
+
+  -- a handle is off its list and the heap, and at the front of the closing list
+  pub shut : (i : Image P) (k l : arena.Image Content) (m room : ℕ) (h : Heap) (t : Times) (r : Record P) (d : Id) (c : timer.Change)
+      (now : List ℕ) (u : CollectUndo)
+      → IsFit i → h.room ≡ room → IsRescheduled handle_in Handle h.room (timed_of i) (timed k m h t) d c u.timer → IsPushed k l name.Closing d now
+      → u.pushed.slot ≡ d.slot → r ≡ changed i.place (change.Moved u)
+      → Recorded r (at i room) (at (record i { arena = l; active = m; heap = h.array; times = t }) h.room)
+  shut i k l m room h t r d c now u fit same s p slot is =
+      let j = record i { arena = l; active = m; heap = h.array; times = t } in
+      let off : push_undone u.pushed.slot l ≡ k = ap (λ x. push_undone x l) slot ∙ p.undone in
+      recorded (change.Moved u) r i j room h.room same is
+      (moved_back u j ∙ ap (λ q. with_timed (timer_undone handle_in Handle u.timer (timed q m h t)) j) off ∙ ap (λ q. with_timed q j) s.undone)
+      (record {
+        pushed = subst (λ x. CanUndoPush l x) (sym slot) p.can_undo;
+        timer = subst (λ q. CanUndoTimer handle_in Handle h.room (timed q m h t) u.timer) (sym off) s.can_undo;
+      }) fit
+      (record {
+        counts = s.handles.counts ∙ sym (count_moved k l p.slots);
+        work = work_pushed k l i.running d c.to name.Closing now
+            (work_delisted (counted_of i) (counted k m) i.running d c.from c.to c.leaves u.timer.delisted fit.work s.handles) s.handles.handle
+            (λ o. o) p;
+      }) refl
+
+  -- ---- watchers and sections
+
+  pub nothing : (i : Image P) (room : ℕ) (r : Record P) → IsFit i → r ≡ changed i.place change.Nothing → Recorded r (at i room) (at i room)
+  nothing i room r fit is = recorded change.Nothing r i i room room refl is refl tt fit fit refl
+
+  pub walked : (i : Image P) (k : arena.Image Content) (m room : ℕ) (r : Record P) (d e : Id) (h : HandleRecord) (w : WatcherKind)
+      (pending : Bool) (u : WalkUndo)
+      → IsFit i → FirstIs i.arena (yet_of w) e h → IsMovedOn handle_in Handle (counted i.arena i.active) (counted k m) w d pending u
+      → r ≡ changed i.place (change.Walked u) → Recorded r (at i room) (at (record i { arena = k; active = m }) room)
+  walked i k m room r d e h w pending u fit f c is =
+      let j = record i { arena = k; active = m } in
+      let there = first_there i.arena (yet_of w) d e h f c.first in
+      recorded (change.Walked u) r i j room room refl is (walk_back u j ∙ ap (λ q. with_counted q j) c.undone) c.can_undo fit
+      (record { counts = c.counts; work = work_walked (counted_of i) (counted k m) i.running d h w pending u fit.work there c }) refl
+
+  pub freed : (i : Image P) (k : arena.Image Content) (m room : ℕ) (r : Record P) (d e : Id) (h : HandleRecord) (v : Content) (u : TakeUndo Content)
+      → IsFit i → FirstIs i.arena name.ClosingYet e h → IsTaken handle_in Handle (counted i.arena i.active) (counted k m) d v u
+      → r ≡ changed i.place (change.Closed u) → Recorded r (at i room) (at (record i { arena = k; active = m }) room)
+  freed i k m room r d e h v u fit f c is =
+      let j = record i { arena = k; active = m } in
+      let there = first_there i.arena name.ClosingYet d e h f c.first in
+      recorded (change.Closed u) r i j room room refl is (ap (λ q. with_counted q j) c.undone) c.can_undo fit
+      (record { counts = c.counts; work = work_freed (counted_of i) (counted k m) i.running d h v u fit.work there c }) refl
+
+  -- slots move from one list to another
+  pub spliced : (i : Image P) (k : arena.Image Content) (room : ℕ) (r : Record P) (u : SpliceUndo) → IsFit i → IsWork request_in (working k i.running)
+      → SameSlots i.arena k → splice_undone u k ≡ i.arena → CanUndoSplice k u → r ≡ changed i.place (change.Begun u)
+      → Recorded r (at i room) (at (record i { arena = k }) room)
+  spliced i k room r u fit work same back can is =
+      let j = record i { arena = k } in
+      recorded (change.Begun u) r i j room room refl is (ap (λ q. record i { arena = q }) back) can fit
+      (record { counts = fit.counts ∙ sym (count_moved i.arena k same); work = work }) refl
+
+  pub begun : (i : Image P) (k : arena.Image Content) (room : ℕ) (r : Record P) (w : WatcherKind) (u : SpliceUndo) → IsFit i
+      → watch.IsBegun i.arena k w u
+      → r ≡ changed i.place (change.Begun u) → Recorded r (at i room) (at (record i { arena = k }) room)
+  begun i k room r w u fit c is =
+      spliced i k room r u fit (work_spliced i.arena k i.running fit.work c.slots c.kept (λ l o. c.others l (other l (list_of w) (list_not w) o)
+      (other l (yet_of w) (yet_not w) o)))
+      c.slots c.undone c.can_undo is
+
+  pub begun_closing : (i : Image P) (k : arena.Image Content) (room : ℕ) (r : Record P) (u : SpliceUndo) → IsFit i
+      → IsSpliced i.arena k name.Closing name.ClosingYet u → r ≡ changed i.place (change.Begun u)
+      → Recorded r (at i room) (at (record i { arena = k }) room)
+  begun_closing i k room r u fit c is =
+      spliced i k room r u fit (work_spliced i.arena k i.running fit.work c.slots c.kept
+      (λ l o. c.others l (other l name.Closing (λ q. q) o) (other l name.ClosingYet (λ q. q) o)))
+      c.slots c.undone c.can_undo is
+
+  -- ---- requests
+
+  pub queued : (i : Image P) (k : arena.Image Content) (q : Running) (room : ℕ) (r : Record P) (asked : Request) (d : Id) (u : QueueUndo) → IsFit i
+      → IsSound i.arena → IsQueued request_in Asked (working i.arena i.running) (working k q) asked d u → r ≡ changed i.place (change.Queued u)
+      → Recorded r (at i room) (at (record i { arena = k; running = q }) room)
+  queued i k q room r asked d u fit sound c is =
+      let j = record i { arena = k; running = q } in
+      recorded (change.Queued u) r i j room room refl is (ap (λ z. with_working z j) c.undone) c.can_undo fit
+      (record { counts = fit.counts ∙ sym (count_queued i.arena k sound d asked c.next c.plain); work = c.work }) refl
+
+  pub taken : (i : Image P) (k : arena.Image Content) (q : Running) (room : ℕ) (r : Record P) (worker : ℕ) (d : Id) (u : taking.TakeUndo) → IsFit i
+      → requests.IsTaken request_in (working i.arena i.running) (working k q) worker d u → r ≡ changed i.place (change.Taken u)
+      → Recorded r (at i room) (at (record i { arena = k; running = q }) room)
+  taken i k q room r worker d u fit c is =
+      let j = record i { arena = k; running = q } in
+      recorded (change.Taken u) r i j room room refl is (ap (λ z. with_working z j) c.undone) c.can_undo fit
+      (record { counts = fit.counts ∙ sym (count_moved i.arena k c.slots); work = c.work }) refl
+
+  pub finished : (i : Image P) (k : arena.Image Content) (q : Running) (room : ℕ) (r : Record P) (worker : ℕ) (d : Id) (asked : Work)
+      (digest : List ℕ) (u : FinishUndo)
+      → IsFit i → IsFinished request_in Asked (working i.arena i.running) (working k q) worker d asked digest u
+      → r ≡ changed i.place (change.Finished u)
+      → Recorded r (at i room) (at (record i { arena = k; running = q }) room)
+  finished i k q room r worker d asked digest u fit c is =
+      let j = record i { arena = k; running = q } in
+      recorded (change.Finished u) r i j room room refl is (ap (λ z. with_working z j) c.undone) c.can_undo fit
+      (record {
+        counts = fit.counts ∙ ap (λ z. alive_count handle_in z.arena) (sym c.undone) ∙ count_reopened u.id (push_undone u.id.slot k)
+            ∙ count_pushed u.id.slot k;
+        work = c.work;
+      }) refl
+
+  pub cancelled : (i : Image P) (k : arena.Image Content) (room : ℕ) (r : Record P) (d : Id) (u : CancelUndo)
+      → IsFit i → IsCancelled request_in Asked (working i.arena i.running) (working k i.running) d u → r ≡ changed i.place (change.Cancelled u)
+      → Recorded r (at i room) (at (record i { arena = k }) room)
+  cancelled i k room r d u fit c is =
+      let j = record i { arena = k } in
+      let opened = reopened_in request_in Asked u.id (push_undone u.id.slot k) in
+      recorded (change.Cancelled u) r i j room room refl is (ap (λ z. with_working z j) c.undone) c.can_undo fit
+      (record {
+        counts = fit.counts ∙ ap (λ z. alive_count handle_in z.arena) (sym c.undone) ∙ count_unlinked u.unlinked opened
+            ∙ count_reopened u.id (push_undone u.id.slot k) ∙ count_pushed u.id.slot k;
+        work = c.work;
+      }) refl
+
+  pub ended : (i : Image P) (k : arena.Image Content) (q : Running) (room : ℕ) (r : Record P) (d : Id) (asked : Request)
+      (u : collecting.CollectUndo Content) → IsFit i
+      → requests.IsCollected request_in (working i.arena i.running) (working k q) d asked u → r ≡ changed i.place (change.Ended u)
+      → Recorded r (at i room) (at (record i { arena = k; running = q }) room)
+  ended i k q room r d asked u fit c is =
+      let j = record i { arena = k; running = q } in
+      recorded (change.Ended u) r i j room room refl is (ap (λ z. with_working z j) c.undone) c.can_undo fit
+      (record { counts = fit.counts ∙ sym (count_freed i.arena k d asked c.was c.plain); work = c.work }) refl
+
+  pub begun_done : (i : Image P) (k : arena.Image Content) (room : ℕ) (r : Record P) (u : SpliceUndo) → IsFit i
+      → requests.IsBegun request_in (working i.arena i.running) (working k i.running) u → r ≡ changed i.place (change.Begun u)
+      → Recorded r (at i room) (at (record i { arena = k }) room)
+  begun_done i k room r u fit c is = spliced i k room r u fit c.work c.slots (ap (λ z. z.arena) c.undone) c.can_undo.spliced is
+
+  -- and the loop's time is another one
+  pub polled : (i : Image P) (k : arena.Image Content) (now room : ℕ) (r : Record P) (u : SpliceUndo) → IsFit i
+      → requests.IsBegun request_in (working i.arena i.running) (working k i.running) u
+      → r ≡ changed i.place (change.Polled (record { time = i.times.time; spliced = u }))
+      → Recorded r (at i room) (at (record i { arena = k; times = record i.times { time = now } }) room)
+  polled i k now room r u fit c is =
+      let j = record i { arena = k; times = record i.times { time = now } } in
+      recorded (change.Polled (record { time = i.times.time; spliced = u })) r i j room room refl is
+      (ap (λ z. record i { arena = z.arena }) c.undone) c.can_undo.spliced fit
+      (record { counts = fit.counts ∙ sym (count_moved i.arena k c.slots); work = c.work }) refl

@@ -1,0 +1,11 @@
+use Rattle.std.proofs.Common.{subst}
+use Rattle.uv_step.specs.Does.{FirstIs}
+use Rattle.uv_step.specs.Image.{image_of}
+use Rattle.uv_step.proofs.Steps.{walked}
+use Rattle.uv_step.proofs.memory.Memory.walk.Goals as goal
+
+pub returns-in-Some-clause-recorded : goal.returns-in-Some-clause-recorded
+returns-in-Some-clause-recorded g c =
+    let i = image_of c.args.self.now in
+    let first = subst (λ l. FirstIs i.arena l c.in_ok-first.first c.in_ok-first.field-0-1) c.yet.ensures c.in_ok-first.ensures.some in
+    walked i c.take.new.slots c.take.new.handles _ _ _ _ _ _ _ _ c.requires.fit first c.in-Some.ensures.some c.record.ensures

@@ -1,0 +1,147 @@
+//! Handles are made, changed and closed.
+ghost use Rattle.std.specs.Prelude.{◌≡◌, Option, Some, None, IfOk, IfErr};
+ghost use Rattle.uv_records.specs.Handles.{referenced_as, repeating, sent};
+ghost use Rattle.uv_records.specs.Refusals.{refusal, no_refusal, timer_refusal, send_refusal, close_refusal};
+ghost use Rattle.uv_records.specs.Slots.{next_free};
+ghost use Rattle.uv_arena.specs.Image.{plain_slots};
+ghost use Rattle.uv_handle.specs.Counted.{found, record_at};
+ghost use Rattle.uv_handle.specs.Changes.{Did};
+ghost use Rattle.uv_step.specs.declared.content.Content.TheVariants.{Handle as handle};
+ghost use Rattle.uv_step.specs.declared.record.Change.TheVariants.{Added as added, Edited as edited, Moved as moved};
+ghost use Rattle.uv_step.specs.Content.{handle_in};
+ghost use Rattle.uv_step.specs.Image.{held, counted_of, timed_of};
+ghost use Rattle.uv_step.specs.Fit.{IsFit};
+ghost use Rattle.uv_step.specs.Undo.{Recorded};
+ghost use Rattle.uv_step.specs.Does.{By, IsMade, IsShut, changed};
+
+use crate::memory::Memory;
+use crate::record::{Added, Change, Record};
+use uv_arena::Full;
+use uv_handle::handle_at;
+use uv_ids::{Code, Id, Kind, Var};
+use uv_records::{HandleRecord, ListName};
+use uv_timer::{CollectUndo, reschedule, set_repeat};
+use uv_watch::send;
+
+impl<P: Copy> Memory<P> {
+    /// Makes a handle (uv_timer_init and the like). An async one goes to the end of its list.
+    pub fn init(&mut self, name: Var, kind: Kind) -> Result<(Id, Record<P>), Full>
+        requires fit { IsFit (held self.old).image }
+        ensures recorded { IfOk result (λ r. Recorded r.1 (held self.old) (held self.new)) }
+        ensures made { IfOk result (λ r. By added (λ u. IsMade
+            (counted_of (held self.old).image) (counted_of (held self.new).image) name kind r.0 u) r.1.change) }
+        ensures full { IfErr result (λ _. (next_free (plain_slots (held self.old).image.arena) ≡ None) × (held self.new ≡ held self.old)) }
+    {
+        match self.handles.add(&mut self.slots, name, kind) {
+            Err(full) => Err(full),
+            Ok((id, added)) => {
+                if kind == Kind::Async {
+                    self.slots.push_back(ListName::Async, id);
+                    Ok((
+                        id,
+                        self.record(Change::Added(Added {
+                            added,
+                            listed: true,
+                        })),
+                    ))
+                } else {
+                    Ok((
+                        id,
+                        self.record(Change::Added(Added {
+                            added,
+                            listed: false,
+                        })),
+                    ))
+                }
+            }
+        }
+    }
+
+    /// References a handle, or not (uv_ref, uv_unref).
+    pub fn set_ref(&mut self, id: Id, referenced: bool) -> Result<Record<P>, Code>
+        requires fit { IsFit (held self.old).image }
+        ensures recorded { IfOk result (λ r. Recorded r (held self.old) (held self.new)) }
+        ensures does { IfOk result (λ r. By edited (λ u. Did handle_in handle no_refusal (referenced_as referenced)
+            (counted_of (held self.old).image) (counted_of (held self.new).image) id u) r.change) }
+        ensures err { IfErr result (λ code. (refusal no_refusal (found handle_in (held self.old).image.arena id) ≡ Some code)
+            × (held self.new ≡ held self.old)) }
+    {
+        match self.handles.set_ref(&mut self.slots, id, referenced) {
+            Err(code) => Err(code),
+            Ok(undo) => Ok(self.record(Change::Edited(undo))),
+        }
+    }
+
+    /// Gives a timer another repeat in ms (uv_timer_set_repeat).
+    pub fn set_repeat(&mut self, id: Id, repeat: u64) -> Result<Record<P>, Code>
+        requires fit { IsFit (held self.old).image }
+        ensures recorded { IfOk result (λ r. Recorded r (held self.old) (held self.new)) }
+        ensures does { IfOk result (λ r. By edited (λ u. Did handle_in handle timer_refusal (repeating repeat)
+            (counted_of (held self.old).image) (counted_of (held self.new).image) id u) r.change) }
+        ensures err { IfErr result (λ code. (refusal timer_refusal (found handle_in (held self.old).image.arena id) ≡ Some code)
+            × (held self.new ≡ held self.old)) }
+    {
+        match set_repeat(&mut self.handles, &mut self.slots, id, repeat) {
+            Err(code) => Err(code),
+            Ok(undo) => Ok(self.record(Change::Edited(undo))),
+        }
+    }
+
+    /// Sends to an async handle (uv_async_send).
+    pub fn send(&mut self, id: Id) -> Result<Record<P>, Code>
+        requires fit { IsFit (held self.old).image }
+        ensures recorded { IfOk result (λ r. Recorded r (held self.old) (held self.new)) }
+        ensures does { IfOk result (λ r. By edited (λ u. Did handle_in handle send_refusal sent
+            (counted_of (held self.old).image) (counted_of (held self.new).image) id u) r.change) }
+        ensures err { IfErr result (λ code. (refusal send_refusal (found handle_in (held self.old).image.arena id) ≡ Some code)
+            × (held self.new ≡ held self.old)) }
+    {
+        match send(&mut self.handles, &mut self.slots, id) {
+            Err(code) => Err(code),
+            Ok(undo) => Ok(self.record(Change::Edited(undo))),
+        }
+    }
+
+    /// Closes a handle: it is stopped, and goes to the front of the closing list (uv_close).
+    pub fn close(&mut self, id: Id) -> Result<Record<P>, Code>
+        requires fit { IsFit (held self.old).image }
+        ensures recorded { IfOk result (λ r. Recorded r (held self.old) (held self.new)) }
+        ensures does { IfOk result (λ r. By moved (λ u. IsShut (held self.new).room
+            (timed_of (held self.old).image) (timed_of (held self.new).image) id u) r.change) }
+        ensures err { IfErr result (λ code. (refusal close_refusal (found handle_in (held self.old).image.arena id) ≡ Some code)
+            × (held self.new ≡ held self.old)) }
+    {
+        match handle_at(&self.slots, id) {
+            Err(code) => Err(code),
+            Ok(before) => match before.close_refusal() {
+                Some(code) => Err(code),
+                None => Ok(self.shut(id, before)),
+            },
+        }
+    }
+
+    fn shut(&mut self, id: Id, before: HandleRecord) -> Record<P>
+        requires fit { IsFit (held self.old).image }
+        requires found { record_at handle_in (held self.old).image.arena id ≡ Some before }
+        requires allowed { close_refusal before ≡ None }
+        ensures recorded { Recorded result (held self.old) (held self.new) }
+        ensures does { By moved (λ u. IsShut (held self.new).room
+            (timed_of (held self.old).image) (timed_of (held self.new).image) id u) result.change }
+    {
+        let timer = reschedule(
+            &mut self.handles,
+            &mut self.slots,
+            &mut self.heap,
+            &mut self.times,
+            id,
+            uv_timer::Change {
+                from: before,
+                to: before.closed(),
+                leaves: true,
+                due: None,
+            },
+        );
+        let pushed = self.slots.push_front(ListName::Closing, id);
+        self.record(Change::Moved(CollectUndo { timer, pushed }))
+    }
+}

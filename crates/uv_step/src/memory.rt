@@ -1,0 +1,94 @@
+//! The memory of a loop.
+ghost use Rattle.std.specs.Prelude.{◌≡◌, ◌<◌, ◌≤◌, IfOk, OnOk, OnErr};
+ghost use Rattle.uv_step.specs.Image.{held, fresh};
+ghost use Rattle.uv_step.specs.Fit.{IsFit};
+ghost use Rattle.uv_step.specs.Does.{changed};
+
+use crate::content::Content;
+use crate::named::Named;
+use crate::record::{Change, Naming, Record};
+use std::alloc::{AllocError, Global};
+use uv_arena::Slots;
+use uv_handle::Handles;
+use uv_heap::TimerHeap;
+use uv_requests::{Requests, fresh_requests};
+use uv_timer::Times;
+
+/// All that the steps of a loop change. `P` says where the loop stands.
+#[derive(Drop)]
+pub struct Memory<P: Copy> {
+    pub place: P,
+    pub names: Vec<Named>,
+    pub slots: Slots<Content>,
+    pub handles: Handles,
+    pub requests: Requests,
+    pub heap: TimerHeap,
+    /// The loop's time, and the next start number.
+    pub times: Times,
+    /// The clock in ms.
+    pub clock: u64,
+    /// The run is to end before its next iteration (uv_stop).
+    pub stop_flag: bool,
+    /// An idle handle was active as the iteration began.
+    pub idled: bool,
+}
+
+impl<P: Copy> Memory<P> {
+    /// The memory of a loop that was never run: it stands here, has so many names and workers, and room for so many slots, which
+    /// are retired when they are freed at the last generation.
+    pub fn new(
+        alloc: Global,
+        place: P,
+        names: usize,
+        slots: u32,
+        last_generation: u32,
+        workers: u16,
+    ) -> Result<Memory<P>, AllocError>
+        ensures image { IfOk result (λ m. (held m).image ≡ fresh place names slots last_generation workers) }
+        ensures fit { IfOk result (λ m. IsFit (held m).image) }
+    {
+        fresh_requests::<Content>();
+        let names = vec![in alloc; Named::unbound(); names]?;
+        let slots = Slots::new(alloc, slots, last_generation)?;
+        let requests = Requests::new(alloc, workers)?;
+        Ok(Memory {
+            place,
+            names,
+            slots,
+            handles: Handles::new(),
+            requests,
+            heap: TimerHeap::new(alloc),
+            times: Times {
+                time: 0,
+                next_start: 0,
+            },
+            clock: 0,
+            stop_flag: false,
+            idled: false,
+        })
+    }
+
+    /// Makes room on the heap for the timer of a slot. No other call takes memory.
+    pub fn reserve(&mut self, slot: u32) -> Result<(), AllocError>
+        ensures image { (held self.new).image ≡ (held self.old).image }
+        ensures ok { OnOk result (slot < (held self.new).room) }
+        ensures kept { (held self.old).room ≤ (held self.new).room }
+        ensures wanted { OnErr result ((held self.old).room ≤ slot) }
+    {
+        match self.heap.reserve(slot) {
+            Ok(()) => Ok(()),
+            Err(_) => Err(AllocError),
+        }
+    }
+
+    /// The record of a change, where no name was touched.
+    pub(crate) fn record(&self, change: Change) -> Record<P>
+        ensures { result ≡ changed self.now.place change }
+    {
+        Record {
+            place: self.place,
+            naming: Naming::Same,
+            change,
+        }
+    }
+}

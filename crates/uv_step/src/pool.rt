@@ -1,0 +1,128 @@
+//! Requests are queued, taken, finished, cancelled, and called back.
+ghost use Rattle.std.specs.Prelude.{◌≡◌, Option, Some, None, IfOk, IfErr, IfSome, IfNone, [], true};
+ghost use Rattle.uv_records.specs.declared.lists.ListName.TheVariants.{DoneYet};
+ghost use Rattle.uv_records.specs.Slots.{next_free};
+ghost use Rattle.uv_arena.specs.Image.{plain_slots, members};
+ghost use Rattle.uv_work.specs.Requests.{is_open, cancel_refusal};
+ghost use Rattle.uv_work.specs.Pool.{waits};
+ghost use Rattle.uv_requests.specs.Working.{found, pool_of};
+ghost use Rattle.uv_requests.specs.Calls.{IsQueued, IsTaken, IsFinished, IsCancelled, IsBegun, IsCollected, RefusesTake, RefusesFinish};
+ghost use Rattle.uv_step.specs.declared.content.Content.TheVariants.{Request as asked};
+ghost use Rattle.uv_step.specs.declared.record.Change.TheVariants.{Queued as queued, Taken as taken, Finished as finished, Cancelled as cancelled, Begun as begun, Polled as polled, Ended as ended};
+ghost use Rattle.uv_step.specs.Content.{request_in};
+ghost use Rattle.uv_step.specs.Image.{held, working_of};
+ghost use Rattle.uv_step.specs.Fit.{IsFit};
+ghost use Rattle.uv_step.specs.Undo.{Recorded};
+ghost use Rattle.uv_step.specs.Does.{By};
+
+use crate::memory::Memory;
+use crate::record::{Change, Polled, Record};
+use uv_arena::Full;
+use uv_ids::{Code, Id, Why};
+use uv_work::{RequestRecord, WorkResult};
+
+impl<P: Copy> Memory<P> {
+    /// Puts an open request in a slot, behind those that wait (uv_queue_work).
+    pub fn queue(&mut self, request: RequestRecord) -> Result<(Id, Record<P>), Full>
+        requires fit { IsFit (held self.old).image }
+        requires opened { is_open request.outcome ≡ true }
+        ensures recorded { IfOk result (λ r. Recorded r.1 (held self.old) (held self.new)) }
+        ensures does { IfOk result (λ r. By queued (λ u. IsQueued request_in asked
+            (working_of (held self.old).image) (working_of (held self.new).image) request r.0 u) r.1.change) }
+        ensures full { IfErr result (λ _. (next_free (plain_slots (held self.old).image.arena) ≡ None) × (held self.new ≡ held self.old)) }
+    {
+        self.slots.is_sound();
+        match self.requests.queue(&mut self.slots, request) {
+            Err(full) => Err(full),
+            Ok((id, undo)) => Ok((id, self.record(Change::Queued(undo)))),
+        }
+    }
+
+    /// A worker takes the request that waits longest.
+    pub fn take(&mut self, worker: u16) -> Result<(Id, Record<P>), Why>
+        requires fit { IsFit (held self.old).image }
+        ensures recorded { IfOk result (λ r. Recorded r.1 (held self.old) (held self.new)) }
+        ensures does { IfOk result (λ r. By taken (λ u. IsTaken request_in
+            (working_of (held self.old).image) (working_of (held self.new).image) worker r.0 u) r.1.change) }
+        ensures err { IfErr result (λ why. RefusesTake request_in (working_of (held self.old).image) worker why × (held self.new ≡ held self.old)) }
+    {
+        match self.requests.take(&mut self.slots, worker) {
+            Err(why) => Err(why),
+            Ok((id, undo)) => Ok((id, self.record(Change::Taken(undo)))),
+        }
+    }
+
+    /// A worker hands in the result of the request that it runs.
+    pub fn finish(&mut self, worker: u16, work: WorkResult) -> Result<(Id, Record<P>), Why>
+        requires fit { IsFit (held self.old).image }
+        ensures recorded { IfOk result (λ r. Recorded r.1 (held self.old) (held self.new)) }
+        ensures does { IfOk result (λ r. By finished (λ u. IsFinished request_in asked
+            (working_of (held self.old).image) (working_of (held self.new).image) worker r.0 work.job work.digest u) r.1.change) }
+        ensures err { IfErr result (λ why. RefusesFinish request_in (working_of (held self.old).image) worker work.job why
+            × (held self.new ≡ held self.old)) }
+    {
+        match self.requests.finish(&mut self.slots, worker, work) {
+            Err(why) => Err(why),
+            Ok((id, undo)) => Ok((id, self.record(Change::Finished(undo)))),
+        }
+    }
+
+    /// Cancels a request that waits (uv_cancel).
+    pub fn cancel(&mut self, id: Id) -> Result<Record<P>, Code>
+        requires fit { IsFit (held self.old).image }
+        ensures recorded { IfOk result (λ r. Recorded r (held self.old) (held self.new)) }
+        ensures does { IfOk result (λ r. By cancelled (λ u. IsCancelled request_in asked
+            (working_of (held self.old).image) (working_of (held self.new).image) id u) r.change) }
+        ensures err { IfErr result (λ code. (cancel_refusal (found request_in (held self.old).image.arena id)
+            (waits (pool_of request_in (working_of (held self.old).image)).waiting id) ≡ Some code) × (held self.new ≡ held self.old)) }
+    {
+        match self.requests.cancel(&mut self.slots, id) {
+            Err(code) => Err(code),
+            Ok(undo) => Ok(self.record(Change::Cancelled(undo))),
+        }
+    }
+
+    /// Begins the done section: all that are done have yet to be called back.
+    pub fn begin_done(&mut self) -> Record<P>
+        requires fit { IsFit (held self.old).image }
+        requires empty { members (held self.old).image.arena DoneYet ≡ [] }
+        ensures recorded { Recorded result (held self.old) (held self.new) }
+        ensures does { By begun (λ u. IsBegun request_in (working_of (held self.old).image) (working_of (held self.new).image) u) result.change }
+    {
+        let undo = self.requests.begin(&mut self.slots);
+        self.record(Change::Begun(undo))
+    }
+
+    /// The poll is over: the loop's time is that of the clock, and the done section begins.
+    pub fn leave_poll(&mut self) -> Record<P>
+        requires fit { IsFit (held self.old).image }
+        requires empty { members (held self.old).image.arena DoneYet ≡ [] }
+        ensures recorded { Recorded result (held self.old) (held self.new) }
+        ensures time { (held self.new).image.times.time ≡ (held self.old).image.clock }
+        ensures does { By polled (λ u. IsBegun request_in
+            (working_of (held self.old).image) (working_of (held self.new).image) u.spliced) result.change }
+    {
+        let spliced = self.requests.begin(&mut self.slots);
+        let time = self.times.time;
+        self.times.time = self.clock;
+        self.record(Change::Polled(Polled { time, spliced }))
+    }
+
+    /// Takes the front of those that have yet to be called back off its list, and frees its slot: the request as it was. None, and
+    /// nothing changed, where there is none.
+    pub fn end_request(&mut self) -> Option<(Id, RequestRecord, Record<P>)>
+        requires fit { IsFit (held self.old).image }
+        ensures recorded { IfSome result (λ r. Recorded r.2 (held self.old) (held self.new)) }
+        ensures does { IfSome result (λ r. By ended (λ u. IsCollected request_in
+            (working_of (held self.old).image) (working_of (held self.new).image) r.0 r.1 u) r.2.change) }
+        ensures none { IfNone result ((members (held self.old).image.arena DoneYet ≡ []) × (held self.new ≡ held self.old)) }
+    {
+        match self.requests.collect(&mut self.slots) {
+            None => None,
+            Some(ended) => {
+                let step_record = self.record(Change::Ended(ended.2));
+                Some((ended.0, ended.1, step_record))
+            }
+        }
+    }
+}

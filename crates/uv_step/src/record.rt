@@ -1,0 +1,89 @@
+//! What takes one step of the loop back.
+use crate::content::Content;
+use uv_arena::SpliceUndo;
+use uv_handle::{AddUndo, DelistUndo, ListUndo, RecordUndo};
+use uv_ids::{Callback, Id, Var};
+use uv_requests::{CancelUndo, FinishUndo, QueueUndo};
+use uv_timer::{CollectUndo, TimerUndo};
+use uv_watch::WalkUndo;
+
+/// A new handle: its slot and the count from before, and whether it was put on a list.
+#[derive(Clone, Copy)]
+pub struct Added {
+    pub added: AddUndo,
+    pub listed: bool,
+}
+
+/// A section began at the end of a poll: the loop's time before, and the lists.
+#[derive(Clone, Copy)]
+pub struct Polled {
+    pub time: u64,
+    pub spliced: SpliceUndo,
+}
+
+/// What a step did to what a name is bound to or how often it was called: what that was before.
+#[derive(Clone, Copy)]
+pub enum Naming {
+    /// Nothing.
+    Same,
+    /// The name was bound anew.
+    Bound(Var, Option<Id>),
+    /// A callback of the name was called.
+    Called(Var, Callback, u32),
+}
+
+/// What takes a change back that a step did to the rest of the memory, by the kind of change.
+#[derive(Clone, Copy)]
+pub enum Change {
+    /// Nothing was changed.
+    Nothing,
+    /// The loop's time, as it was.
+    Time(u64),
+    /// The clock, as it was.
+    Clock(u64),
+    /// Whether the run is to stop, as it was.
+    Stop(bool),
+    /// Whether an idle handle was active as the iteration began, as it was.
+    Idled(bool),
+    /// A handle was made.
+    Added(Added),
+    /// A handle got another record.
+    Edited(RecordUndo),
+    /// A handle got another record, and was put on a list.
+    Enlisted(ListUndo),
+    /// A handle got another record, and was taken off its list.
+    Delisted(DelistUndo),
+    /// A timer was started, stopped or called.
+    Timer(TimerUndo),
+    /// A handle was taken off its list and the heap, and put on another list.
+    Moved(CollectUndo),
+    /// A section began.
+    Begun(SpliceUndo),
+    /// A section began at the end of a poll.
+    Polled(Polled),
+    /// A watcher was called.
+    Walked(WalkUndo),
+    /// A closing handle was freed.
+    Closed(uv_handle::TakeUndo<Content>),
+    /// A request was queued.
+    Queued(QueueUndo),
+    /// A worker took a request.
+    Taken(uv_requests::TakeUndo),
+    /// A worker finished a request.
+    Finished(FinishUndo),
+    /// A request was cancelled.
+    Cancelled(CancelUndo),
+    /// A request that was done was freed.
+    Ended(uv_requests::CollectUndo<Content>),
+}
+
+/// What takes one step back: where the loop stood, what became of a name, and the change of the rest.
+#[derive(Clone, Copy)]
+pub struct Record<P: Copy> {
+    pub place: P,
+    pub naming: Naming,
+    pub change: Change,
+}
+
+// A record has at most 32 words where a place has at most 8.
+const _: () = prove!(std::mem::size_of::<Record<[u64; 8]>>() <= 256);

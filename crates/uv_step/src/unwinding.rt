@@ -1,0 +1,208 @@
+//! Records are unwound: part by part, the last first. It takes no memory and can't fail.
+ghost use Rattle.std.specs.Prelude.{◌≡◌};
+ghost use Rattle.uv_step.specs.declared.record.Change.TheVariants as change;
+ghost use Rattle.uv_step.specs.Image.{held};
+ghost use Rattle.uv_step.specs.Parts.{unwind, unwind_parts, naming_parts, change_parts};
+ghost use Rattle.uv_step.specs.Fit.{IsFit};
+ghost use Rattle.uv_step.specs.Undo.{CanUnwind, CanRename, CanUndo};
+
+use crate::content::Content;
+use crate::memory::Memory;
+use crate::named::Named;
+use crate::record::{Added, Change, Naming, Record};
+use uv_arena::PushUndo;
+use uv_handle::{DelistUndo, ListUndo, RecordUndo};
+use uv_requests::{CancelUndo, FinishUndo, QueueUndo};
+use uv_timer::{CollectUndo, TimerUndo, undo_collect_one, undo_reschedule};
+use uv_watch::{WalkUndo, undo_take};
+
+impl<P: Copy> Memory<P> {
+    /// Gives back the very memory from before the step of this record.
+    pub fn unwind(&mut self, step_record: Record<P>)
+        requires { CanUnwind (held self.old).room step_record (held self.old).image }
+        ensures image { (held self.new).image ≡ unwind step_record (held self.old).image }
+        ensures fit { IsFit (held self.new).image }
+        ensures room { (held self.new).room ≡ (held self.old).room }
+    {
+        self.place = step_record.place;
+        self.unname(step_record.naming);
+        self.undo(step_record.change);
+    }
+
+    /// What became of a name is undone.
+    fn unname(&mut self, naming: Naming)
+        requires { CanRename naming (held self.old).image }
+        ensures image { (held self.new).image ≡ unwind_parts (naming_parts naming) (held self.old).image }
+        ensures room { (held self.new).room ≡ (held self.old).room }
+    {
+        match naming {
+            Naming::Same => {}
+            Naming::Bound(name, id) => {
+                let calls = self.names[name.0 as usize].calls;
+                self.names[name.0 as usize] = Named { id, calls };
+            }
+            Naming::Called(name, callback, count) => {
+                let named = self.names[name.0 as usize];
+                let calls = named.calls.with(callback, count);
+                self.names[name.0 as usize] = Named {
+                    id: named.id,
+                    calls,
+                };
+            }
+        }
+    }
+
+    /// A change is undone.
+    fn undo(&mut self, change: Change)
+        requires { CanUndo (held self.old).room change (held self.old).image }
+        ensures image { (held self.new).image ≡ unwind_parts (change_parts change) (held self.old).image }
+        ensures room { (held self.new).room ≡ (held self.old).room }
+    {
+        match change {
+            Change::Nothing => {}
+            Change::Time(time) => self.times.time = time,
+            Change::Clock(clock) => self.clock = clock,
+            Change::Stop(stop) => self.stop_flag = stop,
+            Change::Idled(idled) => self.idled = idled,
+            Change::Added(undo) => self.undo_added(undo),
+            Change::Edited(undo) => self.undo_edited(undo),
+            Change::Enlisted(undo) => self.undo_enlisted(undo),
+            Change::Delisted(undo) => self.undo_delisted(undo),
+            Change::Timer(undo) => self.undo_timer(undo),
+            Change::Moved(undo) => self.undo_moved(undo),
+            Change::Begun(undo) => self.slots.undo_splice(undo),
+            Change::Polled(undo) => {
+                self.slots.undo_splice(undo.spliced);
+                self.times.time = undo.time;
+            }
+            Change::Walked(undo) => self.undo_walked(undo),
+            Change::Closed(undo) => self.undo_closed(undo),
+            Change::Queued(undo) => self.undo_queued(undo),
+            Change::Taken(undo) => self.undo_taken(undo),
+            Change::Finished(undo) => self.undo_finished(undo),
+            Change::Cancelled(undo) => self.undo_cancelled(undo),
+            Change::Ended(undo) => self.undo_ended(undo),
+        }
+    }
+
+    fn undo_added(&mut self, undo: Added)
+        requires { CanUndo (held self.old).room (change.Added undo) (held self.old).image }
+        ensures image { (held self.new).image ≡ unwind_parts (change_parts (change.Added undo)) (held self.old).image }
+        ensures room { (held self.new).room ≡ (held self.old).room }
+    {
+        if undo.listed {
+            self.slots.undo_push(PushUndo {
+                slot: undo.added.inserted.slot,
+            });
+        }
+        self.handles.undo_add(&mut self.slots, undo.added);
+    }
+
+    fn undo_edited(&mut self, undo: RecordUndo)
+        requires { CanUndo (held self.old).room (change.Edited undo) (held self.old).image }
+        ensures image { (held self.new).image ≡ unwind_parts (change_parts (change.Edited undo)) (held self.old).image }
+        ensures room { (held self.new).room ≡ (held self.old).room }
+    {
+        self.handles.undo_change(&mut self.slots, undo);
+    }
+
+    fn undo_enlisted(&mut self, undo: ListUndo)
+        requires { CanUndo (held self.old).room (change.Enlisted undo) (held self.old).image }
+        ensures image { (held self.new).image ≡ unwind_parts (change_parts (change.Enlisted undo)) (held self.old).image }
+        ensures room { (held self.new).room ≡ (held self.old).room }
+    {
+        self.handles.undo_enlist(&mut self.slots, undo);
+    }
+
+    fn undo_delisted(&mut self, undo: DelistUndo)
+        requires { CanUndo (held self.old).room (change.Delisted undo) (held self.old).image }
+        ensures image { (held self.new).image ≡ unwind_parts (change_parts (change.Delisted undo)) (held self.old).image }
+        ensures room { (held self.new).room ≡ (held self.old).room }
+    {
+        self.handles.undo_delist(&mut self.slots, undo);
+    }
+
+    fn undo_timer(&mut self, undo: TimerUndo)
+        requires { CanUndo (held self.old).room (change.Timer undo) (held self.old).image }
+        ensures image { (held self.new).image ≡ unwind_parts (change_parts (change.Timer undo)) (held self.old).image }
+        ensures room { (held self.new).room ≡ (held self.old).room }
+    {
+        undo_reschedule(
+            &mut self.handles,
+            &mut self.slots,
+            &mut self.heap,
+            &mut self.times,
+            undo,
+        );
+    }
+
+    fn undo_moved(&mut self, undo: CollectUndo)
+        requires { CanUndo (held self.old).room (change.Moved undo) (held self.old).image }
+        ensures image { (held self.new).image ≡ unwind_parts (change_parts (change.Moved undo)) (held self.old).image }
+        ensures room { (held self.new).room ≡ (held self.old).room }
+    {
+        undo_collect_one(
+            &mut self.handles,
+            &mut self.slots,
+            &mut self.heap,
+            &mut self.times,
+            undo,
+        );
+    }
+
+    fn undo_walked(&mut self, undo: WalkUndo)
+        requires { CanUndo (held self.old).room (change.Walked undo) (held self.old).image }
+        ensures image { (held self.new).image ≡ unwind_parts (change_parts (change.Walked undo)) (held self.old).image }
+        ensures room { (held self.new).room ≡ (held self.old).room }
+    {
+        undo_take(&mut self.handles, &mut self.slots, undo);
+    }
+
+    fn undo_closed(&mut self, undo: uv_handle::TakeUndo<Content>)
+        requires { CanUndo (held self.old).room (change.Closed undo) (held self.old).image }
+        ensures image { (held self.new).image ≡ unwind_parts (change_parts (change.Closed undo)) (held self.old).image }
+        ensures room { (held self.new).room ≡ (held self.old).room }
+    {
+        self.handles.undo_take_closing(&mut self.slots, undo);
+    }
+
+    fn undo_queued(&mut self, undo: QueueUndo)
+        requires { CanUndo (held self.old).room (change.Queued undo) (held self.old).image }
+        ensures image { (held self.new).image ≡ unwind_parts (change_parts (change.Queued undo)) (held self.old).image }
+        ensures room { (held self.new).room ≡ (held self.old).room }
+    {
+        self.requests.undo_queue(&mut self.slots, undo);
+    }
+
+    fn undo_taken(&mut self, undo: uv_requests::TakeUndo)
+        requires { CanUndo (held self.old).room (change.Taken undo) (held self.old).image }
+        ensures image { (held self.new).image ≡ unwind_parts (change_parts (change.Taken undo)) (held self.old).image }
+        ensures room { (held self.new).room ≡ (held self.old).room }
+    {
+        self.requests.undo_take(&mut self.slots, undo);
+    }
+
+    fn undo_finished(&mut self, undo: FinishUndo)
+        requires { CanUndo (held self.old).room (change.Finished undo) (held self.old).image }
+        ensures image { (held self.new).image ≡ unwind_parts (change_parts (change.Finished undo)) (held self.old).image }
+        ensures room { (held self.new).room ≡ (held self.old).room }
+    {
+        self.requests.undo_finish(&mut self.slots, undo);
+    }
+
+    fn undo_cancelled(&mut self, undo: CancelUndo)
+        requires { CanUndo (held self.old).room (change.Cancelled undo) (held self.old).image }
+        ensures image { (held self.new).image ≡ unwind_parts (change_parts (change.Cancelled undo)) (held self.old).image }
+        ensures room { (held self.new).room ≡ (held self.old).room }
+    {
+        self.requests.undo_cancel(&mut self.slots, undo);
+    }
+
+    fn undo_ended(&mut self, undo: uv_requests::CollectUndo<Content>)
+        requires { CanUndo (held self.old).room (change.Ended undo) (held self.old).image }
+        ensures image { (held self.new).image ≡ unwind_parts (change_parts (change.Ended undo)) (held self.old).image }
+        ensures room { (held self.new).room ≡ (held self.old).room }
+    {
+        self.requests.undo_collect(&mut self.slots, undo);
+    }
+}

@@ -1,0 +1,123 @@
+//! The clock, the loop's time, what names are bound to and how often they were called, and where the loop stands.
+ghost use Rattle.std.specs.Prelude.{◌≡◌, ◌<◌, ◌+◌, ◌^◌, ◌-◌, length, Option, Some, None, IfOk, IfErr};
+ghost use Rattle.uv_step.specs.declared.record.Naming.TheVariants.{Same as same};
+ghost use Rattle.uv_step.specs.Names.{count_of, named, binding, calling};
+ghost use Rattle.uv_step.specs.Image.{held, standing};
+ghost use Rattle.uv_step.specs.Fit.{IsFit};
+ghost use Rattle.uv_step.specs.Undo.{Recorded, CanUnwind, Extended};
+
+use crate::memory::Memory;
+use crate::named::Named;
+use crate::record::{Change, Naming, Record};
+use uv_ids::{Callback, Id, Var};
+
+impl<P: Copy> Memory<P> {
+    /// The clock goes on by so many ms.
+    pub fn tick(&mut self, ms: u64) -> Record<P>
+        requires fit { IsFit (held self.old).image }
+        requires fits { (held self.old).image.clock + ms < 2 ^ 64 }
+        ensures recorded { Recorded result (held self.old) (held self.new) }
+        ensures clock { (held self.new).image.clock ≡ (held self.old).image.clock + ms }
+    {
+        let change = Change::Clock(self.clock);
+        self.clock += ms;
+        self.record(change)
+    }
+
+    /// The loop's time is that of the clock (uv_update_time).
+    pub fn update_time(&mut self) -> Record<P>
+        requires fit { IsFit (held self.old).image }
+        ensures recorded { Recorded result (held self.old) (held self.new) }
+        ensures time { (held self.new).image.times.time ≡ (held self.old).image.clock }
+    {
+        let change = Change::Time(self.times.time);
+        self.times.time = self.clock;
+        self.record(change)
+    }
+
+    /// The run is to end before its next iteration (uv_stop), or not.
+    pub fn set_stop(&mut self, stop: bool) -> Record<P>
+        requires fit { IsFit (held self.old).image }
+        ensures recorded { Recorded result (held self.old) (held self.new) }
+        ensures stop { (held self.new).image.stop_flag ≡ stop }
+    {
+        let change = Change::Stop(self.stop_flag);
+        self.stop_flag = stop;
+        self.record(change)
+    }
+
+    /// Whether an idle handle is active as the iteration begins.
+    pub fn set_idled(&mut self, idled: bool) -> Record<P>
+        requires fit { IsFit (held self.old).image }
+        ensures recorded { Recorded result (held self.old) (held self.new) }
+        ensures idled { (held self.new).image.idled ≡ idled }
+    {
+        let change = Change::Idled(self.idled);
+        self.idled = idled;
+        self.record(change)
+    }
+
+    /// A step that changes nothing but where the loop stands.
+    pub fn pass(&self) -> Record<P>
+        requires fit { IsFit (held self.now).image }
+        ensures recorded { Recorded result (held self.now) (held self.now) }
+    {
+        self.record(Change::Nothing)
+    }
+
+    /// The loop stands here after the step of this record.
+    pub fn stand_at(&mut self, place: P, step_record: Record<P>)
+        requires can { CanUnwind (held self.old).room step_record (held self.old).image }
+        requires fit { IsFit (held self.old).image }
+        ensures place { (held self.new).image ≡ standing place (held self.old).image }
+        ensures extended { Extended step_record step_record (held self.old) (held self.new) }
+    {
+        let _ = step_record;
+        self.place = place;
+    }
+
+    /// The step of this record binds a name to this as well.
+    pub fn bind(&mut self, step_record: Record<P>, name: Var, id: Option<Id>) -> Record<P>
+        requires can { CanUnwind (held self.old).room step_record (held self.old).image }
+        requires fit { IsFit (held self.old).image }
+        requires unnamed { step_record.naming ≡ same }
+        requires name { name.0 < length (held self.old).image.names }
+        ensures names { (held self.new).image.names ≡ binding name.0 id (held self.old).image.names }
+        ensures extended { Extended step_record result (held self.old) (held self.new) }
+    {
+        let named = self.names[name.0 as usize];
+        self.names[name.0 as usize] = Named {
+            id,
+            calls: named.calls,
+        };
+        Record {
+            place: step_record.place,
+            naming: Naming::Bound(name, named.id),
+            change: step_record.change,
+        }
+    }
+
+    /// The step of this record calls a callback of a name as well.
+    pub fn count_call(&mut self, step_record: Record<P>, name: Var, callback: Callback) -> Record<P>
+        requires can { CanUnwind (held self.old).room step_record (held self.old).image }
+        requires fit { IsFit (held self.old).image }
+        requires unnamed { step_record.naming ≡ same }
+        requires name { name.0 < length (held self.old).image.names }
+        requires few { count_of callback (named (held self.old).image.names name.0).calls < 2 ^ 32 - 1 }
+        ensures names { (held self.new).image.names
+            ≡ calling name.0 callback (count_of callback (named (held self.old).image.names name.0).calls + 1) (held self.old).image.names }
+        ensures extended { Extended step_record result (held self.old) (held self.new) }
+    {
+        let named = self.names[name.0 as usize];
+        let count = named.calls.of(callback);
+        self.names[name.0 as usize] = Named {
+            id: named.id,
+            calls: named.calls.with(callback, count + 1),
+        };
+        Record {
+            place: step_record.place,
+            naming: Naming::Called(name, callback, count),
+            change: step_record.change,
+        }
+    }
+}

@@ -1,0 +1,131 @@
+//! Watchers are started and stopped, and called in their sections.
+ghost use Rattle.std.specs.Prelude.{◌≡◌, Option, Some, None, IfOk, IfErr, IfSome, IfNone, [], false};
+ghost use Rattle.uv_records.specs.declared.handle.HandleRecord.{HandleRecord};
+ghost use Rattle.uv_records.specs.declared.lists.ListName.TheVariants.{Closing, ClosingYet};
+ghost use Rattle.uv_records.specs.Handles.{is_timer};
+ghost use Rattle.uv_records.specs.Lists.{yet_of};
+ghost use Rattle.uv_records.specs.Refusals.{refusal, start_watcher_refusal, stop_refusal};
+ghost use Rattle.uv_arena.specs.Image.{members, on_list};
+ghost use Rattle.uv_arena.specs.Calls.{IsSpliced};
+ghost use Rattle.uv_handle.specs.Counted.{found, record_at};
+ghost use Rattle.uv_handle.specs.Changes.{IsTaken};
+ghost use Rattle.uv_watch.specs.Watch.{IsStopped, IsBegun, IsMovedOn};
+ghost use Rattle.uv_step.specs.declared.content.Content.{Content};
+ghost use Rattle.uv_step.specs.declared.content.Content.TheVariants.{Handle as handle};
+ghost use Rattle.uv_step.specs.declared.record.Change.TheVariants.{Delisted as delisted, Begun as begun, Walked as walked, Closed as closed};
+ghost use Rattle.uv_step.specs.Content.{handle_in};
+ghost use Rattle.uv_step.specs.Image.{held, counted_of};
+ghost use Rattle.uv_step.specs.Fit.{IsFit};
+ghost use Rattle.uv_step.specs.Undo.{Recorded};
+ghost use Rattle.uv_step.specs.Does.{By, StartsBy, FirstIs, NoHandleFirst};
+
+use crate::memory::Memory;
+use crate::record::{Change, Record};
+use uv_handle::{HandleRecord, handle_at};
+use uv_ids::{Code, Id};
+use uv_records::{ListName, WatcherKind};
+
+impl<P: Copy> Memory<P> {
+    /// Starts an idle, prepare or check handle (uv_idle_start and the like). One that is active stays as it is.
+    pub fn start_watcher(&mut self, id: Id) -> Result<Record<P>, Code>
+        requires fit { IsFit (held self.old).image }
+        requires loose { (h : HandleRecord) → record_at handle_in (held self.old).image.arena id ≡ Some h → start_watcher_refusal h ≡ None
+            → h.active ≡ false → on_list (held self.old).image.arena id ≡ false }
+        ensures recorded { IfOk result (λ r. Recorded r (held self.old) (held self.new)) }
+        ensures does { IfOk result (λ r. StartsBy (counted_of (held self.old).image) (counted_of (held self.new).image) id r.change) }
+        ensures err { IfErr result (λ code. (refusal start_watcher_refusal (found handle_in (held self.old).image.arena id) ≡ Some code)
+            × (held self.new ≡ held self.old)) }
+    {
+        match uv_watch::start(&mut self.handles, &mut self.slots, id) {
+            Err(code) => Err(code),
+            Ok(None) => Ok(self.record(Change::Nothing)),
+            Ok(Some(undo)) => Ok(self.record(Change::Enlisted(undo))),
+        }
+    }
+
+    /// Stops an idle, prepare or check handle (uv_idle_stop and the like).
+    pub fn stop_watcher(&mut self, id: Id) -> Result<Record<P>, Code>
+        requires fit { IsFit (held self.old).image }
+        requires no_timer { (h : HandleRecord) → record_at handle_in (held self.old).image.arena id ≡ Some h → is_timer h.kind ≡ false }
+        ensures recorded { IfOk result (λ r. Recorded r (held self.old) (held self.new)) }
+        ensures does { IfOk result (λ r. By delisted (λ u. (h : HandleRecord) × (stop_refusal h ≡ None) × IsStopped handle_in handle
+            (counted_of (held self.old).image) (counted_of (held self.new).image) id h u) r.change) }
+        ensures err { IfErr result (λ code. (refusal stop_refusal (found handle_in (held self.old).image.arena id) ≡ Some code)
+            × (held self.new ≡ held self.old)) }
+    {
+        match uv_watch::stop(&mut self.handles, &mut self.slots, id) {
+            Err(code) => Err(code),
+            Ok(undo) => Ok(self.record(Change::Delisted(undo))),
+        }
+    }
+
+    /// Begins a section of watchers: the whole list is yet to run.
+    pub fn begin(&mut self, kind: WatcherKind) -> Record<P>
+        requires fit { IsFit (held self.old).image }
+        requires empty { members (held self.old).image.arena (yet_of kind) ≡ [] }
+        ensures recorded { Recorded result (held self.old) (held self.new) }
+        ensures does { By begun (λ u. IsBegun (held self.old).image.arena (held self.new).image.arena kind u) result.change }
+    {
+        let undo = uv_watch::begin(&mut self.slots, kind);
+        self.record(Change::Begun(undo))
+    }
+
+    /// Moves the front of those yet to run to the end of its list: its id, and whether a callback was due by a send. None, and
+    /// nothing changed, where there is none.
+    pub fn walk(&mut self, kind: WatcherKind) -> Option<(Id, bool, Record<P>)>
+        requires fit { IsFit (held self.old).image }
+        ensures recorded { IfSome result (λ r. Recorded r.2 (held self.old) (held self.new)) }
+        ensures does { IfSome result (λ r. By walked (λ u. IsMovedOn handle_in handle
+            (counted_of (held self.old).image) (counted_of (held self.new).image) kind r.0 r.1 u) r.2.change) }
+        ensures none { IfNone result (NoHandleFirst (held self.old).image.arena (yet_of kind) × (held self.new ≡ held self.old)) }
+    {
+        let (first, _) = self.first_handle(kind.yet())?;
+        let _ = first;
+        match uv_watch::take(&mut self.handles, &mut self.slots, kind) {
+            None => None,
+            Some((id, pending, undo)) => Some((id, pending, self.record(Change::Walked(undo)))),
+        }
+    }
+
+    /// Begins the closing section.
+    pub fn begin_closing(&mut self) -> Record<P>
+        requires fit { IsFit (held self.old).image }
+        requires empty { members (held self.old).image.arena ClosingYet ≡ [] }
+        ensures recorded { Recorded result (held self.old) (held self.new) }
+        ensures does { By begun (λ u. IsSpliced (held self.old).image.arena (held self.new).image.arena Closing ClosingYet u) result.change }
+    {
+        let undo = self.handles.begin_closing(&mut self.slots);
+        self.record(Change::Begun(undo))
+    }
+
+    /// Takes the front of those that have yet to be closed off its list, and frees its slot: its close callback is to be called.
+    /// None, and nothing changed, where there is none.
+    pub fn end_handle(&mut self) -> Option<(Id, Record<P>)>
+        requires fit { IsFit (held self.old).image }
+        ensures recorded { IfSome result (λ r. Recorded r.1 (held self.old) (held self.new)) }
+        ensures does { IfSome result (λ r. By closed (λ u. (v : Content) × IsTaken handle_in handle
+            (counted_of (held self.old).image) (counted_of (held self.new).image) r.0 v u) r.1.change) }
+        ensures none { IfNone result (NoHandleFirst (held self.old).image.arena ClosingYet × (held self.new ≡ held self.old)) }
+    {
+        let (first, _) = self.first_handle(ListName::ClosingYet)?;
+        let _ = first;
+        match self.handles.take_closing(&mut self.slots) {
+            None => None,
+            Some((id, _, undo)) => Some((id, self.record(Change::Closed(undo)))),
+        }
+    }
+
+    /// The front of a list and its record, if it is a handle.
+    fn first_handle(&self, list: ListName) -> Option<(Id, HandleRecord)>
+        ensures some { IfSome result (λ r. FirstIs (held self.now).image.arena list r.0 r.1) }
+        ensures none { IfNone result (NoHandleFirst (held self.now).image.arena list) }
+    {
+        match self.slots.first(list) {
+            None => None,
+            Some(id) => match handle_at(&self.slots, id) {
+                Err(_) => None,
+                Ok(before) => Some((id, before)),
+            },
+        }
+    }
+}
