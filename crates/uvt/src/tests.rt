@@ -2,11 +2,13 @@
 
 mod conversations;
 mod debugging;
+mod recordings;
 mod requests;
 mod states;
 
 use self::conversations::{CONVERSATIONS, Conversation};
 use self::debugging::DEBUGGING;
+use self::recordings::RECORDINGS;
 use self::requests::REQUESTS;
 use self::states::STATES;
 use crate::run::run;
@@ -17,7 +19,7 @@ use std::test::Fail;
 use uv_engine::{Reader, Writer};
 
 /// All conversations, in groups.
-const GROUPS: [&[Conversation]; 4] = [&CONVERSATIONS, &DEBUGGING, &REQUESTS, &STATES];
+const GROUPS: [&[Conversation]; 5] = [&CONVERSATIONS, &DEBUGGING, &RECORDINGS, &REQUESTS, &STATES];
 
 /// What the program wrote, and its status.
 #[derive(Drop)]
