@@ -65,11 +65,11 @@ all_head b bs h = h 0 0 (omega arith)
 all_tail : (b : ℕ) (bs : List ℕ) → NoFeed (b ∷ bs) → NoFeed bs
 all_tail b bs h = λ k d l. h (suc k) d (omega arith)
 
-lines_fed : (line rest : List ℕ) → NoFeed line → lines_of (line ++ 10 ∷ rest) ≡ line ∷ lines_of rest
+pub lines_fed : (line rest : List ℕ) → NoFeed line → lines_of (line ++ 10 ∷ rest) ≡ line ∷ lines_of rest
 lines_fed [] rest h = refl
 lines_fed (b ∷ bs) rest h = rw (all_head b bs h, lines_fed bs rest (all_tail b bs h)) refl
 
-lines_last : (line : List ℕ) → NoFeed line → line ≢ [] → lines_of line ≡ line ∷ []
+pub lines_last : (line : List ℕ) → NoFeed line → line ≢ [] → lines_of line ≡ line ∷ []
 lines_last [] h n = absurd (n refl)
 lines_last (b ∷ []) h n = rw (all_head b [] h) refl
 lines_last (b ∷ c ∷ bs) h n = rw (all_head b (c ∷ bs) h, lines_last (c ∷ bs) (all_tail b (c ∷ bs) h) (λ e. cc e)) refl

@@ -14,4 +14,4 @@ pub use command::{Asked, Command, every_line_asks, read_command};
 pub use recorded::{is_callback_line, read_step};
 pub use recording::{is_callback, push_recording, recording_text};
 pub use state::{push_state, state_text};
-pub use trace::{push_seen, seen_text};
+pub use trace::{push_line, push_seen, seen_text};
