@@ -5,3 +5,6 @@ pub mod Loops
 pub mod Talking
 pub mod Starting
 mod OneAnswer
+pub mod Reruns
+pub mod Recordings
+pub mod Replays

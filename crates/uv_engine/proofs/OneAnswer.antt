@@ -17,7 +17,7 @@ use Rattle.uv_session.specs.declared.breaks.Break.{Break}
 use Rattle.uv_session.specs.Shown.{Shown, moved_back}
 use Rattle.uv_session.specs.Moving.{moved_forward, BREAKS}
 use Rattle.uv_text.specs.declared.command.Command.{Command}
-use Rattle.uv_text.specs.declared.command.Command.TheVariants.{Loop, Step, Back, Forward, AddBreak, ClearBreaks, BackToBreak, Trace, State, Quit}
+use Rattle.uv_text.specs.declared.command.Command.TheVariants.{Loop, Step, Back, Forward, AddBreak, ClearBreaks, BackToBreak, Trace, State, Record, Quit}
 use Rattle.uv_text.specs.declared.command.Asked.{Asked}
 use Rattle.uv_text.specs.declared.command.Asked.TheVariants.{Nothing, Do, Bad}
 use Rattle.uv_text.proofs.Commands.{asks, asks_one}
@@ -39,6 +39,7 @@ prints_one ClearBreaks s a b h k = h ∙ sym k
 prints_one BackToBreak s a b h k = h ∙ sym k
 prints_one Trace s a b h k = h ∙ sym k
 prints_one State s a b h k = h ∙ sym k
+prints_one Record s a b h k = h ∙ sym k
 prints_one Quit s a b h k = h ∙ sym k
 
 answers_one : (asked : Asked) (s : Shown) (a b : List ℕ) → IsAnswer asked s a → IsAnswer asked s b → a ≡ b
@@ -98,6 +99,7 @@ same_program (Do ClearBreaks) s = refl
 same_program (Do BackToBreak) s = break_back_program s (last_break s)
 same_program (Do Trace) s = refl
 same_program (Do State) s = refl
+same_program (Do Record) s = refl
 same_program (Do Quit) s = refl
 
 still_distinct : (asked : Asked) (s : Shown) → AreDistinct s.program.names → AreDistinct (asked_after asked s).program.names

@@ -19,7 +19,7 @@ use Rattle.uv_engine.proofs.Talking.{EveryLine, some_talk}
 use Rattle.uv_engine.proofs.Replies.{same_shown}
 use Rattle.uv_engine.specs.Input.{TakesLine, NoFeed, Buffered, pending, left}
 use Rattle.uv_engine.specs.Out.{Out, Begins, NeverBegins, Ends, BadScript, IsCut, Converses, IsDeviceFault, fresh_session, talks, here, here_at_end, later, nothing, last_line, one_line, bad_line, no_begin, bad_input, HasAnswer}
-use Rattle.uv_engine.specs.Start.{HasScript, ReadsScript, MissesBegin, after_last, at_line, NoScript, IsStartFault, with_line}
+use Rattle.uv_engine.specs.Start.{HasScript, ReadsScript, IsFront, ParsesFront, MissesBegin, after_last, at_line, NoScript, IsStartFault, with_line}
 
 -- what was read goes on to the whole input: where the rest has a script its front is this text, and where the rest is
 -- never `begin` nor is the whole, which is this text and the rest
@@ -90,34 +90,39 @@ parsed input text after (Err (fault.Differs at)) b h = absurd h
 parsed input text after (Err fault.Limit) b h = absurd h
 
 -- the line `begin` was read
-pub script_read : {input text before line : List ℕ} (after : List ℕ) (fed : Bool) (r : Result Program Fault) → CanBegin input text before
-    → TakesLine before line fed after → line ≡ codes "begin" → Parses text r → ReadsScript input r after
-script_read {input} {text} {before} {line} after fed r h k e p =
-    parsed input text after r (subst (λ (xs : List ℕ). Begins input xs after) (append-nil text)
-    (h.begins [] after (begins_here before line after fed k e))) p
+pub front_begun : {input text before line : List ℕ} (after : List ℕ) (fed : Bool) → CanBegin input text before → TakesLine before line fed after →
+    line ≡ codes "begin" → Begins input text after
+front_begun {input} {text} {before} {line} after fed h k e =
+    subst (λ (xs : List ℕ). Begins input xs after) (append-nil text) (h.begins [] after (begins_here before line after fed k e))
+
+-- the input is at its end
+pub front_missing : {input text before : List ℕ} → CanBegin input text before → before ≡ [] → NeverBegins input × (input ≡ text)
+front_missing {input} {text} {before} h e =
+    (h.never (subst NeverBegins (sym e) nothing), h.whole ∙ ap (λ (xs : List ℕ). text ++ xs) e ∙ append-nil text)
 
 missing : (input text : List ℕ) (line : ℕ) → NeverBegins input → input ≡ text → MissesBegin text line → Out input [] (BadScript line)
 missing input text _ n e (after_last p h) = subst (λ (xs : List ℕ). Out input [] (BadScript (length (lines_of xs) + 1))) e
     (no_begin p n (subst (λ (xs : List ℕ). IsScript xs p) (sym e) h))
 missing input text line n e (at_line h) = bad_input n (subst (λ (xs : List ℕ). IsBadLine xs line) (sym e) h)
 
--- the input is at its end
-pub script_missing : {input text before : List ℕ} (after : List ℕ) (f : Fault) → CanBegin input text before → before ≡ [] → NoScript text f
-    → ReadsScript input (Err f) after
-script_missing {input} {text} {before} after (fault.Script line) h e m =
-    missing input text line (h.never (subst NeverBegins (sym e) nothing)) (h.whole ∙ ap (λ (xs : List ℕ). text ++ xs) e ∙ append-nil text) m
-script_missing {input} {text} {before} after fault.Memory h e m = tt
-script_missing {input} {text} {before} after (fault.Refused why) h e m = absurd m
-script_missing {input} {text} {before} after fault.StepsFull h e m = absurd m
-script_missing {input} {text} {before} after fault.Read h e m = absurd m
-script_missing {input} {text} {before} after fault.Write h e m = absurd m
-script_missing {input} {text} {before} after (fault.Torn at) h e m = absurd m
-script_missing {input} {text} {before} after fault.Stalled h e m = absurd m
-script_missing {input} {text} {before} after (fault.Differs at) h e m = absurd m
-script_missing {input} {text} {before} after fault.Limit h e m = absurd m
+-- what the text in front of `begin` says
+pub front_read : (input text rest : List ℕ) (begun : Bool) (r : Result Program Fault) → IsFront input text begun rest → ParsesFront text begun r →
+    ReadsScript input r rest
+front_read input text rest true r h p = parsed input text rest r h p
+front_read input text rest false (Ok q) h p = absurd p
+front_read input text rest false (Err (fault.Script line)) h p = missing input text line h.0 h.1 p
+front_read input text rest false (Err fault.Memory) h p = tt
+front_read input text rest false (Err (fault.Refused why)) h p = absurd p
+front_read input text rest false (Err fault.StepsFull) h p = absurd p
+front_read input text rest false (Err fault.Read) h p = absurd p
+front_read input text rest false (Err fault.Write) h p = absurd p
+front_read input text rest false (Err (fault.Torn at)) h p = absurd p
+front_read input text rest false (Err fault.Stalled) h p = absurd p
+front_read input text rest false (Err (fault.Differs at)) h p = absurd p
+front_read input text rest false (Err fault.Limit) h p = absurd p
 
 -- what a parse may answer are faults of a start
-pub start_fault : (text : List ℕ) (f : Fault) → Parses text (Err f) → IsStartFault f
+start_fault : (text : List ℕ) (f : Fault) → Parses text (Err f) → IsStartFault f
 start_fault text (fault.Script line) h = tt
 start_fault text fault.Memory h = tt
 start_fault text (fault.Refused why) h = absurd h
@@ -128,6 +133,23 @@ start_fault text (fault.Torn at) h = absurd h
 start_fault text fault.Stalled h = absurd h
 start_fault text (fault.Differs at) h = absurd h
 start_fault text fault.Limit h = absurd h
+
+missing_fault : (text : List ℕ) (f : Fault) → NoScript text f → IsStartFault f
+missing_fault text (fault.Script line) h = tt
+missing_fault text fault.Memory h = tt
+missing_fault text (fault.Refused why) h = absurd h
+missing_fault text fault.StepsFull h = absurd h
+missing_fault text fault.Read h = absurd h
+missing_fault text fault.Write h = absurd h
+missing_fault text (fault.Torn at) h = absurd h
+missing_fault text fault.Stalled h = absurd h
+missing_fault text (fault.Differs at) h = absurd h
+missing_fault text fault.Limit h = absurd h
+
+pub front_fault : (text : List ℕ) (begun : Bool) (r : Result Program Fault) → ParsesFront text begun r → IfErr r IsStartFault
+front_fault text begun (Ok p) h = tt
+front_fault text true (Err f) h = start_fault text f h
+front_fault text false (Err f) h = missing_fault text f h
 
 -- a script that has no line `begin`
 pub no_script : (text : List ℕ) (p : Program) (f : Fault) → IsScript text p → f ≡ fault.Script (length (lines_of text) + 1) → NoScript text f

@@ -2,7 +2,7 @@
 use Rattle.std.proofs.Common.{◌≡◌, ◌≢◌, ℕ, List, [], ◌∷◌, ◌++◌, Result, Ok, Err, suc, ◌==◌, arith, Bool, true, false, refl, ap, sym, ◌∙◌, subst, append_assoc, append-nil}
 use Rattle.uv_ids.specs.declared.fault.Fault.{Fault}
 use Rattle.uv_session.specs.Shown.{Shown}
-use Rattle.uv_text.specs.declared.command.Command.TheVariants.{Loop, Step, Back, Forward, AddBreak, ClearBreaks, BackToBreak, Trace, State, Quit}
+use Rattle.uv_text.specs.declared.command.Command.TheVariants.{Loop, Step, Back, Forward, AddBreak, ClearBreaks, BackToBreak, Trace, State, Record, Quit}
 use Rattle.uv_text.specs.declared.command.Asked.{Asked}
 use Rattle.uv_text.specs.declared.command.Asked.TheVariants.{Nothing, Do, Bad}
 use Rattle.uv_text.specs.Commands.{Asks}
@@ -56,6 +56,7 @@ some_talk every (line ∷ lines) s = at (asked_of s.program.names line) (every s
   at (Do BackToBreak) a k = on_line line lines s (Do BackToBreak) _ a (λ e. cc e) refl (k _)
   at (Do Trace) a k = on_line line lines s (Do Trace) _ a (λ e. cc e) refl (k s)
   at (Do State) a k = on_line line lines s (Do State) _ a (λ e. cc e) refl (k s)
+  at (Do Record) a k = on_line line lines s (Do Record) _ a (λ e. cc e) refl (k s)
   at (Do Quit) a k = record { text = []; end = ended.Quit; is = quits a }
 
 all_head : (b : ℕ) (bs : List ℕ) → NoFeed (b ∷ bs) → (b == 10) ≡ false
@@ -64,11 +65,11 @@ all_head b bs h = h 0 0 (omega arith)
 all_tail : (b : ℕ) (bs : List ℕ) → NoFeed (b ∷ bs) → NoFeed bs
 all_tail b bs h = λ k d l. h (suc k) d (omega arith)
 
-lines_fed : (line rest : List ℕ) → NoFeed line → lines_of (line ++ 10 ∷ rest) ≡ line ∷ lines_of rest
+pub lines_fed : (line rest : List ℕ) → NoFeed line → lines_of (line ++ 10 ∷ rest) ≡ line ∷ lines_of rest
 lines_fed [] rest h = refl
 lines_fed (b ∷ bs) rest h = rw (all_head b bs h, lines_fed bs rest (all_tail b bs h)) refl
 
-lines_last : (line : List ℕ) → NoFeed line → line ≢ [] → lines_of line ≡ line ∷ []
+pub lines_last : (line : List ℕ) → NoFeed line → line ≢ [] → lines_of line ≡ line ∷ []
 lines_last [] h n = absurd (n refl)
 lines_last (b ∷ []) h n = rw (all_head b [] h) refl
 lines_last (b ∷ c ∷ bs) h n = rw (all_head b (c ∷ bs) h, lines_last (c ∷ bs) (all_tail b (c ∷ bs) h) (λ e. cc e)) refl

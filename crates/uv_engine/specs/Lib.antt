@@ -8,3 +8,6 @@ pub mod Gather
 pub mod Out
 pub mod Talk
 pub mod Start
+pub mod Recordings
+pub mod Verdict
+pub mod Rerun

@@ -1,11 +1,11 @@
 -- How a conversation's script is read.
-use Rattle.std.specs.Prelude.{ℕ, ◌+◌, List, [], ◌∷◌, ◌++◌, Bool, true, false, length, Result, Ok, Err}
+use Rattle.std.specs.Prelude.{◌≡◌, ℕ, ◌+◌, List, [], ◌∷◌, ◌++◌, Bool, true, false, length, Result, Ok, Err}
 use Rattle.uv_ids.specs.declared.fault.Fault.{Fault}
 use Rattle.uv_ids.specs.declared.fault.Fault.TheVariants as fault
 use Rattle.uv_script.specs.Program.{Program}
 use Rattle.uv_script.specs.Lines.{lines_of}
-use Rattle.uv_script.specs.Grammar.{IsScript, IsBadLine}
-use Rattle.uv_engine.specs.Out.{Out, Begins, BadScript}
+use Rattle.uv_script.specs.Grammar.{IsScript, IsBadLine, Parses}
+use Rattle.uv_engine.specs.Out.{Out, Begins, NeverBegins, BadScript}
 
 -- a line as it stood in the text
 abbrev pub with_line : List ℕ → Bool → List ℕ
@@ -40,3 +40,14 @@ abbrev pub NoScript : List ℕ → Fault → Type 0
 NoScript text (fault.Script line) = MissesBegin text line
 NoScript text fault.Memory = Unit {0}
 NoScript text _ = ⊥
+
+-- the text in front of the line `begin`, or the whole text where there is no such line
+abbrev pub IsFront : List ℕ → List ℕ → Bool → List ℕ → Type 0
+IsFront input text true rest = Begins input text rest
+IsFront input text false rest = NeverBegins input × (input ≡ text)
+
+-- what may be answered to it
+abbrev pub ParsesFront : List ℕ → Bool → Result Program Fault → Type 0
+ParsesFront text true r = Parses text r
+ParsesFront text false (Ok p) = ⊥
+ParsesFront text false (Err fault) = NoScript text fault

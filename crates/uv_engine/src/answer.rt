@@ -14,7 +14,7 @@ use crate::sink::{Sink, write_out};
 use uv_ids::{Event, Fault, Seen};
 use uv_model::Machine;
 use uv_script::Script;
-use uv_text::{Asked, Command, push_seen, push_state};
+use uv_text::{Asked, Command, push_recording, push_seen, push_state};
 
 /// How much text is gathered before it is written, in bytes.
 const FULL: usize = 8192;
@@ -104,6 +104,7 @@ impl<M: Machine> Conversation<M> {
             Command::ClearBreaks => Ok(clear_breaks(&mut self.session, &mut self.text)?),
             Command::BackToBreak => Ok(back_to_break(&mut self.session, &mut self.text)?),
             Command::State => Ok(push_state(&mut self.text, &self.session)?),
+            Command::Record => Ok(push_recording(&mut self.text, &self.session)?),
             Command::Quit => Ok(()),
         }
     }

@@ -5,14 +5,20 @@ mod answer;
 mod conversation;
 mod devices;
 mod input;
+mod numbered;
+mod replaying;
 mod reply;
+mod rerun;
 mod script;
 mod sink;
 mod source;
 #[cfg(test)]
 mod tests;
+mod verdict;
 
 pub use conversation::{Ended, converse, one_answer};
 pub use devices::{Reader, Writer};
+pub use replaying::replay;
 pub use sink::{Sink, WriteFailed};
 pub use source::{ReadFailed, Source};
+pub use verdict::Verdict;

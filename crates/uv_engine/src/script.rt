@@ -1,16 +1,23 @@
 //! The script in front of a conversation.
-ghost use Rattle.std.specs.Prelude.{◌≡◌, ◌≢◌, ◌++◌, [], ◌∷◌, IfOk, IfErr, OnOk, true, false, codes, length, ◌+◌, ◌<◌};
+ghost use Rattle.std.specs.Prelude.{◌≡◌, ◌≢◌, ◌++◌, [], ◌∷◌, IfOk, IfErr, OnOk, true, false, codes, length, ◌+◌, ◌<◌, ◌≤◌};
 ghost use Rattle.uv_script.specs.Lines.{lines_of};
 ghost use Rattle.uv_engine.specs.Devices.{ReaderCounts};
-ghost use Rattle.uv_engine.specs.Input.{left, EndIsSeen};
-ghost use Rattle.uv_engine.specs.Taking.{SpendsBudget};
-ghost use Rattle.uv_engine.specs.Start.{ReadsScript, NoScript, IsStartFault, with_line};
+ghost use Rattle.uv_engine.specs.Input.{left, EndIsSeen, size};
+ghost use Rattle.uv_engine.specs.Taking.{SpendsBudget, IsReadFault};
+ghost use Rattle.uv_engine.specs.Start.{ReadsScript, IsFront, ParsesFront, NoScript, IsStartFault, with_line};
 
 use crate::input::{Input, Line};
 use crate::source::Source;
 use std::alloc::{AllocError, Global};
 use uv_ids::Fault;
 use uv_script::{Script, line_count};
+
+/// The text in front of the line `begin`, or the whole text where there is no such line.
+#[derive(Drop)]
+pub(crate) struct Front {
+    pub(crate) text: Vec<u8>,
+    pub(crate) begun: bool,
+}
 
 /// Reads the script: the lines before the line `begin`.
 pub fn read_script<R: Source>(
@@ -26,15 +33,46 @@ pub fn read_script<R: Source>(
     ensures reader { ReaderCounts result (R.Tells → input.old.budget < length (R.remaining reader.old))
         (R.failures reader.old) (R.failures reader.new) }
 {
+    let front = read_front(alloc, input, reader)?;
+    parse_front(alloc, &front)
+}
+
+/// Reads the text in front of the line `begin`, and that line.
+pub(crate) fn read_front<R: Source>(
+    alloc: Global,
+    input: &mut Input,
+    reader: &mut R,
+) -> Result<Front, Fault>
+    requires end { R.Tells → EndIsSeen input.old (R.remaining reader.old) }
+    ensures front { IfOk result (λ front. R.Tells → IsFront (left input.old (R.remaining reader.old)) front.text.items front.begun
+        (left input.new (R.remaining reader.new))) }
+    ensures size { IfOk result (λ front. front.begun ≡ true → size input.new ≤ size input.old) }
+    ensures end { OnOk result (R.Tells → EndIsSeen input.new (R.remaining reader.new)) }
+    ensures budget { OnOk result (R.Tells → SpendsBudget input.old (R.remaining reader.old) input.new (R.remaining reader.new)) }
+    ensures err { IfErr result IsReadFault }
+    ensures reader { ReaderCounts result (R.Tells → input.old.budget < length (R.remaining reader.old))
+        (R.failures reader.old) (R.failures reader.new) }
+{
     let mut text = Vec::new(alloc);
     'lines: loop {
         let Some(line) = input.next_line(reader)? else {
-            return Err(without_begin(alloc, text.as_slice()));
+            return Ok(Front { text, begun: false });
         };
         if is_begin(&line) {
-            return Script::parse(alloc, text.as_slice());
+            return Ok(Front { text, begun: true });
         }
         push_line(&mut text, &line)?;
+    }
+}
+
+/// The script of a text in front of `begin`.
+pub(crate) fn parse_front(alloc: Global, front: &Front) -> Result<Script, Fault>
+    ensures { ParsesFront front.now.text.items front.now.begun result }
+{
+    if front.begun {
+        Script::parse(alloc, front.text.as_slice())
+    } else {
+        Err(without_begin(alloc, front.text.as_slice()))
     }
 }
 

@@ -13,7 +13,7 @@ use Rattle.uv_ids.specs.declared.event.Event.TheVariants.{Take, Finish, Cancel, 
 use Rattle.uv_ids.specs.declared.phase.Phase.{Phase}
 use Rattle.uv_ids.specs.declared.phase.Phase.TheVariants as phase
 use Rattle.uv_ids.specs.Words.{code_word, phase_word}
-use Rattle.uv_script.specs.Lines.{fields_of}
+use Rattle.uv_script.specs.Lines.{fields_of, IsLine}
 use Rattle.uv_script.specs.Words.{IsNumber, IsDeclared}
 use Rattle.uv_script.specs.Checks.{is_line, is_skipped, number_of}
 use Rattle.uv_script.proofs.AfterLines.{line_begins}
@@ -26,7 +26,7 @@ use Rattle.uv_session.specs.declared.breaks.Break.TheVariants as at
 use Rattle.uv_text.specs.declared.command.Command.{Command}
 use Rattle.uv_text.specs.declared.command.Command.TheVariants.{Loop, Step, Back, Forward, AddBreak}
 use Rattle.uv_text.specs.declared.command.Asked.{Asked}
-use Rattle.uv_text.specs.declared.command.Asked.TheVariants.{Nothing, Bad}
+use Rattle.uv_text.specs.declared.command.Asked.TheVariants.{Nothing, Do, Bad}
 use Rattle.uv_text.specs.Commands as is
 use Rattle.uv_text.specs.Commands.{IsBreak, IsStep, IsCommand, IsNoCommand, Asks, nothing, command, bad, MOST, LAST_WORKER}
 use Rattle.uv_text.specs.Reading.{code_of, phase_of, section_of, break_of, command_alone, worker_step, step_by, command_by, clears, command_with, command_with_two, command_of, asked_for, asked_of}
@@ -109,7 +109,8 @@ alone_right names word =
     (λ _. cond_both (bytes_eq word (codes "rback")) _ _ P (λ a. is.back_to_break (alone word _ (same _ _ a)))
     (λ _. cond_both (bytes_eq word (codes "trace")) _ _ P (λ a. is.trace (alone word _ (same _ _ a)))
     (λ _. cond_both (bytes_eq word (codes "state")) _ _ P (λ a. is.state (alone word _ (same _ _ a)))
-    (λ _. cond_both (bytes_eq word (codes "quit")) _ _ P (λ a. is.quit (alone word _ (same _ _ a))) (λ _. tt)))))
+    (λ _. cond_both (bytes_eq word (codes "record")) _ _ P (λ a. is.recording (alone word _ (same _ _ a)))
+    (λ _. cond_both (bytes_eq word (codes "quit")) _ _ P (λ a. is.quit (alone word _ (same _ _ a))) (λ _. tt))))))
 
 -- what was found for a word and what follows it is right
 abbrev RightStep : List (List ℕ) → List ℕ → List ℕ → Option Event → Type 0
@@ -325,6 +326,7 @@ reads_command names fields c (is.clear_breaks e) = reads names fields c (ap (com
 reads_command names fields c (is.back_to_break e) = reads names fields c (ap (command_of names) e)
 reads_command names fields c (is.trace e) = reads names fields c (ap (command_of names) e)
 reads_command names fields c (is.state e) = reads names fields c (ap (command_of names) e)
+reads_command names fields c (is.recording e) = reads names fields c (ap (command_of names) e)
 reads_command names fields c (is.quit e) = reads names fields c (ap (command_of names) e)
 
 -- where nothing is read there is no command
@@ -367,6 +369,7 @@ says_something names line c (is.clear_breaks e) = line_begins line _ _ _ e
 says_something names line c (is.back_to_break e) = line_begins line _ _ _ e
 says_something names line c (is.trace e) = line_begins line _ _ _ e
 says_something names line c (is.state e) = line_begins line _ _ _ e
+says_something names line c (is.recording e) = line_begins line _ _ _ e
 says_something names line c (is.quit e) = line_begins line _ _ _ e
 
 reads_only : (names fields : List (List ℕ)) (c : Command) → AreDistinct names → IsCommand names fields c → command_of names fields ≡ Some c
@@ -395,5 +398,12 @@ asks_one names line a b distinct h k = asks_only names line a distinct h ∙ sym
 
 pub asks_read : (names : List (List ℕ)) (line : List ℕ) (asked : Asked) → asked ≡ asked_of names line → Asks names line asked
 asks_read names line asked e = rw e (asks names line)
+
+-- a step from outside is found, if not the same one where a name is declared twice
+pub step_found : (names : List (List ℕ)) (line : List ℕ) (e : Event) → IsLine line → IsCommand names (fields_of line) (Step e) →
+    (step : Event) × (asked_of names line ≡ Do (Step step))
+step_found names line e l (is.step word argument _ f h) =
+    let r = reads_step names word argument e h in
+    (r.step, rw ((is_line_decides line).1 l, step_says line word argument f h, f, r.found) refl)
 
 pub ruleset reading = (asks, asks_read, asks_one)

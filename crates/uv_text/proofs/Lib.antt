@@ -1,2 +1,4 @@
 pub mod Commands
 pub mod Pieces
+pub mod Recordings
+pub mod StepLines

@@ -2,3 +2,5 @@ pub mod Trace
 pub mod Commands
 pub mod Reading
 pub mod State
+pub mod Recording
+pub mod Recorded

@@ -31,6 +31,8 @@ pub enum Command {
     Trace,
     /// `state`: shows the state.
     State,
+    /// `record`: shows the recording of the standing steps.
+    Record,
     /// `quit`: ends the conversation.
     Quit,
 }
@@ -102,6 +104,8 @@ fn alone(word: &[u8]) -> Option<Command>
         Some(Command::Trace)
     } else if word == b"state".as_slice() {
         Some(Command::State)
+    } else if word == b"record".as_slice() {
+        Some(Command::Record)
     } else if word == b"quit".as_slice() {
         Some(Command::Quit)
     } else {

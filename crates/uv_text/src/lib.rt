@@ -1,13 +1,17 @@
-//! The texts that a person sees, and the reader of the commands that a person gives.
+//! The texts that a person sees, and the readers of commands and of recordings.
 #![tactic(auto)]
 
 mod breaks;
 mod command;
+mod recorded;
+mod recording;
 mod state;
 #[cfg(test)]
 mod tests;
 mod trace;
 
 pub use command::{Asked, Command, every_line_asks, read_command};
+pub use recorded::{is_callback_line, read_step};
+pub use recording::{is_callback, push_recording, recording_text};
 pub use state::{push_state, state_text};
-pub use trace::{push_seen, seen_text};
+pub use trace::{push_line, push_seen, seen_text};

@@ -26,7 +26,8 @@ pub fn push_seen(text: &mut Vec<u8>, script: &Script, seen: Seen) -> Result<(), 
     text.extend_from_slice(b"\n")
 }
 
-fn push_line(text: &mut Vec<u8>, script: &Script, seen: Seen) -> Result<(), AllocError>
+/// Puts a trace line behind a text, without a line feed.
+pub fn push_line(text: &mut Vec<u8>, script: &Script, seen: Seen) -> Result<(), AllocError>
     ensures { OnOk result (text.new.items ≡ text.old.items ++ line_text script.now seen) }
 {
     match seen {

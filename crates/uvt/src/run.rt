@@ -1,16 +1,17 @@
 //! The program over any reader and writers.
 ghost use Rattle.std.specs.Prelude.{◌≡◌};
-ghost use Rattle.uvt.specs.Status.{Runs, status_of};
+ghost use Rattle.uvt.specs.Status.{Runs, Reruns, Ran, status_of};
 
 use crate::command_line::{Job, NoJob, read_words};
 use std::alloc::Global;
 use std::io::Write;
-use uv_engine::{Sink, Source, converse, one_answer};
+use uv_engine::{Sink, Source, converse, one_answer, replay};
 use uv_ids::Fault;
 use uv_model::PlainLoop;
 
 /// Does what the words say, of which the first is the program's own, and gives the exit status: 0 where it is done, 2 for a
-/// bad command line or a bad script, 4 for any other fault. A fault is a line on the errors, `uvt: ` and its text.
+/// bad command line, a bad script or a bad recording, 3 where a recording's verdict isn't `same`, 4 for any other fault. A fault
+/// is a line on the errors, `uvt: ` and its text.
 ///
 /// The handle is for commands that start threads; none does so far.
 pub fn run<H, R: Source, W: Sink, E: Write>(
@@ -21,7 +22,7 @@ pub fn run<H, R: Source, W: Sink, E: Write>(
     writer: &mut W,
     errors: &mut E,
 ) -> u8
-    ensures text { R.Tells → W.Tells → Runs (R.remaining reader.old) (W.written writer.old) (W.written writer.new) result }
+    ensures text { R.Tells → W.Tells → Ran (R.remaining reader.old) (W.written writer.old) (W.written writer.new) result }
 
     // A terminal doesn't tell its bytes. Yet with status 0 neither device has failed.
     ensures reader { result ≡ 0 → R.failures reader.new ≡ R.failures reader.old }
@@ -30,6 +31,7 @@ pub fn run<H, R: Source, W: Sink, E: Write>(
     one_answer();
     match read_words(alloc, words) {
         Ok(Job::Debug) => debug(alloc, reader, writer, errors),
+        Ok(Job::Replay) => rerun(alloc, reader, writer, errors),
         Err(NoJob::BadWords) => bad_words(errors),
         Err(NoJob::Memory) => fail(Fault::Memory, errors),
     }
@@ -51,6 +53,22 @@ fn debug<R: Source, W: Sink, E: Write>(
     }
 }
 
+fn rerun<R: Source, W: Sink, E: Write>(
+    alloc: Global,
+    reader: &mut R,
+    writer: &mut W,
+    errors: &mut E,
+) -> u8
+    ensures text { R.Tells → W.Tells → Reruns (R.remaining reader.old) (W.written writer.old) (W.written writer.new) result }
+    ensures reader { result ≡ 0 → R.failures reader.new ≡ R.failures reader.old }
+    ensures writer { result ≡ 0 → W.failures writer.new ≡ W.failures writer.old }
+{
+    match replay::<PlainLoop, _, _>(alloc, reader, writer) {
+        Ok(()) => 0,
+        Err(fault) => fail(fault, errors),
+    }
+}
+
 /// Says that the command line is bad, and gives the exit status.
 pub fn bad_words<E: Write>(errors: &mut E) -> u8
     ensures { result ≡ 2 }
@@ -66,6 +84,7 @@ pub fn fail<E: Write>(fault: Fault, errors: &mut E) -> u8
     let _ = writeln!(errors, "uvt: {fault}");
     match fault {
         Fault::Script { .. } => 2,
+        Fault::Differs { .. } | Fault::Refused(_) | Fault::StepsFull => 3,
         _ => 4,
     }
 }

@@ -2,11 +2,15 @@
 
 mod conversations;
 mod debugging;
+mod recordings;
+mod replays;
 mod requests;
 mod states;
 
 use self::conversations::{CONVERSATIONS, Conversation};
 use self::debugging::DEBUGGING;
+use self::recordings::RECORDINGS;
+use self::replays::REPLAYS;
 use self::requests::REQUESTS;
 use self::states::STATES;
 use crate::run::run;
@@ -17,8 +21,8 @@ use std::test::Fail;
 use uv_engine::{Reader, Writer};
 
 /// All conversations, in groups.
-fn groups() -> [&'static [Conversation]; 4] {
-    [&CONVERSATIONS, &DEBUGGING, &REQUESTS, &STATES]
+fn groups() -> [&'static [Conversation]; 5] {
+    [&CONVERSATIONS, &DEBUGGING, &RECORDINGS, &REQUESTS, &STATES]
 }
 
 /// What the program wrote, and its status.
@@ -61,6 +65,27 @@ fn answers_whole_conversations(rt: HostRuntime) {
         );
         assert_eq!(rt; ran.errors.as_slice(), b"".as_slice(), "{}", one.what);
         assert_eq!(rt; ran.status, 0, "{}", one.what);
+    }
+}
+
+#[test]
+fn replays_recordings(rt: HostRuntime) {
+    let alloc = rt.alloc();
+    for one in &REPLAYS {
+        let ran = run_on(alloc, &["uvt", "replay"], one.input.as_bytes());
+        assert_eq!(rt;
+            ran.output.as_slice(),
+            one.output.as_bytes(),
+            "{}",
+            one.what
+        );
+        assert_eq!(rt;
+            ran.errors.as_slice(),
+            one.errors.as_bytes(),
+            "{}",
+            one.what
+        );
+        assert_eq!(rt; ran.status, one.status, "{}", one.what);
     }
 }
 

@@ -62,3 +62,12 @@ pub returns-in_err-push_state-in-State-clause-text : goal.returns-in_err-push_st
 returns-in_err-push_state-in-State-clause-text g c = λ tells.
     let p = err_from_is_err_and c.from_residual-in_err-push_state-in-State.result c.from_residual-in_err-push_state-in-State.ensures.1 in
     rw (p.1, c.in-State.is) (one_fault _ refl)
+
+pub returns-in_ok-push_recording-in-Record-clause-text : goal.returns-in_ok-push_recording-in-Record-clause-text
+returns-in_ok-push_recording-in-Record-clause-text g c = λ tells. rw c.in-Record.is (one_text _ refl c.in_ok-push_recording-in-Record.ensures)
+
+pub returns-in_err-push_recording-in-Record-clause-text : goal.returns-in_err-push_recording-in-Record-clause-text
+returns-in_err-push_recording-in-Record-clause-text g c = λ tells.
+    let p = err_from_is_err_and c.from_residual-in_err-push_recording-in-Record.result
+    c.from_residual-in_err-push_recording-in-Record.ensures.1 in
+    rw (p.1, c.in-Record.is) (one_fault _ refl)

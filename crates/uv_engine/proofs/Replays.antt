@@ -1,0 +1,204 @@
+-- The parts of a recording, as a replay reads and runs them.
+use Rattle.std.proofs.Common.{◌≡◌, ◌≢◌, ℕ, ◌+◌, List, [], ◌∷◌, ◌++◌, Bool, true, false, length, Option, Some, None, Ok, Err, refl, ap, sym, subst, ◌∙◌, arith, append-nil, codes}
+use Rattle.uv_ids.specs.declared.event.Event.{Event}
+use Rattle.uv_ids.specs.declared.fault.Fault.{Fault}
+use Rattle.uv_ids.specs.declared.fault.Fault.TheVariants as fault
+use Rattle.uv_script.specs.Program.{Program}
+use Rattle.uv_script.specs.Lines.{lines_of}
+use Rattle.uv_text.specs.Recorded.{SaysStep, IsCallbackLine}
+use Rattle.uv_engine.specs.declared.verdict.Verdict.{Verdict}
+use Rattle.uv_engine.specs.Input.{TakesLine}
+use Rattle.uv_engine.specs.Recordings.{Part, Start, InScript, InSteps, InCalls, Whole, Reads, version, step, calls, callback, ends, ReadsAll, IsBadFrom}
+use Rattle.uv_engine.specs.Start.{IsFront, ParsesFront}
+use Rattle.uv_engine.specs.Sink.{CutShort}
+use Rattle.uv_engine.specs.Gather.{CutOff}
+use Rattle.uv_engine.specs.Verdict.{IsVerdict, HasVerdict, verdict_text, Tells, cut_short, Replays, no_memory, no_read}
+use Rattle.uv_engine.specs.Verdict as verdict
+use Rattle.uv_engine.specs.Recordings as grammar
+use Rattle.uv_engine.specs.Rerun.{ReadsTo, RanSo, HasSteps, Met, HasCalls, FailsAt}
+use Rattle.uv_engine.proofs.Recordings.{reads_none, reads_then, reads_line, bad_then, bad_line, bad_end, only_version, only_steps, only_calls, only_whole, script_read}
+use Rattle.uv_engine.proofs.Gathers.{short_of_cut}
+use Rattle.uv_script.specs.Grammar.{blank}
+
+-- ---- the first line and the script
+
+pub version_read : (a b : ℕ) (old line new : List ℕ) (fed : Bool) → b ≡ a + 1 → TakesLine old line fed new → line ≡ codes "uvt 1" →
+    ReadsTo Start a old (InScript blank) b new
+version_read a b old line new fed n takes is =
+    reads_line Start (InScript blank) a b old line new fed n takes
+    (subst (λ (l : List ℕ). Reads Start l (InScript blank)) (sym is) version)
+
+pub version_bad : (a b : ℕ) (old line new : List ℕ) (fed : Bool) → b ≡ a + 1 → TakesLine old line fed new → line ≢ codes "uvt 1" →
+    IsBadFrom Start a old b
+version_bad a b old line new fed n takes other = bad_line Start a b old line new fed n takes (only_version line other)
+
+pub front_read : (input text rest : List ℕ) (begun : Bool) (p : Program) (a n : ℕ) → IsFront input text begun rest → ParsesFront text begun (Ok p) →
+    n ≡ length (lines_of text) → ReadsTo (InScript blank) a input (InSteps p []) (a + (n + 1)) rest
+front_read input text rest true p a n h is e = script_read input text rest p a (a + (n + 1)) h is (omega (arith, e))
+front_read input text rest false p a n h is e = absurd is
+
+-- ---- the steps
+
+-- some lines were read as steps, and run
+pub record StepsSo (p : Program) (a : ℕ) (old : List ℕ) (b : ℕ) (new : List ℕ) (standing : List Event) (halted : Option Verdict) : Type 0 where
+  pub steps : List Event
+  pub reads : ReadsTo (InSteps p []) a old (InSteps p steps) b new
+  pub ran : RanSo p steps standing halted
+
+pub steps_none : (p : Program) (a : ℕ) (old : List ℕ) (standing : List Event) (halted : Option Verdict) → RanSo p [] standing halted →
+    StepsSo p a old a old standing halted
+steps_none p a old standing halted h = record { steps = []; reads = reads_none (InSteps p []) a old; ran = h }
+
+pub steps_more : {p : Program} {a b : ℕ} {old mid : List ℕ} {xs ys : List Event} {h k : Option Verdict} (c : ℕ) (line new : List ℕ) (fed : Bool)
+    (e : Event) → StepsSo p a old b mid xs h → c ≡ b + 1 → TakesLine mid line fed new → SaysStep p.names line e →
+    ((es : List Event) → RanSo p es xs h → RanSo p (es ++ e ∷ []) ys k) → StepsSo p a old c new ys k
+steps_more {p} {a} {b} {old} {mid} {xs} {ys} {h} {k} c line new fed e so n takes says ran = record {
+  steps = so.steps ++ e ∷ [];
+  reads = reads_then (InSteps p []) (InSteps p so.steps) (InSteps p (so.steps ++ e ∷ [])) a b c old mid new so.reads
+      (reads_line (InSteps p so.steps) (InSteps p (so.steps ++ e ∷ [])) b c mid line new fed n takes (step says));
+  ran = ran so.steps so.ran;
+}
+
+pub steps_end : {p : Program} {a b : ℕ} {old mid : List ℕ} {xs : List Event} {h : Option Verdict} (c : ℕ) (line new : List ℕ) (fed : Bool) →
+    StepsSo p a old b mid xs h → c ≡ b + 1 → TakesLine mid line fed new → line ≡ codes "calls" → HasSteps p a old c new xs h
+steps_end {p} {a} {b} {old} {mid} {xs} {h} c line new fed so n takes is = record {
+  steps = so.steps;
+  reads = reads_then (InSteps p []) (InSteps p so.steps) (InCalls p so.steps []) a b c old mid new so.reads
+      (reads_line (InSteps p so.steps) (InCalls p so.steps []) b c mid line new fed n takes
+      (subst (λ (l : List ℕ). Reads (InSteps p so.steps) l (InCalls p so.steps [])) (sym is) calls));
+  ran = so.ran;
+}
+
+pub steps_bad : {p : Program} {a b : ℕ} {old mid : List ℕ} {xs : List Event} {h : Option Verdict} (c : ℕ) (line new : List ℕ) (fed : Bool) →
+    StepsSo p a old b mid xs h → c ≡ b + 1 → TakesLine mid line fed new → line ≢ codes "calls" → ((e : Event) → SaysStep p.names line e → ⊥) →
+    IsBadFrom (InSteps p []) a old c
+steps_bad {p} {a} {b} {old} {mid} {xs} {h} c line new fed so n takes other none =
+    bad_then (InSteps p []) (InSteps p so.steps) a b c old mid so.reads
+    (bad_line (InSteps p so.steps) b c mid line new fed n takes (only_steps p so.steps line other none))
+
+pub steps_missing : {p : Program} {a b : ℕ} {old mid : List ℕ} {xs : List Event} {h : Option Verdict} (c : ℕ) → StepsSo p a old b mid xs h →
+    c ≡ b + 1 → mid ≡ [] → IsBadFrom (InSteps p []) a old c
+steps_missing {p} {a} {b} {old} {mid} {xs} {h} c so n e =
+    bad_then (InSteps p []) (InSteps p so.steps) a b c old mid so.reads (bad_end (InSteps p so.steps) b c mid n e tt)
+
+-- ---- the callbacks
+
+-- some lines were read as callbacks, and compared
+pub record CallsSo (p : Program) (es standing : List Event) (halted : Option Verdict) (a : ℕ) (old : List ℕ) (b : ℕ) (new : List ℕ)
+    (looked count : ℕ) (parted : Option ℕ) : Type 0 where
+  pub called : List (List ℕ)
+  pub reads : ReadsTo (InCalls p es []) a old (InCalls p es called) b new
+  pub met : Met p standing halted called looked count parted
+
+met_none : (p : Program) (standing : List Event) (halted : Option Verdict) → Met p standing halted [] 0 0 None
+met_none p standing None = (refl, refl)
+met_none p standing (Some v) = tt
+
+pub calls_none : (p : Program) (es standing : List Event) (halted : Option Verdict) (a : ℕ) (old : List ℕ) (looked count : ℕ) (parted : Option ℕ) →
+    looked ≡ 0 → count ≡ 0 → parted ≡ None → CallsSo p es standing halted a old a old looked count parted
+calls_none p es standing halted a old looked count parted x y z = record {
+  called = [];
+  reads = reads_none (InCalls p es []) a old;
+  met = rw (x, y, z) (met_none p standing halted);
+}
+
+pub calls_more : {p : Program} {es xs : List Event} {h : Option Verdict} {a b : ℕ} {old mid : List ℕ} {i n : ℕ} {o : Option ℕ}
+    (c : ℕ) (line new : List ℕ) (fed : Bool) (j m : ℕ) (q : Option ℕ) → CallsSo p es xs h a old b mid i n o → c ≡ b + 1 →
+    TakesLine mid line fed new → IsCallbackLine line →
+    ((called : List (List ℕ)) → Met p xs h called i n o → Met p xs h (called ++ line ∷ []) j m q) → CallsSo p es xs h a old c new j m q
+calls_more {p} {es} {xs} {h} {a} {b} {old} {mid} {i} {n} {o} c line new fed j m q so k takes is met = record {
+  called = so.called ++ line ∷ [];
+  reads = reads_then (InCalls p es []) (InCalls p es so.called) (InCalls p es (so.called ++ line ∷ [])) a b c old mid new so.reads
+      (reads_line (InCalls p es so.called) (InCalls p es (so.called ++ line ∷ [])) b c mid line new fed k takes (callback is));
+  met = met so.called so.met;
+}
+
+pub calls_end : {p : Program} {es xs : List Event} {h : Option Verdict} {a b : ℕ} {old mid : List ℕ} {i n : ℕ} {o : Option ℕ}
+    (c : ℕ) (line new : List ℕ) (fed : Bool) → CallsSo p es xs h a old b mid i n o → c ≡ b + 1 → TakesLine mid line fed new → line ≡ codes "end" →
+    HasCalls p es xs h a old c new i n o
+calls_end {p} {es} {xs} {h} {a} {b} {old} {mid} {i} {n} {o} c line new fed so k takes is = record {
+  called = so.called;
+  reads = reads_then (InCalls p es []) (InCalls p es so.called) (Whole p es so.called) a b c old mid new so.reads
+      (reads_line (InCalls p es so.called) (Whole p es so.called) b c mid line new fed k takes
+      (subst (λ (l : List ℕ). Reads (InCalls p es so.called) l (Whole p es so.called)) (sym is) ends));
+  met = so.met;
+}
+
+pub calls_bad : {p : Program} {es xs : List Event} {h : Option Verdict} {a b : ℕ} {old mid : List ℕ} {i n : ℕ} {o : Option ℕ}
+    (c : ℕ) (line new : List ℕ) (fed : Bool) → CallsSo p es xs h a old b mid i n o → c ≡ b + 1 → TakesLine mid line fed new → line ≢ codes "end" →
+    (IsCallbackLine line → ⊥) → IsBadFrom (InCalls p es []) a old c
+calls_bad {p} {es} {xs} {h} {a} {b} {old} {mid} {i} {n} {o} c line new fed so k takes other none =
+    bad_then (InCalls p es []) (InCalls p es so.called) a b c old mid so.reads
+    (bad_line (InCalls p es so.called) b c mid line new fed k takes (only_calls p es so.called line other none))
+
+pub calls_missing : {p : Program} {es xs : List Event} {h : Option Verdict} {a b : ℕ} {old mid : List ℕ} {i n : ℕ} {o : Option ℕ} (c : ℕ) →
+    CallsSo p es xs h a old b mid i n o → c ≡ b + 1 → mid ≡ [] → IsBadFrom (InCalls p es []) a old c
+calls_missing {p} {es} {xs} {h} {a} {b} {old} {mid} {i} {n} {o} c so k e =
+    bad_then (InCalls p es []) (InCalls p es so.called) a b c old mid so.reads (bad_end (InCalls p es so.called) b c mid k e tt)
+
+-- ---- the end
+
+pub end_bad : (p : Program) (es : List Event) (called : List (List ℕ)) (a b : ℕ) (old line new : List ℕ) (fed : Bool) → b ≡ a + 1 →
+    TakesLine old line fed new → IsBadFrom (Whole p es called) a old b
+end_bad p es called a b old line new fed n takes = bad_line (Whole p es called) a b old line new fed n takes (only_whole p es called line)
+
+pub end_read : (p : Program) (es : List Event) (called : List (List ℕ)) (a b : ℕ) (old : List ℕ) → b ≡ a → old ≡ [] →
+    ReadsTo (Whole p es called) a old (Whole p es called) b []
+end_read p es called a b old n e = record {
+  before = [];
+  lines_are = ap lines_of e;
+  counted = omega (arith, n);
+  read = grammar.none;
+}
+
+-- ---- the whole
+
+pub fails_then : (x y : Part) (a b : ℕ) (old mid : List ℕ) (f : Fault) → ReadsTo x a old y b mid → FailsAt y b mid f → FailsAt x a old f
+fails_then x y a b old mid (fault.Script line) h k = bad_then x y a b line old mid h k
+fails_then x y a b old mid fault.Memory h k = tt
+fails_then x y a b old mid fault.Read h k = tt
+fails_then x y a b old mid fault.Write h k = absurd k
+fails_then x y a b old mid fault.StepsFull h k = absurd k
+fails_then x y a b old mid (fault.Refused why) h k = absurd k
+fails_then x y a b old mid (fault.Torn place) h k = absurd k
+fails_then x y a b old mid fault.Stalled h k = absurd k
+fails_then x y a b old mid (fault.Differs place) h k = absurd k
+fails_then x y a b old mid fault.Limit h k = absurd k
+
+pub has_verdict : {p : Program} {b1 b2 b3 b4 b5 : ℕ} {input r1 r2 r3 r4 : List ℕ} {standing : List Event} {halted : Option Verdict}
+    {looked count : ℕ} {parted : Option ℕ} (v : Verdict) → ReadsTo Start 0 input (InScript blank) b1 r1 →
+    ReadsTo (InScript blank) b1 r1 (InSteps p []) b2 r2 → (steps : HasSteps p b2 r2 b3 r3 standing halted) →
+    (met_calls : HasCalls p steps.steps standing halted b3 r3 b4 r4 looked count parted) →
+    ReadsTo (Whole p steps.steps met_calls.called) b4 r4 (Whole p steps.steps met_calls.called) b5 [] →
+    ((es : List Event) → (called : List (List ℕ)) → RanSo p es standing halted → Met p standing halted called looked count parted →
+    IsVerdict p es called v) → HasVerdict input v
+has_verdict {p} {b1} {b2} {b3} {b4} {b5} {input} {r1} {r2} {r3} {r4} {standing} {halted} {looked} {count} {parted} v h1 h2 steps met_calls h5 is =
+    let es = steps.steps in
+    let whole = Whole p es met_calls.called in
+    let front = reads_then Start (InScript blank) (InSteps p []) 0 b1 b2 input r1 r2 h1 h2 in
+    let ran = reads_then Start (InSteps p []) (InCalls p es []) 0 b2 b3 input r2 r3 front steps.reads in
+    let met = reads_then Start (InCalls p es []) whole 0 b3 b4 input r3 r4 ran met_calls.reads in
+    let all = reads_then Start whole whole 0 b4 b5 input r4 [] met h5 in
+    record {
+      program = p;
+      steps = es;
+      called = met_calls.called;
+      recording = subst (λ (ls : List (List ℕ)). ReadsAll Start ls whole) (sym (all.lines_are ∙ append-nil all.before)) all.read;
+      verdict = is es met_calls.called steps.ran met_calls.met;
+    }
+
+pub fails_replay : (input old : List ℕ) (f : Fault) → FailsAt Start 0 input f → Replays input (Err f) old old
+fails_replay input old (fault.Script line) h = verdict.bad_line line refl h refl
+fails_replay input old fault.Memory h = no_memory refl refl
+fails_replay input old fault.Read h = no_read refl refl
+fails_replay input old fault.Write h = absurd h
+fails_replay input old fault.StepsFull h = absurd h
+fails_replay input old (fault.Refused why) h = absurd h
+fails_replay input old (fault.Torn place) h = absurd h
+fails_replay input old fault.Stalled h = absurd h
+fails_replay input old (fault.Differs place) h = absurd h
+fails_replay input old fault.Limit h = absurd h
+
+-- the writer failed
+pub told_short : (v : Verdict) (old text w : List ℕ) → text ≡ verdict_text v → CutOff old ((old ++ text) ++ []) w → Tells v (Err fault.Write) old w
+told_short v old text w e h = cut_short refl (subst (λ (t : List ℕ). CutShort old t w) e (short_of_cut h))

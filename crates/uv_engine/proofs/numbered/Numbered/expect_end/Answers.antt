@@ -1,0 +1,14 @@
+use Rattle.uv_engine.proofs.Replays.{end_bad, end_read}
+use Rattle.uv_engine.proofs.numbered.Numbered.expect_end.Goals as goal
+
+pub returns-in_default-clause-read : goal.returns-in_default-clause-read
+returns-in_default-clause-read g c = λ reads p es called.
+    let none_left = rw c.in_default.is at (c.in_ok-next_line.ensures.line reads) in
+    let same = rw c.in_default.is at c.in_ok-next_line.ensures.none in
+    end_read p es called _ _ _ same none_left
+
+pub returns-clause-read : goal.returns-clause-read
+returns-clause-read g c = λ reads p es called.
+    let taken = rw c.in-Some.is at (c.in_ok-next_line.ensures.line reads) in
+    let count = rw c.in-Some.is at c.in_ok-next_line.ensures.taken in
+    rw c.bad.ensures (end_bad p es called _ _ _ c.in-Some.field-0.text.items _ c.in-Some.field-0.fed count taken)

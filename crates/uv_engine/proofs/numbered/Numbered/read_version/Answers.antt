@@ -1,0 +1,26 @@
+use Rattle.std.proofs.Common.{ℕ, ◌+◌, ap, sym, ◌∙◌}
+use Rattle.uv_engine.specs.Recordings.{Start}
+use Rattle.uv_engine.proofs.Recordings.{bad_end}
+use Rattle.uv_engine.proofs.Replays.{version_read, version_bad}
+use Rattle.uv_engine.proofs.numbered.Numbered.read_version.Goals as goal
+
+pub returns-in_default-clause-read : goal.returns-in_default-clause-read
+returns-in_default-clause-read g c = λ reads.
+    let none_left = rw c.in_default.is at (c.in_ok-line.ensures.line reads) in
+    let same = rw c.in_default.is at c.in_ok-line.ensures.none in
+    rw c.missing.ensures (bad_end Start _ _ _ (ap (λ (n : ℕ). n + 1) same) none_left tt)
+
+pub returns-then-is_version-clause-read : goal.returns-then-is_version-clause-read
+returns-then-is_version-clause-read g c = λ reads.
+    let taken = rw c.in-Some.is at (c.in_ok-line.ensures.line reads) in
+    let count = rw c.in-Some.is at c.in_ok-line.ensures.taken in
+    version_read _ _ _ c.in-Some.line.text.items _ c.in-Some.line.fed count taken
+    (sym c.as_slice.ensures.value ∙ c.is_version.ensures.is c.if-is_version.true)
+
+pub returns-clause-read : goal.returns-clause-read
+returns-clause-read g c = λ reads.
+    let taken = rw c.in-Some.is at (c.in_ok-line.ensures.line reads) in
+    let count = rw c.in-Some.is at c.in_ok-line.ensures.taken in
+    rw c.bad.ensures
+    (version_bad _ _ _ c.in-Some.line.text.items _ c.in-Some.line.fed count taken
+    (λ e. c.is_version.ensures.other c.if-is_version.false (c.as_slice.ensures.value ∙ e)))

@@ -1,0 +1,64 @@
+use Rattle.std.proofs.Common.{ℕ, ◌+◌, arith, refl, ap, sym, subst, ◌∙◌}
+use Rattle.std.proofs.lemmas.Bool.{both_ways}
+use Rattle.uv_text.specs.Recorded.{IsCallbackLine}
+use Rattle.uv_engine.proofs.Replays.{calls_none, calls_more, calls_end, calls_bad, calls_missing}
+use Rattle.uv_engine.proofs.replaying.read_calls.Goals as goal
+
+pub lines-init : goal.lines-init
+lines-init g c = record {
+  end = c.requires.end;
+  reads = λ reads es. calls_none _ _ _ _ _ _ _ _ _ c.requires.looked c.requires.count c.requires.parted;
+  machine = refl;
+  halted = refl;
+  looked = rw c.requires.looked (omega arith);
+  count = rw c.requires.count (omega arith);
+  few = omega arith;
+  budget = λ reads. refl;
+  none_failed = refl;
+}
+
+pub returns-in_default-clause-calls : goal.returns-in_default-clause-calls
+returns-in_default-clause-calls g c = λ reads es.
+    let none_left = rw c.in_default.is at (c.in_ok-line.ensures.line reads) in
+    let same = rw c.in_default.is at c.in_ok-line.ensures.none in
+    rw c.missing.ensures (calls_missing _ (c.lines.invariant.reads reads es) (ap (λ (n : ℕ). n + 1) same) none_left)
+
+pub returns-then-is_end-clause-calls : goal.returns-then-is_end-clause-calls
+returns-then-is_end-clause-calls g c = λ reads es.
+    let taken = rw c.in-Some.is at (c.in_ok-line.ensures.line reads) in
+    let count = rw c.in-Some.is at c.in_ok-line.ensures.taken in
+    calls_end _ c.in-Some.line.text.items _ c.in-Some.line.fed (c.lines.invariant.reads reads es) count taken
+    (sym c.as_slice.ensures.value ∙ c.is_end.ensures.is c.if-is_end.true)
+
+pub returns-then-not-is_callback_line-clause-calls : goal.returns-then-not-is_callback_line-clause-calls
+returns-then-not-is_callback_line-clause-calls g c = λ reads es.
+    let taken = rw c.in-Some.is at (c.in_ok-line.ensures.line reads) in
+    let count = rw c.in-Some.is at c.in_ok-line.ensures.taken in
+    rw c.bad.ensures
+    (calls_bad _ c.in-Some.line.text.items _ c.in-Some.line.fed (c.lines.invariant.reads reads es) count taken
+    (λ e. c.is_end.ensures.other c.if-is_end.false (c.as_slice.ensures.value ∙ e))
+    (λ h. both_ways _ c.if-not-is_callback_line.true
+    (c.is_callback_line.ensures.1 (subst IsCallbackLine (sym c.as_slice-in-lines.ensures.value) h))))
+
+pub lines-preserved : goal.lines-preserved
+lines-preserved g c = record {
+  end = c.in_ok-line.ensures.end;
+  reads = λ reads es.
+      let taken = rw c.in-Some.is at (c.in_ok-line.ensures.line reads) in
+      let count = rw c.in-Some.is at c.in_ok-line.ensures.taken in
+      let is = subst IsCallbackLine c.as_slice-in-lines.ensures.value (c.is_callback_line.ensures.0 c.if-not-is_callback_line.false) in
+      calls_more _ c.in-Some.line.text.items _ c.in-Some.line.fed _ _ _ (c.lines.invariant.reads reads es) count taken is
+      (rw (c.lines.invariant.machine, c.lines.invariant.halted, c.as_slice-in-lines-2.ensures.value) at c.in_ok-meet.ensures.met);
+  machine = c.in_ok-meet.ensures.machine ∙ c.lines.invariant.machine;
+  halted = c.in_ok-meet.ensures.halted ∙ c.lines.invariant.halted;
+  looked = rw c.lines.invariant.machine at c.in_ok-meet.ensures.looked;
+  count =
+      let taken = rw c.in-Some.is at c.in_ok-line.ensures.taken in
+      omega (arith, taken, c.in_ok-meet.ensures.count, c.lines.invariant.count);
+  few =
+      let taken = rw c.in-Some.is at c.in_ok-line.ensures.taken in
+      let smaller = rw c.in-Some.is at c.in_ok-line.ensures.size in
+      omega (arith, taken, smaller, c.lines.invariant.few);
+  budget = λ reads. omega (arith, c.lines.invariant.budget reads, c.in_ok-line.ensures.budget reads);
+  none_failed = c.in_ok-line.ensures.reader ∙ c.lines.invariant.none_failed;
+}

@@ -1,0 +1,59 @@
+use Rattle.std.proofs.Common.{arith, refl, ap, sym, ◌∙◌}
+use Rattle.uv_script.specs.Program.{Program}
+use Rattle.uv_model.proofs.Runs.{accepts-nil}
+use Rattle.uv_engine.proofs.Replays.{steps_none, steps_more, steps_end, steps_bad}
+use Rattle.uv_engine.proofs.replaying.read_steps.Goals as goal
+
+pub lines-init : goal.lines-init
+lines-init g c = record {
+  end = c.requires.end;
+  reads = λ reads. steps_none _ _ _ _ _ (rw (c.requires.fresh, c.requires.running) (refl, (accepts-nil _, omega arith)));
+  few_steps = rw c.requires.fresh (omega arith);
+  program = refl;
+  looked = refl;
+  count = refl;
+  parted = refl;
+  few = omega arith;
+  budget = λ reads. refl;
+  none_failed = refl;
+}
+
+pub returns-then-is_calls-clause-steps : goal.returns-then-is_calls-clause-steps
+returns-then-is_calls-clause-steps g c = λ reads.
+    let taken = rw c.in-Some.is at (c.in_ok-line.ensures.line reads) in
+    let count = rw c.in-Some.is at c.in_ok-line.ensures.taken in
+    steps_end _ c.in-Some.line.text.items _ c.in-Some.line.fed (c.lines.invariant.reads reads) count taken
+    (sym c.as_slice.ensures.value ∙ c.is_calls.ensures.is c.if-is_calls.true)
+
+pub returns-in_default-read_step-clause-steps : goal.returns-in_default-read_step-clause-steps
+returns-in_default-read_step-clause-steps g c = λ reads.
+    let taken = rw c.in-Some.is at (c.in_ok-line.ensures.line reads) in
+    let count = rw c.in-Some.is at c.in_ok-line.ensures.taken in
+    let names = c.names-names.ensures.names ∙ ap (λ (p : Program). p.names) (c.script.ensures ∙ c.lines.invariant.program) in
+    let none = rw (c.as_slice-in-lines.ensures.value, names) at c.in_default-read_step.ensures.none in
+    rw c.bad.ensures
+    (steps_bad _ c.in-Some.line.text.items _ c.in-Some.line.fed (c.lines.invariant.reads reads) count taken
+    (λ e. c.is_calls.ensures.other c.if-is_calls.false (c.as_slice.ensures.value ∙ e)) none)
+
+pub lines-preserved : goal.lines-preserved
+lines-preserved g c = record {
+  end = c.in_ok-line.ensures.end;
+  reads = λ reads.
+      let taken = rw c.in-Some.is at (c.in_ok-line.ensures.line reads) in
+      let count = rw c.in-Some.is at c.in_ok-line.ensures.taken in
+      let names = c.names-names.ensures.names ∙ ap (λ (p : Program). p.names) (c.script.ensures ∙ c.lines.invariant.program) in
+      let says = rw (c.as_slice-in-lines.ensures.value, names) at c.in-Some-read_step.ensures.some in
+      steps_more _ c.in-Some.line.text.items _ c.in-Some.line.fed c.in-Some-read_step.step (c.lines.invariant.reads reads) count taken says
+      (rw c.lines.invariant.program at c.in_ok-take.ensures.ran);
+  few_steps = c.in_ok-take.ensures.few;
+  program = c.in_ok-take.ensures.program ∙ c.lines.invariant.program;
+  looked = c.in_ok-take.ensures.looked ∙ c.lines.invariant.looked;
+  count = c.in_ok-take.ensures.count ∙ c.lines.invariant.count;
+  parted = c.in_ok-take.ensures.parted ∙ c.lines.invariant.parted;
+  few =
+      let count = rw c.in-Some.is at c.in_ok-line.ensures.taken in
+      let smaller = rw c.in-Some.is at c.in_ok-line.ensures.size in
+      omega (arith, count, smaller, c.lines.invariant.few);
+  budget = λ reads. omega (arith, c.lines.invariant.budget reads, c.in_ok-line.ensures.budget reads);
+  none_failed = c.in_ok-line.ensures.reader ∙ c.lines.invariant.none_failed;
+}

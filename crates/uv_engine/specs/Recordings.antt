@@ -1,0 +1,58 @@
+-- The grammar of recordings: which lines make which recording.
+use Rattle.std.specs.Prelude.{◌≡◌, ℕ, ◌+◌, List, [], ◌∷◌, ◌++◌, length, codes}
+use Rattle.uv_ids.specs.declared.event.Event.{Event}
+use Rattle.uv_script.specs.Program.{Program}
+use Rattle.uv_script.specs.Lines.{lines_of}
+use Rattle.uv_script.specs.Grammar as script
+use Rattle.uv_script.specs.Grammar.{blank}
+use Rattle.uv_text.specs.Recorded.{SaysStep, IsCallbackLine}
+
+-- how far a recording was read: the script so far, the steps, and the lines of callbacks
+pub data Part : Type 0 where
+  Start : Part
+  InScript : Program → Part
+  InSteps : Program → List Event → Part
+  InCalls : Program → List Event → List (List ℕ) → Part
+  -- its last line was read
+  Whole : Program → List Event → List (List ℕ) → Part
+
+-- the line goes on from one part to another
+pub data Reads : Part → List ℕ → Part → Type 0 where
+  version : Reads Start (codes "uvt 1") (InScript blank)
+  in_script : {p q : Program} {line : List ℕ} → script.Reads p line q → Reads (InScript p) line (InScript q)
+  begins : {p : Program} → Reads (InScript p) (codes "begin") (InSteps p [])
+  step : {p : Program} {es : List Event} {e : Event} {line : List ℕ} → SaysStep p.names line e →
+      Reads (InSteps p es) line (InSteps p (es ++ e ∷ []))
+  calls : {p : Program} {es : List Event} → Reads (InSteps p es) (codes "calls") (InCalls p es [])
+  callback : {p : Program} {es : List Event} {called : List (List ℕ)} {line : List ℕ} → IsCallbackLine line →
+      Reads (InCalls p es called) line (InCalls p es (called ++ line ∷ []))
+  ends : {p : Program} {es : List Event} {called : List (List ℕ)} → Reads (InCalls p es called) (codes "end") (Whole p es called)
+
+-- so do these lines, one after another
+pub data ReadsAll : Part → List (List ℕ) → Part → Type 0 where
+  none : {x : Part} → ReadsAll x [] x
+  one : {x y z : Part} {line : List ℕ} {lines : List (List ℕ)} → Reads x line y → ReadsAll y lines z → ReadsAll x (line ∷ lines) z
+
+-- the recording of a text
+abbrev pub IsRecording : List ℕ → Program → List Event → List (List ℕ) → Type 0
+IsRecording text p es called = ReadsAll Start (lines_of text) (Whole p es called)
+
+-- the recording can't go on with these lines: the next one goes on nowhere, or it is missing
+abbrev pub IsStuck : Part → List (List ℕ) → Type 0
+IsStuck x (line ∷ lines) = (y : Part) → Reads x line y → ⊥
+IsStuck (Whole p es called) [] = ⊥
+IsStuck x [] = Unit {0}
+
+-- behind so many lines, a text goes on from a part up to this line, from 1, which is outside the grammar or missing
+pub record IsBadFrom (x : Part) (lines : ℕ) (text : List ℕ) (number : ℕ) : Type 0 where
+  pub before : List (List ℕ)
+  pub after : List (List ℕ)
+  pub part : Part
+  pub lines_are : lines_of text ≡ before ++ after
+  pub counted : number ≡ lines + length before + 1
+  pub read : ReadsAll x before part
+  pub stuck : IsStuck part after
+
+-- the text's first line outside the grammar of recordings, or the one behind its last line where it isn't whole
+abbrev pub IsBadLine : List ℕ → ℕ → Type 0
+IsBadLine text number = IsBadFrom Start 0 text number

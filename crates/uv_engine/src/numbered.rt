@@ -1,0 +1,144 @@
+//! The lines of a recording, with their numbers.
+ghost use Rattle.std.specs.Prelude.{◌≡◌, ◌≢◌, ◌<◌, ◌≤◌, ◌+◌, ◌-◌, ◌^◌, [], List, ℕ, length, true, false, codes, IfOk, IfErr, IfNone, OnOk, OnSome};
+ghost use Rattle.uv_ids.specs.declared.event.Event.{Event};
+ghost use Rattle.uv_script.specs.Grammar.{blank};
+ghost use Rattle.uv_script.specs.Program.{Program};
+ghost use Rattle.uv_engine.specs.Devices.{ReaderCounts};
+ghost use Rattle.uv_engine.specs.Input.{left, EndIsSeen, size};
+ghost use Rattle.uv_engine.specs.Recordings.{Start, InScript, InSteps, Whole};
+ghost use Rattle.uv_engine.specs.Rerun.{CanCount, ReadsPart, IsReadingFault};
+ghost use Rattle.uv_engine.specs.Taking.{TakesNext, SpendsBudget, IsReadFault};
+
+use crate::input::{Input, Line};
+use crate::script::{parse_front, read_front};
+use crate::source::Source;
+use std::alloc::Global;
+use uv_ids::Fault;
+use uv_script::{Script, line_count};
+
+/// An input, and how many lines were taken of it.
+#[derive(Drop)]
+pub(crate) struct Numbered {
+    pub(crate) input: Input,
+    pub(crate) taken: usize,
+}
+
+impl Numbered {
+    /// The next line; none at the end of the input.
+    pub(crate) fn next_line<R: Source>(&mut self, reader: &mut R) -> Result<Option<Line>, Fault>
+        requires end { R.Tells → EndIsSeen self.old.input (R.remaining reader.old) }
+        requires few { CanCount self.old.taken self.old.input }
+        ensures line { IfOk result (λ line. R.Tells → TakesNext (left self.old.input (R.remaining reader.old)) line
+            (left self.new.input (R.remaining reader.new))) }
+        ensures taken { IfOk result (λ line. OnSome line (self.new.taken ≡ self.old.taken + 1)) }
+        ensures none { IfOk result (λ line. IfNone line (self.new.taken ≡ self.old.taken)) }
+        ensures size { IfOk result (λ line. OnSome line (size self.new.input < size self.old.input)) }
+        ensures end { OnOk result (R.Tells → EndIsSeen self.new.input (R.remaining reader.new)) }
+        ensures budget { OnOk result (R.Tells → SpendsBudget self.old.input (R.remaining reader.old) self.new.input (R.remaining reader.new)) }
+        ensures err { IfErr result IsReadFault }
+        ensures reader { ReaderCounts result (R.Tells → self.old.input.budget < length (R.remaining reader.old))
+            (R.failures reader.old) (R.failures reader.new) }
+    {
+        let line = self.input.next_line(reader)?;
+        if line.is_some() {
+            self.taken += 1;
+        }
+        Ok(line)
+    }
+
+    /// The last line that was taken is bad.
+    pub(crate) fn bad(&self) -> Fault
+        ensures { result ≡ Fault.Script self.now.taken }
+    {
+        Fault::Script { line: self.taken }
+    }
+
+    /// A line is missing behind the last one.
+    pub(crate) fn missing(&self) -> Fault
+        requires { self.now.taken < 2 ^ 64 - 1 }
+        ensures { result ≡ Fault.Script (self.now.taken + 1) }
+    {
+        Fault::Script {
+            line: self.taken + 1,
+        }
+    }
+
+    /// Reads the first line, which names the format.
+    pub(crate) fn read_version<R: Source>(&mut self, reader: &mut R) -> Result<(), Fault>
+        requires end { R.Tells → EndIsSeen self.old.input (R.remaining reader.old) }
+        requires few { CanCount self.old.taken self.old.input }
+        ensures read { R.Tells → ReadsPart (λ _. InScript blank) Start self.old.taken (left self.old.input (R.remaining reader.old))
+            result self.new.taken (left self.new.input (R.remaining reader.new)) }
+        ensures few { OnOk result (self.new.taken + size self.new.input ≤ self.old.taken + size self.old.input) }
+        ensures end { OnOk result (R.Tells → EndIsSeen self.new.input (R.remaining reader.new)) }
+        ensures budget { OnOk result (R.Tells → SpendsBudget self.old.input (R.remaining reader.old) self.new.input (R.remaining reader.new)) }
+        ensures err { IfErr result IsReadingFault }
+        ensures reader { ReaderCounts result (R.Tells → self.old.input.budget < length (R.remaining reader.old))
+            (R.failures reader.old) (R.failures reader.new) }
+    {
+        let Some(line) = self.next_line(reader)? else {
+            return Err(self.missing());
+        };
+        if is_version(line.text.as_slice()) {
+            Ok(())
+        } else {
+            Err(self.bad())
+        }
+    }
+
+    /// Reads the script, and the line `begin`.
+    pub(crate) fn read_script<R: Source>(
+        &mut self,
+        alloc: Global,
+        reader: &mut R,
+    ) -> Result<Script, Fault>
+        requires end { R.Tells → EndIsSeen self.old.input (R.remaining reader.old) }
+        requires few { self.old.taken + size self.old.input < 2 ^ 62 }
+        ensures read { R.Tells → ReadsPart (λ (script : Program). InSteps script []) (InScript blank) self.old.taken
+            (left self.old.input (R.remaining reader.old)) result self.new.taken (left self.new.input (R.remaining reader.new)) }
+        ensures few { OnOk result (CanCount self.new.taken self.new.input) }
+        ensures end { OnOk result (R.Tells → EndIsSeen self.new.input (R.remaining reader.new)) }
+        ensures budget { OnOk result (R.Tells → SpendsBudget self.old.input (R.remaining reader.old) self.new.input (R.remaining reader.new)) }
+        ensures err { IfErr result IsReadingFault }
+        ensures reader { ReaderCounts result (R.Tells → self.old.input.budget < length (R.remaining reader.old))
+            (R.failures reader.old) (R.failures reader.new) }
+    {
+        let front = read_front(alloc, &mut self.input, reader)?;
+        let lines = line_count(front.text.as_slice());
+        match parse_front(alloc, &front) {
+            Ok(script) => {
+                self.taken += lines + 1;
+                Ok(script)
+            }
+            Err(Fault::Script { line }) => Err(Fault::Script {
+                line: self.taken + line,
+            }),
+            Err(fault) => Err(fault),
+        }
+    }
+
+    /// Wants no line more.
+    pub(crate) fn expect_end<R: Source>(&mut self, reader: &mut R) -> Result<(), Fault>
+        requires end { R.Tells → EndIsSeen self.old.input (R.remaining reader.old) }
+        requires few { CanCount self.old.taken self.old.input }
+        ensures read { R.Tells → (p : Program) → (es : List Event) → (called : List (List ℕ)) → ReadsPart (λ _. Whole p es called)
+            (Whole p es called) self.old.taken (left self.old.input (R.remaining reader.old))
+            result self.new.taken [] }
+        ensures err { IfErr result IsReadingFault }
+        ensures reader { ReaderCounts result (R.Tells → self.old.input.budget < length (R.remaining reader.old))
+            (R.failures reader.old) (R.failures reader.new) }
+    {
+        let Some(_) = self.next_line(reader)? else {
+            return Ok(());
+        };
+        Err(self.bad())
+    }
+}
+
+/// Whether this is a recording's first line.
+fn is_version(line: &[u8]) -> bool
+    ensures is { result ≡ true → line.now ≡ codes "uvt 1" }
+    ensures other { result ≡ false → line.now ≢ codes "uvt 1" }
+{
+    line == b"uvt 1".as_slice()
+}

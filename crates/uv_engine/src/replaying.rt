@@ -1,0 +1,155 @@
+//! The replay of a recording.
+ghost use Rattle.std.specs.Prelude.{◌≡◌, ◌≢◌, ◌<◌, ◌≤◌, ◌+◌, ◌-◌, ◌^◌, [], None, List, length, true, false, codes, IfErr, OnOk};
+ghost use Rattle.uv_ids.specs.declared.event.Event.{Event};
+ghost use Rattle.uv_engine.specs.Devices.{ReaderCounts, WriterCounts};
+ghost use Rattle.uv_engine.specs.Input.{left, EndIsSeen, size};
+ghost use Rattle.uv_engine.specs.Rerun.{CanCount, ReadsSteps, ReadsCalls, Judges, IsReadingFault};
+ghost use Rattle.uv_engine.specs.Taking.{SpendsBudget};
+ghost use Rattle.uv_engine.specs.Verdict.{Replays};
+
+use crate::input::Input;
+use crate::numbered::Numbered;
+use crate::rerun::Rerun;
+use crate::sink::Sink;
+use crate::source::Source;
+use crate::verdict::Verdict;
+use std::alloc::Global;
+use uv_ids::Fault;
+use uv_model::Machine;
+use uv_text::{is_callback_line, read_step};
+
+/// Runs the steps that a recording has, up to the line `calls`.
+fn read_steps<M: Machine, R: Source>(
+    rerun: &mut Rerun<M>,
+    input: &mut Numbered,
+    reader: &mut R,
+) -> Result<(), Fault>
+    requires end { R.Tells → EndIsSeen input.old.input (R.remaining reader.old) }
+    requires few { CanCount input.old.taken input.old.input }
+    requires fresh { M.standing rerun.old.machine ≡ [] }
+    requires running { rerun.old.halted ≡ None }
+    ensures steps { R.Tells → ReadsSteps (M.program rerun.old.machine) input.old.taken (left input.old.input (R.remaining reader.old)) result
+        input.new.taken (left input.new.input (R.remaining reader.new)) (M.standing rerun.new.machine) rerun.new.halted }
+    ensures program { OnOk result (M.program rerun.new.machine ≡ M.program rerun.old.machine) }
+    ensures looked { rerun.new.looked ≡ rerun.old.looked }
+    ensures count { rerun.new.count ≡ rerun.old.count }
+    ensures parted { rerun.new.parted ≡ rerun.old.parted }
+    ensures few { OnOk result (CanCount input.new.taken input.new.input) }
+    ensures end { OnOk result (R.Tells → EndIsSeen input.new.input (R.remaining reader.new)) }
+    ensures budget { OnOk result (R.Tells → SpendsBudget input.old.input (R.remaining reader.old) input.new.input (R.remaining reader.new)) }
+    ensures err { IfErr result IsReadingFault }
+    ensures reader { ReaderCounts result (R.Tells → input.old.input.budget < length (R.remaining reader.old))
+        (R.failures reader.old) (R.failures reader.new) }
+{
+    'lines: loop {
+        let Some(line) = input.next_line(reader)? else {
+            return Err(input.missing());
+        };
+        if is_calls(line.text.as_slice()) {
+            return Ok(());
+        }
+        let names = rerun.machine.script().names();
+        let Some(step) = read_step(names, line.text.as_slice()) else {
+            return Err(input.bad());
+        };
+        rerun.take(step)?;
+    }
+}
+
+fn is_calls(line: &[u8]) -> bool
+    ensures is { result ≡ true → line.now ≡ codes "calls" }
+    ensures other { result ≡ false → line.now ≢ codes "calls" }
+{
+    line == b"calls".as_slice()
+}
+
+/// Compares the callbacks that a recording has, up to the line `end`.
+fn read_calls<M: Machine, R: Source>(
+    rerun: &mut Rerun<M>,
+    alloc: Global,
+    input: &mut Numbered,
+    reader: &mut R,
+) -> Result<(), Fault>
+    requires end { R.Tells → EndIsSeen input.old.input (R.remaining reader.old) }
+    requires few { CanCount input.old.taken input.old.input }
+    requires looked { rerun.old.looked ≡ 0 }
+    requires count { rerun.old.count ≡ 0 }
+    requires parted { rerun.old.parted ≡ None }
+    ensures calls { R.Tells → (es : List Event) → ReadsCalls (M.program rerun.old.machine) es (M.standing rerun.old.machine) rerun.old.halted
+        input.old.taken (left input.old.input (R.remaining reader.old)) result
+        input.new.taken (left input.new.input (R.remaining reader.new)) rerun.new.looked rerun.new.count rerun.new.parted }
+    ensures machine { rerun.new.machine ≡ rerun.old.machine }
+    ensures halted { rerun.new.halted ≡ rerun.old.halted }
+    ensures looked { rerun.new.looked ≤ length (M.standing rerun.old.machine) }
+    ensures count { OnOk result (rerun.new.count < 2 ^ 64 - 1) }
+    ensures few { OnOk result (CanCount input.new.taken input.new.input) }
+    ensures end { OnOk result (R.Tells → EndIsSeen input.new.input (R.remaining reader.new)) }
+    ensures budget { OnOk result (R.Tells → SpendsBudget input.old.input (R.remaining reader.old) input.new.input (R.remaining reader.new)) }
+    ensures err { IfErr result IsReadingFault }
+    ensures reader { ReaderCounts result (R.Tells → input.old.input.budget < length (R.remaining reader.old))
+        (R.failures reader.old) (R.failures reader.new) }
+{
+    'lines: loop {
+        let Some(line) = input.next_line(reader)? else {
+            return Err(input.missing());
+        };
+        if is_end(line.text.as_slice()) {
+            return Ok(());
+        }
+        if !is_callback_line(line.text.as_slice()) {
+            return Err(input.bad());
+        }
+        rerun.meet(alloc, line.text.as_slice())?;
+    }
+}
+
+fn is_end(line: &[u8]) -> bool
+    ensures is { result ≡ true → line.now ≡ codes "end" }
+    ensures other { result ≡ false → line.now ≢ codes "end" }
+{
+    line == b"end".as_slice()
+}
+
+/// Reads a recording to its end, and runs its steps while they come.
+fn judge<M: Machine, R: Source>(alloc: Global, reader: &mut R) -> Result<Verdict, Fault>
+    ensures verdict { R.Tells → Judges (R.remaining reader.old) result }
+    ensures err { IfErr result IsReadingFault }
+    ensures reader { ReaderCounts result (R.Tells → 2 ^ 30 < length (R.remaining reader.old)) (R.failures reader.old) (R.failures reader.new) }
+{
+    let mut input = Numbered {
+        input: Input::new(alloc),
+        taken: 0,
+    };
+    input.read_version(reader)?;
+    let script = input.read_script(alloc, reader)?;
+    let mut rerun = Rerun {
+        machine: M::begin(alloc, script)?,
+        halted: None,
+        looked: 0,
+        count: 0,
+        parted: None,
+    };
+    read_steps(&mut rerun, &mut input, reader)?;
+    read_calls(&mut rerun, alloc, &mut input, reader)?;
+    input.expect_end(reader)?;
+    Ok(rerun.verdict())
+}
+
+/// Runs a recording's steps again, and writes the verdict: whether their callbacks are those that are recorded.
+///
+/// `Script` names the recording's first line outside its grammar, from 1, and nothing is written then. Where a step is not
+/// taken, that is the verdict, and `Refused` or `StepsFull` the answer; where the callbacks are others, `Differs` with the first
+/// place. `Read` comes where the reader fails, and else only where the recording is longer than 2^30 bytes. `Write` comes where
+/// the writer fails or takes no byte, and only there.
+pub fn replay<M: Machine, R: Source, W: Sink>(
+    alloc: Global,
+    reader: &mut R,
+    writer: &mut W,
+) -> Result<(), Fault>
+    ensures text { R.Tells → W.Tells → Replays (R.remaining reader.old) result (W.written writer.old) (W.written writer.new) }
+    ensures reader { ReaderCounts result (R.Tells → 2 ^ 30 < length (R.remaining reader.old)) (R.failures reader.old) (R.failures reader.new) }
+    ensures writer { WriterCounts result (W.failures writer.old) (W.failures writer.new) }
+{
+    let verdict = judge::<M, R>(alloc, reader)?;
+    verdict.tell(alloc, writer)
+}

@@ -1,0 +1,64 @@
+-- The text of a recording: a script, the steps that stand, and the callbacks that they called.
+use Rattle.std.specs.Prelude.{ℕ, List, [], ◌∷◌, ◌++◌, map, Bool, true, false, Option, Some, None, if◌then◌else◌, codes, decimal}
+use Rattle.std.specs.List.{filter}
+use Rattle.uv_ids.specs.declared.event.Event.{Event}
+use Rattle.uv_ids.specs.declared.event.Event.TheVariants.{Loop, Take, Finish, Cancel, Send, Tick}
+use Rattle.uv_ids.specs.declared.seen.Seen.{Seen}
+use Rattle.uv_ids.specs.declared.seen.Seen.TheVariants as seen
+use Rattle.uv_script.specs.Program.{Program}
+use Rattle.uv_script.specs.Text.{name_text, script_lines, lines_text, script_text}
+use Rattle.uv_model.specs.After.{lines}
+use Rattle.uv_text.specs.Trace.{line_text, seen_text}
+
+-- a step, as a recording has it
+abbrev pub step_line : List (List ℕ) → Event → List ℕ
+step_line names Loop = codes "loop"
+step_line names (Take worker) = codes "take " ++ decimal worker
+step_line names (Finish worker) = codes "finish " ++ decimal worker
+step_line names (Cancel v) = codes "cancel " ++ name_text names v
+step_line names (Send v) = codes "send " ++ name_text names v
+step_line names (Tick ms) = codes "tick " ++ decimal ms
+
+-- a callback begins with this line
+abbrev pub is_callback : Seen → Bool
+is_callback (seen.Call v id) = true
+is_callback (seen.After digest v id) = true
+is_callback (seen.Closed v id) = true
+is_callback l = false
+
+-- the callbacks of the steps, in the order in which they were called
+abbrev pub callbacks : Program → List Event → List Seen
+callbacks p es = filter is_callback (lines p es)
+
+-- their lines
+abbrev pub callback_lines : Program → List Event → List (List ℕ)
+callback_lines p es = map (line_text p) (callbacks p es)
+
+-- the lines of a recording
+abbrev pub recording_lines : Program → List Event → List (List ℕ)
+recording_lines p es =
+    codes "uvt 1" ∷ script_lines p ++ codes "begin" ∷ map (step_line p.names) es
+    ++ codes "calls" ∷ callback_lines p es ++ codes "end" ∷ []
+
+-- the text of a recording
+unfoldable pub recording_text : Program → List Event → List ℕ
+recording_text p es = lines_text (recording_lines p es)
+
+-- ---- the same a part at a time, as it is written
+
+-- the first line, the script and the line `begin`
+unfoldable pub script_part : Program → List ℕ
+script_part p = codes "uvt 1\n" ++ script_text p ++ codes "begin\n"
+
+-- the steps and the line `calls`
+unfoldable pub steps_part : Program → List Event → List ℕ
+steps_part p es = lines_text (map (step_line p.names) es) ++ codes "calls\n"
+
+-- the callbacks and the line `end`
+unfoldable pub calls_part : Program → List Event → List ℕ
+calls_part p es = lines_text (callback_lines p es) ++ codes "end\n"
+
+-- the line of a callback, if the step called one
+abbrev pub called_text : Program → Option Seen → List ℕ
+called_text p None = []
+called_text p (Some l) = if is_callback l then seen_text p l else []
