@@ -78,15 +78,15 @@ called_at p es i x within is =
     ∙ filter-append is_callback (option_to_list x) (flat_map option_to_list (drop (i + 1) (seen_by p es)))
 
 -- a step that calls back
-pub called_one : (p : Program) (es : List Event) (i : ℕ) (x : Option Seen) (l : Seen) → i < length es → slice_get (seen_by p es) (i + 1 - 1) ≡ Some x →
-    x ≡ Some l → is_callback l ≡ true → called_from p es i ≡ l ∷ called_from p es (i + 1)
+pub called_one : (p : Program) (es : List Event) (i : ℕ) (x : Option Seen) (l : Seen) → i < length es →
+    slice_get (seen_by p es) (i + 1 - 1) ≡ Some x → x ≡ Some l → is_callback l ≡ true → called_from p es i ≡ l ∷ called_from p es (i + 1)
 called_one p es i x l within is some e =
     called_at p es i x within is ∙ ap (λ (y : Option Seen). filter is_callback (option_to_list y) ++ called_from p es (i + 1)) some
     ∙ rw e refl
 
 -- one that doesn't
-pub called_other : (p : Program) (es : List Event) (i : ℕ) (x : Option Seen) (l : Seen) → i < length es → slice_get (seen_by p es) (i + 1 - 1) ≡ Some x →
-    x ≡ Some l → is_callback l ≡ false → called_from p es i ≡ called_from p es (i + 1)
+pub called_other : (p : Program) (es : List Event) (i : ℕ) (x : Option Seen) (l : Seen) → i < length es →
+    slice_get (seen_by p es) (i + 1 - 1) ≡ Some x → x ≡ Some l → is_callback l ≡ false → called_from p es i ≡ called_from p es (i + 1)
 called_other p es i x l within is some e =
     called_at p es i x within is ∙ ap (λ (y : Option Seen). filter is_callback (option_to_list y) ++ called_from p es (i + 1)) some
     ∙ rw e refl

@@ -44,7 +44,8 @@ called_turn p es old i x {text} {new} within is before now =
     let here : i + 1 - 1 ≡ i = omega arith in
     let inside : i < length (seen_by p es) = rw length-seen_by within in
     now ∙ ap (λ (t : List ℕ). t ++ called_text p x) before ∙ append_assoc old _ (called_text p x)
-    ∙ ap (λ (t : List ℕ). old ++ t) (sym (called_more (called_text p) (seen_by p es) i x inside (subst (λ (n : ℕ). slice_get (seen_by p es) n ≡ Some x) here is)))
+    ∙ ap (λ (t : List ℕ). old ++ t) (sym (called_more (called_text p) (seen_by p es) i x inside
+    (subst (λ (n : ℕ). slice_get (seen_by p es) n ≡ Some x) here is)))
 
 -- behind it
 pub called_end : (p : Program) (es : List Event) (old : List ℕ) (i : ℕ) {text new : List ℕ} → length es ≤ i →
@@ -72,7 +73,8 @@ unfolding script_part steps_part calls_part recording_text script_text
 whole p es =
     let steps = map (step_line p.names) es in
     let calls = callback_lines p es in
-    regrouped (codes "uvt 1\n" ++ lines_text (script_lines p)) (codes "begin\n") (lines_text steps) (codes "calls\n") (lines_text calls) (codes "end\n")
+    regrouped (codes "uvt 1\n" ++ lines_text (script_lines p)) (codes "begin\n")
+    (lines_text steps) (codes "calls\n") (lines_text calls) (codes "end\n")
     ∙ sym (cut_in_four (codes "uvt 1" ∷ script_lines p) (codes "begin" ∷ steps) (codes "calls" ∷ calls) (codes "end" ∷ []))
 
 -- the three parts one after another

@@ -25,7 +25,8 @@ asked_says names line _ h = tt
 
 says : (names : List (List ℕ)) (line : List ℕ) → IfSome (step_of names line) (λ e. SaysStep names line e)
 says names line =
-    cond_both (bytes_eq line (codes "loop")) (Some Loop) (step_asked (asked_of names line)) (λ (o : Option Event). IfSome o (λ e. SaysStep names line e))
+    cond_both (bytes_eq line (codes "loop")) (Some Loop) (step_asked (asked_of names line))
+    (λ (o : Option Event). IfSome o (λ e. SaysStep names line e))
     (λ e. loop ((bytes_eq-Decides line (codes "loop")).0 e)) (λ _. asked_says names line (asked_of names line) (asks names line))
 
 pub step_says : (names : List (List ℕ)) (line : List ℕ) (o : Option Event) → o ≡ step_of names line → IfSome o (λ e. SaysStep names line e)

@@ -39,7 +39,8 @@ answered (Differs place) = refl
 answered (Refused step why) = refl
 answered (Full step) = refl
 
-told : (input old new : List ℕ) (v : Verdict) (r : Result (Unit {0}) Fault) → HasVerdict input v → Tells v r old new → Reruns input old new (status_in r)
+told : (input old new : List ℕ) (v : Verdict) (r : Result (Unit {0}) Fault) → HasVerdict input v → Tells v r old new →
+    Reruns input old new (status_in r)
 told input old new v r h (verdict.told e w) =
     subst (λ (n : ℕ). Reruns input old new n) (sym (ap status_in e ∙ answered v)) (judged v h w)
 told input old new v r h (verdict.no_memory e w) = subst (λ (n : ℕ). Reruns input old new n) (sym (ap status_in e)) (nothing w)

@@ -18,7 +18,8 @@ invariant-lines g l = record {
   count : l.rerun.count ≡ l.initial.rerun.count;
   parted : l.rerun.parted ≡ l.initial.rerun.parted;
   few : l.input.taken + size l.input.input ≤ l.initial.input.taken + size l.initial.input.input;
-  budget : g.R.Source.Tells → SpendsBudget l.initial.input.input (g.R.Source.remaining l.initial.reader) l.input.input (g.R.Source.remaining l.reader);
+  budget : g.R.Source.Tells → SpendsBudget l.initial.input.input (g.R.Source.remaining l.initial.reader)
+      l.input.input (g.R.Source.remaining l.reader);
   none_failed : g.R.Source.failures l.reader ≡ g.R.Source.failures l.initial.reader;
 }
 

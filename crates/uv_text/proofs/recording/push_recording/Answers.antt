@@ -14,6 +14,7 @@ returns g c =
     let steps = c.in_ok-push_steps.ensures ∙ ap (λ (p : Program). c.push_script.new.text.items ++ steps_part p c.steps.result.now) program'
     ∙ ap (λ (es : List Event). c.push_script.new.text.items ++ steps_part c.args.session.now.program es) c.steps.ensures in
     let calls = c.in_ok-push_calls.ensures
-    ∙ ap (λ (p : Program). c.push_steps.new.text.items ++ calls_part p (g.M.Machine.standing c.machine-machine.result.now)) c.machine-machine.ensures.program
+    ∙ ap (λ (p : Program). c.push_steps.new.text.items ++ calls_part p (g.M.Machine.standing c.machine-machine.result.now))
+    c.machine-machine.ensures.program
     ∙ ap (λ (es : List Event). c.push_steps.new.text.items ++ calls_part c.args.session.now.program es) c.machine-machine.ensures.steps in
     recorded old c.args.session.now.program c.args.session.now.standing front steps calls
