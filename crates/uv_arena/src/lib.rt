@@ -10,6 +10,3 @@ mod undo;
 pub use arena::{Full, Slots};
 pub use links::{Cell, Ends, Links, Place};
 pub use undo::{InsertUndo, PushUndo, RemoveUndo, SpliceUndo};
-
-#[cfg(test)]
-mod tests;

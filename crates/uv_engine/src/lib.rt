@@ -12,8 +12,6 @@ mod rerun;
 mod script;
 mod sink;
 mod source;
-#[cfg(test)]
-mod tests;
 mod verdict;
 
 pub use conversation::{Ended, converse, one_answer};

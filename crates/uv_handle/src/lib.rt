@@ -13,6 +13,3 @@ pub use content::HoldsHandle;
 pub use handles::Handles;
 pub use undo::{AddUndo, DelistUndo, ListUndo, RecordUndo, TakeUndo};
 pub use uv_records::HandleRecord;
-
-#[cfg(test)]
-mod tests;

@@ -2,4 +2,3 @@ pub mod Legal
 pub mod Places
 pub mod Entered
 pub mod Shares
-pub mod Small

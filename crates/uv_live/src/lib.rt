@@ -19,6 +19,3 @@ pub use following::sync;
 pub use running::live;
 pub use settling::settle;
 pub use turning::turn;
-
-#[cfg(test)]
-mod tests;

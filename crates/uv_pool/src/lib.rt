@@ -18,6 +18,3 @@ pub use desk::Desk;
 pub use locked::LockedBook;
 pub use places::Collected;
 pub use shift::{Gate, Shift, worker};
-
-#[cfg(test)]
-mod tests;

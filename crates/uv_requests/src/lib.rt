@@ -15,6 +15,3 @@ mod workers;
 pub use content::HoldsWork;
 pub use requests::{Requests, fresh_requests, request_at};
 pub use undo::{CancelUndo, CollectUndo, FinishUndo, QueueUndo, TakeUndo};
-
-#[cfg(test)]
-mod tests;

@@ -21,6 +21,3 @@ pub use size::ArenaSize;
 pub use task::Task;
 pub use text::{push_number, push_task_text};
 pub use words::{is_name, number};
-
-#[cfg(test)]
-mod tests;

@@ -3,8 +3,6 @@
 
 mod breaks;
 mod session;
-#[cfg(test)]
-mod tests;
 
 pub use breaks::{Break, Stop};
 pub use session::{BREAKS, Session};

@@ -6,8 +6,6 @@ mod command;
 mod recorded;
 mod recording;
 mod state;
-#[cfg(test)]
-mod tests;
 mod trace;
 
 pub use command::{Asked, Command, every_line_asks, read_command};

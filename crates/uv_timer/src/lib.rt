@@ -14,6 +14,3 @@ pub use ops::{again, due_in, set_repeat, start, stop, undo_set_repeat};
 pub use rescheduling::{reschedule, undo_reschedule};
 pub use section::{collect_one, fire_one, undo_collect_one};
 pub use undo::{CollectUndo, SetUndo, TimerUndo};
-
-#[cfg(test)]
-mod tests;

@@ -9,6 +9,3 @@ mod watchers;
 pub use undo::WalkUndo;
 pub use walk::{begin, take, undo_begin, undo_take};
 pub use watchers::{halt, send, start, stop, undo_send, undo_start, undo_stop};
-
-#[cfg(test)]
-mod tests;

@@ -1,0 +1,31 @@
+//! What the tests are given: ids, and a request in a slot.
+ghost use Rattle.std.specs.Prelude.{◌≡◌};
+ghost use Rattle.uv_handle.specs.Counted.{alive_count};
+ghost use Rattle.uv_step.specs.Content.{handle_in};
+
+use uv_arena::Slots;
+use uv_ids::{Id, Var};
+use uv_step::Content;
+use uv_work::RequestRecord;
+
+/// The id of the first that a slot holds.
+pub fn id(slot: u32) -> Id {
+    Id {
+        slot,
+        generation: 0,
+    }
+}
+
+/// Puts a request in a slot, which is no handle.
+pub fn put_request(slots: &mut Slots<Content>, name: u32) -> Option<Id>
+    ensures { alive_count handle_in slots.new ≡ alive_count handle_in slots.old }
+{
+    let request = RequestRecord::new(Var(name), 1, b"")?;
+    match slots.insert(Content::Request(request)) {
+        Ok((id, inserted)) => {
+            let _ = inserted;
+            Some(id)
+        }
+        Err(_) => None,
+    }
+}

@@ -1,0 +1,15 @@
+//! Tests of the arena and of what stands on it, by their public calls: each once with ample memory, and worked examples.
+#![tactic(auto)]
+
+#[cfg(test)]
+mod arena;
+#[cfg(test)]
+mod given;
+#[cfg(test)]
+mod handle;
+#[cfg(test)]
+mod requests;
+#[cfg(test)]
+mod timer;
+#[cfg(test)]
+mod watch;

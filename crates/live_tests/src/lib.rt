@@ -1,0 +1,17 @@
+//! Tests of the thread pool and of live runs by their public calls: worked examples, and runs on real threads that come to their end.
+#![tactic(auto)]
+
+#[cfg(test)]
+mod gates;
+#[cfg(test)]
+mod given;
+#[cfg(test)]
+mod live_examples;
+#[cfg(test)]
+mod live_threads;
+#[cfg(test)]
+mod pool_examples;
+#[cfg(test)]
+mod pool_threads;
+#[cfg(test)]
+mod small;

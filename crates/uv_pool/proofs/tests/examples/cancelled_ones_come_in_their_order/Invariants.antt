@@ -1,4 +1,0 @@
-use Rattle.uv_pool.proofs.tests.examples.cancelled_ones_come_in_their_order.Given as goal
-
-abbrev pub ghosts-cancels : goal.ghosts-cancels
-ghosts-cancels g a = record { name = a.blank.name; parts = a.blank.parts }

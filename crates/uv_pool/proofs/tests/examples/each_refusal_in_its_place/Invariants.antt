@@ -1,4 +1,0 @@
-use Rattle.uv_pool.proofs.tests.examples.each_refusal_in_its_place.Given as goal
-
-abbrev pub ghosts-refusals : goal.ghosts-refusals
-ghosts-refusals g a = record { name = a.blank.name; parts = a.blank.parts }

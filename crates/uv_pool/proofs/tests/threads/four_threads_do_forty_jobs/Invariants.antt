@@ -1,4 +1,0 @@
-use Rattle.uv_pool.proofs.tests.threads.four_threads_do_forty_jobs.Given as goal
-
-abbrev pub ghosts-run : goal.ghosts-run
-ghosts-run g a = record { name = a.blank.name; parts = a.blank.parts }
