@@ -8,3 +8,5 @@ mod OneAnswer
 pub mod Reruns
 pub mod Recordings
 pub mod Replays
+pub mod Remade
+pub mod OneRecording

@@ -16,7 +16,7 @@ use Rattle.uv_engine.proofs.Talking.{lines_fed, lines_last, lines_next}
 
 -- ---- one part after another
 
-reads_on : (x y z : Part) (ls ms : List (List ℕ)) → ReadsAll x ls y → ReadsAll y ms z → ReadsAll x (ls ++ ms) z
+pub reads_on : (x y z : Part) (ls ms : List (List ℕ)) → ReadsAll x ls y → ReadsAll y ms z → ReadsAll x (ls ++ ms) z
 reads_on x y z [] ms none k = k
 reads_on x y z (l ∷ ls) ms (one {y = u} h more) k = one h (reads_on u y z ls ms more k)
 
@@ -79,7 +79,7 @@ bad_end x a b old n e h = record {
 
 -- ---- the script
 
-script_on : (p q : Program) (ls : List (List ℕ)) → script.ReadsAll p ls q → ReadsAll (InScript p) ls (InScript q)
+pub script_on : (p q : Program) (ls : List (List ℕ)) → script.ReadsAll p ls q → ReadsAll (InScript p) ls (InScript q)
 script_on p q [] script.none = none
 script_on p q (l ∷ ls) (script.one {q = m} h more) = one (in_script h) (script_on m q ls more)
 

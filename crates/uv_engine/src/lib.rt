@@ -16,7 +16,7 @@ mod verdict;
 
 pub use conversation::{Ended, converse, one_answer};
 pub use devices::{Reader, Writer};
-pub use replaying::replay;
+pub use replaying::{recordings_rerun_same, replay};
 pub use sink::{Sink, WriteFailed};
 pub use source::{ReadFailed, Source};
 pub use verdict::Verdict;

@@ -1,11 +1,16 @@
 //! The replay of a recording.
-ghost use Rattle.std.specs.Prelude.{◌≡◌, ◌≢◌, ◌<◌, ◌≤◌, ◌+◌, ◌-◌, ◌^◌, [], None, List, length, true, false, codes, IfErr, OnOk};
+ghost use Rattle.std.specs.Prelude.{◌≡◌, ◌≢◌, ◌<◌, ◌≤◌, ◌+◌, ◌-◌, ◌^◌, ℕ, [], None, List, length, true, false, codes, IfErr, OnOk};
 ghost use Rattle.uv_ids.specs.declared.event.Event.{Event};
+ghost use Rattle.uv_script.specs.Grammar.{IsScript};
+ghost use Rattle.uv_script.specs.Program.{Program};
+ghost use Rattle.uv_text.specs.Recording.{recording_text};
+ghost use Rattle.uv_engine.specs.declared.verdict.Verdict.{Verdict};
+ghost use Rattle.uv_engine.specs.declared.verdict.Verdict.TheVariants.{Same};
 ghost use Rattle.uv_engine.specs.Devices.{ReaderCounts, WriterCounts};
 ghost use Rattle.uv_engine.specs.Input.{left, EndIsSeen, size};
 ghost use Rattle.uv_engine.specs.Rerun.{CanCount, ReadsSteps, ReadsCalls, Judges, IsReadingFault};
 ghost use Rattle.uv_engine.specs.Taking.{SpendsBudget};
-ghost use Rattle.uv_engine.specs.Verdict.{Replays};
+ghost use Rattle.uv_engine.specs.Verdict.{AllTaken, HasVerdict, Replays};
 
 use crate::input::Input;
 use crate::numbered::Numbered;
@@ -134,6 +139,14 @@ fn judge<M: Machine, R: Source>(alloc: Global, reader: &mut R) -> Result<Verdict
     input.expect_end(reader)?;
     Ok(rerun.verdict())
 }
+
+/// The text of a recording, of any script and any steps that it takes, is a recording, and the verdict on it is `same` and no other.
+/// It does nothing, and is called for its clauses.
+pub fn recordings_rerun_same()
+    ensures same { (text : List ℕ) (p : Program) (es : List Event) → IsScript text p → AllTaken p es → HasVerdict (recording_text p es) Same }
+    ensures only { (text : List ℕ) (p : Program) (es : List Event) → IsScript text p → AllTaken p es →
+        (v : Verdict) → HasVerdict (recording_text p es) v → v ≡ Same }
+{}
 
 /// Runs a recording's steps again, and writes the verdict: whether their callbacks are those that are recorded.
 ///

@@ -9,5 +9,6 @@ pub mod Ops
 pub mod Next
 pub mod Steps
 pub mod After
+pub mod Handing
 pub mod Bounds
 pub mod Trail

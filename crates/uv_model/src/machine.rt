@@ -12,6 +12,7 @@ use std::alloc::Global;
 use uv_ids::{Event, Fault, Id, Seen, Var};
 use uv_records::{ListName, Slot};
 use uv_script::Script;
+use uv_work::WorkResult;
 
 /// The most steps that a machine takes (own).
 pub const STEPS: usize = 16_777_216;
@@ -26,6 +27,7 @@ pub struct Outcome {
 /// A loop that goes on and back, seen as its script and its standing steps. Its state is the one after these steps.
 pub trait Machine: Drop {
     ghost use Rattle.uv_model.specs.After.{Answers, GoesBack, after, seen_by, STEPS};
+    ghost use Rattle.uv_model.specs.Handing.{AnswersResult};
     ghost use Rattle.uv_model.specs.State.{named};
     ghost use Rattle.uv_model.specs.Queries.{numbers, timer_ids, members, is_free, run_by, worker_of};
     ghost use Rattle.uv_records.specs.Slots.{held};
@@ -44,6 +46,12 @@ pub trait Machine: Drop {
     fn step(&mut self, event: Event) -> Result<Outcome, Fault>
         ensures program { program self.new ≡ program self.old }
         ensures answer { Answers STEPS (program self.old) (standing self.old) event result (standing self.new) };
+
+    /// A worker finishes its job, of which this is the result (`Event::Finish`). No job is done here. `Refused(NoWork)` where the
+    /// worker runs another job. After an error the machine is as before.
+    fn finish_with(&mut self, worker: u16, work: WorkResult) -> Result<Outcome, Fault>
+        ensures program { program self.new ≡ program self.old }
+        ensures answer { AnswersResult STEPS (program self.old) (standing self.old) worker work.job result (standing self.new) };
 
     /// Takes the last step back; `false` where there is none. Want of memory leaves the machine as before.
     fn back(&mut self) -> Result<bool, Fault>

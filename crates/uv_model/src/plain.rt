@@ -15,6 +15,7 @@ use std::marker::Model;
 use uv_ids::{Event, Fault, Id, Seen, Var};
 use uv_records::{ListName, Slot};
 use uv_script::Script;
+use uv_work::WorkResult;
 
 /// A machine whose every step is the model's own.
 #[derive(Drop)]
@@ -92,6 +93,23 @@ impl Machine for PlainLoop {
         }
         let outcome = self.state.step(&self.script, event)?;
         self.steps.push_reserved(event);
+        self.seen.push_reserved(outcome.seen);
+        Ok(outcome)
+    }
+
+    fn finish_with(&mut self, worker: u16, work: WorkResult) -> Result<Outcome, Fault> {
+        if self.steps.len() >= STEPS {
+            return Err(Fault::StepsFull);
+        }
+        let refusal = self.state.result_refusal(&self.script, worker, work.job());
+        if let Some(why) = refusal {
+            return Err(Fault::Refused(why));
+        }
+        if self.steps.reserve(1).is_err() || self.seen.reserve(1).is_err() {
+            return Err(Fault::Memory);
+        }
+        let outcome = self.state.finish_with(&self.script, worker, work)?;
+        self.steps.push_reserved(Event::Finish(worker));
         self.seen.push_reserved(outcome.seen);
         Ok(outcome)
     }

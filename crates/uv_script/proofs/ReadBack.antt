@@ -1,7 +1,7 @@
 -- A script's text is read back.
 use Rattle.std.proofs.Common.{◌≡◌, ◌⊎◌, inl, inr, ℕ, zero, suc, ◌+◌, ◌<◌, ◌≤◌, ◌^◌, true, false, ◌&&◌, ◌==◌, nat_le, List, [], ◌∷◌, ◌++◌, length, map, get_or, Option, Some, None, Ok, Err, Result, slice_get, unwrap_or, Contains, All, refl, ap, sym, subst, ◌∙◌, arith, length-append, append-nil, append_assoc}
 use Rattle.std.specs.Prelude.{codes, decimal, slice_set, sum_by}
-use Rattle.std.specs.List.{list_all}
+use Rattle.std.specs.List.{AllByRecursion, list_all}
 use Rattle.std.specs.Char.{is_ascii_digit}
 use Rattle.std.specs.Str.{all_ascii_digits}
 use Rattle.std.proofs.Math.Seq.{get_or-append_seam, set-append_seam}
@@ -53,16 +53,16 @@ digits_within text e = (Decides-by_and is_ascii_digit (λ b. (48 ≤ b) × (b �
 decimal_within : (n : ℕ) → n < 2 ^ 64 → All (λ b. (48 ≤ b) × (b ≤ 57)) (decimal n)
 decimal_within n h = digits_within (decimal n) (digits_decimal (numerals_by_value _ tells_all_ascii_digits) n h)
 
-decimal_printable : (n : ℕ) → n < 2 ^ 64 → All (λ b. (32 ≤ b) × (b ≤ 126)) (decimal n)
+pub decimal_printable : (n : ℕ) → n < 2 ^ 64 → All (λ b. (32 ≤ b) × (b ≤ 126)) (decimal n)
 decimal_printable n h = λ k d inside. let at = decimal_within n h k d inside in (omega (arith, at.0), omega (arith, at.1))
 
-decimal_unspaced : (n : ℕ) → n < 2 ^ 64 → AreNot 32 (decimal n)
+pub decimal_unspaced : (n : ℕ) → n < 2 ^ 64 → AreNot 32 (decimal n)
 decimal_unspaced n h = λ k d inside. let at = decimal_within n h k d inside in ne_eqb _ 32 (λ e. omega (arith, at.0, e))
 
 decimal_short : (n : ℕ) → n < 2 ^ 32 → length (decimal n) ≤ 10
 decimal_short n h = length-decimal-le 10 n (omega arith) (omega (arith, h)) (omega (arith, h))
 
-printable_front : (front : List ℕ) → list_all (λ b. nat_le 32 b && nat_le b 126) front ≡ true → All (λ b. (32 ≤ b) × (b ≤ 126)) front
+pub printable_front : (front : List ℕ) → list_all (λ b. nat_le 32 b && nat_le b 126) front ≡ true → All (λ b. (32 ≤ b) × (b ≤ 126)) front
 printable_front front e =
     (Decides-by_and (λ b. nat_le 32 b && nat_le b 126) (λ b. (32 ≤ b) × (b ≤ 126)) (list_all (λ b. nat_le 32 b && nat_le b 126)) (within 32 126) refl
     (λ _ _. refl) front).0 e
@@ -71,7 +71,7 @@ printable_more : (front text : List ℕ) → list_all (λ b. nat_le 32 b && nat_
     All (λ b. (32 ≤ b) × (b ≤ 126)) (front ++ text)
 printable_more front text e h = All-append (λ b. (32 ≤ b) × (b ≤ 126)) front text (printable_front front e) h
 
-is_number : (n : ℕ) → n < 2 ^ 64 → IsNumber (decimal n) n
+pub is_number : (n : ℕ) → n < 2 ^ 64 → IsNumber (decimal n) n
 is_number n h = record { is = refl; fits = h }
 
 -- the number of workers, and the size of the arena
@@ -140,7 +140,7 @@ blanks_same (x ∷ xs) (y ∷ ys) e = ap (λ cs. no_callbacks ∷ cs) (blanks_sa
 abbrev declared : Option ArenaSize → Option ℕ → List (List ℕ) → Program
 declared size workers names = record { names = names; main = []; callbacks = blanks names; size = size; workers = workers }
 
-name_unspaced : (name : List ℕ) → IsName name → AreNot 32 name
+pub name_unspaced : (name : List ℕ) → IsName name → AreNot 32 name
 name_unspaced name is = subst (AreNot 32) (sym is.is) (by is.first is.rest is.letter is.others)
   where
     other : (b : ℕ) → IsLetter b ⊎ (IsDigit b ⊎ (b ≡ 95)) → (b == 32) ≡ false
@@ -318,10 +318,13 @@ read_line : (p q : Program) (line : List ℕ) → Reads p line q → IsLine line
 read_line p q line (skips is skipped) = is
 read_line p q line (says s is said room) = is
 
-lines_back : (p q : Program) (lines : List (List ℕ)) → ReadsAll p lines q → lines_of (lines_text lines) ≡ lines
-lines_back p q [] none = refl
-lines_back p q (line ∷ lines) (one {q = m} first rest) =
-    lines_append line (lines_text lines) (line_unfed line (read_line p m line first)) ∙ ap (λ ls. line ∷ ls) (lines_back m q lines rest)
+pub read_lines : (p q : Program) (lines : List (List ℕ)) → ReadsAll p lines q → AllByRecursion IsLine lines
+read_lines p q [] none = tt
+read_lines p q (line ∷ lines) (one {q = m} first rest) = (read_line p m line first, read_lines m q lines rest)
+
+pub lines_back : (lines : List (List ℕ)) → AllByRecursion IsLine lines → lines_of (lines_text lines) ≡ lines
+lines_back [] h = refl
+lines_back (line ∷ lines) h = lines_append line (lines_text lines) (line_unfed line h.0) ∙ ap (λ ls. line ∷ ls) (lines_back lines h.1)
 
 pub workers_fit : (said : Option ℕ) → ((n : ℕ) → said ≡ Some n → IsWorkerCount n) → IsWorkerCount (unwrap_or said DEFAULT_WORKERS)
 workers_fit (Some n) fits = fits n refl
@@ -331,7 +334,7 @@ pub size_fits : (said : Option ArenaSize) → ((size : ArenaSize) → said ≡ S
 size_fits (Some size) fits = fits size refl
 size_fits None fits = record { slots = (omega arith, omega arith); last = omega arith }
 
-lines_read_back : (p : Program) → AreWritten p → ReadsAll blank (script_lines p) (said_whole p)
+pub lines_read_back : (p : Program) → AreWritten p → ReadsAll blank (script_lines p) (said_whole p)
 unfolding blanks
 lines_read_back p is =
     let n = worker_count p in
@@ -353,7 +356,8 @@ read_back : (p : Program) (lines : List (List ℕ)) → ReadsAll blank lines p �
 unfolding script_text
 read_back p lines read =
     let all = lines_read_back p (script_written p lines read) in
-    subst (λ (ls : List (List ℕ)). ReadsAll blank ls (said_whole p)) (sym (lines_back blank (said_whole p) (script_lines p) all)) all
+    subst (λ (ls : List (List ℕ)). ReadsAll blank ls (said_whole p))
+    (sym (lines_back (script_lines p) (read_lines blank (said_whole p) (script_lines p) all))) all
 
 -- the lines of callbacks are those of the names and the callbacks alone
 lines_alike : (p : Program) (n : ℕ) (names : List (List ℕ)) → callback_lines p n names ≡ callback_lines (said_whole p) n names

@@ -1,6 +1,7 @@
 -- A session: the steps that stand, and those that were taken back. The state shown is the one after the standing steps.
-use Rattle.std.specs.Prelude.{◌≡◌, ℕ, ◌-◌, ◌<◌, ◌≤◌, List, [], ◌∷◌, ◌++◌, length, map, take, drop, Result, Ok, Err}
+use Rattle.std.specs.Prelude.{◌≡◌, ℕ, ◌-◌, ◌<◌, ◌≤◌, List, [], ◌∷◌, ◌++◌, length, map, take, drop, Some, Result, Ok, Err}
 use Rattle.uv_ids.specs.declared.event.Event.{Event}
+use Rattle.uv_ids.specs.declared.event.Event.TheVariants.{Finish}
 use Rattle.uv_ids.specs.declared.fault.Fault.{Fault}
 use Rattle.uv_ids.specs.declared.fault.Fault.TheVariants.{Memory, Refused, StepsFull}
 use Rattle.uv_ids.specs.declared.fault.Why.TheVariants.{Range}
@@ -9,6 +10,8 @@ use Rattle.uv_model.specs.declared.machine.Outcome.{Outcome}
 use Rattle.uv_ids.specs.declared.seen.Seen.{Seen}
 use Rattle.uv_model.specs.Next.{next, Moves, Refuses}
 use Rattle.uv_model.specs.After.{after}
+use Rattle.uv_model.specs.Handing.{job_run, RefusesResult}
+use Rattle.uv_work.specs.Work.{Work}
 use Rattle.uv_session.specs.declared.breaks.Break.{Break}
 use Rattle.uv_order.specs.Line.{Line}
 use Rattle.uv_order.specs.History.{history}
@@ -49,6 +52,21 @@ pub record TakesEvent (s : Shown) (e : Event) (r : Result Outcome Fault) (t : Sh
   pub same_limit : t.limit ≡ s.limit
   pub same_breaks : t.breaks ≡ s.breaks
   pub answer : Responds s.limit s.program s.standing e r t.standing
+  pub taken_back : t.taken_back ≡ taken_after r s.taken_back
+
+-- what may be answered to a finish with the result of this job, and the steps that stand then: where the worker runs that very job it
+-- is what may be answered to the event, and where it runs another one the finish is refused
+abbrev pub RespondsResult : ℕ → Program → List Event → ℕ → Work → Result Outcome Fault → List Event → Type 0
+RespondsResult limit p es k job (Ok outcome) fs = (job_run (after p es) k ≡ Some job) × Responds limit p es (Finish k) (Ok outcome) fs
+RespondsResult limit p es k job (Err (Refused why)) fs = (length es < limit) × (fs ≡ es) × RefusesResult p (after p es) k job why
+RespondsResult limit p es k job (Err f) fs = Responds limit p es (Finish k) (Err f) fs
+
+-- what may be answered to a finish with the result of this job, and the session after it
+pub record TakesResult (s : Shown) (k : ℕ) (job : Work) (r : Result Outcome Fault) (t : Shown) : Type 0 where
+  pub same_program : t.program ≡ s.program
+  pub same_limit : t.limit ≡ s.limit
+  pub same_breaks : t.breaks ≡ s.breaks
+  pub answer : RespondsResult s.limit s.program s.standing k job r t.standing
   pub taken_back : t.taken_back ≡ taken_after r s.taken_back
 
 -- what may be answered to `back n`, and the session after it; after want of memory some of the steps, and not all, may be taken back

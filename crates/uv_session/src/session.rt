@@ -4,13 +4,14 @@ ghost use Rattle.uv_ids.specs.declared.fault.Fault.TheVariants.{Memory};
 ghost use Rattle.uv_model.specs.After.{STEPS, lines};
 ghost use Rattle.uv_order.specs.Once.{Once};
 ghost use Rattle.uv_session.specs.Moving.{moved_forward, MovesForward, AddsBreak, RunsTo, NoneFrom, IsLastBreak, GoesToBreak};
-ghost use Rattle.uv_session.specs.Shown.{TakesEvent, MovesBack, IsDocumented, moved_back};
+ghost use Rattle.uv_session.specs.Shown.{TakesEvent, TakesResult, MovesBack, IsDocumented, moved_back};
 
 use crate::breaks::{Break, Stop, stop_of, stops};
 use std::alloc::{AllocError, Global};
 use std::marker::Model;
 use uv_ids::{Event, Fault, Seen, Why};
 use uv_model::{Machine, Outcome, STEPS};
+use uv_work::WorkResult;
 
 /// The most breaks that a session has (own).
 pub const BREAKS: usize = 256;
@@ -80,6 +81,26 @@ impl<M: Machine> Session<M> {
         self.events.truncate(self.standing);
         self.events.push_reserved(event);
         self.standing += 1;
+        Ok(outcome)
+    }
+
+    /// Does the step in which a worker finishes its job, of which this is the result. `Refused(NoWork)` where the worker runs another
+    /// job. An accepted step discards what was taken back; after an error all is as before.
+    #[tactic(auto, using(uv_model::proofs::Runs::accepting))]
+    pub fn finish_with(&mut self, worker: u16, work: WorkResult) -> Result<Outcome, Fault>
+        ensures { TakesResult self.old worker work.job result self.new }
+    {
+        let standing = self.standing;
+        if standing >= self.limit {
+            return Err(Fault::StepsFull);
+        }
+        if self.events.reserve(1).is_err() {
+            return Err(Fault::Memory);
+        }
+        let outcome = self.machine.finish_with(worker, work)?;
+        self.events.truncate(standing);
+        self.events.push_reserved(Event::Finish(worker));
+        self.standing = standing + 1;
         Ok(outcome)
     }
 

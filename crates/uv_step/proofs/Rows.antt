@@ -29,7 +29,7 @@ use Rattle.uv_requests.specs.Working.{working, idle_workers, IsWork}
 use Rattle.uv_step.specs.declared.content.Content.{Content}
 use Rattle.uv_step.specs.Content.{handle_in, request_in}
 use Rattle.uv_step.specs.Image.{Image, counted_of, timed_of, with_counted, with_timed, standing}
-use Rattle.uv_step.specs.Parts.{Part, Stood, TakenOff, PutOn, unwind_parts, unwind, edit_parts, woken_parts, off_parts, put_parts, removed_parts, set_parts, timer_parts, change_parts, naming_parts}
+use Rattle.uv_step.specs.Parts.{Part, Stood, Bound, TakenOff, PutOn, undo, unwind_parts, unwind, was_bound, edit_parts, woken_parts, off_parts, put_parts, removed_parts, set_parts, timer_parts, change_parts, naming_parts}
 use Rattle.uv_step.specs.Undo.{CanRename, CanUndo, CanUnwind, Recorded, Extended, off_if}
 use Rattle.uv_step.specs.Fit.{IsFit}
 use Rattle.uv_step.specs.Does.{changed}
@@ -122,6 +122,7 @@ module _ {P : Type 0} where
       subst (λ q. Recorded q (record { image = i; room = room }) (record { image = j; room = more })) (sym is) (record {
         back = whole;
         can = record { naming = tt; change = can; fit = subst (λ k. IsFit k) (sym whole) fit };
+        unnamed = refl;
         fit = now;
         place = place;
         room = same;
@@ -138,6 +139,7 @@ module _ {P : Type 0} where
 
   rename_stands : (n : Naming) (i : Image P) (place : P) → CanRename n i → CanRename n (standing place i)
   rename_stands naming.Same i place h = tt
+  rename_stands (naming.Unbound v) i place h = h
   rename_stands (naming.Bound v id) i place h = h
   rename_stands (naming.Called v which n) i place h = h
 
@@ -183,21 +185,33 @@ module _ {P : Type 0} where
         room = refl;
       })
 
-  pub bound : (r s : Record P) (i : Image P) (room : ℕ) (v : Var) (id old : Option Id) (ns : List Named) → CanUnwind room r i → IsFit i
+  -- what a name was bound to is put back, whether that was something or not
+  bound_parts : (v : Var) (o : Option Id) (i : Image P) → unwind_parts (naming_parts (was_bound v o)) i ≡ undo (Bound v o) i
+  bound_parts v None i = refl
+  bound_parts v (Some id) i = refl
+
+  can_rebind : (v : Var) (o : Option Id) (i : Image P) → v.0 < length i.names → CanRename (was_bound v o) i
+  can_rebind v None i h = h
+  can_rebind v (Some id) i h = h
+
+  pub bound : (r s : Record P) (i : Image P) (room : ℕ) (v : Var) (id old : Option Id) (ns : List Named) (n : Naming) → n ≡ was_bound v old
+      → CanUnwind room r i → IsFit i
       → r.naming ≡ naming.Same
       → v.0 < length i.names → ns ≡ binding v.0 id i.names → old ≡ (named i.names v.0).id
-      → s ≡ record { place = r.place; naming = naming.Bound v old; change = r.change }
+      → s ≡ record { place = r.place; naming = n; change = r.change }
       → Extended r s (record { image = i; room = room }) (record { image = record i { names = ns }; room = room })
-  bound r s i room v id o ns can fit same within made was is =
+  bound r s i room v id o ns n before can fit same within made was is =
       let new : Named = record { id = id; calls = (named i.names v.0).calls } in
       let here = named_set i.names v.0 new within in
       let old : Named = record { id = (named i.names v.0).id; calls = (named (set i.names v.0 new) v.0).calls } in
       let e : old ≡ named i.names v.0 = ap (λ (q : Named). (let z : Named = record { id = (named i.names v.0).id; calls = q.calls } in z)) here in
       subst (λ q. Extended r s (record { image = i; room = room }) (record { image = record i { names = q }; room = room })) (sym made)
-      (renamed r s i room (binding v.0 id i.names) (naming.Bound v (named i.names v.0).id) can fit same
-      (is ∙ ap (λ q. (let t : Record P = record { place = r.place; naming = naming.Bound v q; change = r.change } in t)) was)
-      (omega (arith, within, length_set i.names v.0 new))
-      (ap (λ q. record (standing r.place i) { names = q }) (names_back i.names v.0 new old e)))
+      (renamed r s i room (binding v.0 id i.names) (was_bound v (named i.names v.0).id) can fit same
+      (is
+      ∙ ap (λ m. (let t : Record P = record { place = r.place; naming = m; change = r.change } in t)) (before ∙ ap (was_bound v) was))
+      (can_rebind v (named i.names v.0).id _ (omega (arith, within, length_set i.names v.0 new)))
+      (bound_parts v (named i.names v.0).id _
+      ∙ ap (λ q. record (standing r.place i) { names = q }) (names_back i.names v.0 new old e)))
 
   pub called : (r s : Record P) (i : Image P) (room : ℕ) (v : Var) (which : Callback) (n o : ℕ) (ns : List Named) → CanUnwind room r i
       → IsFit i → r.naming ≡ naming.Same

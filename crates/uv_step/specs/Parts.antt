@@ -60,6 +60,11 @@ pub data Part (P : Type 0) : Type 0 where
   Pushed : ℕ → Part P
   Removed : taken.RemoveUndo → Part P
 
+-- a name was bound to this, or to nothing
+abbrev pub was_bound : Var → Option Id → Naming
+was_bound v None = naming.Unbound v
+was_bound v (Some id) = naming.Bound v id
+
 module _ {P : Type 0} where
   -- a part is undone
   abbrev pub undo : Part P → Image P → Image P
@@ -146,7 +151,8 @@ module _ {P : Type 0} where
 
   abbrev pub naming_parts : Naming → List (Part P)
   naming_parts naming.Same = []
-  naming_parts (naming.Bound v id) = Bound v id ∷ []
+  naming_parts (naming.Unbound v) = Bound v None ∷ []
+  naming_parts (naming.Bound v id) = Bound v (Some id) ∷ []
   naming_parts (naming.Called v which n) = Called v which n ∷ []
 
   -- the parts of a record: the change, what became of a name, and where the loop stood

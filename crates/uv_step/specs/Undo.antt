@@ -57,6 +57,7 @@ module _ {P : Type 0} where
   -- the name is one of the loop's
   abbrev pub CanRename : Naming → Image P → Type 0
   CanRename naming.Same i = Unit {0}
+  CanRename (naming.Unbound v) i = v.0 < length i.names
   CanRename (naming.Bound v id) i = v.0 < length i.names
   CanRename (naming.Called v which n) i = v.0 < length i.names
 
@@ -66,10 +67,11 @@ module _ {P : Type 0} where
     pub change : CanUndo room r.change (unwind_parts (naming_parts r.naming) (standing r.place i))
     pub fit : IsFit (unwind r i)
 
-  -- a step was done, and its record gives back the very image from before
+  -- a step was done that touched no name, and its record gives back the very image from before
   pub record Recorded (r : Record P) (old new : Held P) : Type 0 where
     pub back : unwind r new.image ≡ old.image
     pub can : CanUnwind new.room r new.image
+    pub unnamed : r.naming ≡ naming.Same
     pub fit : IsFit new.image
     pub place : new.image.place ≡ old.image.place
     pub room : new.room ≡ old.room

@@ -1,4 +1,7 @@
 //! What takes one step of the loop back.
+ghost use Rattle.std.specs.Prelude.{◌≡◌};
+ghost use Rattle.uv_step.specs.Parts.{was_bound};
+
 use crate::content::Content;
 use uv_arena::SpliceUndo;
 use uv_handle::{AddUndo, DelistUndo, ListUndo, RecordUndo};
@@ -26,10 +29,24 @@ pub struct Polled {
 pub enum Naming {
     /// Nothing.
     Same,
+    /// The name was bound, and wasn't before.
+    Unbound(Var),
     /// The name was bound anew.
-    Bound(Var, Option<Id>),
+    Bound(Var, Id),
     /// A callback of the name was called.
     Called(Var, Callback, u32),
+}
+
+impl Naming {
+    /// A name was bound to this, or to nothing.
+    pub(crate) fn bound(name: Var, id: Option<Id>) -> Naming
+        ensures { result ≡ was_bound name id }
+    {
+        match id {
+            None => Naming::Unbound(name),
+            Some(id) => Naming::Bound(name, id),
+        }
+    }
 }
 
 /// What takes a change back that a step did to the rest of the memory, by the kind of change.
@@ -85,5 +102,5 @@ pub struct Record<P: Copy> {
     pub change: Change,
 }
 
-// A record has at most 32 words where a place has at most 8.
-const _: () = prove!(std::mem::size_of::<Record<[u64; 8]>>() <= 256);
+// A record has at most 32 words where a place has at most 10.
+const _: () = prove!(std::mem::size_of::<Record<[u64; 10]>>() <= 256);

@@ -1,8 +1,8 @@
 //! Records are unwound: part by part, the last first. It takes no memory and can't fail.
-ghost use Rattle.std.specs.Prelude.{◌≡◌};
+ghost use Rattle.std.specs.Prelude.{◌≡◌, ◌<◌, length};
 ghost use Rattle.uv_step.specs.declared.record.Change.TheVariants as change;
 ghost use Rattle.uv_step.specs.Image.{held};
-ghost use Rattle.uv_step.specs.Parts.{unwind, unwind_parts, naming_parts, change_parts};
+ghost use Rattle.uv_step.specs.Parts.{unwind, unwind_parts, undo, naming_parts, change_parts, Bound as bound};
 ghost use Rattle.uv_step.specs.Fit.{IsFit};
 ghost use Rattle.uv_step.specs.Undo.{CanUnwind, CanRename, CanUndo};
 
@@ -12,6 +12,7 @@ use crate::named::Named;
 use crate::record::{Added, Change, Naming, Record};
 use uv_arena::PushUndo;
 use uv_handle::{DelistUndo, ListUndo, RecordUndo};
+use uv_ids::{Id, Var};
 use uv_requests::{CancelUndo, FinishUndo, QueueUndo};
 use uv_timer::{CollectUndo, TimerUndo, undo_collect_one, undo_reschedule};
 use uv_watch::{WalkUndo, undo_take};
@@ -37,10 +38,8 @@ impl<P: Copy> Memory<P> {
     {
         match naming {
             Naming::Same => {}
-            Naming::Bound(name, id) => {
-                let calls = self.names[name.0 as usize].calls;
-                self.names[name.0 as usize] = Named { id, calls };
-            }
+            Naming::Unbound(name) => self.rebind(name, None),
+            Naming::Bound(name, id) => self.rebind(name, Some(id)),
             Naming::Called(name, callback, count) => {
                 let named = self.names[name.0 as usize];
                 let calls = named.calls.with(callback, count);
@@ -50,6 +49,16 @@ impl<P: Copy> Memory<P> {
                 };
             }
         }
+    }
+
+    /// A name is bound to this again, or to nothing.
+    fn rebind(&mut self, name: Var, id: Option<Id>)
+        requires { name.0 < length (held self.old).image.names }
+        ensures image { (held self.new).image ≡ undo (bound name id) (held self.old).image }
+        ensures room { (held self.new).room ≡ (held self.old).room }
+    {
+        let calls = self.names[name.0 as usize].calls;
+        self.names[name.0 as usize] = Named { id, calls };
     }
 
     /// A change is undone.

@@ -17,7 +17,7 @@ impl<P: Copy> Memory<P> {
         requires fit { IsFit (held self.old).image }
         requires fits { (held self.old).image.clock + ms < 2 ^ 64 }
         ensures recorded { Recorded result (held self.old) (held self.new) }
-        ensures clock { (held self.new).image.clock ≡ (held self.old).image.clock + ms }
+        ensures image { (held self.new).image ≡ record (held self.old).image { clock = (held self.old).image.clock + ms } }
     {
         let change = Change::Clock(self.clock);
         self.clock += ms;
@@ -28,7 +28,8 @@ impl<P: Copy> Memory<P> {
     pub fn update_time(&mut self) -> Record<P>
         requires fit { IsFit (held self.old).image }
         ensures recorded { Recorded result (held self.old) (held self.new) }
-        ensures time { (held self.new).image.times.time ≡ (held self.old).image.clock }
+        ensures image { (held self.new).image
+            ≡ record (held self.old).image { times = record (held self.old).image.times { time = (held self.old).image.clock } } }
     {
         let change = Change::Time(self.times.time);
         self.times.time = self.clock;
@@ -39,7 +40,7 @@ impl<P: Copy> Memory<P> {
     pub fn set_stop(&mut self, stop: bool) -> Record<P>
         requires fit { IsFit (held self.old).image }
         ensures recorded { Recorded result (held self.old) (held self.new) }
-        ensures stop { (held self.new).image.stop_flag ≡ stop }
+        ensures image { (held self.new).image ≡ record (held self.old).image { stop_flag = stop } }
     {
         let change = Change::Stop(self.stop_flag);
         self.stop_flag = stop;
@@ -50,7 +51,7 @@ impl<P: Copy> Memory<P> {
     pub fn set_idled(&mut self, idled: bool) -> Record<P>
         requires fit { IsFit (held self.old).image }
         ensures recorded { Recorded result (held self.old) (held self.new) }
-        ensures idled { (held self.new).image.idled ≡ idled }
+        ensures image { (held self.new).image ≡ record (held self.old).image { idled = idled } }
     {
         let change = Change::Idled(self.idled);
         self.idled = idled;
@@ -92,7 +93,7 @@ impl<P: Copy> Memory<P> {
         };
         Record {
             place: step_record.place,
-            naming: Naming::Bound(name, named.id),
+            naming: Naming::bound(name, named.id),
             change: step_record.change,
         }
     }

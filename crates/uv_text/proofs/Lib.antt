@@ -2,3 +2,7 @@ pub mod Commands
 pub mod Pieces
 pub mod Recordings
 pub mod StepLines
+pub mod Sizes
+pub mod Printed
+pub mod Played
+pub mod Alike

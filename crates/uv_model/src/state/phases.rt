@@ -3,6 +3,8 @@ ghost use Rattle.std.specs.Prelude.{◌≡◌, ◌<◌, ◌+◌, ◌^◌, IfOk, 
 ghost use Rattle.uv_script.specs.Program.{lines_in, is_for};
 ghost use Rattle.uv_model.specs.State.{named};
 ghost use Rattle.uv_model.specs.Bounds.{CanStep, AreBelow};
+ghost use Rattle.uv_model.specs.Handing.{job_run};
+ghost use Rattle.uv_ids.specs.declared.event.Event.TheVariants.{Finish};
 ghost use Rattle.uv_model.specs.Next.{Moves, next_line, body_at, body_from, begins, new_iteration, ends, goes, enter, begin_poll, poll, begin_timers, leave_timers, calls, call, fire, first_due, collect, timers, stage_step, body_step, main_step, sent_to, tick, next};
 ghost use Rattle.uv_model.specs.Steps.{Steps, Falls};
 
@@ -14,6 +16,7 @@ use std::alloc::AllocError;
 use uv_ids::{Callback, Event, Fault, Id, Mode, Phase, Seen, Site, Var, Why};
 use uv_records::{HandleRecord, WatcherKind};
 use uv_script::{CallbackLine, MainOp, Script};
+use uv_work::WorkResult;
 
 /// A step that appended a line.
 pub(super) fn seen(seen: Seen) -> Outcome
@@ -353,6 +356,21 @@ impl LoopState {
         let clock = self.later(ms).ok_or(Why::Range)?;
         self.clock = clock;
         Ok(seen(Seen::Tick(ms)))
+    }
+
+    /// Does the step in which a worker finishes the request that it runs, of whose job this is the result. After an error the state is
+    /// as before.
+    #[tactic(auto, unfolding(crate::specs::Next::next))]
+    pub fn finish_with(
+        &mut self,
+        script: &Script,
+        worker: u16,
+        work: WorkResult,
+    ) -> Result<Outcome, Fault>
+        requires { job_run self.old worker ≡ Some work.job }
+        ensures { Steps (next script.now self.old (Finish worker)) self.old result self.new }
+    {
+        self.finish_done(worker, work)
     }
 
     /// Does one step. After an error the state is as before.

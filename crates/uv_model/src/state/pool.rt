@@ -1,5 +1,5 @@
 //! Work requests: their ops, the steps of the thread pool, and the section that calls those that are done.
-ghost use Rattle.std.specs.Prelude.{◌≡◌, ◌++◌, ◌∷◌, [], IfOk, OnOk, OnErr, Some, slice_get, slice_set};
+ghost use Rattle.std.specs.Prelude.{◌≡◌, ◌++◌, ◌∷◌, [], IfOk, Ok, OnOk, OnErr, Some, slice_get, slice_set};
 ghost use Rattle.uv_records.specs.Slots.{next_free, taken};
 ghost use Rattle.uv_work.specs.Digests.{digest_of};
 ghost use Rattle.uv_work.specs.declared.outcome.Outcome.TheVariants.{Finished};
@@ -11,6 +11,7 @@ ghost use Rattle.uv_model.specs.State.{live_request};
 ghost use Rattle.uv_model.specs.Ops.{do_op, cancel, cancelled, ended};
 ghost use Rattle.uv_model.specs.Bounds.{CanStep};
 ghost use Rattle.uv_model.specs.Next.{Moves, begin_done, collect_request, next_work, work_of, take, finish, cancels};
+ghost use Rattle.uv_model.specs.Handing.{job_run};
 ghost use Rattle.uv_model.specs.Steps.{Steps, Falls};
 
 use crate::content::Content;
@@ -164,6 +165,24 @@ impl LoopState {
         Ok(seen(Seen::Take(worker, request.name, id)))
     }
 
+    /// A worker's request ends with the digest of its job, and the worker runs nothing any more. Without memory nothing changes.
+    fn end_work(
+        &mut self,
+        worker: u16,
+        id: Id,
+        request: Request,
+        ending: Ending,
+    ) -> Result<Outcome, Fault>
+        requires { ending ≡ Finished (digest_of request.task.rounds (text_of request.task)) }
+        ensures { Steps (finish self.old worker (Ok (id, request))) self.old result self.new }
+    {
+        if self.end_request(id, request, ending).is_err() {
+            return Err(Fault::Memory);
+        }
+        self.set_running(worker, None);
+        Ok(seen(Seen::Finish(worker, request.name, id)))
+    }
+
     /// A worker finishes the request that it runs: does its job. Without memory nothing changes.
     pub(super) fn finish(&mut self, worker: u16) -> Result<Outcome, Fault>
         ensures { Steps (finish self.old worker (work_of self.old (slice_get self.old.running worker))) self.old result self.new }
@@ -172,14 +191,27 @@ impl LoopState {
             Ok(work) => work,
             Err(why) => return Err(Fault::Refused(why)),
         };
-        if self
-            .end_request(id, request, finished(id, request.task))
-            .is_err()
-        {
-            return Err(Fault::Memory);
-        }
-        self.set_running(worker, None);
-        Ok(seen(Seen::Finish(worker, request.name, id)))
+        self.end_work(worker, id, request, finished(id, request.task))
+    }
+
+    /// A worker finishes the request that it runs, of whose job this is the result. Without memory nothing changes.
+    pub(super) fn finish_done(&mut self, worker: u16, work: WorkResult) -> Result<Outcome, Fault>
+        requires { job_run self.old worker ≡ Some work.job }
+        ensures { Steps (finish self.old worker (work_of self.old (slice_get self.old.running worker))) self.old result self.new }
+    {
+        let (id, request) = match self.work_of(worker) {
+            Ok(work) => work,
+            Err(why) => return Err(Fault::Refused(why)),
+        };
+        self.end_work(worker, id, request, Ending::Finished(work.digest()))
+    }
+
+    /// The job that a worker runs, if it runs one.
+    pub(super) fn job_run(&self, worker: u16) -> Option<Job>
+        ensures { result ≡ job_run self.now worker }
+    {
+        let (id, request) = self.work_of(worker).ok()?;
+        Job::new(id, request.task.text(), request.task.rounds())
     }
 
     /// Begins the section of the requests that are done.

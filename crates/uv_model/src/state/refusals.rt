@@ -1,12 +1,15 @@
 //! Why a step is to be refused. It is found before anything is changed, and before memory is asked for.
-ghost use Rattle.std.specs.Prelude.{◌≡◌, ◌+◌, ◌≤◌, IfSome, IfNone, slice_get, None};
+ghost use Rattle.std.specs.Prelude.{◌≡◌, ◌+◌, ◌≤◌, IfSome, IfNone, slice_get, None, Some};
+ghost use Rattle.uv_ids.specs.declared.event.Event.TheVariants.{Finish};
 ghost use Rattle.uv_model.specs.Next.{main_step, run_step, next_work, take, work_of, finish, cancels, sent_to, tick, next, LATEST};
 ghost use Rattle.uv_model.specs.After.{refusal_of};
+ghost use Rattle.uv_model.specs.Handing.{job_run, RefusesResult};
 
 use crate::place::{Place, Run, Stage};
 use crate::state::LoopState;
 use uv_ids::{Event, Var, Why};
 use uv_script::Script;
+use uv_work::Job;
 
 /// The latest time that the clock may show, in ms.
 const LATEST: u64 = 1 << 62;
@@ -65,6 +68,23 @@ impl LoopState {
         ensures { result ≡ refusal_of (finish self.now worker (work_of self.now (slice_get self.now.running worker))) }
     {
         self.work_of(worker).err()
+    }
+
+    /// Why a finish with the result of this job is to be refused, if it is: the worker has to be there and to run that very job.
+    #[tactic(auto, unfolding(crate::specs::Next::next))]
+    pub fn result_refusal(&self, script: &Script, worker: u16, job: Job) -> Option<Why>
+        ensures some { IfSome result (λ why. RefusesResult script.now self.now worker job why) }
+        ensures none { IfNone result (job_run self.now worker ≡ Some job) }
+        ensures moves { IfNone result (refusal_of (next script.now self.now (Finish worker)) ≡ None) }
+    {
+        match self.finish_refusal(worker) {
+            Some(why) => return Some(why),
+            None => {}
+        }
+        match self.job_run(worker) {
+            Some(own) if own.is(job) => None,
+            _ => Some(Why::NoWork),
+        }
     }
 
     /// There has to be such a name.

@@ -1,0 +1,164 @@
+-- A text is one recording at most; and of one that was made the verdict is same alone.
+use Rattle.std.proofs.Common.{◌≡◌, ℕ, ◌<◌, List, [], ◌∷◌, ◌++◌, length, take, get_or, refl, ap, sym, subst, ◌∙◌, arith, length-append, codes}
+use Rattle.std.proofs.Math.Seq.{get_or-append_seam}
+use Rattle.std.proofs.lemmas.List.{append_cancel_left, take-append-le, take_all}
+use Rattle.std.proofs.lemmas.Option.{none-some, same_Some}
+use Rattle.uv_ids.specs.declared.event.Event.{Event}
+use Rattle.uv_script.specs.Program.{Program}
+use Rattle.uv_script.specs.Lines.{fields_of}
+use Rattle.uv_script.specs.Reading as reading
+use Rattle.uv_script.specs.Text.{said_whole}
+use Rattle.uv_script.specs.Grammar as script
+use Rattle.uv_script.specs.Grammar.{blank, IsScript}
+use Rattle.uv_script.proofs.Agrees.{AreDistinct}
+use Rattle.uv_script.proofs.AfterLines.{after_complete, distinct_reads, distinct_none}
+use Rattle.uv_model.specs.Next.{Refuses, next}
+use Rattle.uv_model.specs.After.{after}
+use Rattle.uv_model.proofs.Runs.{not_refused}
+use Rattle.uv_text.specs.declared.command.Asked.TheVariants.{Do}
+use Rattle.uv_text.specs.declared.command.Command.TheVariants.{Step}
+use Rattle.uv_text.specs.Commands as is
+use Rattle.uv_text.specs.Commands.{IsCommand, command}
+use Rattle.uv_text.specs.Recorded.{SaysStep, loop, outside, IsCallbackLine, call, after as after_callback, closed, step_asked}
+use Rattle.uv_text.specs.Recording.{callback_lines, recording_text}
+use Rattle.uv_text.proofs.Alike.{callbacks_alike}
+use Rattle.uv_text.proofs.Commands.{asks_one}
+use Rattle.uv_engine.specs.declared.verdict.Verdict.{Verdict}
+use Rattle.uv_engine.specs.declared.verdict.Verdict.TheVariants.{Same}
+use Rattle.uv_engine.specs.Recordings.{Part, Start, InScript, InSteps, InCalls, Whole, Reads, version, in_script, begins, step, calls, callback, ends, ReadsAll, none, one}
+use Rattle.uv_engine.specs.Verdict.{IsHalt, refused, full, AreApart, AllTaken, IsVerdict, halts, same, differs, HasVerdict}
+use Rattle.uv_engine.proofs.Remade.{is_made, made_read, taken_alike}
+
+-- ---- which lines are no step and no callback
+
+lone_step : (names fields : List (List ℕ)) (e : Event) → length fields ≡ 1 → IsCommand names fields (Step e) → ⊥
+lone_step names fields e n (is.step word argument _ f h) = let two = ap length f in absurd (omega (arith, n, two))
+
+calls_no_step : (names : List (List ℕ)) (e : Event) → SaysStep names (codes "calls") e → ⊥
+calls_no_step names e (loop f) = let long = ap length f in absurd (omega (arith, long))
+calls_no_step names e (outside _ l h) = lone_step names (fields_of (codes "calls")) e refl h
+
+end_no_callback : IsCallbackLine (codes "end") → ⊥
+end_no_callback (call text l e) = let long = ap length e in absurd (omega (arith, long))
+end_no_callback (after_callback text l e) = let long = ap length e in absurd (omega (arith, long))
+end_no_callback (closed text l e) = let long = ap length e in absurd (omega (arith, long))
+
+begin_no_statement : (p q : Program) → AreDistinct p.names → script.Reads p (codes "begin") q → ⊥
+unfolding reading.after_line reading.statement_of reading.setting_of
+begin_no_statement p q distinct h = none-some q (after_complete p q (codes "begin") distinct h)
+
+-- where no name is declared twice, a line says one step at most
+one_step : (names : List (List ℕ)) (line : List ℕ) (e f : Event) → AreDistinct names → SaysStep names line e → SaysStep names line f → e ≡ f
+one_step names line _ _ distinct (loop a) (loop b) = refl
+one_step names line _ f distinct (loop a) (outside _ l h) =
+    absurd (lone_step names (fields_of (codes "loop")) f refl (subst (λ (x : List ℕ). IsCommand names (fields_of x) (Step f)) a h))
+one_step names line e _ distinct (outside _ l h) (loop a) =
+    absurd (lone_step names (fields_of (codes "loop")) e refl (subst (λ (x : List ℕ). IsCommand names (fields_of x) (Step e)) a h))
+one_step names line e f distinct (outside _ l h) (outside _ m k) =
+    let both = asks_one names line (Do (Step e)) (Do (Step f)) distinct (command (Step e) l h) (command (Step f) m k) in
+    same_Some e f (ap step_asked both)
+
+-- ---- a line goes on to one part at most
+
+abbrev IsDistinct : Part → Type 0
+IsDistinct Start = Unit {0}
+IsDistinct (InScript p) = AreDistinct p.names
+IsDistinct (InSteps p es) = AreDistinct p.names
+IsDistinct (InCalls p es called) = Unit {0}
+IsDistinct (Whole p es called) = Unit {0}
+
+from_start : (line : List ℕ) (z : Part) → Reads Start line z → z ≡ InScript blank
+from_start _ _ version = refl
+
+from_script : (p q : Program) (line : List ℕ) (z : Part) → AreDistinct p.names → script.Reads p line q → Reads (InScript p) line z → z ≡ InScript q
+from_script p q line _ distinct h (in_script {q = r} k) =
+    ap InScript (same_Some r q (sym (after_complete p r line distinct k) ∙ after_complete p q line distinct h))
+from_script p q _ _ distinct h begins = absurd (begin_no_statement p q distinct h)
+
+at_begin : (p : Program) (line : List ℕ) (z : Part) → AreDistinct p.names → line ≡ codes "begin" → Reads (InScript p) line z → z ≡ InSteps p []
+at_begin p line _ distinct e (in_script {q = q} h) =
+    absurd (begin_no_statement p q distinct (subst (λ (l : List ℕ). script.Reads p l q) e h))
+at_begin p _ _ distinct e begins = refl
+
+from_steps : (p : Program) (es : List Event) (e : Event) (line : List ℕ) (z : Part) → AreDistinct p.names → SaysStep p.names line e →
+    Reads (InSteps p es) line z → z ≡ InSteps p (es ++ e ∷ [])
+from_steps p es e line _ distinct h (step {e = f} k) = ap (λ (x : Event). InSteps p (es ++ x ∷ [])) (one_step p.names line f e distinct k h)
+from_steps p es e _ _ distinct h calls = absurd (calls_no_step p.names e h)
+
+at_calls : (p : Program) (es : List Event) (line : List ℕ) (z : Part) → line ≡ codes "calls" → Reads (InSteps p es) line z → z ≡ InCalls p es []
+at_calls p es line _ is_calls (step {e = e} h) = absurd (calls_no_step p.names e (subst (λ (l : List ℕ). SaysStep p.names l e) is_calls h))
+at_calls p es _ _ is_calls calls = refl
+
+from_calls : (p : Program) (es : List Event) (called : List (List ℕ)) (line : List ℕ) (z : Part) → IsCallbackLine line →
+    Reads (InCalls p es called) line z → z ≡ InCalls p es (called ++ line ∷ [])
+from_calls p es called line _ h (callback k) = refl
+from_calls p es called _ _ h ends = absurd (end_no_callback h)
+
+at_end : (p : Program) (es : List Event) (called : List (List ℕ)) (line : List ℕ) (z : Part) → line ≡ codes "end" →
+    Reads (InCalls p es called) line z → z ≡ Whole p es called
+at_end p es called line _ is_end (callback h) = absurd (end_no_callback (subst IsCallbackLine is_end h))
+at_end p es called _ _ is_end ends = refl
+
+one_part : (x y z : Part) (line : List ℕ) → IsDistinct x → Reads x line y → Reads x line z → z ≡ y
+one_part _ _ z line distinct version k = from_start (codes "uvt 1") z k
+one_part _ _ z line distinct (in_script {p = p} {q = q} h) k = from_script p q line z distinct h k
+one_part _ _ z line distinct (begins {p = p}) k = at_begin p (codes "begin") z distinct refl k
+one_part _ _ z line distinct (step {p = p} {es = es} {e = e} h) k = from_steps p es e line z distinct h k
+one_part _ _ z line distinct (calls {p = p} {es = es}) k = at_calls p es (codes "calls") z refl k
+one_part _ _ z line distinct (callback {p = p} {es = es} {called = called} h) k = from_calls p es called line z h k
+one_part _ _ z line distinct (ends {p = p} {es = es} {called = called}) k = at_end p es called (codes "end") z refl k
+
+distinct_part : (x y : Part) (line : List ℕ) → IsDistinct x → Reads x line y → IsDistinct y
+distinct_part _ _ line distinct version = distinct_none
+distinct_part _ _ line distinct (in_script {p = p} {q = q} h) = distinct_reads p q line distinct h
+distinct_part _ _ line distinct begins = distinct
+distinct_part _ _ line distinct (step h) = distinct
+distinct_part _ _ line distinct calls = tt
+distinct_part _ _ line distinct (callback h) = tt
+distinct_part _ _ line distinct ends = tt
+
+all_one : (x y z : Part) (ls : List (List ℕ)) → IsDistinct x → ReadsAll x ls y → ReadsAll x ls z → y ≡ z
+all_one x _ _ [] distinct none none = refl
+all_one x y z (l ∷ ls) distinct (one {y = a} h hs) (one {y = b} k ks) =
+    let same_part = one_part x b a l distinct k h in
+    all_one b y z ls (distinct_part x b l distinct k) (subst (λ (m : Part). ReadsAll m ls y) same_part hs) ks
+
+-- ---- the verdict
+
+never_halts : (q : Program) (es : List Event) (v : Verdict) → AllTaken q es → IsHalt q es v → ⊥
+never_halts q es _ taken (refused before rest e why cut accepted less is_refused) =
+    let long = ap length cut in
+    let within : length before < length es = omega (arith, long, length-append before (e ∷ rest)) in
+    let here : e ≡ get_or es (length before) e = sym (ap (λ (xs : List Event). get_or xs (length before) e) cut ∙ get_or-append_seam before e rest e) in
+    let front : take (length before) es ≡ before =
+    ap (take (length before)) cut ∙ take-append-le (length before) before (e ∷ rest) (omega arith) ∙ take_all (length before) before (omega arith) in
+    not_refused q es (length before) e e why taken.0 within here
+    (subst (λ (xs : List Event). next q (after q xs) e ≡ Refuses why) (sym front) is_refused)
+never_halts q es _ taken (full before rest e cut accepted all) =
+    let long = ap length cut in
+    absurd (omega (arith, long, length-append before (e ∷ rest), all, taken.1))
+
+never_apart : (xs : List (List ℕ)) → AreApart xs xs → ⊥
+never_apart [] h = h
+never_apart (x ∷ xs) h = h refl
+
+only_same : (q : Program) (es : List Event) (called : List (List ℕ)) (v : Verdict) → AllTaken q es → called ≡ callback_lines q es →
+    IsVerdict q es called v → v ≡ Same
+only_same q es called v taken is_called (halts _ h) = absurd (never_halts q es v taken h)
+only_same q es called _ taken is_called (same t e) = refl
+only_same q es called _ taken is_called (differs place t part) =
+    let both = append_cancel_left part.same part.left part.right (sym part.left_is ∙ is_called ∙ part.right_is) in
+    absurd (never_apart part.right (subst (λ (xs : List (List ℕ)). AreApart xs part.right) both part.apart))
+
+-- the verdict on what was read
+abbrev Judged : Verdict → Part → Type 0
+Judged v (Whole p es called) = IsVerdict p es called v
+Judged v x = Unit {0}
+
+pub says_only_same : (text : List ℕ) (p : Program) (es : List Event) → IsScript text p → AllTaken p es → (v : Verdict) →
+    HasVerdict (recording_text p es) v → v ≡ Same
+says_only_same text p es is taken v h =
+    let q = said_whole p in
+    let called = callback_lines p es in
+    let whole = all_one Start (Whole h.program h.steps h.called) (Whole q es called) _ tt h.recording (made_read p es (is_made text p es is taken)) in
+    only_same q es called v (taken_alike p es taken) (callbacks_alike p es) (subst (Judged v) whole h.verdict)

@@ -1,0 +1,137 @@
+-- The recording of a script and of steps that it takes is read as that very script, those steps and their callbacks; so its rerun says same,
+-- and nothing else.
+use Rattle.std.proofs.Common.{ℕ, ◌≤◌, List, [], ◌∷◌, ◌++◌, length, map, Contains, refl, sym, subst, arith, append_assoc, append-nil, codes}
+use Rattle.std.specs.List.{AllByRecursion}
+use Rattle.uv_ids.specs.declared.event.Event.{Event}
+use Rattle.uv_script.specs.Program.{Program, worker_count}
+use Rattle.uv_script.specs.Lines.{lines_of, IsLine}
+use Rattle.uv_script.specs.Text.{script_lines, said_whole}
+use Rattle.uv_script.specs.Words.{IsName}
+use Rattle.uv_script.specs.Grammar as script
+use Rattle.uv_script.specs.Grammar.{blank, IsScript}
+use Rattle.uv_script.proofs.Checks.{is_line_decides}
+use Rattle.uv_script.proofs.ReadBack.{lines_back, lines_read_back, read_lines, size_fits, workers_fit}
+use Rattle.uv_script.proofs.Written.{script_written}
+use Rattle.uv_text.specs.Recorded.{SaysStep, loop, outside, IsCallbackLine, call, after as after_line, closed}
+use Rattle.uv_text.specs.Recording.{step_line, callback_lines, recording_lines, recording_text}
+use Rattle.uv_text.proofs.Alike.{accepts_alike, callbacks_alike}
+use Rattle.uv_text.proofs.Played.{played, callbacks_said}
+use Rattle.uv_text.proofs.Printed.{step_said}
+use Rattle.uv_text.proofs.Sizes.{CanBe}
+use Rattle.uv_engine.specs.declared.verdict.Verdict.TheVariants.{Same}
+use Rattle.uv_engine.specs.Recordings.{Start, InScript, InSteps, InCalls, Whole, version, begins, step, calls, callback, ends, ReadsAll, none, one}
+use Rattle.uv_engine.specs.Verdict.{AllTaken, same, HasVerdict}
+use Rattle.uv_engine.proofs.Recordings.{reads_on, script_on}
+
+-- ---- its lines
+
+every_append : (P : List ℕ → Type 0) (xs ys : List (List ℕ)) → AllByRecursion P xs → AllByRecursion P ys → AllByRecursion P (xs ++ ys)
+every_append P [] ys h k = k
+every_append P (x ∷ xs) ys h k = (h.0, every_append P xs ys h.1 k)
+
+step_is_line : (names : List (List ℕ)) (line : List ℕ) (e : Event) → SaysStep names line e → IsLine line
+step_is_line names line e (loop is) = subst IsLine (sym is) ((is_line_decides (codes "loop")).0 refl)
+step_is_line names line e (outside _ is h) = is
+
+called_is_line : (line : List ℕ) → IsCallbackLine line → IsLine line
+called_is_line line (call text is e) = is
+called_is_line line (after_line text is e) = is
+called_is_line line (closed text is e) = is
+
+called_are_lines : (ls : List (List ℕ)) → AllByRecursion IsCallbackLine ls → AllByRecursion IsLine ls
+called_are_lines [] h = tt
+called_are_lines (l ∷ ls) h = (called_is_line l h.0, called_are_lines ls h.1)
+
+-- the steps say what they are
+abbrev pub Said : List (List ℕ) → Event → Type 0
+Said names e = SaysStep names (step_line names e) e
+
+steps_are_lines : (names : List (List ℕ)) (es : List Event) → AllByRecursion (Said names) es → AllByRecursion IsLine (map (step_line names) es)
+steps_are_lines names [] h = tt
+steps_are_lines names (e ∷ es) h = (step_is_line names (step_line names e) e h.0, steps_are_lines names es h.1)
+
+steps_on : (p : Program) (before es : List Event) → AllByRecursion (Said p.names) es →
+    ReadsAll (InSteps p before) (map (step_line p.names) es) (InSteps p (before ++ es))
+steps_on p before [] h = subst (λ (xs : List Event). ReadsAll (InSteps p before) [] (InSteps p xs)) (sym (append-nil before)) none
+steps_on p before (e ∷ es) h =
+    subst (λ (xs : List Event). ReadsAll (InSteps p before) (map (step_line p.names) (e ∷ es)) (InSteps p xs)) (append_assoc before (e ∷ []) es)
+    (one (step h.0) (steps_on p (before ++ e ∷ []) es h.1))
+
+calls_on : (p : Program) (es : List Event) (before ls : List (List ℕ)) → AllByRecursion IsCallbackLine ls →
+    ReadsAll (InCalls p es before) ls (InCalls p es (before ++ ls))
+calls_on p es before [] h =
+    subst (λ (xs : List (List ℕ)). ReadsAll (InCalls p es before) [] (InCalls p es xs)) (sym (append-nil before)) none
+calls_on p es before (l ∷ ls) h =
+    subst (λ (xs : List (List ℕ)). ReadsAll (InCalls p es before) (l ∷ ls) (InCalls p es xs)) (append_assoc before (l ∷ []) ls)
+    (one (callback h.0) (calls_on p es (before ++ l ∷ []) ls h.1))
+
+-- ---- it is read back
+
+-- what is known of a script that was read, and of steps that it takes
+pub record IsMade (p : Program) (es : List Event) : Type 0 where
+  pub script : script.ReadsAll blank (script_lines p) (said_whole p)
+  pub steps : AllByRecursion (Said p.names) es
+  pub called : AllByRecursion IsCallbackLine (callback_lines p es)
+
+steps_said : (p : Program) (each : (name : List ℕ) → Contains p.names name → IsName name) (m k : ℕ) (es : List Event) → m ≤ length p.names →
+    k ≤ 1024 → AllByRecursion (CanBe m k) es → AllByRecursion (Said p.names) es
+steps_said p each m k [] all few h = tt
+steps_said p each m k (e ∷ es) all few h = (step_said p.names each m k e all few h.0, steps_said p each m k es all few h.1)
+
+pub is_made : (text : List ℕ) (p : Program) (es : List Event) → IsScript text p → AllTaken p es → IsMade p es
+is_made text p es is taken =
+    let written = script_written p (lines_of text) is in
+    let each : (name : List ℕ) → Contains p.names name → IsName name = λ name h. (written.names name h).0 in
+    let run = played p es (size_fits p.size written.size).slots taken.0 taken.1 in
+    record {
+      script = lines_read_back p written;
+      steps = steps_said p each (length p.callbacks) (worker_count p) es (omega (arith, written.each)) (workers_fit p.workers written.workers).1
+          run.steps;
+      called = callbacks_said p each es run.lines;
+    }
+
+are_lines : (p : Program) (es : List Event) → IsMade p es → AllByRecursion IsLine (recording_lines p es)
+are_lines p es h =
+    let front = (is_line_decides (codes "uvt 1")).0 refl in
+    let begin = (is_line_decides (codes "begin")).0 refl in
+    let middle = (is_line_decides (codes "calls")).0 refl in
+    let last = (is_line_decides (codes "end")).0 refl in
+    let ks = codes "uvt 1" ∷ script_lines p in
+    let bs = codes "begin" ∷ map (step_line p.names) es in
+    let cs = codes "calls" ∷ callback_lines p es in
+    every_append IsLine (ks ++ bs ++ cs) (codes "end" ∷ [])
+    (every_append IsLine (ks ++ bs) cs
+    (every_append IsLine ks bs (front, read_lines blank (said_whole p) (script_lines p) h.script) (begin, steps_are_lines p.names es h.steps))
+    (middle, called_are_lines (callback_lines p es) h.called)) (last, tt)
+
+are_read : (p : Program) (es : List Event) → IsMade p es → ReadsAll Start (recording_lines p es) (Whole (said_whole p) es (callback_lines p es))
+are_read p es h =
+    let q = said_whole p in
+    let called = callback_lines p es in
+    let ks = codes "uvt 1" ∷ script_lines p in
+    let bs = codes "begin" ∷ map (step_line p.names) es in
+    let cs = codes "calls" ∷ called in
+    reads_on Start (InCalls q es called) (Whole q es called) (ks ++ bs ++ cs) (codes "end" ∷ [])
+    (reads_on Start (InSteps q es) (InCalls q es called) (ks ++ bs) cs
+    (reads_on Start (InScript q) (InSteps q es) ks bs (one version (script_on blank q (script_lines p) h.script))
+    (one begins (steps_on q [] es h.steps)))
+    (one calls (calls_on q es [] called h.called))) (one ends none)
+
+pub made_read : (p : Program) (es : List Event) → IsMade p es →
+    ReadsAll Start (lines_of (recording_text p es)) (Whole (said_whole p) es (callback_lines p es))
+unfolding recording_text
+made_read p es h =
+    subst (λ (ls : List (List ℕ)). ReadsAll Start ls (Whole (said_whole p) es (callback_lines p es)))
+    (sym (lines_back (recording_lines p es) (are_lines p es h))) (are_read p es h)
+
+pub taken_alike : (p : Program) (es : List Event) → AllTaken p es → AllTaken (said_whole p) es
+taken_alike p es h = (accepts_alike p es h.0, h.1)
+
+pub says_same : (text : List ℕ) (p : Program) (es : List Event) → IsScript text p → AllTaken p es → HasVerdict (recording_text p es) Same
+says_same text p es is taken = record {
+  program = said_whole p;
+  steps = es;
+  called = callback_lines p es;
+  recording = made_read p es (is_made text p es is taken);
+  verdict = same (taken_alike p es taken) (callbacks_alike p es);
+}

@@ -1,0 +1,80 @@
+-- What every list of accepted steps has: each step may be taken, and each line shows a callback as a recording has it.
+use Rattle.std.proofs.Common.{◌≡◌, ℕ, ◌+◌, ◌≤◌, List, [], ◌∷◌, ◌++◌, length, map, Bool, true, false, Contains, Option, Some, None, IfSome, refl, ap, subst, ◌∙◌, arith, length-append}
+use Rattle.std.specs.Prelude.{option_to_list}
+use Rattle.std.specs.List.{AllByRecursion, filter, flat_map}
+use Rattle.std.proofs.lemmas.List.{length-replicate}
+use Rattle.std.proofs.lemmas.List.Elements.{All-nil}
+use Rattle.uv_ids.specs.declared.id.Id.{Id}
+use Rattle.uv_ids.specs.declared.event.Event.{Event}
+use Rattle.uv_ids.specs.declared.seen.Seen.{Seen}
+use Rattle.uv_script.specs.Program.{Program, arena_size, worker_count, IsSlotCount}
+use Rattle.uv_script.specs.Words.{IsName}
+use Rattle.uv_records.specs.declared.slot.Slot.{Slot}
+use Rattle.uv_model.specs.declared.content.Content.{Content}
+use Rattle.uv_model.specs.declared.named.Named.{Named}
+use Rattle.uv_model.specs.Bounds.{CanStep}
+use Rattle.uv_model.specs.State.{State, fresh, unbound}
+use Rattle.uv_model.specs.Next.{Next, Moves, Refuses, next}
+use Rattle.uv_model.specs.After.{after, seen_from, seen_by, state_of, seen_of, AcceptsFrom, Accepts, STEPS}
+use Rattle.uv_model.proofs.Bounded.{after_able}
+use Rattle.uv_model.proofs.Runs.{after-nil, after-push}
+use Rattle.uv_text.specs.Trace.{line_text}
+use Rattle.uv_text.specs.Recorded.{IsCallbackLine}
+use Rattle.uv_text.specs.Recording.{is_callback, callback_lines}
+use Rattle.uv_text.proofs.Printed.{callback_said}
+use Rattle.uv_text.proofs.Sizes.{IsContent, Sized, Shows, Stays, CanBe, next_sized, can_be}
+
+pub record Played (m k : ℕ) (es : List Event) (xs : List (Option Seen)) : Type 0 where
+  pub steps : AllByRecursion (CanBe m k) es
+  pub lines : AllByRecursion (λ (x : Option Seen). IfSome x Shows) xs
+
+state_sized : (m k : ℕ) (s : State) (n : Next) → Sized m k s → Stays m k n → Sized m k (state_of s n)
+state_sized m k s (Moves t l) h j = j.0
+state_sized m k s (Refuses why) h j = h
+
+shown : (m k : ℕ) (n : Next) → Stays m k n → IfSome (seen_of n) Shows
+shown m k (Moves t l) j = j.1
+shown m k (Refuses why) j = tt
+
+played_from : (p : Program) (m k : ℕ) (before es : List Event) (s : State) → after p before ≡ s → length before + length es ≤ STEPS → Sized m k s →
+    AcceptsFrom p s es → Played m k es (seen_from p s es)
+played_from p m k before [] s same few h a = record { steps = tt; lines = tt }
+played_from p m k before (e ∷ es) s same few h a =
+    let able = subst CanStep same (after_able p before (omega (arith, few))) in
+    let stays = next_sized p m k s e able h in
+    let rest = played_from p m k (before ++ e ∷ []) es (state_of s (next p s e))
+    (after-push p before e ∙ ap (λ (x : State). state_of x (next p x e)) same) (omega (arith, few, length-append before (e ∷ [])))
+    (state_sized m k s (next p s e) h stays) a.1 in
+    record { steps = (can_be p m k s e h a.0, rest.steps); lines = (shown m k (next p s e) stays, rest.lines) }
+
+fresh_sized : (p : Program) → IsSlotCount (arena_size p).slots → Sized (length p.callbacks) (worker_count p) (fresh p)
+fresh_sized p slots = record {
+  names_are = length-replicate {A = Named} (length p.callbacks) unbound;
+  workers_are = length-replicate {A = Option Id} (worker_count p) None;
+  few = omega (arith, slots.1);
+  contents = All-nil (λ (slot : Slot Content). IsContent slot.content);
+}
+
+pub played : (p : Program) (es : List Event) → IsSlotCount (arena_size p).slots → Accepts p es → length es ≤ STEPS →
+    Played (length p.callbacks) (worker_count p) es (seen_by p es)
+unfolding Accepts seen_by
+played p es slots a few = played_from p (length p.callbacks) (worker_count p) [] es (fresh p) (after-nil p) (omega (arith, few)) (fresh_sized p slots) a
+
+-- each line of a callback is read as one
+module _ (p : Program) (each : (name : List ℕ) → Contains p.names name → IsName name) where
+  abbrev called_of : List (Option Seen) → List (List ℕ)
+  called_of xs = map (line_text p) (filter is_callback (flat_map option_to_list xs))
+
+  one_called : (l : Seen) (xs : List (Option Seen)) (b : Bool) → is_callback l ≡ b → Shows l → AllByRecursion IsCallbackLine (called_of xs) →
+      AllByRecursion IsCallbackLine (called_of (Some l ∷ xs))
+  one_called l xs true e h rest = rw e (callback_said p each l e h, rest)
+  one_called l xs false e h rest = rw e rest
+
+  all_called : (xs : List (Option Seen)) → AllByRecursion (λ (x : Option Seen). IfSome x Shows) xs → AllByRecursion IsCallbackLine (called_of xs)
+  all_called [] h = tt
+  all_called (None ∷ xs) h = all_called xs h.1
+  all_called (Some l ∷ xs) h = one_called l xs (is_callback l) refl h.0 (all_called xs h.1)
+
+  pub callbacks_said : (es : List Event) → AllByRecursion (λ (x : Option Seen). IfSome x Shows) (seen_by p es) →
+      AllByRecursion IsCallbackLine (callback_lines p es)
+  callbacks_said es h = all_called (seen_by p es) h
