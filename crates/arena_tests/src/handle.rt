@@ -30,7 +30,7 @@ impl Model for Counted {
 }
 
 /// The record of a handle, or the refusal, and how many handles are active and referenced.
-#[derive(Clone, Copy, Debug, PartialEq, Eq)]
+#[derive(Clone, Copy, PartialEq, Eq)]
 struct Seen {
     handle: Result<HandleRecord, Code>,
     active: u32,

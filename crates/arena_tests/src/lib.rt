@@ -10,6 +10,12 @@ mod handle;
 #[cfg(test)]
 mod requests;
 #[cfg(test)]
+mod step;
+#[cfg(test)]
+mod steps;
+#[cfg(test)]
 mod timer;
+#[cfg(test)]
+mod trail;
 #[cfg(test)]
 mod watch;

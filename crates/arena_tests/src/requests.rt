@@ -44,7 +44,7 @@ impl Model for Pool {
 }
 
 /// What became of a request, what the first worker runs, the ends of the lists, and how many requests are open.
-#[derive(Clone, Copy, Debug, PartialEq, Eq)]
+#[derive(Clone, Copy, PartialEq, Eq)]
 struct Seen {
     outcome: Result<Outcome, Code>,
     running: Option<Option<Id>>,

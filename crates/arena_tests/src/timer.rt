@@ -39,7 +39,7 @@ impl Model for Timed {
 
 /// A timer's record, or the refusal; whether it is on a list; its place on the heap; how many handles are active and referenced; and
 /// the next start number.
-#[derive(Clone, Copy, Debug, PartialEq, Eq)]
+#[derive(Clone, Copy, PartialEq, Eq)]
 struct Seen {
     handle: Result<HandleRecord, Code>,
     on_list: bool,

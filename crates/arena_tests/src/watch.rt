@@ -33,7 +33,7 @@ impl Model for Counted {
 }
 
 /// A handle's record, or the refusal; whether it is on a list; and how many handles are active and referenced.
-#[derive(Clone, Copy, Debug, PartialEq, Eq)]
+#[derive(Clone, Copy, PartialEq, Eq)]
 struct Seen {
     handle: Result<HandleRecord, Code>,
     on_list: bool,

@@ -19,6 +19,3 @@ pub use law::steps_unwind;
 pub use memory::Memory;
 pub use named::{Calls, Named};
 pub use record::{Added, Change, Naming, Polled, Record};
-
-#[cfg(test)]
-mod tests;

@@ -1,6 +1,6 @@
 use Rattle.std.proofs.Common.{◌≡◌, length}
 use Rattle.uv_step.specs.Trail.{beginning}
-use Rattle.uv_step.proofs.tests.trail.Trail.all_back.Given as goal
+use Rattle.arena_tests.proofs.trail.Trail.all_back.Given as goal
 
 abbrev pub invariant-back : goal.invariant-back
 invariant-back g l = beginning l.self ≡ beginning l.initial.self

@@ -4,11 +4,10 @@ ghost use Rattle.uv_step.specs.Image.{held};
 ghost use Rattle.uv_step.specs.Fit.{IsFit};
 ghost use Rattle.uv_step.specs.Trail.{Walk, Takes, DropsOne, beginning};
 
-use super::step::Step;
-use crate::memory::Memory;
-use crate::record::Record;
+use crate::step::{Step, do_step};
 use std::alloc::{AllocError, Global};
 use std::marker::Model;
+use uv_step::{Memory, Record};
 
 /// The memory of a loop, and the records of the steps that were done, in their order.
 #[derive(Drop)]
@@ -55,7 +54,7 @@ impl<P: Copy> Trail<P> {
         if self.records.reserve(1).is_err() {
             return Err(AllocError);
         }
-        match self.memory.step(step, self.slots) {
+        match do_step(&mut self.memory, step, self.slots) {
             None => Ok(false),
             Some(step_record) => {
                 self.records.push_reserved(step_record);

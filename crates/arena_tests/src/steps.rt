@@ -1,14 +1,13 @@
 //! What no clause says: scripts of steps forward and back, with the memory compared after each step back.
-mod step;
-mod trail;
 
-use self::step::Step;
-use self::trail::Trail;
-use super::*;
+use crate::given::id;
+use crate::step::Step;
+use crate::trail::Trail;
 use std::alloc::{AllocError, Global};
 use std::test::Fail;
-use uv_ids::{Id, Kind, Var};
+use uv_ids::{Kind, Var};
 use uv_records::{ListName, WatcherKind};
+use uv_step::Memory;
 use uv_work::{RequestRecord, WorkResult};
 
 const LISTS: [ListName; 14] = [
@@ -27,13 +26,6 @@ const LISTS: [ListName; 14] = [
     ListName::Done,
     ListName::DoneYet,
 ];
-
-fn id(slot: u32) -> Id {
-    Id {
-        slot,
-        generation: 0,
-    }
-}
 
 #[derive(Clone, Copy)]
 enum Script {

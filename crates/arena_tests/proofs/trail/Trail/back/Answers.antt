@@ -3,7 +3,7 @@ use Rattle.uv_step.specs.Image.{held}
 use Rattle.uv_step.specs.Parts.{unwind}
 use Rattle.uv_step.specs.Trail.{DropsOne}
 use Rattle.uv_step.proofs.Trails.{trail_popped, trail_back, dropped_same}
-use Rattle.uv_step.proofs.tests.trail.Trail.back.Goals as goal
+use Rattle.arena_tests.proofs.trail.Trail.back.Goals as goal
 
 pub unwind-requires : goal.unwind-requires
 unwind-requires g c =
