@@ -24,3 +24,4 @@ mod Known
 mod OpsOnce
 pub mod ClosesOnce
 pub mod Pooling
+pub mod Taking

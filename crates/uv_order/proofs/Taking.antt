@@ -1,0 +1,142 @@
+-- What a worker may do by the pool's rules it may do as the next step.
+use Rattle.std.proofs.Common.{◌≡◌, ℕ, List, [], ◌∷◌, ◌++◌, Bool, true, false, cond, Option, Some, None, Ok, Err, slice_get, refl, ap, sym, ◌∙◌, append_assoc}
+use Rattle.uv_ids.specs.declared.id.Id.{Id}
+use Rattle.uv_ids.specs.declared.event.Event.{Event}
+use Rattle.uv_ids.specs.declared.event.Event.TheVariants.{Take, Finish}
+use Rattle.uv_ids.specs.declared.fault.Why.TheVariants.{NoWork, IdleWorker}
+use Rattle.uv_script.specs.Program.{Program, worker_count}
+use Rattle.uv_work.specs.Pool.{Pool, IsLegal, taken_by, finished_by, after_event, then_event, after_events, replay, empty_pool}
+use Rattle.uv_work.specs.declared.event.PoolEvent.{PoolEvent}
+use Rattle.uv_work.specs.declared.event.PoolEvent.TheVariants as event
+use Rattle.uv_model.specs.declared.request.Request.{Request}
+use Rattle.uv_model.specs.Ids.{same_id}
+use Rattle.uv_model.specs.Found.{found_or}
+use Rattle.uv_model.specs.State.{State, fresh, request, with_id, front_request}
+use Rattle.uv_model.specs.Next as step
+use Rattle.uv_model.specs.Next.{Next, Moves, Refuses, next, next_work, work_of}
+use Rattle.uv_model.specs.After.{after, goes_on, state_of, lines}
+use Rattle.uv_order.specs.Active.{has_id}
+use Rattle.uv_order.specs.Documented.{Told, nothing_told, told_by, Position, Between}
+use Rattle.uv_order.specs.PoolEvents.{pool_events, pool_of}
+use Rattle.uv_order.specs.Taking.{IsTakenAs}
+use Rattle.uv_order.proofs.IdLists.{same, itself, has_new_middle}
+use Rattle.uv_order.proofs.Works.{run_ids, LetsGo, lets_go}
+use Rattle.uv_order.proofs.Keeping.{Kept}
+use Rattle.uv_order.proofs.KeptSteps.{StaysKept, next_kept, fresh_kept}
+use Rattle.uv_order.proofs.Working.{Working, StaysWorking, next_working, fresh_working}
+use Rattle.uv_order.proofs.Sends.{SentAt, SentFollows, next_sent, sent_fresh}
+use Rattle.uv_order.proofs.Standing as order
+use Rattle.uv_order.proofs.Standing.{Stands}
+use Rattle.uv_order.proofs.Follows.{follows, rested_at, calm_at, stands_fresh}
+use Rattle.uv_order.proofs.Pooling.{pools}
+
+-- ---- after any steps the requests agree with their lists
+
+one_works : (p : Program) (told : Told) (s : State) (at : Position) (n : Next) (es : List Event) → Kept s → StaysKept n → SentAt told.sent s →
+    SentFollows p told s n → Working s → StaysWorking n → Stands p told s at → order.Follows p told at s n →
+    ((told' : Told) (t : State) (to : Position) → Kept t → SentAt told'.sent t → Working t → Stands p told' t to → Working (goes_on p t es)) →
+    Working (goes_on p (state_of s n) es)
+one_works p told s at (Moves t (Some l)) es kept j a i w x h f more = more (told_by p told s l) t f.to j i x f.stands
+one_works p told s at (Moves t None) es kept j a i w x h f more = more told t at j i x f.0
+one_works p told s at (Refuses why) es kept j a i w x h f more = more told s at kept a w h
+
+works_from : (p : Program) (es : List Event) (told : Told) (s : State) (at : Position) → Kept s → SentAt told.sent s → Working s →
+    Stands p told s at → Working (goes_on p s es)
+works_from p [] told s at kept sent w h = w
+works_from p (e ∷ es) told s at kept sent w h =
+    one_works p told s at (next p s e) es kept (next_kept p s e (rested_at p s s.place at h.stands) kept) sent (next_sent p told s e kept sent) w
+    (next_working p s e (calm_at p s s.place at h.stands) kept w) h (follows p told s at e kept sent w h) (works_from p es)
+
+works : (p : Program) (es : List Event) → Working (after p es)
+unfolding after
+works p es = works_from p es nothing_told (fresh p) (Between 0) (fresh_kept p) (sent_fresh p) (fresh_working p) (stands_fresh p)
+
+-- ---- an event that may follow
+
+-- the pool after the events of these steps, and then after one more
+legal_after : (p : Program) (es : List Event) (x : PoolEvent) → IsLegal (worker_count p) (pool_events p (lines p es) ++ x ∷ []) →
+    (q : Pool) × (after_event (pool_of (after p es)) x ≡ Some q)
+unfolding replay
+legal_after p es x h = (h.0, sym (ap (λ (o : Option Pool). after_events o (x ∷ [])) (pools p es))
+    ∙ sym (events_more (Some (empty_pool (worker_count p))) (pool_events p (lines p es)) (x ∷ [])) ∙ h.1)
+  where
+    events_more : (o : Option Pool) (xs ys : List PoolEvent) → after_events o (xs ++ ys) ≡ after_events (after_events o xs) ys
+    events_more o [] ys = refl
+    events_more o (y ∷ xs) ys = events_more (then_event o y) xs ys
+
+-- a request that is open is held
+open_held : (s : State) (id : Id) → Working s → has_id (s.waiting ++ run_ids s.running) id ≡ true →
+    (r : Request) × (request s id ≡ Some r)
+open_held s id k h = let a = k.open_ones.each id h in (a.request, a.holds)
+
+-- ---- take
+
+pub record MayTake (s : State) (k : ℕ) (id : Id) : Type 0 where
+  pub request : Request
+  pub works : next_work s (slice_get s.running k) ≡ Ok (id, request)
+
+may_take : (s : State) (k : ℕ) (id : Id) (q : Pool) → Working s → after_event (pool_of s) (event.Take k id) ≡ Some q → MayTake s k id
+may_take s k id q w h = at (slice_get s.running k) refl s.waiting refl h where
+  taken : (front : Id) (rest : List Id) → slice_get s.running k ≡ Some None → s.waiting ≡ front ∷ rest → front ≡ id →
+      (r : Request) × (request s front ≡ Some r) → MayTake s k id
+  taken front rest e f g r = record {
+    request = r.0;
+    works = ap (next_work s) e ∙ ap (λ (ids : List Id). found_or (front_request s ids) Ok (Err NoWork)) f
+        ∙ ap (λ (o : Option Request). found_or (with_id front o) Ok (Err NoWork)) r.1 ∙ ap (λ (i : Id). Ok (i, r.0)) g;
+  }
+
+  at : (o : Option (Option Id)) → slice_get s.running k ≡ o → (ids : List Id) → s.waiting ≡ ids → taken_by (pool_of s) k id o ids ≡ Some q →
+      MayTake s k id
+  at None e ids f g = cc g
+  at (Some (Some x)) e ids f g = cc g
+  at (Some None) e [] f g = cc g
+  at (Some None) e (front ∷ rest) f g = by (same_id front id) refl _ g where
+    by : (b : Bool) → same_id front id ≡ b → (x : Option Pool) → cond b x None ≡ Some q → MayTake s k id
+    by false d x h = cc h
+    by true d x h = taken front rest e f (same front id d)
+        (open_held s front w (ap (λ (ids : List Id). has_id (ids ++ run_ids s.running) front) f ∙ rw (itself front front refl) refl))
+
+pub take_is_taken : (p : Program) (es : List Event) (k : ℕ) (id : Id) →
+    IsLegal (worker_count p) (pool_events p (lines p es) ++ event.Take k id ∷ []) → IsTakenAs p es (Take k) (event.Take k id)
+unfolding next
+take_is_taken p es k id h =
+    let l = legal_after p es (event.Take k id) h in
+    let m = may_take (after p es) k id l.0 (works p es) l.1 in
+    record { state = _; line = _; moves = ap (step.take (after p es) k) m.works; is = refl }
+
+-- ---- finish
+
+pub record MayFinish (s : State) (k : ℕ) (id : Id) : Type 0 where
+  pub request : Request
+  pub works : work_of s (slice_get s.running k) ≡ Ok (id, request)
+
+may_finish : (s : State) (k : ℕ) (id : Id) (q : Pool) → Working s → after_event (pool_of s) (event.Finish k id) ≡ Some q → MayFinish s k id
+may_finish s k id q w h = at (slice_get s.running k) refl h where
+  runs : (x : Id) → slice_get s.running k ≡ Some (Some x) → has_id (s.waiting ++ run_ids s.running) x ≡ true
+  runs x e =
+      let g : LetsGo s.running k x = lets_go s.running k x e in
+      ap (λ (ids : List Id). has_id (s.waiting ++ ids) x) g.were
+      ∙ ap (λ (ids : List Id). has_id ids x) (sym (append_assoc s.waiting g.front (x ∷ g.behind)))
+      ∙ has_new_middle (s.waiting ++ g.front) g.behind x
+
+  finished : (x : Id) → slice_get s.running k ≡ Some (Some x) → x ≡ id → (r : Request) × (request s x ≡ Some r) → MayFinish s k id
+  finished x e g r = record {
+    request = r.0;
+    works = ap (work_of s) e ∙ ap (λ (o : Option Request). found_or (with_id x o) Ok (Err IdleWorker)) r.1 ∙ ap (λ (i : Id). Ok (i, r.0)) g;
+  }
+
+  at : (o : Option (Option Id)) → slice_get s.running k ≡ o → finished_by (pool_of s) k id o ≡ Some q → MayFinish s k id
+  at None e g = cc g
+  at (Some None) e g = cc g
+  at (Some (Some x)) e g = by (same_id x id) refl _ g where
+    by : (b : Bool) → same_id x id ≡ b → (y : Option Pool) → cond b y None ≡ Some q → MayFinish s k id
+    by false d y h = cc h
+    by true d y h = finished x e (same x id d) (open_held s x w (runs x e))
+
+pub finish_is_taken : (p : Program) (es : List Event) (k : ℕ) (id : Id) →
+    IsLegal (worker_count p) (pool_events p (lines p es) ++ event.Finish k id ∷ []) → IsTakenAs p es (Finish k) (event.Finish k id)
+unfolding next
+finish_is_taken p es k id h =
+    let l = legal_after p es (event.Finish k id) h in
+    let m = may_finish (after p es) k id l.0 (works p es) l.1 in
+    record { state = _; line = _; moves = ap (step.finish (after p es) k) m.works; is = refl }

@@ -1,0 +1,67 @@
+//! What a step of the loop did to the thread pool, by the line that it appended.
+ghost use Rattle.std.specs.Prelude.{◌≡◌, ◌∷◌, [], Some, option_to_list};
+ghost use Rattle.uv_ids.specs.declared.seen.Seen.TheVariants as seen;
+ghost use Rattle.uv_work.specs.declared.event.PoolEvent.TheVariants as event;
+ghost use Rattle.uv_order.specs.PoolEvents.{op_events};
+ghost use Rattle.uv_live.specs.Course.{events_of};
+ghost use Rattle.uv_run.specs.Events.{events_in, IsOfLoop};
+
+use uv_ids::{Answer, Id, Seen, Site};
+use uv_live::Did;
+use uv_script::{Op, Script, Task};
+use uv_work::{Job, PoolEvent};
+
+/// A request was queued.
+fn queued(id: Id, task: Task) -> Did
+    ensures { events_of result ≡ event.Queue id ∷ [] }
+{
+    match Job::new(id, task.text(), task.rounds()) {
+        Some(job) => Did::Queued(job),
+        None => unreachable!(),
+    }
+}
+
+/// What an op did that answered this.
+fn did_op(op: Op, answer: Answer) -> Did
+    ensures { events_of result ≡ op_events op answer }
+{
+    match (op, answer) {
+        (Op::Queue(_, task), Answer::Id(id)) => queued(id, task),
+        (Op::Cancel(_), Answer::Cancelled(id)) => Did::Cancelled(id),
+        _ => Did::Nothing,
+    }
+}
+
+/// What the op at a place did.
+fn did_at(script: &Script, site: Site, answer: Answer) -> Did
+    ensures { events_of result ≡ events_in script.now (Some (seen.Op site answer)) }
+{
+    match script.op_at(site) {
+        Some(op) => did_op(op, answer),
+        None => Did::Nothing,
+    }
+}
+
+/// What a step of the loop did.
+pub(crate) fn did(script: &Script, seen: Option<Seen>) -> Did
+    requires { IsOfLoop seen }
+    ensures { events_of result ≡ events_in script.now seen }
+{
+    match seen {
+        Some(Seen::Op(site, answer)) => did_at(script, site, answer),
+        Some(Seen::After(_, _, id)) => Did::Collected(id),
+        _ => Did::Nothing,
+    }
+}
+
+/// The pool's event of it.
+pub(crate) fn event_of(did: Did) -> Option<PoolEvent>
+    ensures { option_to_list result ≡ events_of did }
+{
+    match did {
+        Did::Nothing => None,
+        Did::Queued(job) => Some(PoolEvent::Queue(job.req())),
+        Did::Cancelled(id) => Some(PoolEvent::Cancel(id)),
+        Did::Collected(id) => Some(PoolEvent::Collect(id)),
+    }
+}
