@@ -1,0 +1,90 @@
+-- What an event from outside is answered, by what the memory shows.
+use Rattle.std.proofs.Common.{◌≡◌, ◌+◌, ◌<◌, ◌≤◌, ℕ, suc, Bool, true, false, if◌then◌else◌, List, map, length, nat_le, nat_lt, Option, Some, refl, sym, subst, ap, ◌∙◌, inl, inr, arith}
+use Rattle.std.proofs.lemmas.Bool.{le-leb, lt-ltb}
+use Rattle.std.proofs.lemmas.List.{length-map}
+use Rattle.std.proofs.lemmas.Bool.Decides.{leb_tells}
+use Rattle.uv_ids.specs.declared.id.Var.{Var}
+use Rattle.uv_ids.specs.declared.event.Event.TheVariants.{Tick, Send}
+use Rattle.uv_ids.specs.declared.seen.Seen.{Seen}
+use Rattle.uv_ids.specs.declared.seen.Seen.TheVariants as seen
+use Rattle.uv_ids.specs.declared.code.Code.{Code}
+use Rattle.uv_ids.specs.declared.fault.Why.TheVariants.{Range}
+use Rattle.uv_script.specs.Program.{Program}
+use Rattle.uv_model.specs.declared.place.Place.{Place}
+use Rattle.uv_model.specs.State.{State, live_handle}
+use Rattle.uv_model.specs.Next.{Next, Moves, Refuses, next, LATEST}
+use Rattle.uv_model.specs.Ops.{send}
+use Rattle.uv_model.specs.After.{IsMove}
+use Rattle.uv_step.specs.Image.{Image}
+use Rattle.uv_loop.specs.Contents.{named_of}
+use Rattle.uv_loop.specs.Stands.{StandsFor}
+use Rattle.uv_loop.proofs.Courses.{Leads}
+use Rattle.uv_loop.proofs.Simulation.{ticked}
+
+pub tick_moves : (p : Program) (i : Image Place) (s : State) (ms : ℕ) → StandsFor i s → i.clock + ms ≤ LATEST
+    → next p s (Tick ms) ≡ Moves (record s { clock = i.clock + ms }) (Some (seen.Tick ms))
+unfolding next
+tick_moves p i s ms h l =
+    let later : s.clock + ms ≤ LATEST = (let e = h.clock in omega (arith, l, e)) in
+    let moves : ℕ → Next = λ n. Moves (record s { clock = n + ms }) (Some (seen.Tick ms)) in
+    ap (λ (b : Bool). if b then moves s.clock else Refuses Range) (le-leb (s.clock + ms) LATEST later) ∙ ap moves (sym h.clock)
+
+pub tick_refused : (p : Program) (i : Image Place) (s : State) (ms : ℕ) → StandsFor i s → LATEST < i.clock + ms
+    → next p s (Tick ms) ≡ Refuses Range
+unfolding next
+tick_refused p i s ms h l =
+    let moves = Moves (record s { clock = s.clock + ms }) (Some (seen.Tick ms)) in
+    elim (leb_tells (s.clock + ms) LATEST) [
+      | inl q ↦ absurd (let e = h.clock in let k = q.1 in omega (arith, l, e, k))
+      | inr q ↦ ap (λ (b : Bool). if b then moves else Refuses Range) q.0
+    ]
+
+-- as many names
+names_as : (i : Image Place) (s : State) → StandsFor i s → length i.names ≡ length s.names
+names_as i s h = ap (λ ns. length ns) h.names ∙ length-map s.names named_of
+
+pub send_moves : (p : Program) (i : Image Place) (s : State) (v : Var) → StandsFor i s → v.0 < length i.names
+    → next p s (Send v) ≡ Moves (send s (live_handle s v)).state (Some (seen.Send v (send s (live_handle s v)).code))
+unfolding next
+send_moves p i s v h l =
+    let done = send s (live_handle s v) in
+    let within : v.0 < length s.names = (let e = names_as i s h in omega (arith, l, e)) in
+    ap (λ (b : Bool). if b then Moves done.state (Some (seen.Send v done.code)) else Refuses Range) (lt-ltb v.0 (length s.names) within)
+
+pub send_refused : (p : Program) (i : Image Place) (s : State) (v : Var) → StandsFor i s → length i.names ≤ v.0
+    → next p s (Send v) ≡ Refuses Range
+unfolding next
+send_refused p i s v h l =
+    let done = send s (live_handle s v) in
+    elim (leb_tells (suc v.0) (length s.names)) [
+      | inl q ↦ absurd (let e = names_as i s h in let k = q.1 in omega (arith, l, e, k))
+      | inr q ↦ ap (λ (b : Bool). if b then Moves done.state (Some (seen.Send v done.code)) else Refuses Range) q.0
+    ]
+
+-- ---- what the steps lead to
+
+is_move : (n : Next) (t : State) (line : Option Seen) → n ≡ Moves t line → IsMove n
+is_move n t line h = rw h tt
+
+pub tick_may : (p : Program) (i : Image Place) (ms : ℕ) → i.clock + ms ≤ LATEST → (s : State) → StandsFor i s → IsMove (next p s (Tick ms))
+tick_may p i ms l s h = is_move _ _ _ (tick_moves p i s ms h l)
+
+pub tick_leads : (p : Program) (i j : Image Place) (ms : ℕ) → i.clock + ms ≤ LATEST → j ≡ record i { clock = i.clock + ms }
+    → Leads p i j (Tick ms) (Some (seen.Tick ms))
+tick_leads p i j ms l is s h = (
+  record s { clock = i.clock + ms },
+  tick_moves p i s ms h l,
+  subst (λ q. StandsFor q (record s { clock = i.clock + ms })) (sym is) (ticked i s (i.clock + ms) (i.clock + ms) refl h),
+)
+
+pub send_may : (p : Program) (i : Image Place) (v : Var) → v.0 < length i.names → (s : State) → StandsFor i s → IsMove (next p s (Send v))
+send_may p i v l s h = is_move _ _ _ (send_moves p i s v h l)
+
+pub send_leads : (p : Program) (i j : Image Place) (v : Var) (code : Code) → v.0 < length i.names
+    → ((s : State) → StandsFor i s → (send s (live_handle s v)).code ≡ code)
+    → ((s : State) → StandsFor i s → StandsFor j (send s (live_handle s v)).state) → Leads p i j (Send v) (Some (seen.Send v code))
+send_leads p i j v code l is stands s h = (
+  (send s (live_handle s v)).state,
+  send_moves p i s v h l ∙ ap (λ (c : Code). Moves (send s (live_handle s v)).state (Some (seen.Send v c))) (is s h),
+  stands s h,
+)

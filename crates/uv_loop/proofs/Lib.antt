@@ -1,0 +1,4 @@
+pub mod Simulation
+pub mod Courses
+pub mod Events
+pub mod Sends

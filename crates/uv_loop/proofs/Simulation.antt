@@ -1,0 +1,114 @@
+-- A memory that was never run stands for the state in which its script begins, and each step goes on from there.
+use Rattle.std.proofs.Common.{◌≡◌, ◌+◌, ◌-◌, ◌<◌, ℕ, zero, suc, List, [], ◌∷◌, map, length, replicate, None, refl, sym, ap, ◌∙◌, arith}
+use Rattle.uv_records.specs.declared.lists.ListName.{ListName}
+use Rattle.uv_records.specs.declared.lists.ListName.TheVariants as name
+use Rattle.uv_arena.specs.Chains.{list_of, walk}
+use Rattle.uv_arena.specs.Image as arena
+use Rattle.uv_arena.specs.Image.{IsSound, fresh_image, plain_slots}
+use Rattle.uv_work.specs.Pool.{busy}
+use Rattle.uv_requests.specs.Working.{id_in}
+use Rattle.uv_script.specs.Program.{Program, arena_size, worker_count}
+use Rattle.uv_model.specs.declared.place.Place.{Place}
+use Rattle.uv_model.specs.State as state
+use Rattle.uv_model.specs.State.{State}
+use Rattle.uv_model.specs.Queries.{members}
+use Rattle.uv_step.specs.declared.content.Content.{Content}
+use Rattle.uv_step.specs.declared.named.Named.{Named}
+use Rattle.uv_step.specs.Names.{unbound}
+use Rattle.uv_step.specs.Image.{Image}
+use Rattle.uv_loop.specs.Contents.{named_of, slots_of}
+use Rattle.uv_loop.specs.Stands.{StandsFor}
+use Rattle.uv_loop.specs.Course.{first_image}
+
+none_bound : (n : ℕ) → replicate n unbound ≡ map named_of (replicate n state.unbound)
+none_bound zero = refl
+none_bound (suc n) = ap (λ (ns : List Named). unbound ∷ ns) (none_bound n)
+
+none_busy : (n : ℕ) → busy (replicate n None) ≡ 0
+none_busy zero = refl
+none_busy (suc n) = none_busy n
+
+none_listed : (p : Program) (l : ListName) → members (state.fresh p) l ≡ []
+none_listed p name.Ready = refl
+none_listed p name.Idle = refl
+none_listed p name.IdleYet = refl
+none_listed p name.Prepare = refl
+none_listed p name.PrepareYet = refl
+none_listed p name.Check = refl
+none_listed p name.CheckYet = refl
+none_listed p name.Async = refl
+none_listed p name.AsyncYet = refl
+none_listed p name.Closing = refl
+none_listed p name.ClosingYet = refl
+none_listed p name.Waiting = refl
+none_listed p name.Done = refl
+none_listed p name.DoneYet = refl
+
+no_members : (capacity last : ℕ) (l : ListName) → arena.members (fresh_image Content capacity last) l ≡ []
+unfolding list_of walk
+no_members capacity last l = refl
+
+no_slots : (capacity last : ℕ) → plain_slots (fresh_image Content capacity last) ≡ record { slots = []; free = []; unused = capacity }
+unfolding list_of walk
+no_slots capacity last = let whole : capacity - 0 ≡ capacity = omega arith in λ l. record { slots = []; free = []; unused = whole l }
+
+pub fresh_stands : (p : Program) → IsSound (first_image p).arena → StandsFor (first_image p) (state.fresh p)
+fresh_stands p sound =
+    let capacity = (arena_size p).slots in
+    let last = (arena_size p).last_generation in
+    record {
+      place = refl;
+      names = none_bound (length p.callbacks);
+      time = refl;
+      clock = refl;
+      next_start = refl;
+      stop_flag = refl;
+      idled = refl;
+      slots = no_slots capacity last;
+      running = refl;
+      lists = λ l. none_listed p l ∙ sym (ap (map (id_in (first_image p).arena)) (no_members capacity last l));
+      sound = sound;
+      heap = λ i l. absurd (omega (arith, l));
+      places = λ i j l m e. absurd (omega (arith, l));
+      timers = record { entries = []; ordered = record { ordered = tt; same = λ e. refl }; same = refl };
+      active = refl;
+      opened = let none = none_busy (worker_count p) in omega (arith, none);
+    }
+
+-- the lists of a state are the same at another clock
+clocked : (s : State) (m : ℕ) (l : ListName) → members (record s { clock = m }) l ≡ members s l
+clocked s m name.Ready = refl
+clocked s m name.Idle = refl
+clocked s m name.IdleYet = refl
+clocked s m name.Prepare = refl
+clocked s m name.PrepareYet = refl
+clocked s m name.Check = refl
+clocked s m name.CheckYet = refl
+clocked s m name.Async = refl
+clocked s m name.AsyncYet = refl
+clocked s m name.Closing = refl
+clocked s m name.ClosingYet = refl
+clocked s m name.Waiting = refl
+clocked s m name.Done = refl
+clocked s m name.DoneYet = refl
+
+-- the clock is no part of the rest
+pub ticked : (i : Image Place) (s : State) (n m : ℕ) → n ≡ m → StandsFor i s → StandsFor (record i { clock = n }) (record s { clock = m })
+ticked i s n m same h = record {
+  place = h.place;
+  names = h.names;
+  time = h.time;
+  clock = same;
+  next_start = h.next_start;
+  stop_flag = h.stop_flag;
+  idled = h.idled;
+  slots = h.slots;
+  running = h.running;
+  lists = λ l. clocked s m l ∙ h.lists l;
+  sound = h.sound;
+  heap = h.heap;
+  places = h.places;
+  timers = h.timers;
+  active = h.active;
+  opened = h.opened;
+}

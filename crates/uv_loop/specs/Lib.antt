@@ -1,0 +1,4 @@
+pub mod Contents
+pub mod Stands
+pub mod Course
+pub mod Taken

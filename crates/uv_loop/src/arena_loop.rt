@@ -1,0 +1,179 @@
+//! The loop over one memory.
+ghost use Rattle.std.specs.Prelude.{◌≡◌, ◌+◌, ◌<◌, ◌≤◌, ◌-◌, [], IfOk, IfErr, IfSome, IfNone, Some, length, slice_get};
+ghost use Rattle.uv_ids.specs.declared.event.Event.TheVariants.{Tick, Send};
+ghost use Rattle.uv_ids.specs.declared.fault.Fault.TheVariants.{Memory as no_memory};
+ghost use Rattle.uv_model.specs.After.{Answers, after, seen_by, STEPS};
+ghost use Rattle.uv_step.specs.Image.{held};
+ghost use Rattle.uv_loop.specs.Stands.{StandsFor};
+ghost use Rattle.uv_loop.specs.Course.{Adds, Drops, first_image};
+
+use crate::sending::send_to;
+use crate::steps::Steps;
+use std::alloc::Global;
+use std::marker::Model;
+use uv_ids::{Event, Fault, Seen, Var, Why};
+use uv_model::{Outcome, Place, STEPS};
+use uv_script::Script;
+use uv_step::{Memory, Record};
+
+/// The latest time that the clock may show, in ms.
+const LATEST: u64 = 1 << 62;
+
+// A record of a step has at most 32 words.
+const _: () = prove!(std::mem::size_of::<Record<Place>>() <= 256);
+
+/// What the clock shows so many ms later; none past its limit.
+fn later(clock: u64, ms: u64) -> Option<u64>
+    ensures some { IfSome result (λ later. clock + ms ≤ LATEST) }
+    ensures none { IfNone result (LATEST < clock + ms) }
+{
+    let later = clock.checked_add(ms)?;
+    (later <= LATEST).then_some(later)
+}
+
+/// A loop over one memory, with a record for each of its steps that takes the step back.
+///
+/// So far it takes only the clock's steps and sends from outside, so it isn't a machine yet.
+#[derive(Drop)]
+pub struct ArenaLoop {
+    script: Script,
+    memory: Memory<Place>,
+    steps: Steps<Place>,
+}
+
+impl Model for ArenaLoop {
+    ghost use Rattle.uv_step.specs.Image.{held};
+    ghost use Rattle.uv_loop.specs.Course.{Course, IsCourse};
+
+    ghost Value = { Course };
+
+    ghost view = { λ a. record {
+      program = a.script;
+      standing = a.steps.events.items;
+      walk = record { image = (held a.memory).image; records = a.steps.records.items };
+    } };
+
+    ghost invariant = { λ a. IsCourse a.script a.steps.events.items a.steps.seen.items a.steps.records.items (held a.memory) };
+}
+
+impl ArenaLoop {
+    /// The loop of a script that has taken no step.
+    pub fn begin(alloc: Global, script: Script) -> Result<ArenaLoop, Fault>
+        ensures program { IfOk result (λ begun. begun.program ≡ script) }
+        ensures standing { IfOk result (λ begun. begun.standing ≡ []) }
+        ensures walk { IfOk result (λ begun. begun.walk ≡ record { image = first_image script; records = [] }) }
+        ensures err { IfErr result (λ fault. fault ≡ no_memory) }
+    {
+        let size = script.arena_size();
+        let names = script.names().len();
+        let Ok(memory) = Memory::new(
+            alloc,
+            Place::Main(0),
+            names,
+            size.slots,
+            size.last_generation,
+            script.workers(),
+        ) else {
+            return Err(Fault::Memory);
+        };
+        memory.slots.is_sound();
+        Ok(ArenaLoop {
+            script,
+            memory,
+            steps: Steps::new(alloc),
+        })
+    }
+
+    /// The clock goes on by so many ms.
+    pub fn tick(&mut self, ms: u64) -> Result<Outcome, Fault>
+        ensures program { self.new.program ≡ self.old.program }
+        ensures answer { Answers STEPS self.old.program self.old.standing (Tick ms) result self.new.standing }
+        ensures records { Adds result self.old self.new }
+    {
+        if self.steps.events.len() >= STEPS {
+            return Err(Fault::StepsFull);
+        }
+        match later(self.memory.clock, ms) {
+            None => return Err(Fault::Refused(Why::Range)),
+            Some(_) => {}
+        }
+        if self.steps.reserve().is_err() {
+            return Err(Fault::Memory);
+        }
+        let step_record = self.memory.tick(ms);
+        let seen = Some(Seen::Tick(ms));
+        self.steps.push(Event::Tick(ms), seen, step_record);
+        Ok(Outcome { seen })
+    }
+
+    /// Another thread sends to an async handle, by its name (uv_async_send).
+    pub fn send(&mut self, name: Var) -> Result<Outcome, Fault>
+        ensures program { self.new.program ≡ self.old.program }
+        ensures answer { Answers STEPS self.old.program self.old.standing (Send name) result self.new.standing }
+        ensures records { Adds result self.old self.new }
+    {
+        if self.steps.events.len() >= STEPS {
+            return Err(Fault::StepsFull);
+        }
+        if name.0 as usize >= self.memory.names.len() {
+            return Err(Fault::Refused(Why::Range));
+        }
+        if self.steps.reserve().is_err() {
+            return Err(Fault::Memory);
+        }
+        let (code, step_record) = send_to(&mut self.memory, name);
+        let seen = Some(Seen::Send(name, code));
+        self.steps.push(Event::Send(name), seen, step_record);
+        Ok(Outcome { seen })
+    }
+
+    /// Takes the last step back; false where there is none. It takes no memory and can't fail.
+    pub fn back(&mut self) -> bool
+        ensures program { self.new.program ≡ self.old.program }
+        ensures drops { Drops result self.old self.new }
+    {
+        let Some(step_record) = self.steps.pop() else {
+            return false;
+        };
+        self.memory.unwind(step_record);
+        true
+    }
+
+    /// What always holds: the memory stands for the state after the steps, and there is a record for each of them. It costs nothing
+    /// when it runs.
+    pub fn stands(&self)
+        ensures stands { StandsFor self.now.walk.image (after self.now.program self.now.standing) }
+        ensures records { length self.now.walk.records ≡ length self.now.standing }
+    {
+        let _ = self.steps.events.len();
+    }
+
+    /// The number of standing steps.
+    pub fn len(&self) -> usize
+        ensures { result ≡ length self.now.standing }
+    {
+        self.steps.events.len()
+    }
+
+    /// What a standing step appended, the first being 1.
+    #[tactic(auto, using(uv_model::proofs::Runs::runs, uv_model::proofs::Runs::seen_at))]
+    pub fn seen(&self, step: usize) -> Option<Seen>
+        requires { (1 ≤ step) × (step ≤ length self.now.standing) }
+        ensures { slice_get (seen_by self.now.program self.now.standing) (step - 1) ≡ Some result }
+    {
+        self.steps.seen[step - 1]
+    }
+
+    pub fn script(&self) -> &Script
+        ensures { result.now ≡ self.now.program }
+    {
+        &self.script
+    }
+
+    /// The memory.
+    pub fn memory(&self) -> &Memory<Place>
+        ensures { (held result.now).image ≡ self.now.walk.image }
+    {
+        &self.memory
+    }
+}
