@@ -8,6 +8,8 @@ mod given;
 #[cfg(test)]
 mod handle;
 #[cfg(test)]
+mod names;
+#[cfg(test)]
 mod requests;
 #[cfg(test)]
 mod step;

@@ -59,8 +59,9 @@ pub fn do_step<P: Copy>(memory: &mut Memory<P>, step: Step, slots: u32) -> Optio
         | Step::Walk(_)
         | Step::BeginClosing
         | Step::EndHandle => step_handles(memory, step),
-        Step::Tick(_) | Step::UpdateTime | Step::SetStop(_) | Step::SetIdled(_) =>
-            step_values(memory, step),
+        Step::Tick(_) | Step::UpdateTime | Step::SetStop(_) | Step::SetIdled(_) => step_values(
+            memory, step,
+        ),
         Step::Queue(_)
         | Step::Take(_)
         | Step::Finish(..)

@@ -1,6 +1,8 @@
-//! Tests of the loop's layers by their public calls: sessions and texts.
+//! Tests of the loop's layers by their public calls: sessions, texts, and the loop over one memory.
 #![tactic(auto)]
 
+#[cfg(test)]
+mod arena_loop;
 #[cfg(test)]
 mod session;
 #[cfg(test)]

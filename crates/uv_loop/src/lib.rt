@@ -6,6 +6,3 @@ mod sending;
 mod steps;
 
 pub use arena_loop::ArenaLoop;
-
-#[cfg(test)]
-mod tests;

@@ -6,5 +6,5 @@ use Rattle.arena_tests.proofs.given.put_request.Goals as goal
 
 pub returns-in-Ok : goal.returns-in-Ok
 returns-in-Ok c =
-    let more = count_inserted handle_in c.args.slots.now c.insert.new.self (Request c.request) c.in-Ok.id c.in-Ok.inserted c.in-Ok.ensures.ok in
+    let more = count_inserted handle_in c.args.slots.now c.insert.new.self (Request c.in_ok-request) c.in-Ok.id c.in-Ok.inserted c.in-Ok.ensures.ok in
     omega (arith, more)

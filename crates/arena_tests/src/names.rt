@@ -1,49 +1,13 @@
-//! What no clause says: each call once where it succeeds, with what it leaves.
+//! Names are bound and their calls counted, and both are taken back.
 ghost use Rattle.std.specs.Prelude.{IfSome};
 ghost use Rattle.uv_step.specs.Image.{held};
 ghost use Rattle.uv_step.specs.Fit.{IsFit};
 ghost use Rattle.uv_step.specs.Undo.{CanUnwind};
 
-use crate::arena_loop::ArenaLoop;
 use std::alloc::{AllocError, Global};
 use std::test::Fail;
-use uv_ids::{Callback, Fault, Id, Seen, Var, Why};
-use uv_model::Outcome;
-use uv_script::Script;
+use uv_ids::{Callback, Id, Var};
 use uv_step::{Memory, Record};
-
-const LATEST: u64 = 1 << 62;
-
-/// A loop of one timer.
-fn begun(alloc: Global) -> Result<ArenaLoop, Fault> {
-    let script = Script::parse(alloc, b"var t\nmain init t timer\n")?;
-    ArenaLoop::begin(alloc, script)
-}
-
-fn ticked(ms: u64) -> Result<Outcome, Fault> {
-    Ok(Outcome {
-        seen: Some(Seen::Tick(ms)),
-    })
-}
-
-/// Whether the clock shows this, after so many steps.
-fn shows(machine: &ArenaLoop, clock: u64, steps: usize) -> bool {
-    machine.memory().clock == clock && machine.len() == steps
-}
-
-#[test]
-fn the_clock_goes_on_and_back(rt: HostRuntime) -> Result<(), Fail> {
-    let mut machine = begun(rt.alloc())?;
-    assert!(rt; shows(&machine, 0, 0));
-    assert_eq!(rt; machine.tick(5), ticked(5));
-    assert_eq!(rt; machine.tick(LATEST), Err(Fault::Refused(Why::Range)));
-    assert_eq!(rt; machine.tick(LATEST - 5), ticked(LATEST - 5));
-    assert!(rt; shows(&machine, LATEST, 2));
-    assert!(rt; machine.back() && shows(&machine, 5, 1));
-    assert!(rt; machine.back() && shows(&machine, 0, 0));
-    assert!(rt; !machine.back());
-    Ok(())
-}
 
 /// Binds a name, where there is such a name: the step stands at 7 besides.
 fn bind(memory: &mut Memory<u32>, name: Var, id: Id) -> Option<Record<u32>>
@@ -54,8 +18,9 @@ fn bind(memory: &mut Memory<u32>, name: Var, id: Id) -> Option<Record<u32>>
     if name.0 as usize >= memory.names.len() {
         return None;
     }
-    let step_record = memory.pass();
-    memory.stand_at(7, step_record);
+    let passed = memory.pass();
+    let step_record = passed;
+    memory.stand_at(7, passed);
     Some(memory.bind(step_record, name, Some(id)))
 }
 
