@@ -129,7 +129,8 @@ never_halts : (q : Program) (es : List Event) (v : Verdict) → AllTaken q es �
 never_halts q es _ taken (refused before rest e why cut accepted less is_refused) =
     let long = ap length cut in
     let within : length before < length es = omega (arith, long, length-append before (e ∷ rest)) in
-    let here : e ≡ get_or es (length before) e = sym (ap (λ (xs : List Event). get_or xs (length before) e) cut ∙ get_or-append_seam before e rest e) in
+    let here : e ≡ get_or es (length before) e =
+    sym (ap (λ (xs : List Event). get_or xs (length before) e) cut ∙ get_or-append_seam before e rest e) in
     let front : take (length before) es ≡ before =
     ap (take (length before)) cut ∙ take-append-le (length before) before (e ∷ rest) (omega arith) ∙ take_all (length before) before (omega arith) in
     not_refused q es (length before) e e why taken.0 within here

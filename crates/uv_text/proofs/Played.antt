@@ -58,7 +58,8 @@ fresh_sized p slots = record {
 pub played : (p : Program) (es : List Event) → IsSlotCount (arena_size p).slots → Accepts p es → length es ≤ STEPS →
     Played (length p.callbacks) (worker_count p) es (seen_by p es)
 unfolding Accepts seen_by
-played p es slots a few = played_from p (length p.callbacks) (worker_count p) [] es (fresh p) (after-nil p) (omega (arith, few)) (fresh_sized p slots) a
+played p es slots a few =
+    played_from p (length p.callbacks) (worker_count p) [] es (fresh p) (after-nil p) (omega (arith, few)) (fresh_sized p slots) a
 
 -- each line of a callback is read as one
 module _ (p : Program) (each : (name : List ℕ) → Contains p.names name → IsName name) where

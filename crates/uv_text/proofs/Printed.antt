@@ -125,7 +125,8 @@ bytes_printed (b ∷ rest) h =
     let more = encode_with lower_digits rest in
     All-cons (λ x. (32 ≤ x) × (x ≤ 126)) (get_or lower_digits (b / 16) 0) (get_or lower_digits (b % 16) 0 ∷ more)
     (digit_printed (b / 16) (omega (arith, fits)))
-    (All-cons (λ x. (32 ≤ x) × (x ≤ 126)) (get_or lower_digits (b % 16) 0) more (digit_printed (b % 16) (omega arith)) (bytes_printed rest (All-tail (λ x. x < 256) b rest h)))
+    (All-cons (λ x. (32 ≤ x) × (x ≤ 126)) (get_or lower_digits (b % 16) 0) more (digit_printed (b % 16) (omega arith))
+    (bytes_printed rest (All-tail (λ x. x < 256) b rest h)))
 
 ending_printed : (digest : Option (List ℕ)) → IfSome digest IsDigest → IsPrinted 67 (end_text digest)
 ending_printed None h = within 9 67 _ (omega arith) (word (codes "ECANCELED") refl)
