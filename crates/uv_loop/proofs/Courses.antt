@@ -1,5 +1,5 @@
 -- One step more with its record, and one step less.
-use Rattle.std.proofs.Common.{◌≡◌, ◌+◌, ◌-◌, ◌<◌, ◌≤◌, ℕ, suc, List, [], ◌∷◌, ◌++◌, length, length-append, take, get_or, Option, Ok, Err, refl, sym, ap, ◌∙◌, subst, arith}
+use Rattle.std.proofs.Common.{◌≡◌, ◌+◌, ◌-◌, ◌<◌, ℕ, suc, List, [], ◌∷◌, ◌++◌, length, length-append, take, get_or, Option, Ok, Err, refl, sym, ap, ◌∙◌, subst, arith}
 use Rattle.std.proofs.lemmas.List.{take_more, take_all}
 use Rattle.uv_ids.specs.declared.event.Event.{Event}
 use Rattle.uv_ids.specs.declared.event.Event.TheVariants.{Tick}
@@ -11,7 +11,7 @@ use Rattle.uv_model.specs.declared.place.Place.{Place}
 use Rattle.uv_model.specs.State as state
 use Rattle.uv_model.specs.State.{State}
 use Rattle.uv_model.specs.Next.{Next, Moves, Refuses, next}
-use Rattle.uv_model.specs.After.{Answers, after, goes_on, seen_by, state_of, IsMove, STEPS}
+use Rattle.uv_model.specs.After.{Answers, after, goes_on, state_of, IsMove, STEPS}
 use Rattle.uv_model.proofs.Runs.{after-moves, seen_by-nil, seen_by-moves, seen_by-take}
 use Rattle.uv_step.specs.declared.record.Record.{Record}
 use Rattle.uv_step.specs.Image.{Image, Held}

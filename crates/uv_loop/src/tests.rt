@@ -7,7 +7,7 @@ ghost use Rattle.uv_step.specs.Undo.{CanUnwind};
 use crate::arena_loop::ArenaLoop;
 use std::alloc::{AllocError, Global};
 use std::test::Fail;
-use uv_ids::{Callback, Fault, Id, Seen, Var, Why};
+use uv_ids::{Callback, Code, Fault, Id, Seen, Var, Why};
 use uv_model::Outcome;
 use uv_script::Script;
 use uv_step::{Memory, Record};
@@ -45,6 +45,26 @@ fn the_clock_goes_on_and_back(rt: HostRuntime) -> Result<(), Fail> {
     Ok(())
 }
 
+/// What a step appended, if it stands.
+fn appended(machine: &ArenaLoop, step: usize) -> Option<Seen> {
+    if step == 0 || step > machine.len() {
+        return None;
+    }
+    machine.seen(step)
+}
+
+#[test]
+fn a_send_to_an_unbound_name_is_stale(rt: HostRuntime) -> Result<(), Fail> {
+    let mut machine = begun(rt.alloc())?;
+    let seen = Some(Seen::Send(Var(0), Code::Estale));
+    assert_eq!(rt; machine.send(Var(0)), Ok(Outcome { seen }));
+    assert_eq!(rt; machine.send(Var(1)), Err(Fault::Refused(Why::Range)));
+    assert!(rt; shows(&machine, 0, 1));
+    assert_eq!(rt; appended(&machine, 1), seen);
+    assert!(rt; machine.back() && shows(&machine, 0, 0));
+    Ok(())
+}
+
 /// Binds a name, where there is such a name: the step stands at 7 besides.
 fn bind(memory: &mut Memory<u32>, name: Var, id: Id) -> Option<Record<u32>>
     requires fit { IsFit (held memory.old).image }
@@ -54,8 +74,9 @@ fn bind(memory: &mut Memory<u32>, name: Var, id: Id) -> Option<Record<u32>>
     if name.0 as usize >= memory.names.len() {
         return None;
     }
-    let step_record = memory.pass();
-    memory.stand_at(7, step_record);
+    let passed = memory.pass();
+    let step_record = passed;
+    memory.stand_at(7, passed);
     Some(memory.bind(step_record, name, Some(id)))
 }
 
