@@ -178,6 +178,10 @@ module _ (p : Program) (es : List Event) (seen : List (Option Seen)) (rs : List 
   pub seen_stands : StandsFor w.walk.image (after w.program w.standing)
   seen_stands = subst (λ (x : Course). StandsFor x.walk.image (after x.program x.standing)) same (course_stands p es seen rs h c)
 
+  -- what holds of each state that the memory stands for holds of the state after the steps
+  pub asked : (Q : State → Type 0) → ((s : State) → StandsFor h.image s → Q s) → Q (after w.program w.standing)
+  asked Q f = subst (λ (x : Course). Q (after x.program x.standing)) same (f (after p es) (course_stands p es seen rs h c))
+
   pub seen_length : length w.walk.records ≡ length w.standing
   seen_length = subst (λ (x : Course). length x.walk.records ≡ length x.standing) same (course_length p es seen rs h c)
 
