@@ -1,5 +1,5 @@
 -- One step more with its record, and one step less.
-use Rattle.std.proofs.Common.{◌≡◌, ◌+◌, ◌-◌, ◌<◌, ◌≤◌, ℕ, suc, List, [], ◌∷◌, ◌++◌, length, length-append, take, get_or, Option, Ok, Err, refl, sym, ap, ◌∙◌, subst, arith}
+use Rattle.std.proofs.Common.{◌≡◌, ◌+◌, ◌-◌, ◌<◌, ℕ, suc, List, [], ◌∷◌, ◌++◌, length, length-append, take, get_or, Option, Ok, Err, refl, sym, ap, ◌∙◌, subst, arith}
 use Rattle.std.proofs.lemmas.List.{take_more, take_all}
 use Rattle.uv_ids.specs.declared.event.Event.{Event}
 use Rattle.uv_ids.specs.declared.event.Event.TheVariants.{Tick}
@@ -11,7 +11,7 @@ use Rattle.uv_model.specs.declared.place.Place.{Place}
 use Rattle.uv_model.specs.State as state
 use Rattle.uv_model.specs.State.{State}
 use Rattle.uv_model.specs.Next.{Next, Moves, Refuses, next}
-use Rattle.uv_model.specs.After.{Answers, after, goes_on, seen_by, state_of, IsMove, STEPS}
+use Rattle.uv_model.specs.After.{Answers, after, goes_on, state_of, IsMove, STEPS}
 use Rattle.uv_model.proofs.Runs.{after-moves, seen_by-nil, seen_by-moves, seen_by-take}
 use Rattle.uv_step.specs.declared.record.Record.{Record}
 use Rattle.uv_step.specs.Image.{Image, Held}
@@ -177,6 +177,10 @@ module _ (p : Program) (es : List Event) (seen : List (Option Seen)) (rs : List 
     (same : course p es rs h ≡ w) (c : IsCourse p es seen rs h) where
   pub seen_stands : StandsFor w.walk.image (after w.program w.standing)
   seen_stands = subst (λ (x : Course). StandsFor x.walk.image (after x.program x.standing)) same (course_stands p es seen rs h c)
+
+  -- what holds of each state that the memory stands for holds of the state after the steps
+  pub asked : (Q : State → Type 0) → ((s : State) → StandsFor h.image s → Q s) → Q (after w.program w.standing)
+  asked Q f = subst (λ (x : Course). Q (after x.program x.standing)) same (f (after p es) (course_stands p es seen rs h c))
 
   pub seen_length : length w.walk.records ≡ length w.standing
   seen_length = subst (λ (x : Course). length x.walk.records ≡ length x.standing) same (course_length p es seen rs h c)

@@ -1,5 +1,5 @@
 -- A handle gets another record, and so a send from outside: what the memory stands for then.
-use Rattle.std.proofs.Common.{◌≡◌, ◌+◌, ◌<◌, ℕ, zero, suc, Bool, true, false, if◌then◌else◌, List, [], ◌∷◌, map, set, slice_get, slice_set, length, Option, Some, None, option_map, option_and_then, unwrap_or, Err, refl, sym, ap, ◌∙◌, subst, arith}
+use Rattle.std.proofs.Common.{◌≡◌, ◌+◌, ℕ, zero, suc, Bool, true, false, if◌then◌else◌, List, [], ◌∷◌, map, set, slice_get, Option, Some, None, option_map, option_and_then, unwrap_or, refl, sym, ap, ◌∙◌, subst}
 use Rattle.std.proofs.lemmas.List.{map-set}
 use Rattle.std.proofs.lemmas.Option.{slice_get-map}
 use Rattle.uv_ids.specs.declared.id.Id.{Id}
@@ -35,7 +35,7 @@ use Rattle.uv_model.specs.State.{State, with_id, with_handle, as_handle, live_ha
 use Rattle.uv_model.specs.Ops.{Coded, send}
 use Rattle.uv_model.specs.Queries.{members}
 use Rattle.uv_step.specs.declared.content.Content.{Content}
-use Rattle.uv_step.specs.declared.content.Content.TheVariants.{Handle, Request as Asked}
+use Rattle.uv_step.specs.declared.content.Content.TheVariants.{Handle}
 use Rattle.uv_step.specs.declared.record.Naming.TheVariants as naming
 use Rattle.uv_step.specs.declared.record.Change.TheVariants as change
 use Rattle.uv_step.specs.declared.record.Record.{Record}
@@ -46,7 +46,7 @@ use Rattle.uv_step.specs.Undo.{Recorded}
 use Rattle.uv_step.specs.Names.{named}
 use Rattle.uv_step.specs.Image.{Image, Held, counted_of}
 use Rattle.uv_loop.specs.Contents.{content_of, slot_of, slots_of, named_of, handle_of}
-use Rattle.uv_loop.specs.Stands.{StandsFor, AreTimers, timer_in}
+use Rattle.uv_loop.specs.Stands.{StandsFor, timer_in}
 
 -- ---- what is held
 
@@ -203,7 +203,8 @@ refused_held s d (Some (holds.Handle h)) why e =
     (record { state = with_handle s d (sent h); code = code.Ok })) e
 
 -- what an id stands for, if it is a handle
-handle_there : (o : Option content.Content) (h : HandleRecord) → option_and_then handle_in (option_map content_of o) ≡ Some h → o ≡ Some (holds.Handle h)
+handle_there : (o : Option content.Content) (h : HandleRecord) → option_and_then handle_in (option_map content_of o) ≡ Some h
+    → o ≡ Some (holds.Handle h)
 handle_there None h e = cc
 handle_there (Some (holds.Request r)) h e = cc
 handle_there (Some (holds.Handle g)) h e = let q : g ≡ h = cc e in ap (λ z. Some (holds.Handle z)) q
@@ -275,8 +276,8 @@ module _ (i j : Image Place) (v : Var) (d : Id) (named_so : Some d ≡ (named i.
     pub sent_code : (s : State) → StandsFor i s → (send s (live_handle s v)).code ≡ code.Ok
     sent_code s h = ap (λ (z : Coded). z.code) (sent_done i s v d did.from h named_so did.there did.allowed)
 
-    pub sent_stands : (r : Record Place) (h k : Held Place) → h.image ≡ i → k.image ≡ j → Recorded r h k → r.change ≡ change.Edited u → IsSound j.arena
-        → (s : State) → StandsFor i s → StandsFor j (send s (live_handle s v)).state
+    pub sent_stands : (r : Record Place) (h k : Held Place) → h.image ≡ i → k.image ≡ j → Recorded r h k → r.change ≡ change.Edited u
+        → IsSound j.arena → (s : State) → StandsFor i s → StandsFor j (send s (live_handle s v)).state
     sent_stands r h k hi kj recorded edited sound s stands =
         let back : unwind r j ≡ i = ap (unwind r) (sym kj) ∙ recorded.back ∙ hi in
         let place : j.place ≡ i.place = ap (λ (q : Image Place). q.place) (sym kj) ∙ recorded.place ∙ ap (λ (q : Image Place). q.place) hi in

@@ -1,5 +1,5 @@
 -- A memory that was never run stands for the state in which its script begins, and each step goes on from there.
-use Rattle.std.proofs.Common.{◌≡◌, ◌+◌, ◌-◌, ◌<◌, ℕ, zero, suc, List, [], ◌∷◌, map, length, replicate, None, refl, sym, ap, ◌∙◌, arith}
+use Rattle.std.proofs.Common.{◌≡◌, ◌-◌, ℕ, zero, suc, List, [], ◌∷◌, map, length, replicate, None, refl, sym, ap, ◌∙◌, arith}
 use Rattle.uv_records.specs.declared.lists.ListName.{ListName}
 use Rattle.uv_records.specs.declared.lists.ListName.TheVariants as name
 use Rattle.uv_arena.specs.Chains.{list_of, walk}
@@ -16,7 +16,7 @@ use Rattle.uv_step.specs.declared.content.Content.{Content}
 use Rattle.uv_step.specs.declared.named.Named.{Named}
 use Rattle.uv_step.specs.Names.{unbound}
 use Rattle.uv_step.specs.Image.{Image}
-use Rattle.uv_loop.specs.Contents.{named_of, slots_of}
+use Rattle.uv_loop.specs.Contents.{named_of}
 use Rattle.uv_loop.specs.Stands.{StandsFor}
 use Rattle.uv_loop.specs.Course.{first_image}
 

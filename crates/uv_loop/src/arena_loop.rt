@@ -3,6 +3,7 @@ ghost use Rattle.std.specs.Prelude.{◌≡◌, ◌+◌, ◌<◌, ◌≤◌, ◌-
 ghost use Rattle.uv_ids.specs.declared.event.Event.TheVariants.{Tick, Send};
 ghost use Rattle.uv_ids.specs.declared.fault.Fault.TheVariants.{Memory as no_memory};
 ghost use Rattle.uv_model.specs.After.{Answers, after, seen_by, STEPS};
+ghost use Rattle.uv_model.specs.Queries.{numbers};
 ghost use Rattle.uv_step.specs.Image.{held};
 ghost use Rattle.uv_loop.specs.Stands.{StandsFor};
 ghost use Rattle.uv_loop.specs.Course.{Adds, Drops, first_image};
@@ -12,7 +13,7 @@ use crate::steps::Steps;
 use std::alloc::Global;
 use std::marker::Model;
 use uv_ids::{Event, Fault, Seen, Var, Why};
-use uv_model::{Outcome, Place, STEPS};
+use uv_model::{Numbers, Outcome, Place, STEPS};
 use uv_script::Script;
 use uv_step::{Memory, Record};
 
@@ -168,6 +169,26 @@ impl ArenaLoop {
         ensures { result.now ≡ self.now.program }
     {
         &self.script
+    }
+
+    /// Where the loop stands.
+    pub fn place(&self) -> Place
+        ensures { result ≡ (after self.now.program self.now.standing).place }
+    {
+        self.memory.place
+    }
+
+    /// The numbers and flags.
+    pub fn numbers(&self) -> Numbers
+        ensures { result ≡ numbers (after self.now.program self.now.standing) }
+    {
+        Numbers {
+            time: self.memory.times.time,
+            clock: self.memory.clock,
+            next_start: self.memory.times.next_start,
+            stop_flag: self.memory.stop_flag,
+            idled: self.memory.idled,
+        }
     }
 
     /// The memory.

@@ -1,7 +1,7 @@
 use Rattle.std.proofs.Common.{◌≡◌, Some, refl, ap, arith}
 use Rattle.std.proofs.lemmas.Grind.{common_steps}
 use Rattle.uv_step.specs.Names.{named}
-use Rattle.uv_step.specs.Image.{Held, held, image_of}
+use Rattle.uv_step.specs.Image.{held, image_of}
 use Rattle.uv_loop.proofs.Sends.{refused_code, refused_stands, sent_code, sent_stands}
 use Rattle.uv_loop.proofs.sending.send_to.Goals as goal
 

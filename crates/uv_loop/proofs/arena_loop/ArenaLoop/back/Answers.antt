@@ -1,4 +1,3 @@
-use Rattle.std.proofs.Common.{refl}
 use Rattle.uv_step.specs.Image.{held, image_of}
 use Rattle.uv_loop.proofs.Courses.{course_dropped, course_shorter, drops}
 use Rattle.uv_loop.proofs.arena_loop.ArenaLoop.back.Goals as goal

@@ -1,4 +1,4 @@
-use Rattle.std.proofs.Common.{◌≡◌, ◌<◌, List, [], ◌∷◌, ◌++◌, length, Option, Some, ap, ◌∙◌, arith}
+use Rattle.std.proofs.Common.{◌<◌, [], ◌∷◌, ◌++◌, length, Some, ap, ◌∙◌, arith}
 use Rattle.uv_ids.specs.declared.event.Event.TheVariants.{Tick}
 use Rattle.uv_ids.specs.declared.seen.Seen.TheVariants as seen
 use Rattle.uv_ids.specs.declared.fault.Why.TheVariants.{Range}
