@@ -28,9 +28,9 @@ fn put(rt: &impl Abort, heap: &mut TimerHeap, entry: Entry) -> PushUndo
 }
 
 fn assert_dues(rt: &impl Abort, heap: &TimerHeap, dues: &[u64]) {
-    assert_eq!(rt; heap.len(), dues.len());
+    assert!(rt; heap.len() == dues.len());
     for (entry, due) in heap.entries().iter().zip(dues) {
-        assert_eq!(rt; entry.due.at, *due);
+        assert!(rt; entry.due.at == *due);
     }
 }
 
@@ -38,32 +38,31 @@ fn assert_dues(rt: &impl Abort, heap: &TimerHeap, dues: &[u64]) {
 fn walks_a_path_both_ways(rt: HostRuntime) {
     let mut heap = TimerHeap::new(rt.alloc());
     assert!(&rt; heap.is_empty());
-    assert_eq!(&rt; heap.least(), None);
+    assert!(&rt; heap.least() == None);
     for at in [1, 10, 2, 11, 12, 3, 4] {
         put(&rt, &mut heap, timer(at));
     }
     assert_dues(&rt, &heap, &[1, 10, 2, 11, 12, 3, 4]);
-    assert_eq!(&rt; heap.least(), Some(timer(1)));
-    assert_eq!(&rt; heap.place_of(12), Some(4));
+    assert!(&rt; heap.least() == Some(timer(1)));
+    assert!(&rt; heap.place_of(12) == Some(4));
 
     assert!(&rt; 3 < heap.len());
     let undo = heap.remove_at(3);
     assert_dues(&rt, &heap, &[1, 4, 2, 10, 12, 3]);
-    assert_eq!(&rt;
-        undo,
-        RemoveUndo {
+    assert!(&rt;
+        undo == RemoveUndo {
             place: 3,
             rest: 1,
             entry: timer(11)
         }
     );
-    assert_eq!(&rt; heap.place_of(11), None);
+    assert!(&rt; heap.place_of(11) == None);
     heap.undo_remove(undo);
     assert_dues(&rt, &heap, &[1, 10, 2, 11, 12, 3, 4]);
 
     let undo = put(&rt, &mut heap, timer(0));
     assert_dues(&rt, &heap, &[0, 1, 2, 10, 12, 3, 4, 11]);
-    assert_eq!(&rt; undo, PushUndo { place: 0 });
+    assert!(&rt; undo == PushUndo { place: 0 });
     heap.undo_push(undo);
     assert_dues(&rt, &heap, &[1, 10, 2, 11, 12, 3, 4]);
 }

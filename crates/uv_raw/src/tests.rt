@@ -4,14 +4,14 @@ ghost use Rattle.std.specs.Prelude.{◌≡◌};
 use crate::RawRow;
 use std::test::Fail;
 
-#[derive(Clone, Copy, PartialEq, Eq, Debug)]
+#[derive(Clone, Copy, PartialEq, Eq)]
 enum Content {
     Empty,
     Handle { var: u32, due: u64, repeat: u64 },
     Request { text: [u8; 24], rounds: u16 },
 }
 
-#[derive(Clone, Copy, PartialEq, Eq, Debug)]
+#[derive(Clone, Copy, PartialEq, Eq)]
 struct Record {
     generation: u32,
     list: Option<u8>,
@@ -35,15 +35,15 @@ fn make_record(generation: u32, content: Content) -> Record
 #[test]
 fn keeps_numbers(rt: HostRuntime) -> Result<(), Fail> {
     let mut block = RawRow::new(rt.alloc(), 2)?;
-    assert_eq!(rt; block.capacity(), 2);
+    assert!(rt; block.capacity() == 2);
     block.push(7u64);
     block.push(8);
-    assert_eq!(rt; block.len(), 2);
-    assert_eq!(rt; block.set(0, 9), 7);
-    assert_eq!(rt; block.get(0), 9);
-    assert_eq!(rt; block.pop(), 8);
+    assert!(rt; block.len() == 2);
+    assert!(rt; block.set(0, 9) == 7);
+    assert!(rt; block.get(0) == 9);
+    assert!(rt; block.pop() == 8);
     block.push(10);
-    assert_eq!(rt; block.get(1), 10);
+    assert!(rt; block.get(1) == 10);
     Ok(())
 }
 
@@ -68,9 +68,9 @@ fn keeps_records(rt: HostRuntime) -> Result<(), Fail> {
     block.push(handle);
     block.push(request);
     block.push(make_record(3, Content::Empty));
-    assert_eq!(rt; block.set(2, handle), make_record(3, Content::Empty));
-    assert_eq!(rt; block.get(1), request);
-    assert_eq!(rt; block.pop(), handle);
+    assert!(rt; block.set(2, handle) == make_record(3, Content::Empty));
+    assert!(rt; block.get(1) == request);
+    assert!(rt; block.pop() == handle);
     Ok(())
 }
 

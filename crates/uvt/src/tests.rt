@@ -57,14 +57,13 @@ fn answers_whole_conversations(rt: HostRuntime) {
     let alloc = rt.alloc();
     for one in groups().into_iter().flatten() {
         let ran = run_on(alloc, &["uvt", "debug"], one.input.as_bytes());
-        assert_eq!(rt;
-            ran.output.as_slice(),
-            one.output.as_bytes(),
+        assert!(rt;
+            ran.output.as_slice() == one.output.as_bytes(),
             "{}",
             one.what
         );
-        assert_eq!(rt; ran.errors.as_slice(), b"".as_slice(), "{}", one.what);
-        assert_eq!(rt; ran.status, 0, "{}", one.what);
+        assert!(rt; ran.errors.as_slice() == b"".as_slice(), "{}", one.what);
+        assert!(rt; ran.status == 0, "{}", one.what);
     }
 }
 
@@ -73,19 +72,17 @@ fn replays_recordings(rt: HostRuntime) {
     let alloc = rt.alloc();
     for one in &REPLAYS {
         let ran = run_on(alloc, &["uvt", "replay"], one.input.as_bytes());
-        assert_eq!(rt;
-            ran.output.as_slice(),
-            one.output.as_bytes(),
+        assert!(rt;
+            ran.output.as_slice() == one.output.as_bytes(),
             "{}",
             one.what
         );
-        assert_eq!(rt;
-            ran.errors.as_slice(),
-            one.errors.as_bytes(),
+        assert!(rt;
+            ran.errors.as_slice() == one.errors.as_bytes(),
             "{}",
             one.what
         );
-        assert_eq!(rt; ran.status, one.status, "{}", one.what);
+        assert!(rt; ran.status == one.status, "{}", one.what);
     }
 }
 
@@ -371,19 +368,17 @@ fn outside_the_rules(rt: HostRuntime) {
     let alloc = rt.alloc();
     for one in &OUTSIDE {
         let ran = run_on(alloc, &["uvt", "debug"], one.input);
-        assert_eq!(rt;
-            ran.output.as_slice(),
-            one.output.as_bytes(),
+        assert!(rt;
+            ran.output.as_slice() == one.output.as_bytes(),
             "{}",
             one.what
         );
-        assert_eq!(rt;
-            ran.errors.as_slice(),
-            one.errors.as_bytes(),
+        assert!(rt;
+            ran.errors.as_slice() == one.errors.as_bytes(),
             "{}",
             one.what
         );
-        assert_eq!(rt; ran.status, one.status, "{}", one.what);
+        assert!(rt; ran.status == one.status, "{}", one.what);
     }
 }
 
@@ -399,8 +394,8 @@ fn a_line_of_257_bytes(rt: HostRuntime) -> Result<(), Fail> {
         input.push(b'x')?;
     }
     let ran = run_on(alloc, &["uvt", "debug"], input.as_slice());
-    assert_eq!(rt; ran.output.as_slice(), b"bad command\n".as_slice());
-    assert_eq!(rt; ran.status, 0);
+    assert!(rt; ran.output.as_slice() == b"bad command\n".as_slice());
+    assert!(rt; ran.status == 0);
     Ok(())
 }
 
@@ -416,8 +411,8 @@ fn a_session_has_256_breaks(rt: HostRuntime) -> Result<(), Fail> {
     input.extend_from_slice(b"break code ok\nbreak clear\nbreak section poll\n")?;
     wanted.extend_from_slice(b"refused limit\nbreak ok\nbreak ok\n")?;
     let ran = run_on(alloc, &["uvt", "debug"], input.as_slice());
-    assert_eq!(rt; ran.output.as_slice(), wanted.as_slice());
-    assert_eq!(rt; ran.status, 0);
+    assert!(rt; ran.output.as_slice() == wanted.as_slice());
+    assert!(rt; ran.status == 0);
     Ok(())
 }
 
@@ -436,12 +431,9 @@ fn bad_command_lines(rt: HostRuntime) {
     ];
     for one in &words {
         let ran = run_on(alloc, one, b"begin\nloop\n");
-        assert_eq!(rt; ran.output.as_slice(), b"".as_slice());
-        assert_eq!(rt;
-            ran.errors.as_slice(),
-            b"uvt: bad command line\n".as_slice()
-        );
-        assert_eq!(rt; ran.status, 2);
+        assert!(rt; ran.output.as_slice() == b"".as_slice());
+        assert!(rt; ran.errors.as_slice() == b"uvt: bad command line\n".as_slice());
+        assert!(rt; ran.status == 2);
     }
 }
 
@@ -517,8 +509,8 @@ fn each_line_is_answered_before_the_next_is_read(rt: HostRuntime) {
     );
     let wanted =
         "init t timer = 0.0\n|refused ended\n|out tick 3\n|bad command\n|init t timer = 0.0\nout tick 3\n|at 0\n|";
-    assert_eq!(rt; page.text.as_slice(), wanted.as_bytes());
-    assert_eq!(rt; status, 0);
+    assert!(rt; page.text.as_slice() == wanted.as_bytes());
+    assert!(rt; status == 0);
 }
 
 /// A text without the bars.
@@ -570,21 +562,19 @@ fn devices_fail(rt: HostRuntime) -> Result<(), Fail> {
                     "uvt: write failed\n"
                 };
                 if ran.status == 0 {
-                    assert_eq!(rt;
-                        ran.output.as_slice(),
-                        one.output.as_bytes(),
+                    assert!(rt;
+                        ran.output.as_slice() == one.output.as_bytes(),
                         "{} {k}",
                         one.what
                     );
                 } else {
                     assert!(rt; ran.is_beginning_of(one.output), "{} {k}", one.what);
-                    assert_eq!(rt;
-                        ran.errors.as_slice(),
-                        wanted.as_bytes(),
+                    assert!(rt;
+                        ran.errors.as_slice() == wanted.as_bytes(),
                         "{} {k}",
                         one.what
                     );
-                    assert_eq!(rt; ran.status, 4, "{} {k}", one.what);
+                    assert!(rt; ran.status == 4, "{} {k}", one.what);
                 }
             }
         }
