@@ -21,11 +21,6 @@ by_fault input old new fault.Stalled h = absurd h
 by_fault input old new (fault.Differs at) h = absurd h
 by_fault input old new fault.Limit h = absurd h
 
--- nothing was written
-pub none_written : (input old : List ℕ) → HasAnswer input → IsCut input old old
-none_written input old h =
-    record { text = h.text; end = h.end; is = h.is; cut = record { part = []; rest = h.text; whole = refl; written = sym (append-nil old) } }
-
 -- ---- a replay
 
 -- the status of an answer
