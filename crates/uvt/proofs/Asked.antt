@@ -9,7 +9,6 @@ use Rattle.clap.specs.declared.parser.matches.ArgMatches.TheViews.{out-ArgMatche
 use Rattle.clap.specs.declared.parser.matches.SubCommand.{SubCommand}
 use Rattle.clap.specs.declared.error.kind.ErrorKind.{ErrorKind}
 use Rattle.clap.proofs.OnLiterals.{clap_on_literals}
-use Rattle.uvt.specs.declared.command_line.Job.{Job}
 use Rattle.uvt.specs.declared.command_line.Job.TheVariants.{Debug, Replay}
 use Rattle.uvt.specs.Words.{uvt_app, job_by, job_in, job_of}
 

@@ -2,7 +2,6 @@
 use Rattle.std.specs.Prelude.{◌≡◌, ℕ, List, [], ◌++◌, Option, Some, None}
 use Rattle.uv_ids.specs.declared.fault.Fault.{Fault}
 use Rattle.uv_ids.specs.declared.fault.Fault.TheVariants as fault
-use Rattle.uv_ids.specs.declared.fault.Why.{Why}
 use Rattle.uv_engine.specs.declared.conversation.Ended.{Ended}
 use Rattle.uv_engine.specs.declared.verdict.Verdict.{Verdict}
 use Rattle.uv_engine.specs.declared.verdict.Verdict.TheVariants.{Same, Differs, Refused, Full}

@@ -1,5 +1,5 @@
 -- What the words of a command line ask for, by clap's rules of words (`fault_of`, `subcommand_of`).
-use Rattle.std.specs.Prelude.{ℕ, List, [], ◌∷◌, true, Option, Some, None, option_map, codes, if◌then◌else◌}
+use Rattle.std.specs.Prelude.{List, [], ◌∷◌, true, Option, Some, None, option_map, codes, if◌then◌else◌}
 use Rattle.std.specs.Str.{bytes_eq}
 use Rattle.clap.specs.Kinds.{Kinds}
 use Rattle.clap.specs.Words.{App, Row, Text, new_app, with_subcommand, subcommand_of, fault_of}
