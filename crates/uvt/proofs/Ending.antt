@@ -1,10 +1,10 @@
 -- How the end of a conversation or of a replay is a status.
-use Rattle.std.proofs.Common.{ℕ, List, [], Result, Ok, Err, ◌≡◌, refl, sym, append-nil, ap, subst, ◌∙◌}
+use Rattle.std.proofs.Common.{ℕ, List, Result, Ok, Err, ◌≡◌, refl, sym, ap, subst, ◌∙◌}
 use Rattle.uv_ids.specs.declared.fault.Fault.{Fault}
 use Rattle.uv_ids.specs.declared.fault.Fault.TheVariants as fault
 use Rattle.uv_engine.specs.declared.verdict.Verdict.{Verdict}
 use Rattle.uv_engine.specs.declared.verdict.Verdict.TheVariants.{Same, Differs, Refused, Full}
-use Rattle.uv_engine.specs.Out.{Converses, HasAnswer, IsCut}
+use Rattle.uv_engine.specs.Out.{Converses}
 use Rattle.uv_engine.specs.Verdict as verdict
 use Rattle.uv_engine.specs.Verdict.{HasVerdict, answer_of, Tells, Replays}
 use Rattle.uvt.specs.Status.{Runs, bad_script, broken, Reruns, judged, bad_line, nothing, cut_short, status_by, status_of}
@@ -20,11 +20,6 @@ by_fault input old new (fault.Torn at) h = absurd h
 by_fault input old new fault.Stalled h = absurd h
 by_fault input old new (fault.Differs at) h = absurd h
 by_fault input old new fault.Limit h = absurd h
-
--- nothing was written
-pub none_written : (input old : List ℕ) → HasAnswer input → IsCut input old old
-none_written input old h =
-    record { text = h.text; end = h.end; is = h.is; cut = record { part = []; rest = h.text; whole = refl; written = sym (append-nil old) } }
 
 -- ---- a replay
 

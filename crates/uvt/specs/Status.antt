@@ -1,8 +1,7 @@
 -- Exit statuses, and what was written where a run ended with one.
-use Rattle.std.specs.Prelude.{◌≡◌, ℕ, List, [], ◌++◌}
+use Rattle.std.specs.Prelude.{◌≡◌, ℕ, List, [], ◌++◌, Option, Some, None}
 use Rattle.uv_ids.specs.declared.fault.Fault.{Fault}
 use Rattle.uv_ids.specs.declared.fault.Fault.TheVariants as fault
-use Rattle.uv_ids.specs.declared.fault.Why.{Why}
 use Rattle.uv_engine.specs.declared.conversation.Ended.{Ended}
 use Rattle.uv_engine.specs.declared.verdict.Verdict.{Verdict}
 use Rattle.uv_engine.specs.declared.verdict.Verdict.TheVariants.{Same, Differs, Refused, Full}
@@ -10,6 +9,8 @@ use Rattle.uv_engine.specs.Out.{Out, Ends, BadScript, IsCut, IsWhole}
 use Rattle.uv_engine.specs.Sink.{CutShort}
 use Rattle.uv_engine.specs.Recordings.{IsBadLine}
 use Rattle.uv_engine.specs.Verdict.{HasVerdict, verdict_text}
+use Rattle.uvt.specs.declared.command_line.Job.{Job}
+use Rattle.uvt.specs.declared.command_line.Job.TheVariants.{Debug, Replay}
 
 -- the status of a fault
 abbrev pub status_of : Fault → ℕ
@@ -40,9 +41,11 @@ pub data Reruns (input old new : List ℕ) : ℕ → Type 0 where
   nothing : new ≡ old → Reruns input old new 4
   cut_short : (v : Verdict) → HasVerdict input v → CutShort old (verdict_text v) new → Reruns input old new 4
 
--- what a run of the program comes to
-pub data Ran (input old new : List ℕ) (status : ℕ) : Type 0 where
-  conversed : Runs input old new status → Ran input old new status
-  replayed : Reruns input old new status → Ran input old new status
+-- what a run of the program comes to, by what its words ask for
+pub data Ran (asked : Option Job) (input old new : List ℕ) (status : ℕ) : Type 0 where
+  conversed : asked ≡ Some Debug → Runs input old new status → Ran asked input old new status
+  replayed : asked ≡ Some Replay → Reruns input old new status → Ran asked input old new status
   -- the words are no command line, and nothing was written
-  bad_words : status ≡ 2 → new ≡ old → Ran input old new status
+  bad_words : asked ≡ None → status ≡ 2 → new ≡ old → Ran asked input old new status
+  -- there was no memory to read the words, and nothing was written
+  no_memory : status ≡ 4 → new ≡ old → Ran asked input old new status

@@ -1,11 +1,12 @@
 //! The program over any reader and writers.
-ghost use Rattle.std.specs.Prelude.{◌≡◌};
+ghost use Rattle.std.specs.Prelude.{◌≡◌, map};
 ghost use Rattle.uvt.specs.Status.{Runs, Reruns, Ran, status_of};
+ghost use Rattle.uvt.specs.Words.{job_of};
 
 use crate::command_line::{Job, NoJob, read_words};
 use std::alloc::Global;
 use std::io::Write;
-use uv_engine::{Sink, Source, converse, one_answer, replay};
+use uv_engine::{Sink, Source, converse, replay};
 use uv_ids::Fault;
 use uv_model::PlainLoop;
 
@@ -22,13 +23,12 @@ pub fn run<H, R: Source, W: Sink, E: Write>(
     writer: &mut W,
     errors: &mut E,
 ) -> u8
-    ensures text { R.Tells → W.Tells → Ran (R.remaining reader.old) (W.written writer.old) (W.written writer.new) result }
+    ensures text { R.Tells → W.Tells → Ran (job_of (map (λ word. word.now) words.now)) (R.remaining reader.old) (W.written writer.old) (W.written writer.new) result }
 
     // A terminal doesn't tell its bytes. Yet with status 0 neither device has failed.
     ensures reader { result ≡ 0 → R.failures reader.new ≡ R.failures reader.old }
     ensures writer { result ≡ 0 → W.failures writer.new ≡ W.failures writer.old }
 {
-    one_answer();
     match read_words(alloc, words) {
         Ok(Job::Debug) => debug(alloc, reader, writer, errors),
         Ok(Job::Replay) => rerun(alloc, reader, writer, errors),
