@@ -8,3 +8,6 @@ mod session;
 
 pub use running::live;
 pub use session::LiveSession;
+
+#[cfg(test)]
+mod tests;
