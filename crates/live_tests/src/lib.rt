@@ -14,4 +14,6 @@ mod pool_examples;
 #[cfg(test)]
 mod pool_threads;
 #[cfg(test)]
+mod scripts;
+#[cfg(test)]
 mod small;

@@ -8,6 +8,3 @@ mod session;
 
 pub use running::live;
 pub use session::LiveSession;
-
-#[cfg(test)]
-mod tests;

@@ -1,26 +1,16 @@
-//! Live runs of scripts on real threads, and a finish with a result.
+//! Live runs of scripts on real threads.
 ghost use Rattle.std.specs.Bool.{MatchBool};
 ghost use Rattle.uv_live.specs.Course.{AreNamed};
 
-use crate::live;
+use crate::given::{Quiet, put};
 use std::alloc::Global;
 use std::sync::Wait;
 use std::thread::Threads;
-use uv_ids::{Event, Fault, Id, Seen, Var};
+use uv_ids::{Event, Fault, Seen, Var};
 use uv_live::{JumpClock, ThreadLine};
 use uv_model::PlainLoop;
-use uv_pool::Gate;
+use uv_run::live;
 use uv_script::Script;
-
-struct Quiet;
-
-impl Gate for Quiet {
-    fn begun(&self, _k: u16, _id: Id) {}
-
-    fn ended(&self, _k: u16, _id: Id) {}
-
-    fn sending(&self, _s: u8) {}
-}
 
 /// What stands after a live run: its steps and its lines.
 #[derive(Drop)]
@@ -43,10 +33,7 @@ fn sender_lines(alloc: Global, senders: u8) -> Result<Vec<ThreadLine>, Fault> {
             thread,
             name: Var(0),
         };
-        match lines.push(line) {
-            Ok(()) => {}
-            Err(_) => return Err(Fault::Memory),
-        }
+        put(&mut lines, line)?;
     }
     Ok(lines)
 }
