@@ -185,6 +185,21 @@ pub finish_taken : (s : Shown) (k : ℕ) (id : Id) → IsLegal (worker_count s.p
 unfolding events_by
 finish_taken s k id h = finish_is_taken s.program s.standing k id h
 
-pub ruleset answers = (fault_keeps, worker_ok, worker_ended, worker_err, outside_ok, outside_events, outside_polls, fault_polls, loop_line, loop_ok, loop_err, result_ok, result_err, result_refused)
+pub ruleset answers = (
+  fault_keeps,
+  worker_ok,
+  worker_ended,
+  worker_err,
+  outside_ok,
+  outside_events,
+  outside_polls,
+  fault_polls,
+  loop_line,
+  loop_ok,
+  loop_err,
+  result_ok,
+  result_err,
+  result_refused,
+)
 
 pub ruleset legal = (events_legal, take_taken, finish_taken)
