@@ -19,9 +19,9 @@ use Rattle.uv_step.specs.Parts.{unwind}
 use Rattle.uv_step.specs.Trail.{unwound, DropsOne}
 use Rattle.uv_step.specs.Undo.{CanUnwind, Recorded}
 use Rattle.uv_step.specs.Fit.{IsFit}
-use Rattle.uv_step.proofs.Trails.{unwound-push}
+use Rattle.uv_step.proofs.Trails.{unwound-push, begins_same}
 use Rattle.uv_loop.specs.Stands.{StandsFor}
-use Rattle.uv_loop.specs.Course.{Course, StandFrom, IsCourse}
+use Rattle.uv_loop.specs.Course.{Course, StandFrom, IsCourse, first_image}
 
 -- one record a step
 stand_length : (p : Program) (s : State) (room : ℕ) (i : Image Place) (rs : List (Record Place)) (es : List Event) → StandFrom p s room i rs es
@@ -73,8 +73,15 @@ stand_pop p s room i (x ∷ rs) (y ∷ es) r e l h =
 
 -- ---- what a loop keeps
 
-pub course_begins : (p : Program) (h : Held Place) → IsFit h.image → StandsFor h.image (state.fresh p) → IsCourse p [] [] [] h
-course_begins p h fit stands = record { few = omega arith; seen_is = sym (seen_by-nil p); fit = fit; stand = stands }
+pub course_begins : (p : Program) (h : Held Place) → IsFit h.image → h.image ≡ first_image p → StandsFor (first_image p) (state.fresh p)
+    → IsCourse p [] [] [] h
+course_begins p h fit is stands = record {
+  few = omega arith;
+  seen_is = sym (seen_by-nil p);
+  fit = fit;
+  begins = is;
+  stand = subst (λ i. StandsFor i (state.fresh p)) (sym is) stands;
+}
 
 pub course_stands : (p : Program) (es : List Event) (seen : List (Option Seen)) (rs : List (Record Place)) (h : Held Place) → IsCourse p es seen rs h
     → StandsFor h.image (after p es)
@@ -100,6 +107,7 @@ course_added p es seen rs h k r e t line few c d moves stands =
       few = omega (arith, few, length-append es (e ∷ []));
       seen_is = sym (seen_by-moves p es e t line moves ∙ ap (λ ls. ls ++ line ∷ []) (sym c.seen_is));
       fit = d.fit;
+      begins = begins_same rs r h.image k.image d.back ∙ c.begins;
       stand = stand_push p (state.fresh p) k.room h.image k.image rs es r e before d.back d.can (is_move _ t line moves)
           (subst (λ (n : Next). StandsFor k.image (state_of s n)) (sym moves) stands);
     }
@@ -131,6 +139,7 @@ course_dropped p es seen rs qs h r split c =
         few = omega (arith, c.few, short, long);
         seen_is = ap (take n) c.seen_is ∙ sym (seen_by-take p n es);
         fit = rest.0.fit;
+        begins = sym (unwound-push qs r h.image) ∙ ap (λ xs. unwound xs h.image) (sym split) ∙ c.begins;
         stand = rest.1;
       },
       long,
@@ -144,8 +153,8 @@ course_same p es fs seen lines rs qs h a b d c =
 
 -- the loop of a script that has taken no step
 pub course_new : (p : Program) (es : List Event) (seen : List (Option Seen)) (rs : List (Record Place)) (h : Held Place) → es ≡ [] → seen ≡ []
-    → rs ≡ [] → IsFit h.image → StandsFor h.image (state.fresh p) → IsCourse p es seen rs h
-course_new p es seen rs h a b d fit stands = course_same p [] es [] seen [] rs h a b d (course_begins p h fit stands)
+    → rs ≡ [] → IsFit h.image → h.image ≡ first_image p → StandsFor (first_image p) (state.fresh p) → IsCourse p es seen rs h
+course_new p es seen rs h a b d fit is stands = course_same p [] es [] seen [] rs h a b d (course_begins p h fit is stands)
 
 -- where the memory stands for a state, an event leads to one for which the other memory stands, with this line
 abbrev pub Leads : Program → Image Place → Image Place → Event → Option Seen → Type 0
@@ -177,6 +186,9 @@ module _ (p : Program) (es : List Event) (seen : List (Option Seen)) (rs : List 
     (same : course p es rs h ≡ w) (c : IsCourse p es seen rs h) where
   pub seen_stands : StandsFor w.walk.image (after w.program w.standing)
   seen_stands = subst (λ (x : Course). StandsFor x.walk.image (after x.program x.standing)) same (course_stands p es seen rs h c)
+
+  pub seen_begins : unwound w.walk.records w.walk.image ≡ first_image w.program
+  seen_begins = subst (λ (x : Course). unwound x.walk.records x.walk.image ≡ first_image x.program) same c.begins
 
   -- what holds of each state that the memory stands for holds of the state after the steps
   pub asked : (Q : State → Type 0) → ((s : State) → StandsFor h.image s → Q s) → Q (after w.program w.standing)

@@ -42,6 +42,8 @@ pub record IsCourse (p : Program) (es : List Event) (seen : List (Option Seen)) 
   pub few : length es ≤ STEPS
   pub seen_is : seen ≡ seen_by p es
   pub fit : IsFit h.image
+  -- unwinding all records, the last one first, gives the memory in which the script begins
+  pub begins : unwound rs h.image ≡ first_image p
   pub stand : StandFrom p (state.fresh p) h.room h.image rs es
 
 -- an accepted step adds one record, which gives back the very memory from before; a refused one changes nothing

@@ -5,6 +5,7 @@ ghost use Rattle.uv_ids.specs.declared.fault.Fault.TheVariants.{Memory as no_mem
 ghost use Rattle.uv_model.specs.After.{Answers, after, seen_by, STEPS};
 ghost use Rattle.uv_model.specs.Queries.{numbers};
 ghost use Rattle.uv_step.specs.Image.{held};
+ghost use Rattle.uv_step.specs.Trail.{unwound};
 ghost use Rattle.uv_loop.specs.Stands.{StandsFor};
 ghost use Rattle.uv_loop.specs.Course.{Adds, Drops, first_image};
 
@@ -140,11 +141,12 @@ impl ArenaLoop {
         true
     }
 
-    /// What always holds: the memory stands for the state after the steps, and there is a record for each of them. It costs nothing
-    /// when it runs.
+    /// What always holds: the memory stands for the state after the steps, there is a record for each of them, and all of these,
+    /// unwound, give back the very memory from before the first one. It costs nothing when it runs.
     pub fn stands(&self)
         ensures stands { StandsFor self.now.walk.image (after self.now.program self.now.standing) }
         ensures records { length self.now.walk.records ≡ length self.now.standing }
+        ensures begins { unwound self.now.walk.records self.now.walk.image ≡ first_image self.now.program }
     {
         let _ = self.steps.events.len();
     }

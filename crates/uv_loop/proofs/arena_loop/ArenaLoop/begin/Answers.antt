@@ -1,8 +1,6 @@
-use Rattle.std.proofs.Common.{◌≡◌, rules, sym, ap, subst}
+use Rattle.std.proofs.Common.{◌≡◌, rules, ap, subst}
 use Rattle.uv_arena.specs.Image.{IsSound}
-use Rattle.uv_model.specs.State as state
 use Rattle.uv_step.specs.Image.{held, image_of}
-use Rattle.uv_loop.specs.Stands.{StandsFor}
 use Rattle.uv_loop.specs.Course.{first_image}
 use Rattle.uv_loop.proofs.Courses.{course_new}
 use Rattle.uv_loop.proofs.Simulation.{fresh_stands}
@@ -13,5 +11,4 @@ invariant_of-result c =
     let is : image_of c.in-Ok.memory ≡ first_image c.args.script = search rules in
     course_new c.args.script c.new-2.result.events.items c.new-2.result.seen.items c.new-2.result.records.items (held c.in-Ok.memory)
     c.new-2.ensures.events c.new-2.ensures.seen c.new-2.ensures.records c.in-Ok.ensures.fit
-    (subst (λ i. StandsFor i (state.fresh c.args.script)) (sym is)
-    (fresh_stands c.args.script (subst (λ i. IsSound i) (ap (λ i. i.arena) is) c.is_sound.ensures)))
+    is (fresh_stands c.args.script (subst (λ i. IsSound i) (ap (λ i. i.arena) is) c.is_sound.ensures))
