@@ -57,8 +57,11 @@ works p es = works_from p es nothing_told (fresh p) (Between 0) (fresh_kept p) (
 legal_after : (p : Program) (es : List Event) (x : PoolEvent) → IsLegal (worker_count p) (pool_events p (lines p es) ++ x ∷ []) →
     (q : Pool) × (after_event (pool_of (after p es)) x ≡ Some q)
 unfolding replay
-legal_after p es x h = (h.0, sym (ap (λ (o : Option Pool). after_events o (x ∷ [])) (pools p es))
-    ∙ sym (events_more (Some (empty_pool (worker_count p))) (pool_events p (lines p es)) (x ∷ [])) ∙ h.1)
+legal_after p es x h = (
+  h.0,
+  sym (ap (λ (o : Option Pool). after_events o (x ∷ [])) (pools p es))
+      ∙ sym (events_more (Some (empty_pool (worker_count p))) (pool_events p (lines p es)) (x ∷ [])) ∙ h.1,
+)
   where
     events_more : (o : Option Pool) (xs ys : List PoolEvent) → after_events o (xs ++ ys) ≡ after_events (after_events o xs) ys
     events_more o [] ys = refl
