@@ -20,7 +20,15 @@ pub fn id(slot: u32) -> Id {
 pub fn put_request(slots: &mut Slots<Content>, name: u32) -> Option<Id>
     ensures { alive_count handle_in slots.new ≡ alive_count handle_in slots.old }
 {
-    let request = RequestRecord::new(Var(name), 1, b"")?;
+    match RequestRecord::new(Var(name), 1, b"") {
+        None => None,
+        Some(request) => put(slots, request),
+    }
+}
+
+fn put(slots: &mut Slots<Content>, request: RequestRecord) -> Option<Id>
+    ensures { alive_count handle_in slots.new ≡ alive_count handle_in slots.old }
+{
     match slots.insert(Content::Request(request)) {
         Ok((id, inserted)) => {
             let _ = inserted;
