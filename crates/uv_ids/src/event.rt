@@ -18,3 +18,6 @@ pub enum Event {
     /// The clock goes on by so many milliseconds.
     Tick(u64),
 }
+
+// An event has at most two words: a session holds one for each step.
+const _: () = prove!(std::mem::size_of::<Event>() <= 16);

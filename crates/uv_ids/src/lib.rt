@@ -16,15 +16,3 @@ pub use fault::{Fault, Why};
 pub use id::{Id, Var};
 pub use phase::{Kind, Mode, Phase};
 pub use seen::{Callback, Seen, Site};
-
-#[cfg(test)]
-mod tests {
-    use super::*;
-    use std::mem::size_of;
-
-    #[test]
-    fn steps_are_small(rt: HostRuntime) {
-        assert!(rt; size_of::<Event>() <= 16);
-        assert!(rt; size_of::<Seen>() <= 48);
-    }
-}

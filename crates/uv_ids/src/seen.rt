@@ -55,3 +55,6 @@ pub enum Seen {
     /// The clock went on by so many ms.
     Tick(u64),
 }
+
+// A trace line has at most six words: a machine holds one for each step.
+const _: () = prove!(std::mem::size_of::<Seen>() <= 48);
