@@ -212,7 +212,7 @@ fn counts_what_keeps_the_loop_alive(rt: HostRuntime) -> Result<(), Fail> {
     let mut counted = Counted::new(rt.alloc(), 2)?;
     assert!(rt; counted.add(0, Kind::Async) == Some(id(0)));
     assert!(rt; counted.add(1, Kind::Timer) == Some(id(1)));
-    assert!(rt; counted.add(2, Kind::Idle) == None);
+    assert!(rt; counted.add(2, Kind::Idle).is_none());
     assert!(rt; counted.seen(id(0)).active == 1);
     assert!(rt; counted.set_active(id(1), true) == Ok(()));
     assert!(rt; counted.seen(id(1)).active == 2);
@@ -280,7 +280,7 @@ fn a_close_is_taken_back(rt: HostRuntime) -> Result<(), Fail> {
     assert!(rt; counted.seen(id(0)) == made);
     assert!(rt; counted.close(id(0)) == Some(Ok(())));
     assert!(rt; counted.begin_and_back() == Some(id(0)));
-    assert!(rt; counted.take_and_back() == None);
+    assert!(rt; counted.take_and_back().is_none());
     counted.begin_closing();
     assert!(rt; counted.take_and_back() == Some((id(0), freed)));
     assert!(rt; counted.seen(id(0)) == closed);
@@ -302,7 +302,7 @@ fn the_last_closed_is_called_first(rt: HostRuntime) -> Result<(), Fail> {
     let later = Content::Handle(closing(2, Kind::Async));
     assert!(rt; counted.take() == Some((id(1), first)));
     assert!(rt; counted.take() == Some((id(0), second)));
-    assert!(rt; counted.take() == None);
+    assert!(rt; counted.take().is_none());
     counted.begin_closing();
     assert!(rt; counted.take() == Some((id(2), later)));
     Ok(())

@@ -230,13 +230,13 @@ fn the_first_that_is_done_is_collected_first(rt: HostRuntime) -> Result<(), Fail
     assert!(rt; pool.cancel(id(2)) == Ok(()));
     assert!(rt; pool.finish(1, id(1)) == Some(Ok(id(1))));
     assert!(rt; pool.finish(0, id(0)) == Some(Ok(id(0))));
-    assert!(rt; pool.collect() == None);
+    assert!(rt; pool.collect().is_none());
     pool.begin();
     assert!(rt; pool.seen(id(0)).open == 3);
     assert!(rt; pool.collect() == Some((id(2), Outcome::Cancelled)));
     assert!(rt; pool.collect() == Some((id(1), Outcome::Finished(ABC))));
     assert!(rt; pool.collect() == Some((id(0), Outcome::Finished(EMPTY))));
-    assert!(rt; pool.collect() == None);
+    assert!(rt; pool.collect().is_none());
     assert!(rt; pool.seen(id(0)).open == 0);
     Ok(())
 }
@@ -323,7 +323,7 @@ fn what_is_refused(rt: HostRuntime) -> Result<(), Fail> {
     assert!(rt; pool.queue(0, b"abc") == Some(id(0)));
     assert!(rt; pool.queue(1, b"") == Some(id(1)));
     assert!(rt; pool.put_handle(7) == Some(id(2)));
-    assert!(rt; pool.queue(3, b"") == None);
+    assert!(rt; pool.queue(3, b"").is_none());
     assert!(rt; pool.finish(1, id(1)) == Some(Err(Why::NoWorker)));
     assert!(rt; pool.finish(0, id(1)) == Some(Err(Why::IdleWorker)));
     assert!(rt; pool.take(0) == Ok(id(0)));

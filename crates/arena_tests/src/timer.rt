@@ -245,14 +245,14 @@ fn timers_fire_by_due_time_and_start(rt: HostRuntime) -> Result<(), Fail> {
     assert!(rt; timed.start(id(0), 5, 0) == Some(Ok(())));
     assert!(rt; timed.start(id(1), 5, 0) == Some(Ok(())));
     assert!(rt; timed.start(id(0), 5, 0) == Some(Ok(())));
-    assert!(rt; timed.collect() == None);
+    assert!(rt; timed.collect().is_none());
     timed.tick(5);
     assert!(rt; timed.collect() == Some(id(1)));
     assert!(rt; timed.collect() == Some(id(0)));
-    assert!(rt; timed.collect() == None);
+    assert!(rt; timed.collect().is_none());
     assert!(rt; timed.fire() == Some(id(1)));
     assert!(rt; timed.fire() == Some(id(0)));
-    assert!(rt; timed.fire() == None);
+    assert!(rt; timed.fire().is_none());
     Ok(())
 }
 
@@ -343,6 +343,6 @@ fn what_is_refused(rt: HostRuntime) -> Result<(), Fail> {
     assert!(rt; timed.due_in(id(2)) == Err(Code::Estale));
     timed.close(id(0));
     assert!(rt; timed.start(id(0), 1, 1) == Some(Err(Code::Einval)));
-    assert!(rt; timed.fire() == None);
+    assert!(rt; timed.fire().is_none());
     Ok(())
 }

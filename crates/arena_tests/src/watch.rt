@@ -268,7 +268,7 @@ fn the_last_started_is_called_first(rt: HostRuntime) -> Result<(), Fail> {
     counted.begin(WatcherKind::Idle);
     assert!(rt; counted.take(WatcherKind::Idle) == Some((id(1), false)));
     assert!(rt; counted.take(WatcherKind::Idle) == Some((id(0), false)));
-    assert!(rt; counted.take(WatcherKind::Idle) == None);
+    assert!(rt; counted.take(WatcherKind::Idle).is_none());
     Ok(())
 }
 
@@ -282,10 +282,10 @@ fn one_that_is_stopped_is_not_called(rt: HostRuntime) -> Result<(), Fail> {
     counted.begin(WatcherKind::Check);
     assert!(rt; counted.take(WatcherKind::Check) == Some((id(1), false)));
     assert!(rt; counted.stop(id(0)) == Ok(()));
-    assert!(rt; counted.take(WatcherKind::Check) == None);
+    assert!(rt; counted.take(WatcherKind::Check).is_none());
     counted.begin(WatcherKind::Check);
     assert!(rt; counted.take(WatcherKind::Check) == Some((id(1), false)));
-    assert!(rt; counted.take(WatcherKind::Check) == None);
+    assert!(rt; counted.take(WatcherKind::Check).is_none());
     Ok(())
 }
 
@@ -316,7 +316,7 @@ fn a_step_is_taken_back(rt: HostRuntime) -> Result<(), Fail> {
     assert!(rt; counted.seen(id(0)) == listed(4, false));
     assert!(rt; counted.send(id(0)) == Ok(()));
     assert!(rt; counted.begin_and_back(kind) == Some(id(0)));
-    assert!(rt; counted.take_and_back(kind) == None);
+    assert!(rt; counted.take_and_back(kind).is_none());
     counted.begin(kind);
     assert!(rt; counted.take_and_back(kind) == Some((id(0), listed(4, false))));
     assert!(rt; counted.seen(id(0)) == listed(4, true));
@@ -335,7 +335,7 @@ fn sends_coalesce(rt: HostRuntime) -> Result<(), Fail> {
     counted.begin(kind);
     assert!(rt; counted.take(kind) == Some((id(0), false)));
     assert!(rt; counted.take(kind) == Some((id(1), true)));
-    assert!(rt; counted.take(kind) == None);
+    assert!(rt; counted.take(kind).is_none());
     counted.begin(kind);
     assert!(rt; counted.take(kind) == Some((id(0), false)));
     assert!(rt; counted.take(kind) == Some((id(1), false)));

@@ -1,5 +1,8 @@
 //! What the tests are given: jobs, a gate that does nothing, and lines of senders.
 
+ghost use Rattle.std.specs.Bool.{MatchBool};
+ghost use Rattle.uv_live.specs.Course.{AreNamed};
+
 use std::process::Abort;
 use uv_ids::{Fault, Id, Var};
 use uv_live::ThreadLine;
@@ -33,6 +36,13 @@ pub fn line(thread: u8) -> ThreadLine {
         thread,
         name: Var(0),
     }
+}
+
+/// Whether each line has a declared name.
+pub fn are_named(names: u32, lines: &[ThreadLine]) -> bool
+    ensures { MatchBool result (AreNamed names lines.now) (AreNamed names lines.now → ⊥) }
+{
+    lines.iter().all(|line| line.name.0 < names)
 }
 
 pub fn put<T: Drop>(all: &mut Vec<T>, item: T) -> Result<(), Fault> {

@@ -1,8 +1,5 @@
 //! Live runs of scripts on real threads.
-ghost use Rattle.std.specs.Bool.{MatchBool};
-ghost use Rattle.uv_live.specs.Course.{AreNamed};
-
-use crate::given::{Quiet, put};
+use crate::given::{Quiet, are_named, put};
 use std::alloc::Global;
 use std::sync::Wait;
 use std::thread::Threads;
@@ -17,12 +14,6 @@ use uv_script::Script;
 struct Story {
     steps: Vec<Event>,
     trace: Vec<Seen>,
-}
-
-fn are_named(names: u32, lines: &[ThreadLine]) -> bool
-    ensures { MatchBool result (AreNamed names lines.now) (AreNamed names lines.now → ⊥) }
-{
-    lines.iter().all(|line| line.name.0 < names)
 }
 
 /// A line for each of so many senders, to the first name.

@@ -6,6 +6,7 @@ ghost use Rattle.uv_work.specs.Pool.{IsLegal};
 ghost use Rattle.uv_work.specs.declared.event.PoolEvent.TheVariants as event;
 ghost use Rattle.uv_live.specs.Course.{AreNamed, events_of};
 
+use crate::given::are_named;
 use std::alloc::Global;
 use std::sync::ledger::{Blank, Ledger};
 use uv_ids::{Event, Fault, Id, Var, Why};
@@ -78,12 +79,6 @@ pub struct Small<L: Ledger> {
     steps: Vec<Event>,
     refusal: Option<Why>,
     ghost named: { AreNamed script.names script.lines.items },
-}
-
-fn are_named(names: u32, lines: &[ThreadLine]) -> bool
-    ensures { MatchBool result (AreNamed names lines.now) (AreNamed names lines.now → ⊥) }
-{
-    lines.iter().all(|line| line.name.0 < names)
 }
 
 impl<L: Ledger> Small<L> {

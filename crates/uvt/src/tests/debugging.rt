@@ -4,7 +4,7 @@ use super::conversations::Conversation;
 
 pub const DEBUGGING: [Conversation; 4] = [
     Conversation {
-        what: "what was taken back is run again, until another step is done",
+        what: "what was taken back is run again, past a refused step, until another step is done",
         input: "var t\n\
          main init t timer\n\
          main start t 3 0\n\
@@ -13,6 +13,7 @@ pub const DEBUGGING: [Conversation; 4] = [
          loop 4\n\
          back 9\n\
          back 2\n\
+         take 0\n\
          forward 2\n\
          trace\n\
          back 2\n\
@@ -24,6 +25,7 @@ pub const DEBUGGING: [Conversation; 4] = [
          timers\n\
          refused range\n\
          at 2\n\
+         refused nowork\n\
          at 4\n\
          init t timer = 0.0\n\
          start t 3 0 = ok\n\
