@@ -1,5 +1,5 @@
 /* A binary heap of timers in C, for comparison with uv_timer: an array of keys with the place of each timer, on the same keys and
- * the same calls as crates/bench_timer. It has no undo: what a batch of calls changed is set up anew, unmeasured.
+ * the same calls as `bench timers`. It has no undo: what a batch of calls changed is set up anew, unmeasured.
  *
  *   cc -O2 -o /tmp/timers tests/bench/timers.c && /tmp/timers SIZE
  */

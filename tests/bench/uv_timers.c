@@ -1,4 +1,4 @@
-/* libuv's own timers on the keys of crates/bench_timer, for comparison with uv_timer. libuv has no undo: what a batch of calls
+/* libuv's own timers on the keys of `bench timers`, for comparison with uv_timer. libuv has no undo: what a batch of calls
  * changed is set up anew, unmeasured. A fire is one of uv_run's: it takes the least timer off, sets it again with its repeat, and
  * calls an empty callback.
  *

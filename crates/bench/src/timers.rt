@@ -1,357 +1,323 @@
-//! The timer heap beside std's `BinaryHeap`, on the same calls; and what undoes the timer heap's.
-ghost use Rattle.std.specs.Prelude.{◌≡◌, ◌≤◌};
+//! The calls of timers and their undos.
+ghost use Rattle.std.specs.Prelude.{IfOk, IfSome, IfNone};
+ghost use Rattle.bench.specs.Parts.{Goes, IsReady, IsSame};
 
-use crate::figures::{BothWays, Median, ROUNDS, Rounds, early, moment};
+use crate::figures::{BATCH, Row, Total, Watch};
+use crate::parts::{Parts, Token, undo};
 use std::alloc::{AllocError, Global};
-use std::cmp::Reverse;
-use std::collections::BinaryHeap;
 use std::rt::Clock;
-use std::time::Instant;
-use std::{fmt, io};
-use uv_heap::{Entry, TimerHeap};
-use uv_ids::Due;
+use uv_arena::Slots;
+use uv_handle::Handles;
+use uv_heap::TimerHeap;
+use uv_ids::{Id, Kind, Var};
+use uv_records::ListName;
+use uv_timer::{Times, collect_one, fire_one, start, stop};
 
-/// How many calls a round has, at the most.
-const BATCH: u32 = 1000;
+/// How often a batch of calls is made and taken back.
+const ROUNDS: u32 = 200;
 
-/// How far apart the slots are that are taken off one after another.
-const STRIDE: u32 = 7919;
+/// The first one of the row of scattered numbers.
+const FIRST: u64 = 88172645463325252;
 
-/// Std's heap of the same entries, which hands the greatest out first.
-type StdHeap = BinaryHeap<(Reverse<Due>, u32)>;
+/// An id of no timer.
+const NONE: Id = Id {
+    slot: u32::MAX,
+    generation: 0,
+};
 
-/// What each kind of call took.
-#[derive(Clone, Copy, Debug)]
+/// A kind of call.
+#[derive(Clone, Copy)]
+enum Call {
+    Start,
+    Stop,
+    Collect,
+    Fire,
+}
+
+/// What each kind of call took, and its undo; and how many calls a round had.
+#[derive(Clone, Copy)]
 pub struct Figures {
-    repeat: Median,
-    std_repeat: Median,
-    same_timeout: Median,
-    std_same_timeout: Median,
-    restart: Median,
-    push: Median,
-    undo_push: Median,
-    least: Median,
-    undo_least: Median,
-    anywhere: Median,
-    undo_anywhere: Median,
+    pub rows: [Row; 5],
+    pub calls: u32,
 }
 
-impl fmt::Display for Figures {
-    fn fmt<W: fmt::Write>(&self, f: &mut fmt::Formatter<W>) -> fmt::Result {
-        let (own, std) = (self.repeat, self.std_repeat);
-        writeln!(
-            f,
-            "the least is taken off and put in again anywhere: {own}, std {std}"
-        )?;
-        let (own, std) = (self.same_timeout, self.std_same_timeout);
-        writeln!(
-            f,
-            "the least is taken off and put in again last: {own}, std {std}"
-        )?;
-        let own = self.restart;
-        writeln!(f, "any timer is taken off and put in again last: {own}")?;
-        let (own, undo) = (self.push, self.undo_push);
-        writeln!(f, "push {own}, its undo {undo}")?;
-        let (own, undo) = (self.least, self.undo_least);
-        writeln!(f, "removal of the least {own}, its undo {undo}")?;
-        let (own, undo) = (self.anywhere, self.undo_anywhere);
-        write!(f, "removal anywhere {own}, its undo {undo}")
+/// The next number of a row (xorshift).
+fn scattered(number: u64) -> u64 {
+    let a = number ^ (number << 13);
+    let b = a ^ (a >> 7);
+    b ^ (b << 17)
+}
+
+fn start_one(parts: &mut Parts, slots: u32, id: Id, number: u64) -> Option<Token>
+    requires { IsReady parts.old slots }
+    ensures some { IfSome result (λ t. Goes t parts.old parts.new) }
+    ensures none { IfNone result (IsSame parts.old parts.new) }
+{
+    if id.slot >= slots || parts.times.next_start == u64::MAX {
+        return None;
+    }
+    match start(
+        &mut parts.handles,
+        &mut parts.slots,
+        &mut parts.heap,
+        &mut parts.times,
+        id,
+        number % 1_000_000,
+        1000,
+    ) {
+        Err(_) => None,
+        Ok(timer) => Some(Token::Timer(timer)),
     }
 }
 
-/// A due time between 0 and 2^28, by chance, and with ties.
-fn scattered(number: u32) -> Due {
-    let at = u64::from(number.wrapping_mul(2_654_435_761) >> 4);
-    let start = u64::from(number);
-    Due { at, start }
-}
-
-/// A due time after all scattered ones, and after those of lower numbers.
-fn last(number: u32) -> Due {
-    let at = u64::from(number) + 0x1_0000_0000;
-    let start = u64::from(number);
-    Due { at, start }
-}
-
-/// The due time of a timer that is put in again: anywhere among the others, or last.
-fn again(is_last: bool, number: u32) -> Due {
-    if is_last {
-        last(number)
-    } else {
-        scattered(number)
+fn stop_one(parts: &mut Parts, slots: u32, id: Id) -> Option<Token>
+    requires { IsReady parts.old slots }
+    ensures some { IfSome result (λ t. Goes t parts.old parts.new) }
+    ensures none { IfNone result (IsSame parts.old parts.new) }
+{
+    match stop(
+        &mut parts.handles,
+        &mut parts.slots,
+        &mut parts.heap,
+        &mut parts.times,
+        id,
+    ) {
+        Err(_) => None,
+        Ok(timer) => Some(Token::Timer(timer)),
     }
 }
 
-/// A heap with a timer in each slot below `size`.
-fn filled(alloc: Global, size: u32) -> io::Result<TimerHeap> {
-    let mut heap = TimerHeap::new(alloc);
-    for slot in 0..size {
-        heap.reserve(slot).map_err(|_| AllocError)?;
-        if heap.place_of(slot).is_some() {
-            return Err(early());
-        }
-        let due = scattered(slot);
-        let _ = heap.push(Entry { due, slot });
+fn collect(parts: &mut Parts, slots: u32) -> Option<Token>
+    requires { IsReady parts.old slots }
+    ensures some { IfSome result (λ t. Goes t parts.old parts.new) }
+    ensures none { IfNone result (IsSame parts.old parts.new) }
+{
+    match collect_one(
+        &mut parts.handles,
+        &mut parts.slots,
+        &mut parts.heap,
+        &mut parts.times,
+    ) {
+        None => None,
+        Some((_, collected)) => Some(Token::Collected(collected)),
     }
-    Ok(heap)
 }
 
-/// The same entries in std's heap.
-fn std_filled(alloc: Global, size: u32) -> io::Result<StdHeap> {
-    let mut heap = BinaryHeap::new(alloc);
-    for slot in 0..size {
-        heap.push((Reverse(scattered(slot)), slot))
-            .map_err(AllocError::from)?;
+fn fire(parts: &mut Parts, slots: u32) -> Option<Token>
+    requires { IsReady parts.old slots }
+    ensures some { IfSome result (λ t. Goes t parts.old parts.new) }
+    ensures none { IfNone result (IsSame parts.old parts.new) }
+{
+    let front = parts.slots.first(ListName::Ready)?;
+    if front.slot >= slots || parts.times.next_start == u64::MAX {
+        return None;
     }
-    Ok(heap)
+    match fire_one(
+        &mut parts.handles,
+        &mut parts.slots,
+        &mut parts.heap,
+        &mut parts.times,
+    ) {
+        None => None,
+        Some((_, timer)) => Some(Token::Timer(timer)),
+    }
 }
 
-/// Puts a timer in a slot that has none.
-fn put(heap: &mut TimerHeap, due: Due, slot: u32) -> io::Result<()> {
-    heap.reserve(slot).map_err(|_| AllocError)?;
-    if heap.place_of(slot).is_some() {
-        return Err(early());
+/// One call. It takes an id and a number, and the calls of a section need neither.
+fn make_call(parts: &mut Parts, slots: u32, kind: Call, id: Id, number: u64) -> Option<Token>
+    requires { IsReady parts.old slots }
+    ensures some { IfSome result (λ t. Goes t parts.old parts.new) }
+    ensures none { IfNone result (IsSame parts.old parts.new) }
+{
+    match kind {
+        Call::Start => start_one(parts, slots, id, number),
+        Call::Stop => stop_one(parts, slots, id),
+        Call::Collect => collect(parts, slots),
+        Call::Fire => fire(parts, slots),
     }
-    let _ = heap.push(Entry { due, slot });
-    Ok(())
 }
 
-/// Takes the least off and puts it in again, so many times.
-fn repeat(heap: &mut TimerHeap, count: u32, number: u32, is_last: bool) -> io::Result<()> {
-    for i in 0..count {
-        if heap.is_empty() {
-            return Err(early());
-        }
-        let slot = heap.remove_at(0).entry.slot;
-        put(heap, again(is_last, number.wrapping_add(i)), slot)?;
-    }
-    Ok(())
-}
-
-/// The same calls of std's heap.
-fn std_repeat(heap: &mut StdHeap, count: u32, number: u32, is_last: bool) -> io::Result<()> {
-    for i in 0..count {
-        let Some((_, slot)) = heap.pop() else {
-            return Err(early());
-        };
-        heap.push((Reverse(again(is_last, number.wrapping_add(i))), slot))
-            .map_err(AllocError::from)?;
-    }
-    Ok(())
-}
-
-/// Takes the timers of these slots off, one after another, and puts each in again last.
-fn restart(heap: &mut TimerHeap, slots: &[u32], number: u32) -> io::Result<()> {
-    for slot in slots {
-        let Some(place) = heap.place_of(*slot) else {
-            return Err(early());
-        };
-        let _ = heap.remove_at(place);
-        put(heap, last(number), *slot)?;
-    }
-    Ok(())
-}
-
-/// Puts timers into these slots, reads the clock, and takes the pushes back. Answers what the clock read.
-fn push_and_back(
+/// Makes a call for each of these ids, one after another, and takes them back: how many were done.
+fn there_and_back(
     clock: &impl Clock,
-    heap: &mut TimerHeap,
-    slot: u32,
-    end: u32,
-    number: u32,
-) -> io::Result<Instant>
-    ensures array { heap.new.array ≡ heap.old.array }
-    ensures room { heap.old.room ≤ heap.new.room }
+    watch: &mut Watch,
+    parts: &mut Parts,
+    slots: u32,
+    kind: Call,
+    ids: &[Id],
+    number: u64,
+) -> u32
+    requires { IsReady parts.old slots }
+    ensures { IsSame parts.old parts.new }
 {
-    if slot >= end {
-        return moment(clock);
-    }
-    if heap.reserve(slot).is_err() || heap.place_of(slot).is_some() {
-        return Err(early());
-    }
-    let due = scattered(number);
-    let undo = heap.push(Entry { due, slot });
-    let turned = push_and_back(clock, heap, slot + 1, end, number.wrapping_add(1));
-    heap.undo_push(undo);
-    turned
-}
-
-/// Takes the timers of these slots off, reads the clock, and takes the removals back. Answers what the clock read.
-fn remove_and_back(clock: &impl Clock, heap: &mut TimerHeap, slots: &[u32]) -> io::Result<Instant>
-    ensures array { heap.new.array ≡ heap.old.array }
-    ensures room { heap.new.room ≡ heap.old.room }
-{
-    let Some((slot, others)) = slots.split_first() else {
-        return moment(clock);
+    let Some((id, others)) = ids.split_first() else {
+        watch.turn(clock);
+        return 0;
     };
-    match heap.place_of(*slot) {
-        None => Err(early()),
-        Some(place) => {
-            let undo = heap.remove_at(place);
-            let turned = remove_and_back(clock, heap, others);
-            heap.undo_remove(undo);
-            turned
+    match make_call(parts, slots, kind, *id, number) {
+        None => {
+            watch.fail();
+            0
+        }
+        Some(token) => {
+            let next = scattered(number);
+            let calls = there_and_back(clock, watch, parts, slots, kind, others, next);
+            undo(parts, token);
+            calls.saturating_add(1)
         }
     }
 }
 
-/// Takes so many of the least timers off, reads the clock, and takes the removals back. Answers what the clock read.
-fn remove_least_and_back(
+/// The rounds of a kind of call: what they took, and how many calls a round had.
+fn rounds(
     clock: &impl Clock,
-    heap: &mut TimerHeap,
-    count: u32,
-) -> io::Result<Instant>
-    ensures array { heap.new.array ≡ heap.old.array }
-    ensures room { heap.new.room ≡ heap.old.room }
+    watch: &mut Watch,
+    parts: &mut Parts,
+    slots: u32,
+    kind: Call,
+    ids: &[Id],
+) -> (Total, u32)
+    requires { IsReady parts.old slots }
+    ensures { IsReady parts.new slots }
 {
-    if count == 0 {
-        return moment(clock);
+    let mut total = Total::new();
+    let mut calls = 0;
+    'rounds: for _ in 0..ROUNDS {
+        watch.start(clock);
+        calls = there_and_back(clock, watch, parts, slots, kind, ids, FIRST);
+        total.add(watch.end(clock), calls);
     }
-    if heap.is_empty() {
-        return Err(early());
-    }
-    let undo = heap.remove_at(0);
-    let turned = remove_least_and_back(clock, heap, count - 1);
-    heap.undo_remove(undo);
-    turned
+    (total, calls)
 }
 
-/// So many slots below `size`, from one on.
-fn slots_from(alloc: Global, size: u32, first: u32, count: u32) -> Result<Vec<u32>, AllocError> {
-    let mut slots = Vec::new(alloc);
-    let mut slot = first % size.max(1);
-    for _ in 0..count {
-        slots.push(slot)?;
-        slot = slot.wrapping_add(STRIDE) % size.max(1);
+/// Parts with room for so many slots, and nothing in them.
+fn empty(alloc: Global, slots: u32) -> Result<Parts, AllocError>
+    ensures { IfOk result (λ p. IsReady p slots) }
+{
+    let arena = Slots::new(alloc, slots, 9)?;
+    let mut heap = TimerHeap::new(alloc);
+    if heap.reserve(slots).is_err() {
+        return Err(AllocError);
     }
-    Ok(slots)
+    Ok(Parts {
+        slots: arena,
+        handles: Handles::new(),
+        heap,
+        times: Times {
+            time: 0,
+            next_start: 0,
+        },
+    })
 }
 
-/// The median of the two heaps' rounds in which the least is put in again.
-fn compare(
+/// Adds a timer: its id.
+fn add(watch: &mut Watch, parts: &mut Parts, slots: u32) -> Id
+    requires { IsReady parts.old slots }
+    ensures { IsReady parts.new slots }
+{
+    match parts.handles.add(&mut parts.slots, Var(0), Kind::Timer) {
+        Ok((id, _)) => id,
+        Err(_) => {
+            watch.fail();
+            NONE
+        }
+    }
+}
+
+/// Makes a call that isn't taken back.
+fn only_there(watch: &mut Watch, parts: &mut Parts, slots: u32, kind: Call, id: Id, number: u64)
+    requires { IsReady parts.old slots }
+    ensures { IsReady parts.new slots }
+{
+    if make_call(parts, slots, kind, id, number).is_none() {
+        watch.fail();
+    }
+}
+
+/// Adds and sets so many timers: the first ones' ids go into `ids`.
+fn fill_set(watch: &mut Watch, parts: &mut Parts, slots: u32, size: u32, ids: &mut [Id])
+    requires { IsReady parts.old slots }
+    ensures { IsReady parts.new slots }
+{
+    let mut number = FIRST;
+    'fill: for count in 0..size {
+        let id = add(watch, parts, slots);
+        only_there(watch, parts, slots, Call::Start, id, number);
+        if let Some(place) = ids.get_mut(count as usize) {
+            *place = id;
+        }
+        number = scattered(number);
+    }
+}
+
+/// Adds a timer that isn't set for each place of `ids`.
+fn fill_loose(watch: &mut Watch, parts: &mut Parts, slots: u32, ids: &mut [Id])
+    requires { IsReady parts.old slots }
+    ensures { IsReady parts.new slots }
+{
+    'fill: for place in ids.iter_mut() {
+        *place = add(watch, parts, slots);
+    }
+}
+
+/// Once all are due, so many are collected.
+fn make_ready(watch: &mut Watch, parts: &mut Parts, slots: u32, ids: &[Id])
+    requires { IsReady parts.old slots }
+    ensures { IsReady parts.new slots }
+{
+    'ready: for id in ids {
+        only_there(watch, parts, slots, Call::Collect, *id, 0);
+    }
+}
+
+/// All kinds of call, on timers that aren't set and on those that are.
+fn all_rounds(
     clock: &impl Clock,
+    watch: &mut Watch,
+    parts: &mut Parts,
+    slots: u32,
+    loose: &[Id],
+    set: &[Id],
+) -> Figures
+    requires { IsReady parts.old slots }
+{
+    let (start, started) = rounds(clock, watch, parts, slots, Call::Start, loose);
+    let (restart, restarted) = rounds(clock, watch, parts, slots, Call::Start, set);
+    let (stop, stopped) = rounds(clock, watch, parts, slots, Call::Stop, set);
+    parts.times.time = 1_000_000;
+    let (collect, collected) = rounds(clock, watch, parts, slots, Call::Collect, set);
+    make_ready(watch, parts, slots, set);
+    let (fire, fired) = rounds(clock, watch, parts, slots, Call::Fire, set);
+    let calls = started
+        .saturating_add(restarted)
+        .saturating_add(stopped)
+        .saturating_add(collected)
+        .saturating_add(fired);
+    Figures {
+        rows: [
+            start.row("start"),
+            restart.row("restart"),
+            stop.row("stop"),
+            collect.row("collect"),
+            fire.row("fire"),
+        ],
+        calls,
+    }
+}
+
+/// What each call and its undo takes where so many timers are set.
+pub fn measure(
+    clock: &impl Clock,
+    watch: &mut Watch,
     alloc: Global,
     size: u32,
-    is_last: bool,
-) -> io::Result<(Median, Median)> {
-    let count = BATCH.min(size);
-    let mut heap = filled(alloc, size)?;
-    let mut std_heap = std_filled(alloc, size)?;
-    let mut own = Rounds::new(alloc);
-    let mut std = Rounds::new(alloc);
-    let mut number = size;
-    for _ in 0..ROUNDS {
-        let start = moment(clock)?;
-        repeat(&mut heap, count, number, is_last)?;
-        let turned = moment(clock)?;
-        std_repeat(&mut std_heap, count, number, is_last)?;
-        let end = moment(clock)?;
-        own.note(start, turned, count)?;
-        std.note(turned, end, count)?;
-        number = number.wrapping_add(BATCH);
-    }
-    Ok((own.median()?, std.median()?))
-}
-
-/// Changes that are taken back, by kind.
-#[derive(Drop)]
-struct Changes {
-    push: BothWays,
-    least: BothWays,
-    anywhere: BothWays,
-}
-
-/// One round of each kind of change.
-fn change_and_back(
-    clock: &impl Clock,
-    heap: &mut TimerHeap,
-    slots: &[u32],
-    size: u32,
-    count: u32,
-    number: u32,
-    changes: &mut Changes,
-) -> io::Result<()> {
-    let start = moment(clock)?;
-    let turned = push_and_back(clock, heap, size, size.saturating_add(count), number)?;
-    changes.push.note(start, turned, moment(clock)?, count)?;
-
-    let start = moment(clock)?;
-    let turned = remove_least_and_back(clock, heap, count)?;
-    changes.least.note(start, turned, moment(clock)?, count)?;
-
-    let start = moment(clock)?;
-    let turned = remove_and_back(clock, heap, slots)?;
-    changes.anywhere.note(start, turned, moment(clock)?, count)?;
-    Ok(())
-}
-
-/// The rounds of changes and of their undos.
-fn undos(clock: &impl Clock, alloc: Global, size: u32) -> io::Result<Changes> {
-    let count = BATCH.min(size);
-    let mut heap = filled(alloc, size)?;
-    let before = Vec::from_slice(alloc, heap.entries())?;
-    let mut changes = Changes {
-        push: BothWays::new(alloc),
-        least: BothWays::new(alloc),
-        anywhere: BothWays::new(alloc),
-    };
-    let mut number = size;
-    for _ in 0..ROUNDS {
-        let slots = slots_from(alloc, size, number, count)?;
-        change_and_back(
-            clock,
-            &mut heap,
-            slots.as_slice(),
-            size,
-            count,
-            number,
-            &mut changes,
-        )?;
-        number = number.wrapping_add(BATCH);
-    }
-    if heap.entries() != before.as_slice() {
-        return Err(early());
-    }
-    Ok(changes)
-}
-
-/// The median of restarts of any timer.
-fn restarts(clock: &impl Clock, alloc: Global, size: u32) -> io::Result<Median> {
-    let count = BATCH.min(size);
-    let mut heap = filled(alloc, size)?;
-    let mut rounds = Rounds::new(alloc);
-    let mut number = size;
-    for _ in 0..ROUNDS {
-        let slots = slots_from(alloc, size, number, count)?;
-        let start = moment(clock)?;
-        restart(&mut heap, slots.as_slice(), number)?;
-        let end = moment(clock)?;
-        rounds.note(start, end, count)?;
-        number = number.wrapping_add(BATCH);
-    }
-    Ok(rounds.median()?)
-}
-
-/// What the calls take at heaps of so many entries.
-pub fn measure(clock: &impl Clock, alloc: Global, size: u32) -> io::Result<Figures> {
-    let (repeat, std_repeat) = compare(clock, alloc, size, false)?;
-    let (same_timeout, std_same_timeout) = compare(clock, alloc, size, true)?;
-    let restart = restarts(clock, alloc, size)?;
-    let mut changes = undos(clock, alloc, size)?;
-    let (push, undo_push) = changes.push.medians()?;
-    let (least, undo_least) = changes.least.medians()?;
-    let (anywhere, undo_anywhere) = changes.anywhere.medians()?;
-    Ok(Figures {
-        repeat,
-        std_repeat,
-        same_timeout,
-        std_same_timeout,
-        restart,
-        push,
-        undo_push,
-        least,
-        undo_least,
-        anywhere,
-        undo_anywhere,
-    })
+) -> Result<Figures, AllocError> {
+    let batch = BATCH.min(size);
+    let slots = size.saturating_add(batch);
+    let mut set = Vec::from_elem(alloc, NONE, batch as usize)?;
+    let mut loose = Vec::from_elem(alloc, NONE, batch as usize)?;
+    let mut parts = empty(alloc, slots)?;
+    fill_set(watch, &mut parts, slots, size, &mut set);
+    fill_loose(watch, &mut parts, slots, &mut loose);
+    Ok(all_rounds(clock, watch, &mut parts, slots, &loose, &set))
 }

@@ -16,6 +16,3 @@ pub use board::Board;
 pub use rule::tickets_stand;
 pub use seats::{LoopSeat, SenderSeat};
 pub use tickets::Ticket;
-
-#[cfg(test)]
-mod tests;

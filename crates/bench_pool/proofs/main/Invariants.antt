@@ -1,4 +1,0 @@
-use Rattle.bench_pool.proofs.main.Given as goal
-
-abbrev pub ghosts-pooled : goal.ghosts-pooled
-ghosts-pooled g a = record { name = a.blank.name; parts = a.blank.parts }
