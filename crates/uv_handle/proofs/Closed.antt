@@ -27,6 +27,7 @@ module _ {X : Type 0} (read : X → Option HandleRecord) (make : HandleRecord �
   enlist_done i k j n m d h new list u there c p = record {
     there = there;
     handle = ap (option_and_then read) (p.slots.contents d) ∙ c.handle;
+    plain = p.slots.plain ∙ c.set.plain;
     lists = p.lists ∙ ap (λ l. d.slot ∷ l) (c.set.lists list);
     others = λ l ne. p.others l ne ∙ c.set.lists l;
     listed = p.listed;

@@ -9,7 +9,7 @@ use Rattle.uv_records.specs.declared.lists.ListName.{ListName}
 use Rattle.uv_records.specs.declared.lists.ListName.TheVariants.{Closing, ClosingYet}
 use Rattle.uv_records.specs.Handles.{inited, closed}
 use Rattle.uv_records.specs.Refusals.{refusal, close_refusal}
-use Rattle.uv_records.specs.Slots.{freed}
+use Rattle.uv_records.specs.Slots.{freed, with_held}
 use Rattle.uv_records.specs.Walks.{without}
 use Rattle.uv_arena.specs.Image.{members, held, on_list, plain_slots}
 use Rattle.uv_arena.specs.Calls.{IsInserted, IsSet, IsFirst}
@@ -53,6 +53,7 @@ module _ {X : Type 0} (read : X → Option HandleRecord) (make : HandleRecord �
   pub record IsEnlisted (old new : Counted X) (d : Id) (from to : HandleRecord) (list : ListName) (u : ListUndo) : Type 0 where
     pub there : record_at read old.arena d ≡ Some from
     pub handle : record_at read new.arena d ≡ Some to
+    pub plain : plain_slots new.arena ≡ record (plain_slots old.arena) { slots = with_held (plain_slots old.arena).slots d (make to) }
     pub lists : members new.arena list ≡ d.slot ∷ members old.arena list
     pub others : (l : ListName) → l ≢ list → members new.arena l ≡ members old.arena l
     pub listed : on_list new.arena d ≡ true
@@ -66,6 +67,7 @@ module _ {X : Type 0} (read : X → Option HandleRecord) (make : HandleRecord �
   pub record IsDelisted (old new : Counted X) (d : Id) (from to : HandleRecord) (leaves : Bool) (u : DelistUndo) : Type 0 where
     pub there : record_at read old.arena d ≡ Some from
     pub handle : record_at read new.arena d ≡ Some to
+    pub plain : plain_slots new.arena ≡ record (plain_slots old.arena) { slots = with_held (plain_slots old.arena).slots d (make to) }
     pub lists : (l : ListName) → members new.arena l ≡ (if leaves then without eqb (members old.arena l) d.slot else members old.arena l)
     pub loose : leaves ≡ true → on_list new.arena d ≡ false
     pub contents : (e : Id) → e.slot ≢ d.slot → held new.arena e ≡ held old.arena e

@@ -6,6 +6,7 @@ use Rattle.uv_ids.specs.declared.id.Id.{Id}
 use Rattle.uv_ids.specs.declared.code.Code.TheVariants.{Ebusy}
 use Rattle.uv_records.specs.declared.lists.ListName.{ListName}
 use Rattle.uv_records.specs.declared.lists.ListName.TheVariants.{Waiting, Done as Ended, DoneYet as EndedYet}
+use Rattle.uv_records.specs.Slots as plain
 use Rattle.uv_records.specs.Walks.{without as slots_without}
 use Rattle.uv_arena.specs.declared.links.Place.{Place}
 use Rattle.uv_arena.specs.Chains.{IsIn, IsApart}
@@ -164,6 +165,9 @@ module _ {X : Type 0} (read : X → Option Request) (make : Request → X) (give
     rule = cancel_rule before d left waits_was without_was ∙ ap Some pool_now;
     from = from;
     was = there;
+    running = refl;
+    plain = p.slots.plain ∙ put.plain
+        ∙ ap (λ (q : plain.Slots X). (let z : plain.Slots X = record q { slots = plain.with_held q.slots d (make (withdrawn from)) } in z)) un.slots.plain;
     request = request_now read make gives_back a k j d from outcome.Cancelled opened put p;
     waiting = p.others Waiting (λ e. cc) ∙ put.lists Waiting ∙ un.lists Waiting;
     done = done_list;

@@ -130,6 +130,9 @@ module _ {X : Type 0} (read : X → Option Request) (make : Request → X) (give
     from = from;
     was = there;
     job = job;
+    runs = runs;
+    running = refl;
+    plain = p.slots.plain ∙ put.plain;
     request = request_now read make gives_back i k j d from (outcome.Finished digest) opened put p;
     done = done_list;
     listed = p.listed;

@@ -137,7 +137,9 @@ module _ {X : Type 0} (read : X → Option Request) (i j : Image X) (d : Id) (t 
   pub take_done : IsTaken read (working i r) (working j now) k d (record { worker = k; unlinked = t })
   take_done = record {
     rule = take_rule before k d left idle waited ∙ ap Some pool_now;
+    idle = idle;
     first = f;
+    running = refl;
     waiting = waits_now;
     others = others;
     slots = un.slots;

@@ -5,7 +5,7 @@ use Rattle.uv_ids.specs.declared.fault.Why.{Why}
 use Rattle.uv_ids.specs.declared.fault.Why.TheVariants as why
 use Rattle.uv_records.specs.declared.lists.ListName.{ListName}
 use Rattle.uv_records.specs.declared.lists.ListName.TheVariants.{Waiting, Done as Ended, DoneYet as EndedYet}
-use Rattle.uv_records.specs.Slots.{next_free, taken, freed}
+use Rattle.uv_records.specs.Slots.{next_free, taken, freed, with_held}
 use Rattle.uv_records.specs.Walks.{without}
 use Rattle.uv_arena.specs.declared.undo.SpliceUndo.{SpliceUndo}
 use Rattle.uv_arena.specs.Image.{members, held, on_list, plain_slots}
@@ -20,7 +20,7 @@ use Rattle.uv_requests.specs.declared.undo.FinishUndo.{FinishUndo}
 use Rattle.uv_requests.specs.declared.undo.CancelUndo.{CancelUndo}
 use Rattle.uv_requests.specs.declared.undo.CollectUndo.{CollectUndo}
 use Rattle.uv_requests.specs.Working.{Working, request_in, pool_of, IsWork}
-use Rattle.uv_requests.specs.Undo.{queue_undone, take_undone, finish_undone, cancel_undone, begin_undone, collect_undone, CanUndoQueue, CanUndoTake, CanUndoFinish, CanUndoCancel, CanUndoBegin, CanUndoCollect}
+use Rattle.uv_requests.specs.Undo.{with_run, queue_undone, take_undone, finish_undone, cancel_undone, begin_undone, collect_undone, CanUndoQueue, CanUndoTake, CanUndoFinish, CanUndoCancel, CanUndoBegin, CanUndoCollect}
 
 module _ {X : Type 0} (read : X → Option Request) where
   -- why a worker takes nothing: there is no such worker, it runs a request already, or none waits
@@ -48,7 +48,9 @@ module _ {X : Type 0} (read : X → Option Request) where
   -- the front of those that wait is run by the worker
   pub record IsTaken (old new : Working X) (k : ℕ) (d : Id) (u : TakeUndo) : Type 0 where
     pub rule : after_event (pool_of read old) (event.Take k d) ≡ Some (pool_of read new)
+    pub idle : slice_get old.running.workers k ≡ Some None
     pub first : IsFirst old.arena Waiting d
+    pub running : new.running ≡ with_run k (Some d) old.running
     pub waiting : members new.arena Waiting ≡ first.rest
     pub others : (l : ListName) → l ≢ Waiting → members new.arena l ≡ members old.arena l
     pub slots : SameSlots old.arena new.arena
@@ -106,7 +108,11 @@ module _ {X : Type 0} (read : X → Option Request) where
       pub from : Request
       pub was : request_in read old.arena d ≡ Some from
       pub job : job_of d from ≡ asked
+      pub runs : slice_get old.running.workers k ≡ Some (Some d)
+      pub running : new.running ≡ with_run k None old.running
       pub request : request_in read new.arena d ≡ Some (finished digest from)
+      pub plain : plain_slots new.arena
+          ≡ record (plain_slots old.arena) { slots = with_held (plain_slots old.arena).slots d (make (finished digest from)) }
       pub done : members new.arena Ended ≡ members old.arena Ended ++ d.slot ∷ []
       pub listed : on_list new.arena d ≡ true
       pub others : (l : ListName) → l ≢ Ended → members new.arena l ≡ members old.arena l
@@ -121,7 +127,10 @@ module _ {X : Type 0} (read : X → Option Request) where
       pub rule : after_event (pool_of read old) (event.Cancel d) ≡ Some (pool_of read new)
       pub from : Request
       pub was : request_in read old.arena d ≡ Some from
+      pub running : new.running ≡ old.running
       pub request : request_in read new.arena d ≡ Some (cancelled from)
+      pub plain : plain_slots new.arena
+          ≡ record (plain_slots old.arena) { slots = with_held (plain_slots old.arena).slots d (make (cancelled from)) }
       pub waiting : members new.arena Waiting ≡ without eqb (members old.arena Waiting) d.slot
       pub done : members new.arena Ended ≡ members old.arena Ended ++ d.slot ∷ []
       pub listed : on_list new.arena d ≡ true

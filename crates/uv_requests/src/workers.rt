@@ -3,6 +3,7 @@ ghost use Rattle.std.specs.Prelude.{◌≡◌, Option, Some, None, IfOk, IfErr, 
 ghost use Rattle.uv_records.specs.declared.lists.ListName.TheVariants.{Waiting};
 ghost use Rattle.uv_arena.specs.Calls.{IsFirst};
 ghost use Rattle.uv_work.specs.Requests.{job_of};
+ghost use Rattle.uv_work.specs.Work.{Work};
 ghost use Rattle.uv_requests.specs.Working.{working, request_in, IsWork};
 ghost use Rattle.uv_requests.specs.Undo.{take_undone, finish_undone, CanUndoTake, CanUndoFinish};
 ghost use Rattle.uv_requests.specs.Calls.{RefusesTake, RefusesFinish, IsTaken, IsFinished};
@@ -16,6 +17,31 @@ use uv_records::ListName;
 use uv_work::{RequestRecord, WorkResult};
 
 impl Requests {
+    /// What a worker may take: the request that waits longest. Refused as `take` is.
+    pub fn next_work<T: HoldsWork>(
+        &self,
+        slots: &Slots<T>,
+        worker: u16,
+    ) -> Result<(Id, RequestRecord), Why>
+        requires { IsWork T.held_request (working slots.now self.now) }
+        ensures idle { IfOk result (λ r. slice_get self.now.workers worker ≡ Some None) }
+        ensures first { IfOk result (λ r. IsFirst slots.now Waiting r.0) }
+        ensures request { IfOk result (λ r. request_in T.held_request slots.now r.0 ≡ Some r.1) }
+        ensures err { IfErr result (λ why. RefusesTake T.held_request (working slots.now self.now) worker why) }
+    {
+        match self.running(worker) {
+            None => Err(Why::NoWorker),
+            Some(Some(_)) => Err(Why::BusyWorker),
+            Some(None) => match slots.first(ListName::Waiting) {
+                None => Err(Why::NoWork),
+                Some(id) => match request_at(slots, id) {
+                    Err(_) => unreachable!(),
+                    Ok(request) => Ok((id, request)),
+                },
+            },
+        }
+    }
+
     /// A worker takes the request that waits longest. Refused if there is no such worker, if it runs one already, or if none
     /// waits.
     pub fn take<T: HoldsWork>(
@@ -28,13 +54,9 @@ impl Requests {
         ensures err { IfErr result (λ why. RefusesTake T.held_request (working slots.old self.old) worker why
             × (working slots.new self.new ≡ working slots.old self.old)) }
     {
-        match self.running(worker) {
-            None => Err(Why::NoWorker),
-            Some(Some(_)) => Err(Why::BusyWorker),
-            Some(None) => match slots.first(ListName::Waiting) {
-                None => Err(Why::NoWork),
-                Some(id) => Ok(self.start(slots, worker, id)),
-            },
+        match self.next_work(slots, worker) {
+            Err(why) => Err(why),
+            Ok((id, _)) => Ok(self.start(slots, worker, id)),
         }
     }
 
@@ -60,6 +82,27 @@ impl Requests {
         self.set_running(undo.worker, None);
     }
 
+    /// What a worker may finish: the request that it runs. Refused if there is no such worker, or if it runs nothing.
+    pub fn work_of<T: HoldsWork>(
+        &self,
+        slots: &Slots<T>,
+        worker: u16,
+    ) -> Result<(Id, RequestRecord), Why>
+        requires { IsWork T.held_request (working slots.now self.now) }
+        ensures runs { IfOk result (λ r. slice_get self.now.workers worker ≡ Some (Some r.0)) }
+        ensures request { IfOk result (λ r. request_in T.held_request slots.now r.0 ≡ Some r.1) }
+        ensures err { IfErr result (λ why. (job : Work) → RefusesFinish T.held_request (working slots.now self.now) worker job why) }
+    {
+        match self.running(worker) {
+            None => Err(Why::NoWorker),
+            Some(None) => Err(Why::IdleWorker),
+            Some(Some(id)) => match request_at(slots, id) {
+                Err(_) => unreachable!(),
+                Ok(request) => Ok((id, request)),
+            },
+        }
+    }
+
     /// A worker hands in the result of the request that it runs: the slot keeps the digest, and the request is done behind those
     /// that are done already. Refused if there is no such worker, if it runs nothing, or if it runs another job.
     pub fn finish<T: HoldsWork>(
@@ -74,19 +117,15 @@ impl Requests {
         ensures err { IfErr result (λ why. RefusesFinish T.held_request (working slots.old self.old) worker work.job why
             × (working slots.new self.new ≡ working slots.old self.old)) }
     {
-        match self.running(worker) {
-            None => Err(Why::NoWorker),
-            Some(None) => Err(Why::IdleWorker),
-            Some(Some(id)) => match request_at(slots, id) {
-                Err(_) => unreachable!(),
-                Ok(request) => {
-                    if request.job(id).is(work.job()) {
-                        Ok(self.end(slots, worker, id, request, work))
-                    } else {
-                        Err(Why::NoWork)
-                    }
+        match self.work_of(slots, worker) {
+            Err(why) => Err(why),
+            Ok((id, request)) => {
+                if request.job(id).is(work.job()) {
+                    Ok(self.end(slots, worker, id, request, work))
+                } else {
+                    Err(Why::NoWork)
                 }
-            },
+            }
         }
     }
 
