@@ -24,11 +24,16 @@ LIMITS = [
     ('4096 names', lines(4096, lambda number: b'var n%d\n' % number), None),
     ('4097 names', lines(4097, lambda number: b'var n%d\n' % number), 4097),
     ('65535 lines, and some that do not count', lines(65535, lambda number: b'main run once\n') + b'\n# none\nslots 9\nworkers 9\n', None),
+    ('65535 lines, many of them of threads',
+     b'var a\n' + lines(65534, lambda number: b'thread %d send a\n' % (number % 64)) + b'workers 9\n', None),
+    ('65536 lines, many of them of threads',
+     b'var a\n' + lines(65534, lambda number: b'thread %d send a\n' % (number % 64)) + b'workers 9\nthread 0 send a\n', 65537),
     ('65536 lines, and some that do not count',
      lines(65535, lambda number: b'main run once\n') + b'\n# none\nslots 9\nworkers 9\nmain run once\n', 65540),
 ]
 
-# A script, and its text: workers, slots, names, the main program, and of each name its `on`, `after` and `closed` lines.
+# A script, and its text: workers, slots, names, the main program, of each name its `on`, `after` and `closed` lines, and the
+# `thread` lines as they came.
 TEXTS = [
     (b'', b'workers 4\nslots 1024 4294967295\n'),
     (b'slots 7\nvar a\nworkers 2\nmain run default', b'workers 2\nslots 7 4294967295\nvar a\nmain run default\n'),
@@ -65,6 +70,11 @@ TEXTS = [
      b'main queue v 2 a  b \nmain queue v 3  \n'
      b'main queue w 7 # 3456789 123456789 123456789 123456789 123456789 1234567890123~\nmain cancel w\n'
      b'on w stop w\nafter w queue v 1 on\nafter w @2 cancel v\nafter w cancel w\nclosed w stop v\n'),
+    # lines of threads stay in the order in which they came, and say the same twice
+    (b'var b\nthread 63 send b\nvar a\nthread 0 send a\nmain init a async\nthread 0 send b\non a close a\nthread 63 send b\n'
+     b'# a comment\nthread 9 send a\nworkers 3',
+     b'workers 3\nslots 1024 4294967295\nvar b\nvar a\nmain init a async\non a close a\nthread 63 send b\nthread 0 send a\n'
+     b'thread 0 send b\nthread 63 send b\nthread 9 send a\n'),
 ]
 
 

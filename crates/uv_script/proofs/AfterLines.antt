@@ -10,7 +10,7 @@ use Rattle.std.proofs.lemmas.Option.{same_Some, cond_some, none-some, slice_get_
 use Rattle.uv_ids.specs.declared.fault.Fault.{Fault}
 use Rattle.uv_ids.specs.declared.fault.Fault.TheVariants as fault
 use Rattle.uv_ids.specs.declared.seen.Callback.TheVariants as callback
-use Rattle.uv_script.specs.Grammar.{Statement, Declares, InMain, InCallback, Sizes, HasWorkers, Says, declares, in_main, runs, closes_loop, in_callback, in_call, sizes, sizes_to, has_workers, HasRoom, with_statement, Reads, skips, says, ReadsAll, none, one, blank, WasRead, IsBadLine, Parses}
+use Rattle.uv_script.specs.Grammar.{Statement, Declares, InMain, InCallback, Sizes, HasWorkers, InThread, Says, declares, in_main, runs, closes_loop, in_callback, in_call, sizes, sizes_to, has_workers, in_thread, HasRoom, with_statement, Reads, skips, says, ReadsAll, none, one, blank, WasRead, IsBadLine, Parses}
 use Rattle.uv_script.specs.Lines.{lines_of, fields_of}
 use Rattle.uv_script.specs.Program.{Program, line_count}
 use Rattle.uv_script.specs.Reading.{statement_of, has_room, IsSound, IsSaid, after_line, ReadsLine}
@@ -30,6 +30,7 @@ room_sound p (InMain op) e = ltb-true (line_count p) 65535 e
 room_sound p (InCallback kind v line) e = ltb-true (line_count p) 65535 e
 room_sound p (Sizes size) e = unsaid p.size e
 room_sound p (HasWorkers n) e = unsaid p.workers e
+room_sound p (InThread line) e = ltb-true (line_count p) 65535 e
 
 room_complete : (p : Program) (s : Statement) → HasRoom p s → has_room p s ≡ true
 room_complete p (Declares name) h = and_from (nat_lt (line_count p) 65535) (nat_lt (length p.names) 4096) (lt-ltb (line_count p) 65535 h.0)
@@ -38,6 +39,7 @@ room_complete p (InMain op) h = lt-ltb (line_count p) 65535 h
 room_complete p (InCallback kind v line) h = lt-ltb (line_count p) 65535 h
 room_complete p (Sizes size) h = ap is_none h
 room_complete p (HasWorkers n) h = ap is_none h
+room_complete p (InThread line) h = lt-ltb (line_count p) 65535 h
 
 -- what a line says can be added
 pub says_sound : (p : Program) (fields : List (List ℕ)) (s : Statement) → Says p.names fields s → IsSound p s
@@ -50,6 +52,10 @@ says_sound p fields s (in_call kind name v number k rest op e declared is first 
 says_sound p fields s (sizes slots n e is fits) = fits
 says_sound p fields s (sizes_to slots last n g e is fits last_is small) = fits
 says_sound p fields s (has_workers number n e is fits) = fits
+says_sound p fields s (in_thread number k name v e is few declared) = record {
+  thread = few;
+  declared = slice_get_within p.names v.0 name declared;
+}
 
 -- a line begins as its first field does
 onto_begins : (c b : ℕ) (word : List ℕ) (parts rest : List (List ℕ)) → onto_first c parts ≡ (b ∷ word) ∷ rest → c ≡ b
@@ -83,6 +89,7 @@ says_no_skip names line s (in_call callback.Close name v number k rest op e decl
 says_no_skip names line s (sizes slots n e is fits) = line_begins line _ _ _ e
 says_no_skip names line s (sizes_to slots last n g e is fits last_is small) = line_begins line _ _ _ e
 says_no_skip names line s (has_workers number n e is fits) = line_begins line _ _ _ e
+says_no_skip names line s (in_thread number k name v e is few declared) = line_begins line _ _ _ e
 
 -- a choice that gave something
 chosen : {A : Type 0} (b : Bool) (x : Option A) (y : A) → cond b x None ≡ Some y → (b ≡ true) × (x ≡ Some y)
@@ -126,6 +133,7 @@ distinct_push p (InMain op) distinct sound = distinct
 distinct_push p (InCallback kind v line) distinct sound = distinct
 distinct_push p (Sizes size) distinct sound = distinct
 distinct_push p (HasWorkers n) distinct sound = distinct
+distinct_push p (InThread line) distinct sound = distinct
 
 pub distinct_reads : (p q : Program) (line : List ℕ) → AreDistinct p.names → Reads p line q → AreDistinct q.names
 distinct_reads p q line distinct (skips is skipped) = distinct

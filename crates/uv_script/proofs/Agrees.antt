@@ -13,8 +13,8 @@ use Rattle.uv_ids.specs.Words.{kind_word, mode_word}
 use Rattle.uv_script.specs.declared.op.Op.{Op}
 use Rattle.uv_script.specs.declared.op.Op.TheVariants as op
 use Rattle.uv_script.specs.declared.op.MainOp.TheVariants as main
-use Rattle.uv_script.specs.Grammar.{Statement, Declares, InMain, InCallback, Sizes, HasWorkers, named_word, bare_word, IsOp, init, start, repeat, queue, queue_text, on_name, bare, callback_word, Says, declares, in_main, runs, closes_loop, in_callback, in_call, sizes, sizes_to, has_workers}
-use Rattle.uv_script.specs.Reading.{first_of, none_left, place_of, kind_of, mode_of, init_of, timer_start_of, start_by, start_of, repeat_of, filled, text_by, queue_of, bare_op, named_op, name_alone, short_op_of, op_of, declaration_of, run_of, close_loop_of, main_by, main_of, call_of, marked, in_calls_of, in_call_of, calls_of, callback_of, last_of, size_of, workers_of, setting_of, statement_of}
+use Rattle.uv_script.specs.Grammar.{Statement, Declares, InMain, InCallback, Sizes, HasWorkers, InThread, named_word, bare_word, IsOp, init, start, repeat, queue, queue_text, on_name, bare, callback_word, Says, declares, in_main, runs, closes_loop, in_callback, in_call, sizes, sizes_to, has_workers, in_thread}
+use Rattle.uv_script.specs.Reading.{first_of, none_left, place_of, kind_of, mode_of, init_of, timer_start_of, start_by, start_of, repeat_of, filled, text_by, queue_of, bare_op, named_op, name_alone, short_op_of, op_of, declaration_of, run_of, close_loop_of, main_by, main_of, call_of, marked, in_calls_of, in_call_of, calls_of, callback_of, last_of, size_of, workers_of, sender_of, thread_of, setting_of, statement_of}
 use Rattle.uv_script.specs.declared.task.Task.{Task}
 use Rattle.uv_script.specs.Lines.{rest_of}
 use Rattle.uv_script.specs.TaskReading.{task_of}
@@ -373,7 +373,33 @@ says_word : (names : List (List ℕ)) (this word : List ℕ) (fields : List (Lis
     Says names (word ∷ fields) s
 says_word names this word fields s e is = subst (λ (w : List ℕ). Says names (w ∷ fields) s) (sym e) is
 
-setting_sound : (names : List (List ℕ)) (word : List ℕ) (fields : List (List ℕ)) (s : Statement) → setting_of word fields ≡ Some s →
+-- a thread's line, from the name that it sends on
+sender_sound : (names : List (List ℕ)) (number : List ℕ) (k : ℕ) (fields : List (List ℕ)) (s : Statement) → IsNumber number k →
+    sender_of names k fields ≡ Some s → Says names (codes "thread" ∷ number ∷ codes "send" ∷ fields) s
+unfolding sender_of
+sender_sound names number k fields s is e =
+    let v = bound _ (name_alone names fields) s e in
+    let name = name_alone_sound names fields v.0 v.1 in
+    let p = cond_some (nat_lt k 64) (InThread (record { thread = k; name = v.0 })) s v.2 in
+    subst (Says names (codes "thread" ∷ number ∷ codes "send" ∷ fields)) p.1
+    (in_thread number k name.name v.0 (ap (λ r. codes "thread" ∷ number ∷ codes "send" ∷ r) name.alone) is (ltb-true k 64 p.0) name.declared)
+
+thread_sound : (names fields : List (List ℕ)) (s : Statement) → thread_of names fields ≡ Some s → Says names (codes "thread" ∷ fields) s
+unfolding thread_of
+thread_sound names fields s e =
+    let number = bound _ (first_of fields) s e in
+    let k = bound _ (number_of number.0.0) s number.2 in
+    let word = bound _ (first_of number.0.1) s k.2 in
+    let a = first_is fields number.0 number.1 in
+    let b = first_is number.0.1 word.0 word.1 in
+    subst (λ (r : List (List ℕ)). Says names (codes "thread" ∷ r) s) (sym (a ∙ ap (λ r. number.0.0 ∷ r) b))
+    (elim (choice_cases word.0.0 (codes "send") _ _ (Some s) word.2) [
+      | inl is ↦ subst (λ (w : List ℕ). Says names (codes "thread" ∷ number.0.0 ∷ w ∷ word.0.1) s) (sym is.0)
+          (sender_sound names number.0.0 k.0 word.0.1 s (number_of-sound number.0.0 k.0 k.1) is.1)
+      | inr wrong ↦ cc
+    ])
+
+setting_sound : (names : List (List ℕ)) (word : List ℕ) (fields : List (List ℕ)) (s : Statement) → setting_of names word fields ≡ Some s →
     Says names (word ∷ fields) s
 unfolding setting_of
 setting_sound names word fields s e =
@@ -381,7 +407,10 @@ setting_sound names word fields s e =
       | inl is ↦ says_word names (codes "slots") word fields s is.0 (size_sound names fields s is.1)
       | inr last ↦ elim (choice_cases word (codes "workers") _ _ (Some s) last) [
         | inl is ↦ says_word names (codes "workers") word fields s is.0 (workers_sound names fields s is.1)
-        | inr wrong ↦ cc
+        | inr thread ↦ elim (choice_cases word (codes "thread") _ _ (Some s) thread) [
+          | inl is ↦ says_word names (codes "thread") word fields s is.0 (thread_sound names fields s is.1)
+          | inr wrong ↦ cc
+        ]
       ]
     ]
 
@@ -630,6 +659,13 @@ workers_complete number n is fits =
     rw (number_of-complete number n is)
     (ap (λ b. cond b (Some (HasWorkers n)) None) (and_from (nat_le 1 n) (nat_le n 1024) (le-leb 1 n fits.0) (le-leb n 1024 fits.1)))
 
+thread_complete : (names : List (List ℕ)) (number : List ℕ) (k : ℕ) (name : List ℕ) (v : Var) → AreDistinct names → IsNumber number k → k < 64 →
+    IsDeclared names name v → thread_of names (number ∷ codes "send" ∷ name ∷ []) ≡ Some (InThread (record { thread = k; name = v }))
+unfolding thread_of sender_of name_alone
+thread_complete names number k name v distinct is few declared =
+    rw (number_of-complete number k is, place_complete names name v distinct declared)
+    (ap (λ b. cond b (Some (InThread (record { thread = k; name = v }))) None) (lt-ltb k 64 few))
+
 -- a callback's line, by its word
 by_word : (names : List (List ℕ)) (kind : Callback) (fields : List (List ℕ))
     → statement_of names (callback_word kind ∷ fields) ≡ callback_of names kind fields
@@ -657,3 +693,5 @@ statement_complete names fields s distinct (sizes slots n e is fits) =
 statement_complete names fields s distinct (sizes_to slots last n g e is fits last_is small) =
     ap (statement_of names) e ∙ size_complete slots (last ∷ []) n g is fits (last_complete last g last_is small)
 statement_complete names fields s distinct (has_workers number n e is fits) = ap (statement_of names) e ∙ workers_complete number n is fits
+statement_complete names fields s distinct (in_thread number k name v e is few declared) =
+    ap (statement_of names) e ∙ thread_complete names number k name v distinct is few declared

@@ -1,11 +1,12 @@
 -- What the type of scripts keeps.
-use Rattle.std.proofs.Common.{◌≡◌, ℕ, ◌+◌, ◌<◌, [], ◌∷◌, length, sym, ap, ◌∙◌, subst, refl, arith, length-append}
+use Rattle.std.proofs.Common.{◌≡◌, ℕ, ◌+◌, ◌<◌, [], ◌∷◌, length, All, sym, ap, ◌∙◌, subst, refl, arith, length-append}
+use Rattle.std.proofs.lemmas.List.Elements.{Contains-get_or}
 use Rattle.std.proofs.lemmas.List.Sums.{sum_by_push, sum_by-set}
 use Rattle.std.proofs.lemmas.Option.{unwrap_or-slice_get}
-use Rattle.uv_script.specs.Grammar.{Statement, Declares, InMain, InCallback, Sizes, HasWorkers, HasRoom, with_statement, WasRead, IsReadScript, blank}
-use Rattle.uv_script.specs.Program.{Program, no_callbacks, callbacks_of, with_line, callback_count, line_count, IsWhole}
+use Rattle.uv_script.specs.Grammar.{Statement, Declares, InMain, InCallback, Sizes, HasWorkers, InThread, HasRoom, with_statement, WasRead, IsReadScript, blank}
+use Rattle.uv_script.specs.Program.{Program, no_callbacks, callbacks_of, with_line, callback_count, line_count, IsThreadLine, IsWhole}
 use Rattle.uv_script.specs.Reading.{IsSound, IsSaid}
-use Rattle.uv_script.proofs.AfterLines.{said_sound, read_more, read_none}
+use Rattle.uv_script.proofs.AfterLines.{says_sound, said_sound, read_more, read_none}
 use Rattle.uv_script.proofs.ReadBack.{workers_fit, size_fits}
 use Rattle.uv_script.proofs.Written.{AreWritten, count_more, script_written}
 
@@ -13,7 +14,15 @@ use Rattle.uv_script.proofs.Written.{AreWritten, count_more, script_written}
 pub whole : (p : Program) → WasRead p → IsWhole p
 whole p read =
     let is = script_written p read.lines read.read in
-    record { callbacks = is.each; few = is.few; slots = (size_fits p.size is.size).slots; workers = workers_fit p.workers is.workers }
+    let threads : All (IsThreadLine (length p.names)) p.threads = λ k d within.
+    says_sound p _ _ (is.threads _ (Contains-get_or p.threads k d within)).says in
+    record {
+      callbacks = is.each;
+      few = is.few;
+      slots = (size_fits p.size is.size).slots;
+      workers = workers_fit p.workers is.workers;
+      threads = threads;
+    }
 
 -- how many lines count more
 abbrev pub added : Statement → ℕ
@@ -22,6 +31,7 @@ added (InMain o) = 1
 added (InCallback kind v line) = 1
 added (Sizes size) = 0
 added (HasWorkers n) = 0
+added (InThread line) = 1
 
 count_statement : (p : Program) (s : Statement) → AreWritten p → IsSound p s → line_count (with_statement p s) ≡ line_count p + added s
 count_statement p (Declares name) is sound =
@@ -35,6 +45,7 @@ count_statement p (InCallback kind v line) is sound =
     omega (arith, sum, here, count_more kind c line)
 count_statement p (Sizes size) is sound = omega arith
 count_statement p (HasWorkers n) is sound = omega arith
+count_statement p (InThread line) is sound = omega (arith, length-append p.threads (line ∷ []))
 
 -- one more line
 more : (lines n : ℕ) (p q : Program) (s : Statement) → IsReadScript lines p → IsSaid p s → HasRoom p s → with_statement p s ≡ q →

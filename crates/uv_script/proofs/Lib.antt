@@ -15,3 +15,4 @@ pub mod Texts
 pub mod Written
 pub mod ReadBack
 pub mod Kept
+pub mod Workers

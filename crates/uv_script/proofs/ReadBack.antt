@@ -21,11 +21,12 @@ use Rattle.uv_ids.specs.declared.seen.Callback.TheVariants as callback
 use Rattle.uv_script.specs.declared.op.MainOp.{MainOp}
 use Rattle.uv_script.specs.declared.op.CallbackLine.{CallbackLine}
 use Rattle.uv_script.specs.declared.size.ArenaSize.{ArenaSize}
-use Rattle.uv_script.specs.Grammar.{Declares, InMain, InCallback, Sizes, HasWorkers, declares, sizes_to, has_workers, Reads, skips, says, ReadsAll, none, one, blank, WasRead, IsScript, Parses}
+use Rattle.uv_script.specs.declared.thread.ThreadLine.{ThreadLine}
+use Rattle.uv_script.specs.Grammar.{Declares, InMain, InCallback, Sizes, HasWorkers, InThread, declares, sizes_to, has_workers, Reads, skips, says, ReadsAll, none, one, blank, WasRead, IsScript, Parses}
 use Rattle.uv_script.specs.Laws.{IsBack, IsReadBack}
 use Rattle.uv_script.specs.Lines.{lines_of, fields_of, IsLine}
 use Rattle.uv_script.specs.Program.{Program, Callbacks, no_callbacks, callbacks_of, lines_of as lines_in_callbacks, with_line, callback_count, line_count, arena_size, worker_count, DEFAULT_SIZE, DEFAULT_WORKERS, IsWorkerCount}
-use Rattle.uv_script.specs.Text.{workers_line, slots_line, var_line, main_line, callback_line, name_lines, callback_lines, script_lines, lines_text, script_text, said_whole}
+use Rattle.uv_script.specs.Text.{workers_line, slots_line, var_line, main_line, callback_line, name_lines, callback_lines, thread_line, script_lines, lines_text, script_text, said_whole}
 use Rattle.uv_script.specs.Words.{IsLetter, IsDigit, IsName, IsNumber}
 use Rattle.uv_script.proofs.Agrees.{AreDistinct}
 use Rattle.uv_script.proofs.Checks.{within}
@@ -75,7 +76,7 @@ pub is_number : (n : ℕ) → n < 2 ^ 64 → IsNumber (decimal n) n
 is_number n h = record { is = refl; fits = h }
 
 -- the number of workers, and the size of the arena
-workers_read : (p : Program) (n : ℕ) → IsWorkerCount n → p.workers ≡ None → Reads p (workers_line n) (record p { workers = Some n })
+pub workers_read : (p : Program) (n : ℕ) → IsWorkerCount n → p.workers ≡ None → Reads p (workers_line n) (record p { workers = Some n })
 workers_read p n fits unsaid =
     let small : n < 2 ^ 64 = omega (arith, fits.1) in
     let line : IsLine (workers_line n) = record {
@@ -138,7 +139,7 @@ blanks_same (x ∷ xs) (y ∷ ys) e = ap (λ cs. no_callbacks ∷ cs) (blanks_sa
 
 -- the script of these names alone
 abbrev declared : Option ArenaSize → Option ℕ → List (List ℕ) → Program
-declared size workers names = record { names = names; main = []; callbacks = blanks names; size = size; workers = workers }
+declared size workers names = record { names = names; main = []; callbacks = blanks names; size = size; workers = workers; threads = [] }
 
 pub name_unspaced : (name : List ℕ) → IsName name → AreNot 32 name
 name_unspaced name is = subst (AreNot 32) (sym is.is) (by is.first is.rest is.letter is.others)
@@ -192,9 +193,22 @@ main_read p (o ∷ ops) each few =
     subst (λ (m : List MainOp). ReadsAll p (map (main_line p.names) (o ∷ ops)) (record p { main = m })) (append_assoc p.main (o ∷ []) ops)
     (one first rest)
 
--- the lines of callbacks, in a script that says how large its arena is and how many workers it has
+-- what threads send
+threads_read : (p : Program) (lines : List ThreadLine) → ((line : ThreadLine) → Contains lines line → IsWritten p.names (InThread line)) →
+    line_count p + length lines ≤ 65535 → ReadsAll p (map (thread_line p.names) lines) (record p { threads = p.threads ++ lines })
+threads_read p [] each few = subst (λ (ls : List ThreadLine). ReadsAll p [] (record p { threads = ls })) (sym (append-nil p.threads)) none
+threads_read p (line ∷ lines) each few =
+    let here = each line (contains_first line lines) in
+    let first : Reads p (thread_line p.names line) (record p { threads = p.threads ++ line ∷ [] }) =
+    says (InThread line) here.line here.says (omega (arith, few)) in
+    let rest = threads_read (record p { threads = p.threads ++ line ∷ [] }) lines (λ x h. each x (contains_later line x lines h))
+    (omega (arith, length-append p.threads (line ∷ []), few)) in
+    subst (λ (ls : List ThreadLine). ReadsAll p (map (thread_line p.names) (line ∷ lines)) (record p { threads = ls }))
+    (append_assoc p.threads (line ∷ []) lines) (one first rest)
+
+-- the lines of callbacks, in a script that says how large its arena is and how many workers it has, before any line of a thread
 abbrev with_callbacks : Program → List Callbacks → Program
-with_callbacks p cs = record p { callbacks = cs; size = Some (arena_size p); workers = Some (worker_count p) }
+with_callbacks p cs = record p { callbacks = cs; size = Some (arena_size p); workers = Some (worker_count p); threads = [] }
 
 with_lines : Callback → Callbacks → List CallbackLine → Callbacks
 with_lines callback.Handle c lines = record c { handle = c.handle ++ lines }
@@ -345,11 +359,14 @@ lines_read_back p is =
     let few = is.few in
     let names = names_read (Some size) (Some n) [] p.names is.names is.distinct (omega (arith, is.few_names)) in
     let main = main_read named p.main is.main (omega (arith, blanks_sum p.names)) in
+    let all = with_callbacks p p.callbacks in
     let callbacks = subst
-    (λ (cs : List Callbacks). ReadsAll (with_callbacks p cs) (callback_lines p 0 p.names) (said_whole p)) (blanks_same p.callbacks p.names is.each)
+    (λ (cs : List Callbacks). ReadsAll (with_callbacks p cs) (callback_lines p 0 p.names) all) (blanks_same p.callbacks p.names is.each)
     (callbacks_read p [] p.callbacks p.names refl (sym is.each) is) in
+    let threads = threads_read all p.threads is.threads (omega (arith, few)) in
     let front = reads_on (declared (Some size) (Some n) []) named (with_callbacks p (blanks p.names)) _ _ names main in
-    let rest = reads_on (declared (Some size) (Some n) []) (with_callbacks p (blanks p.names)) (said_whole p) _ _ front callbacks in
+    let middle = reads_on (declared (Some size) (Some n) []) (with_callbacks p (blanks p.names)) all _ _ front callbacks in
+    let rest = reads_on (declared (Some size) (Some n) []) all (said_whole p) _ _ middle threads in
     one workers (one slots rest)
 
 read_back : (p : Program) (lines : List (List ℕ)) → ReadsAll blank lines p → IsScript (script_text p) (said_whole p)
@@ -367,14 +384,14 @@ lines_alike p n (name ∷ names) = ap (λ lines. name_lines p (record { 0 = n })
 text_alike : (p : Program) → script_text p ≡ script_text (said_whole p)
 unfolding script_text
 text_alike p = ap (λ lines. lines_text (workers_line (worker_count p) ∷ slots_line (arena_size p) ∷
-    map var_line p.names ++ map (main_line p.names) p.main ++ lines)) (lines_alike p 0 p.names)
+    map var_line p.names ++ map (main_line p.names) p.main ++ lines ++ map (thread_line p.names) p.threads)) (lines_alike p 0 p.names)
 
 pub back : (p : Program) → WasRead p → IsReadBack p
 back p was =
     let is = read_back p was.lines was.read in
     record {
       script = is;
-      alike = record { names = refl; main = refl; lines = λ kind v. refl; size = refl; workers = refl; text = text_alike p };
+      alike = record { names = refl; main = refl; lines = λ kind v. refl; size = refl; workers = refl; threads = refl; text = text_alike p };
       answer = answered is;
     }
   where

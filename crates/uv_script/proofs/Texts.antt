@@ -4,7 +4,7 @@ use Rattle.std.specs.Prelude.{codes}
 use Rattle.std.proofs.Math.Seq.{drop-length, drop-cons}
 use Rattle.std.proofs.lemmas.Option.{slice_get-get_or}
 use Rattle.uv_script.specs.Program.{Program, arena_size, worker_count}
-use Rattle.uv_script.specs.Text.{text_or_none, name_text, workers_line, slots_line, var_line, main_line, name_lines, callback_lines, lines_text, script_text}
+use Rattle.uv_script.specs.Text.{text_or_none, name_text, workers_line, slots_line, var_line, main_line, name_lines, callback_lines, thread_line, lines_text, script_text}
 
 pub lines_text-append : (xs ys : List (List ℕ)) → lines_text (xs ++ ys) ≡ lines_text xs ++ lines_text ys
 lines_text-append [] ys = refl
@@ -79,11 +79,16 @@ callbacks_end p start text all =
 -- the texts of a script's parts
 pub whole_text : (p : Program) →
     [] ++ lines_text (workers_line (worker_count p) ∷ slots_line (arena_size p) ∷ []) ++ lines_text (map var_line p.names)
-    ++ lines_text (map (main_line p.names) p.main) ++ lines_text (callback_lines p 0 p.names) ≡ script_text p
+    ++ lines_text (map (main_line p.names) p.main) ++ lines_text (callback_lines p 0 p.names) ++ lines_text (map (thread_line p.names) p.threads)
+    ≡ script_text p
 unfolding script_text
 whole_text p =
     let settings = workers_line (worker_count p) ∷ slots_line (arena_size p) ∷ [] in
     let names = map var_line p.names in
     let main = map (main_line p.names) p.main in
     let callbacks = callback_lines p 0 p.names in
-    three_lists (lines_text settings) names main callbacks ∙ sym (lines_text-append settings (names ++ main ++ callbacks))
+    let threads = map (thread_line p.names) p.threads in
+    ap (λ t. t ++ lines_text threads) (three_lists (lines_text settings) names main callbacks)
+    ∙ append_assoc (lines_text settings) (lines_text (names ++ main ++ callbacks)) (lines_text threads)
+    ∙ ap (λ t. lines_text settings ++ t) (sym (lines_text-append (names ++ main ++ callbacks) threads))
+    ∙ sym (lines_text-append settings (names ++ main ++ callbacks ++ threads))

@@ -12,7 +12,8 @@ use Rattle.uv_ids.specs.declared.seen.Callback.TheVariants as callback
 use Rattle.uv_script.specs.declared.op.MainOp.{MainOp}
 use Rattle.uv_script.specs.declared.op.CallbackLine.{CallbackLine}
 use Rattle.uv_script.specs.declared.size.ArenaSize.{ArenaSize}
-use Rattle.uv_script.specs.Grammar.{Statement, Declares, InMain, InCallback, Sizes, HasWorkers, Says, declares, in_main, runs, closes_loop, in_callback, in_call, sizes, sizes_to, has_workers, HasRoom, with_statement, Reads, skips, says, ReadsAll, none, one, blank}
+use Rattle.uv_script.specs.declared.thread.ThreadLine.{ThreadLine}
+use Rattle.uv_script.specs.Grammar.{Statement, Declares, InMain, InCallback, Sizes, HasWorkers, InThread, Says, declares, in_main, runs, closes_loop, in_callback, in_call, sizes, sizes_to, has_workers, in_thread, HasRoom, with_statement, Reads, skips, says, ReadsAll, none, one, blank}
 use Rattle.uv_script.specs.Lines.{fields_of, IsLine}
 use Rattle.uv_script.specs.Program.{Program, Callbacks, no_callbacks, callbacks_of, lines_of, with_line, lines_in, callback_count, line_count, IsSlotCount, IsWorkerCount}
 use Rattle.uv_script.specs.Reading.{IsSound}
@@ -42,6 +43,7 @@ pub record AreWritten (p : Program) : Type 0 where
   pub few : line_count p ≤ 65535
   pub size : (size : ArenaSize) → p.size ≡ Some size → IsSize size
   pub workers : (n : ℕ) → p.workers ≡ Some n → IsWorkerCount n
+  pub threads : (line : ThreadLine) → Contains p.threads line → IsWritten p.names (InThread line)
 
 written : (names : List (List ℕ)) (line : List ℕ) (s : Statement) → IsKept s → IsLine line → Says names (fields_of line) s → IsWritten names s
 written names line s kept is said =
@@ -82,6 +84,7 @@ says_last names fields s (in_call kind name v number k rest o e declared is firs
 says_last names fields s (sizes slots n e is fits) = omega arith
 says_last names fields s (sizes_to slots last n g e is fits last_is small) = small
 says_last names fields s (has_workers number n e is fits) = tt
+says_last names fields s (in_thread number k name v e is few declared) = tt
 
 -- a line of a callback to which one was added is the added one, or was there
 line_there : (kind added : Callback) (c : Callbacks) (line more : CallbackLine) → Contains (lines_of kind (with_line added c more)) line →
@@ -131,6 +134,7 @@ module _ (p : Program) (is : AreWritten p) where
     few = omega (arith, length-append p.names (name ∷ []), sum_by_push callback_count p.callbacks no_callbacks, room.0);
     size = is.size;
     workers = is.workers;
+    threads = λ line h. written_more p.names (name ∷ []) (InThread line) tt tt (is.threads line h);
   }
 
   after_main : (o : MainOp) → IsWritten p.names (InMain o) → HasRoom p (InMain o) → AreWritten (with_statement p (InMain o))
@@ -147,6 +151,7 @@ module _ (p : Program) (is : AreWritten p) where
     few = omega (arith, length-append p.main (o ∷ []), room);
     size = is.size;
     workers = is.workers;
+    threads = is.threads;
   }
 
   -- the callbacks of a name, where those of this one were changed
@@ -199,7 +204,25 @@ module _ (p : Program) (is : AreWritten p) where
         few = omega (arith, sum, here, count_more kind c line, room);
         size = is.size;
         workers = is.workers;
+        threads = is.threads;
       }
+
+  after_thread : (line : ThreadLine) → IsWritten p.names (InThread line) → HasRoom p (InThread line) → AreWritten (with_statement p (InThread line))
+  after_thread line new room = record {
+    names = is.names;
+    distinct = is.distinct;
+    few_names = is.few_names;
+    main = is.main;
+    callbacks = is.callbacks;
+    each = is.each;
+    few = omega (arith, length-append p.threads (line ∷ []), room);
+    size = is.size;
+    workers = is.workers;
+    threads = λ other h. elim (Contains-push_cases p.threads line other h) [
+      | inl old ↦ is.threads other old
+      | inr same ↦ subst (λ (x : ThreadLine). IsWritten p.names (InThread x)) same new
+    ];
+  }
 
   after_statement : (s : Statement) → IsSound p s → last_fits s → HasRoom p s → (IsKept s → IsWritten p.names s) → AreWritten (with_statement p s)
   unfolding last_fits
@@ -216,6 +239,7 @@ module _ (p : Program) (is : AreWritten p) where
     few = is.few;
     size = λ other e. subst IsSize (same_Some _ _ e) (record { slots = sound; last = last });
     workers = is.workers;
+    threads = is.threads;
   }
   after_statement (HasWorkers n) sound last room new = record {
     names = is.names;
@@ -227,7 +251,9 @@ module _ (p : Program) (is : AreWritten p) where
     few = is.few;
     size = is.size;
     workers = λ other e. subst IsWorkerCount (same_Some _ _ e) sound;
+    threads = is.threads;
   }
+  after_statement (InThread line) sound last room new = after_thread line (new tt) room
 
 after_one : (p q : Program) (line : List ℕ) → AreWritten p → Reads p line q → AreWritten q
 after_one p q line is (skips rule skipped) = is
@@ -250,6 +276,7 @@ written_none = record {
   few = omega arith;
   size = λ size e. absurd (none_said e);
   workers = λ n e. absurd (none_said e);
+  threads = λ line h. absurd (none_there line h);
 } where
   nowhere : (kind : Callback) (line : CallbackLine) → Contains (lines_of kind no_callbacks) line → ⊥
   nowhere callback.Handle line h = none_there line h

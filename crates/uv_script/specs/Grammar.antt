@@ -16,6 +16,7 @@ use Rattle.uv_script.specs.declared.op.MainOp.TheVariants as main
 use Rattle.uv_script.specs.declared.op.CallbackLine.{CallbackLine}
 use Rattle.uv_script.specs.declared.size.ArenaSize.{ArenaSize}
 use Rattle.uv_script.specs.declared.task.Task.{Task}
+use Rattle.uv_script.specs.declared.thread.ThreadLine.{ThreadLine}
 use Rattle.uv_script.specs.Lines.{lines_of, fields_of, IsLine, IsSkipped}
 use Rattle.uv_script.specs.Program.{Program, no_callbacks, callbacks_of, with_line, line_count, IsSlotCount, LAST_GENERATION, IsWorkerCount, IsCounted}
 use Rattle.uv_script.specs.Tasks.{text_of}
@@ -33,6 +34,8 @@ pub data Statement : Type 0 where
   Sizes : ArenaSize → Statement
   -- `workers n`
   HasWorkers : ℕ → Statement
+  -- `thread k send NAME`
+  InThread : ThreadLine → Statement
 
 -- the word of an op that says no more than a name, and the name's number
 abbrev pub named_word : Op → Option (List ℕ × Var)
@@ -102,6 +105,8 @@ pub data Says (names : List (List ℕ)) (fields : List (List ℕ)) : Statement �
       g < 2 ^ 32 → Says names fields (Sizes (record { slots = n; last_generation = g }))
   has_workers : (number : List ℕ) (n : ℕ) → fields ≡ codes "workers" ∷ number ∷ [] → IsNumber number n → IsWorkerCount n →
       Says names fields (HasWorkers n)
+  in_thread : (number : List ℕ) (k : ℕ) (name : List ℕ) (v : Var) → fields ≡ codes "thread" ∷ number ∷ codes "send" ∷ name ∷ [] →
+      IsNumber number k → k < 64 → IsDeclared names name v → Says names fields (InThread (record { thread = k; name = v }))
 
 -- there is room for one more line, and for one more name; and the arena's size and the number of workers are said once at most
 abbrev pub HasRoom : Program → Statement → Type 0
@@ -110,6 +115,7 @@ HasRoom p (InMain op) = line_count p < 65535
 HasRoom p (InCallback kind v line) = line_count p < 65535
 HasRoom p (Sizes size) = p.size ≡ None
 HasRoom p (HasWorkers n) = p.workers ≡ None
+HasRoom p (InThread line) = line_count p < 65535
 
 -- the script with what one more line says
 abbrev pub with_statement : Program → Statement → Program
@@ -118,6 +124,7 @@ with_statement p (InMain op) = record p { main = p.main ++ op ∷ [] }
 with_statement p (InCallback kind v line) = record p { callbacks = slice_set p.callbacks v.0 (with_line kind (callbacks_of p v) line) }
 with_statement p (Sizes size) = record p { size = Some size }
 with_statement p (HasWorkers n) = record p { workers = Some n }
+with_statement p (InThread line) = record p { threads = p.threads ++ line ∷ [] }
 
 -- the line takes the script before it to the script after it
 pub data Reads (p : Program) (line : List ℕ) : Program → Type 0 where
@@ -131,7 +138,7 @@ pub data ReadsAll : Program → List (List ℕ) → Program → Type 0 where
 
 -- the script of no line
 abbrev pub blank : Program
-blank = record { names = []; main = []; callbacks = []; size = None; workers = None }
+blank = record { names = []; main = []; callbacks = []; size = None; workers = None; threads = [] }
 
 -- the script was read from some lines
 pub record WasRead (p : Program) : Type 0 where

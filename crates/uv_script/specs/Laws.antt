@@ -31,6 +31,7 @@ pub record AreAlike (p q : Program) : Type 0 where
   pub lines : (kind : Callback) (v : Var) → lines_in p kind v ≡ lines_in q kind v
   pub size : arena_size p ≡ arena_size q
   pub workers : worker_count p ≡ worker_count q
+  pub threads : p.threads ≡ q.threads
   pub text : script_text p ≡ script_text q
 
 -- the script, which says how large its arena is and how many workers it has; or want of memory

@@ -1,5 +1,5 @@
 -- A script, as its parts.
-use Rattle.std.specs.Prelude.{◌≡◌, ℕ, ◌+◌, ◌≤◌, ◌==◌, Bool, true, List, [], ◌∷◌, ◌++◌, Option, Some, None, option_map, unwrap_or, slice_get, length, sum_by}
+use Rattle.std.specs.Prelude.{◌≡◌, ℕ, ◌+◌, ◌<◌, ◌≤◌, ◌==◌, Bool, true, List, [], ◌∷◌, ◌++◌, Option, Some, None, option_map, unwrap_or, slice_get, length, sum_by, All}
 use Rattle.uv_ids.specs.declared.id.Var.{Var}
 use Rattle.uv_ids.specs.declared.seen.Callback.{Callback}
 use Rattle.uv_ids.specs.declared.seen.Callback.TheVariants as callback
@@ -10,6 +10,7 @@ use Rattle.uv_script.specs.declared.op.MainOp.{MainOp}
 use Rattle.uv_script.specs.declared.op.MainOp.TheVariants as main
 use Rattle.uv_script.specs.declared.op.CallbackLine.{CallbackLine}
 use Rattle.uv_script.specs.declared.size.ArenaSize.{ArenaSize}
+use Rattle.uv_script.specs.declared.thread.ThreadLine.{ThreadLine}
 
 -- the lines of a name's callbacks
 pub record Callbacks : Type 0 where
@@ -31,6 +32,8 @@ pub record Program : Type 0 where
   pub size : Option ArenaSize
   -- how many workers the thread pool has, if a line says it
   pub workers : Option ℕ
+  -- the lines of the senders' threads, as they came
+  pub threads : List ThreadLine
 
 abbrev pub no_callbacks : Callbacks
 no_callbacks = record { handle = []; after = []; close = [] }
@@ -101,17 +104,27 @@ worker_count p = unwrap_or p.workers DEFAULT_WORKERS
 abbrev pub IsWorkerCount : ℕ → Type 0
 IsWorkerCount n = (1 ≤ n) × (n ≤ 1024)
 
+-- the script with this number of workers, whatever a line says
+abbrev pub with_workers : ℕ → Program → Program
+with_workers n p = record p { workers = Some n }
+
+-- a line of a sender's thread, where there are so many names: threads have numbers below 64 (own), and the name is declared
+pub record IsThreadLine (names : ℕ) (line : ThreadLine) : Type 0 where
+  pub thread : line.thread < 64
+  pub declared : line.name.0 < names
+
 -- the lines that count: all but `workers`, `slots`, empty ones and comments
 abbrev pub line_count : Program → ℕ
-line_count p = length p.names + length p.main + sum_by callback_count p.callbacks
+line_count p = length p.names + length p.main + sum_by callback_count p.callbacks + length p.threads
 
 -- what every script meets, beside what its names do: each name has its callbacks, there are at most 65535 lines, its arena has 1 to
--- 65535 slots, and its thread pool 1 to 1024 workers
+-- 65535 slots, its thread pool 1 to 1024 workers, and each line of a thread sends a declared name
 pub record IsWhole (p : Program) : Type 0 where
   pub callbacks : length p.callbacks ≡ length p.names
   pub few : line_count p ≤ 65535
   pub slots : IsSlotCount (arena_size p).slots
   pub workers : IsWorkerCount (worker_count p)
+  pub threads : All (IsThreadLine (length p.names)) p.threads
 
 -- the script is whole, and this many of its lines count
 pub record IsCounted (lines : ℕ) (p : Program) : Type 0 where

@@ -14,9 +14,9 @@ use Rattle.uv_ids.specs.declared.fault.Fault.TheVariants as fault
 use Rattle.uv_script.specs.declared.op.Op.{Op}
 use Rattle.uv_script.specs.declared.op.Op.TheVariants as op
 use Rattle.uv_script.specs.declared.op.MainOp.TheVariants as main
-use Rattle.uv_script.specs.Grammar.{Statement, Declares, InMain, InCallback, Sizes, HasWorkers, Says, with_statement}
+use Rattle.uv_script.specs.Grammar.{Statement, Declares, InMain, InCallback, Sizes, HasWorkers, InThread, Says, with_statement}
 use Rattle.uv_script.specs.Lines.{fields_of, rest_of, IsLine}
-use Rattle.uv_script.specs.Program.{Program, line_count, IsSlotCount, LAST_GENERATION, IsWorkerCount}
+use Rattle.uv_script.specs.Program.{Program, line_count, IsSlotCount, LAST_GENERATION, IsWorkerCount, IsThreadLine}
 use Rattle.uv_script.specs.Checks.{is_line, is_skipped, is_name, number_of}
 use Rattle.uv_script.specs.TaskReading.{task_of}
 use Rattle.uv_script.specs.Words.{IsName}
@@ -255,11 +255,26 @@ workers_of fields = do
   end ← none_left number.1
   if nat_le 1 n && nat_le n 1024 then Some (HasWorkers n) else None
 
--- what stands behind the word of a line that sets a number of the loop
-unfoldable pub setting_of : List ℕ → List (List ℕ) → Option Statement
-setting_of word fields =
+-- what stands behind the number of a thread and the word of what it does
+unfoldable pub sender_of : List (List ℕ) → ℕ → List (List ℕ) → Option Statement
+sender_of names k fields = do
+  v ← name_alone names fields
+  if nat_lt k 64 then Some (InThread (record { thread = k; name = v })) else None
+
+-- what stands behind `thread`: a thread only sends
+unfoldable pub thread_of : List (List ℕ) → List (List ℕ) → Option Statement
+thread_of names fields = do
+  number ← first_of fields
+  k ← number_of number.0
+  word ← first_of number.1
+  if bytes_eq word.0 (codes "send") then sender_of names k word.1 else None
+
+-- what stands behind the word of a line that says what the loop runs on: how large it is, and which threads there are
+unfoldable pub setting_of : List (List ℕ) → List ℕ → List (List ℕ) → Option Statement
+setting_of names word fields =
     if bytes_eq word (codes "slots") then size_of fields
     else if bytes_eq word (codes "workers") then workers_of fields
+    else if bytes_eq word (codes "thread") then thread_of names fields
     else None
 
 -- what a line's fields say
@@ -271,7 +286,7 @@ statement_of names fields = do
       else if bytes_eq word.0 (codes "on") then callback_of names callback.Handle word.1
       else if bytes_eq word.0 (codes "after") then callback_of names callback.After word.1
       else if bytes_eq word.0 (codes "closed") then callback_of names callback.Close word.1
-      else setting_of word.0 word.1
+      else setting_of names word.0 word.1
 
 -- whether there is room for one more line, for one more name, for the arena's size and for the number of workers
 abbrev pub has_room : Program → Statement → Bool
@@ -280,6 +295,7 @@ has_room p (InMain op) = nat_lt (line_count p) 65535
 has_room p (InCallback kind v line) = nat_lt (line_count p) 65535
 has_room p (Sizes size) = is_none p.size
 has_room p (HasWorkers n) = is_none p.workers
+has_room p (InThread line) = nat_lt (line_count p) 65535
 
 -- what a statement needs beside room
 abbrev pub IsSound : Program → Statement → Type 0
@@ -288,6 +304,7 @@ IsSound p (InMain op) = Unit {0}
 IsSound p (InCallback kind v line) = v.0 < length p.names
 IsSound p (Sizes size) = IsSlotCount size.slots
 IsSound p (HasWorkers n) = IsWorkerCount n
+IsSound p (InThread line) = IsThreadLine (length p.names) line
 
 -- some line says this
 pub record IsSaid (p : Program) (s : Statement) : Type 0 where

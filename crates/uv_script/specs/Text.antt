@@ -10,6 +10,7 @@ use Rattle.uv_script.specs.declared.op.MainOp.{MainOp}
 use Rattle.uv_script.specs.declared.op.MainOp.TheVariants as main
 use Rattle.uv_script.specs.declared.op.CallbackLine.{CallbackLine}
 use Rattle.uv_script.specs.declared.size.ArenaSize.{ArenaSize}
+use Rattle.uv_script.specs.declared.thread.ThreadLine.{ThreadLine}
 use Rattle.uv_script.specs.Program.{Program, lines_in, arena_size, worker_count}
 use Rattle.uv_script.specs.Tasks.{text_of}
 
@@ -52,7 +53,7 @@ op_text names op.IsAlive = codes "alive"
 op_text names op.Timeout = codes "timeout"
 
 -- the lines of a script, in their order: the number of workers, the size of the arena, the names, the main program, and then for each
--- name the lines of its callbacks
+-- name the lines of its callbacks, and last what threads send
 
 abbrev pub workers_line : ℕ → List ℕ
 workers_line n = codes "workers " ++ decimal n
@@ -90,9 +91,12 @@ abbrev pub callback_lines : Program → ℕ → List (List ℕ) → List (List �
 callback_lines p n [] = []
 callback_lines p n (name ∷ names) = name_lines p (record { 0 = n }) ++ callback_lines p (n + 1) names
 
+abbrev pub thread_line : List (List ℕ) → ThreadLine → List ℕ
+thread_line names line = codes "thread " ++ decimal line.thread ++ codes " send " ++ name_text names line.name
+
 abbrev pub script_lines : Program → List (List ℕ)
 script_lines p = workers_line (worker_count p) ∷ slots_line (arena_size p) ∷
-    map var_line p.names ++ map (main_line p.names) p.main ++ callback_lines p 0 p.names
+    map var_line p.names ++ map (main_line p.names) p.main ++ callback_lines p 0 p.names ++ map (thread_line p.names) p.threads
 
 -- each line with its line feed
 abbrev pub lines_text : List (List ℕ) → List ℕ

@@ -1,14 +1,15 @@
 //! A script's parts.
-ghost use Rattle.std.specs.Prelude.{◌≡◌, slice_get, length, OnOk, Some};
-ghost use Rattle.uv_script.specs.Grammar.{Declares, InMain, InCallback, Sizes, HasRoom, WasRead, with_statement, blank};
+ghost use Rattle.std.specs.Prelude.{◌≡◌, slice_get, length, OnOk, Some, All};
+ghost use Rattle.uv_script.specs.Grammar.{Declares, InMain, InCallback, InThread, Sizes, HasRoom, WasRead, with_statement, blank};
 ghost use Rattle.uv_script.specs.Reading.{has_room, IsSound, IsSaid};
 ghost use Rattle.uv_script.specs.Said.{said};
-ghost use Rattle.uv_script.specs.Program.{lines_in, op_at, arena_size, worker_count, IsWorkerCount, IsWhole};
+ghost use Rattle.uv_script.specs.Program.{lines_in, op_at, arena_size, worker_count, with_workers, IsWorkerCount, IsThreadLine, IsWhole};
 
 use crate::names::Names;
 use crate::op::{CallbackLine, Callbacks, MainOp, Op};
 use crate::size::ArenaSize;
 use crate::statement::Statement;
+use crate::thread::ThreadLine;
 use std::alloc::{AllocError, Global};
 use std::marker::Model;
 use uv_ids::{Callback, Site, Var};
@@ -21,6 +22,7 @@ pub struct Script {
     callbacks: Vec<Callbacks>,
     size: Option<ArenaSize>,
     workers: Option<u16>,
+    threads: Vec<ThreadLine>,
     /// How many lines count: all but `workers`, `slots`, empty ones and comments.
     lines: usize,
 }
@@ -44,6 +46,7 @@ impl Model for Script {
       callbacks = script.callbacks.items;
       size = script.size;
       workers = script.workers;
+      threads = script.threads.items;
     } };
 
     ghost invariant = { λ script. IsReadScript script.lines (record {
@@ -52,6 +55,7 @@ impl Model for Script {
       callbacks = script.callbacks.items;
       size = script.size;
       workers = script.workers;
+      threads = script.threads.items;
     }) };
 }
 
@@ -66,6 +70,7 @@ impl Script {
             callbacks: Vec::new(alloc),
             size: None,
             workers: None,
+            threads: Vec::new(alloc),
             lines: 0,
         }
     }
@@ -80,6 +85,7 @@ impl Script {
             Statement::InCallback(_, _, _) => self.lines < MAX_LINES,
             Statement::Sizes(_) => self.size.is_none(),
             Statement::HasWorkers(_) => self.workers.is_none(),
+            Statement::InThread(_) => self.lines < MAX_LINES,
         }
     }
 
@@ -101,6 +107,7 @@ impl Script {
                 self.workers = Some(workers);
                 Ok(())
             }
+            Statement::InThread(line) => self.push_thread(line),
         }
     }
 
@@ -144,6 +151,24 @@ impl Script {
         Ok(())
     }
 
+    fn push_thread(&mut self, line: ThreadLine) -> Result<(), AllocError>
+        requires room { HasRoom self.old (InThread line) }
+        requires said { IsSaid self.old (InThread line) }
+        ensures { OnOk result (self.new ≡ with_statement self.old (InThread line)) }
+    {
+        self.threads.push(line)?;
+        self.lines += 1;
+        Ok(())
+    }
+
+    /// Sets how many workers the thread pool has, whatever a line says.
+    pub fn set_workers(&mut self, workers: u16)
+        requires within { IsWorkerCount workers }
+        ensures { self.new ≡ with_workers workers self.old }
+    {
+        self.workers = Some(workers);
+    }
+
     /// Where its memory comes from.
     pub(crate) fn allocator(&self) -> Global {
         *self.main.allocator()
@@ -170,6 +195,14 @@ impl Script {
         ensures within { IsWorkerCount result }
     {
         self.workers.unwrap_or(DEFAULT_WORKERS)
+    }
+
+    /// The lines of the senders' threads, as they came.
+    pub fn thread_lines(&self) -> &[ThreadLine]
+        ensures lines { result.now ≡ self.now.threads }
+        ensures known { All (IsThreadLine (length self.now.names)) result.now }
+    {
+        &self.threads
     }
 
     /// The lines of the main program.

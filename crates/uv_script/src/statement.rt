@@ -1,7 +1,7 @@
 //! What the lines of a script say, one at a time.
 ghost use Rattle.std.specs.Prelude.{◌≡◌, Some, option_map};
 ghost use Rattle.uv_script.specs.Lines.{fields_of};
-ghost use Rattle.uv_script.specs.Reading.{none_left, kind_of, mode_of, init_of, timer_start_of, start_of, repeat_of, text_by, queue_of, bare_op, named_op, name_alone, short_op_of, op_of, declaration_of, run_of, main_of, main_by, close_loop_of, call_of, marked, in_calls_of, in_call_of, callback_of, last_of, size_of, workers_of, setting_of, statement_of};
+ghost use Rattle.uv_script.specs.Reading.{none_left, kind_of, mode_of, init_of, timer_start_of, start_of, repeat_of, text_by, queue_of, bare_op, named_op, name_alone, short_op_of, op_of, declaration_of, run_of, main_of, main_by, close_loop_of, call_of, marked, in_calls_of, in_call_of, callback_of, last_of, size_of, workers_of, sender_of, thread_of, setting_of, statement_of};
 ghost use Rattle.uv_script.specs.Said.{said};
 ghost use Rattle.uv_script.specs.TaskReading.{task_of};
 
@@ -10,6 +10,7 @@ use crate::names::Names;
 use crate::op::{CallbackLine, MainOp, Op};
 use crate::size::ArenaSize;
 use crate::task::Task;
+use crate::thread::ThreadLine;
 use crate::words::{is_name, number};
 use uv_ids::{Callback, Kind, Mode, Var};
 
@@ -26,6 +27,8 @@ pub(crate) enum Statement<'a> {
     Sizes(ArenaSize),
     /// `workers n`
     HasWorkers(u16),
+    /// `thread k send NAME`
+    InThread(ThreadLine),
 }
 
 /// Nothing, where no field is left.
@@ -201,18 +204,19 @@ pub(crate) fn statement_in<'a>(names: &Names, line: &'a [u8]) -> Option<Statemen
         b"on" => callback(names, Callback::Handle, fields),
         b"after" => callback(names, Callback::After, fields),
         b"closed" => callback(names, Callback::Close, fields),
-        word => setting(word, fields),
+        word => setting(names, word, fields),
     }
 }
 
-/// A line that sets a number of the loop.
+/// A line that says what the loop runs on: how large it is, and which threads there are.
 #[tactic(auto, unfolding(crate::specs::Reading::setting_of))]
-fn setting<'a>(word: &[u8], fields: Fields<'a>) -> Option<Statement<'a>>
-    ensures { option_map said result ≡ setting_of word.now fields.entry }
+fn setting<'a>(names: &Names, word: &[u8], fields: Fields<'a>) -> Option<Statement<'a>>
+    ensures { option_map said result ≡ setting_of names.now word.now fields.entry }
 {
     match word {
         b"slots" => size(fields),
         b"workers" => workers(fields),
+        b"thread" => thread(names, fields),
         _ => None,
     }
 }
@@ -379,5 +383,33 @@ fn workers<'a>(mut fields: Fields<'a>) -> Option<Statement<'a>>
         Some(Statement::HasWorkers(workers as u16))
     } else {
         None
+    }
+}
+
+/// A line of a thread, from the name that it sends on.
+#[tactic(auto, unfolding(crate::specs::Reading::sender_of))]
+fn sender<'a>(names: &Names, thread: u64, fields: Fields<'a>) -> Option<Statement<'a>>
+    ensures { option_map said result ≡ sender_of names.now thread fields.entry }
+{
+    let name = name_alone(names, fields)?;
+    if thread < 64 {
+        Some(Statement::InThread(ThreadLine {
+            thread: thread as u8,
+            name,
+        }))
+    } else {
+        None
+    }
+}
+
+/// A line of a thread, which only sends.
+#[tactic(auto, unfolding(crate::specs::Reading::thread_of))]
+fn thread<'a>(names: &Names, mut fields: Fields<'a>) -> Option<Statement<'a>>
+    ensures { option_map said result ≡ thread_of names.now fields.entry }
+{
+    let thread = number(fields.next()?)?;
+    match fields.next()? {
+        b"send" => sender(names, thread, fields),
+        _ => None,
     }
 }

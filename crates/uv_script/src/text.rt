@@ -4,12 +4,13 @@ ghost use Rattle.uv_ids.specs.declared.fault.Fault.TheVariants.{Memory};
 ghost use Rattle.uv_script.specs.Laws.{IsReadBack};
 ghost use Rattle.uv_script.specs.Program.{arena_size, worker_count};
 ghost use Rattle.uv_script.specs.declared.op.Op.TheVariants.{Start, Queue};
-ghost use Rattle.uv_script.specs.Text.{op_text, name_text, task_text, workers_line, slots_line, var_line, main_line, call_text, front_text, callback_line, name_lines, callback_lines, lines_text, script_text};
+ghost use Rattle.uv_script.specs.Text.{op_text, name_text, task_text, workers_line, slots_line, var_line, main_line, call_text, front_text, callback_line, name_lines, callback_lines, thread_line, lines_text, script_text};
 
 use crate::names::Names;
 use crate::op::{CallbackLine, MainOp, Op};
 use crate::script::Script;
 use crate::task::Task;
+use crate::thread::ThreadLine;
 use itoa::Buffer;
 use std::alloc::AllocError;
 use uv_ids::{Callback, Fault, Var};
@@ -206,6 +207,29 @@ fn push_callback(
     Ok(())
 }
 
+impl ThreadLine {
+    /// Writes the line of a thread.
+    fn push_line(self, text: &mut Vec<u8>, names: &Names) -> Result<(), AllocError>
+        ensures { OnOk result (text.new.items ≡ text.old.items ++ thread_line names.now self) }
+    {
+        text.extend_from_slice(b"thread ")?;
+        push_number(text, self.thread as u64)?;
+        text.extend_from_slice(b" send ")?;
+        names.push_name(text, self.name)
+    }
+}
+
+/// Writes the lines of all threads.
+fn push_threads(text: &mut Vec<u8>, names: &Names, lines: &[ThreadLine]) -> Result<(), AllocError>
+    ensures { OnOk result (text.new.items ≡ text.old.items ++ lines_text (map (thread_line names.now) lines.now)) }
+{
+    for line in lines {
+        line.push_line(text, names)?;
+        text.extend_from_slice(b"\n")?;
+    }
+    Ok(())
+}
+
 impl Names {
     /// Writes the declarations.
     fn push_declarations(&self, text: &mut Vec<u8>) -> Result<(), AllocError>
@@ -221,8 +245,8 @@ impl Names {
 
 impl Script {
     /// The script as a text, which says how large the arena is and how many workers there are: the lines `workers` and
-    /// `slots`, the names, the main program, and then for each name the lines of its callbacks. Such a text is read
-    /// back as this script.
+    /// `slots`, the names, the main program, for each name the lines of its callbacks, and last the lines of threads, as
+    /// they came. Such a text is read back as this script.
     pub fn text(&self) -> Result<Vec<u8>, Fault>
         ensures text { IfOk result (λ text. text.items ≡ script_text self.now) }
         ensures err { IfErr result (λ fault. fault ≡ Memory) }
@@ -234,6 +258,7 @@ impl Script {
         self.names().push_declarations(&mut text)?;
         push_main(&mut text, self.names(), main)?;
         self.push_callbacks(&mut text)?;
+        push_threads(&mut text, self.names(), self.thread_lines())?;
         Ok(text)
     }
 

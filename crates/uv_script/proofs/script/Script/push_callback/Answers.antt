@@ -26,4 +26,5 @@ invariant_of-self-2 c =
       callbacks = slice_set all v.0 (line i);
       size = c.self.inside.size;
       workers = c.self.inside.workers;
+      threads = c.self.inside.threads.items;
     })

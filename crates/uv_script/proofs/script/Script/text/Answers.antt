@@ -4,6 +4,7 @@ use Rattle.uv_script.proofs.script.Script.text.Goals as goal
 
 pub returns-clause-text : goal.returns-clause-text
 returns-clause-text c = rw (
+  c.in_ok-push_threads.ensures,
   c.in_ok-push_callbacks.ensures,
   c.in_ok-push_main.ensures,
   c.in_ok-push_declarations.ensures,
@@ -12,6 +13,8 @@ returns-clause-text c = rw (
   c.main-main.ensures.main,
   c.names.ensures.names,
   c.names-2.ensures.names,
+  c.names-3.ensures.names,
+  c.thread_lines.ensures.lines,
 ) (whole_text c.args.self.now)
 
 pub returns-in_err-push_settings-clause-read_back : goal.returns-in_err-push_settings-clause-read_back
@@ -25,6 +28,9 @@ returns-in_err-push_main-clause-read_back c = back c.args.self.now c.main-main.e
 
 pub returns-in_err-push_callbacks-clause-read_back : goal.returns-in_err-push_callbacks-clause-read_back
 returns-in_err-push_callbacks-clause-read_back c = back c.args.self.now c.main-main.ensures.read
+
+pub returns-in_err-push_threads-clause-read_back : goal.returns-in_err-push_threads-clause-read_back
+returns-in_err-push_threads-clause-read_back c = back c.args.self.now c.main-main.ensures.read
 
 pub returns-clause-read_back : goal.returns-clause-read_back
 returns-clause-read_back c = back c.args.self.now c.main-main.ensures.read

@@ -1,0 +1,10 @@
+use Rattle.std.proofs.Common.{subst, rules}
+use Rattle.uv_script.specs.Grammar.{IsReadScript}
+use Rattle.uv_script.proofs.Workers.{workers_kept}
+use Rattle.uv_script.proofs.script.Script.set_workers.Goals as goal
+
+pub invariant_of-self : goal.invariant_of-self
+invariant_of-self c =
+    let is = subst (IsReadScript c.self.inside.lines) c.self.view_is c.self.invariant in
+    subst (IsReadScript c.self.inside.lines) (search rules)
+    (workers_kept c.self.inside.lines c.args.workers c.args.self.now c.requires.within is)

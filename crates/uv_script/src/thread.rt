@@ -1,0 +1,11 @@
+//! What threads send.
+
+use uv_ids::Var;
+
+/// The line `thread k send NAME`: one send of a thread of its own, which only a live run makes.
+#[derive(Clone, Copy, Debug, PartialEq, Eq)]
+pub struct ThreadLine {
+    /// The thread's number, 0 to 63 (own).
+    pub thread: u8,
+    pub name: Var,
+}
