@@ -2,7 +2,7 @@
 
 use std::alloc::Global;
 use std::test::Fail;
-use uv_ids::{Code, Fault, Seen, Var, Why};
+use uv_ids::{Answer, Code, Fault, Seen, Var, Why};
 use uv_loop::ArenaLoop;
 use uv_model::Outcome;
 use uv_script::Script;
@@ -55,6 +55,28 @@ fn a_send_to_an_unbound_name_is_stale(rt: HostRuntime) -> Result<(), Fail> {
     assert!(rt; machine.send(Var(0)) == Ok(Outcome { seen }));
     assert!(rt; machine.send(Var(1)) == Err(Fault::Refused(Why::Range)));
     assert!(rt; shows(&machine, 0, 1));
+    assert!(rt; appended(&machine, 1) == seen);
+    assert!(rt; machine.back() && shows(&machine, 0, 0));
+    Ok(())
+}
+
+#[test]
+fn workers_have_nothing_to_do_without_requests(rt: HostRuntime) -> Result<(), Fail> {
+    let mut machine = begun(rt.alloc())?;
+    assert!(rt; machine.take(0) == Err(Fault::Refused(Why::NoWork)));
+    assert!(rt; machine.take(4) == Err(Fault::Refused(Why::NoWorker)));
+    assert!(rt; machine.finish(0) == Err(Fault::Refused(Why::IdleWorker)));
+    assert!(rt; machine.finish(4) == Err(Fault::Refused(Why::NoWorker)));
+    assert!(rt; shows(&machine, 0, 0));
+    Ok(())
+}
+
+#[test]
+fn a_cancel_of_an_unbound_name_is_stale(rt: HostRuntime) -> Result<(), Fail> {
+    let mut machine = begun(rt.alloc())?;
+    let seen = Some(Seen::Cancel(Var(0), Answer::Code(Code::Estale)));
+    assert!(rt; machine.cancel(Var(0)) == Ok(Outcome { seen }));
+    assert!(rt; machine.cancel(Var(1)) == Err(Fault::Refused(Why::Range)));
     assert!(rt; appended(&machine, 1) == seen);
     assert!(rt; machine.back() && shows(&machine, 0, 0));
     Ok(())

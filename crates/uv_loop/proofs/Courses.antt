@@ -1,16 +1,20 @@
 -- One step more with its record, and one step less.
-use Rattle.std.proofs.Common.{◌≡◌, ◌+◌, ◌-◌, ◌<◌, ℕ, suc, List, [], ◌∷◌, ◌++◌, length, length-append, take, get_or, Option, Ok, Err, refl, sym, ap, ◌∙◌, subst, arith}
+use Rattle.std.proofs.Common.{◌≡◌, ◌+◌, ◌-◌, ◌<◌, ℕ, suc, List, [], ◌∷◌, ◌++◌, length, length-append, take, get_or, Option, Some, Result, Ok, Err, refl, inl, inr, sym, ap, ◌∙◌, subst, arith}
 use Rattle.std.proofs.lemmas.List.{take_more, take_all}
 use Rattle.uv_ids.specs.declared.event.Event.{Event}
-use Rattle.uv_ids.specs.declared.event.Event.TheVariants.{Tick}
+use Rattle.uv_ids.specs.declared.event.Event.TheVariants.{Tick, Finish}
 use Rattle.uv_ids.specs.declared.seen.Seen.{Seen}
+use Rattle.uv_ids.specs.declared.fault.Fault.{Fault}
 use Rattle.uv_ids.specs.declared.fault.Fault.TheVariants as fault
 use Rattle.uv_ids.specs.declared.fault.Why.{Why}
 use Rattle.uv_script.specs.Program.{Program}
+use Rattle.uv_model.specs.declared.machine.Outcome.{Outcome}
 use Rattle.uv_model.specs.declared.place.Place.{Place}
 use Rattle.uv_model.specs.State as state
 use Rattle.uv_model.specs.State.{State}
 use Rattle.uv_model.specs.Next.{Next, Moves, Refuses, next}
+use Rattle.uv_work.specs.Work.{Work}
+use Rattle.uv_model.specs.Handing.{RefusesResult, AnswersResult, job_run}
 use Rattle.uv_model.specs.After.{Answers, after, goes_on, state_of, IsMove, STEPS}
 use Rattle.uv_model.proofs.Runs.{after-moves, seen_by-nil, seen_by-moves, seen_by-take}
 use Rattle.uv_step.specs.declared.record.Record.{Record}
@@ -21,7 +25,7 @@ use Rattle.uv_step.specs.Undo.{CanUnwind, Recorded}
 use Rattle.uv_step.specs.Fit.{IsFit}
 use Rattle.uv_step.proofs.Trails.{unwound-push, begins_same}
 use Rattle.uv_loop.specs.Stands.{StandsFor}
-use Rattle.uv_loop.specs.Course.{Course, StandFrom, IsCourse, first_image}
+use Rattle.uv_loop.specs.Course.{Course, StandFrom, IsCourse, Leads, first_image}
 
 -- one record a step
 stand_length : (p : Program) (s : State) (room : ℕ) (i : Image Place) (rs : List (Record Place)) (es : List Event) → StandFrom p s room i rs es
@@ -156,10 +160,6 @@ pub course_new : (p : Program) (es : List Event) (seen : List (Option Seen)) (rs
     → rs ≡ [] → IsFit h.image → h.image ≡ first_image p → StandsFor (first_image p) (state.fresh p) → IsCourse p es seen rs h
 course_new p es seen rs h a b d fit is stands = course_same p [] es [] seen [] rs h a b d (course_begins p h fit is stands)
 
--- where the memory stands for a state, an event leads to one for which the other memory stands, with this line
-abbrev pub Leads : Program → Image Place → Image Place → Event → Option Seen → Type 0
-Leads p i j e line = (s : State) → StandsFor i s → (t : State) × (next p s e ≡ Moves t line) × StandsFor j t
-
 pub course_moved : (p : Program) (es fs : List Event) (seen lines : List (Option Seen)) (rs qs : List (Record Place)) (h k : Held Place)
     (r : Record Place) (e : Event) (line : Option Seen) → fs ≡ es ++ e ∷ [] → lines ≡ seen ++ line ∷ [] → qs ≡ rs ++ r ∷ []
     → length es < STEPS → IsCourse p es seen rs h → Recorded r h k → Leads p h.image k.image e line → IsCourse p fs lines qs k
@@ -197,6 +197,13 @@ module _ (p : Program) (es : List Event) (seen : List (Option Seen)) (rs : List 
   pub seen_length : length w.walk.records ≡ length w.standing
   seen_length = subst (λ (x : Course). length x.walk.records ≡ length x.standing) same (course_length p es seen rs h c)
 
+  -- a finish whose result is refused
+  pub result_refused : (k : ℕ) (job : Work) (why : Why) → length es < STEPS → ((s : State) → StandsFor h.image s → RefusesResult p s k job why)
+      → AnswersResult STEPS w.program w.standing k job (Err (fault.Refused why)) w.standing
+  result_refused k job why few refuses =
+      subst (λ (x : Course). AnswersResult STEPS x.program x.standing k job (Err (fault.Refused why)) x.standing) same
+      (few, refl, refuses (after p es) (course_stands p es seen rs h c))
+
   module _ (e : Event) (few : length es < STEPS) where
     -- an accepted event
     pub answers_ok : (i : Image Place) (line : Option Seen) (fs : List Event) → Leads p h.image i e line → fs ≡ es ++ e ∷ []
@@ -229,3 +236,22 @@ module _ (p : Program) (es : List Event) (seen : List (Option Seen)) (rs : List 
       subst (λ (x : Course). (0 < length x.standing) × (fs ≡ take (length x.standing - 1) x.standing)
       × DropsOne x.walk (record { image = j; records = qs })) same
       (some, is ∙ ap (λ n. take n es) less, record { dropped = r; records = split; back = back })
+
+-- a finish with the result of the job that the worker runs is the event
+pub answers_event : (p : Program) (es : List Event) (k : ℕ) (job : Work) (r : Result Outcome Fault) (fs : List Event)
+    → job_run (after p es) k ≡ Some job → AnswersResult STEPS p es k job r fs → Answers STEPS p es (Finish k) r fs
+answers_event p es k job (Ok outcome) fs runs a = a.1
+answers_event p es k job (Err fault.Memory) fs runs a = a.1
+answers_event p es k job (Err (fault.Refused why)) fs runs a = (
+  a.0,
+  a.1,
+  elim a.2 [ inl same ↦ same | inr other ↦ (let one : other.1.0 ≡ job = cc (other.1.1, runs) in absurd (other.1.2 one)) ],
+)
+answers_event p es k job (Err fault.StepsFull) fs runs a = a
+answers_event p es k job (Err (fault.Script line)) fs runs a = absurd a
+answers_event p es k job (Err fault.Read) fs runs a = absurd a
+answers_event p es k job (Err fault.Write) fs runs a = absurd a
+answers_event p es k job (Err (fault.Torn at)) fs runs a = absurd a
+answers_event p es k job (Err fault.Stalled) fs runs a = absurd a
+answers_event p es k job (Err (fault.Differs at)) fs runs a = absurd a
+answers_event p es k job (Err fault.Limit) fs runs a = absurd a

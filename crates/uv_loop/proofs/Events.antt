@@ -4,21 +4,21 @@ use Rattle.std.proofs.lemmas.Bool.{le-leb, lt-ltb}
 use Rattle.std.proofs.lemmas.List.{length-map}
 use Rattle.std.proofs.lemmas.Bool.Decides.{leb_tells}
 use Rattle.uv_ids.specs.declared.id.Var.{Var}
-use Rattle.uv_ids.specs.declared.event.Event.TheVariants.{Tick, Send}
+use Rattle.uv_ids.specs.declared.event.Event.TheVariants.{Tick, Send, Cancel}
 use Rattle.uv_ids.specs.declared.seen.Seen.{Seen}
 use Rattle.uv_ids.specs.declared.seen.Seen.TheVariants as seen
 use Rattle.uv_ids.specs.declared.code.Code.{Code}
 use Rattle.uv_ids.specs.declared.fault.Why.TheVariants.{Range}
 use Rattle.uv_script.specs.Program.{Program}
 use Rattle.uv_model.specs.declared.place.Place.{Place}
-use Rattle.uv_model.specs.State.{State, live_handle}
+use Rattle.uv_model.specs.State.{State, live_handle, live_request}
 use Rattle.uv_model.specs.Next.{Next, Moves, Refuses, next, LATEST}
-use Rattle.uv_model.specs.Ops.{send}
+use Rattle.uv_model.specs.Ops.{Done, send, cancel}
 use Rattle.uv_model.specs.After.{IsMove}
 use Rattle.uv_step.specs.Image.{Image}
 use Rattle.uv_loop.specs.Contents.{named_of}
 use Rattle.uv_loop.specs.Stands.{StandsFor}
-use Rattle.uv_loop.proofs.Courses.{Leads}
+use Rattle.uv_loop.specs.Course.{Leads}
 use Rattle.uv_loop.proofs.Simulation.{ticked}
 
 pub tick_moves : (p : Program) (i : Image Place) (s : State) (ms : ℕ) → StandsFor i s → i.clock + ms ≤ LATEST
@@ -61,6 +61,25 @@ send_refused p i s v h l =
       | inr q ↦ ap (λ (b : Bool). if b then Moves done.state (Some (seen.Send v done.code)) else Refuses Range) q.0
     ]
 
+pub cancel_moves : (p : Program) (i : Image Place) (s : State) (v : Var) (done : Done) → StandsFor i s → v.0 < length i.names
+    → cancel s (live_request s v) ≡ done → next p s (Cancel v) ≡ Moves done.state (Some (seen.Cancel v done.answer))
+unfolding next
+cancel_moves p i s v done h l is =
+    let did = cancel s (live_request s v) in
+    let within : v.0 < length s.names = (let e = names_as i s h in omega (arith, l, e)) in
+    ap (λ (b : Bool). if b then Moves did.state (Some (seen.Cancel v did.answer)) else Refuses Range) (lt-ltb v.0 (length s.names) within)
+    ∙ ap (λ (d : Done). Moves d.state (Some (seen.Cancel v d.answer))) is
+
+pub cancel_refused : (p : Program) (i : Image Place) (s : State) (v : Var) → StandsFor i s → length i.names ≤ v.0
+    → next p s (Cancel v) ≡ Refuses Range
+unfolding next
+cancel_refused p i s v h l =
+    let done = cancel s (live_request s v) in
+    elim (leb_tells (suc v.0) (length s.names)) [
+      | inl q ↦ absurd (let e = names_as i s h in let k = q.1 in omega (arith, l, e, k))
+      | inr q ↦ ap (λ (b : Bool). if b then Moves done.state (Some (seen.Cancel v done.answer)) else Refuses Range) q.0
+    ]
+
 -- ---- what the steps lead to
 
 is_move : (n : Next) (t : State) (line : Option Seen) → n ≡ Moves t line → IsMove n
@@ -88,3 +107,6 @@ send_leads p i j v code l is stands s h = (
   send_moves p i s v h l ∙ ap (λ (c : Code). Moves (send s (live_handle s v)).state (Some (seen.Send v c))) (is s h),
   stands s h,
 )
+
+pub cancel_may : (p : Program) (i : Image Place) (v : Var) → v.0 < length i.names → (s : State) → StandsFor i s → IsMove (next p s (Cancel v))
+cancel_may p i v l s h = is_move _ _ _ (cancel_moves p i s v _ h l refl)

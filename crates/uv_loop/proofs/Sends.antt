@@ -89,11 +89,11 @@ active_as (s ∷ ss) = let here = keeps_as s.content in let rest = active_as ss 
 
 -- ---- ids
 
-abbrev slot_or : {X : Type 0} → Option (Slot X) → Slot X
+abbrev pub slot_or : {X : Type 0} → Option (Slot X) → Slot X
 slot_or None = record { generation = 0; content = None }
 slot_or (Some t) = t
 
-slot_by : {X : Type 0} (cs : List (Cell X)) (x : ℕ) → slot_in (slice_get cs x) ≡ slot_or (slice_get (map (λ (c : Cell X). c.slot) cs) x)
+pub slot_by : {X : Type 0} (cs : List (Cell X)) (x : ℕ) → slot_in (slice_get cs x) ≡ slot_or (slice_get (map (λ (c : Cell X). c.slot) cs) x)
 slot_by [] x = refl
 slot_by (c ∷ cs) zero = refl
 slot_by (c ∷ cs) (suc x) = slot_by cs x
@@ -129,7 +129,7 @@ module _ (i k : arena.Image Content) (d : Id) (v was : Content) (there : arena.h
       ∙ ap (λ (z : Slot Content). z.generation) (sym (slot_by i.memory.row.items x)) in
       λ l. record { slot = x; generation = here l }
 
-map_same : {A B : Type 0} (f g : A → B) → ((x : A) → f x ≡ g x) → (xs : List A) → map f xs ≡ map g xs
+pub map_same : {A B : Type 0} (f g : A → B) → ((x : A) → f x ≡ g x) → (xs : List A) → map f xs ≡ map g xs
 map_same f g h [] = refl
 map_same f g h (x ∷ xs) = let here = h x in let rest = map_same f g h xs in λ l. here l ∷ rest l
 

@@ -9,7 +9,7 @@ use Rattle.uv_model.specs.declared.place.Place.{Place}
 use Rattle.uv_model.specs.declared.place.Place.TheVariants.{Main}
 use Rattle.uv_model.specs.State as state
 use Rattle.uv_model.specs.State.{State}
-use Rattle.uv_model.specs.Next.{next}
+use Rattle.uv_model.specs.Next.{Moves, next}
 use Rattle.uv_model.specs.After.{state_of, seen_by, IsMove, STEPS}
 use Rattle.uv_step.specs.declared.record.Record.{Record}
 use Rattle.uv_step.specs.Image.{Image, Held, fresh}
@@ -36,6 +36,10 @@ StandFrom p s room i [] (e ∷ es) = ⊥
 StandFrom p s room i (r ∷ rs) [] = ⊥
 StandFrom p s room i (r ∷ rs) (e ∷ es) = StandsFor (unwound (r ∷ rs) i) s × CanUnwind room r (unwound rs i) × IsMove (next p s e)
     × StandFrom p (state_of s (next p s e)) room i rs es
+
+-- where the memory stands for a state, an event leads to one for which the other memory stands, with this line
+abbrev pub Leads : Program → Image Place → Image Place → Event → Option Seen → Type 0
+Leads p i j e line = (s : State) → StandsFor i s → (t : State) × (next p s e ≡ Moves t line) × StandsFor j t
 
 -- what a loop keeps
 pub record IsCourse (p : Program) (es : List Event) (seen : List (Option Seen)) (rs : List (Record Place)) (h : Held Place) : Type 0 where

@@ -1,14 +1,16 @@
 //! The loop over one memory.
 ghost use Rattle.std.specs.Prelude.{◌≡◌, ◌+◌, ◌<◌, ◌≤◌, ◌-◌, [], IfOk, IfErr, IfSome, IfNone, Some, length, slice_get};
-ghost use Rattle.uv_ids.specs.declared.event.Event.TheVariants.{Tick, Send};
+ghost use Rattle.uv_ids.specs.declared.event.Event.TheVariants.{Tick, Send, Take, Finish, Cancel};
 ghost use Rattle.uv_ids.specs.declared.fault.Fault.TheVariants.{Memory as no_memory};
 ghost use Rattle.uv_model.specs.After.{Answers, after, seen_by, STEPS};
+ghost use Rattle.uv_model.specs.Handing.{AnswersResult};
 ghost use Rattle.uv_model.specs.Queries.{numbers};
 ghost use Rattle.uv_step.specs.Image.{held};
 ghost use Rattle.uv_step.specs.Trail.{unwound};
 ghost use Rattle.uv_loop.specs.Stands.{StandsFor};
 ghost use Rattle.uv_loop.specs.Course.{Adds, Drops, first_image};
 
+use crate::pooling::{cancel_named, finish_work, take_work};
 use crate::sending::send_to;
 use crate::steps::Steps;
 use std::alloc::Global;
@@ -17,6 +19,7 @@ use uv_ids::{Event, Fault, Seen, Var, Why};
 use uv_model::{Numbers, Outcome, Place, STEPS};
 use uv_script::Script;
 use uv_step::{Memory, Record};
+use uv_work::WorkResult;
 
 /// The latest time that the clock may show, in ms.
 const LATEST: u64 = 1 << 62;
@@ -35,7 +38,7 @@ fn later(clock: u64, ms: u64) -> Option<u64>
 
 /// A loop over one memory, with a record for each of its steps that takes the step back.
 ///
-/// So far it takes only the clock's steps and sends from outside, so it isn't a machine yet.
+/// So far it takes the steps of the clock and of the workers, and sends and cancels from outside, so it isn't a machine yet.
 #[derive(Drop)]
 pub struct ArenaLoop {
     script: Script,
@@ -126,6 +129,90 @@ impl ArenaLoop {
         let (code, step_record) = send_to(&mut self.memory, name);
         let seen = Some(Seen::Send(name, code));
         self.steps.push(Event::Send(name), seen, step_record);
+        Ok(Outcome { seen })
+    }
+
+    /// A worker takes the request that waits longest.
+    pub fn take(&mut self, worker: u16) -> Result<Outcome, Fault>
+        ensures program { self.new.program ≡ self.old.program }
+        ensures answer { Answers STEPS self.old.program self.old.standing (Take worker) result self.new.standing }
+        ensures records { Adds result self.old self.new }
+    {
+        if self.steps.events.len() >= STEPS {
+            return Err(Fault::StepsFull);
+        }
+        let (id, request) = match self.memory.requests.next_work(&self.memory.slots, worker) {
+            Err(why) => return Err(Fault::Refused(why)),
+            Ok(work) => work,
+        };
+        if self.steps.reserve().is_err() {
+            return Err(Fault::Memory);
+        }
+        let (line, step_record) = take_work(&mut self.memory, worker, id, request);
+        let seen = Some(line);
+        self.steps.push(Event::Take(worker), seen, step_record);
+        Ok(Outcome { seen })
+    }
+
+    /// A worker finishes the request that it runs: its job is done here.
+    pub fn finish(&mut self, worker: u16) -> Result<Outcome, Fault>
+        ensures program { self.new.program ≡ self.old.program }
+        ensures answer { Answers STEPS self.old.program self.old.standing (Finish worker) result self.new.standing }
+        ensures records { Adds result self.old self.new }
+    {
+        if self.steps.events.len() >= STEPS {
+            return Err(Fault::StepsFull);
+        }
+        let (id, request) = match self.memory.requests.work_of(&self.memory.slots, worker) {
+            Err(why) => return Err(Fault::Refused(why)),
+            Ok(work) => work,
+        };
+        self.finish_with(worker, WorkResult::compute(request.job(id)))
+    }
+
+    /// A worker finishes its job, of which this is the result. No job is done here.
+    pub fn finish_with(&mut self, worker: u16, work: WorkResult) -> Result<Outcome, Fault>
+        ensures program { self.new.program ≡ self.old.program }
+        ensures answer { AnswersResult STEPS self.old.program self.old.standing worker work.job result self.new.standing }
+        ensures records { Adds result self.old self.new }
+    {
+        if self.steps.events.len() >= STEPS {
+            return Err(Fault::StepsFull);
+        }
+        let (id, request) = match self.memory.requests.work_of(&self.memory.slots, worker) {
+            Err(why) => return Err(Fault::Refused(why)),
+            Ok(asked) => asked,
+        };
+        if !request.job(id).is(work.job()) {
+            return Err(Fault::Refused(Why::NoWork));
+        }
+        if self.steps.reserve().is_err() {
+            return Err(Fault::Memory);
+        }
+        let (line, step_record) = finish_work(&mut self.memory, worker, id, request, work);
+        let seen = Some(line);
+        self.steps.push(Event::Finish(worker), seen, step_record);
+        Ok(Outcome { seen })
+    }
+
+    /// A request is cancelled from outside, by its name (uv_cancel).
+    pub fn cancel(&mut self, name: Var) -> Result<Outcome, Fault>
+        ensures program { self.new.program ≡ self.old.program }
+        ensures answer { Answers STEPS self.old.program self.old.standing (Cancel name) result self.new.standing }
+        ensures records { Adds result self.old self.new }
+    {
+        if self.steps.events.len() >= STEPS {
+            return Err(Fault::StepsFull);
+        }
+        if name.0 as usize >= self.memory.names.len() {
+            return Err(Fault::Refused(Why::Range));
+        }
+        if self.steps.reserve().is_err() {
+            return Err(Fault::Memory);
+        }
+        let (answer, step_record) = cancel_named(&mut self.memory, name);
+        let seen = Some(Seen::Cancel(name, answer));
+        self.steps.push(Event::Cancel(name), seen, step_record);
         Ok(Outcome { seen })
     }
 

@@ -2,6 +2,7 @@
 #![tactic(auto)]
 
 mod arena_loop;
+mod pooling;
 mod sending;
 mod steps;
 

@@ -1,0 +1,211 @@
+-- A request is cancelled by its name.
+use Rattle.std.proofs.Common.{◌≡◌, ℕ, ◌<◌, ◌||◌, Bool, true, false, if◌then◌else◌, not, cond, eqb, List, [], ◌∷◌, map, length, Option, Some, None, option_map, refl, sym, ap, ◌∙◌, subst, inl, inr}
+use Rattle.std.specs.List.{list_any}
+use Rattle.std.proofs.lemmas.Bool.Decides.{eqb_tells}
+use Rattle.uv_ids.specs.declared.id.Id.{Id}
+use Rattle.uv_ids.specs.declared.id.Var.{Var}
+use Rattle.uv_ids.specs.declared.code.Code.{Code}
+use Rattle.uv_ids.specs.declared.code.Code.TheVariants as code
+use Rattle.uv_ids.specs.declared.code.Answer.TheVariants as answer
+use Rattle.uv_ids.specs.declared.event.Event.TheVariants.{Cancel}
+use Rattle.uv_ids.specs.declared.seen.Seen.TheVariants as seen
+use Rattle.uv_script.specs.Program.{Program}
+use Rattle.uv_records.specs.declared.lists.ListName.TheVariants as name
+use Rattle.uv_records.specs.Slots as plain
+use Rattle.uv_records.specs.Walks.{with_last, without}
+use Rattle.uv_arena.specs.Image as arena
+use Rattle.uv_arena.specs.Image.{IsSound}
+use Rattle.uv_work.specs.Ids.{same_id}
+use Rattle.uv_work.specs.Pool.{Pool, waits}
+use Rattle.uv_work.specs.Requests.{Request, cancelled, cancel_refusal}
+use Rattle.uv_work.specs.declared.outcome.Outcome.TheVariants as outcome
+use Rattle.uv_work.proofs.Replays.{same_itself, same_when}
+use Rattle.uv_requests.specs.declared.undo.CancelUndo.{CancelUndo}
+use Rattle.uv_requests.specs.Working as work
+use Rattle.uv_requests.specs.Working.{id_in, pool_of}
+use Rattle.uv_requests.specs.Calls.{IsCancelled}
+use Rattle.uv_requests.proofs.Holding.{id_is, content_of}
+use Rattle.uv_requests.proofs.Rules.{not_same}
+use Rattle.uv_model.specs.declared.content.Content as content
+use Rattle.uv_model.specs.declared.content.Content.TheVariants as holds
+use Rattle.uv_model.specs.declared.request.Request as queued
+use Rattle.uv_model.specs.declared.place.Place.{Place}
+use Rattle.uv_model.specs.Ids.{without_id}
+use Rattle.uv_model.specs.State as state
+use Rattle.uv_model.specs.State.{State, with_id, as_request, live_request}
+use Rattle.uv_model.specs.Ops as ops
+use Rattle.uv_model.specs.Ops.{Done, refuses, cancel}
+use Rattle.uv_step.specs.declared.content.Content.{Content}
+use Rattle.uv_step.specs.declared.content.Content.TheVariants.{Request as Asked}
+use Rattle.uv_step.specs.declared.record.Change.TheVariants as change
+use Rattle.uv_step.specs.declared.record.Record.{Record}
+use Rattle.uv_step.specs.Content.{request_in}
+use Rattle.uv_step.specs.Fit.{IsFit}
+use Rattle.uv_step.specs.Image.{Image, Held, working_of}
+use Rattle.uv_step.specs.Names.{named}
+use Rattle.uv_step.specs.Undo.{Recorded}
+use Rattle.uv_loop.specs.Contents.{content_of as held_as, request_of}
+use Rattle.uv_loop.specs.Stands.{StandsFor}
+use Rattle.uv_loop.specs.Course.{Leads}
+use Rattle.uv_loop.proofs.Sends.{bound_there, held_there, ids_kept, map_same}
+use Rattle.uv_loop.proofs.Events.{cancel_moves}
+use Rattle.uv_loop.proofs.Pools.{IsAsked, asked_there, list_same, done_more, slots_asked, frame_of, change_back, pool_stands}
+
+-- ---- lists of ids
+
+same_sym : (a b : Id) → same_id a b ≡ same_id b a
+same_sym a b = at (same_id a b) refl where
+  at : (x : Bool) → same_id a b ≡ x → same_id a b ≡ same_id b a
+  at true e = e ∙ sym (subst (λ z. same_id b z ≡ true) (sym (same_when a b e)) (same_itself b))
+  at false e = e ∙ sym (not_same b a (λ q. let t : same_id a b ≡ true = subst (λ z. same_id a z ≡ true) (sym q) (same_itself a) in cc))
+
+any_same : (ids : List Id) (d : Id) → list_any (same_id d) ids ≡ waits ids d
+any_same [] d = refl
+any_same (x ∷ ids) d = let here = same_sym d x in let rest = any_same ids d in λ l. here l || rest l
+
+module _ (f : ℕ → Id) (d : Id) (slots : (x : ℕ) → (f x).slot ≡ x) (one : f d.slot ≡ d) where
+  same_at : (x : ℕ) → same_id (f x) d ≡ eqb x d.slot
+  same_at x = elim (eqb_tells x d.slot) [
+    | inl y ↦ ap (λ z. same_id z d) (ap f y.1 ∙ one) ∙ same_itself d ∙ sym y.0
+    | inr n ↦ not_same (f x) d (λ q. n.1 (sym (slots x) ∙ ap (λ (z : Id). z.slot) q)) ∙ sym n.0
+  ]
+
+  cut_at : (b : Bool) (x : ℕ) (ys : List ℕ) → (if not b then f x ∷ map f ys else map f ys) ≡ map f (if not b then x ∷ ys else ys)
+  cut_at true x ys = refl
+  cut_at false x ys = refl
+
+  pub without_ids : (xs : List ℕ) → without_id (map f xs) d ≡ map f (without eqb xs d.slot)
+  without_ids [] = refl
+  without_ids (x ∷ xs) =
+      let here = same_at x in
+      let rest = without_ids xs in
+      (λ l. if not (here l) then f x ∷ rest l else rest l) ∙ cut_at (eqb x d.slot) x (without eqb xs d.slot)
+
+-- ---- what the event does
+
+live_by : (i : Image Place) (s : State) (v : Var) (o : Option Id) → StandsFor i s → o ≡ (named i.names v.0).id
+    → live_request s v ≡ as_request (state.live_id s o)
+live_by i s v o h e = ap (λ (z : Option Id). as_request (state.live_id s z)) (sym (e ∙ bound_there i s v h))
+
+refused_by : (s : State) (d : Id) (o : Option content.Content) (w : Bool) (why : Code) → list_any (same_id d) s.waiting ≡ w
+    → cancel_refusal (option_map request_in (option_map held_as o)) w ≡ Some why → cancel s (as_request (with_id d o)) ≡ refuses s why
+refused_by s d None w why any e = let q : code.Estale ≡ why = cc e in ap (refuses s) q
+refused_by s d (Some (holds.Handle h)) w why any e = let q : code.Ekind ≡ why = cc e in ap (refuses s) q
+refused_by s d (Some (holds.Request r)) true why any e = cc
+refused_by s d (Some (holds.Request r)) false why any e =
+    let q : code.Ebusy ≡ why = cc e in
+    let done : Done = record { state = ops.cancelled s d r; answer = answer.Cancelled d } in
+    ap (λ (b : Bool). if b then done else refuses s code.Ebusy) any ∙ ap (refuses s) q
+
+-- the name is bound to nothing
+pub cancelled_unbound : (i : Image Place) (s : State) (v : Var) → StandsFor i s → None ≡ (named i.names v.0).id
+    → cancel s (live_request s v) ≡ refuses s code.Estale
+cancelled_unbound i s v h e = ap (cancel s) (live_by i s v None h e)
+
+waits_there : (i : Image Place) (s : State) (d : Id) (w : Bool) → StandsFor i s → waits (pool_of request_in (working_of i)).waiting d ≡ w
+    → list_any (same_id d) s.waiting ≡ w
+waits_there i s d w h e = any_same s.waiting d ∙ ap (λ ids. waits ids d) (h.lists name.Waiting) ∙ e
+
+-- the cancel is refused
+pub cancelled_refused : (i : Image Place) (s : State) (v : Var) (d : Id) (why : Code) → StandsFor i s → Some d ≡ (named i.names v.0).id
+    → cancel_refusal (work.found request_in i.arena d) (waits (pool_of request_in (working_of i)).waiting d) ≡ Some why
+    → cancel s (live_request s v) ≡ refuses s why
+cancelled_refused i s v d why h e r =
+    let w = waits (pool_of request_in (working_of i)).waiting d in
+    ap (cancel s) (live_by i s v (Some d) h e)
+    ∙ refused_by s d (plain.held s.arena.slots d) w why (waits_there i s d w h refl)
+    (ap (λ o. cancel_refusal (option_map request_in o) w) (sym (held_there i s d h)) ∙ r)
+
+some_cut : (b : Bool) (p q : Pool) → cond b (Some p) None ≡ Some q → b ≡ true
+some_cut true p q e = refl
+some_cut false p q e = cc
+
+module _ (i j : Image Place) (v : Var) (d : Id) (bound : Some d ≡ (named i.names v.0).id) (u : CancelUndo)
+    (c : IsCancelled request_in Asked (working_of i) (working_of j) d u) (sound : IsSound j.arena) where
+  waited : waits (pool_of request_in (working_of i)).waiting d ≡ true
+  waited = some_cut _ _ _ c.rule
+
+  was : (x : Content) × (arena.held i.arena d ≡ Some x) × (request_in x ≡ Some c.from)
+  was = content_of request_in i.arena d c.from c.was
+
+  one : id_in i.arena d.slot ≡ d
+  one = id_is i.arena d was.0 was.1
+
+  ids : (x : ℕ) → id_in j.arena x ≡ id_in i.arena x
+  ids = ids_kept i.arena j.arena d (Asked (cancelled c.from)) was.0 was.1 c.plain
+
+  module _ (s : State) (h : StandsFor i s) where
+    abbrev asks : IsAsked s d c.from
+    asks = asked_there i s d c.from h c.was
+
+    abbrev withdrawn : queued.Request
+    withdrawn = record asks.request { outcome = outcome.Cancelled }
+
+    abbrev pub cancelled_state : State
+    cancelled_state = record s {
+      arena = record s.arena { slots = plain.with_held s.arena.slots d (holds.Request withdrawn) };
+      waiting = without_id s.waiting d;
+      done = with_last s.done d;
+    }
+
+    pub cancelled_done : cancel s (live_request s v) ≡ record { state = cancelled_state; answer = answer.Cancelled d }
+    cancelled_done =
+        let done : Done = record { state = cancelled_state; answer = answer.Cancelled d } in
+        ap (cancel s) (live_by i s v (Some d) h bound)
+        ∙ ap (λ o. cancel s (as_request (with_id d o))) asks.there
+        ∙ ap (λ (b : Bool). if b then done else refuses s code.Ebusy) (waits_there i s d true h waited)
+
+    to : cancelled c.from ≡ request_of withdrawn
+    to = ap (λ (z : Request). cancelled z) (sym asks.same)
+
+    pub cancelled_stands : IsFit (record i { arena = j.arena; running = j.running })
+        → StandsFor (record i { arena = j.arena; running = j.running }) cancelled_state
+    cancelled_stands fit = pool_stands i s h j.arena j.running
+        (record s.arena { slots = plain.with_held s.arena.slots d (holds.Request withdrawn) }) (without_id s.waiting d) s.running (with_last s.done d) ids
+        (λ l a b x. c.others l a b)
+        (ap (λ xs. without_id xs d) (h.lists name.Waiting)
+        ∙ without_ids (id_in i.arena) d (λ x. refl) one (arena.members i.arena name.Waiting)
+        ∙ sym (map_same (id_in j.arena) (id_in i.arena) ids (without eqb (arena.members i.arena name.Waiting) d.slot))
+        ∙ ap (map (id_in j.arena)) (sym c.waiting))
+        (done_more i s j.arena d h one ids c.done)
+        (list_same i j.arena ids name.DoneYet s.done.yet (h.lists name.DoneYet) (c.others name.DoneYet (λ z. cc) (λ z. cc)))
+        (slots_asked i s j.arena d (cancelled c.from) withdrawn h c.plain to)
+        (ap (λ (z : work.Running). z.workers) c.running ∙ h.running)
+        sound fit
+
+-- ---- what it leads to
+
+module _ (i : Image Place) (v : Var) (within : v.0 < length i.names) where
+  pub unbound_leads : (j : Image Place) → j ≡ i → None ≡ (named i.names v.0).id → (p : Program)
+      → Leads p i j (Cancel v) (Some (seen.Cancel v (answer.Code code.Estale)))
+  unbound_leads j same bound p s h = (
+    s,
+    cancel_moves p i s v (refuses s code.Estale) h within (cancelled_unbound i s v h bound),
+    subst (λ q. StandsFor q s) (sym same) h,
+  )
+
+  pub refused_leads : (j : Image Place) (d : Id) (why : Code) → j ≡ i → Some d ≡ (named i.names v.0).id
+      → cancel_refusal (work.found request_in i.arena d) (waits (pool_of request_in (working_of i)).waiting d) ≡ Some why → (p : Program)
+      → Leads p i j (Cancel v) (Some (seen.Cancel v (answer.Code why)))
+  refused_leads j d why same bound refused p s h = (
+    s,
+    cancel_moves p i s v (refuses s why) h within (cancelled_refused i s v d why h bound refused),
+    subst (λ q. StandsFor q s) (sym same) h,
+  )
+
+pub cancelled_leads : (r' : Record Place) (h w : Held Place) (v : Var) (d : Id) (u : CancelUndo) → v.0 < length h.image.names
+    → Some d ≡ (named h.image.names v.0).id → IsCancelled request_in Asked (working_of h.image) (working_of w.image) d u → Recorded r' h w
+    → r'.change ≡ change.Cancelled u → IsSound w.image.arena → (p : Program)
+    → Leads p h.image w.image (Cancel v) (Some (seen.Cancel v (answer.Cancelled d)))
+cancelled_leads r' h w v d u within bound c recorded is sound p s stands =
+    let i = h.image in
+    let j = w.image in
+    let t = cancelled_state i j v d bound u c sound s stands in
+    let frame : j ≡ record i { arena = j.arena; running = j.running } =
+    frame_of i j r'.place _ _ (change_back r' (change.Cancelled u) h w recorded is) recorded.place in (
+      t,
+      cancel_moves p i s v (record { state = t; answer = answer.Cancelled d }) stands within
+          (cancelled_done i j v d bound u c sound s stands),
+      subst (λ q. StandsFor q t) (sym frame)
+          (cancelled_stands i j v d bound u c sound s stands (subst (λ q. IsFit q) frame recorded.fit)),
+    )

@@ -1,0 +1,185 @@
+-- A worker finishes the request that it runs.
+use Rattle.std.proofs.Common.{◌≡◌, ℕ, List, [], slice_get, slice_set, Some, None, Ok, Err, refl, sym, ap, ◌∙◌, subst, inr}
+use Rattle.uv_ids.specs.declared.id.Id.{Id}
+use Rattle.uv_ids.specs.declared.event.Event.TheVariants.{Finish}
+use Rattle.uv_ids.specs.declared.seen.Seen.TheVariants as seen
+use Rattle.uv_ids.specs.declared.fault.Why.{Why}
+use Rattle.uv_ids.specs.declared.fault.Why.TheVariants as why
+use Rattle.uv_script.specs.Program.{Program}
+use Rattle.uv_script.specs.Tasks.{text_of}
+use Rattle.uv_records.specs.declared.lists.ListName.TheVariants as name
+use Rattle.uv_records.specs.Slots as plain
+use Rattle.uv_records.specs.Walks.{with_last}
+use Rattle.uv_arena.specs.Image as arena
+use Rattle.uv_arena.specs.Image.{IsSound, plain_slots}
+use Rattle.uv_work.specs.Work.{Work}
+use Rattle.uv_work.specs.Digests.{digest_of}
+use Rattle.uv_work.specs.Requests.{Request, finished, job_of}
+use Rattle.uv_work.specs.declared.outcome.Outcome.TheVariants as outcome
+use Rattle.uv_requests.specs.declared.undo.FinishUndo.{FinishUndo}
+use Rattle.uv_requests.specs.Working as work
+use Rattle.uv_requests.specs.Working.{id_in}
+use Rattle.uv_requests.specs.Calls.{IsFinished, RefusesFinish, RunsOther}
+use Rattle.uv_requests.proofs.Holding.{id_is, content_of}
+use Rattle.uv_model.specs.declared.content.Content.TheVariants as holds
+use Rattle.uv_model.specs.declared.request.Request as queued
+use Rattle.uv_model.specs.declared.place.Place.{Place}
+use Rattle.uv_model.specs.Content as model
+use Rattle.uv_model.specs.Found.{found_or}
+use Rattle.uv_model.specs.State.{State, with_id}
+use Rattle.uv_model.specs.Next.{Moves, Refuses, next, finish, work_of}
+use Rattle.uv_model.specs.After.{IsMove}
+use Rattle.uv_model.specs.Handing.{job_in, job_run, RefusesResult}
+use Rattle.uv_step.specs.declared.content.Content.{Content}
+use Rattle.uv_step.specs.declared.content.Content.TheVariants.{Request as Asked}
+use Rattle.uv_step.specs.declared.record.Change.TheVariants as change
+use Rattle.uv_step.specs.declared.record.Record.{Record}
+use Rattle.uv_step.specs.Content.{request_in}
+use Rattle.uv_step.specs.Fit.{IsFit}
+use Rattle.uv_step.specs.Image.{Image, Held, working_of}
+use Rattle.uv_step.specs.Undo.{Recorded}
+use Rattle.uv_loop.specs.Contents.{request_of}
+use Rattle.uv_loop.specs.Stands.{StandsFor}
+use Rattle.uv_loop.specs.Course.{Leads}
+use Rattle.uv_loop.specs.Pooling.{MayFinish}
+use Rattle.uv_loop.proofs.Sends.{ids_kept}
+use Rattle.uv_loop.proofs.Pools.{IsAsked, asked_there, run_there, list_same, done_more, slots_asked, frame_of, change_back, pool_stands}
+
+-- ---- what the event does
+
+module _ (i : Image Place) (s : State) (k : ℕ) (d : Id) (r : Request) (h : StandsFor i s)
+    (runs : slice_get i.running.workers k ≡ Some (Some d)) (there : work.request_in request_in i.arena d ≡ Some r) where
+  abbrev asks : IsAsked s d r
+  asks = asked_there i s d r h there
+
+  -- the request as it is then
+  abbrev pub ended_request : queued.Request
+  ended_request = record asks.request { outcome = outcome.Finished (digest_of asks.request.task.rounds (text_of asks.request.task)) }
+
+  abbrev pub finished_state : State
+  finished_state = record s {
+    arena = record s.arena { slots = plain.with_held s.arena.slots d (holds.Request ended_request) };
+    running = slice_set s.running k None;
+    done = with_last s.done d;
+  }
+
+  pub finish_moves : (p : Program) → next p s (Finish k) ≡ Moves finished_state (Some (seen.Finish k r.name d))
+  unfolding next
+  finish_moves p =
+      ap (λ o. finish s k (work_of s o)) (run_there i s k (Some (Some d)) h runs)
+      ∙ ap (λ o. finish s k (found_or (with_id d (model.request_in o)) Ok (Err why.IdleWorker))) asks.there
+      ∙ (λ l. Moves finished_state (Some (seen.Finish k ((ap (λ (z : Request). z.name) asks.same) l) d)))
+
+  -- the job that the worker runs
+  pub job_there : job_run s k ≡ Some (job_of d r)
+  job_there =
+      ap (λ o. job_in (work_of s o)) (run_there i s k (Some (Some d)) h runs)
+      ∙ ap (λ o. job_in (found_or (with_id d (model.request_in o)) Ok (Err why.IdleWorker))) asks.there
+      ∙ ap (λ (z : Request). Some (job_of d z)) asks.same
+
+no_job : Work
+no_job = record { req = record { slot = 0; generation = 0 }; rounds = 0; text = [] }
+
+-- a worker that runs a request runs its job
+no_other : (i : Image Place) (k : ℕ) → ((job : Work) → RunsOther request_in (working_of i) k job) → ⊥
+no_other i k e =
+    let a = e no_job in
+    let b = e (job_of a.id a.request) in
+    let same : b.id ≡ a.id = cc (a.runs, b.runs) in
+    let there : work.request_in request_in i.arena a.id ≡ Some b.request = subst (λ z. work.request_in request_in i.arena z ≡ Some b.request) same b.is in
+    let one : b.request ≡ a.request = cc (a.is, there) in
+    b.other (λ l. job_of (same l) (one l))
+
+pub finish_refused : (p : Program) (i : Image Place) (s : State) (k : ℕ) (w : Why) → StandsFor i s
+    → ((job : Work) → RefusesFinish request_in (working_of i) k job w) → next p s (Finish k) ≡ Refuses w
+unfolding next
+finish_refused p i s k why.NoWorker h e = ap (λ o. finish s k (work_of s o)) (run_there i s k None h (e no_job))
+finish_refused p i s k why.IdleWorker h e = ap (λ o. finish s k (work_of s o)) (run_there i s k (Some None) h (e no_job))
+finish_refused p i s k why.NoWork h e = absurd (no_other i k e)
+finish_refused p i s k why.Blocked h e = absurd (e no_job)
+finish_refused p i s k why.Ended h e = absurd (e no_job)
+finish_refused p i s k why.BusyWorker h e = absurd (e no_job)
+finish_refused p i s k why.Range h e = absurd (e no_job)
+
+-- the worker runs another job
+pub other_refused : (p : Program) (i : Image Place) (s : State) (k : ℕ) (d : Id) (r : Request) (job : Work) → StandsFor i s → MayFinish i k d r
+    → (job_of d r ≡ job → ⊥) → RefusesResult p s k job why.NoWork
+other_refused p i s k d r job h may other = inr (refl, (job_of d r, job_there i s k d r h may.runs may.request, other))
+
+pub finish_may : (p : Program) (i : Image Place) (k : ℕ) (d : Id) (r : Request) → MayFinish i k d r → (s : State) → StandsFor i s
+    → IsMove (next p s (Finish k))
+finish_may p i k d r may s h = rw (finish_moves i s k d r h may.runs may.request p) tt
+
+-- where a worker may finish its request with its job's result, it isn't refused
+pub finishes : (i : Image Place) (k : ℕ) (d : Id) (r : Request) (job : Work) (w : Why) → MayFinish i k d r → job_of d r ≡ job
+    → RefusesFinish request_in (working_of i) k job w → ⊥
+finishes i k d r job why.NoWorker may is e = let runs = may.runs in cc
+finishes i k d r job why.IdleWorker may is e = let runs = may.runs in cc
+finishes i k d r job why.NoWork may is e =
+    let same : e.id ≡ d = cc (e.runs, may.runs) in
+    let there : work.request_in request_in i.arena d ≡ Some e.request = subst (λ z. work.request_in request_in i.arena z ≡ Some e.request) same e.is in
+    let one : e.request ≡ r = cc (may.request, there) in
+    e.other ((λ l. job_of (same l) (one l)) ∙ is)
+finishes i k d r job why.Blocked may is e = e
+finishes i k d r job why.Ended may is e = e
+finishes i k d r job why.BusyWorker may is e = e
+finishes i k d r job why.Range may is e = e
+
+-- ---- what the memory stands for then
+
+module _ (i j : Image Place) (k : ℕ) (d e : Id) (r : Request) (job : Work) (digest : List ℕ) (u : FinishUndo) (may : MayFinish i k d r)
+    (is : job_of d r ≡ job) (made : digest ≡ digest_of job.rounds job.text)
+    (c : IsFinished request_in Asked (working_of i) (working_of j) k e job digest u) (sound : IsSound j.arena) where
+  one : e ≡ d
+  one = cc (c.runs, may.runs)
+
+  pub asked_now : work.request_in request_in i.arena e ≡ Some r
+  asked_now = subst (λ z. work.request_in request_in i.arena z ≡ Some r) (sym one) may.request
+
+  was : (x : Content) × (arena.held i.arena e ≡ Some x) × (request_in x ≡ Some r)
+  was = content_of request_in i.arena e r asked_now
+
+  ids : (x : ℕ) → id_in j.arena x ≡ id_in i.arena x
+  ids = ids_kept i.arena j.arena e (Asked (finished digest c.from)) was.0 was.1 c.plain
+
+  module _ (s : State) (h : StandsFor i s) where
+    abbrev ended : queued.Request
+    ended = ended_request i s k e r h c.runs asked_now
+
+    to : finished digest c.from ≡ request_of ended
+    to =
+        let asks = asked_there i s e r h asked_now in
+        let from : c.from ≡ request_of asks.request = (let q : c.from ≡ r = cc (c.was, asked_now) in q ∙ sym asks.same) in
+        let done : digest ≡ digest_of asks.request.task.rounds (text_of asks.request.task) =
+        made ∙ ap (λ (z : Work). digest_of z.rounds z.text) (sym is) ∙ ap (λ (z : Request). digest_of z.rounds z.text) (sym asks.same) in
+        λ l. record { name = (from l).name; rounds = (from l).rounds; text = (from l).text; outcome = outcome.Finished (done l) }
+
+    pub finished_stands : IsFit (record i { arena = j.arena; running = j.running })
+        → StandsFor (record i { arena = j.arena; running = j.running }) (finished_state i s k e r h c.runs asked_now)
+    finished_stands fit = pool_stands i s h j.arena j.running
+        (record s.arena { slots = plain.with_held s.arena.slots e (holds.Request ended) }) s.waiting (slice_set s.running k None) (with_last s.done e) ids
+        (λ l a b x. c.others l b)
+        (list_same i j.arena ids name.Waiting s.waiting (h.lists name.Waiting) (c.others name.Waiting (λ z. cc)))
+        (done_more i s j.arena e h (id_is i.arena e was.0 was.1) ids c.done)
+        (list_same i j.arena ids name.DoneYet s.done.yet (h.lists name.DoneYet) (c.others name.DoneYet (λ z. cc)))
+        (slots_asked i s j.arena e (finished digest c.from) ended h c.plain to)
+        (ap (λ (z : work.Running). z.workers) c.running ∙ ap (λ rs. slice_set rs k None) h.running)
+        sound fit
+
+pub finish_leads : (r' : Record Place) (h w : Held Place) (k : ℕ) (d e : Id) (r : Request) (job : Work) (digest : List ℕ) (u : FinishUndo)
+    → MayFinish h.image k d r → job_of d r ≡ job → digest ≡ digest_of job.rounds job.text
+    → IsFinished request_in Asked (working_of h.image) (working_of w.image) k e job digest u → Recorded r' h w → r'.change ≡ change.Finished u
+    → IsSound w.image.arena → (p : Program) → Leads p h.image w.image (Finish k) (Some (seen.Finish k r.name d))
+finish_leads r' h w k d e r job digest u may same made c recorded is sound p s stands =
+    let i = h.image in
+    let j = w.image in
+    let frame : j ≡ record i { arena = j.arena; running = j.running } =
+    frame_of i j r'.place _ _ (change_back r' (change.Finished u) h w recorded is) recorded.place in
+    let at = asked_now i j k d e r job digest u may same made c sound in (
+      finished_state i s k e r stands c.runs at,
+      finish_moves i s k e r stands c.runs at p
+          ∙ ap (λ (z : Id). Moves (finished_state i s k e r stands c.runs at) (Some (seen.Finish k r.name z)))
+          (one i j k d e r job digest u may same made c sound),
+      subst (λ q. StandsFor q (finished_state i s k e r stands c.runs at)) (sym frame)
+          (finished_stands i j k d e r job digest u may same made c sound s stands (subst (λ q. IsFit q) frame recorded.fit)),
+    )

@@ -1,0 +1,121 @@
+-- A worker takes the request that waits longest.
+use Rattle.std.proofs.Common.{◌≡◌, ℕ, List, [], ◌∷◌, map, slice_get, slice_set, drop, Some, None, Ok, Err, sym, ap, ◌∙◌, subst}
+use Rattle.uv_ids.specs.declared.id.Id.{Id}
+use Rattle.uv_ids.specs.declared.event.Event.TheVariants.{Take}
+use Rattle.uv_ids.specs.declared.seen.Seen.TheVariants as seen
+use Rattle.uv_ids.specs.declared.fault.Why.{Why}
+use Rattle.uv_ids.specs.declared.fault.Why.TheVariants as why
+use Rattle.uv_script.specs.Program.{Program}
+use Rattle.uv_records.specs.declared.lists.ListName.TheVariants as name
+use Rattle.uv_arena.specs.Calls.{IsFirst}
+use Rattle.uv_arena.specs.Image.{IsSound}
+use Rattle.uv_work.specs.Requests.{Request}
+use Rattle.uv_requests.specs.declared.undo.TakeUndo.{TakeUndo}
+use Rattle.uv_requests.specs.Working as work
+use Rattle.uv_requests.specs.Working.{id_in}
+use Rattle.uv_requests.specs.Calls.{IsTaken, RefusesTake}
+use Rattle.uv_model.specs.declared.place.Place.{Place}
+use Rattle.uv_model.specs.Content as model
+use Rattle.uv_model.specs.Found.{found_or}
+use Rattle.uv_model.specs.State.{State, with_id, front_request}
+use Rattle.uv_model.specs.Next.{Moves, Refuses, next, take, next_work}
+use Rattle.uv_model.specs.After.{IsMove}
+use Rattle.uv_step.specs.declared.record.Change.TheVariants as change
+use Rattle.uv_step.specs.declared.record.Record.{Record}
+use Rattle.uv_step.specs.Content.{request_in}
+use Rattle.uv_step.specs.Fit.{IsFit}
+use Rattle.uv_step.specs.Image.{Image, Held, working_of}
+use Rattle.uv_step.specs.Undo.{Recorded}
+use Rattle.uv_loop.specs.Stands.{StandsFor}
+use Rattle.uv_loop.specs.Course.{Leads}
+use Rattle.uv_loop.specs.Pooling.{MayTake}
+use Rattle.uv_loop.proofs.Sends.{map_same}
+use Rattle.uv_loop.proofs.Pools.{IsAsked, asked_there, front_there, first_one, run_there, list_same, ids_moved, frame_of, change_back, pool_stands}
+
+-- ---- what the event does
+
+module _ (i : Image Place) (s : State) (k : ℕ) (d : Id) (r : Request) (h : StandsFor i s) (idle : slice_get i.running.workers k ≡ Some None)
+    (first : IsFirst i.arena name.Waiting d) (there : work.request_in request_in i.arena d ≡ Some r) where
+  abbrev left : List Id
+  left = map (id_in i.arena) first.rest
+
+  abbrev pub taken : State
+  taken = record s { waiting = left; running = slice_set s.running k (Some d) }
+
+  pub take_moves : (p : Program) → next p s (Take k) ≡ Moves taken (Some (seen.Take k r.name d))
+  unfolding next
+  take_moves p =
+      let run : slice_get s.running k ≡ Some None = run_there i s k (Some None) h idle in
+      let front : s.waiting ≡ d ∷ left = front_there i s name.Waiting d h first in
+      let asks : IsAsked s d r = asked_there i s d r h there in
+      ap (λ o. take s k (next_work s o)) run
+      ∙ ap (λ ids. take s k (found_or (front_request s ids) Ok (Err why.NoWork))) front
+      ∙ ap (λ o. take s k (found_or (with_id d (model.request_in o)) Ok (Err why.NoWork))) asks.there
+      ∙ (λ l. Moves (record s { waiting = drop 1 (front l); running = slice_set s.running k (Some d) })
+      (Some (seen.Take k ((ap (λ (z : Request). z.name) asks.same) l) d)))
+
+pub take_refused : (p : Program) (i : Image Place) (s : State) (k : ℕ) (w : Why) → StandsFor i s
+    → RefusesTake request_in (working_of i) k w → next p s (Take k) ≡ Refuses w
+unfolding next
+take_refused p i s k why.NoWorker h e = ap (λ o. take s k (next_work s o)) (run_there i s k None h e)
+take_refused p i s k why.BusyWorker h e = ap (λ o. take s k (next_work s o)) (run_there i s k (Some (Some e.0)) h e.1)
+take_refused p i s k why.NoWork h e =
+    let none : s.waiting ≡ [] = h.lists name.Waiting ∙ ap (map (id_in i.arena)) e.1 in
+    ap (λ o. take s k (next_work s o)) (run_there i s k (Some None) h e.0)
+    ∙ ap (λ ids. take s k (found_or (front_request s ids) Ok (Err why.NoWork))) none
+take_refused p i s k why.Blocked h e = absurd e
+take_refused p i s k why.Ended h e = absurd e
+take_refused p i s k why.IdleWorker h e = absurd e
+take_refused p i s k why.Range h e = absurd e
+
+pub take_may : (p : Program) (i : Image Place) (k : ℕ) (d : Id) (r : Request) → MayTake i k d r → (s : State) → StandsFor i s
+    → IsMove (next p s (Take k))
+take_may p i k d r may s h = rw (take_moves i s k d r h may.idle may.first may.request p) tt
+
+-- where a worker may take a request, it isn't refused
+pub takes : (i : Image Place) (k : ℕ) (d : Id) (r : Request) (w : Why) → MayTake i k d r → RefusesTake request_in (working_of i) k w → ⊥
+takes i k d r why.NoWorker may e = let idle = may.idle in cc
+takes i k d r why.BusyWorker may e = let idle = may.idle in let busy = e.1 in cc
+takes i k d r why.NoWork may e = let is = may.first.is in let none = e.1 in cc
+takes i k d r why.Blocked may e = e
+takes i k d r why.Ended may e = e
+takes i k d r why.IdleWorker may e = e
+takes i k d r why.Range may e = e
+
+-- ---- what the memory stands for then
+
+module _ (i j : Image Place) (k : ℕ) (d e : Id) (r : Request) (u : TakeUndo) (may : MayTake i k d r)
+    (c : IsTaken request_in (working_of i) (working_of j) k e u) (sound : IsSound j.arena) where
+  there : work.request_in request_in i.arena e ≡ Some r
+  there = subst (λ z. work.request_in request_in i.arena z ≡ Some r) (sym (first_one i.arena name.Waiting d e may.first c.first)) may.request
+
+  ids : (x : ℕ) → id_in j.arena x ≡ id_in i.arena x
+  ids = ids_moved i.arena j.arena c.slots.plain
+
+  taken_stands : IsFit (record i { arena = j.arena; running = j.running }) → (s : State) → (h : StandsFor i s)
+      → StandsFor (record i { arena = j.arena; running = j.running }) (taken i s k e r h c.idle c.first there)
+  taken_stands fit s h = pool_stands i s h j.arena j.running s.arena (map (id_in i.arena) c.first.rest) (slice_set s.running k (Some e)) s.done ids
+      (λ l a b x. c.others l a)
+      (sym (map_same (id_in j.arena) (id_in i.arena) ids c.first.rest) ∙ ap (map (id_in j.arena)) (sym c.waiting))
+      (list_same i j.arena ids name.Done s.done.list (h.lists name.Done) (c.others name.Done (λ z. cc)))
+      (list_same i j.arena ids name.DoneYet s.done.yet (h.lists name.DoneYet) (c.others name.DoneYet (λ z. cc)))
+      (c.slots.plain ∙ h.slots)
+      (ap (λ (z : work.Running). z.workers) c.running ∙ ap (λ rs. slice_set rs k (Some e)) h.running)
+      sound fit
+
+pub take_leads : (r' : Record Place) (h w : Held Place) (k : ℕ) (d e : Id) (r : Request) (u : TakeUndo) → MayTake h.image k d r
+    → IsTaken request_in (working_of h.image) (working_of w.image) k e u → Recorded r' h w → r'.change ≡ change.Taken u → IsSound w.image.arena
+    → (p : Program) → Leads p h.image w.image (Take k) (Some (seen.Take k r.name d))
+take_leads r' h w k d e r u may c recorded is sound p s stands =
+    let i = h.image in
+    let j = w.image in
+    let frame : j ≡ record i { arena = j.arena; running = j.running } =
+    frame_of i j r'.place _ _ (change_back r' (change.Taken u) h w recorded is) recorded.place in
+    let at = there i j k d e r u may c sound in (
+      taken i s k e r stands c.idle c.first at,
+      take_moves i s k e r stands c.idle c.first at p
+          ∙ ap (λ (z : Id). Moves (taken i s k e r stands c.idle c.first at) (Some (seen.Take k r.name z)))
+          (first_one i.arena name.Waiting d e may.first c.first),
+      subst (λ q. StandsFor q (taken i s k e r stands c.idle c.first at)) (sym frame)
+          (taken_stands i j k d e r u may c sound (subst (λ q. IsFit q) frame recorded.fit) s stands),
+    )

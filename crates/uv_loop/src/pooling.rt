@@ -1,0 +1,80 @@
+//! The workers of the thread pool take requests and finish them, and requests are cancelled from outside.
+ghost use Rattle.std.specs.Prelude.{◌≡◌, ◌<◌, Some, length};
+ghost use Rattle.uv_ids.specs.declared.event.Event.TheVariants.{Take, Finish, Cancel};
+ghost use Rattle.uv_ids.specs.declared.seen.Seen.TheVariants.{Cancel as cancelled};
+ghost use Rattle.uv_script.specs.Program.{Program};
+ghost use Rattle.uv_work.specs.Requests.{job_of};
+ghost use Rattle.uv_step.specs.Fit.{IsFit};
+ghost use Rattle.uv_step.specs.Image.{held};
+ghost use Rattle.uv_step.specs.Undo.{Recorded};
+ghost use Rattle.uv_loop.specs.Course.{Leads};
+ghost use Rattle.uv_loop.specs.Pooling.{MayTake, MayFinish};
+
+use uv_ids::{Answer, Code, Id, Seen, Var};
+use uv_model::Place;
+use uv_step::{Memory, Record};
+use uv_work::{RequestRecord, WorkResult};
+
+/// A worker takes a request: what that appends, and what takes it back.
+pub(crate) fn take_work(
+    memory: &mut Memory<Place>,
+    worker: u16,
+    id: Id,
+    request: RequestRecord,
+) -> (Seen, Record<Place>)
+    requires fit { IsFit (held memory.old).image }
+    requires may { MayTake (held memory.old).image worker id request }
+    ensures recorded { Recorded result.1 (held memory.old) (held memory.new) }
+    ensures leads { (p : Program) → Leads p (held memory.old).image (held memory.new).image (Take worker) (Some result.0) }
+{
+    match memory.take(worker) {
+        Err(_) => unreachable!(),
+        Ok((_, step_record)) => {
+            memory.slots.is_sound();
+            (Seen::Take(worker, request.name(), id), step_record)
+        }
+    }
+}
+
+/// A worker finishes the request that it runs, of whose job this is the result: what that appends, and what takes it back.
+pub(crate) fn finish_work(
+    memory: &mut Memory<Place>,
+    worker: u16,
+    id: Id,
+    request: RequestRecord,
+    work: WorkResult,
+) -> (Seen, Record<Place>)
+    requires fit { IsFit (held memory.old).image }
+    requires may { MayFinish (held memory.old).image worker id request }
+    requires job { job_of id request ≡ work.job }
+    ensures recorded { Recorded result.1 (held memory.old) (held memory.new) }
+    ensures leads { (p : Program) → Leads p (held memory.old).image (held memory.new).image (Finish worker) (Some result.0) }
+{
+    match memory.finish(worker, work) {
+        Err(_) => unreachable!(),
+        Ok((_, step_record)) => {
+            memory.slots.is_sound();
+            (Seen::Finish(worker, request.name(), id), step_record)
+        }
+    }
+}
+
+/// Cancels the request of a name: what that answers, and what takes it back.
+pub(crate) fn cancel_named(memory: &mut Memory<Place>, name: Var) -> (Answer, Record<Place>)
+    requires fit { IsFit (held memory.old).image }
+    requires name { name.0 < length (held memory.old).image.names }
+    ensures recorded { Recorded result.1 (held memory.old) (held memory.new) }
+    ensures leads { (p : Program)
+        → Leads p (held memory.old).image (held memory.new).image (Cancel name) (Some (cancelled name result.0)) }
+{
+    match memory.names[name.0 as usize].id {
+        None => (Answer::Code(Code::Estale), memory.pass()),
+        Some(id) => match memory.cancel(id) {
+            Err(code) => (Answer::Code(code), memory.pass()),
+            Ok(step_record) => {
+                memory.slots.is_sound();
+                (Answer::Cancelled(id), step_record)
+            }
+        },
+    }
+}
