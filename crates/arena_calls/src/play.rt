@@ -1,6 +1,6 @@
 //! Random calls, and then each taken back.
-ghost use Rattle.std.specs.Prelude.{◌≡◌, IfOk};
-ghost use Rattle.uv_arena.specs.Image.{Image};
+ghost use Rattle.std.specs.Prelude.{◌≡◌, [], IfOk, OnOk};
+ghost use Rattle.arena_calls.specs.Trail.{beginning};
 
 use crate::model::{LISTS, Model};
 use crate::trail::Trail;
@@ -56,6 +56,75 @@ fn scattered(number: u64) -> u64 {
     b ^ (b << 17)
 }
 
+/// Keeps all that is held.
+fn keep(alloc: Global, trail: &Trail, snapshots: &mut Vec<Snapshot>) -> Result<(), AllocError> {
+    let now = Snapshot::of(alloc, trail.slots())?;
+    if snapshots.push(now).is_err() {
+        return Err(AllocError);
+    }
+    Ok(())
+}
+
+/// Whether all is held that was kept last.
+fn is_as_kept(
+    alloc: Global,
+    trail: &Trail,
+    snapshots: &mut Vec<Snapshot>,
+) -> Result<bool, AllocError> {
+    let now = Snapshot::of(alloc, trail.slots())?;
+    Ok(snapshots.pop() == Some(now))
+}
+
+/// Whether the model is as it is to be before a call. Before each hundredth one all is kept.
+fn look(
+    alloc: Global,
+    trail: &Trail,
+    model: &Model,
+    snapshots: &mut Vec<Snapshot>,
+) -> Result<bool, AllocError> {
+    if trail.len() % APART != 0 {
+        return Ok(true);
+    }
+    keep(alloc, trail, snapshots)?;
+    Ok(model.agrees(trail.slots()))
+}
+
+/// So many calls: whether each was as the model's.
+fn forward(
+    alloc: Global,
+    trail: &mut Trail,
+    model: &mut Model,
+    snapshots: &mut Vec<Snapshot>,
+    calls: u32,
+) -> Result<bool, AllocError>
+    ensures { beginning trail.new ≡ beginning trail.old }
+{
+    let mut same = true;
+    let mut number = 88172645463325252;
+    'forward: for _ in 0..calls {
+        let before = look(alloc, trail, model, snapshots)?;
+        let alike = trail.go(model, number)?;
+        same = same && before && alike;
+        number = scattered(number);
+    }
+    Ok(same && model.agrees(trail.slots()))
+}
+
+/// All calls are taken back: whether each hundredth image was as before.
+fn back(alloc: Global, trail: &mut Trail, snapshots: &mut Vec<Snapshot>) -> Result<bool, AllocError>
+    ensures beginning { beginning trail.new ≡ beginning trail.old }
+    ensures all { OnOk result (trail.new.tokens ≡ []) }
+{
+    let mut same = true;
+    'back: while trail.back() {
+        if trail.len() % APART == 0 {
+            let alike = is_as_kept(alloc, trail, snapshots)?;
+            same = same && alike;
+        }
+    }
+    Ok(same && snapshots.is_empty())
+}
+
 /// So many calls, and all of them taken back: whether each was as the model's and each image as before, and the arena as it was.
 fn play(
     alloc: Global,
@@ -67,24 +136,7 @@ fn play(
 {
     let mut trail = Trail::new(alloc, slots);
     let mut snapshots = Vec::new(alloc);
-    let mut same = true;
-    let mut number = 88172645463325252;
-    'forward: for _ in 0..calls {
-        if trail.len() % APART == 0 {
-            same = same && model.agrees(trail.slots());
-            snapshots.push(Snapshot::of(alloc, trail.slots())?)?;
-        }
-        let alike = trail.go(model, number)?;
-        same = same && alike;
-        number = scattered(number);
-    }
-    same = same && model.agrees(trail.slots());
-    'back: while trail.back() {
-        if trail.len() % APART == 0 {
-            let now = Snapshot::of(alloc, trail.slots())?;
-            same = same && snapshots.pop() == Some(now);
-        }
-    }
-    same = same && snapshots.is_empty();
-    Ok((same, trail.into_slots()))
+    let there = forward(alloc, &mut trail, model, &mut snapshots, calls)?;
+    let and_back = back(alloc, &mut trail, &mut snapshots)?;
+    Ok((there && and_back, trail.into_slots()))
 }

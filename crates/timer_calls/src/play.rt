@@ -1,7 +1,7 @@
 //! Random calls, and then each taken back.
-ghost use Rattle.std.specs.Prelude.{◌≡◌, ◌≤◌, IfOk};
+ghost use Rattle.std.specs.Prelude.{◌≡◌, ◌≤◌, [], IfOk, OnOk};
 ghost use Rattle.uv_handle.specs.Counted.{IsCounted};
-ghost use Rattle.timer_calls.specs.Trail.{all, read};
+ghost use Rattle.timer_calls.specs.Trail.{all, beginning, read};
 
 use crate::content::Content;
 use crate::parts::Parts;
@@ -71,7 +71,7 @@ pub fn run(alloc: Global, calls: u32, timers: u32) -> Result<bool, AllocError> {
         },
     };
     let mut plain = Plain::new(alloc, timers);
-    let (same, _) = play(alloc, parts, &mut plain, calls, timers)?;
+    let (same, _) = play(alloc, parts, &mut plain, timers, calls)?;
     Ok(same)
 }
 
@@ -82,13 +82,82 @@ fn scattered(number: u64) -> u64 {
     b ^ (b << 17)
 }
 
+/// Keeps all that is held.
+fn keep(alloc: Global, trail: &Trail, snapshots: &mut Vec<Snapshot>) -> Result<(), AllocError> {
+    let now = Snapshot::of(alloc, trail.parts())?;
+    if snapshots.push(now).is_err() {
+        return Err(AllocError);
+    }
+    Ok(())
+}
+
+/// Whether all is held that was kept last.
+fn is_as_kept(
+    alloc: Global,
+    trail: &Trail,
+    snapshots: &mut Vec<Snapshot>,
+) -> Result<bool, AllocError> {
+    let now = Snapshot::of(alloc, trail.parts())?;
+    Ok(snapshots.pop() == Some(now))
+}
+
+/// Whether the model is as it is to be before a call. Before each hundredth one all is kept.
+fn look(
+    alloc: Global,
+    trail: &Trail,
+    plain: &Plain,
+    snapshots: &mut Vec<Snapshot>,
+) -> Result<bool, AllocError> {
+    if trail.len() % APART != 0 {
+        return Ok(true);
+    }
+    keep(alloc, trail, snapshots)?;
+    Ok(plain.agrees(trail.parts()))
+}
+
+/// So many calls: whether each was as the model's.
+fn forward(
+    alloc: Global,
+    trail: &mut Trail,
+    plain: &mut Plain,
+    snapshots: &mut Vec<Snapshot>,
+    calls: u32,
+) -> Result<bool, AllocError>
+    ensures { beginning trail.new ≡ beginning trail.old }
+{
+    let mut same = true;
+    let mut number = 88172645463325252;
+    'forward: for _ in 0..calls {
+        let before = look(alloc, trail, plain, snapshots)?;
+        let alike = trail.go(plain, number)?;
+        same = same && before && alike;
+        number = scattered(number);
+    }
+    Ok(same && plain.agrees(trail.parts()))
+}
+
+/// All calls are taken back: whether each hundredth image was as before.
+fn back(alloc: Global, trail: &mut Trail, snapshots: &mut Vec<Snapshot>) -> Result<bool, AllocError>
+    ensures beginning { beginning trail.new ≡ beginning trail.old }
+    ensures all { OnOk result (trail.new.tokens ≡ []) }
+{
+    let mut same = true;
+    'back: while trail.back() {
+        if trail.len() % APART == 0 {
+            let alike = is_as_kept(alloc, trail, snapshots)?;
+            same = same && alike;
+        }
+    }
+    Ok(same && snapshots.is_empty())
+}
+
 /// So many calls, and all of them taken back: whether each was as the model's, and the parts as they were.
 fn play(
     alloc: Global,
     parts: Parts,
     plain: &mut Plain,
-    calls: u32,
     timers: u32,
+    calls: u32,
 ) -> Result<(bool, Parts), AllocError>
     requires counts { IsCounted read (all parts).handles }
     requires room { timers ≤ parts.heap.room }
@@ -96,24 +165,7 @@ fn play(
 {
     let mut trail = Trail::new(alloc, parts, timers);
     let mut snapshots = Vec::new(alloc);
-    let mut same = true;
-    let mut number = 88172645463325252;
-    'forward: for _ in 0..calls {
-        if trail.len() % APART == 0 {
-            same = same && plain.agrees(trail.parts());
-            snapshots.push(Snapshot::of(alloc, trail.parts())?)?;
-        }
-        let alike = trail.go(plain, number)?;
-        same = same && alike;
-        number = scattered(number);
-    }
-    same = same && plain.agrees(trail.parts());
-    'back: while trail.back() {
-        if trail.len() % APART == 0 {
-            let now = Snapshot::of(alloc, trail.parts())?;
-            same = same && snapshots.pop() == Some(now);
-        }
-    }
-    same = same && snapshots.is_empty();
-    Ok((same, trail.into_parts()))
+    let there = forward(alloc, &mut trail, plain, &mut snapshots, calls)?;
+    let and_back = back(alloc, &mut trail, &mut snapshots)?;
+    Ok((there && and_back, trail.into_parts()))
 }
