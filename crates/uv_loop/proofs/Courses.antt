@@ -7,7 +7,7 @@ use Rattle.uv_ids.specs.declared.seen.Seen.{Seen}
 use Rattle.uv_ids.specs.declared.fault.Fault.{Fault}
 use Rattle.uv_ids.specs.declared.fault.Fault.TheVariants as fault
 use Rattle.uv_ids.specs.declared.fault.Why.{Why}
-use Rattle.uv_script.specs.Program.{Program}
+use Rattle.uv_script.specs.Program.{Program, arena_size}
 use Rattle.uv_model.specs.declared.machine.Outcome.{Outcome}
 use Rattle.uv_model.specs.declared.place.Place.{Place}
 use Rattle.uv_model.specs.State as state
@@ -25,6 +25,7 @@ use Rattle.uv_step.specs.Undo.{CanUnwind, Recorded}
 use Rattle.uv_step.specs.Fit.{IsFit}
 use Rattle.uv_step.proofs.Trails.{unwound-push, begins_same}
 use Rattle.uv_loop.specs.Stands.{StandsFor}
+use Rattle.uv_loop.proofs.Lasts.{unwound_last}
 use Rattle.uv_loop.specs.Course.{Course, StandFrom, IsCourse, Leads, first_image}
 
 -- one record a step
@@ -189,6 +190,11 @@ module _ (p : Program) (es : List Event) (seen : List (Option Seen)) (rs : List 
 
   pub seen_begins : unwound w.walk.records w.walk.image ≡ first_image w.program
   seen_begins = subst (λ (x : Course). unwound x.walk.records x.walk.image ≡ first_image x.program) same c.begins
+
+  -- the arena's last generation is the script's
+  pub seen_last : w.walk.image.arena.last ≡ (arena_size w.program).last_generation
+  seen_last = subst (λ (x : Course). x.walk.image.arena.last ≡ (arena_size x.program).last_generation) same
+      (sym (unwound_last rs h.image) ∙ ap (λ (i : Image Place). i.arena.last) c.begins)
 
   -- what holds of each state that the memory stands for holds of the state after the steps
   pub asked : (Q : State → Type 0) → ((s : State) → StandsFor h.image s → Q s) → Q (after w.program w.standing)

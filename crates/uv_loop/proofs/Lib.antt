@@ -1,4 +1,5 @@
 pub mod Simulation
+pub mod Lasts
 pub mod Courses
 pub mod Events
 pub mod Sends

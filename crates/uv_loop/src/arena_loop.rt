@@ -2,6 +2,7 @@
 ghost use Rattle.std.specs.Prelude.{◌≡◌, ◌+◌, ◌<◌, ◌≤◌, ◌-◌, [], IfOk, IfErr, IfSome, IfNone, Some, length, slice_get};
 ghost use Rattle.uv_ids.specs.declared.event.Event.TheVariants.{Tick, Send, Take, Finish, Cancel};
 ghost use Rattle.uv_ids.specs.declared.fault.Fault.TheVariants.{Memory as no_memory};
+ghost use Rattle.uv_script.specs.Program.{arena_size};
 ghost use Rattle.uv_model.specs.After.{Answers, after, seen_by, STEPS};
 ghost use Rattle.uv_model.specs.Handing.{AnswersResult};
 ghost use Rattle.uv_model.specs.Queries.{numbers};
@@ -228,11 +229,12 @@ impl ArenaLoop {
         true
     }
 
-    /// What always holds: the memory stands for the state after the steps, there is a record for each of them, and all of these,
-    /// unwound, give back the very memory from before the first one. It costs nothing when it runs.
+    /// What always holds: the memory stands for the state after the steps, a slot of it retires at the script's last generation, there
+    /// is a record for each of the steps, and all of these, unwound, give back the very memory from before the first one. It costs nothing when it runs.
     pub fn stands(&self)
         ensures stands { StandsFor self.now.walk.image (after self.now.program self.now.standing) }
         ensures records { length self.now.walk.records ≡ length self.now.standing }
+        ensures last { self.now.walk.image.arena.last ≡ (arena_size self.now.program).last_generation }
         ensures begins { unwound self.now.walk.records self.now.walk.image ≡ first_image self.now.program }
     {
         let _ = self.steps.events.len();
