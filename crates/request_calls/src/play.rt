@@ -1,7 +1,8 @@
 //! Random calls, and then each taken back.
-ghost use Rattle.std.specs.Prelude.{◌≡◌, IfOk};
+ghost use Rattle.std.specs.Prelude.{◌≡◌, [], IfOk, OnOk};
 ghost use Rattle.uv_requests.specs.Working.{working, IsWork};
 ghost use Rattle.request_calls.specs.Content.{asked};
+ghost use Rattle.request_calls.specs.Trail.{beginning};
 
 use crate::held::Held;
 use crate::model::Model;
@@ -66,6 +67,75 @@ fn scattered(number: u64) -> u64 {
     b ^ (b << 17)
 }
 
+/// Keeps all that is held.
+fn keep(alloc: Global, trail: &Trail, snapshots: &mut Vec<Snapshot>) -> Result<(), AllocError> {
+    let now = Snapshot::of(alloc, trail)?;
+    if snapshots.push(now).is_err() {
+        return Err(AllocError);
+    }
+    Ok(())
+}
+
+/// Whether all is held that was kept last.
+fn is_as_kept(
+    alloc: Global,
+    trail: &Trail,
+    snapshots: &mut Vec<Snapshot>,
+) -> Result<bool, AllocError> {
+    let now = Snapshot::of(alloc, trail)?;
+    Ok(snapshots.pop() == Some(now))
+}
+
+/// Whether the model is as it is to be before a call. Before each thousandth one all is kept.
+fn look(
+    alloc: Global,
+    trail: &Trail,
+    model: &Model,
+    snapshots: &mut Vec<Snapshot>,
+) -> Result<bool, AllocError> {
+    if trail.len() % APART != 0 {
+        return Ok(true);
+    }
+    keep(alloc, trail, snapshots)?;
+    Ok(trail.agrees(model))
+}
+
+/// So many calls: whether each was as the model's.
+fn forward(
+    alloc: Global,
+    trail: &mut Trail,
+    model: &mut Model,
+    snapshots: &mut Vec<Snapshot>,
+    calls: u32,
+) -> Result<bool, AllocError>
+    ensures { beginning trail.new ≡ beginning trail.old }
+{
+    let mut same = true;
+    let mut number = 88172645463325252;
+    'forward: for _ in 0..calls {
+        let before = look(alloc, trail, model, snapshots)?;
+        let alike = trail.go(model, number)?;
+        same = same && before && alike;
+        number = scattered(number);
+    }
+    Ok(same && trail.agrees(model))
+}
+
+/// All calls are taken back: whether each thousandth image was as before.
+fn back(alloc: Global, trail: &mut Trail, snapshots: &mut Vec<Snapshot>) -> Result<bool, AllocError>
+    ensures beginning { beginning trail.new ≡ beginning trail.old }
+    ensures all { OnOk result (trail.new.tokens ≡ []) }
+{
+    let mut same = true;
+    'back: while trail.back() {
+        if trail.len() % APART == 0 {
+            let alike = is_as_kept(alloc, trail, snapshots)?;
+            same = same && alike;
+        }
+    }
+    Ok(same && snapshots.is_empty())
+}
+
 /// So many calls, and all of them taken back: whether each was as the model's and each image as before, and the arena and the
 /// requests as they were.
 fn play(
@@ -80,25 +150,8 @@ fn play(
 {
     let mut trail = Trail::new(alloc, slots, requests);
     let mut snapshots = Vec::new(alloc);
-    let mut same = true;
-    let mut number = 88172645463325252;
-    'forward: for _ in 0..calls {
-        if trail.len() % APART == 0 {
-            same = same && trail.agrees(model);
-            snapshots.push(Snapshot::of(alloc, &trail)?)?;
-        }
-        let alike = trail.go(model, number)?;
-        same = same && alike;
-        number = scattered(number);
-    }
-    same = same && trail.agrees(model);
-    'back: while trail.back() {
-        if trail.len() % APART == 0 {
-            let now = Snapshot::of(alloc, &trail)?;
-            same = same && snapshots.pop() == Some(now);
-        }
-    }
-    same = same && snapshots.is_empty();
+    let there = forward(alloc, &mut trail, model, &mut snapshots, calls)?;
+    let and_back = back(alloc, &mut trail, &mut snapshots)?;
     let (slots, requests) = trail.into_parts();
-    Ok((same, slots, requests))
+    Ok((there && and_back, slots, requests))
 }

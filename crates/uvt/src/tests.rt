@@ -10,7 +10,7 @@ mod states;
 use self::conversations::{CONVERSATIONS, Conversation};
 use self::debugging::DEBUGGING;
 use self::recordings::RECORDINGS;
-use self::replays::REPLAYS;
+use self::replays::{REPLAYS, Replayed};
 use self::requests::REQUESTS;
 use self::states::STATES;
 use crate::run::run;
@@ -25,6 +25,11 @@ fn groups() -> [&'static [Conversation]; 5] {
     [&CONVERSATIONS, &DEBUGGING, &RECORDINGS, &REQUESTS, &STATES]
 }
 
+/// All recordings.
+fn all_replays() -> &'static [Replayed] {
+    &REPLAYS
+}
+
 /// What the program wrote, and its status.
 #[derive(Drop)]
 struct Ran {
@@ -36,6 +41,13 @@ struct Ran {
 impl Ran {
     fn is_beginning_of(&self, whole: &str) -> bool {
         whole.as_bytes().starts_with(self.output.as_slice())
+    }
+
+    /// Whether just this was written, with this status.
+    fn is(&self, output: &str, errors: &str, status: u8) -> bool {
+        self.output.as_slice() == output.as_bytes()
+            && self.errors.as_slice() == errors.as_bytes()
+            && self.status == status
     }
 }
 
@@ -52,37 +64,27 @@ fn run_on(alloc: Global, words: &[&str], input: &[u8]) -> Ran {
     }
 }
 
+/// Whether a conversation is answered in full.
+fn is_answered(alloc: Global, one: &Conversation) -> bool {
+    run_on(alloc, &["uvt", "debug"], one.input.as_bytes()).is(one.output, "", 0)
+}
+
 #[test]
 fn answers_whole_conversations(rt: HostRuntime) {
-    let alloc = rt.alloc();
     for one in groups().into_iter().flatten() {
-        let ran = run_on(alloc, &["uvt", "debug"], one.input.as_bytes());
-        assert!(rt;
-            ran.output.as_slice() == one.output.as_bytes(),
-            "{}",
-            one.what
-        );
-        assert!(rt; ran.errors.as_slice() == b"".as_slice(), "{}", one.what);
-        assert!(rt; ran.status == 0, "{}", one.what);
+        assert!(rt; is_answered(rt.alloc(), one), "{}", one.what);
     }
+}
+
+/// Whether a recording's replay comes to what it is to come to.
+fn is_replayed(alloc: Global, one: &Replayed) -> bool {
+    run_on(alloc, &["uvt", "replay"], one.input.as_bytes()).is(one.output, one.errors, one.status)
 }
 
 #[test]
 fn replays_recordings(rt: HostRuntime) {
-    let alloc = rt.alloc();
-    for one in &REPLAYS {
-        let ran = run_on(alloc, &["uvt", "replay"], one.input.as_bytes());
-        assert!(rt;
-            ran.output.as_slice() == one.output.as_bytes(),
-            "{}",
-            one.what
-        );
-        assert!(rt;
-            ran.errors.as_slice() == one.errors.as_bytes(),
-            "{}",
-            one.what
-        );
-        assert!(rt; ran.status == one.status, "{}", one.what);
+    for one in all_replays() {
+        assert!(rt; is_replayed(rt.alloc(), one), "{}", one.what);
     }
 }
 
@@ -363,28 +365,25 @@ const OUTSIDE: [Outside; 37] = [
     },
 ];
 
-#[test]
-fn outside_the_rules(rt: HostRuntime) {
-    let alloc = rt.alloc();
-    for one in &OUTSIDE {
-        let ran = run_on(alloc, &["uvt", "debug"], one.input);
-        assert!(rt;
-            ran.output.as_slice() == one.output.as_bytes(),
-            "{}",
-            one.what
-        );
-        assert!(rt;
-            ran.errors.as_slice() == one.errors.as_bytes(),
-            "{}",
-            one.what
-        );
-        assert!(rt; ran.status == one.status, "{}", one.what);
-    }
+/// All input that is outside a rule.
+fn all_outside() -> &'static [Outside] {
+    &OUTSIDE
+}
+
+/// Whether input outside a rule is answered as it is to be.
+fn is_refused(alloc: Global, one: &Outside) -> bool {
+    run_on(alloc, &["uvt", "debug"], one.input).is(one.output, one.errors, one.status)
 }
 
 #[test]
-fn a_line_of_257_bytes(rt: HostRuntime) -> Result<(), Fail> {
-    let alloc = rt.alloc();
+fn outside_the_rules(rt: HostRuntime) {
+    for one in all_outside() {
+        assert!(rt; is_refused(rt.alloc(), one), "{}", one.what);
+    }
+}
+
+/// A comment of 256 bytes, which is a line, and one of 257.
+fn long_lines(alloc: Global) -> Result<Vec<u8>, AllocError> {
     let mut input = Vec::from_slice(alloc, b"begin\n#")?;
     for _ in 0..255 {
         input.push(b'x')?;
@@ -393,32 +392,51 @@ fn a_line_of_257_bytes(rt: HostRuntime) -> Result<(), Fail> {
     for _ in 0..256 {
         input.push(b'x')?;
     }
-    let ran = run_on(alloc, &["uvt", "debug"], input.as_slice());
-    assert!(rt; ran.output.as_slice() == b"bad command\n".as_slice());
-    assert!(rt; ran.status == 0);
+    Ok(input)
+}
+
+#[test]
+fn a_line_of_257_bytes(rt: HostRuntime) -> Result<(), Fail> {
+    let input = long_lines(rt.alloc())?;
+    let ran = run_on(rt.alloc(), &["uvt", "debug"], input.as_slice());
+    assert!(rt; ran.is("bad command\n", "", 0));
     Ok(())
+}
+
+/// A line so many times, and then other lines.
+fn repeated(alloc: Global, first: &str, line: &str, last: &str) -> Result<String, AllocError> {
+    let mut text = String::new(alloc);
+    text.push_str(first)?;
+    for _ in 0..256 {
+        text.push_str(line)?;
+    }
+    text.push_str(last)?;
+    Ok(text)
 }
 
 #[test]
 fn a_session_has_256_breaks(rt: HostRuntime) -> Result<(), Fail> {
     let alloc = rt.alloc();
-    let mut input = Vec::from_slice(alloc, b"begin\n")?;
-    let mut wanted = Vec::new(alloc);
-    for _ in 0..256 {
-        input.extend_from_slice(b"break code ok\n")?;
-        wanted.extend_from_slice(b"break ok\n")?;
-    }
-    input.extend_from_slice(b"break code ok\nbreak clear\nbreak section poll\n")?;
-    wanted.extend_from_slice(b"refused limit\nbreak ok\nbreak ok\n")?;
-    let ran = run_on(alloc, &["uvt", "debug"], input.as_slice());
-    assert!(rt; ran.output.as_slice() == wanted.as_slice());
-    assert!(rt; ran.status == 0);
+    let more = "break code ok\nbreak clear\nbreak section poll\n";
+    let input = repeated(alloc, "begin\n", "break code ok\n", more)?;
+    let wanted = repeated(
+        alloc,
+        "",
+        "break ok\n",
+        "refused limit\nbreak ok\nbreak ok\n",
+    )?;
+    let ran = run_on(alloc, &["uvt", "debug"], input.as_bytes());
+    assert!(rt; ran.is(wanted.as_str(), "", 0));
     Ok(())
+}
+
+/// Whether these words are no command line.
+fn are_bad_words(alloc: Global, words: &[&str]) -> bool {
+    run_on(alloc, words, b"begin\nloop\n").is("", "uvt: bad command line\n", 2)
 }
 
 #[test]
 fn bad_command_lines(rt: HostRuntime) {
-    let alloc = rt.alloc();
     let words: [&[&str]; 8] = [
         &["uvt"],
         &["uvt", "run"],
@@ -430,10 +448,7 @@ fn bad_command_lines(rt: HostRuntime) {
         &["uvt", "debug", "--help"],
     ];
     for one in &words {
-        let ran = run_on(alloc, one, b"begin\nloop\n");
-        assert!(rt; ran.output.as_slice() == b"".as_slice());
-        assert!(rt; ran.errors.as_slice() == b"uvt: bad command line\n".as_slice());
-        assert!(rt; ran.status == 2);
+        assert!(rt; are_bad_words(rt.alloc(), one));
     }
 }
 
@@ -485,17 +500,15 @@ impl Write for Page {
     }
 }
 
-#[test]
-fn each_line_is_answered_before_the_next_is_read(rt: HostRuntime) {
-    let alloc = rt.alloc();
-    let input = b"var t\nmain init t timer\nbegin\nloop\nloop\ntick 3\nnone\ntrace\nback 2";
+/// A run whose reads and whose writes fail after so many, with the bars.
+fn run_on_page(alloc: Global, input: &[u8], reads_left: u32, writes_left: u32) -> Ran {
     let mut reader = Reader::new(Lines {
         rest: input,
-        reads_left: 100,
+        reads_left,
     });
     let mut page = Page {
         text: Vec::new(alloc),
-        writes_left: 100,
+        writes_left,
     };
     let mut writer = Writer::new(&mut page);
     let mut errors = Vec::new(alloc);
@@ -507,10 +520,19 @@ fn each_line_is_answered_before_the_next_is_read(rt: HostRuntime) {
         &mut writer,
         &mut errors,
     );
+    Ran {
+        status,
+        output: page.text,
+        errors,
+    }
+}
+
+#[test]
+fn each_line_is_answered_before_the_next_is_read(rt: HostRuntime) {
+    let input = b"var t\nmain init t timer\nbegin\nloop\nloop\ntick 3\nnone\ntrace\nback 2";
     let wanted =
         "init t timer = 0.0\n|refused ended\n|out tick 3\n|bad command\n|init t timer = 0.0\nout tick 3\n|at 0\n|";
-    assert!(rt; page.text.as_slice() == wanted.as_bytes());
-    assert!(rt; status == 0);
+    assert!(rt; run_on_page(rt.alloc(), input, 100, 100).is(wanted, "", 0));
 }
 
 /// A text without the bars.
@@ -521,79 +543,64 @@ fn unbarred(alloc: Global, text: &[u8]) -> Result<Vec<u8>, AllocError> {
         .collect(alloc)
 }
 
-/// A run whose reads or whose writes fail after so many. The bars are not part of its output.
+/// A run whose reads or whose writes fail after so many, without the bars.
 fn run_on_failing(alloc: Global, input: &[u8], reads: bool, left: u32) -> Result<Ran, AllocError> {
-    let mut reader = Reader::new(Lines {
-        rest: input,
-        reads_left: if reads { left } else { 1000 },
-    });
-    let mut page = Page {
-        text: Vec::new(alloc),
-        writes_left: if reads { 1000 } else { left },
+    let ran = if reads {
+        run_on_page(alloc, input, left, 1000)
+    } else {
+        run_on_page(alloc, input, 1000, left)
     };
-    let mut writer = Writer::new(&mut page);
-    let mut errors = Vec::new(alloc);
-    let status = run(
-        &(),
-        alloc,
-        &["uvt", "debug"],
-        &mut reader,
-        &mut writer,
-        &mut errors,
-    );
-    let output = unbarred(alloc, page.text.as_slice())?;
     Ok(Ran {
-        status,
-        output,
-        errors,
+        status: ran.status,
+        output: unbarred(alloc, ran.output.as_slice())?,
+        errors: ran.errors,
+    })
+}
+
+/// Whether a conversation on devices that fail ends with that fault and a beginning of its output, or with all of it.
+fn ends_well(
+    alloc: Global,
+    one: &Conversation,
+    reads: bool,
+    left: u32,
+) -> Result<bool, AllocError> {
+    let ran = run_on_failing(alloc, one.input.as_bytes(), reads, left)?;
+    let fault = if reads {
+        "uvt: read failed\n"
+    } else {
+        "uvt: write failed\n"
+    };
+    Ok(if ran.status == 0 {
+        ran.output.as_slice() == one.output.as_bytes()
+    } else {
+        ran.is_beginning_of(one.output)
+            && ran.errors.as_slice() == fault.as_bytes()
+            && ran.status == 4
     })
 }
 
 #[test]
 fn devices_fail(rt: HostRuntime) -> Result<(), Fail> {
-    let alloc = rt.alloc();
     for one in groups().into_iter().flatten() {
         for k in 0..80u32 {
-            for reads in [true, false] {
-                let ran = run_on_failing(alloc, one.input.as_bytes(), reads, k)?;
-                let wanted = if reads {
-                    "uvt: read failed\n"
-                } else {
-                    "uvt: write failed\n"
-                };
-                if ran.status == 0 {
-                    assert!(rt;
-                        ran.output.as_slice() == one.output.as_bytes(),
-                        "{} {k}",
-                        one.what
-                    );
-                } else {
-                    assert!(rt; ran.is_beginning_of(one.output), "{} {k}", one.what);
-                    assert!(rt;
-                        ran.errors.as_slice() == wanted.as_bytes(),
-                        "{} {k}",
-                        one.what
-                    );
-                    assert!(rt; ran.status == 4, "{} {k}", one.what);
-                }
-            }
+            assert!(rt; ends_well(rt.alloc(), one, true, k)?, "{} {k}", one.what);
+            assert!(rt; ends_well(rt.alloc(), one, false, k)?, "{} {k}", one.what);
         }
     }
     Ok(())
+}
+
+/// Whether a conversation ends with all of its output, or for want of memory with a beginning of it.
+fn is_begun(alloc: Global, one: &Conversation) -> bool {
+    let ran = run_on(alloc, &["uvt", "debug"], one.input.as_bytes());
+    ran.is_beginning_of(one.output) && (ran.status == 4 || ran.output.len() == one.output.len())
 }
 
 /// Run with an allocation refused from outside, this shows that a conversation ends with that fault and a beginning of its
 /// output; with ample memory, that it ends with all of it.
 #[test]
 fn want_of_memory(rt: HostRuntime) {
-    let alloc = rt.alloc();
     for one in groups().into_iter().flatten() {
-        let ran = run_on(alloc, &["uvt", "debug"], one.input.as_bytes());
-        assert!(rt; ran.is_beginning_of(one.output), "{}", one.what);
-        assert!(rt;
-            ran.status == 4 || ran.output.len() == one.output.len(),
-            "{}",
-            one.what
-        );
+        assert!(rt; is_begun(rt.alloc(), one), "{}", one.what);
     }
 }
