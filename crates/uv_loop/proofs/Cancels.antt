@@ -161,7 +161,8 @@ module _ (i j : Image Place) (v : Var) (d : Id) (bound : Some d ≡ (named i.nam
     pub cancelled_stands : IsFit (record i { arena = j.arena; running = j.running })
         → StandsFor (record i { arena = j.arena; running = j.running }) cancelled_state
     cancelled_stands fit = pool_stands i s h j.arena j.running
-        (record s.arena { slots = plain.with_held s.arena.slots d (holds.Request withdrawn) }) (without_id s.waiting d) s.running (with_last s.done d) ids
+        (record s.arena { slots = plain.with_held s.arena.slots d (holds.Request withdrawn) }) (without_id s.waiting d) s.running
+        (with_last s.done d) ids
         (λ l a b x. c.others l a b)
         (ap (λ xs. without_id xs d) (h.lists name.Waiting)
         ∙ without_ids (id_in i.arena) d (λ x. refl) one (arena.members i.arena name.Waiting)

@@ -86,7 +86,8 @@ no_other i k e =
     let a = e no_job in
     let b = e (job_of a.id a.request) in
     let same : b.id ≡ a.id = cc (a.runs, b.runs) in
-    let there : work.request_in request_in i.arena a.id ≡ Some b.request = subst (λ z. work.request_in request_in i.arena z ≡ Some b.request) same b.is in
+    let there : work.request_in request_in i.arena a.id ≡ Some b.request =
+    subst (λ z. work.request_in request_in i.arena z ≡ Some b.request) same b.is in
     let one : b.request ≡ a.request = cc (a.is, there) in
     b.other (λ l. job_of (same l) (one l))
 
@@ -117,7 +118,8 @@ finishes i k d r job why.NoWorker may is e = let runs = may.runs in cc
 finishes i k d r job why.IdleWorker may is e = let runs = may.runs in cc
 finishes i k d r job why.NoWork may is e =
     let same : e.id ≡ d = cc (e.runs, may.runs) in
-    let there : work.request_in request_in i.arena d ≡ Some e.request = subst (λ z. work.request_in request_in i.arena z ≡ Some e.request) same e.is in
+    let there : work.request_in request_in i.arena d ≡ Some e.request =
+    subst (λ z. work.request_in request_in i.arena z ≡ Some e.request) same e.is in
     let one : e.request ≡ r = cc (may.request, there) in
     e.other ((λ l. job_of (same l) (one l)) ∙ is)
 finishes i k d r job why.Blocked may is e = e
@@ -157,7 +159,8 @@ module _ (i j : Image Place) (k : ℕ) (d e : Id) (r : Request) (job : Work) (di
     pub finished_stands : IsFit (record i { arena = j.arena; running = j.running })
         → StandsFor (record i { arena = j.arena; running = j.running }) (finished_state i s k e r h c.runs asked_now)
     finished_stands fit = pool_stands i s h j.arena j.running
-        (record s.arena { slots = plain.with_held s.arena.slots e (holds.Request ended) }) s.waiting (slice_set s.running k None) (with_last s.done e) ids
+        (record s.arena { slots = plain.with_held s.arena.slots e (holds.Request ended) }) s.waiting (slice_set s.running k None)
+        (with_last s.done e) ids
         (λ l a b x. c.others l b)
         (list_same i j.arena ids name.Waiting s.waiting (h.lists name.Waiting) (c.others name.Waiting (λ z. cc)))
         (done_more i s j.arena e h (id_is i.arena e was.0 was.1) ids c.done)

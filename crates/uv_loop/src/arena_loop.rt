@@ -230,7 +230,8 @@ impl ArenaLoop {
     }
 
     /// What always holds: the memory stands for the state after the steps, a slot of it retires at the script's last generation, there
-    /// is a record for each of the steps, and all of these, unwound, give back the very memory from before the first one. It costs nothing when it runs.
+    /// is a record for each of the steps, and all of these, unwound, give back the very memory from before the first one. It costs
+    /// nothing when it runs.
     pub fn stands(&self)
         ensures stands { StandsFor self.now.walk.image (after self.now.program self.now.standing) }
         ensures records { length self.now.walk.records ≡ length self.now.standing }

@@ -167,7 +167,8 @@ module _ {X : Type 0} (read : X → Option Request) (make : Request → X) (give
     was = there;
     running = refl;
     plain = p.slots.plain ∙ put.plain
-        ∙ ap (λ (q : plain.Slots X). (let z : plain.Slots X = record q { slots = plain.with_held q.slots d (make (withdrawn from)) } in z)) un.slots.plain;
+        ∙ ap (λ (q : plain.Slots X). (let z : plain.Slots X = record q { slots = plain.with_held q.slots d (make (withdrawn from)) } in z))
+        un.slots.plain;
     request = request_now read make gives_back a k j d from outcome.Cancelled opened put p;
     waiting = p.others Waiting (λ e. cc) ∙ put.lists Waiting ∙ un.lists Waiting;
     done = done_list;
