@@ -17,7 +17,9 @@ use crate::run::run;
 use std::alloc::{AllocError, Global};
 use std::io;
 use std::io::{Read, Write};
+use std::sync::Wait;
 use std::test::Fail;
+use std::thread::Threads;
 use uv_engine::{Reader, Writer};
 
 /// All conversations, in groups.
@@ -39,12 +41,12 @@ impl Ran {
     }
 }
 
-fn run_on(alloc: Global, words: &[&str], input: &[u8]) -> Ran {
+fn run_on<H: Threads + Wait + Sync>(rt: &H, alloc: Global, words: &[&str], input: &[u8]) -> Ran {
     let mut output = Vec::new(alloc);
     let mut errors = Vec::new(alloc);
     let mut reader = Reader::new(input);
     let mut writer = Writer::new(&mut output);
-    let status = run(&(), alloc, words, &mut reader, &mut writer, &mut errors);
+    let status = run(rt, alloc, words, &mut reader, &mut writer, &mut errors);
     Ran {
         status,
         output,
@@ -56,7 +58,7 @@ fn run_on(alloc: Global, words: &[&str], input: &[u8]) -> Ran {
 fn answers_whole_conversations(rt: HostRuntime) {
     let alloc = rt.alloc();
     for one in groups().into_iter().flatten() {
-        let ran = run_on(alloc, &["uvt", "debug"], one.input.as_bytes());
+        let ran = run_on(&rt, alloc, &["uvt", "debug"], one.input.as_bytes());
         assert!(rt;
             ran.output.as_slice() == one.output.as_bytes(),
             "{}",
@@ -71,7 +73,7 @@ fn answers_whole_conversations(rt: HostRuntime) {
 fn replays_recordings(rt: HostRuntime) {
     let alloc = rt.alloc();
     for one in &REPLAYS {
-        let ran = run_on(alloc, &["uvt", "replay"], one.input.as_bytes());
+        let ran = run_on(&rt, alloc, &["uvt", "replay"], one.input.as_bytes());
         assert!(rt;
             ran.output.as_slice() == one.output.as_bytes(),
             "{}",
@@ -367,7 +369,7 @@ const OUTSIDE: [Outside; 37] = [
 fn outside_the_rules(rt: HostRuntime) {
     let alloc = rt.alloc();
     for one in &OUTSIDE {
-        let ran = run_on(alloc, &["uvt", "debug"], one.input);
+        let ran = run_on(&rt, alloc, &["uvt", "debug"], one.input);
         assert!(rt;
             ran.output.as_slice() == one.output.as_bytes(),
             "{}",
@@ -393,7 +395,7 @@ fn a_line_of_257_bytes(rt: HostRuntime) -> Result<(), Fail> {
     for _ in 0..256 {
         input.push(b'x')?;
     }
-    let ran = run_on(alloc, &["uvt", "debug"], input.as_slice());
+    let ran = run_on(&rt, alloc, &["uvt", "debug"], input.as_slice());
     assert!(rt; ran.output.as_slice() == b"bad command\n".as_slice());
     assert!(rt; ran.status == 0);
     Ok(())
@@ -410,7 +412,7 @@ fn a_session_has_256_breaks(rt: HostRuntime) -> Result<(), Fail> {
     }
     input.extend_from_slice(b"break code ok\nbreak clear\nbreak section poll\n")?;
     wanted.extend_from_slice(b"refused limit\nbreak ok\nbreak ok\n")?;
-    let ran = run_on(alloc, &["uvt", "debug"], input.as_slice());
+    let ran = run_on(&rt, alloc, &["uvt", "debug"], input.as_slice());
     assert!(rt; ran.output.as_slice() == wanted.as_slice());
     assert!(rt; ran.status == 0);
     Ok(())
@@ -419,7 +421,7 @@ fn a_session_has_256_breaks(rt: HostRuntime) -> Result<(), Fail> {
 #[test]
 fn bad_command_lines(rt: HostRuntime) {
     let alloc = rt.alloc();
-    let words: [&[&str]; 8] = [
+    let words: [&[&str]; 14] = [
         &["uvt"],
         &["uvt", "run"],
         &["uvt", "debug", "more"],
@@ -428,9 +430,15 @@ fn bad_command_lines(rt: HostRuntime) {
         &["uvt", "help"],
         &["uvt", "--version"],
         &["uvt", "debug", "--help"],
+        &["uvt", "debug", "--workers=2"],
+        &["uvt", "live", "more"],
+        &["uvt", "live", "--workers"],
+        &["uvt", "live", "--workers", "0"],
+        &["uvt", "live", "--workers", "1025"],
+        &["uvt", "live", "--workers=04"],
     ];
     for one in &words {
-        let ran = run_on(alloc, one, b"begin\nloop\n");
+        let ran = run_on(&rt, alloc, one, b"begin\nloop\n");
         assert!(rt; ran.output.as_slice() == b"".as_slice());
         assert!(rt; ran.errors.as_slice() == b"uvt: bad command line\n".as_slice());
         assert!(rt; ran.status == 2);
@@ -500,7 +508,7 @@ fn each_line_is_answered_before_the_next_is_read(rt: HostRuntime) {
     let mut writer = Writer::new(&mut page);
     let mut errors = Vec::new(alloc);
     let status = run(
-        &(),
+        &rt,
         alloc,
         &["uvt", "debug"],
         &mut reader,
@@ -522,7 +530,13 @@ fn unbarred(alloc: Global, text: &[u8]) -> Result<Vec<u8>, AllocError> {
 }
 
 /// A run whose reads or whose writes fail after so many. The bars are not part of its output.
-fn run_on_failing(alloc: Global, input: &[u8], reads: bool, left: u32) -> Result<Ran, AllocError> {
+fn run_on_failing<H: Threads + Wait + Sync>(
+    rt: &H,
+    alloc: Global,
+    input: &[u8],
+    reads: bool,
+    left: u32,
+) -> Result<Ran, AllocError> {
     let mut reader = Reader::new(Lines {
         rest: input,
         reads_left: if reads { left } else { 1000 },
@@ -534,7 +548,7 @@ fn run_on_failing(alloc: Global, input: &[u8], reads: bool, left: u32) -> Result
     let mut writer = Writer::new(&mut page);
     let mut errors = Vec::new(alloc);
     let status = run(
-        &(),
+        rt,
         alloc,
         &["uvt", "debug"],
         &mut reader,
@@ -555,7 +569,7 @@ fn devices_fail(rt: HostRuntime) -> Result<(), Fail> {
     for one in groups().into_iter().flatten() {
         for k in 0..80u32 {
             for reads in [true, false] {
-                let ran = run_on_failing(alloc, one.input.as_bytes(), reads, k)?;
+                let ran = run_on_failing(&rt, alloc, one.input.as_bytes(), reads, k)?;
                 let wanted = if reads {
                     "uvt: read failed\n"
                 } else {
@@ -588,7 +602,7 @@ fn devices_fail(rt: HostRuntime) -> Result<(), Fail> {
 fn want_of_memory(rt: HostRuntime) {
     let alloc = rt.alloc();
     for one in groups().into_iter().flatten() {
-        let ran = run_on(alloc, &["uvt", "debug"], one.input.as_bytes());
+        let ran = run_on(&rt, alloc, &["uvt", "debug"], one.input.as_bytes());
         assert!(rt; ran.is_beginning_of(one.output), "{}", one.what);
         assert!(rt;
             ran.status == 4 || ran.output.len() == one.output.len(),
