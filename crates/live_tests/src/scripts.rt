@@ -1,10 +1,10 @@
 //! Live runs of scripts on real threads.
-use crate::given::{Quiet, are_named, put};
+use crate::given::Quiet;
 use std::alloc::Global;
 use std::sync::Wait;
 use std::thread::Threads;
 use uv_ids::{Event, Fault, Seen, Var};
-use uv_live::{JumpClock, ThreadLine};
+use uv_live::JumpClock;
 use uv_model::PlainLoop;
 use uv_run::live;
 use uv_script::Script;
@@ -16,39 +16,10 @@ struct Story {
     trace: Vec<Seen>,
 }
 
-/// A line for each of so many senders, to the first name.
-fn sender_lines(alloc: Global, senders: u8) -> Result<Vec<ThreadLine>, Fault> {
-    let mut lines = Vec::new(alloc);
-    for thread in 0..senders {
-        let line = ThreadLine {
-            thread,
-            name: Var(0),
-        };
-        put(&mut lines, line)?;
-    }
-    Ok(lines)
-}
-
-/// Runs a script on real threads, with so many senders to its first name.
-fn ran<R: Threads + Wait + Sync>(
-    rt: &R,
-    alloc: Global,
-    text: &[u8],
-    senders: u8,
-) -> Result<Story, Fault> {
+/// Runs a script on real threads.
+fn ran<R: Threads + Wait + Sync>(rt: &R, alloc: Global, text: &[u8]) -> Result<Story, Fault> {
     let script = Script::parse(alloc, text)?;
-    let lines = sender_lines(alloc, senders)?;
-    if !are_named(script.names().len() as u32, lines.as_slice()) {
-        return Err(Fault::Script { line: 1 });
-    }
-    let session = live::<PlainLoop, _, _, _>(
-        rt,
-        alloc,
-        script,
-        lines,
-        &mut JumpClock::new(0),
-        &Quiet,
-    )?;
+    let session = live::<PlainLoop, _, _, _>(rt, alloc, script, &mut JumpClock::new(0), &Quiet)?;
     Ok(Story {
         steps: Vec::from_slice(alloc, session.steps())?,
         trace: session.trace()?,
@@ -66,7 +37,7 @@ fn loops(story: &Story) -> usize {
 #[test]
 fn a_timer_is_due_when_the_clock_has_jumped(rt: HostRuntime) -> Result<(), Fault> {
     let text = b"var t\nmain init t timer\nmain start t 10 0\nmain run default\n";
-    let story = ran(&rt, rt.alloc(), text, 0)?;
+    let story = ran(&rt, rt.alloc(), text)?;
     assert!(&rt; story.steps.len() == 17 && loops(&story) == 16);
     assert!(&rt; story.steps[8] == Event::Tick(10));
     Ok(())
@@ -79,7 +50,7 @@ fn is_collected(seen: Seen) -> bool {
 #[test]
 fn two_workers_do_two_jobs(rt: HostRuntime) -> Result<(), Fault> {
     let text = b"workers 2\nvar p\nvar q\nmain queue p 1 abc\nmain queue q 1\nmain run default\n";
-    let story = ran(&rt, rt.alloc(), text, 0)?;
+    let story = ran(&rt, rt.alloc(), text)?;
     let takes = story
         .steps
         .iter()
@@ -104,8 +75,9 @@ fn two_workers_do_two_jobs(rt: HostRuntime) -> Result<(), Fault> {
 
 #[test]
 fn a_sender_wakes_a_loop_that_would_block(rt: HostRuntime) -> Result<(), Fault> {
-    let text = b"workers 1\nvar a\nmain init a async\nmain run default\non a close a\n";
-    let story = ran(&rt, rt.alloc(), text, 1)?;
+    let text =
+        b"workers 1\nvar a\nmain init a async\nmain run default\non a close a\nthread 0 send a\n";
+    let story = ran(&rt, rt.alloc(), text)?;
     assert!(&rt;
         story
             .steps
@@ -126,7 +98,7 @@ fn a_sender_wakes_a_loop_that_would_block(rt: HostRuntime) -> Result<(), Fault> 
 #[test]
 fn nobody_wakes_a_loop_without_a_sender(rt: HostRuntime) -> Result<(), Fault> {
     let text = b"workers 1\nvar a\nmain init a async\nmain run default\non a close a\n";
-    let answer = ran(&rt, rt.alloc(), text, 0);
+    let answer = ran(&rt, rt.alloc(), text);
     assert!(&rt; matches!(answer, Err(Fault::Stalled)));
     Ok(())
 }

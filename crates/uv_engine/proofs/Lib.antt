@@ -4,6 +4,7 @@ pub mod Gathers
 pub mod Loops
 pub mod Talking
 pub mod Starting
+pub mod Fronts
 mod OneAnswer
 pub mod Reruns
 pub mod Recordings

@@ -8,6 +8,7 @@ pub mod Gather
 pub mod Out
 pub mod Talk
 pub mod Start
+pub mod Alone
 pub mod Recordings
 pub mod Verdict
 pub mod Rerun

@@ -1,2 +1,4 @@
 pub mod Ending
 pub mod Asked
+pub mod Built
+pub mod Recorded

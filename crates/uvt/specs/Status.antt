@@ -10,7 +10,8 @@ use Rattle.uv_engine.specs.Sink.{CutShort}
 use Rattle.uv_engine.specs.Recordings.{IsBadLine}
 use Rattle.uv_engine.specs.Verdict.{HasVerdict, verdict_text}
 use Rattle.uvt.specs.declared.command_line.Job.{Job}
-use Rattle.uvt.specs.declared.command_line.Job.TheVariants.{Debug, Replay}
+use Rattle.uvt.specs.declared.command_line.Job.TheVariants.{Debug, Replay, Live}
+use Rattle.uvt.specs.Live.{Lives}
 
 -- the status of a fault
 abbrev pub status_of : Fault → ℕ
@@ -45,6 +46,7 @@ pub data Reruns (input old new : List ℕ) : ℕ → Type 0 where
 pub data Ran (asked : Option Job) (input old new : List ℕ) (status : ℕ) : Type 0 where
   conversed : asked ≡ Some Debug → Runs input old new status → Ran asked input old new status
   replayed : asked ≡ Some Replay → Reruns input old new status → Ran asked input old new status
+  lived : (workers : Option ℕ) → asked ≡ Some (Live workers) → Lives workers input old new status → Ran asked input old new status
   -- the words are no command line, and nothing was written
   bad_words : asked ≡ None → status ≡ 2 → new ≡ old → Ran asked input old new status
   -- there was no memory to read the words, and nothing was written

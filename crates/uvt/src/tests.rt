@@ -10,24 +10,21 @@ mod states;
 use self::conversations::{CONVERSATIONS, Conversation};
 use self::debugging::DEBUGGING;
 use self::recordings::RECORDINGS;
-use self::replays::{REPLAYS, Replayed};
+use self::replays::REPLAYS;
 use self::requests::REQUESTS;
 use self::states::STATES;
 use crate::run::run;
 use std::alloc::{AllocError, Global};
 use std::io;
 use std::io::{Read, Write};
+use std::sync::Wait;
 use std::test::Fail;
+use std::thread::Threads;
 use uv_engine::{Reader, Writer};
 
 /// All conversations, in groups.
 fn groups() -> [&'static [Conversation]; 5] {
     [&CONVERSATIONS, &DEBUGGING, &RECORDINGS, &REQUESTS, &STATES]
-}
-
-/// All recordings.
-fn all_replays() -> &'static [Replayed] {
-    &REPLAYS
 }
 
 /// What the program wrote, and its status.
@@ -42,21 +39,14 @@ impl Ran {
     fn is_beginning_of(&self, whole: &str) -> bool {
         whole.as_bytes().starts_with(self.output.as_slice())
     }
-
-    /// Whether just this was written, with this status.
-    fn is(&self, output: &str, errors: &str, status: u8) -> bool {
-        self.output.as_slice() == output.as_bytes()
-            && self.errors.as_slice() == errors.as_bytes()
-            && self.status == status
-    }
 }
 
-fn run_on(alloc: Global, words: &[&str], input: &[u8]) -> Ran {
+fn run_on<H: Threads + Wait + Sync>(rt: &H, alloc: Global, words: &[&str], input: &[u8]) -> Ran {
     let mut output = Vec::new(alloc);
     let mut errors = Vec::new(alloc);
     let mut reader = Reader::new(input);
     let mut writer = Writer::new(&mut output);
-    let status = run(&(), alloc, words, &mut reader, &mut writer, &mut errors);
+    let status = run(rt, alloc, words, &mut reader, &mut writer, &mut errors);
     Ran {
         status,
         output,
@@ -64,27 +54,37 @@ fn run_on(alloc: Global, words: &[&str], input: &[u8]) -> Ran {
     }
 }
 
-/// Whether a conversation is answered in full.
-fn is_answered(alloc: Global, one: &Conversation) -> bool {
-    run_on(alloc, &["uvt", "debug"], one.input.as_bytes()).is(one.output, "", 0)
-}
-
 #[test]
 fn answers_whole_conversations(rt: HostRuntime) {
+    let alloc = rt.alloc();
     for one in groups().into_iter().flatten() {
-        assert!(rt; is_answered(rt.alloc(), one), "{}", one.what);
+        let ran = run_on(&rt, alloc, &["uvt", "debug"], one.input.as_bytes());
+        assert!(rt;
+            ran.output.as_slice() == one.output.as_bytes(),
+            "{}",
+            one.what
+        );
+        assert!(rt; ran.errors.as_slice() == b"".as_slice(), "{}", one.what);
+        assert!(rt; ran.status == 0, "{}", one.what);
     }
-}
-
-/// Whether a recording's replay comes to what it is to come to.
-fn is_replayed(alloc: Global, one: &Replayed) -> bool {
-    run_on(alloc, &["uvt", "replay"], one.input.as_bytes()).is(one.output, one.errors, one.status)
 }
 
 #[test]
 fn replays_recordings(rt: HostRuntime) {
-    for one in all_replays() {
-        assert!(rt; is_replayed(rt.alloc(), one), "{}", one.what);
+    let alloc = rt.alloc();
+    for one in &REPLAYS {
+        let ran = run_on(&rt, alloc, &["uvt", "replay"], one.input.as_bytes());
+        assert!(rt;
+            ran.output.as_slice() == one.output.as_bytes(),
+            "{}",
+            one.what
+        );
+        assert!(rt;
+            ran.errors.as_slice() == one.errors.as_bytes(),
+            "{}",
+            one.what
+        );
+        assert!(rt; ran.status == one.status, "{}", one.what);
     }
 }
 
@@ -365,25 +365,28 @@ const OUTSIDE: [Outside; 37] = [
     },
 ];
 
-/// All input that is outside a rule.
-fn all_outside() -> &'static [Outside] {
-    &OUTSIDE
-}
-
-/// Whether input outside a rule is answered as it is to be.
-fn is_refused(alloc: Global, one: &Outside) -> bool {
-    run_on(alloc, &["uvt", "debug"], one.input).is(one.output, one.errors, one.status)
-}
-
 #[test]
 fn outside_the_rules(rt: HostRuntime) {
-    for one in all_outside() {
-        assert!(rt; is_refused(rt.alloc(), one), "{}", one.what);
+    let alloc = rt.alloc();
+    for one in &OUTSIDE {
+        let ran = run_on(&rt, alloc, &["uvt", "debug"], one.input);
+        assert!(rt;
+            ran.output.as_slice() == one.output.as_bytes(),
+            "{}",
+            one.what
+        );
+        assert!(rt;
+            ran.errors.as_slice() == one.errors.as_bytes(),
+            "{}",
+            one.what
+        );
+        assert!(rt; ran.status == one.status, "{}", one.what);
     }
 }
 
-/// A comment of 256 bytes, which is a line, and one of 257.
-fn long_lines(alloc: Global) -> Result<Vec<u8>, AllocError> {
+#[test]
+fn a_line_of_257_bytes(rt: HostRuntime) -> Result<(), Fail> {
+    let alloc = rt.alloc();
     let mut input = Vec::from_slice(alloc, b"begin\n#")?;
     for _ in 0..255 {
         input.push(b'x')?;
@@ -392,52 +395,33 @@ fn long_lines(alloc: Global) -> Result<Vec<u8>, AllocError> {
     for _ in 0..256 {
         input.push(b'x')?;
     }
-    Ok(input)
-}
-
-#[test]
-fn a_line_of_257_bytes(rt: HostRuntime) -> Result<(), Fail> {
-    let input = long_lines(rt.alloc())?;
-    let ran = run_on(rt.alloc(), &["uvt", "debug"], input.as_slice());
-    assert!(rt; ran.is("bad command\n", "", 0));
+    let ran = run_on(&rt, alloc, &["uvt", "debug"], input.as_slice());
+    assert!(rt; ran.output.as_slice() == b"bad command\n".as_slice());
+    assert!(rt; ran.status == 0);
     Ok(())
-}
-
-/// A line so many times, and then other lines.
-fn repeated(alloc: Global, first: &str, line: &str, last: &str) -> Result<String, AllocError> {
-    let mut text = String::new(alloc);
-    text.push_str(first)?;
-    for _ in 0..256 {
-        text.push_str(line)?;
-    }
-    text.push_str(last)?;
-    Ok(text)
 }
 
 #[test]
 fn a_session_has_256_breaks(rt: HostRuntime) -> Result<(), Fail> {
     let alloc = rt.alloc();
-    let more = "break code ok\nbreak clear\nbreak section poll\n";
-    let input = repeated(alloc, "begin\n", "break code ok\n", more)?;
-    let wanted = repeated(
-        alloc,
-        "",
-        "break ok\n",
-        "refused limit\nbreak ok\nbreak ok\n",
-    )?;
-    let ran = run_on(alloc, &["uvt", "debug"], input.as_bytes());
-    assert!(rt; ran.is(wanted.as_str(), "", 0));
+    let mut input = Vec::from_slice(alloc, b"begin\n")?;
+    let mut wanted = Vec::new(alloc);
+    for _ in 0..256 {
+        input.extend_from_slice(b"break code ok\n")?;
+        wanted.extend_from_slice(b"break ok\n")?;
+    }
+    input.extend_from_slice(b"break code ok\nbreak clear\nbreak section poll\n")?;
+    wanted.extend_from_slice(b"refused limit\nbreak ok\nbreak ok\n")?;
+    let ran = run_on(&rt, alloc, &["uvt", "debug"], input.as_slice());
+    assert!(rt; ran.output.as_slice() == wanted.as_slice());
+    assert!(rt; ran.status == 0);
     Ok(())
-}
-
-/// Whether these words are no command line.
-fn are_bad_words(alloc: Global, words: &[&str]) -> bool {
-    run_on(alloc, words, b"begin\nloop\n").is("", "uvt: bad command line\n", 2)
 }
 
 #[test]
 fn bad_command_lines(rt: HostRuntime) {
-    let words: [&[&str]; 8] = [
+    let alloc = rt.alloc();
+    let words: [&[&str]; 14] = [
         &["uvt"],
         &["uvt", "run"],
         &["uvt", "debug", "more"],
@@ -446,9 +430,18 @@ fn bad_command_lines(rt: HostRuntime) {
         &["uvt", "help"],
         &["uvt", "--version"],
         &["uvt", "debug", "--help"],
+        &["uvt", "debug", "--workers=2"],
+        &["uvt", "live", "more"],
+        &["uvt", "live", "--workers"],
+        &["uvt", "live", "--workers", "0"],
+        &["uvt", "live", "--workers", "1025"],
+        &["uvt", "live", "--workers=04"],
     ];
     for one in &words {
-        assert!(rt; are_bad_words(rt.alloc(), one));
+        let ran = run_on(&rt, alloc, one, b"begin\nloop\n");
+        assert!(rt; ran.output.as_slice() == b"".as_slice());
+        assert!(rt; ran.errors.as_slice() == b"uvt: bad command line\n".as_slice());
+        assert!(rt; ran.status == 2);
     }
 }
 
@@ -500,39 +493,32 @@ impl Write for Page {
     }
 }
 
-/// A run whose reads and whose writes fail after so many, with the bars.
-fn run_on_page(alloc: Global, input: &[u8], reads_left: u32, writes_left: u32) -> Ran {
+#[test]
+fn each_line_is_answered_before_the_next_is_read(rt: HostRuntime) {
+    let alloc = rt.alloc();
+    let input = b"var t\nmain init t timer\nbegin\nloop\nloop\ntick 3\nnone\ntrace\nback 2";
     let mut reader = Reader::new(Lines {
         rest: input,
-        reads_left,
+        reads_left: 100,
     });
     let mut page = Page {
         text: Vec::new(alloc),
-        writes_left,
+        writes_left: 100,
     };
     let mut writer = Writer::new(&mut page);
     let mut errors = Vec::new(alloc);
     let status = run(
-        &(),
+        &rt,
         alloc,
         &["uvt", "debug"],
         &mut reader,
         &mut writer,
         &mut errors,
     );
-    Ran {
-        status,
-        output: page.text,
-        errors,
-    }
-}
-
-#[test]
-fn each_line_is_answered_before_the_next_is_read(rt: HostRuntime) {
-    let input = b"var t\nmain init t timer\nbegin\nloop\nloop\ntick 3\nnone\ntrace\nback 2";
     let wanted =
         "init t timer = 0.0\n|refused ended\n|out tick 3\n|bad command\n|init t timer = 0.0\nout tick 3\n|at 0\n|";
-    assert!(rt; run_on_page(rt.alloc(), input, 100, 100).is(wanted, "", 0));
+    assert!(rt; page.text.as_slice() == wanted.as_bytes());
+    assert!(rt; status == 0);
 }
 
 /// A text without the bars.
@@ -543,64 +529,85 @@ fn unbarred(alloc: Global, text: &[u8]) -> Result<Vec<u8>, AllocError> {
         .collect(alloc)
 }
 
-/// A run whose reads or whose writes fail after so many, without the bars.
-fn run_on_failing(alloc: Global, input: &[u8], reads: bool, left: u32) -> Result<Ran, AllocError> {
-    let ran = if reads {
-        run_on_page(alloc, input, left, 1000)
-    } else {
-        run_on_page(alloc, input, 1000, left)
-    };
-    Ok(Ran {
-        status: ran.status,
-        output: unbarred(alloc, ran.output.as_slice())?,
-        errors: ran.errors,
-    })
-}
-
-/// Whether a conversation on devices that fail ends with that fault and a beginning of its output, or with all of it.
-fn ends_well(
+/// A run whose reads or whose writes fail after so many. The bars are not part of its output.
+fn run_on_failing<H: Threads + Wait + Sync>(
+    rt: &H,
     alloc: Global,
-    one: &Conversation,
+    input: &[u8],
     reads: bool,
     left: u32,
-) -> Result<bool, AllocError> {
-    let ran = run_on_failing(alloc, one.input.as_bytes(), reads, left)?;
-    let fault = if reads {
-        "uvt: read failed\n"
-    } else {
-        "uvt: write failed\n"
+) -> Result<Ran, AllocError> {
+    let mut reader = Reader::new(Lines {
+        rest: input,
+        reads_left: if reads { left } else { 1000 },
+    });
+    let mut page = Page {
+        text: Vec::new(alloc),
+        writes_left: if reads { 1000 } else { left },
     };
-    Ok(if ran.status == 0 {
-        ran.output.as_slice() == one.output.as_bytes()
-    } else {
-        ran.is_beginning_of(one.output)
-            && ran.errors.as_slice() == fault.as_bytes()
-            && ran.status == 4
+    let mut writer = Writer::new(&mut page);
+    let mut errors = Vec::new(alloc);
+    let status = run(
+        rt,
+        alloc,
+        &["uvt", "debug"],
+        &mut reader,
+        &mut writer,
+        &mut errors,
+    );
+    let output = unbarred(alloc, page.text.as_slice())?;
+    Ok(Ran {
+        status,
+        output,
+        errors,
     })
 }
 
 #[test]
 fn devices_fail(rt: HostRuntime) -> Result<(), Fail> {
+    let alloc = rt.alloc();
     for one in groups().into_iter().flatten() {
         for k in 0..80u32 {
-            assert!(rt; ends_well(rt.alloc(), one, true, k)?, "{} {k}", one.what);
-            assert!(rt; ends_well(rt.alloc(), one, false, k)?, "{} {k}", one.what);
+            for reads in [true, false] {
+                let ran = run_on_failing(&rt, alloc, one.input.as_bytes(), reads, k)?;
+                let wanted = if reads {
+                    "uvt: read failed\n"
+                } else {
+                    "uvt: write failed\n"
+                };
+                if ran.status == 0 {
+                    assert!(rt;
+                        ran.output.as_slice() == one.output.as_bytes(),
+                        "{} {k}",
+                        one.what
+                    );
+                } else {
+                    assert!(rt; ran.is_beginning_of(one.output), "{} {k}", one.what);
+                    assert!(rt;
+                        ran.errors.as_slice() == wanted.as_bytes(),
+                        "{} {k}",
+                        one.what
+                    );
+                    assert!(rt; ran.status == 4, "{} {k}", one.what);
+                }
+            }
         }
     }
     Ok(())
-}
-
-/// Whether a conversation ends with all of its output, or for want of memory with a beginning of it.
-fn is_begun(alloc: Global, one: &Conversation) -> bool {
-    let ran = run_on(alloc, &["uvt", "debug"], one.input.as_bytes());
-    ran.is_beginning_of(one.output) && (ran.status == 4 || ran.output.len() == one.output.len())
 }
 
 /// Run with an allocation refused from outside, this shows that a conversation ends with that fault and a beginning of its
 /// output; with ample memory, that it ends with all of it.
 #[test]
 fn want_of_memory(rt: HostRuntime) {
+    let alloc = rt.alloc();
     for one in groups().into_iter().flatten() {
-        assert!(rt; is_begun(rt.alloc(), one), "{}", one.what);
+        let ran = run_on(&rt, alloc, &["uvt", "debug"], one.input.as_bytes());
+        assert!(rt; ran.is_beginning_of(one.output), "{}", one.what);
+        assert!(rt;
+            ran.status == 4 || ran.output.len() == one.output.len(),
+            "{}",
+            one.what
+        );
     }
 }

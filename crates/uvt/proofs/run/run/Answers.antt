@@ -1,5 +1,6 @@
-use Rattle.std.proofs.Common.{Some, refl, ap, ◌∙◌}
-use Rattle.uvt.specs.Status.{conversed, replayed, bad_words, no_memory}
+use Rattle.std.proofs.Common.{Some, refl, ap, subst, ◌∙◌}
+use Rattle.uvt.specs.Status.{conversed, replayed, lived, bad_words, no_memory}
+use Rattle.uvt.specs.Words.{IsJob}
 use Rattle.uvt.proofs.run.run.Goals as goal
 
 pub returns-in-Ok-Debug-clause-text : goal.returns-in-Ok-Debug-clause-text
@@ -7,6 +8,13 @@ returns-in-Ok-Debug-clause-text g c = λ reads tells. conversed (c.in-Ok-Debug.e
 
 pub returns-in-Ok-Replay-clause-text : goal.returns-in-Ok-Replay-clause-text
 returns-in-Ok-Replay-clause-text g c = λ reads tells. replayed (c.in-Ok-Replay.ensures.job ∙ ap Some c.in-Ok-Replay.field-0-is) (c.rerun.ensures.text reads tells)
+
+pub live-requires : goal.live-requires
+live-requires g c = (c.type_bounds.sync-H, subst IsJob c.in-Ok-Live.field-0-is c.in-Ok-Live.ensures.within)
+
+pub returns-in-Ok-Live-clause-text : goal.returns-in-Ok-Live-clause-text
+returns-in-Ok-Live-clause-text g c = λ reads tells.
+    lived c.in-Ok-Live.workers (c.in-Ok-Live.ensures.job ∙ ap Some c.in-Ok-Live.field-0-is) (c.live.ensures.text reads tells)
 
 pub returns-in-Err-BadWords-clause-text : goal.returns-in-Err-BadWords-clause-text
 returns-in-Err-BadWords-clause-text g c = λ reads tells. bad_words (c.in-Err-BadWords.ensures.none c.in-Err-BadWords.field-0-is) c.bad_words.ensures refl

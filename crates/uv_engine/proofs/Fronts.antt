@@ -1,0 +1,40 @@
+-- A script that no commands follow.
+use Rattle.std.proofs.Common.{◌≡◌, ℕ, List, [], ◌++◌, Bool, Result, Ok, Err, IfErr, ap, subst}
+use Rattle.uv_ids.specs.declared.fault.Fault.{Fault}
+use Rattle.uv_ids.specs.declared.fault.Fault.TheVariants as fault
+use Rattle.uv_script.specs.Program.{Program}
+use Rattle.uv_script.specs.Grammar.{Parses}
+use Rattle.uv_engine.specs.Alone.{SaysInFront, ReadsAlone}
+use Rattle.uv_engine.specs.Input.{Buffered, pending, left}
+use Rattle.uv_engine.specs.Start.{IsFront, IsStartFault}
+use Rattle.uv_engine.specs.Taking.{IsReadFault}
+
+-- the reader failed, or there was no memory
+pub no_front : (input : List ℕ) (f : Fault) → IsReadFault f → ReadsAlone input (Err f)
+no_front input fault.Read h = tt
+no_front input fault.Memory h = tt
+no_front input _ h = absurd h
+
+pub read_is_start : (f : Fault) → IsReadFault f → IsStartFault f
+read_is_start fault.Read h = tt
+read_is_start fault.Memory h = tt
+read_is_start _ h = absurd h
+
+-- what the text in front says
+read : (input text rest : List ℕ) (begun : Bool) (r : Result Program Fault) → IsFront input text begun rest → Parses text r → ReadsAlone input r
+read input text rest begun (Ok p) h k = record { text = text; begun = begun; rest = rest; front = h; parses = k }
+read input text rest begun (Err (fault.Script line)) h k = record { text = text; begun = begun; rest = rest; front = h; parses = k }
+read input text rest begun (Err fault.Memory) h k = tt
+read input text rest begun (Err _) h k = absurd k
+
+-- from a buffer that holds nothing yet
+pub reads_alone : (b : Buffered) (input text rest : List ℕ) (begun : Bool) (r : Result Program Fault) → pending b ≡ [] →
+    IsFront (left b input) text begun rest → Parses text r → ReadsAlone input r
+reads_alone b input text rest begun r e h k =
+    subst (λ (xs : List ℕ). ReadsAlone xs r) (ap (λ (xs : List ℕ). xs ++ input) e) (read (left b input) text rest begun r h k)
+
+pub parsed_fault : (text : List ℕ) (r : Result Program Fault) → Parses text r → IfErr r IsStartFault
+parsed_fault text (Ok p) h = tt
+parsed_fault text (Err (fault.Script line)) h = tt
+parsed_fault text (Err fault.Memory) h = tt
+parsed_fault text (Err _) h = absurd h

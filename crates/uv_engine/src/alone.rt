@@ -1,0 +1,27 @@
+//! A script that no commands follow.
+ghost use Rattle.std.specs.Prelude.{◌^◌, ◌<◌, length, IfErr};
+ghost use Rattle.uv_engine.specs.Alone.{ReadsAlone};
+ghost use Rattle.uv_engine.specs.Devices.{ReaderCounts};
+ghost use Rattle.uv_engine.specs.Start.{IsStartFault};
+
+use crate::input::Input;
+use crate::script::read_front;
+use crate::source::Source;
+use std::alloc::Global;
+use uv_ids::Fault;
+use uv_script::Script;
+
+/// Reads a script up to the line `begin`, or up to the end where there is no such line. What follows that line isn't looked at,
+/// though some of it may have been read.
+///
+/// `Script` names the first line outside the grammar. `Read` comes where the reader fails, and else only where the input is
+/// longer than 2^30 bytes.
+pub fn read_alone<R: Source>(alloc: Global, reader: &mut R) -> Result<Script, Fault>
+    ensures script { R.Tells → ReadsAlone (R.remaining reader.old) result }
+    ensures err { IfErr result IsStartFault }
+    ensures reader { ReaderCounts result (R.Tells → 2 ^ 30 < length (R.remaining reader.old)) (R.failures reader.old) (R.failures reader.new) }
+{
+    let mut input = Input::new(alloc);
+    let front = read_front(alloc, &mut input, reader)?;
+    Script::parse(alloc, front.text.as_slice())
+}
