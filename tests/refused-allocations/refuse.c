@@ -5,6 +5,7 @@
 #include <fcntl.h>
 #include <stdio.h>
 #include <stdlib.h>
+#include <sys/syscall.h>
 #include <unistd.h>
 
 static long asked;
@@ -31,6 +32,12 @@ void *realloc(void *old, size_t size) {
     return is_refused() ? NULL : next(old, size);
 }
 
+static void leave(int status) {
+    for (;;) {
+        syscall(SYS_exit_group, status);
+    }
+}
+
 __attribute__((destructor)) static void report(void) {
     const char *name = getenv("ASKED");
     if (name != NULL) {
@@ -38,8 +45,15 @@ __attribute__((destructor)) static void report(void) {
         int length = snprintf(text, sizeof text, "%ld\n", asked);
         int file = open(name, O_WRONLY | O_CREAT | O_TRUNC, 0600);
         if (file < 0 || write(file, text, (size_t)length) != length) {
-            _exit(99);
+            leave(99);
         }
         close(file);
     }
+}
+
+// A program that may start threads ends by this call, and no destructor runs.
+void _exit(int status) {
+    report();
+    leave(status);
+    __builtin_unreachable();
 }
