@@ -1,4 +1,5 @@
-//! Tests of the arena and of what stands on it, by their public calls: each once with ample memory, and worked examples.
+//! Tests of the arena and of what stands on it, by their public calls: each once with ample memory, and worked examples. The calls of
+//! timers and of requests are tried by the programs `timer_calls` and `request_calls`, against lists and maps.
 #![tactic(auto)]
 
 #[cfg(test)]
@@ -10,13 +11,9 @@ mod handle;
 #[cfg(test)]
 mod names;
 #[cfg(test)]
-mod requests;
-#[cfg(test)]
 mod step;
 #[cfg(test)]
 mod steps;
-#[cfg(test)]
-mod timer;
 #[cfg(test)]
 mod trail;
 #[cfg(test)]

@@ -1,11 +1,7 @@
-//! What the tests are given: jobs, a gate that does nothing, and lines of senders.
-
-ghost use Rattle.std.specs.Bool.{MatchBool};
-ghost use Rattle.uv_live.specs.Course.{AreNamed};
+//! What the tests are given: jobs, and a gate that does nothing.
 
 use std::process::Abort;
-use uv_ids::{Fault, Id, Var};
-use uv_live::ThreadLine;
+use uv_ids::{Fault, Id};
 use uv_pool::Gate;
 use uv_work::Job;
 
@@ -28,21 +24,6 @@ pub fn id(slot: u32) -> Id {
 
 pub fn job<R: Abort>(rt: &R, slot: u32) -> Job {
     Job::new(id(slot), b"abc", 1).expect(rt, "within the limits")
-}
-
-/// A line of the sender thread of that number, to the first name.
-pub fn line(thread: u8) -> ThreadLine {
-    ThreadLine {
-        thread,
-        name: Var(0),
-    }
-}
-
-/// Whether each line has a declared name.
-pub fn are_named(names: u32, lines: &[ThreadLine]) -> bool
-    ensures { MatchBool result (AreNamed names lines.now) (AreNamed names lines.now → ⊥) }
-{
-    lines.iter().all(|line| line.name.0 < names)
 }
 
 pub fn put<T: Drop>(all: &mut Vec<T>, item: T) -> Result<(), Fault> {

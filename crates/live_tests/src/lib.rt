@@ -8,12 +8,8 @@ mod given;
 #[cfg(test)]
 mod live_examples;
 #[cfg(test)]
-mod live_threads;
-#[cfg(test)]
 mod pool_examples;
 #[cfg(test)]
 mod pool_threads;
 #[cfg(test)]
 mod scripts;
-#[cfg(test)]
-mod small;

@@ -1,17 +1,35 @@
-//! Examples without threads: a session of one job, after its first step, beside a book whose worker has done that job.
-ghost use Rattle.std.specs.Prelude.{◌≡◌, ◌<◌};
+//! Examples without threads: sessions beside a book whose worker has done a job, and results that are handed in.
+ghost use Rattle.std.specs.Prelude.{◌≡◌, ◌<◌, [], IfOk};
 
-use crate::given::{Quiet, job, put};
-use crate::small::{Small, SmallScript};
+use crate::given::{Quiet, id, put};
 use std::alloc::Global;
 use std::marker::Brand;
 use std::process::Abort;
 use std::sync::Wait;
 use std::sync::ledger::{Blank, Ledger};
-use uv_ids::Fault;
+use uv_ids::{Event, Fault, Id, Why};
 use uv_live::{Clock, Follower, JumpClock, settle, sync};
+use uv_model::{Machine, PlainLoop, STEPS};
 use uv_pool::{PoolBook, Shift, worker};
+use uv_run::LiveSession;
+use uv_script::Script;
+use uv_session::Session;
 use uv_wake::Board;
+use uv_work::{Job, WorkResult};
+
+/// A session of a script in which no step stands.
+fn begun(alloc: Global, text: &[u8]) -> Result<Session<PlainLoop>, Fault>
+    ensures { IfOk result (λ session. session.standing ≡ []) }
+{
+    let script = Script::parse(alloc, text)?;
+    let machine = PlainLoop::begin(alloc, script)?;
+    Ok(Session::new(alloc, machine, STEPS))
+}
+
+/// A job of one round.
+fn job<R: Abort>(rt: &R, id: Id, text: &[u8]) -> Job {
+    Job::new(id, text, 1).expect(rt, "within the limits")
+}
 
 /// A closed book whose one worker has done one job, and the worker's shift.
 fn worked<L: Ledger, R: Abort + Wait>(
@@ -24,7 +42,7 @@ fn worked<L: Ledger, R: Abort + Wait>(
     requires more { 1 < blank.parts }
 {
     let mut book = PoolBook::<L>::new(alloc, blank, 1)?;
-    book.submit(job(rt, 0))?;
+    book.submit(job(rt, id(0), b""))?;
     let mut shifts = Vec::new(alloc);
     let shift = worker(rt, alloc, &mut book, &Quiet, 0)?;
     put(&mut shifts, shift)?;
@@ -63,29 +81,13 @@ fn settles_once_it_follows<F: Follower, L: Ledger, R: Abort + Wait>(
     Ok(())
 }
 
-fn one_job<L: Ledger, R: Abort + Wait>(rt: &R, alloc: Global, blank: Blank) -> Result<(), Fault>
-    requires name { blank.name ≡ L.name }
-    requires parts { blank.parts ≡ L.parts }
-    requires more { 1 < blank.parts }
-{
-    let mut jobs = Vec::new(alloc);
-    put(&mut jobs, job(rt, 0))?;
-    let script = SmallScript {
-        workers: 1,
-        jobs,
-        names: 1,
-        lines: Vec::new(alloc),
-        calls: 0,
-        due: None,
-    };
-    let mut session = Small::<L>::new(alloc, blank, script)?;
-    assert!(rt; session.step().is_ok());
-    settles_once_it_follows::<Small<L>, Brand, R>(rt, alloc, Blank::new(2), &mut session)
-}
-
 #[test]
 fn a_run_settles_once_all_was_applied(rt: HostRuntime) -> Result<(), Fault> {
-    one_job::<Brand, _>(&rt, rt.alloc(), Blank::new(2))
+    let alloc = rt.alloc();
+    let session = begun(alloc, b"workers 1\nvar p\nmain queue p 1\n")?;
+    let mut live = LiveSession::new(alloc, session, Vec::new(alloc));
+    assert!(&rt; live.step().is_ok());
+    settles_once_it_follows::<_, Brand, _>(&rt, alloc, Blank::new(2), &mut live)
 }
 
 #[test]
@@ -93,4 +95,36 @@ fn a_jump_clock_jumps(rt: HostRuntime) {
     let mut clock = JumpClock::new(3);
     assert!(&rt; clock.moment() == 3);
     assert!(&rt; clock.until(10) == 10 && clock.moment() == 10);
+}
+
+/// The session after worker 1 took the first of two requests and worker 0 the second.
+fn two_taken(alloc: Global) -> Result<Session<PlainLoop>, Fault> {
+    let text = b"workers 2\nvar p\nvar q\nmain queue p 1 abc\nmain queue q 1\nmain run default\n";
+    let mut session = begun(alloc, text)?;
+    for event in [Event::Loop, Event::Loop, Event::Take(1), Event::Take(0)] {
+        session.do_event(event)?;
+    }
+    Ok(session)
+}
+
+fn is_handed_in<R: Abort>(
+    rt: &R,
+    session: &mut Session<PlainLoop>,
+    k: u16,
+    id: Id,
+    text: &[u8],
+) -> Result<bool, Fault> {
+    match session.finish_with(k, WorkResult::compute(job(rt, id, text))) {
+        Ok(_) => Ok(true),
+        Err(Fault::Refused(Why::NoWork)) => Ok(false),
+        Err(fault) => Err(fault),
+    }
+}
+
+#[test]
+fn a_result_is_that_of_the_job_that_the_worker_runs(rt: HostRuntime) -> Result<(), Fault> {
+    let mut session = two_taken(rt.alloc())?;
+    assert!(&rt; !is_handed_in(&rt, &mut session, 1, id(1), b"")?);
+    assert!(&rt; is_handed_in(&rt, &mut session, 1, id(0), b"abc")?);
+    Ok(())
 }

@@ -1,13 +1,62 @@
 //! Live runs of scripts on real threads.
-use crate::given::Quiet;
-use std::alloc::Global;
+use crate::gates::Ordered;
+use crate::given::{Quiet, id, put};
+use std::alloc::{AllocError, Global};
+use std::process::Abort;
 use std::sync::Wait;
 use std::thread::Threads;
-use uv_ids::{Event, Fault, Seen, Var};
+use std::time::Clock;
+use uv_ids::{Event, Fault, Id, Seen, Var};
 use uv_live::JumpClock;
 use uv_model::PlainLoop;
+use uv_pool::Gate;
 use uv_run::live;
-use uv_script::Script;
+use uv_script::{Script, push_number};
+
+/// SHA-256 of `abc`, and of the empty text (FIPS 180-4).
+const OF_ABC: [u8; 32] = [
+    0xba, 0x78, 0x16, 0xbf, 0x8f, 0x01, 0xcf, 0xea, 0x41, 0x41, 0x40, 0xde, 0x5d, 0xae, 0x22, 0x23,
+    0xb0, 0x03, 0x61, 0xa3, 0x96, 0x17, 0x7a, 0x9c, 0xb4, 0x10, 0xff, 0x61, 0xf2, 0x00, 0x15, 0xad,
+];
+
+const OF_NOTHING: [u8; 32] = [
+    0xe3, 0xb0, 0xc4, 0x42, 0x98, 0xfc, 0x1c, 0x14, 0x9a, 0xfb, 0xf4, 0xc8, 0x99, 0x6f, 0xb9, 0x24,
+    0x27, 0xae, 0x41, 0xe4, 0x64, 0x9b, 0x93, 0x4c, 0xa4, 0x95, 0x99, 0x1b, 0x78, 0x52, 0xb8, 0x55,
+];
+
+const TWO_JOBS: &[u8] =
+    b"workers 2\nvar p\nvar q\nmain queue p 1 abc\nmain queue q 1\nmain run default\n";
+
+/// How many steps of each kind there are.
+#[derive(Clone, Copy, PartialEq, Eq)]
+struct Counts {
+    loops: u32,
+    takes: u32,
+    finishes: u32,
+    sends: u32,
+    ticks: u32,
+}
+
+fn counted(steps: &[Event]) -> Counts {
+    let mut counts = Counts {
+        loops: 0,
+        takes: 0,
+        finishes: 0,
+        sends: 0,
+        ticks: 0,
+    };
+    for step in steps {
+        let count = match *step {
+            Event::Loop => &mut counts.loops,
+            Event::Take(_) => &mut counts.takes,
+            Event::Finish(_) => &mut counts.finishes,
+            Event::Send(_) => &mut counts.sends,
+            _ => &mut counts.ticks,
+        };
+        *count = count.wrapping_add(1);
+    }
+    counts
+}
 
 /// What stands after a live run: its steps and its lines.
 #[derive(Drop)]
@@ -17,88 +66,153 @@ struct Story {
 }
 
 /// Runs a script on real threads.
-fn ran<R: Threads + Wait + Sync>(rt: &R, alloc: Global, text: &[u8]) -> Result<Story, Fault> {
+fn ran<G: Gate + Sync, R: Threads + Wait + Sync>(
+    rt: &R,
+    alloc: Global,
+    text: &[u8],
+    gate: &G,
+) -> Result<Story, Fault> {
     let script = Script::parse(alloc, text)?;
-    let session = live::<PlainLoop, _, _, _>(rt, alloc, script, &mut JumpClock::new(0), &Quiet)?;
+    let session = live::<PlainLoop, _, _, _>(rt, alloc, script, &mut JumpClock::new(0), gate)?;
     Ok(Story {
         steps: Vec::from_slice(alloc, session.steps())?,
         trace: session.trace()?,
     })
 }
 
-fn loops(story: &Story) -> usize {
-    story
-        .steps
-        .iter()
-        .filter(|step| matches!(**step, Event::Loop))
-        .count()
+/// The callbacks of a run.
+fn called(alloc: Global, trace: &[Seen]) -> Result<Vec<Seen>, Fault> {
+    let mut all = Vec::new(alloc);
+    for seen in trace {
+        match *seen {
+            Seen::Call(_, _) | Seen::After(_, _, _) | Seen::Closed(_, _) => put(&mut all, *seen)?,
+            _ => {}
+        }
+    }
+    Ok(all)
 }
 
 #[test]
 fn a_timer_is_due_when_the_clock_has_jumped(rt: HostRuntime) -> Result<(), Fault> {
     let text = b"var t\nmain init t timer\nmain start t 10 0\nmain run default\n";
-    let story = ran(&rt, rt.alloc(), text)?;
-    assert!(&rt; story.steps.len() == 17 && loops(&story) == 16);
+    let story = ran(&rt, rt.alloc(), text, &Quiet)?;
+    assert!(&rt; story.steps.len() == 17 && counted(&story.steps).loops == 16);
     assert!(&rt; story.steps[8] == Event::Tick(10));
     Ok(())
 }
 
-fn is_collected(seen: Seen) -> bool {
-    matches!(seen, Seen::After(Some(_), _, _))
-}
-
 #[test]
 fn two_workers_do_two_jobs(rt: HostRuntime) -> Result<(), Fault> {
-    let text = b"workers 2\nvar p\nvar q\nmain queue p 1 abc\nmain queue q 1\nmain run default\n";
-    let story = ran(&rt, rt.alloc(), text)?;
-    let takes = story
-        .steps
-        .iter()
-        .filter(|step| matches!(**step, Event::Take(_)))
-        .count();
-    let finishes = story
-        .steps
-        .iter()
-        .filter(|step| matches!(**step, Event::Finish(_)))
-        .count();
-    assert!(&rt; takes == 2 && finishes == 2);
-    assert!(&rt;
-        story
-            .trace
-            .iter()
-            .filter(|seen| is_collected(**seen))
-            .count()
-            == 2
-    );
+    let story = ran(&rt, rt.alloc(), TWO_JOBS, &Quiet)?;
+    let counts = counted(&story.steps);
+    assert!(&rt; counts.takes == 2 && counts.finishes == 2);
+    assert!(&rt; called(rt.alloc(), &story.trace)?.len() == 2);
+    Ok(())
+}
+
+fn takes(seen: Seen, k: u16, id: Id) -> bool {
+    match seen {
+        Seen::Take(worker, _, taken) => worker == k && taken == id,
+        _ => false,
+    }
+}
+
+/// Two jobs on two workers, of which one is held until the other has ended: their callbacks come in this order.
+fn in_order<R: Abort + Threads + Wait + Clock + Sync>(
+    rt: &R,
+    alloc: Global,
+    held: Id,
+    wanted: [Seen; 2],
+) -> Result<(), Fault> {
+    let gate = Ordered::new(rt, alloc, held);
+    let story = ran(rt, alloc, TWO_JOBS, &gate)?;
+    assert!(rt; !gate.is_late());
+    assert!(rt; called(alloc, &story.trace)?.as_slice() == wanted.as_slice());
+    let begun = gate.into_begun();
+    assert!(rt; begun.len() == 2);
+    for (k, id) in begun.iter() {
+        assert!(rt; story.trace.iter().any(|seen| takes(*seen, *k, *id)));
+    }
+    Ok(())
+}
+
+const P: Seen = Seen::After(
+    Some(OF_ABC),
+    Var(0),
+    Id {
+        slot: 0,
+        generation: 0,
+    },
+);
+
+const Q: Seen = Seen::After(
+    Some(OF_NOTHING),
+    Var(1),
+    Id {
+        slot: 1,
+        generation: 0,
+    },
+);
+
+#[test]
+fn a_job_that_is_held_calls_back_last(rt: HostRuntime) -> Result<(), Fault> {
+    in_order(&rt, rt.alloc(), id(0), [Q, P])
+}
+
+#[test]
+fn the_other_one_calls_back_last_if_it_is_held(rt: HostRuntime) -> Result<(), Fault> {
+    in_order(&rt, rt.alloc(), id(1), [P, Q])
+}
+
+#[test]
+fn two_senders_wait_for_one_another(rt: HostRuntime) -> Result<(), Fault> {
+    let text = b"workers 1\nvar a\nmain init a async\nmain run default\non a close a\n\
+        thread 0 send a\nthread 1 send a\n";
+    let gate = Ordered::new(&rt, rt.alloc(), id(1));
+    let story = ran(&rt, rt.alloc(), text, &gate)?;
+    assert!(&rt; !gate.is_late());
+    let called = called(rt.alloc(), &story.trace)?;
+    let wanted = [Seen::Call(Var(0), id(0)), Seen::Closed(Var(0), id(0))];
+    assert!(&rt; called.as_slice() == wanted.as_slice());
+    Ok(())
+}
+
+/// Declares the request of this number, and queues it.
+fn push_job(text: &mut Vec<u8>, number: u64) -> Result<(), AllocError> {
+    text.extend_from_slice(b"var j")?;
+    push_number(text, number)?;
+    text.extend_from_slice(b"\nmain queue j")?;
+    push_number(text, number)?;
+    text.extend_from_slice(b" 1\n")
+}
+
+/// Forty jobs, a timer of 10 ms, and an async handle that two threads send to.
+fn forty_jobs(alloc: Global) -> Result<Vec<u8>, AllocError> {
+    let mut text = Vec::from_slice(alloc, b"workers 4\nvar a\nvar t\n")?;
+    text.extend_from_slice(b"main init a async\nmain init t timer\nmain start t 10 0\n")?;
+    for number in 0..40u64 {
+        push_job(&mut text, number)?;
+    }
+    text.extend_from_slice(b"main run default\non a close a\nthread 0 send a\nthread 63 send a\n")?;
+    Ok(text)
+}
+
+#[test]
+fn four_workers_do_forty_jobs(rt: HostRuntime) -> Result<(), Fault> {
+    let text = forty_jobs(rt.alloc())?;
+    let story = ran(&rt, rt.alloc(), &text, &Quiet)?;
+    let counts = counted(&story.steps);
+    assert!(&rt; counts.takes == 40 && counts.finishes == 40);
+    assert!(&rt; counts.sends == 1 || counts.sends == 2);
+    assert!(&rt; story.steps.contains(&Event::Tick(10)));
     Ok(())
 }
 
 #[test]
-fn a_sender_wakes_a_loop_that_would_block(rt: HostRuntime) -> Result<(), Fault> {
+fn a_run_that_nobody_wakes_is_stalled(rt: HostRuntime) -> Result<(), Fault> {
     let text =
-        b"workers 1\nvar a\nmain init a async\nmain run default\non a close a\nthread 0 send a\n";
-    let story = ran(&rt, rt.alloc(), text)?;
-    assert!(&rt;
-        story
-            .steps
-            .iter()
-            .filter(|step| **step == Event::Send(Var(0)))
-            .count()
-            == 1
-    );
-    assert!(&rt;
-        story
-            .trace
-            .iter()
-            .any(|seen| matches!(*seen, Seen::End(false)))
-    );
-    Ok(())
-}
-
-#[test]
-fn nobody_wakes_a_loop_without_a_sender(rt: HostRuntime) -> Result<(), Fault> {
-    let text = b"workers 1\nvar a\nmain init a async\nmain run default\non a close a\n";
-    let answer = ran(&rt, rt.alloc(), text);
+        b"workers 2\nvar a\nvar w\nmain init a async\nmain queue w 1\nmain queue w 1\nmain run default\n";
+    let answer = ran(&rt, rt.alloc(), text, &Quiet);
     assert!(&rt; matches!(answer, Err(Fault::Stalled)));
     Ok(())
 }
