@@ -1,4 +1,4 @@
-//! Tests of the arena and of what stands on it, by their public calls: each once with ample memory, and worked examples. The calls of
+//! Tests of the arena, of its parts and of what stands on it, by their public calls: each once with ample memory, and worked examples. The calls of
 //! timers and of requests are tried by the programs `timer_calls` and `request_calls`, against lists and maps.
 #![tactic(auto)]
 
@@ -9,7 +9,11 @@ mod given;
 #[cfg(test)]
 mod handle;
 #[cfg(test)]
+mod heap;
+#[cfg(test)]
 mod names;
+#[cfg(test)]
+mod raw;
 #[cfg(test)]
 mod step;
 #[cfg(test)]
@@ -18,3 +22,5 @@ mod steps;
 mod trail;
 #[cfg(test)]
 mod watch;
+#[cfg(test)]
+mod work;

@@ -12,6 +12,3 @@ mod undo;
 pub use entry::Entry;
 pub use heap::TimerHeap;
 pub use undo::{PushUndo, RemoveUndo};
-
-#[cfg(test)]
-mod tests;

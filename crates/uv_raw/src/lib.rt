@@ -3,7 +3,5 @@
 
 mod raw_row;
 mod room;
-#[cfg(test)]
-mod tests;
 
 pub use raw_row::RawRow;

@@ -14,6 +14,3 @@ pub use job::Job;
 pub use outcome::Outcome;
 pub use request::RequestRecord;
 pub use result::WorkResult;
-
-#[cfg(test)]
-mod tests;

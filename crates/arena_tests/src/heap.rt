@@ -1,0 +1,120 @@
+//! What no clause says: a worked example, and that the calls succeed.
+ghost use Rattle.std.specs.Prelude.{◌≡◌, ◌≤◌};
+ghost use Rattle.uv_heap.specs.Undo.{CanUndoPush};
+
+use std::alloc::{AllocError, Global};
+use std::process::Abort;
+use std::test::Fail;
+use uv_heap::{Entry, PushUndo, RemoveUndo, TimerHeap};
+use uv_ids::Due;
+
+const SLOTS: u32 = 100;
+
+/// A timer that is due at this time, in the slot of that number.
+fn timer(at: u32) -> Entry {
+    let due = Due {
+        at: u64::from(at),
+        start: 0,
+    };
+    Entry { due, slot: at }
+}
+
+fn put(rt: &impl Abort, heap: &mut TimerHeap, entry: Entry) -> PushUndo
+    ensures { CanUndoPush heap.new.array result.place }
+{
+    heap.reserve(entry.slot).expect(rt, "there is memory");
+    assert!(rt; heap.place_of(entry.slot).is_none());
+    heap.push(entry)
+}
+
+fn assert_dues(rt: &impl Abort, heap: &TimerHeap, dues: &[u64]) {
+    assert!(rt; heap.len() == dues.len());
+    for (entry, due) in heap.entries().iter().zip(dues) {
+        assert!(rt; entry.due.at == *due);
+    }
+}
+
+#[test]
+fn walks_a_path_both_ways(rt: HostRuntime) {
+    let mut heap = TimerHeap::new(rt.alloc());
+    assert!(&rt; heap.is_empty());
+    assert!(&rt; heap.least() == None);
+    for at in [1, 10, 2, 11, 12, 3, 4] {
+        put(&rt, &mut heap, timer(at));
+    }
+    assert_dues(&rt, &heap, &[1, 10, 2, 11, 12, 3, 4]);
+    assert!(&rt; heap.least() == Some(timer(1)));
+    assert!(&rt; heap.place_of(12) == Some(4));
+
+    assert!(&rt; 3 < heap.len());
+    let undo = heap.remove_at(3);
+    assert_dues(&rt, &heap, &[1, 4, 2, 10, 12, 3]);
+    assert!(&rt;
+        undo == RemoveUndo {
+            place: 3,
+            rest: 1,
+            entry: timer(11)
+        }
+    );
+    assert!(&rt; heap.place_of(11) == None);
+    heap.undo_remove(undo);
+    assert_dues(&rt, &heap, &[1, 10, 2, 11, 12, 3, 4]);
+
+    let undo = put(&rt, &mut heap, timer(0));
+    assert_dues(&rt, &heap, &[0, 1, 2, 10, 12, 3, 4, 11]);
+    assert!(&rt; undo == PushUndo { place: 0 });
+    heap.undo_push(undo);
+    assert_dues(&rt, &heap, &[1, 10, 2, 11, 12, 3, 4]);
+}
+
+/// Makes so many changes, chosen by chance, and takes them back, the last one first. Answers whether each earlier array
+/// was found again, with its places.
+fn walk(alloc: Global, heap: &mut TimerHeap, chance: u32, steps: u32) -> Result<bool, AllocError>
+    requires { SLOTS ≤ heap.old.room }
+    ensures array { heap.new.array ≡ heap.old.array }
+    ensures room { heap.new.room ≡ heap.old.room }
+{
+    if steps == 0 {
+        return Ok(true);
+    }
+    let before = Vec::from_slice(alloc, heap.entries())?;
+    let chance = chance.wrapping_mul(1_664_525).wrapping_add(1_013_904_223);
+    let slot = chance / 65536 % SLOTS;
+    let found = match heap.place_of(slot) {
+        Some(place) => {
+            let undo = heap.remove_at(place);
+            let found = walk(alloc, heap, chance, steps - 1);
+            heap.undo_remove(undo);
+            found
+        }
+        None => {
+            let at = u64::from(chance % 50);
+            let start = u64::from(steps);
+            let due = Due { at, start };
+            let undo = heap.push(Entry { due, slot });
+            let found = walk(alloc, heap, chance, steps - 1);
+            heap.undo_push(undo);
+            found
+        }
+    };
+    Ok(found? && is_as_before(heap, before.as_slice()))
+}
+
+fn is_as_before(heap: &TimerHeap, before: &[Entry]) -> bool {
+    for (place, entry) in before.iter().enumerate() {
+        match heap.place_of(entry.slot) {
+            Some(at) if at as usize == place => {}
+            _ => return false,
+        }
+    }
+    heap.entries() == before
+}
+
+#[test]
+fn walks_many_changes_both_ways(rt: HostRuntime) -> Result<(), Fail> {
+    let mut heap = TimerHeap::new(rt.alloc());
+    heap.reserve(SLOTS - 1).expect(&rt, "there is memory");
+    assert!(&rt; walk(rt.alloc(), &mut heap, 7, 600)?);
+    assert!(&rt; heap.is_empty());
+    Ok(())
+}

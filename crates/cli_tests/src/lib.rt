@@ -1,0 +1,5 @@
+//! Tests of the program over memory.
+#![tactic(auto)]
+
+#[cfg(test)]
+mod program;

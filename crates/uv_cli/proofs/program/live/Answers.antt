@@ -1,0 +1,21 @@
+use Rattle.std.proofs.Common.{Err, subst}
+use Rattle.uv_cli.specs.declared.live.NoRecording.{NoRecording}
+use Rattle.uv_cli.specs.Live.{RunsLive, recorded, bad_script, broken}
+use Rattle.uv_cli.proofs.program.live.Goals as goal
+
+pub returns-in-Ok-clause-text : goal.returns-in-Ok-clause-text
+returns-in-Ok-clause-text g c = λ reads tells. recorded (c.in-Ok.ensures.text reads tells)
+
+pub returns-in-Err-BadScript-clause-text : goal.returns-in-Err-BadScript-clause-text
+returns-in-Err-BadScript-clause-text g c = λ reads tells.
+    let h = subst (λ (why : NoRecording). RunsLive c.args.workers (g.R.Source.remaining c.args.reader.now) (Err why)
+    (g.W.Sink.written c.args.writer.now) (g.W.Sink.written c.run_live.new.writer)) c.in-Err-BadScript.field-0-is
+    (c.in-Err-BadScript.ensures.text reads tells) in
+    bad_script c.in-Err-BadScript.line h.0 h.1
+
+pub returns-in-Err-Failed-clause-text : goal.returns-in-Err-Failed-clause-text
+returns-in-Err-Failed-clause-text g c = λ reads tells.
+    let h = subst (λ (why : NoRecording). RunsLive c.args.workers (g.R.Source.remaining c.args.reader.now) (Err why)
+    (g.W.Sink.written c.args.writer.now) (g.W.Sink.written c.run_live.new.writer)) c.in-Err-Failed.field-0-is
+    (c.in-Err-Failed.ensures.text reads tells) in
+    broken h

@@ -1,0 +1,53 @@
+-- Exit statuses, and what was written where a run ended with one.
+use Rattle.std.specs.Prelude.{◌≡◌, ℕ, List, [], ◌++◌, Option, Some, None}
+use Rattle.uv_ids.specs.declared.fault.Fault.{Fault}
+use Rattle.uv_ids.specs.declared.fault.Fault.TheVariants as fault
+use Rattle.uv_engine.specs.declared.conversation.Ended.{Ended}
+use Rattle.uv_engine.specs.declared.verdict.Verdict.{Verdict}
+use Rattle.uv_engine.specs.declared.verdict.Verdict.TheVariants.{Same, Differs, Refused, Full}
+use Rattle.uv_engine.specs.Out.{Out, Ends, BadScript, IsCut, IsWhole}
+use Rattle.uv_engine.specs.Sink.{CutShort}
+use Rattle.uv_engine.specs.Recordings.{IsBadLine}
+use Rattle.uv_engine.specs.Verdict.{HasVerdict, verdict_text}
+use Rattle.uv_cli.specs.declared.command_line.Job.{Job}
+use Rattle.uv_cli.specs.declared.command_line.Job.TheVariants.{Debug, Replay, Live}
+use Rattle.uv_cli.specs.Live.{Lives}
+
+-- the status of a fault
+abbrev pub status_of : Fault → ℕ
+status_of (fault.Script line) = 2
+status_of (fault.Differs place) = 3
+status_of (fault.Refused why) = 3
+status_of fault.StepsFull = 3
+status_of _ = 4
+
+-- a conversation. 0: all that the input asks for was written. 2: the script is bad, and nothing was written. 4: a beginning was written
+pub data Runs (input old new : List ℕ) : ℕ → Type 0 where
+  done : (end : Ended) → IsWhole input (Ends end) old new → Runs input old new 0
+  bad_script : (line : ℕ) → Out input [] (BadScript line) → new ≡ old → Runs input old new 2
+  broken : IsCut input old new → Runs input old new 4
+
+-- the status of a verdict
+abbrev pub status_by : Verdict → ℕ
+status_by Same = 0
+status_by (Differs place) = 3
+status_by (Refused step why) = 3
+status_by (Full step) = 3
+
+-- a replay. 0 or 3: the verdict was written. 2: the recording has a bad line, and nothing was written. 4: nothing was written, or a beginning
+-- of the verdict
+pub data Reruns (input old new : List ℕ) : ℕ → Type 0 where
+  judged : (v : Verdict) → HasVerdict input v → new ≡ old ++ verdict_text v → Reruns input old new (status_by v)
+  bad_line : (line : ℕ) → IsBadLine input line → new ≡ old → Reruns input old new 2
+  nothing : new ≡ old → Reruns input old new 4
+  cut_short : (v : Verdict) → HasVerdict input v → CutShort old (verdict_text v) new → Reruns input old new 4
+
+-- what a run of the program comes to, by what its words ask for
+pub data Ran (asked : Option Job) (input old new : List ℕ) (status : ℕ) : Type 0 where
+  conversed : asked ≡ Some Debug → Runs input old new status → Ran asked input old new status
+  replayed : asked ≡ Some Replay → Reruns input old new status → Ran asked input old new status
+  lived : (workers : Option ℕ) → asked ≡ Some (Live workers) → Lives workers input old new status → Ran asked input old new status
+  -- the words are no command line, and nothing was written
+  bad_words : asked ≡ None → status ≡ 2 → new ≡ old → Ran asked input old new status
+  -- there was no memory to read the words, and nothing was written
+  no_memory : status ≡ 4 → new ≡ old → Ran asked input old new status

@@ -1,0 +1,99 @@
+//! A live run of the script of a reader.
+ghost use Rattle.std.specs.Prelude.{◌≡◌, IfErr, IfSome, OnOk};
+ghost use Rattle.uv_ids.specs.declared.fault.Fault.TheVariants.{Write};
+ghost use Rattle.uv_script.specs.Program.{IsWorkerCount};
+ghost use Rattle.uv_engine.specs.Devices.{WriterCounts};
+ghost use Rattle.uv_engine.specs.Sink.{WritesText};
+ghost use Rattle.uv_cli.specs.Live.{to_run, RunsLive};
+
+use std::alloc::Global;
+use std::sync::Wait;
+use std::thread::Threads;
+use uv_engine::{Sink, Source, read_alone, write_text};
+use uv_ids::{Fault, Id};
+use uv_live::JumpClock;
+use uv_model::PlainLoop;
+use uv_pool::Gate;
+use uv_run::live;
+use uv_script::Script;
+use uv_text::recording_text;
+
+/// Why a live run wrote no recording, or not all of it.
+#[derive(Clone, Copy, Debug, PartialEq, Eq)]
+pub enum NoRecording {
+    /// This line of the script is outside the grammar.
+    BadScript(usize),
+    Failed(Fault),
+}
+
+/// A gate that holds nobody.
+struct Open;
+
+impl Gate for Open {
+    fn begun(&self, _k: u16, _id: Id) {}
+
+    fn ended(&self, _k: u16, _id: Id) {}
+
+    fn sending(&self, _s: u8) {}
+}
+
+/// The script with the number of workers that is asked for.
+fn with_workers(mut script: Script, workers: Option<u16>) -> Script
+    requires within { IfSome workers IsWorkerCount }
+    ensures { result ≡ to_run workers script }
+{
+    if let Some(workers) = workers {
+        script.set_workers(workers);
+    }
+    script
+}
+
+/// Writes a whole text, and passes it on.
+fn write_whole<W: Sink>(writer: &mut W, text: &[u8]) -> Result<(), Fault>
+    ensures text { W.Tells → WritesText result (W.written writer.old) text.now (W.written writer.new) }
+    ensures err { IfErr result (λ fault. fault ≡ Write) }
+    ensures writer { WriterCounts result (W.failures writer.old) (W.failures writer.new) }
+{
+    match write_text(writer, text) {
+        Ok(()) => {}
+        Err(fault) => return Err(fault),
+    }
+    if writer.flush().is_err() {
+        return Err(Fault::Write);
+    }
+    Ok(())
+}
+
+/// Runs the script of a reader on real threads, and writes the recording of what they did. The clock jumps from 0 on.
+pub fn run_live<H: Threads + Wait + Sync, R: Source, W: Sink>(
+    rt: &H,
+    alloc: Global,
+    workers: Option<u16>,
+    reader: &mut R,
+    writer: &mut W,
+) -> Result<(), NoRecording>
+    requires within { IfSome workers IsWorkerCount }
+    ensures text { R.Tells → W.Tells → RunsLive workers (R.remaining reader.old) result (W.written writer.old) (W.written writer.new) }
+    ensures reader { OnOk result (R.failures reader.new ≡ R.failures reader.old) }
+    ensures writer { OnOk result (W.failures writer.new ≡ W.failures writer.old) }
+{
+    let script = match read_alone(alloc, reader) {
+        Ok(script) => script,
+        Err(Fault::Script { line }) => return Err(NoRecording::BadScript(line)),
+        Err(fault) => return Err(NoRecording::Failed(fault)),
+    };
+    let script = with_workers(script, workers);
+    let mut clock = JumpClock::new(0);
+    let session = match live::<PlainLoop, _, _, _>(rt, alloc, script, &mut clock, &Open) {
+        Ok(session) => session,
+        Err(fault) => return Err(NoRecording::Failed(fault)),
+    };
+    let text = match recording_text(alloc, &session) {
+        Ok(text) => text,
+        Err(fault) => return Err(NoRecording::Failed(fault)),
+    };
+    match write_whole(writer, text.as_slice()) {
+        Ok(()) => Ok(()),
+        Err(fault) => Err(NoRecording::Failed(fault)),
+    }
+}

@@ -1,0 +1,125 @@
+//! The program over any reader and writers.
+ghost use Rattle.std.specs.Prelude.{◌≡◌, map, IfSome};
+ghost use Rattle.uv_script.specs.Program.{IsWorkerCount};
+ghost use Rattle.uv_cli.specs.Live.{Lives};
+ghost use Rattle.uv_cli.specs.Status.{Runs, Reruns, Ran, status_of};
+ghost use Rattle.uv_cli.specs.Words.{job_of};
+
+use crate::command_line::{Job, NoJob, read_words};
+use crate::live::{NoRecording, run_live};
+use std::alloc::Global;
+use std::io::Write;
+use std::sync::Wait;
+use std::thread::Threads;
+use uv_engine::{Sink, Source, converse, replay};
+use uv_ids::Fault;
+use uv_model::PlainLoop;
+
+/// Does what the words say, of which the first is the program's own, and gives the exit status: 0 where it is done, 2 for a
+/// bad command line, a bad script or a bad recording, 3 where a recording's verdict isn't `same`, 4 for any other fault. A fault
+/// is a line on the errors, `uvt: ` and its text.
+pub fn run<H: Threads + Wait + Sync, R: Source, W: Sink, E: Write>(
+    rt: &H,
+    alloc: Global,
+    words: &[&str],
+    reader: &mut R,
+    writer: &mut W,
+    errors: &mut E,
+) -> u8
+    ensures text { R.Tells → W.Tells → Ran (job_of (map (λ word. word.now) words.now)) (R.remaining reader.old) (W.written writer.old) (W.written writer.new) result }
+
+    // A terminal doesn't tell its bytes. Yet with status 0 neither device has failed.
+    ensures reader { result ≡ 0 → R.failures reader.new ≡ R.failures reader.old }
+    ensures writer { result ≡ 0 → W.failures writer.new ≡ W.failures writer.old }
+{
+    match read_words(alloc, words) {
+        Ok(Job::Debug) => debug(alloc, reader, writer, errors),
+        Ok(Job::Replay) => rerun(alloc, reader, writer, errors),
+        Ok(Job::Live(workers)) => live(rt, alloc, workers, reader, writer, errors),
+        Err(NoJob::BadWords) => bad_words(errors),
+        Err(NoJob::Memory) => fail(Fault::Memory, errors),
+    }
+}
+
+fn debug<R: Source, W: Sink, E: Write>(
+    alloc: Global,
+    reader: &mut R,
+    writer: &mut W,
+    errors: &mut E,
+) -> u8
+    ensures text { R.Tells → W.Tells → Runs (R.remaining reader.old) (W.written writer.old) (W.written writer.new) result }
+    ensures reader { result ≡ 0 → R.failures reader.new ≡ R.failures reader.old }
+    ensures writer { result ≡ 0 → W.failures writer.new ≡ W.failures writer.old }
+{
+    match converse::<PlainLoop, _, _>(alloc, reader, writer) {
+        Ok(_) => 0,
+        Err(fault) => fail(fault, errors),
+    }
+}
+
+fn rerun<R: Source, W: Sink, E: Write>(
+    alloc: Global,
+    reader: &mut R,
+    writer: &mut W,
+    errors: &mut E,
+) -> u8
+    ensures text { R.Tells → W.Tells → Reruns (R.remaining reader.old) (W.written writer.old) (W.written writer.new) result }
+    ensures reader { result ≡ 0 → R.failures reader.new ≡ R.failures reader.old }
+    ensures writer { result ≡ 0 → W.failures writer.new ≡ W.failures writer.old }
+{
+    match replay::<PlainLoop, _, _>(alloc, reader, writer) {
+        Ok(()) => 0,
+        Err(fault) => fail(fault, errors),
+    }
+}
+
+fn live<H: Threads + Wait + Sync, R: Source, W: Sink, E: Write>(
+    rt: &H,
+    alloc: Global,
+    workers: Option<u16>,
+    reader: &mut R,
+    writer: &mut W,
+    errors: &mut E,
+) -> u8
+    requires within { IfSome workers IsWorkerCount }
+    ensures text { R.Tells → W.Tells → Lives workers (R.remaining reader.old) (W.written writer.old) (W.written writer.new) result }
+    ensures reader { result ≡ 0 → R.failures reader.new ≡ R.failures reader.old }
+    ensures writer { result ≡ 0 → W.failures writer.new ≡ W.failures writer.old }
+{
+    match run_live(rt, alloc, workers, reader, writer) {
+        Ok(()) => 0,
+        Err(NoRecording::BadScript(line)) => {
+            report(Fault::Script { line }, errors);
+            2
+        }
+        Err(NoRecording::Failed(fault)) => {
+            report(fault, errors);
+            4
+        }
+    }
+}
+
+/// Says that the command line is bad, and gives the exit status.
+pub fn bad_words<E: Write>(errors: &mut E) -> u8
+    ensures { result ≡ 2 }
+{
+    let _ = writeln!(errors, "uvt: bad command line");
+    2
+}
+
+/// Says what went wrong.
+fn report<E: Write>(fault: Fault, errors: &mut E) {
+    let _ = writeln!(errors, "uvt: {fault}");
+}
+
+/// Says what went wrong, and gives the exit status.
+pub fn fail<E: Write>(fault: Fault, errors: &mut E) -> u8
+    ensures { result ≡ status_of fault }
+{
+    report(fault, errors);
+    match fault {
+        Fault::Script { .. } => 2,
+        Fault::Differs { .. } | Fault::Refused(_) | Fault::StepsFull => 3,
+        _ => 4,
+    }
+}

@@ -1,4 +1,0 @@
-use Rattle.uv_heap.proofs.tests.+walk.Given as goal
-
-abbrev pub decreases-walk : goal.decreases-walk
-decreases-walk l = l.steps

@@ -1,9 +1,0 @@
-use Rattle.uvt.specs.Status.{done}
-use Rattle.uvt.proofs.Ending.{by_fault}
-use Rattle.uvt.proofs.run.debug.Goals as goal
-
-pub returns-in-Ok-clause-text : goal.returns-in-Ok-clause-text
-returns-in-Ok-clause-text g c = λ reads tells. done c.in-Ok.field-0 (c.in-Ok.ensures.text reads tells)
-
-pub returns-in-Err-clause-text : goal.returns-in-Err-clause-text
-returns-in-Err-clause-text g c = λ reads tells. rw c.fail.ensures (by_fault _ _ _ c.in-Err.fault (c.in-Err.ensures.text reads tells))

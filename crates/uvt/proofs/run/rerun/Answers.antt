@@ -1,8 +1,0 @@
-use Rattle.uvt.proofs.Ending.{replayed_well, replayed_fault}
-use Rattle.uvt.proofs.run.rerun.Goals as goal
-
-pub returns-in-Ok-clause-text : goal.returns-in-Ok-clause-text
-returns-in-Ok-clause-text g c = λ reads tells. replayed_well _ _ _ tt (c.in-Ok.ensures.text reads tells)
-
-pub returns-in-Err-clause-text : goal.returns-in-Err-clause-text
-returns-in-Err-clause-text g c = λ reads tells. rw c.fail.ensures (replayed_fault _ _ _ c.in-Err.fault (c.in-Err.ensures.text reads tells))
