@@ -1,4 +1,4 @@
-"""Scripts as they are read: the first bad line of each that is none, and the text of each that is one."""
+"""Scripts as they are read: the first bad line of each that is none, and the text of each that is one; commands at a limit."""
 import os
 
 HERE = os.path.dirname(os.path.realpath(__file__))
@@ -30,6 +30,13 @@ LIMITS = [
      b'var a\n' + lines(65534, lambda number: b'thread %d send a\n' % (number % 64)) + b'workers 9\nthread 0 send a\n', 65537),
     ('65536 lines, and some that do not count',
      lines(65535, lambda number: b'main run once\n') + b'\n# none\nslots 9\nworkers 9\nmain run once\n', 65540),
+]
+
+# Commands at a limit, and what they are answered.
+COMMANDS = [
+    ('a comment of 256 bytes, and one of 257', b'begin\n#' + 255 * b'x' + b'\n#' + 256 * b'x', b'bad command\n'),
+    ('256 breaks, and one more', b'begin\n' + 257 * b'break code ok\n' + b'break clear\nbreak section poll\n',
+     256 * b'break ok\n' + b'refused limit\nbreak ok\nbreak ok\n'),
 ]
 
 # A script, and its text: workers, slots, names, the main program, of each name its `on`, `after` and `closed` lines, and the

@@ -269,7 +269,25 @@ fn undo_rounds(
     }
 }
 
-/// Changes, and what takes them back. The heap is as before.
+/// The same rounds, after which the heap is as before.
+fn there_and_back(
+    clock: &impl Clock,
+    watch: &mut Watch,
+    alloc: Global,
+    heap: &mut TimerHeap,
+    slots: &mut [u32],
+    size: u32,
+    changes: &mut Changes,
+) -> Result<(), AllocError> {
+    let before = Vec::from_slice(alloc, heap.entries())?;
+    undo_rounds(clock, watch, heap, slots, size, changes);
+    if heap.entries() != before.as_slice() {
+        watch.fail();
+    }
+    Ok(())
+}
+
+/// Changes of a heap of so many entries, and what takes them back.
 fn undos(
     clock: &impl Clock,
     watch: &mut Watch,
@@ -279,12 +297,7 @@ fn undos(
 ) -> Result<(), AllocError> {
     let mut slots = Vec::from_elem(alloc, 0u32, BATCH.min(size) as usize)?;
     let mut heap = filled(watch, alloc, size);
-    let before = Vec::from_slice(alloc, heap.entries())?;
-    undo_rounds(clock, watch, &mut heap, &mut slots, size, changes);
-    if heap.entries() != before.as_slice() {
-        watch.fail();
-    }
-    Ok(())
+    there_and_back(clock, watch, alloc, &mut heap, &mut slots, size, changes)
 }
 
 /// The rounds of restarts of any timer.

@@ -5,7 +5,7 @@ use std::{fs, io};
 use uv_engine::{Reader, Writer, converse};
 use uv_model::PlainLoop;
 
-const EXAMPLES: [&str; 20] = [
+const EXAMPLES: [&str; 21] = [
     "two-timers",
     "falls-behind",
     "step-back",
@@ -26,6 +26,7 @@ const EXAMPLES: [&str; 20] = [
     "cancel-in-time",
     "tenth-waits",
     "next-job",
+    "live-run-back",
 ];
 
 fn main(rt: HostRuntime) -> io::Result<()> {

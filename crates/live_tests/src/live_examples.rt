@@ -1,5 +1,6 @@
 //! Examples without threads: sessions beside a book whose worker has done a job, and results that are handed in.
 ghost use Rattle.std.specs.Prelude.{◌≡◌, ◌<◌, [], IfOk};
+ghost use Rattle.uv_wake.specs.Seats.{names_of};
 
 use crate::given::{Quiet, id, put};
 use std::alloc::Global;
@@ -14,15 +15,15 @@ use uv_pool::{PoolBook, Shift, worker};
 use uv_run::LiveSession;
 use uv_script::Script;
 use uv_session::Session;
-use uv_wake::Board;
+use uv_wake::{Board, LoopSeat};
 use uv_work::{Job, WorkResult};
 
 /// A session of a script in which no step stands.
-fn begun(alloc: Global, text: &[u8]) -> Result<Session<PlainLoop>, Fault>
+fn begun<M: Machine>(alloc: Global, text: &[u8]) -> Result<Session<M>, Fault>
     ensures { IfOk result (λ session. session.standing ≡ []) }
 {
     let script = Script::parse(alloc, text)?;
-    let machine = PlainLoop::begin(alloc, script)?;
+    let machine = M::begin(alloc, script)?;
     Ok(Session::new(alloc, machine, STEPS))
 }
 
@@ -59,6 +60,23 @@ fn follow<F: Follower, L: Ledger>(session: &mut F, book: &PoolBook<L>) -> Result
     sync(session, book)
 }
 
+fn settles<F: Follower, L: Ledger, R: Abort>(
+    rt: &R,
+    session: &mut F,
+    book: &PoolBook<L>,
+    shifts: &[Shift<L>],
+    seat: &LoopSeat,
+)
+    requires { names_of seat.now.board ≡ (F.plan session.old).names }
+{
+    let early = settle(session, book, shifts, seat);
+    assert!(rt; matches!(early, Err(Fault::Torn { at: 2 })));
+    assert!(rt; matches!(follow(session, book), Ok(2)));
+    assert!(rt; settle(session, book, shifts, seat).is_ok());
+    let nobody = settle(session, book, &shifts[..0], seat);
+    assert!(rt; matches!(nobody, Err(Fault::Torn { at: 0 })));
+}
+
 fn settles_once_it_follows<F: Follower, L: Ledger, R: Abort + Wait>(
     rt: &R,
     alloc: Global,
@@ -71,23 +89,21 @@ fn settles_once_it_follows<F: Follower, L: Ledger, R: Abort + Wait>(
 {
     let (book, shifts) = worked::<L, R>(rt, alloc, blank)?;
     let (_board, seat) = Board::new(alloc, session.name_count() as usize, 1)?;
-    let early = settle(session, &book, shifts.as_slice(), &seat);
-    assert!(rt; matches!(early, Err(Fault::Torn { at: 2 })));
-    assert!(rt; matches!(follow(session, &book), Ok(2)));
-    assert!(rt; settle(session, &book, shifts.as_slice(), &seat).is_ok());
-    let idle: Vec<Shift<L>> = Vec::new(alloc);
-    let nobody = settle(session, &book, idle.as_slice(), &seat);
-    assert!(rt; matches!(nobody, Err(Fault::Torn { at: 0 })));
+    settles(rt, session, &book, shifts.as_slice(), &seat);
     Ok(())
+}
+
+/// The run of one job over a machine.
+fn one_job<M: Machine, R: Abort + Wait>(rt: &R, alloc: Global) -> Result<(), Fault> {
+    let session = begun::<M>(alloc, b"workers 1\nvar p\nmain queue p 1\n")?;
+    let mut live = LiveSession::new(alloc, session, Vec::new(alloc));
+    assert!(rt; live.step().is_ok());
+    settles_once_it_follows::<_, Brand, _>(rt, alloc, Blank::new(2), &mut live)
 }
 
 #[test]
 fn a_run_settles_once_all_was_applied(rt: HostRuntime) -> Result<(), Fault> {
-    let alloc = rt.alloc();
-    let session = begun(alloc, b"workers 1\nvar p\nmain queue p 1\n")?;
-    let mut live = LiveSession::new(alloc, session, Vec::new(alloc));
-    assert!(&rt; live.step().is_ok());
-    settles_once_it_follows::<_, Brand, _>(&rt, alloc, Blank::new(2), &mut live)
+    one_job::<PlainLoop, _>(&rt, rt.alloc())
 }
 
 #[test]
@@ -98,18 +114,18 @@ fn a_jump_clock_jumps(rt: HostRuntime) {
 }
 
 /// The session after worker 1 took the first of two requests and worker 0 the second.
-fn two_taken(alloc: Global) -> Result<Session<PlainLoop>, Fault> {
+fn two_taken<M: Machine>(alloc: Global) -> Result<Session<M>, Fault> {
     let text = b"workers 2\nvar p\nvar q\nmain queue p 1 abc\nmain queue q 1\nmain run default\n";
-    let mut session = begun(alloc, text)?;
+    let mut session = begun::<M>(alloc, text)?;
     for event in [Event::Loop, Event::Loop, Event::Take(1), Event::Take(0)] {
         session.do_event(event)?;
     }
     Ok(session)
 }
 
-fn is_handed_in<R: Abort>(
+fn is_handed_in<M: Machine, R: Abort>(
     rt: &R,
-    session: &mut Session<PlainLoop>,
+    session: &mut Session<M>,
     k: u16,
     id: Id,
     text: &[u8],
@@ -121,10 +137,15 @@ fn is_handed_in<R: Abort>(
     }
 }
 
+/// Worker 1 hands in the result of the job that worker 0 runs, and then its own.
+fn two_results<M: Machine, R: Abort>(rt: &R, alloc: Global) -> Result<(), Fault> {
+    let mut session = two_taken::<M>(alloc)?;
+    assert!(rt; !is_handed_in(rt, &mut session, 1, id(1), b"")?);
+    assert!(rt; is_handed_in(rt, &mut session, 1, id(0), b"abc")?);
+    Ok(())
+}
+
 #[test]
 fn a_result_is_that_of_the_job_that_the_worker_runs(rt: HostRuntime) -> Result<(), Fault> {
-    let mut session = two_taken(rt.alloc())?;
-    assert!(&rt; !is_handed_in(&rt, &mut session, 1, id(1), b"")?);
-    assert!(&rt; is_handed_in(&rt, &mut session, 1, id(0), b"abc")?);
-    Ok(())
+    two_results::<PlainLoop, _>(&rt, rt.alloc())
 }

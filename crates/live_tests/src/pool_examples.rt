@@ -11,12 +11,7 @@ use uv_ids::{Code, Fault, Why};
 use uv_pool::{PoolBook, worker};
 use uv_work::{PoolEvent, WorkResult};
 
-fn refusals<L: Ledger, R: Abort>(rt: &R, alloc: Global, blank: Blank) -> Result<(), Fault>
-    requires name { blank.name ≡ L.name }
-    requires parts { blank.parts ≡ L.parts }
-    requires more { 2 < blank.parts }
-{
-    let mut book = PoolBook::<L>::new(alloc, blank, 2)?;
+fn refuses<L: Ledger, R: Abort>(rt: &R, book: &mut PoolBook<L>) -> Result<(), Fault> {
     let first = WorkResult::compute(job(rt, 0));
     let other = WorkResult::compute(job(rt, 1));
     assert!(rt; book.submit(job(rt, 0)) == Ok(()));
@@ -44,17 +39,21 @@ fn refusals<L: Ledger, R: Abort>(rt: &R, alloc: Global, blank: Blank) -> Result<
     Ok(())
 }
 
+fn refusals<L: Ledger, R: Abort>(rt: &R, alloc: Global, blank: Blank) -> Result<(), Fault>
+    requires name { blank.name ≡ L.name }
+    requires parts { blank.parts ≡ L.parts }
+    requires more { 2 < blank.parts }
+{
+    let mut book = PoolBook::<L>::new(alloc, blank, 2)?;
+    refuses(rt, &mut book)
+}
+
 #[test]
 fn each_refusal_in_its_place(rt: HostRuntime) -> Result<(), Fault> {
     refusals::<Brand, _>(&rt, rt.alloc(), Blank::new(3))
 }
 
-fn cancels<L: Ledger, R: Abort>(rt: &R, alloc: Global, blank: Blank) -> Result<(), Fault>
-    requires name { blank.name ≡ L.name }
-    requires parts { blank.parts ≡ L.parts }
-    requires more { 1 < blank.parts }
-{
-    let mut book = PoolBook::<L>::new(alloc, blank, 1)?;
+fn cancels_three<L: Ledger, R: Abort>(rt: &R, book: &mut PoolBook<L>) -> Result<(), Fault> {
     book.reserve()?;
     for slot in 0..4u32 {
         book.submit(job(rt, slot))?;
@@ -80,6 +79,15 @@ fn cancels<L: Ledger, R: Abort>(rt: &R, alloc: Global, blank: Blank) -> Result<(
     assert!(rt; book.submit(job(rt, 2)) == Ok(()));
     assert!(rt; book.take(0) == Ok(Some(job(rt, 2))));
     Ok(())
+}
+
+fn cancels<L: Ledger, R: Abort>(rt: &R, alloc: Global, blank: Blank) -> Result<(), Fault>
+    requires name { blank.name ≡ L.name }
+    requires parts { blank.parts ≡ L.parts }
+    requires more { 1 < blank.parts }
+{
+    let mut book = PoolBook::<L>::new(alloc, blank, 1)?;
+    cancels_three(rt, &mut book)
 }
 
 #[test]

@@ -8,7 +8,7 @@ use std::thread::Threads;
 use std::time::Clock;
 use uv_ids::{Event, Fault, Id, Seen, Var};
 use uv_live::JumpClock;
-use uv_model::PlainLoop;
+use uv_model::{Machine, PlainLoop};
 use uv_pool::Gate;
 use uv_run::live;
 use uv_script::{Script, push_number};
@@ -65,19 +65,29 @@ struct Story {
     trace: Vec<Seen>,
 }
 
-/// Runs a script on real threads.
-fn ran<G: Gate + Sync, R: Threads + Wait + Sync>(
+/// Runs a script on real threads, over a machine.
+fn ran_over<M: Machine, G: Gate + Sync, R: Threads + Wait + Sync>(
     rt: &R,
     alloc: Global,
     text: &[u8],
     gate: &G,
 ) -> Result<Story, Fault> {
     let script = Script::parse(alloc, text)?;
-    let session = live::<PlainLoop, _, _, _>(rt, alloc, script, &mut JumpClock::new(0), gate)?;
+    let session = live::<M, _, _, _>(rt, alloc, script, &mut JumpClock::new(0), gate)?;
     Ok(Story {
         steps: Vec::from_slice(alloc, session.steps())?,
         trace: session.trace()?,
     })
+}
+
+/// Runs a script on real threads, over the plain loop.
+fn ran<G: Gate + Sync, R: Threads + Wait + Sync>(
+    rt: &R,
+    alloc: Global,
+    text: &[u8],
+    gate: &G,
+) -> Result<Story, Fault> {
+    ran_over::<PlainLoop, _, _>(rt, alloc, text, gate)
 }
 
 /// The callbacks of a run.

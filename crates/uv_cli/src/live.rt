@@ -12,7 +12,7 @@ use std::thread::Threads;
 use uv_engine::{Sink, Source, read_alone, write_text};
 use uv_ids::{Fault, Id};
 use uv_live::JumpClock;
-use uv_model::PlainLoop;
+use uv_model::Machine;
 use uv_pool::Gate;
 use uv_run::live;
 use uv_script::Script;
@@ -64,8 +64,8 @@ fn write_whole<W: Sink>(writer: &mut W, text: &[u8]) -> Result<(), Fault>
     Ok(())
 }
 
-/// Runs the script of a reader on real threads, and writes the recording of what they did. The clock jumps from 0 on.
-pub fn run_live<H: Threads + Wait + Sync, R: Source, W: Sink>(
+/// Runs the script of a reader on real threads, over a machine, and writes the recording of what they did. The clock jumps from 0 on.
+pub fn run_live<M: Machine, H: Threads + Wait + Sync, R: Source, W: Sink>(
     rt: &H,
     alloc: Global,
     workers: Option<u16>,
@@ -84,7 +84,7 @@ pub fn run_live<H: Threads + Wait + Sync, R: Source, W: Sink>(
     };
     let script = with_workers(script, workers);
     let mut clock = JumpClock::new(0);
-    let session = match live::<PlainLoop, _, _, _>(rt, alloc, script, &mut clock, &Open) {
+    let session = match live::<M, _, _, _>(rt, alloc, script, &mut clock, &Open) {
         Ok(session) => session,
         Err(fault) => return Err(NoRecording::Failed(fault)),
     };

@@ -26,7 +26,8 @@ pub fn run<H: Threads + Wait + Sync, R: Source, W: Sink, E: Write>(
     writer: &mut W,
     errors: &mut E,
 ) -> u8
-    ensures text { R.Tells → W.Tells → Ran (job_of (map (λ word. word.now) words.now)) (R.remaining reader.old) (W.written writer.old) (W.written writer.new) result }
+    ensures text { R.Tells → W.Tells → Ran (job_of (map (λ word. word.now) words.now))
+        (R.remaining reader.old) (W.written writer.old) (W.written writer.new) result }
 
     // A terminal doesn't tell its bytes. Yet with status 0 neither device has failed.
     ensures reader { result ≡ 0 → R.failures reader.new ≡ R.failures reader.old }
@@ -86,7 +87,7 @@ fn live<H: Threads + Wait + Sync, R: Source, W: Sink, E: Write>(
     ensures reader { result ≡ 0 → R.failures reader.new ≡ R.failures reader.old }
     ensures writer { result ≡ 0 → W.failures writer.new ≡ W.failures writer.old }
 {
-    match run_live(rt, alloc, workers, reader, writer) {
+    match run_live::<PlainLoop, _, _, _>(rt, alloc, workers, reader, writer) {
         Ok(()) => 0,
         Err(NoRecording::BadScript(line)) => {
             report(Fault::Script { line }, errors);

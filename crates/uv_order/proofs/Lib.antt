@@ -25,3 +25,4 @@ mod OpsOnce
 pub mod ClosesOnce
 pub mod Pooling
 pub mod Taking
+pub mod Reaching

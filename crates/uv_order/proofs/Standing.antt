@@ -305,22 +305,25 @@ due_distinct s time k = distinct_due time s.timers k.timers.sorted
       one_due : (a b : Due) (id : Id) → Fits s.arena.slots (IsSet a) id → Fits s.arena.slots (IsSet b) id → a ≡ b
       one_due a b id f g = sym f.fits.due ∙ (its_handle s.arena.slots (IsSet b) id f.handle f.holds g).due
 
--- where nobody is yet to run, the list has all active handles of its kind
-pub are_active : (s : State) (q : Kind) (w : Listed Id) → w.yet ≡ [] → Everyone s.arena.slots (Watches q) (members w) → AreActive s q w.list
-are_active s q w e k = record {
-  each = λ id h. active id (member (Fits s.arena.slots (Watches q)) w.list all.lists.each id h);
-  all = λ id a. all.all id
-      (fits id a);
-  distinct = all.lists.distinct;
+-- those that watch are the active handles of their kind
+pub all_active : (s : State) (q : Kind) (ids : List Id) → Everyone s.arena.slots (Watches q) ids → AreActive s q ids
+all_active s q ids k = record {
+  each = λ id h. active id (member (Fits s.arena.slots (Watches q)) ids k.lists.each id h);
+  all = λ id a. k.all id (fits id a);
+  distinct = k.lists.distinct;
 } where
-  all : Everyone s.arena.slots (Watches q) w.list
-  all = subst (Everyone s.arena.slots (Watches q)) (ap (λ (ids : List Id). w.list ++ ids) e ∙ append-nil w.list) k
-
   active : (id : Id) → Fits s.arena.slots (Watches q) id → IsActive s q id
   active id f = record { its = f.handle; holds = f.holds; kind = f.fits.kind; active = f.fits.active }
 
   fits : (id : Id) → IsActive s q id → Fits s.arena.slots (Watches q) id
   fits id a = record { handle = a.its; holds = a.holds; fits = record { kind = a.kind; active = a.active } }
+
+-- where nobody is yet to run, the list has all
+list_alone : (w : Listed Id) → w.yet ≡ [] → members w ≡ w.list
+list_alone w e = ap (λ (ids : List Id). w.list ++ ids) e ∙ append-nil w.list
+
+pub are_active : (s : State) (q : Kind) (w : Listed Id) → w.yet ≡ [] → Everyone s.arena.slots (Watches q) (members w) → AreActive s q w.list
+are_active s q w e k = subst (AreActive s q) (list_alone w e) (all_active s q (members w) k)
 
 pub bare_over : (word : Phase) → IsOver word bare
 bare_over word = record { done = refl; may_pass = nobody word } where
@@ -337,32 +340,32 @@ bare_over word = record { done = refl; may_pass = nobody word } where
 pub opens_bare : (word : Phase) (told : Told) (l : Line) → doc.sent_at word told ≡ [] → doc.HasList word l [] → Opens word told l bare
 opens_bare word told l e h = record { list = h; off = refl; sent = sym e; body = refl }
 
-pub are_ended : (s : State) → s.done.yet ≡ [] → Working s → AreEnded s s.done.list
-are_ended s e k = record {
+pub all_ended : (s : State) (ids : List Id) → AllAsk s.arena.slots HasEnded ids → AreEnded s ids
+all_ended s ids all = record {
   each = λ id h. ended id (all.each id h);
   all = λ id a. all.all id (asks id a);
   distinct = all.distinct;
 } where
-  all : AllAsk s.arena.slots HasEnded s.done.list
-  all = subst (AllAsk s.arena.slots HasEnded) (ap (λ (ids : List Id). s.done.list ++ ids) e ∙ append-nil s.done.list) k.ended
-
   ended : (id : Id) → Asks s.arena.slots HasEnded id → IsEnded s id
   ended id a = record { its = a.request; holds = a.holds; ended = a.fits }
 
   asks : (id : Id) → IsEnded s id → Asks s.arena.slots HasEnded id
   asks id a = record { request = a.its; holds = a.holds; fits = a.ended }
 
-pub are_closing : (s : State) → s.closing.yet ≡ [] → Kept s → AreClosing s s.closing.list
-are_closing s e k = record {
-  each = λ id h. closes id (member (Fits s.arena.slots Closes) s.closing.list all.lists.each id h);
+pub are_ended : (s : State) → s.done.yet ≡ [] → Working s → AreEnded s s.done.list
+are_ended s e k = subst (AreEnded s) (list_alone s.done e) (all_ended s (members s.done) k.ended)
+
+pub all_closing : (s : State) (ids : List Id) → Everyone s.arena.slots Closes ids → AreClosing s ids
+all_closing s ids all = record {
+  each = λ id h. closes id (member (Fits s.arena.slots Closes) ids all.lists.each id h);
   all = λ id a. all.all id (fits id a);
   distinct = all.lists.distinct;
 } where
-  all : Everyone s.arena.slots Closes s.closing.list
-  all = subst (Everyone s.arena.slots Closes) (ap (λ (ids : List Id). s.closing.list ++ ids) e ∙ append-nil s.closing.list) k.closing
-
   closes : (id : Id) → Fits s.arena.slots Closes id → IsClosing s id
   closes id f = record { its = f.handle; holds = f.holds; closing = f.fits }
 
   fits : (id : Id) → IsClosing s id → Fits s.arena.slots Closes id
   fits id a = record { handle = a.its; holds = a.holds; fits = a.closing }
+
+pub are_closing : (s : State) → s.closing.yet ≡ [] → Kept s → AreClosing s s.closing.list
+are_closing s e k = subst (AreClosing s) (list_alone s.closing e) (all_closing s (members s.closing) k.closing)

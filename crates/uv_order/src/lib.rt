@@ -5,7 +5,9 @@
 mod once;
 mod phase_order;
 mod pool;
+mod reached;
 
 pub use once::closes_once;
 pub use phase_order::documented_order;
 pub use pool::pool_follows;
+pub use reached::lists_agree;

@@ -1,5 +1,0 @@
-//! Tests of the program over memory.
-#![tactic(auto)]
-
-#[cfg(test)]
-mod program;
