@@ -8,7 +8,7 @@ use Rattle.uv_engine.specs.Alone.{SaysInFront}
 use Rattle.std.proofs.Common.{Option, Ok, Some, refl, sym, subst, ap, ◌∙◌}
 use Rattle.uv_ids.specs.declared.fault.Why.TheVariants.{Ended}
 use Rattle.uv_live.specs.Running.{RunSettles}
-use Rattle.uv_run.specs.Bound.{plan_of, lines_of, course_of, refusal_in}
+use Rattle.uv_run.specs.Bound.{plan_of, course_of, refusal_in}
 use Rattle.uv_cli.specs.Live.{to_run, IsLived, IsRecording}
 
 -- all of a text is a beginning of it
@@ -17,7 +17,7 @@ all_of old text new e = record { part = text; rest = []; whole = append-nil text
 
 -- the recording of a session that ran
 pub recording : (workers : Option ℕ) (input text : List ℕ) (p q : Program) (s : Shown) → SaysInFront input (Ok p) → q ≡ to_run workers p →
-    s.program ≡ q → refusal_in s ≡ Some Ended → RunSettles (plan_of q (lines_of q)) (course_of s) →
+    s.program ≡ q → refusal_in s ≡ Some Ended → RunSettles (plan_of q q.threads) (course_of s) →
     text ≡ recording_text s.program s.standing → IsRecording workers input text
 recording workers input text p q s read asked program end settled is = record {
   script = p;
@@ -26,7 +26,7 @@ recording workers input text p q s read asked program end settled is = record {
   lived = record {
     program = program ∙ asked;
     end = end;
-    settled = subst (λ (r : Program). RunSettles (plan_of r (lines_of r)) (course_of s)) asked settled;
+    settled = subst (λ (r : Program). RunSettles (plan_of r r.threads) (course_of s)) asked settled;
   };
   is = is;
 }

@@ -8,7 +8,7 @@ use Rattle.uv_text.specs.Recording.{recording_text}
 use Rattle.uv_engine.specs.Alone.{SaysInFront}
 use Rattle.uv_engine.specs.Sink.{CutShort}
 use Rattle.uv_live.specs.Running.{RunSettles}
-use Rattle.uv_run.specs.Bound.{plan_of, lines_of, course_of, refusal_in}
+use Rattle.uv_run.specs.Bound.{plan_of, course_of, refusal_in}
 use Rattle.uv_cli.specs.declared.live.NoRecording.{NoRecording}
 use Rattle.uv_cli.specs.declared.live.NoRecording.TheVariants.{BadScript, Failed}
 
@@ -21,7 +21,7 @@ to_run (Some n) p = with_workers n p
 pub record IsLived (p : Program) (s : Shown) : Type 0 where
   pub program : s.program ≡ p
   pub end : refusal_in s ≡ Some Ended
-  pub settled : RunSettles (plan_of p (lines_of p)) (course_of s)
+  pub settled : RunSettles (plan_of p p.threads) (course_of s)
 
 -- a text is the recording of a live run of the script that the input has
 pub record IsRecording (workers : Option ℕ) (input text : List ℕ) : Type 0 where

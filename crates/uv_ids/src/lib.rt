@@ -8,6 +8,7 @@ mod fault;
 mod id;
 mod phase;
 mod seen;
+mod thread_line;
 
 pub use code::{Answer, Code};
 pub use due::Due;
@@ -16,3 +17,4 @@ pub use fault::{Fault, Why};
 pub use id::{Id, Var};
 pub use phase::{Kind, Mode, Phase};
 pub use seen::{Callback, Seen, Site};
+pub use thread_line::ThreadLine;

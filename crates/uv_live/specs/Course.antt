@@ -4,7 +4,7 @@ use Rattle.uv_ids.specs.declared.event.Event.{Event}
 use Rattle.uv_ids.specs.declared.event.Event.TheVariants as step
 use Rattle.uv_work.specs.declared.event.PoolEvent.{PoolEvent}
 use Rattle.uv_work.specs.declared.event.PoolEvent.TheVariants as event
-use Rattle.uv_live.specs.declared.follower.ThreadLine.{ThreadLine}
+use Rattle.uv_ids.specs.declared.thread_line.ThreadLine.{ThreadLine}
 use Rattle.uv_live.specs.declared.follower.Did.{Did}
 use Rattle.uv_live.specs.declared.follower.Did.TheVariants as did
 

@@ -7,7 +7,7 @@ use Rattle.uv_ids.specs.declared.fault.Fault.TheVariants as fault
 use Rattle.uv_work.specs.declared.event.PoolEvent.{PoolEvent}
 use Rattle.uv_work.specs.declared.event.PoolEvent.TheVariants as event
 use Rattle.uv_pool.specs.Book.{Standing, finish_count}
-use Rattle.uv_live.specs.declared.follower.ThreadLine.{ThreadLine}
+use Rattle.uv_ids.specs.declared.thread_line.ThreadLine.{ThreadLine}
 use Rattle.uv_live.specs.Course.{Course, Plan}
 use Rattle.uv_live.specs.Following.{PartsAt}
 

@@ -3,12 +3,11 @@ ghost use Rattle.std.specs.Prelude.{◌≡◌, All};
 ghost use Rattle.uv_wake.specs.Seats.{names_of};
 ghost use Rattle.uv_live.specs.Course.{AreNamed};
 
-use crate::follower::ThreadLine;
 use std::alloc::Global;
 use std::sync::Wait;
 use std::sync::ledger::Ledger;
 use std::thread::{JoinHandle, Promise, PromisedHandle, Scope, Threads};
-use uv_ids::Fault;
+use uv_ids::{Fault, ThreadLine};
 use uv_pool::{Desk, Gate, LockedBook, Shift, worker};
 use uv_wake::{Board, LoopSeat, SenderSeat};
 

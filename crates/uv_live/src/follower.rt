@@ -1,15 +1,8 @@
 //! What a live run asks of a session.
 ghost use Rattle.std.specs.Prelude.{◌≡◌, ◌<◌, ◌++◌, ◌∷◌, [], true};
 
-use uv_ids::{Event, Fault, Id, Var};
+use uv_ids::{Event, Fault, Id, ThreadLine, Var};
 use uv_work::{Job, PoolEvent, WorkResult};
-
-/// A `thread` line of the script: one send of the sender thread of that number, 0 to 63 (own).
-#[derive(Clone, Copy, Debug, PartialEq, Eq)]
-pub struct ThreadLine {
-    pub thread: u8,
-    pub name: Var,
-}
 
 /// What a step of the loop did to the thread pool.
 #[derive(Clone, Copy)]

@@ -14,7 +14,7 @@ mod settling;
 mod turning;
 
 pub use clock::{Clock, JumpClock};
-pub use follower::{Did, Follower, ThreadLine};
+pub use follower::{Did, Follower};
 pub use following::sync;
 pub use running::live;
 pub use settling::settle;

@@ -10,7 +10,7 @@ use crate::clock::Clock;
 use crate::crew::{
     Sender, Worker, join_sender, join_senders, join_workers, start_senders, start_workers,
 };
-use crate::follower::{Did, Follower, ThreadLine};
+use crate::follower::{Did, Follower};
 use crate::following::sync;
 use crate::settling::settle;
 use crate::turning::turn;
@@ -20,7 +20,7 @@ use std::sync::Wait;
 use std::sync::ledger::{Blank, Ledger};
 use std::thread;
 use std::thread::{Scope, Threads};
-use uv_ids::{Fault, Var, Why};
+use uv_ids::{Fault, ThreadLine, Var, Why};
 use uv_pool::{Gate, LockedBook, PoolBook, Shift};
 use uv_wake::{Board, LoopSeat};
 

@@ -6,10 +6,10 @@ ghost use Rattle.uv_live.specs.Following.{Decides};
 ghost use Rattle.uv_live.specs.Settling as spec;
 ghost use Rattle.uv_live.specs.Settling.{worked, part_of, IsShift, AreShifts, counted, SendsFit, AllSendsFit, IsSettled, Settles};
 
-use crate::follower::{Follower, ThreadLine};
+use crate::follower::Follower;
 use crate::following::{first_apart, is_same};
 use std::sync::ledger::Ledger;
-use uv_ids::{Event, Fault, Var};
+use uv_ids::{Event, Fault, ThreadLine, Var};
 use uv_pool::{PoolBook, Shift};
 use uv_wake::LoopSeat;
 use uv_work::PoolEvent;

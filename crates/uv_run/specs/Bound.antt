@@ -1,11 +1,10 @@
 -- A session as a live run follows it.
-use Rattle.std.specs.Prelude.{◌≡◌, Bool, List, Option, length, map}
+use Rattle.std.specs.Prelude.{◌≡◌, Bool, List, Option, length}
 use Rattle.uv_ids.specs.declared.fault.Why.{Why}
 use Rattle.uv_script.specs.Program.{Program, worker_count}
-use Rattle.uv_script.specs.declared.thread.ThreadLine as script
 use Rattle.uv_work.specs.declared.event.PoolEvent.{PoolEvent}
 use Rattle.uv_session.specs.Shown.{Shown}
-use Rattle.uv_live.specs.declared.follower.ThreadLine.{ThreadLine}
+use Rattle.uv_ids.specs.declared.thread_line.ThreadLine.{ThreadLine}
 use Rattle.uv_live.specs.Course.{Plan, Course, AreNamed}
 use Rattle.uv_run.specs.Events.{events_by, refusal_after, polls_after}
 
@@ -13,14 +12,6 @@ use Rattle.uv_run.specs.Events.{events_by, refusal_after, polls_after}
 pub record Bound : Type 0 where
   pub session : Shown
   pub lines : List ThreadLine
-
--- a line of a thread, as a live run has it
-abbrev pub followed : script.ThreadLine → ThreadLine
-followed line = record { thread = line.thread; name = line.name }
-
--- the `thread` lines of a script
-abbrev pub lines_of : Program → List ThreadLine
-lines_of p = map followed p.threads
 
 -- what a script, with these `thread` lines, says of a run
 abbrev pub plan_of : Program → List ThreadLine → Plan Program

@@ -1,33 +1,19 @@
 //! A live run of a script.
-ghost use Rattle.std.specs.Prelude.{◌≡◌, IfOk, Some, map};
+ghost use Rattle.std.specs.Prelude.{◌≡◌, IfOk, Some};
 ghost use Rattle.uv_ids.specs.declared.fault.Why.TheVariants.{Ended};
 ghost use Rattle.uv_live.specs.Running.{RunSettles};
-ghost use Rattle.uv_run.specs.Bound.{followed, lines_of, plan_of, course_of, refusal_in};
+ghost use Rattle.uv_run.specs.Bound.{plan_of, course_of, refusal_in};
 
 use crate::session::LiveSession;
-use std::alloc::{AllocError, Global};
+use std::alloc::Global;
 use std::sync::Wait;
 use std::thread::Threads;
 use uv_ids::Fault;
-use uv_live::{Clock, ThreadLine};
+use uv_live::Clock;
 use uv_model::{Machine, STEPS};
 use uv_pool::Gate;
 use uv_script::Script;
 use uv_session::Session;
-
-/// Lines of threads, as a live run has them.
-fn followed(alloc: Global, lines: &[uv_script::ThreadLine]) -> Result<Vec<ThreadLine>, AllocError>
-    ensures { IfOk result (λ all. all.items ≡ map followed lines.now) }
-{
-    let mut all = Vec::new(alloc);
-    for line in lines {
-        all.push(ThreadLine {
-            thread: line.thread,
-            name: line.name,
-        })?;
-    }
-    Ok(all)
-}
 
 /// Runs a script to its end with a thread for each worker and for each sender of its `thread` lines, and answers the session that is
 /// what they did. The workers and the faults are as `live` of uv_live says.
@@ -40,9 +26,9 @@ pub fn live<M: Machine, C: Clock, G: Gate + Sync, R: Threads + Wait + Sync>(
 ) -> Result<Session<M>, Fault>
     ensures program { IfOk result (λ s. s.program ≡ script) }
     ensures end { IfOk result (λ s. refusal_in s ≡ Some Ended) }
-    ensures settled { IfOk result (λ s. RunSettles (plan_of script (lines_of script)) (course_of s)) }
+    ensures settled { IfOk result (λ s. RunSettles (plan_of script script.threads) (course_of s)) }
 {
-    let lines = match followed(alloc, script.thread_lines()) {
+    let lines = match Vec::from_slice(alloc, script.thread_lines()) {
         Ok(lines) => lines,
         Err(_) => return Err(Fault::Memory),
     };

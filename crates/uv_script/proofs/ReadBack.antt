@@ -21,7 +21,7 @@ use Rattle.uv_ids.specs.declared.seen.Callback.TheVariants as callback
 use Rattle.uv_script.specs.declared.op.MainOp.{MainOp}
 use Rattle.uv_script.specs.declared.op.CallbackLine.{CallbackLine}
 use Rattle.uv_script.specs.declared.size.ArenaSize.{ArenaSize}
-use Rattle.uv_script.specs.declared.thread.ThreadLine.{ThreadLine}
+use Rattle.uv_ids.specs.declared.thread_line.ThreadLine.{ThreadLine}
 use Rattle.uv_script.specs.Grammar.{Declares, InMain, InCallback, Sizes, HasWorkers, InThread, declares, sizes_to, has_workers, Reads, skips, says, ReadsAll, none, one, blank, WasRead, IsScript, Parses}
 use Rattle.uv_script.specs.Laws.{IsBack, IsReadBack}
 use Rattle.uv_script.specs.Lines.{lines_of, fields_of, IsLine}

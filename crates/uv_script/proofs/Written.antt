@@ -12,7 +12,7 @@ use Rattle.uv_ids.specs.declared.seen.Callback.TheVariants as callback
 use Rattle.uv_script.specs.declared.op.MainOp.{MainOp}
 use Rattle.uv_script.specs.declared.op.CallbackLine.{CallbackLine}
 use Rattle.uv_script.specs.declared.size.ArenaSize.{ArenaSize}
-use Rattle.uv_script.specs.declared.thread.ThreadLine.{ThreadLine}
+use Rattle.uv_ids.specs.declared.thread_line.ThreadLine.{ThreadLine}
 use Rattle.uv_script.specs.Grammar.{Statement, Declares, InMain, InCallback, Sizes, HasWorkers, InThread, Says, declares, in_main, runs, closes_loop, in_callback, in_call, sizes, sizes_to, has_workers, in_thread, HasRoom, with_statement, Reads, skips, says, ReadsAll, none, one, blank}
 use Rattle.uv_script.specs.Lines.{fields_of, IsLine}
 use Rattle.uv_script.specs.Program.{Program, Callbacks, no_callbacks, callbacks_of, lines_of, with_line, lines_in, callback_count, line_count, IsSlotCount, IsWorkerCount}

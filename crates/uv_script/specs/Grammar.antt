@@ -16,7 +16,7 @@ use Rattle.uv_script.specs.declared.op.MainOp.TheVariants as main
 use Rattle.uv_script.specs.declared.op.CallbackLine.{CallbackLine}
 use Rattle.uv_script.specs.declared.size.ArenaSize.{ArenaSize}
 use Rattle.uv_script.specs.declared.task.Task.{Task}
-use Rattle.uv_script.specs.declared.thread.ThreadLine.{ThreadLine}
+use Rattle.uv_ids.specs.declared.thread_line.ThreadLine.{ThreadLine}
 use Rattle.uv_script.specs.Lines.{lines_of, fields_of, IsLine, IsSkipped}
 use Rattle.uv_script.specs.Program.{Program, no_callbacks, callbacks_of, with_line, line_count, IsSlotCount, LAST_GENERATION, IsWorkerCount, IsCounted}
 use Rattle.uv_script.specs.Tasks.{text_of}

@@ -10,7 +10,7 @@ use Rattle.uv_script.specs.declared.op.MainOp.{MainOp}
 use Rattle.uv_script.specs.declared.op.MainOp.TheVariants as main
 use Rattle.uv_script.specs.declared.op.CallbackLine.{CallbackLine}
 use Rattle.uv_script.specs.declared.size.ArenaSize.{ArenaSize}
-use Rattle.uv_script.specs.declared.thread.ThreadLine.{ThreadLine}
+use Rattle.uv_ids.specs.declared.thread_line.ThreadLine.{ThreadLine}
 use Rattle.uv_script.specs.Program.{Program, lines_in, arena_size, worker_count}
 use Rattle.uv_script.specs.Tasks.{text_of}
 

@@ -10,7 +10,6 @@ mod size;
 mod statement;
 mod task;
 mod text;
-mod thread;
 mod words;
 
 pub use lines::{Fields, Lines, is_line, is_skipped, line_count};
@@ -21,5 +20,4 @@ pub use script::Script;
 pub use size::ArenaSize;
 pub use task::Task;
 pub use text::{push_number, push_task_text};
-pub use thread::ThreadLine;
 pub use words::{is_name, number};

@@ -9,10 +9,9 @@ use crate::names::Names;
 use crate::op::{CallbackLine, Callbacks, MainOp, Op};
 use crate::size::ArenaSize;
 use crate::statement::Statement;
-use crate::thread::ThreadLine;
 use std::alloc::{AllocError, Global};
 use std::marker::Model;
-use uv_ids::{Callback, Site, Var};
+use uv_ids::{Callback, Site, ThreadLine, Var};
 
 /// A script that was read.
 #[derive(Drop)]

@@ -10,9 +10,8 @@ use crate::names::Names;
 use crate::op::{CallbackLine, MainOp, Op};
 use crate::size::ArenaSize;
 use crate::task::Task;
-use crate::thread::ThreadLine;
 use crate::words::{is_name, number};
-use uv_ids::{Callback, Kind, Mode, Var};
+use uv_ids::{Callback, Kind, Mode, ThreadLine, Var};
 
 /// What a line says.
 #[derive(Drop)]

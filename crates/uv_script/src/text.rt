@@ -10,10 +10,9 @@ use crate::names::Names;
 use crate::op::{CallbackLine, MainOp, Op};
 use crate::script::Script;
 use crate::task::Task;
-use crate::thread::ThreadLine;
 use itoa::Buffer;
 use std::alloc::AllocError;
-use uv_ids::{Callback, Fault, Var};
+use uv_ids::{Callback, Fault, ThreadLine, Var};
 
 /// Writes a number at the end of a text, in decimal digits.
 pub fn push_number(text: &mut Vec<u8>, number: u64) -> Result<(), AllocError>
@@ -207,16 +206,14 @@ fn push_callback(
     Ok(())
 }
 
-impl ThreadLine {
-    /// Writes the line of a thread.
-    fn push_line(self, text: &mut Vec<u8>, names: &Names) -> Result<(), AllocError>
-        ensures { OnOk result (text.new.items ≡ text.old.items ++ thread_line names.now self) }
-    {
-        text.extend_from_slice(b"thread ")?;
-        push_number(text, self.thread as u64)?;
-        text.extend_from_slice(b" send ")?;
-        names.push_name(text, self.name)
-    }
+/// Writes the line of a thread.
+fn push_thread_line(text: &mut Vec<u8>, names: &Names, line: ThreadLine) -> Result<(), AllocError>
+    ensures { OnOk result (text.new.items ≡ text.old.items ++ thread_line names.now line) }
+{
+    text.extend_from_slice(b"thread ")?;
+    push_number(text, line.thread as u64)?;
+    text.extend_from_slice(b" send ")?;
+    names.push_name(text, line.name)
 }
 
 /// Writes the lines of all threads.
@@ -224,7 +221,7 @@ fn push_threads(text: &mut Vec<u8>, names: &Names, lines: &[ThreadLine]) -> Resu
     ensures { OnOk result (text.new.items ≡ text.old.items ++ lines_text (map (thread_line names.now) lines.now)) }
 {
     for line in lines {
-        line.push_line(text, names)?;
+        push_thread_line(text, names, *line)?;
         text.extend_from_slice(b"\n")?;
     }
     Ok(())

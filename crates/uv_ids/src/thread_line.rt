@@ -1,8 +1,8 @@
 //! What threads send.
 
-use uv_ids::Var;
+use crate::id::Var;
 
-/// The line `thread k send NAME`: one send of a thread of its own, which only a live run makes.
+/// The line `thread k send NAME` of a script: one send of a thread of its own, which only a live run makes.
 #[derive(Clone, Copy, Debug, PartialEq, Eq)]
 pub struct ThreadLine {
     /// The thread's number, 0 to 63 (own).
