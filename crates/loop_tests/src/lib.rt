@@ -7,3 +7,5 @@ mod arena_loop;
 mod session;
 #[cfg(test)]
 mod text;
+#[cfg(test)]
+mod walks;

@@ -8,6 +8,7 @@ pub mod Names
 pub mod Places
 pub mod Pushes
 pub mod Puts
+pub mod Freed
 pub mod Readings
 pub mod Relinking
 pub mod Removals

@@ -166,7 +166,7 @@ before_all_there e f (x ∷ xs) h l = at (cases_Bool (is_same f x)) (before_all_
   at (inl t) on = ap (λ (y : Entry). is_before e y) (same_is f x t) ∙ h.0
   at (inr t) on = let no : one (is_same f) x ≡ 0 = if_false _ _ _ t in on (omega (arith, no, l, count_by-cons (is_same f) x xs))
 
-counts_itself : (x : Entry) (xs : List Entry) → 0 < count_by (is_same x) (x ∷ xs)
+pub counts_itself : (x : Entry) (xs : List Entry) → 0 < count_by (is_same x) (x ∷ xs)
 counts_itself x xs = let yes : one (is_same x) x ≡ 1 = if_true _ _ _ (same_itself x) in omega (arith, yes, count_by-cons (is_same x) x xs)
 
 -- the first in the order is at the root, where no other is due alike

@@ -44,12 +44,12 @@ use Rattle.uv_step.specs.Fit.{IsFit}
 use Rattle.uv_step.specs.Image.{Image, Held, working_of}
 use Rattle.uv_step.specs.Names.{named}
 use Rattle.uv_step.specs.Undo.{Recorded}
-use Rattle.uv_loop.specs.Contents.{content_of as held_as, request_of}
-use Rattle.uv_loop.specs.Stands.{StandsFor}
+use Rattle.uv_stands.specs.Contents.{content_of as held_as, request_of}
+use Rattle.uv_stands.specs.Stands.{StandsFor}
 use Rattle.uv_loop.specs.Course.{Leads}
-use Rattle.uv_loop.proofs.Sends.{bound_there, held_there, ids_kept, map_same}
+use Rattle.uv_stands.proofs.Holding.{bound_there, held_there, ids_kept, map_same}
 use Rattle.uv_loop.proofs.Events.{cancel_moves}
-use Rattle.uv_loop.proofs.Pools.{IsAsked, asked_there, list_same, done_more, slots_asked, frame_of, change_back, pool_stands}
+use Rattle.uv_stands.proofs.Pools.{IsAsked, asked_there, list_same, done_more, slots_asked, frame_of, change_back, pool_stands}
 
 -- ---- lists of ids
 
@@ -179,7 +179,7 @@ module _ (i j : Image Place) (v : Var) (d : Id) (bound : Some d ≡ (named i.nam
 module _ (i : Image Place) (v : Var) (within : v.0 < length i.names) where
   pub unbound_leads : (j : Image Place) → j ≡ i → None ≡ (named i.names v.0).id → (p : Program)
       → Leads p i j (Cancel v) (Some (seen.Cancel v (answer.Code code.Estale)))
-  unbound_leads j same bound p s h = (
+  unbound_leads j same bound p s h reached = (
     s,
     cancel_moves p i s v (refuses s code.Estale) h within (cancelled_unbound i s v h bound),
     subst (λ q. StandsFor q s) (sym same) h,
@@ -188,7 +188,7 @@ module _ (i : Image Place) (v : Var) (within : v.0 < length i.names) where
   pub refused_leads : (j : Image Place) (d : Id) (why : Code) → j ≡ i → Some d ≡ (named i.names v.0).id
       → cancel_refusal (work.found request_in i.arena d) (waits (pool_of request_in (working_of i)).waiting d) ≡ Some why → (p : Program)
       → Leads p i j (Cancel v) (Some (seen.Cancel v (answer.Code why)))
-  refused_leads j d why same bound refused p s h = (
+  refused_leads j d why same bound refused p s h reached = (
     s,
     cancel_moves p i s v (refuses s why) h within (cancelled_refused i s v d why h bound refused),
     subst (λ q. StandsFor q s) (sym same) h,
@@ -198,7 +198,7 @@ pub cancelled_leads : (r' : Record Place) (h w : Held Place) (v : Var) (d : Id) 
     → Some d ≡ (named h.image.names v.0).id → IsCancelled request_in Asked (working_of h.image) (working_of w.image) d u → Recorded r' h w
     → r'.change ≡ change.Cancelled u → IsSound w.image.arena → (p : Program)
     → Leads p h.image w.image (Cancel v) (Some (seen.Cancel v (answer.Cancelled d)))
-cancelled_leads r' h w v d u within bound c recorded is sound p s stands =
+cancelled_leads r' h w v d u within bound c recorded is sound p s stands reached =
     let i = h.image in
     let j = w.image in
     let t = cancelled_state i j v d bound u c sound s stands in

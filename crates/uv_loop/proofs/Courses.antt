@@ -1,5 +1,5 @@
 -- One step more with its record, and one step less.
-use Rattle.std.proofs.Common.{◌≡◌, ◌+◌, ◌-◌, ◌<◌, ℕ, suc, List, [], ◌∷◌, ◌++◌, length, length-append, take, get_or, Option, Some, Result, Ok, Err, refl, inl, inr, sym, ap, ◌∙◌, subst, arith}
+use Rattle.std.proofs.Common.{◌≡◌, ◌+◌, ◌-◌, ◌<◌, ◌≤◌, ℕ, suc, List, [], ◌∷◌, ◌++◌, length, length-append, take, get_or, Option, Some, Result, Ok, Err, refl, inl, inr, sym, ap, ◌∙◌, subst, arith}
 use Rattle.std.proofs.lemmas.List.{take_more, take_all}
 use Rattle.uv_ids.specs.declared.event.Event.{Event}
 use Rattle.uv_ids.specs.declared.event.Event.TheVariants.{Tick, Finish}
@@ -21,11 +21,13 @@ use Rattle.uv_step.specs.declared.record.Record.{Record}
 use Rattle.uv_step.specs.Image.{Image, Held}
 use Rattle.uv_step.specs.Parts.{unwind}
 use Rattle.uv_step.specs.Trail.{unwound, DropsOne}
-use Rattle.uv_step.specs.Undo.{CanUnwind, Recorded}
+use Rattle.uv_step.specs.Undo.{CanUnwind}
 use Rattle.uv_step.specs.Fit.{IsFit}
 use Rattle.uv_step.proofs.Trails.{unwound-push, begins_same}
-use Rattle.uv_loop.specs.Stands.{StandsFor}
-use Rattle.uv_loop.proofs.Lasts.{unwound_last}
+use Rattle.uv_stands.specs.Stands.{StandsFor}
+use Rattle.uv_stands.specs.Doing.{Returns, OfEach}
+use Rattle.uv_order.proofs.Reaching.{reached}
+use Rattle.uv_loop.proofs.Lasts.{unwound_limits}
 use Rattle.uv_loop.specs.Course.{Course, StandFrom, IsCourse, Leads, first_image}
 
 -- one record a step
@@ -78,12 +80,13 @@ stand_pop p s room i (x ∷ rs) (y ∷ es) r e l h =
 
 -- ---- what a loop keeps
 
-pub course_begins : (p : Program) (h : Held Place) → IsFit h.image → h.image ≡ first_image p → StandsFor (first_image p) (state.fresh p)
-    → IsCourse p [] [] [] h
-course_begins p h fit is stands = record {
+pub course_begins : (p : Program) (h : Held Place) → IsFit h.image → (arena_size p).slots ≤ h.room → h.image ≡ first_image p
+    → StandsFor (first_image p) (state.fresh p) → IsCourse p [] [] [] h
+course_begins p h fit room is stands = record {
   few = omega arith;
   seen_is = sym (seen_by-nil p);
   fit = fit;
+  room = room;
   begins = is;
   stand = subst (λ i. StandsFor i (state.fresh p)) (sym is) stands;
 }
@@ -102,7 +105,7 @@ is_move n t line h = rw h tt
 
 -- an accepted step, with its line and its record
 pub course_added : (p : Program) (es : List Event) (seen : List (Option Seen)) (rs : List (Record Place)) (h k : Held Place) (r : Record Place)
-    (e : Event) (t : State) (line : Option Seen) → length es < STEPS → IsCourse p es seen rs h → Recorded r h k
+    (e : Event) (t : State) (line : Option Seen) → length es < STEPS → IsCourse p es seen rs h → Returns r h k
     → next p (after p es) e ≡ Moves t line → StandsFor k.image t → IsCourse p (es ++ e ∷ []) (seen ++ line ∷ []) (rs ++ r ∷ []) k
 unfolding after
 course_added p es seen rs h k r e t line few c d moves stands =
@@ -112,6 +115,7 @@ course_added p es seen rs h k r e t line few c d moves stands =
       few = omega (arith, few, length-append es (e ∷ []));
       seen_is = sym (seen_by-moves p es e t line moves ∙ ap (λ ls. ls ++ line ∷ []) (sym c.seen_is));
       fit = d.fit;
+      room = subst (λ n. (arena_size p).slots ≤ n) (sym d.room) c.room;
       begins = begins_same rs r h.image k.image d.back ∙ c.begins;
       stand = stand_push p (state.fresh p) k.room h.image k.image rs es r e before d.back d.can (is_move _ t line moves)
           (subst (λ (n : Next). StandsFor k.image (state_of s n)) (sym moves) stands);
@@ -144,6 +148,7 @@ course_dropped p es seen rs qs h r split c =
         few = omega (arith, c.few, short, long);
         seen_is = ap (take n) c.seen_is ∙ sym (seen_by-take p n es);
         fit = rest.0.fit;
+        room = c.room;
         begins = sym (unwound-push qs r h.image) ∙ ap (λ xs. unwound xs h.image) (sym split) ∙ c.begins;
         stand = rest.1;
       },
@@ -158,14 +163,15 @@ course_same p es fs seen lines rs qs h a b d c =
 
 -- the loop of a script that has taken no step
 pub course_new : (p : Program) (es : List Event) (seen : List (Option Seen)) (rs : List (Record Place)) (h : Held Place) → es ≡ [] → seen ≡ []
-    → rs ≡ [] → IsFit h.image → h.image ≡ first_image p → StandsFor (first_image p) (state.fresh p) → IsCourse p es seen rs h
-course_new p es seen rs h a b d fit is stands = course_same p [] es [] seen [] rs h a b d (course_begins p h fit is stands)
+    → rs ≡ [] → IsFit h.image → (arena_size p).slots ≤ h.room → h.image ≡ first_image p
+    → StandsFor (first_image p) (state.fresh p) → IsCourse p es seen rs h
+course_new p es seen rs h a b d fit room is stands = course_same p [] es [] seen [] rs h a b d (course_begins p h fit room is stands)
 
 pub course_moved : (p : Program) (es fs : List Event) (seen lines : List (Option Seen)) (rs qs : List (Record Place)) (h k : Held Place)
     (r : Record Place) (e : Event) (line : Option Seen) → fs ≡ es ++ e ∷ [] → lines ≡ seen ++ line ∷ [] → qs ≡ rs ++ r ∷ []
-    → length es < STEPS → IsCourse p es seen rs h → Recorded r h k → Leads p h.image k.image e line → IsCourse p fs lines qs k
+    → length es < STEPS → IsCourse p es seen rs h → Returns r h k → Leads p h.image k.image e line → IsCourse p fs lines qs k
 course_moved p es fs seen lines rs qs h k r e line a b d few c recorded leads =
-    let t = leads (after p es) (course_stands p es seen rs h c) in
+    let t = leads (after p es) (course_stands p es seen rs h c) (reached p es) in
     course_same p (es ++ e ∷ []) fs (seen ++ line ∷ []) lines (rs ++ r ∷ []) qs k a b d
     (course_added p es seen rs h k r e t.0 line few c recorded t.1 t.2)
 
@@ -194,11 +200,15 @@ module _ (p : Program) (es : List Event) (seen : List (Option Seen)) (rs : List 
   -- the arena's last generation is the script's
   pub seen_last : w.walk.image.arena.last ≡ (arena_size w.program).last_generation
   seen_last = subst (λ (x : Course). x.walk.image.arena.last ≡ (arena_size x.program).last_generation) same
-      (sym (unwound_last rs h.image) ∙ ap (λ (i : Image Place). i.arena.last) c.begins)
+      (sym (ap (λ (n : ℕ × ℕ). n.0) (unwound_limits rs h.image)) ∙ ap (λ (i : Image Place). i.arena.last) c.begins)
 
   -- what holds of each state that the memory stands for holds of the state after the steps
   pub asked : (Q : State → Type 0) → ((s : State) → StandsFor h.image s → Q s) → Q (after w.program w.standing)
   asked Q f = subst (λ (x : Course). Q (after x.program x.standing)) same (f (after p es) (course_stands p es seen rs h c))
+
+  -- the same, where it holds of those that steps lead to
+  pub asked_each : (Q : State → Type 0) → OfEach h.image Q → Q (after w.program w.standing)
+  asked_each Q f = subst (λ (x : Course). Q (after x.program x.standing)) same (f (after p es) (course_stands p es seen rs h c) (reached p es))
 
   pub seen_length : length w.walk.records ≡ length w.standing
   seen_length = subst (λ (x : Course). length x.walk.records ≡ length x.standing) same (course_length p es seen rs h c)
@@ -215,7 +225,7 @@ module _ (p : Program) (es : List Event) (seen : List (Option Seen)) (rs : List 
     pub answers_ok : (i : Image Place) (line : Option Seen) (fs : List Event) → Leads p h.image i e line → fs ≡ es ++ e ∷ []
         → Answers STEPS w.program w.standing e (Ok (record { seen = line })) fs
     answers_ok i line fs leads is =
-        let t = leads (after p es) (course_stands p es seen rs h c) in
+        let t = leads (after p es) (course_stands p es seen rs h c) (reached p es) in
         let there : after p fs ≡ t.0 = ap (after p) is ∙ after-moves p es e t.0 line t.1 in
         subst (λ (x : Course). Answers STEPS x.program x.standing e (Ok (record { seen = line })) fs) same
         (few, is, t.1 ∙ ap (λ z. Moves z line) (sym there))
@@ -231,6 +241,19 @@ module _ (p : Program) (es : List Event) (seen : List (Option Seen)) (rs : List 
     answers_refused why refuses =
         subst (λ (x : Course). Answers STEPS x.program x.standing e (Err (fault.Refused why)) x.standing) same
         (few, refl, refuses (after p es) (course_stands p es seen rs h c))
+
+    -- the same, by what holds of each state that steps lead to
+    pub answers_wanting : (fs : List Event) → OfEach h.image (λ s. IsMove (next p s e)) → fs ≡ es
+        → Answers STEPS w.program w.standing e (Err fault.Memory) fs
+    answers_wanting fs moves is =
+        subst (λ (x : Course). Answers STEPS x.program x.standing e (Err fault.Memory) fs) same
+        (few, is, moves (after p es) (course_stands p es seen rs h c) (reached p es))
+
+    pub answers_refusing : (fs : List Event) (why : Why) → OfEach h.image (λ s. next p s e ≡ Refuses why) → fs ≡ es
+        → Answers STEPS w.program w.standing e (Err (fault.Refused why)) fs
+    answers_refusing fs why refuses is =
+        subst (λ (x : Course). Answers STEPS x.program x.standing e (Err (fault.Refused why)) fs) same
+        (few, is, refuses (after p es) (course_stands p es seen rs h c) (reached p es))
 
   pub drops : (fs : List Event) (qs : List (Record Place)) (r : Record Place) (j : Image Place) → rs ≡ qs ++ r ∷ [] → fs ≡ take (length qs) es
       → j ≡ unwind r h.image

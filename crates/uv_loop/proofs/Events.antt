@@ -16,8 +16,8 @@ use Rattle.uv_model.specs.Next.{Next, Moves, Refuses, next, LATEST}
 use Rattle.uv_model.specs.Ops.{Done, send, cancel}
 use Rattle.uv_model.specs.After.{IsMove}
 use Rattle.uv_step.specs.Image.{Image}
-use Rattle.uv_loop.specs.Contents.{named_of}
-use Rattle.uv_loop.specs.Stands.{StandsFor}
+use Rattle.uv_stands.specs.Contents.{named_of}
+use Rattle.uv_stands.specs.Stands.{StandsFor}
 use Rattle.uv_loop.specs.Course.{Leads}
 use Rattle.uv_loop.proofs.Simulation.{ticked}
 
@@ -90,7 +90,7 @@ tick_may p i ms l s h = is_move _ _ _ (tick_moves p i s ms h l)
 
 pub tick_leads : (p : Program) (i j : Image Place) (ms : ℕ) → i.clock + ms ≤ LATEST → j ≡ record i { clock = i.clock + ms }
     → Leads p i j (Tick ms) (Some (seen.Tick ms))
-tick_leads p i j ms l is s h = (
+tick_leads p i j ms l is s h reached = (
   record s { clock = i.clock + ms },
   tick_moves p i s ms h l,
   subst (λ q. StandsFor q (record s { clock = i.clock + ms })) (sym is) (ticked i s (i.clock + ms) (i.clock + ms) refl h),
@@ -102,7 +102,7 @@ send_may p i v l s h = is_move _ _ _ (send_moves p i s v h l)
 pub send_leads : (p : Program) (i j : Image Place) (v : Var) (code : Code) → v.0 < length i.names
     → ((s : State) → StandsFor i s → (send s (live_handle s v)).code ≡ code)
     → ((s : State) → StandsFor i s → StandsFor j (send s (live_handle s v)).state) → Leads p i j (Send v) (Some (seen.Send v code))
-send_leads p i j v code l is stands s h = (
+send_leads p i j v code l is stands s h reached = (
   (send s (live_handle s v)).state,
   send_moves p i s v h l ∙ ap (λ (c : Code). Moves (send s (live_handle s v)).state (Some (seen.Send v c))) (is s h),
   stands s h,

@@ -38,12 +38,12 @@ use Rattle.uv_step.specs.Content.{request_in}
 use Rattle.uv_step.specs.Fit.{IsFit}
 use Rattle.uv_step.specs.Image.{Image, Held, working_of}
 use Rattle.uv_step.specs.Undo.{Recorded}
-use Rattle.uv_loop.specs.Contents.{request_of}
-use Rattle.uv_loop.specs.Stands.{StandsFor}
+use Rattle.uv_stands.specs.Contents.{request_of}
+use Rattle.uv_stands.specs.Stands.{StandsFor}
 use Rattle.uv_loop.specs.Course.{Leads}
 use Rattle.uv_loop.specs.Pooling.{MayFinish}
-use Rattle.uv_loop.proofs.Sends.{ids_kept}
-use Rattle.uv_loop.proofs.Pools.{IsAsked, asked_there, run_there, list_same, done_more, slots_asked, frame_of, change_back, pool_stands}
+use Rattle.uv_stands.proofs.Holding.{ids_kept}
+use Rattle.uv_stands.proofs.Pools.{IsAsked, asked_there, run_there, list_same, done_more, slots_asked, frame_of, change_back, pool_stands}
 
 -- ---- what the event does
 
@@ -173,7 +173,7 @@ pub finish_leads : (r' : Record Place) (h w : Held Place) (k : ℕ) (d e : Id) (
     → MayFinish h.image k d r → job_of d r ≡ job → digest ≡ digest_of job.rounds job.text
     → IsFinished request_in Asked (working_of h.image) (working_of w.image) k e job digest u → Recorded r' h w → r'.change ≡ change.Finished u
     → IsSound w.image.arena → (p : Program) → Leads p h.image w.image (Finish k) (Some (seen.Finish k r.name d))
-finish_leads r' h w k d e r job digest u may same made c recorded is sound p s stands =
+finish_leads r' h w k d e r job digest u may same made c recorded is sound p s stands reached =
     let i = h.image in
     let j = w.image in
     let frame : j ≡ record i { arena = j.arena; running = j.running } =

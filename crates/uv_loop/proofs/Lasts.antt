@@ -1,4 +1,4 @@
--- No step and no undo changes the arena's last generation.
+-- No step and no undo changes how many slots the arena may have, and at which generation it retires one.
 use Rattle.std.proofs.Common.{◌≡◌, ℕ, List, [], ◌∷◌, Option, Some, None, refl, ◌∙◌}
 use Rattle.std.proofs.lemmas.Bool.{cond_both}
 use Rattle.uv_arena.specs.declared.undo.InsertUndo.{InsertUndo}
@@ -18,43 +18,47 @@ use Rattle.uv_step.specs.Parts as part
 use Rattle.uv_step.specs.Parts.{Part, undo, unwind, unwind_parts, parts}
 use Rattle.uv_step.specs.Trail.{unwound}
 
-inserted_last : (u : InsertUndo) (i : arena.Image Content) → (insert_undone u i).last ≡ i.last
-inserted_last u i = cond_both u.fresh _ _ (λ (z : arena.Image Content). z.last ≡ i.last) (λ e. refl) (λ e. refl)
+-- the last generation, and how many slots there may be
+abbrev pub limits : arena.Image Content → ℕ × ℕ
+limits i = (i.last, i.memory.row.capacity)
 
-removed_last : (u : RemoveUndo Content) (i : arena.Image Content) → (remove_undone u i).last ≡ i.last
-removed_last u i = cond_both u.retired _ _ (λ (z : arena.Image Content). z.last ≡ i.last) (λ e. refl) (λ e. refl)
+inserted_limits : (u : InsertUndo) (i : arena.Image Content) → limits (insert_undone u i) ≡ limits i
+inserted_limits u i = cond_both u.fresh _ _ (λ (z : arena.Image Content). limits z ≡ limits i) (λ e. refl) (λ e. refl)
 
-reopened_last : (o : Option Request) (x : ℕ) (i : arena.Image Content) → (reopened_by Asked o x i).last ≡ i.last
-reopened_last None x i = refl
-reopened_last (Some r) x i = refl
+removed_limits : (u : RemoveUndo Content) (i : arena.Image Content) → limits (remove_undone u i) ≡ limits i
+removed_limits u i = cond_both u.retired _ _ (λ (z : arena.Image Content). limits z ≡ limits i) (λ e. refl) (λ e. refl)
 
-undo_last : (x : Part Place) (i : Image Place) → (undo x i).arena.last ≡ i.arena.last
-undo_last (part.Stood place) i = refl
-undo_last (part.Bound v id) i = refl
-undo_last (part.Called v which n) i = refl
-undo_last (part.Time n) i = refl
-undo_last (part.Clock n) i = refl
-undo_last (part.Start n) i = refl
-undo_last (part.Stop b) i = refl
-undo_last (part.Idled b) i = refl
-undo_last (part.Active n) i = refl
-undo_last (part.Open n) i = refl
-undo_last (part.Ran k id) i = refl
-undo_last (part.Held x v) i = refl
-undo_last (part.WasOpen d) i = reopened_last (work.request_in request_in i.arena d) d.slot i.arena
-undo_last (part.Taken u) i = inserted_last u i.arena
-undo_last (part.Freed u) i = removed_last u i.arena
-undo_last (part.PutOn x) i = refl
-undo_last (part.TakenOff t) i = refl
-undo_last (part.Moved u) i = refl
-undo_last (part.Pushed n) i = refl
-undo_last (part.Removed u) i = refl
+reopened_limits : (o : Option Request) (x : ℕ) (i : arena.Image Content) → limits (reopened_by Asked o x i) ≡ limits i
+reopened_limits None x i = refl
+reopened_limits (Some r) x i = refl
 
-parts_last : (ps : List (Part Place)) (i : Image Place) → (unwind_parts ps i).arena.last ≡ i.arena.last
-parts_last [] i = refl
-parts_last (p ∷ ps) i = undo_last p (unwind_parts ps i) ∙ parts_last ps i
+undo_limits : (x : Part Place) (i : Image Place) → limits (undo x i).arena ≡ limits i.arena
+undo_limits (part.Stood place) i = refl
+undo_limits (part.Bound v id) i = refl
+undo_limits (part.Called v which n) i = refl
+undo_limits (part.Time n) i = refl
+undo_limits (part.Clock n) i = refl
+undo_limits (part.Start n) i = refl
+undo_limits (part.Stop b) i = refl
+undo_limits (part.Idled b) i = refl
+undo_limits (part.Active n) i = refl
+undo_limits (part.Open n) i = refl
+undo_limits (part.Ran k id) i = refl
+undo_limits (part.Held x v) i = refl
+undo_limits (part.WasOpen d) i = reopened_limits (work.request_in request_in i.arena d) d.slot i.arena
+undo_limits (part.Taken u) i = inserted_limits u i.arena
+undo_limits (part.Freed u) i = removed_limits u i.arena
+undo_limits (part.PutOn x) i = refl
+undo_limits (part.TakenOff t) i = refl
+undo_limits (part.Moved u) i = refl
+undo_limits (part.Pushed n) i = refl
+undo_limits (part.Removed u) i = refl
+
+parts_limits : (ps : List (Part Place)) (i : Image Place) → limits (unwind_parts ps i).arena ≡ limits i.arena
+parts_limits [] i = refl
+parts_limits (p ∷ ps) i = undo_limits p (unwind_parts ps i) ∙ parts_limits ps i
 
 -- unwinding records keeps it
-pub unwound_last : (rs : List (Record Place)) (i : Image Place) → (unwound rs i).arena.last ≡ i.arena.last
-unwound_last [] i = refl
-unwound_last (r ∷ rs) i = parts_last (parts r) (unwound rs i) ∙ unwound_last rs i
+pub unwound_limits : (rs : List (Record Place)) (i : Image Place) → limits (unwound rs i).arena ≡ limits i.arena
+unwound_limits [] i = refl
+unwound_limits (r ∷ rs) i = parts_limits (parts r) (unwound rs i) ∙ unwound_limits rs i

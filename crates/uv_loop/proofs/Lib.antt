@@ -1,9 +1,14 @@
 pub mod Simulation
 pub mod Lasts
 pub mod Courses
+pub mod Clear
+pub mod Ready
+pub mod Lines
 pub mod Events
+pub mod Refusing
+pub mod Walked
+pub mod Shown
 pub mod Sends
-pub mod Pools
 pub mod Takes
 pub mod Finishes
 pub mod Cancels

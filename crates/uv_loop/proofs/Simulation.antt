@@ -16,8 +16,8 @@ use Rattle.uv_step.specs.declared.content.Content.{Content}
 use Rattle.uv_step.specs.declared.named.Named.{Named}
 use Rattle.uv_step.specs.Names.{unbound}
 use Rattle.uv_step.specs.Image.{Image}
-use Rattle.uv_loop.specs.Contents.{named_of}
-use Rattle.uv_loop.specs.Stands.{StandsFor}
+use Rattle.uv_stands.specs.Contents.{named_of}
+use Rattle.uv_stands.specs.Stands.{StandsFor}
 use Rattle.uv_loop.specs.Course.{first_image}
 
 none_bound : (n : ℕ) → replicate n unbound ≡ map named_of (replicate n state.unbound)

@@ -26,11 +26,11 @@ use Rattle.uv_step.specs.Content.{request_in}
 use Rattle.uv_step.specs.Fit.{IsFit}
 use Rattle.uv_step.specs.Image.{Image, Held, working_of}
 use Rattle.uv_step.specs.Undo.{Recorded}
-use Rattle.uv_loop.specs.Stands.{StandsFor}
+use Rattle.uv_stands.specs.Stands.{StandsFor}
 use Rattle.uv_loop.specs.Course.{Leads}
 use Rattle.uv_loop.specs.Pooling.{MayTake}
-use Rattle.uv_loop.proofs.Sends.{map_same}
-use Rattle.uv_loop.proofs.Pools.{IsAsked, asked_there, front_there, first_one, run_there, list_same, ids_moved, frame_of, change_back, pool_stands}
+use Rattle.uv_stands.proofs.Holding.{map_same}
+use Rattle.uv_stands.proofs.Pools.{IsAsked, asked_there, front_there, first_one, run_there, list_same, ids_moved, frame_of, change_back, pool_stands}
 
 -- ---- what the event does
 
@@ -106,7 +106,7 @@ module _ (i j : Image Place) (k : ℕ) (d e : Id) (r : Request) (u : TakeUndo) (
 pub take_leads : (r' : Record Place) (h w : Held Place) (k : ℕ) (d e : Id) (r : Request) (u : TakeUndo) → MayTake h.image k d r
     → IsTaken request_in (working_of h.image) (working_of w.image) k e u → Recorded r' h w → r'.change ≡ change.Taken u → IsSound w.image.arena
     → (p : Program) → Leads p h.image w.image (Take k) (Some (seen.Take k r.name d))
-take_leads r' h w k d e r u may c recorded is sound p s stands =
+take_leads r' h w k d e r u may c recorded is sound p s stands reached =
     let i = h.image in
     let j = w.image in
     let frame : j ≡ record i { arena = j.arena; running = j.running } =

@@ -9,14 +9,15 @@ use Rattle.uv_model.specs.declared.place.Place.{Place}
 use Rattle.uv_model.specs.declared.place.Place.TheVariants.{Main}
 use Rattle.uv_model.specs.State as state
 use Rattle.uv_model.specs.State.{State}
-use Rattle.uv_model.specs.Next.{Moves, next}
+use Rattle.uv_model.specs.Next.{next}
 use Rattle.uv_model.specs.After.{state_of, seen_by, IsMove, STEPS}
 use Rattle.uv_step.specs.declared.record.Record.{Record}
 use Rattle.uv_step.specs.Image.{Image, Held, fresh}
 use Rattle.uv_step.specs.Trail.{Walk, unwound, AddsOne, DropsOne}
 use Rattle.uv_step.specs.Undo.{CanUnwind}
 use Rattle.uv_step.specs.Fit.{IsFit}
-use Rattle.uv_loop.specs.Stands.{StandsFor}
+use Rattle.uv_stands.specs.Stands.{StandsFor}
+use Rattle.uv_stands.specs.Doing.{Goes}
 
 -- what a loop is seen as: its script, its standing steps, and the memory with a record for each of them
 pub record Course : Type 0 where
@@ -37,15 +38,17 @@ StandFrom p s room i (r ∷ rs) [] = ⊥
 StandFrom p s room i (r ∷ rs) (e ∷ es) = StandsFor (unwound (r ∷ rs) i) s × CanUnwind room r (unwound rs i) × IsMove (next p s e)
     × StandFrom p (state_of s (next p s e)) room i rs es
 
--- where the memory stands for a state, an event leads to one for which the other memory stands, with this line
+-- where the memory stands for a state that steps lead to, an event leads to one for which the other memory stands, with this line
 abbrev pub Leads : Program → Image Place → Image Place → Event → Option Seen → Type 0
-Leads p i j e line = (s : State) → StandsFor i s → (t : State) × (next p s e ≡ Moves t line) × StandsFor j t
+Leads p i j e line = Goes (λ s. next p s e) i j line
 
 -- what a loop keeps
 pub record IsCourse (p : Program) (es : List Event) (seen : List (Option Seen)) (rs : List (Record Place)) (h : Held Place) : Type 0 where
   pub few : length es ≤ STEPS
   pub seen_is : seen ≡ seen_by p es
   pub fit : IsFit h.image
+  -- the heap has room for the timer of each slot
+  pub room : (arena_size p).slots ≤ h.room
   -- unwinding all records, the last one first, gives the memory in which the script begins
   pub begins : unwound rs h.image ≡ first_image p
   pub stand : StandFrom p (state.fresh p) h.room h.image rs es

@@ -1,5 +1,5 @@
-pub mod Contents
-pub mod Stands
+pub mod Begins
+pub mod Turning
 pub mod Course
 pub mod Taken
 pub mod Pooling

@@ -1,20 +1,22 @@
 //! The loop over one memory.
 ghost use Rattle.std.specs.Prelude.{◌≡◌, ◌+◌, ◌<◌, ◌≤◌, ◌-◌, [], IfOk, IfErr, IfSome, IfNone, Some, length, slice_get};
-ghost use Rattle.uv_ids.specs.declared.event.Event.TheVariants.{Tick, Send, Take, Finish, Cancel};
+ghost use Rattle.uv_ids.specs.declared.event.Event.TheVariants.{Loop, Tick, Send, Take, Finish, Cancel};
 ghost use Rattle.uv_ids.specs.declared.fault.Fault.TheVariants.{Memory as no_memory};
 ghost use Rattle.uv_script.specs.Program.{arena_size};
 ghost use Rattle.uv_model.specs.After.{Answers, after, seen_by, STEPS};
 ghost use Rattle.uv_model.specs.Handing.{AnswersResult};
 ghost use Rattle.uv_model.specs.Queries.{numbers};
+ghost use Rattle.uv_step.specs.Fit.{IsFit};
 ghost use Rattle.uv_step.specs.Image.{held};
 ghost use Rattle.uv_step.specs.Trail.{unwound};
-ghost use Rattle.uv_loop.specs.Stands.{StandsFor};
+ghost use Rattle.uv_stands.specs.Stands.{StandsFor};
 ghost use Rattle.uv_loop.specs.Course.{Adds, Drops, first_image};
 
+use crate::looping::{loop_refusal, turn};
 use crate::pooling::{cancel_named, finish_work, take_work};
 use crate::sending::send_to;
 use crate::steps::Steps;
-use std::alloc::Global;
+use std::alloc::{AllocError, Global};
 use std::marker::Model;
 use uv_ids::{Event, Fault, Seen, Var, Why};
 use uv_model::{Numbers, Outcome, Place, STEPS};
@@ -37,14 +39,36 @@ fn later(clock: u64, ms: u64) -> Option<u64>
     (later <= LATEST).then_some(later)
 }
 
+/// The memory in which a script begins. The heap has room for the timer of each slot from the first, so no step of the loop wants
+/// memory for it.
+fn fresh_memory(alloc: Global, script: &Script) -> Result<Memory<Place>, AllocError>
+    ensures image { IfOk result (λ m. (held m).image ≡ first_image script.now) }
+    ensures fit { IfOk result (λ m. IsFit (held m).image) }
+    ensures room { IfOk result (λ m. (arena_size script.now).slots ≤ (held m).room) }
+{
+    let size = script.arena_size();
+    let names = script.names().len();
+    let mut memory = Memory::new(
+        alloc,
+        Place::Main(0),
+        names,
+        size.slots,
+        size.last_generation,
+        script.workers(),
+    )?;
+    if size.slots > 0 {
+        memory.reserve(size.slots - 1)?;
+    }
+    Ok(memory)
+}
+
 /// A loop over one memory, with a record for each of its steps that takes the step back.
-///
-/// So far it takes the steps of the clock and of the workers, and sends and cancels from outside, so it isn't a machine yet.
 #[derive(Drop)]
 pub struct ArenaLoop {
-    script: Script,
-    memory: Memory<Place>,
-    steps: Steps<Place>,
+    pub(crate) alloc: Global,
+    pub(crate) script: Script,
+    pub(crate) memory: Memory<Place>,
+    pub(crate) steps: Steps<Place>,
 }
 
 impl Model for ArenaLoop {
@@ -70,24 +94,41 @@ impl ArenaLoop {
         ensures walk { IfOk result (λ begun. begun.walk ≡ record { image = first_image script; records = [] }) }
         ensures err { IfErr result (λ fault. fault ≡ no_memory) }
     {
-        let size = script.arena_size();
-        let names = script.names().len();
-        let Ok(memory) = Memory::new(
-            alloc,
-            Place::Main(0),
-            names,
-            size.slots,
-            size.last_generation,
-            script.workers(),
-        ) else {
+        let Ok(memory) = fresh_memory(alloc, &script) else {
             return Err(Fault::Memory);
         };
         memory.slots.is_sound();
         Ok(ArenaLoop {
+            alloc,
             script,
             memory,
             steps: Steps::new(alloc),
         })
+    }
+
+    /// The loop does its next step.
+    pub fn turn(&mut self) -> Result<Outcome, Fault>
+        ensures program { self.new.program ≡ self.old.program }
+        ensures answer { Answers STEPS self.old.program self.old.standing Loop result self.new.standing }
+        ensures records { Adds result self.old self.new }
+    {
+        if self.steps.events.len() >= STEPS {
+            return Err(Fault::StepsFull);
+        }
+        match loop_refusal(&self.memory, &self.script) {
+            Some(why) => return Err(Fault::Refused(why)),
+            None => {}
+        }
+        if self.steps.reserve().is_err() {
+            return Err(Fault::Memory);
+        }
+        match turn(&mut self.memory, &self.script) {
+            Err(why) => Err(Fault::Refused(why)),
+            Ok((seen, step_record)) => {
+                self.steps.push(Event::Loop, seen, step_record);
+                Ok(Outcome { seen })
+            }
+        }
     }
 
     /// The clock goes on by so many ms.

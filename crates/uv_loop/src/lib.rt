@@ -1,9 +1,15 @@
-//! A loop over one memory that takes each of its steps back, and what that memory stands for.
+//! The loop over one memory: a machine whose every step has a record that takes it back.
 #![tactic(auto)]
 
 mod arena_loop;
+mod bodies;
+mod listing;
+mod looping;
+mod machine;
 mod pooling;
 mod sending;
+mod showing;
+mod staging;
 mod steps;
 
 pub use arena_loop::ArenaLoop;

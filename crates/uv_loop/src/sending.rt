@@ -5,7 +5,7 @@ ghost use Rattle.uv_model.specs.Ops.{send};
 ghost use Rattle.uv_step.specs.Fit.{IsFit};
 ghost use Rattle.uv_step.specs.Image.{held};
 ghost use Rattle.uv_step.specs.Undo.{Recorded};
-ghost use Rattle.uv_loop.specs.Stands.{StandsFor};
+ghost use Rattle.uv_stands.specs.Stands.{StandsFor};
 
 use uv_ids::{Code, Var};
 use uv_model::Place;

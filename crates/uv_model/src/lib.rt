@@ -3,6 +3,7 @@
 #![tactic(auto)]
 
 mod arena;
+mod bodies;
 mod content;
 mod ids;
 mod machine;
@@ -11,9 +12,11 @@ mod numbers;
 mod place;
 mod plain;
 mod request;
+mod running;
 mod state;
 mod walked;
 
+pub use bodies::body_from;
 pub use content::Content;
 pub use machine::{Machine, Outcome, STEPS};
 pub use named::{Counts, Named};
@@ -21,3 +24,4 @@ pub use numbers::Numbers;
 pub use place::{Body, Place, Run, Stage, TimersOf, Timing};
 pub use plain::PlainLoop;
 pub use request::Request;
+pub use running::runner_of;

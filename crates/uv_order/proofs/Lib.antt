@@ -1,4 +1,4 @@
-mod IdLists
+pub mod IdLists
 mod TimerKeys
 mod Contents
 mod Holding

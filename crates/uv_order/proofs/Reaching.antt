@@ -93,6 +93,7 @@ is_reached p s k = record {
   check = all_active s kind.Check (members s.check) k.kept.check;
   async = all_active s kind.Async (members s.async) k.kept.async;
   timers = are_timers s s.timers s.next_start k.kept.timers;
+  drawn = λ due id h. (k.kept.timers.each due id h).1;
   closing = all_closing s (members s.closing) k.kept.closing;
   done = all_ended s (members s.done) k.working.ended;
   ready = set_aside s s.ready k.kept.ready;

@@ -1,6 +1,7 @@
 -- What holds of every state that steps lead to: its lists and its slots agree, and a section that begins finds none of its list yet to run.
-use Rattle.std.specs.Prelude.{◌≡◌, ◌++◌, List, [], true, false, Option, Some, None}
+use Rattle.std.specs.Prelude.{◌≡◌, ◌<◌, ◌++◌, List, [], true, false, Option, Some, None}
 use Rattle.uv_ids.specs.declared.id.Id.{Id}
+use Rattle.uv_ids.specs.declared.due.Due.{Due}
 use Rattle.uv_ids.specs.declared.phase.Kind.TheVariants as kind
 use Rattle.uv_records.specs.declared.handle.HandleRecord.{HandleRecord}
 use Rattle.uv_model.specs.declared.place.Body.{Body}
@@ -9,7 +10,7 @@ use Rattle.uv_model.specs.declared.place.Stage.TheVariants.{Pending, Idle, Poll,
 use Rattle.uv_model.specs.declared.place.Place.{Place}
 use Rattle.uv_model.specs.declared.place.Place.TheVariants.{Main, Running}
 use Rattle.uv_model.specs.State.{State, handle}
-use Rattle.uv_order.specs.Active.{has_id, AreDistinct, AreActive, AreClosing, AreEnded, AreTimers}
+use Rattle.uv_order.specs.Active.{has_id, AreDistinct, AreActive, AreClosing, AreEnded, AreTimers, Has}
 
 -- where the section behind a stage may begin with the next step, none of its list is yet to run
 abbrev pub BeginsBehind : Stage → State → Type 0
@@ -52,6 +53,8 @@ pub record IsReached (s : State) : Type 0 where
   pub async : AreActive s kind.Async (s.async.list ++ s.async.yet)
   -- so are the active timers those of the order of timers, and those that close, or are done, those of their lists
   pub timers : AreTimers s s.timers
+  -- each of them drew its start number before the next one
+  pub drawn : (due : Due) (id : Id) → Has s.timers due id → due.start < s.next_start
   pub closing : AreClosing s (s.closing.list ++ s.closing.yet)
   pub done : AreEnded s (s.done.list ++ s.done.yet)
   pub ready : AreSetAside s s.ready

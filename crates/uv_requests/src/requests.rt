@@ -45,6 +45,13 @@ impl Requests {
         self.running.get(worker as usize).copied()
     }
 
+    /// What each worker runs, by its number.
+    pub fn workers(&self) -> &[Option<Id>]
+        ensures { result.now ≡ self.now.workers }
+    {
+        &self.running
+    }
+
     /// How many requests are open: from their queue to their collect (uv_loop_alive counts them).
     pub fn open_requests(&self) -> u32
         ensures { result ≡ self.now.count }

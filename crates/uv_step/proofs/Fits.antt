@@ -1,5 +1,5 @@
 -- What each step of handles leaves of the requests.
-use Rattle.std.proofs.Common.{◌≡◌, ◌≢◌, ℕ, Bool, List, length, slice_get, Some, None, option_map, option_and_then, ap, ◌∙◌, subst, arith}
+use Rattle.std.proofs.Common.{◌≡◌, ◌≢◌, ℕ, Bool, true, false, if◌then◌else◌, refl, List, length, slice_get, Some, None, option_and_then, ap, ◌∙◌, subst, arith}
 use Rattle.std.proofs.lemmas.Option.{slice_get_past}
 use Rattle.uv_ids.specs.declared.id.Id.{Id}
 use Rattle.uv_records.specs.declared.handle.HandleRecord.{HandleRecord}
@@ -24,7 +24,7 @@ use Rattle.uv_timer.specs.declared.undo.CollectUndo.{CollectUndo}
 use Rattle.uv_timer.specs.Timed.{Timed}
 use Rattle.uv_timer.specs.Timers.{IsCollected}
 use Rattle.uv_watch.specs.declared.undo.WalkUndo.{WalkUndo}
-use Rattle.uv_watch.specs.Watch.{IsMovedOn}
+use Rattle.uv_watch.specs.Watch.{woken_if, IsMovedOn}
 use Rattle.uv_requests.specs.Working.{Running, working, request_in as asked_at, IsWork}
 use Rattle.uv_requests.proofs.Collected.{freed_slot}
 use Rattle.uv_requests.proofs.Beside.{kept_beside}
@@ -85,10 +85,15 @@ work_enlisted a b r d from to list u w bar c =
     beside a.arena b.arena r d w c.contents c.kept (alone a.arena d from c.there) (alone b.arena d to c.handle) (λ l o. c.others l
     (other l list bar o))
 
+woken_there : (b : Bool) (h : HandleRecord) → woken_if b (Some h) ≡ Some (if b then woken h else h)
+woken_there true h = refl
+woken_there false h = refl
+
 pub work_walked : (a b : Counted Content) (r : Running) (d : Id) (h : HandleRecord) (k : WatcherKind) (pending : Bool) (u : WalkUndo) → Work a.arena r
     → record_at handle_in a.arena d ≡ Some h → IsMovedOn handle_in Handle a b k d pending u → Work b.arena r
 work_walked a b r d h k pending u w there c =
-    beside a.arena b.arena r d w c.contents c.kept (alone a.arena d h there) (alone b.arena d (woken h) (c.handle ∙ ap (option_map woken) there))
+    beside a.arena b.arena r d w c.contents c.kept (alone a.arena d h there) (alone b.arena d (if pending then woken h else h)
+    (c.handle ∙ ap (woken_if pending) there ∙ woken_there pending h))
     (λ l o. c.others l (other l (list_of k) (list_not k) o) (other l (yet_of k) (yet_not k) o))
 
 pub work_collected : (room : ℕ) (a b : Timed Content) (r : Running) (d : Id) (u : CollectUndo) → Work a.handles.arena r

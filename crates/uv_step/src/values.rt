@@ -83,7 +83,7 @@ impl<P: Copy> Memory<P> {
         requires fit { IsFit (held self.old).image }
         requires unnamed { step_record.naming ≡ same }
         requires name { name.0 < length (held self.old).image.names }
-        ensures names { (held self.new).image.names ≡ binding name.0 id (held self.old).image.names }
+        ensures image { (held self.new).image ≡ record (held self.old).image { names = binding name.0 id (held self.old).image.names } }
         ensures extended { Extended step_record result (held self.old) (held self.new) }
     {
         let named = self.names[name.0 as usize];
@@ -105,8 +105,9 @@ impl<P: Copy> Memory<P> {
         requires unnamed { step_record.naming ≡ same }
         requires name { name.0 < length (held self.old).image.names }
         requires few { count_of callback (named (held self.old).image.names name.0).calls < 2 ^ 32 - 1 }
-        ensures names { (held self.new).image.names
-            ≡ calling name.0 callback (count_of callback (named (held self.old).image.names name.0).calls + 1) (held self.old).image.names }
+        ensures image { (held self.new).image ≡ record (held self.old).image {
+          names = calling name.0 callback (count_of callback (named (held self.old).image.names name.0).calls + 1) (held self.old).image.names;
+        } }
         ensures extended { Extended step_record result (held self.old) (held self.new) }
     {
         let named = self.names[name.0 as usize];

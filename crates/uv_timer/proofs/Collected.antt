@@ -22,6 +22,7 @@ module _ {X : Type 0} (read : X → Option HandleRecord) (make : HandleRecord �
     from = h;
     is_due = due;
     handle = ap (option_and_then read) (p.slots.contents d) ∙ r.handles.handle;
+    plain = p.slots.plain ∙ r.handles.plain;
     ready = p.lists ∙ ap (λ xs. xs ++ d.slot ∷ []) (r.handles.lists Ready);
     others = λ l ne. p.others l ne ∙ r.handles.lists l;
     listed = p.listed;

@@ -9,9 +9,9 @@ use Rattle.uv_records.specs.declared.lists.ListName.TheVariants.{Ready}
 use Rattle.uv_records.specs.Dues.{due_in}
 use Rattle.uv_records.specs.Handles.{stopped}
 use Rattle.uv_records.specs.Refusals.{refusal, timer_refusal, start_timer_refusal, stop_refusal, again_refusal}
-use Rattle.uv_records.specs.Slots.{id_of}
+use Rattle.uv_records.specs.Slots.{id_of, with_held}
 use Rattle.uv_records.specs.Walks.{without}
-use Rattle.uv_arena.specs.Image.{Image, members, slot_at, held, on_list}
+use Rattle.uv_arena.specs.Image.{Image, members, slot_at, held, on_list, plain_slots}
 use Rattle.uv_arena.specs.Calls.{IsFirst}
 use Rattle.uv_handle.specs.Counted.{IsCounted, record_at, found}
 use Rattle.uv_handle.specs.Changes.{IsDelisted}
@@ -98,6 +98,8 @@ module _ {X : Type 0} (read : X → Option HandleRecord) where
       pub from : HandleRecord
       pub is_due : IsDue old.handles.arena old.heap old.times.time d from
       pub handle : record_at read new.handles.arena d ≡ Some (stopped from)
+      pub plain : plain_slots new.handles.arena
+          ≡ record (plain_slots old.handles.arena) { slots = with_held (plain_slots old.handles.arena).slots d (make (stopped from)) }
       pub ready : members new.handles.arena Ready ≡ without eqb (members old.handles.arena Ready) d.slot ++ d.slot ∷ []
       pub others : (l : ListName) → l ≢ Ready → members new.handles.arena l ≡ without eqb (members old.handles.arena l) d.slot
       pub listed : on_list new.handles.arena d ≡ true

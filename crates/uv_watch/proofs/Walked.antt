@@ -1,18 +1,19 @@
 -- The front of those yet to run is moved to the end of its list.
-use Rattle.std.proofs.Common.{◌≡◌, ◌≢◌, ℕ, Bool, [], ◌∷◌, ◌++◌, Option, option_map, option_and_then, sym, ap, ◌∙◌, subst}
+use Rattle.std.proofs.Common.{◌≡◌, ◌≢◌, ℕ, Bool, [], ◌∷◌, ◌++◌, Option, option_and_then, sym, ap, ◌∙◌, subst}
 use Rattle.uv_ids.specs.declared.id.Id.{Id}
 use Rattle.uv_records.specs.declared.handle.HandleRecord.{HandleRecord}
 use Rattle.uv_records.specs.declared.lists.WatcherKind.{WatcherKind}
 use Rattle.uv_records.specs.declared.lists.WatcherKind.TheVariants as watcher
 use Rattle.uv_records.specs.Handles.{woken}
 use Rattle.uv_records.specs.Lists.{list_of, yet_of}
+use Rattle.uv_records.specs.Slots as plain
 use Rattle.uv_arena.specs.declared.links.Place.{Place}
 use Rattle.uv_arena.specs.Image.{Image, members}
 use Rattle.uv_arena.specs.Undo.{push_undone, unlink_undone, CanUndoPush, CanUndoUnlink}
 use Rattle.uv_arena.specs.Calls.{IsFirst, IsPushed, IsUnlinked}
 use Rattle.uv_handle.specs.declared.undo.RecordUndo.{RecordUndo}
 use Rattle.uv_handle.specs.Counted.{Counted, counted, record_at}
-use Rattle.uv_watch.specs.Watch.{pending_in, IsWoken, IsMovedOn}
+use Rattle.uv_watch.specs.Watch.{pending_of, woken_if, IsWoken, IsMovedOn}
 
 -- the two lists of a walk are two
 pub lists_apart : (w : WatcherKind) → list_of w ≢ yet_of w
@@ -24,7 +25,7 @@ lists_apart watcher.Async e = cc
 module _ {X : Type 0} (read : X → Option HandleRecord) (make : HandleRecord → X) where
   pub moved_done : (i k l j : Image X) (n m : ℕ) (w : WatcherKind) (d : Id) (t : Place) (pending : Bool) (u : Option RecordUndo)
       → IsFirst i (yet_of w) d → IsUnlinked i k d t
-      → IsPushed k l (list_of w) d (members k (list_of w) ++ d.slot ∷ []) → IsWoken read make (counted l n) (counted j m) d pending u
+      → IsPushed k l (list_of w) d (members k (list_of w) ++ d.slot ∷ []) → IsWoken read make (counted l n) (counted j m) w d pending u
       → IsMovedOn read make (counted i n) (counted j m) w d pending (record { unlinked = t; pushed = record { slot = d.slot }; woken = u })
   moved_done i k l j n m w d t pending u f a b c =
       let same : record_at read l d ≡ record_at read i d = ap (option_and_then read) (b.slots.contents d ∙ a.slots.contents d) in
@@ -33,10 +34,14 @@ module _ {X : Type 0} (read : X → Option HandleRecord) (make : HandleRecord �
       let yet = c.lists (yet_of w) ∙ b.others (yet_of w) (λ e. ne (sym e)) ∙ a.lists (yet_of w) ∙ f.after in
       record {
         first = f;
-        was = c.was ∙ ap pending_in same;
+        was = c.was ∙ ap (pending_of w) same;
         walk = λ h. record { list = list h; yet = yet h };
         others = λ q nl ny. c.lists q ∙ b.others q nl ∙ a.lists q ∙ f.others q ny;
-        handle = c.handle ∙ ap (option_map woken) same;
+        handle = c.handle ∙ ap (woken_if pending) same;
+        asleep = λ no. c.asleep no ∙ b.slots.plain ∙ a.slots.plain;
+        awake = λ h e yes. c.awake h (same ∙ e) yes
+            ∙ ap (λ (q : plain.Slots X). (let z : plain.Slots X = record q { slots = plain.with_held q.slots d (make (woken h)) } in z))
+            (b.slots.plain ∙ a.slots.plain);
         listed = c.kept d ∙ b.listed;
         contents = λ e nd. c.contents e nd ∙ b.slots.contents e ∙ a.slots.contents e;
         kept = λ e nd. c.kept e ∙ b.kept e nd ∙ a.kept e nd;

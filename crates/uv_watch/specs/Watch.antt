@@ -1,15 +1,17 @@
 -- What holds after each call that changes a watcher.
-use Rattle.std.specs.Prelude.{◌≡◌, ◌≢◌, ℕ, Bool, true, false, not, Option, Some, None, option_map}
+use Rattle.std.specs.Prelude.{◌≡◌, ◌≢◌, ℕ, Bool, true, false, not, Option, Some, None, option_map, if◌then◌else◌}
 use Rattle.uv_ids.specs.declared.id.Id.{Id}
 use Rattle.uv_records.specs.declared.handle.HandleRecord.{HandleRecord}
 use Rattle.uv_records.specs.declared.lists.ListName.{ListName}
 use Rattle.uv_records.specs.declared.lists.WatcherKind.{WatcherKind}
+use Rattle.uv_records.specs.declared.lists.WatcherKind.TheVariants as watcher
 use Rattle.uv_records.specs.Handles.{stopped, activated, woken}
 use Rattle.uv_records.specs.Lists.{watcher_kind, list_of, yet_of}
 use Rattle.uv_records.specs.Refusals.{start_watcher_refusal}
+use Rattle.uv_records.specs.Slots.{with_held}
 use Rattle.uv_records.specs.Walks.{Walk, all_yet, moved_on}
 use Rattle.uv_arena.specs.declared.undo.SpliceUndo.{SpliceUndo}
-use Rattle.uv_arena.specs.Image.{Image, members, held, on_list}
+use Rattle.uv_arena.specs.Image.{Image, members, held, on_list, plain_slots}
 use Rattle.uv_arena.specs.Undo.{splice_undone, CanUndoSplice}
 use Rattle.uv_arena.specs.Calls.{IsFirst, SameSlots}
 use Rattle.uv_handle.specs.declared.undo.DelistUndo.{DelistUndo}
@@ -24,6 +26,15 @@ use Rattle.uv_watch.specs.Undo.{unwoken, CanUnwake, walk_undone, CanUndoWalk}
 abbrev pub pending_in : Option HandleRecord → Bool
 pending_in None = false
 pending_in (Some h) = h.pending
+
+-- a section looks at that where its handles can be sent to: those of the async section
+abbrev pub pending_of : WatcherKind → Option HandleRecord → Bool
+pending_of watcher.Async h = pending_in h
+pending_of w h = false
+
+-- the record of a handle that waited for its callback, and waits no more; any other one stays
+abbrev pub woken_if : Bool → Option HandleRecord → Option HandleRecord
+woken_if pending h = if pending then option_map woken h else h
 
 -- the walked list of a kind, by slots
 abbrev pub walk_of : {X : Type 0} → Image X → WatcherKind → Walk ℕ
@@ -65,9 +76,12 @@ module _ {X : Type 0} (read : X → Option HandleRecord) (make : HandleRecord �
   IsStopped old new d from u = IsDelisted read make old new d from (stopped from) (not from.closing) u
 
   -- the handle waits for no callback any more
-  pub record IsWoken (old new : Counted X) (d : Id) (pending : Bool) (u : Option RecordUndo) : Type 0 where
-    pub was : pending ≡ pending_in (record_at read old.arena d)
-    pub handle : record_at read new.arena d ≡ option_map woken (record_at read old.arena d)
+  pub record IsWoken (old new : Counted X) (w : WatcherKind) (d : Id) (pending : Bool) (u : Option RecordUndo) : Type 0 where
+    pub was : pending ≡ pending_of w (record_at read old.arena d)
+    pub handle : record_at read new.arena d ≡ woken_if pending (record_at read old.arena d)
+    pub asleep : pending ≡ false → plain_slots new.arena ≡ plain_slots old.arena
+    pub awake : (h : HandleRecord) → record_at read old.arena d ≡ Some h → pending ≡ true
+        → plain_slots new.arena ≡ record (plain_slots old.arena) { slots = with_held (plain_slots old.arena).slots d (make (woken h)) }
     pub lists : (l : ListName) → members new.arena l ≡ members old.arena l
     pub contents : (e : Id) → e.slot ≢ d.slot → held new.arena e ≡ held old.arena e
     pub kept : (e : Id) → on_list new.arena e ≡ on_list old.arena e
@@ -75,13 +89,16 @@ module _ {X : Type 0} (read : X → Option HandleRecord) (make : HandleRecord �
     pub undone : unwoken read make u new ≡ old
     pub can_undo : CanUnwake read make u new
 
-  -- the front of those yet to run is at the end of its list, and waits for no callback any more
+  -- the front of those yet to run is at the end of its list, and one of the async section waits for no callback any more
   pub record IsMovedOn (old new : Counted X) (w : WatcherKind) (d : Id) (pending : Bool) (u : WalkUndo) : Type 0 where
     pub first : IsFirst old.arena (yet_of w) d
-    pub was : pending ≡ pending_in (record_at read old.arena d)
+    pub was : pending ≡ pending_of w (record_at read old.arena d)
     pub walk : walk_of new.arena w ≡ moved_on (walk_of old.arena w) d.slot first.rest
     pub others : (l : ListName) → l ≢ list_of w → l ≢ yet_of w → members new.arena l ≡ members old.arena l
-    pub handle : record_at read new.arena d ≡ option_map woken (record_at read old.arena d)
+    pub handle : record_at read new.arena d ≡ woken_if pending (record_at read old.arena d)
+    pub asleep : pending ≡ false → plain_slots new.arena ≡ plain_slots old.arena
+    pub awake : (h : HandleRecord) → record_at read old.arena d ≡ Some h → pending ≡ true
+        → plain_slots new.arena ≡ record (plain_slots old.arena) { slots = with_held (plain_slots old.arena).slots d (make (woken h)) }
     pub listed : on_list new.arena d ≡ true
     pub contents : (e : Id) → e.slot ≢ d.slot → held new.arena e ≡ held old.arena e
     pub kept : (e : Id) → e.slot ≢ d.slot → on_list new.arena e ≡ on_list old.arena e

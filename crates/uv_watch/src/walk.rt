@@ -61,7 +61,7 @@ fn move_on<T: HoldsHandle>(
 {
     let unlinked = slots.unlink(id);
     let pushed = slots.push_back(kind.list(), id);
-    let (pending, woken) = wake(handles, slots, id);
+    let (pending, woken) = wake(handles, slots, kind, id);
     let undo = WalkUndo {
         unlinked,
         pushed,
@@ -70,15 +70,19 @@ fn move_on<T: HoldsHandle>(
     (id, pending, undo)
 }
 
-/// Wakes a handle, if it waits for its callback.
+/// Wakes a handle of the async section, if it waits for its callback.
 fn wake<T: HoldsHandle>(
     handles: &mut Handles,
     slots: &mut Slots<T>,
+    kind: WatcherKind,
     id: Id,
 ) -> (bool, Option<RecordUndo>)
     requires { IsCounted T.held_record (counted slots.old handles.old) }
-    ensures { IsWoken T.held_record T.of_record (counted slots.old handles.old) (counted slots.new handles.new) id result.0 result.1 }
+    ensures { IsWoken T.held_record T.of_record (counted slots.old handles.old) (counted slots.new handles.new) kind id result.0 result.1 }
 {
+    if kind != WatcherKind::Async {
+        return (false, None);
+    }
     match handle_at(slots, id) {
         Err(_) => (false, None),
         Ok(handle) => {

@@ -1,5 +1,6 @@
 //! What stands on the lists and in the free list.
-ghost use Rattle.std.specs.Prelude.{◌≡◌, ◌<◌, List, ◌∷◌, ◌++◌, [], None, IfSome, IfNone, length, true, false, is_some, eqb, ℕ};
+ghost use Rattle.std.specs.Prelude.{◌≡◌, ◌<◌, ◌==◌, List, ◌∷◌, ◌++◌, [], None, IfSome, IfNone, length, true, false, is_some, eqb, ℕ};
+ghost use Rattle.std.specs.List.{list_any};
 ghost use Rattle.uv_ids.specs.declared.id.Id.{Id};
 ghost use Rattle.uv_records.specs.declared.lists.ListName.{ListName};
 ghost use Rattle.uv_records.specs.Slots.{next_free, id_of};
@@ -123,6 +124,20 @@ impl<T: Copy> Slots<T> {
     {
         self.is_sound();
         self.head(FREE)
+    }
+
+    /// Whether a slot is on the free list.
+    pub fn is_free(&self, slot: u32) -> bool
+        ensures { result ≡ list_any (λ n. n == slot) (chain self.now.memory FREE) }
+    {
+        self.is_sound();
+        if slot >= self.used() {
+            return false;
+        }
+        match self.memory.links(slot).list {
+            None => false,
+            Some(list) => list == FREE,
+        }
     }
 
     /// The last free slot.

@@ -1,13 +1,14 @@
 //! The phases of a run, and one step.
 ghost use Rattle.std.specs.Prelude.{◌≡◌, ◌<◌, ◌+◌, ◌^◌, IfOk, IfSome, OnErr, length, slice_get, drop, None, Some};
-ghost use Rattle.uv_script.specs.Program.{lines_in, is_for};
+ghost use Rattle.uv_script.specs.Program.{lines_in};
 ghost use Rattle.uv_model.specs.State.{named};
 ghost use Rattle.uv_model.specs.Bounds.{CanStep, AreBelow};
 ghost use Rattle.uv_model.specs.Handing.{job_run};
 ghost use Rattle.uv_ids.specs.declared.event.Event.TheVariants.{Finish};
-ghost use Rattle.uv_model.specs.Next.{Moves, next_line, body_at, body_from, begins, new_iteration, ends, goes, enter, begin_poll, poll, begin_timers, leave_timers, calls, call, fire, first_due, collect, timers, stage_step, body_step, main_step, sent_to, tick, next};
+ghost use Rattle.uv_model.specs.Next.{Moves, begins, new_iteration, ends, goes, enter, begin_poll, poll, begin_timers, leave_timers, calls, call, fire, first_due, collect, timers, stage_step, body_step, main_step, sent_to, tick, next};
 ghost use Rattle.uv_model.specs.Steps.{Steps, Falls};
 
+use crate::bodies::body_from;
 use crate::machine::Outcome;
 use crate::named::Named;
 use crate::place::{Body, Place, Run, Stage, TimersOf, Timing};
@@ -15,7 +16,7 @@ use crate::state::LoopState;
 use std::alloc::AllocError;
 use uv_ids::{Callback, Event, Fault, Id, Mode, Phase, Seen, Site, Var, Why};
 use uv_records::{HandleRecord, WatcherKind};
-use uv_script::{CallbackLine, MainOp, Script};
+use uv_script::{MainOp, Script};
 use uv_work::WorkResult;
 
 /// A step that appended a line.
@@ -23,32 +24,6 @@ pub(super) fn seen(seen: Seen) -> Outcome
     ensures { result.seen ≡ Some seen }
 {
     Outcome { seen: Some(seen) }
-}
-
-/// Whether a line is for a call.
-fn is_for(line: CallbackLine, call: u32) -> bool
-    ensures { result ≡ is_for call line.call }
-{
-    line.call.is_none_or(|k| k == call)
-}
-
-/// The body of a call, if it has a line from this one on.
-#[tactic(auto, using(crate::proofs::Lines::steps))]
-fn body_from(script: &Script, kind: Callback, name: Var, call: u32, from: usize) -> Option<Body>
-    ensures { result ≡ body_from script.now kind name call from }
-{
-    let lines = script.lines_in(kind, name);
-    for next in from..lines.len() {
-        if is_for(lines[next], call) {
-            return Some(Body {
-                callback: kind,
-                name,
-                call,
-                next,
-            });
-        }
-    }
-    None
 }
 
 impl LoopState {

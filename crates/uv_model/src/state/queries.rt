@@ -1,25 +1,15 @@
 //! What can be asked of a state.
 ghost use Rattle.std.specs.Prelude.{◌≡◌, IfOk, length};
-ghost use Rattle.uv_work.specs.Pool.{is_run};
 ghost use Rattle.uv_model.specs.Queries.{numbers, timer_ids, members, run_by, worker_of};
 
 use crate::arena::Arena;
 use crate::numbers::Numbers;
 use crate::place::Place;
+use crate::running::runner_of;
 use crate::state::LoopState;
 use std::alloc::{AllocError, Global};
 use uv_ids::Id;
 use uv_records::ListName;
-
-/// Whether what a worker runs is this request.
-fn is_run(run: Option<Id>, id: Id) -> bool
-    ensures { result ≡ is_run run id }
-{
-    match run {
-        Some(its) => its == id,
-        None => false,
-    }
-}
 
 impl LoopState {
     /// Where the loop stands.
@@ -97,15 +87,9 @@ impl LoopState {
     }
 
     /// The worker that runs a request.
-    #[tactic(auto, using(crate::proofs::Runners::steps))]
     pub fn worker_of(&self, id: Id) -> Option<usize>
         ensures { result ≡ worker_of self.now id }
     {
-        for worker in 0..self.running.len() {
-            if is_run(self.running[worker], id) {
-                return Some(worker);
-            }
-        }
-        None
+        runner_of(&self.running, id)
     }
 }

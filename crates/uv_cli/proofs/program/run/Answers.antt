@@ -4,10 +4,12 @@ use Rattle.uv_cli.specs.Words.{IsJob}
 use Rattle.uv_cli.proofs.program.run.Goals as goal
 
 pub returns-in-Ok-Debug-clause-text : goal.returns-in-Ok-Debug-clause-text
-returns-in-Ok-Debug-clause-text g c = λ reads tells. conversed (c.in-Ok-Debug.ensures.job ∙ ap Some c.in-Ok-Debug.field-0-is) (c.debug.ensures.text reads tells)
+returns-in-Ok-Debug-clause-text g c = λ reads tells.
+    conversed (c.in-Ok-Debug.ensures.job ∙ ap Some c.in-Ok-Debug.field-0-is) (c.debug.ensures.text reads tells)
 
 pub returns-in-Ok-Replay-clause-text : goal.returns-in-Ok-Replay-clause-text
-returns-in-Ok-Replay-clause-text g c = λ reads tells. replayed (c.in-Ok-Replay.ensures.job ∙ ap Some c.in-Ok-Replay.field-0-is) (c.rerun.ensures.text reads tells)
+returns-in-Ok-Replay-clause-text g c = λ reads tells.
+    replayed (c.in-Ok-Replay.ensures.job ∙ ap Some c.in-Ok-Replay.field-0-is) (c.rerun.ensures.text reads tells)
 
 pub live-requires : goal.live-requires
 live-requires g c = (c.type_bounds.sync-H, subst IsJob c.in-Ok-Live.field-0-is c.in-Ok-Live.ensures.within)
@@ -17,7 +19,8 @@ returns-in-Ok-Live-clause-text g c = λ reads tells.
     lived c.in-Ok-Live.workers (c.in-Ok-Live.ensures.job ∙ ap Some c.in-Ok-Live.field-0-is) (c.live.ensures.text reads tells)
 
 pub returns-in-Err-BadWords-clause-text : goal.returns-in-Err-BadWords-clause-text
-returns-in-Err-BadWords-clause-text g c = λ reads tells. bad_words (c.in-Err-BadWords.ensures.none c.in-Err-BadWords.field-0-is) c.bad_words.ensures refl
+returns-in-Err-BadWords-clause-text g c = λ reads tells.
+    bad_words (c.in-Err-BadWords.ensures.none c.in-Err-BadWords.field-0-is) c.bad_words.ensures refl
 
 pub returns-in-Err-Memory-clause-text : goal.returns-in-Err-Memory-clause-text
 returns-in-Err-Memory-clause-text g c = λ reads tells. no_memory c.fail.ensures refl

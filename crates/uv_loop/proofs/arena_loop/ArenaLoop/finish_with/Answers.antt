@@ -6,6 +6,7 @@ use Rattle.uv_model.specs.After.{STEPS}
 use Rattle.uv_model.specs.Handing.{job_run}
 use Rattle.uv_step.specs.Image.{held, image_of}
 use Rattle.uv_loop.specs.Pooling.{MayFinish}
+use Rattle.uv_stands.proofs.Returning.{recorded_returns}
 use Rattle.uv_loop.proofs.Courses.{course_moved, answers_ok, answers_memory, result_refused, asked}
 use Rattle.uv_loop.proofs.Finishes.{finish_refused, finish_may, other_refused, job_there}
 use Rattle.uv_loop.proofs.arena_loop.ArenaLoop.finish_with.Goals as goal
@@ -56,7 +57,7 @@ invariant_of-self-2 c =
     (c.push.ensures.events ∙ ap (λ xs. xs ++ Finish c.args.worker ∷ []) c.reserve.ensures.same.events)
     (c.push.ensures.seen ∙ ap (λ xs. xs ++ Some line ∷ []) c.reserve.ensures.same.seen)
     (c.push.ensures.records ∙ ap (λ xs. xs ++ c.finish_work-line.result.1 ∷ []) c.reserve.ensures.same.records)
-    few c.self.invariant c.finish_work-line.ensures.recorded (c.finish_work-line.ensures.leads c.self.inside.script)
+    few c.self.invariant (recorded_returns c.finish_work-line.ensures.recorded) (c.finish_work-line.ensures.leads c.self.inside.script)
 
 pub returns-clause-answer : goal.returns-clause-answer
 returns-clause-answer c =

@@ -4,6 +4,7 @@ use Rattle.uv_ids.specs.declared.seen.Seen.TheVariants as seen
 use Rattle.uv_ids.specs.declared.fault.Why.TheVariants.{Range}
 use Rattle.uv_model.specs.After.{STEPS}
 use Rattle.uv_step.specs.Image.{held, image_of}
+use Rattle.uv_stands.proofs.Returning.{recorded_returns}
 use Rattle.uv_loop.proofs.Courses.{course_moved, answers_ok, answers_memory, answers_refused}
 use Rattle.uv_loop.proofs.Events.{send_refused, send_may, send_leads}
 use Rattle.uv_loop.proofs.arena_loop.ArenaLoop.send.Goals as goal
@@ -35,7 +36,7 @@ invariant_of-self-2 c =
     (c.push.ensures.events ∙ ap (λ xs. xs ++ Send c.args.name ∷ []) c.reserve.ensures.same.events)
     (c.push.ensures.seen ∙ ap (λ xs. xs ++ Some line ∷ []) c.reserve.ensures.same.seen)
     (c.push.ensures.records ∙ ap (λ xs. xs ++ c.send_to-code.result.1 ∷ []) c.reserve.ensures.same.records)
-    few c.self.invariant c.send_to-code.ensures.recorded
+    few c.self.invariant (recorded_returns c.send_to-code.ensures.recorded)
     (send_leads c.self.inside.script (image_of c.self.inside.memory) (image_of c.send_to-code.new.memory) c.args.name c.send_to-code.result.0 within
     c.send_to-code.ensures.code c.send_to-code.ensures.stands)
 

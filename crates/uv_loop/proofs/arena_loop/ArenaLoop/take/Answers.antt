@@ -2,6 +2,7 @@ use Rattle.std.proofs.Common.{◌<◌, [], ◌∷◌, ◌++◌, length, Some, ap
 use Rattle.uv_ids.specs.declared.event.Event.TheVariants.{Take}
 use Rattle.uv_model.specs.After.{STEPS}
 use Rattle.uv_step.specs.Image.{held, image_of}
+use Rattle.uv_stands.proofs.Returning.{recorded_returns}
 use Rattle.uv_loop.proofs.Courses.{course_moved, answers_ok, answers_memory, answers_refused}
 use Rattle.uv_loop.proofs.Takes.{take_refused, take_may}
 use Rattle.uv_loop.proofs.arena_loop.ArenaLoop.take.Goals as goal
@@ -34,7 +35,7 @@ invariant_of-self-2 c =
     (c.push.ensures.events ∙ ap (λ xs. xs ++ Take c.args.worker ∷ []) c.reserve.ensures.same.events)
     (c.push.ensures.seen ∙ ap (λ xs. xs ++ Some line ∷ []) c.reserve.ensures.same.seen)
     (c.push.ensures.records ∙ ap (λ xs. xs ++ c.take_work-line.result.1 ∷ []) c.reserve.ensures.same.records)
-    few c.self.invariant c.take_work-line.ensures.recorded (c.take_work-line.ensures.leads c.self.inside.script)
+    few c.self.invariant (recorded_returns c.take_work-line.ensures.recorded) (c.take_work-line.ensures.leads c.self.inside.script)
 
 pub returns-clause-answer : goal.returns-clause-answer
 returns-clause-answer c =

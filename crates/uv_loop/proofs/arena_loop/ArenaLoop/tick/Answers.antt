@@ -4,6 +4,7 @@ use Rattle.uv_ids.specs.declared.seen.Seen.TheVariants as seen
 use Rattle.uv_ids.specs.declared.fault.Why.TheVariants.{Range}
 use Rattle.uv_model.specs.After.{STEPS}
 use Rattle.uv_step.specs.Image.{held, image_of}
+use Rattle.uv_stands.proofs.Returning.{recorded_returns}
 use Rattle.uv_loop.proofs.Courses.{course_moved, answers_ok, answers_memory, answers_refused}
 use Rattle.uv_loop.proofs.Events.{tick_refused, tick_may, tick_leads}
 use Rattle.uv_loop.proofs.arena_loop.ArenaLoop.tick.Goals as goal
@@ -31,7 +32,7 @@ invariant_of-self-2 c =
     (c.push.ensures.events ∙ ap (λ xs. xs ++ Tick c.args.ms ∷ []) c.reserve.ensures.same.events)
     (c.push.ensures.seen ∙ ap (λ xs. xs ++ Some (seen.Tick c.args.ms) ∷ []) c.reserve.ensures.same.seen)
     (c.push.ensures.records ∙ ap (λ xs. xs ++ c.tick-step_record.result ∷ []) c.reserve.ensures.same.records)
-    few c.self.invariant c.tick-step_record.ensures.recorded
+    few c.self.invariant (recorded_returns c.tick-step_record.ensures.recorded)
     (tick_leads c.self.inside.script (image_of c.self.inside.memory) (image_of c.tick-step_record.new.self) c.args.ms c.in-Some.ensures.some
     c.tick-step_record.ensures.image)
 

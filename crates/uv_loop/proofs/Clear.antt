@@ -1,0 +1,48 @@
+-- Where a section may begin, none of its list is yet to run: so the state says, and so it is in the memory.
+use Rattle.std.proofs.Common.{◌≡◌, List, [], ◌∷◌, map, Option, Some, None, refl, sym, ◌∙◌, subst}
+use Rattle.uv_records.specs.declared.lists.ListName.{ListName}
+use Rattle.uv_records.specs.declared.lists.ListName.TheVariants as name
+use Rattle.uv_arena.specs.Image as arena
+use Rattle.uv_requests.specs.Working.{id_in}
+use Rattle.uv_model.specs.declared.place.Body.{Body}
+use Rattle.uv_model.specs.declared.place.Place.{Place}
+use Rattle.uv_model.specs.declared.place.Place.TheVariants.{Main, Running}
+use Rattle.uv_model.specs.declared.place.Stage.{Stage}
+use Rattle.uv_model.specs.declared.place.Stage.TheVariants as stage
+use Rattle.uv_model.specs.State.{State}
+use Rattle.uv_model.specs.Queries.{members}
+use Rattle.uv_order.specs.Reached.{IsReached, BeginsBehind, BeginsIn, BeginsAt}
+use Rattle.uv_step.specs.Image.{Image}
+use Rattle.uv_stands.specs.Stands.{StandsFor}
+use Rattle.uv_loop.specs.Begins.{IsClear, IsClearAt, IsClearIn, IsClearBehind}
+
+none_mapped : {A B : Type 0} (f : A → B) (xs : List A) → [] ≡ map f xs → xs ≡ []
+none_mapped f [] e = refl
+none_mapped f (x ∷ xs) e = cc
+
+module _ (i : Image Place) (s : State) (h : StandsFor i s) where
+  empty : (l : ListName) → members s l ≡ [] → arena.members i.arena l ≡ []
+  empty l none = none_mapped (id_in i.arena) (arena.members i.arena l) (sym none ∙ h.lists l)
+
+  behind : (x : Stage) → BeginsBehind x s → IsClearBehind x i.arena
+  behind stage.Entry e = tt
+  behind stage.Pending e = empty name.IdleYet e
+  behind stage.Idle e = empty name.PrepareYet e
+  behind stage.Prepare e = tt
+  behind (stage.Poll deadline) e = empty name.DoneYet e
+  behind stage.Done e = empty name.AsyncYet e
+  behind stage.Async e = empty name.CheckYet e
+  behind stage.Check e = empty name.ClosingYet e
+  behind stage.Closing e = tt
+  behind (stage.Timers part timing) e = tt
+
+  inside : (b : Option Body) (x : Stage) → BeginsIn b x s → IsClearIn b x i.arena
+  inside None x e = behind x e
+  inside (Some b) x e = tt
+
+  at : (p : Place) → BeginsAt p s → IsClearAt p i.arena
+  at (Main line) e = tt
+  at (Running run) e = inside run.body run.stage e
+
+  pub is_clear : IsReached s → IsClear i
+  is_clear r = subst (λ p. IsClearAt p i.arena) (sym h.place) (at s.place r.begins)

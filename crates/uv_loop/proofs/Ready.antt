@@ -1,0 +1,63 @@
+-- What each step of the loop finds in the memory: it follows from the steps that stand.
+use Rattle.std.proofs.Common.{◌≡◌, ◌<◌, ◌^◌, ℕ, List, slice_get, Option, unwrap_or, refl, sym, ap, ◌∙◌, subst, arith}
+use Rattle.uv_ids.specs.declared.event.Event.{Event}
+use Rattle.uv_ids.specs.declared.seen.Seen.{Seen}
+use Rattle.uv_ids.specs.declared.seen.Callback.{Callback}
+use Rattle.uv_ids.specs.declared.seen.Callback.TheVariants as callback
+use Rattle.uv_script.specs.Program.{Program, arena_size}
+use Rattle.uv_model.specs.declared.named.Named as bound
+use Rattle.uv_model.specs.declared.place.Place.{Place}
+use Rattle.uv_model.specs.Bounds.{AreBelow, CanStep, line_of}
+use Rattle.uv_model.specs.State as state
+use Rattle.uv_model.specs.State.{State}
+use Rattle.uv_model.specs.After.{after}
+use Rattle.uv_model.proofs.Bounded.{after_able}
+use Rattle.uv_model.proofs.Calls.{at_name}
+use Rattle.uv_order.proofs.Reaching.{reached}
+use Rattle.uv_step.specs.declared.named.Named.{Named}
+use Rattle.uv_step.specs.declared.record.Record.{Record}
+use Rattle.uv_step.specs.Image.{Image, Held}
+use Rattle.uv_step.specs.Names.{named, count_of}
+use Rattle.uv_stands.specs.Contents.{named_of}
+use Rattle.uv_stands.specs.Stands.{StandsFor}
+use Rattle.uv_stands.specs.Ready.{IsReady}
+use Rattle.uv_stands.proofs.Values.{named_as}
+use Rattle.uv_stands.proofs.Loose.{idle_loose}
+use Rattle.uv_loop.specs.Course.{IsCourse}
+use Rattle.uv_loop.specs.Begins.{IsClear}
+use Rattle.uv_loop.proofs.Clear.{is_clear}
+use Rattle.uv_loop.proofs.Lasts.{unwound_limits}
+use Rattle.uv_loop.proofs.Courses.{course_stands}
+
+-- a count of a name that is small is small in the memory
+count_below : (m : ℕ) (k : Callback) (n : bound.Named) → AreBelow m n.calls → count_of k (named_of n).calls < m
+count_below m callback.Handle n b = b.0
+count_below m callback.After n b = b.1
+count_below m callback.Close n b = b.2
+
+module _ (p : Program) (es : List Event) (seen : List (Option Seen)) (rs : List (Record Place)) (h : Held Place) (c : IsCourse p es seen rs h) where
+  pub course_ready : IsReady h
+  course_ready =
+      let s = after p es in
+      let stands : StandsFor h.image s = course_stands p es seen rs h c in
+      let able : CanStep s = after_able p es (let few = c.few in omega (arith, few)) in
+      let size : h.image.arena.memory.row.capacity ≡ (arena_size p).slots =
+      sym (ap (λ (n : ℕ × ℕ). n.1) (unwound_limits rs h.image)) ∙ ap (λ (i : Image Place). i.arena.memory.row.capacity) c.begins in
+      record {
+        fit = c.fit;
+        room = (let room = c.room in omega (arith, room, size));
+        starts = (let small = able.small.starts in let same = stands.next_start in omega (arith, small, same));
+        time = (let small = able.small.time in let same = stands.time in omega (arith, small, same));
+        line = subst (λ q. line_of q < 2 ^ 63) (sym stands.place) able.small.line;
+        calls = λ v k. subst (λ (n : Named). count_of k n.calls < 2 ^ 31)
+            (sym (ap (λ ns. named ns v) stands.names ∙ named_as s.names v))
+            (count_below (2 ^ 31) k (unwrap_or (slice_get s.names v) state.unbound)
+            (at_name (2 ^ 31) s.names v (slice_get s.names v) refl able.small.counts (omega arith)));
+        loose = λ d r there. idle_loose h.image s stands (reached p es) c.fit d r there;
+      }
+
+  pub course_last : h.image.arena.last ≡ (arena_size p).last_generation
+  course_last = sym (ap (λ (n : ℕ × ℕ). n.0) (unwound_limits rs h.image)) ∙ ap (λ (i : Image Place). i.arena.last) c.begins
+
+  pub course_clear : IsClear h.image
+  course_clear = is_clear h.image (after p es) (course_stands p es seen rs h c) (reached p es)

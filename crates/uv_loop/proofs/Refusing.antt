@@ -1,0 +1,40 @@
+-- What a step of the loop does, by where the memory stands.
+use Rattle.std.proofs.Common.{◌≡◌, ℕ, slice_get, Option, Some, None, Result, Ok, Err, sym, ap, ◌∙◌}
+use Rattle.uv_ids.specs.declared.seen.Seen.{Seen}
+use Rattle.uv_ids.specs.declared.fault.Why.{Why}
+use Rattle.uv_ids.specs.declared.event.Event.TheVariants.{Loop}
+use Rattle.uv_script.specs.Program.{Program}
+use Rattle.uv_model.specs.declared.place.Place.{Place}
+use Rattle.uv_model.specs.declared.place.Place.TheVariants.{Main, Running}
+use Rattle.uv_model.specs.declared.place.Run.{Run}
+use Rattle.uv_model.specs.State.{State}
+use Rattle.uv_model.specs.Next.{Next, Moves, Refuses, next, loop_step, main_step, run_step}
+use Rattle.uv_model.specs.After.{refusal_of, IsMove}
+use Rattle.uv_step.specs.declared.record.Record.{Record}
+use Rattle.uv_step.specs.Image.{Image, Held}
+use Rattle.uv_stands.specs.Stands.{StandsFor}
+use Rattle.uv_loop.specs.Turning.{Turns}
+
+module _ (p : Program) (i : Image Place) (s : State) (h : StandsFor i s) where
+  pub main_there : (line : ℕ) → i.place ≡ Main line → next p s Loop ≡ main_step s line (slice_get p.main line)
+  unfolding next
+  main_there line is = ap (loop_step p s) (sym h.place ∙ is)
+
+  pub run_there : (run : Run) → i.place ≡ Running run → next p s Loop ≡ run_step p s run run.body
+  unfolding next
+  run_there run is = ap (loop_step p s) (sym h.place ∙ is)
+
+-- a step that does the same to each state answers the same
+pub turns_by : (f g : State → Next) (h k : Held Place) (r : Result (Option Seen × Record Place) Why)
+    → ((s : State) → StandsFor h.image s → g s ≡ f s) → Turns f h k r → Turns g h k r
+turns_by f g h k (Ok r) same t = (t.0, λ s stands reached. let q = t.1 s stands reached in (q.0, same s stands ∙ q.1, q.2))
+turns_by f g h k (Err why) same t = (t.0, λ s stands reached. same s stands ∙ t.1 s stands reached)
+
+-- a step is refused so, or taken, by why it is refused
+pub refuses_by : (n : Next) (why : Why) → refusal_of n ≡ Some why → n ≡ Refuses why
+refuses_by (Moves t line) why e = cc
+refuses_by (Refuses w) why e = let same : w ≡ why = cc e in ap (λ x. Refuses x) same
+
+pub moves_by : (n : Next) → refusal_of n ≡ None → IsMove n
+moves_by (Moves t line) e = tt
+moves_by (Refuses w) e = cc

@@ -1,0 +1,85 @@
+-- A list is walked from its front.
+use Rattle.std.proofs.Common.{◌≡◌, ℕ, zero, suc, ◌<◌, List, [], ◌∷◌, ◌++◌, map, length, slice_get, Option, Some, None, IfSome, sym, ap, ◌∙◌, subst, arith}
+use Rattle.std.proofs.lemmas.Option.{slice_get_within}
+use Rattle.std.proofs.lemmas.List.{map-append, length-map, append_assoc}
+use Rattle.uv_ids.specs.declared.id.Id.{Id}
+use Rattle.uv_records.specs.declared.lists.ListName.{ListName}
+use Rattle.uv_arena.specs.declared.links.Cell.{Cell}
+use Rattle.uv_arena.specs.declared.links.Links.{Links}
+use Rattle.uv_arena.specs.Chains.{first, last, link, IsSegment}
+use Rattle.uv_arena.specs.Calls.{slot_of, IsListed}
+use Rattle.uv_arena.specs.Image.{Image, FREE, IsSound, members, chain, chains, links_in, links_at}
+use Rattle.uv_arena.proofs.Lists.{segment_right}
+use Rattle.uv_requests.specs.Working.{id_in}
+use Rattle.uv_requests.proofs.Holding.{listed_id}
+use Rattle.uv_step.specs.declared.content.Content.{Content}
+
+-- these were walked, and this one is next
+pub record IsWalked (i : Image Content) (list : ListName) (ids : List Id) (next : Option Id) : Type 0 where
+  pub walked : List ℕ
+  pub rest : List ℕ
+  pub is : members i list ≡ walked ++ rest
+  pub ids_are : ids ≡ map (id_in i) walked
+  pub next_is : slot_of next ≡ first rest None
+  pub listed : IfSome next (λ d. IsListed i d)
+
+begins_with : (rest : List ℕ) (x : ℕ) → Some x ≡ first rest None → (rs : List ℕ) × (rest ≡ x ∷ rs)
+begins_with [] x e = cc
+begins_with (y ∷ ys) x e = let same : y ≡ x = cc e in (ys, λ l. same l ∷ ys)
+
+module _ (i : Image Content) (list : ListName) where
+  pub walk_goes : (ids more : List Id) (d : Id) (next : Option Id) → more ≡ ids ++ d ∷ [] → IsWalked i list ids (Some d)
+      → ((l : ListName) (us vs : List ℕ) → members i l ≡ us ++ d.slot ∷ vs → slot_of next ≡ first vs None) → IfSome next (λ e. IsListed i e)
+      → IsWalked i list more next
+  walk_goes ids more d next longer w after listed =
+      let at = begins_with w.rest d.slot w.next_is in
+      let apart : members i list ≡ w.walked ++ d.slot ∷ at.0 = w.is ∙ ap (λ r. w.walked ++ r) at.1 in
+      record {
+        walked = w.walked ++ d.slot ∷ [];
+        rest = at.0;
+        is = apart ∙ sym (append_assoc w.walked (d.slot ∷ []) at.0);
+        ids_are = longer ∙ ap (λ xs. xs ++ d ∷ []) w.ids_are
+            ∙ ap (λ e. map (id_in i) w.walked ++ e ∷ []) (sym (listed_id i d w.listed.held))
+            ∙ sym (map-append (id_in i) w.walked (d.slot ∷ []));
+        next_is = after list w.walked at.0 apart;
+        listed = listed;
+      }
+
+-- ---- the free list
+
+by_links : (cs : List (Cell Content)) (y : ℕ) (l : Links) → slice_get (map (λ (c : Cell Content). c.links) cs) y ≡ Some l
+    → links_in (slice_get cs y) ≡ l
+by_links [] y l e = cc
+by_links (c ∷ cs) zero l e = let same : c.links ≡ l = cc e in same
+by_links (c ∷ cs) (suc y) l e = by_links cs y l e
+
+-- these were walked, and this one is next
+pub record IsFreeWalked (i : Image Content) (free : List ℕ) (next : Option ℕ) : Type 0 where
+  pub rest : List ℕ
+  pub is : chain i.memory FREE ≡ free ++ rest
+  pub next_is : next ≡ first rest None
+
+module _ (i : Image Content) (sound : IsSound i) (free : List ℕ) (x : ℕ) (w : IsFreeWalked i free (Some x)) where
+  abbrev at : (rs : List ℕ) × (w.rest ≡ x ∷ rs)
+  at = begins_with w.rest x w.next_is
+
+  apart : chain i.memory FREE ≡ free ++ x ∷ at.0
+  apart = w.is ∙ ap (λ r. free ++ r) at.1
+
+  linked : slice_get (chains i.memory).links x ≡ Some (link FREE (last None free) (first at.0 None))
+  linked =
+      (segment_right (chains i.memory).links FREE None free (x ∷ at.0) None
+      (subst (λ q. IsSegment (chains i.memory).links FREE None q None) apart (sound.linked.stands.lists FREE (omega arith)).segment)).0
+
+  pub free_within : x < length i.memory.row.items
+  free_within =
+      let l = slice_get_within (chains i.memory).links x (link FREE (last None free) (first at.0 None)) linked in
+      let same = length-map i.memory.row.items (λ (c : Cell Content). c.links) in
+      omega (arith, l, same)
+
+  pub free_goes : (more : List ℕ) (links : Links) → more ≡ free ++ x ∷ [] → links ≡ links_at i.memory x → IsFreeWalked i more links.next
+  free_goes more links longer is = record {
+    rest = at.0;
+    is = apart ∙ sym (append_assoc free (x ∷ []) at.0) ∙ ap (λ f. f ++ at.0) (sym longer);
+    next_is = ap (λ (l : Links). l.next) (is ∙ by_links i.memory.row.items x (link FREE (last None free) (first at.0 None)) linked);
+  }

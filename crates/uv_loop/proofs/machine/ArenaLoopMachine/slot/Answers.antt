@@ -1,0 +1,9 @@
+use Rattle.std.proofs.Common.{◌≡◌, slice_get, sym}
+use Rattle.uv_step.specs.Image.{held}
+use Rattle.uv_loop.proofs.Courses.{asked}
+use Rattle.uv_loop.proofs.machine.ArenaLoopMachine.slot.Goals as goal
+
+pub returns : goal.returns
+returns c =
+    asked _ _ _ _ (held c.self.inside.memory) _ c.self.view_is c.self.invariant
+    (λ s. c.shown_slot.result ≡ slice_get s.arena.slots c.args.number) (λ s h. sym (c.shown_slot.ensures s h))

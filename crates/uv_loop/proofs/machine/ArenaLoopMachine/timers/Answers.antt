@@ -1,0 +1,9 @@
+use Rattle.std.proofs.Common.{◌≡◌}
+use Rattle.uv_model.specs.Queries.{timer_ids}
+use Rattle.uv_step.specs.Image.{held}
+use Rattle.uv_loop.proofs.Courses.{asked_each}
+use Rattle.uv_loop.proofs.machine.ArenaLoopMachine.timers.Goals as goal
+
+pub returns-clause-timers : goal.returns-clause-timers
+returns-clause-timers c =
+    asked_each _ _ _ _ (held c.self.inside.memory) _ c.self.view_is c.self.invariant (λ s. c.in_ok-ids.ids.items ≡ timer_ids s) c.in_ok-ids.ensures

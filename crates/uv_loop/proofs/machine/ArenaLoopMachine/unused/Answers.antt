@@ -1,0 +1,12 @@
+use Rattle.std.proofs.Common.{◌≡◌, ◌-◌, ap, ◌∙◌}
+use Rattle.uv_records.specs.Slots.{Slots}
+use Rattle.uv_step.specs.declared.content.Content.{Content}
+use Rattle.uv_step.specs.Image.{held}
+use Rattle.uv_loop.proofs.Courses.{asked}
+use Rattle.uv_loop.proofs.machine.ArenaLoopMachine.unused.Goals as goal
+
+pub returns : goal.returns
+returns c =
+    asked _ _ _ _ (held c.self.inside.memory) _ c.self.view_is c.self.invariant
+    (λ s. c.capacity.result - c.used.result ≡ s.arena.unused)
+    (λ s h. (λ l. c.capacity.ensures l - c.used.ensures.used l) ∙ ap (λ (q : Slots Content). q.unused) h.slots)

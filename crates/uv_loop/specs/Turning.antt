@@ -1,0 +1,24 @@
+-- What a step of the loop may answer.
+use Rattle.std.specs.Prelude.{◌≡◌, Option, Result, Ok, Err}
+use Rattle.uv_ids.specs.declared.code.Answer.{Answer}
+use Rattle.uv_ids.specs.declared.seen.Seen.{Seen}
+use Rattle.uv_script.specs.declared.op.Op.{Op}
+use Rattle.uv_ids.specs.declared.fault.Why.{Why}
+use Rattle.uv_model.specs.declared.place.Place.{Place}
+use Rattle.uv_model.specs.State.{State}
+use Rattle.uv_model.specs.Next.{Next, Refuses}
+use Rattle.uv_model.specs.Ops.{do_op}
+use Rattle.uv_step.specs.declared.record.Record.{Record}
+use Rattle.uv_step.specs.Image.{Image, Held}
+use Rattle.uv_stands.specs.Stands.{StandsFor}
+use Rattle.uv_stands.specs.Doing.{Returns, OfEach, Goes}
+
+-- its line, if it has one, and what takes it back, where each state goes on so; or why it is refused, and nothing changes
+abbrev pub Turns : (State → Next) → Held Place → Held Place → Result (Option Seen × Record Place) Why → Type 0
+Turns f h k (Ok r) = Returns r.1 h k × Goes f h.image k.image r.0
+Turns f h k (Err why) = (k ≡ h) × OfEach h.image (λ s. f s ≡ Refuses why)
+
+-- an op with its answer, after which the loop is at this place
+abbrev pub PerformsAt : Op → Place → Image Place → Image Place → Answer → Type 0
+PerformsAt op place i j answer = OfEach i (λ s. (t : State) × (do_op s op ≡ record { state = t; answer = answer })
+    × StandsFor j (record t { place = place }))

@@ -1,0 +1,89 @@
+//! The ops of bodies and of the main program.
+ghost use Rattle.std.specs.Prelude.{◌≡◌, ◌<◌, ◌^◌, Ok as done, None, Some, IfSome, slice_get};
+ghost use Rattle.uv_script.specs.Program.{Program, lines_in};
+ghost use Rattle.uv_model.specs.declared.place.Body.{Body};
+ghost use Rattle.uv_model.specs.Next.{body_step, main_step};
+ghost use Rattle.uv_step.specs.Image.{held};
+ghost use Rattle.uv_stands.specs.Doing.{Returns};
+ghost use Rattle.uv_stands.specs.Ready.{IsReady};
+ghost use Rattle.uv_loop.specs.Turning.{Turns, PerformsAt};
+
+use crate::staging::Turn;
+use uv_ids::{Answer, Seen, Site, Why};
+use uv_model::{Body, Place, Run, body_from};
+use uv_ops::perform;
+use uv_script::{CallbackLine, MainOp, Op, Script};
+use uv_sections::{begin_run, stand_at};
+use uv_step::{Memory, Record};
+
+/// Does an op, after which the loop is at this place.
+fn perform_at(memory: &mut Memory<Place>, op: Op, place: Place) -> (Answer, Record<Place>)
+    requires ready { IsReady (held memory.old) }
+    ensures returns { Returns result.1 (held memory.old) (held memory.new) }
+    ensures performs { PerformsAt op place (held memory.old).image (held memory.new).image result.0 }
+{
+    let (answer, performed) = perform(memory, op);
+    let step_record = stand_at(memory, performed, place);
+    (answer, step_record)
+}
+
+/// The body under way is over.
+fn leave_body(memory: &mut Memory<Place>, run: Run) -> Record<Place>
+    requires ready { IsReady (held memory.old) }
+    ensures turns { (p : Program) → (body : Body) → Turns (λ s. body_step p s run body None)
+        (held memory.old) (held memory.new) (done (None, result)) }
+{
+    let step_record = memory.pass();
+    stand_at(
+        memory,
+        step_record,
+        Place::Running(Run { body: None, ..run }),
+    )
+}
+
+/// The line that a body does next, if it has one.
+fn line_of(script: &Script, body: Body) -> Option<CallbackLine>
+    ensures line { result ≡ slice_get (lines_in script.now body.callback body.name) body.next }
+    ensures within { IfSome result (λ _. body.next < 2 ^ 63) }
+{
+    let lines = script.lines_in(body.callback, body.name);
+    lines.get(body.next).copied()
+}
+
+/// The body under way does its next op.
+pub(crate) fn in_body(memory: &mut Memory<Place>, script: &Script, run: Run, body: Body) -> Turn
+    requires ready { IsReady (held memory.old) }
+    ensures turns { Turns
+        (λ s. body_step script.now s run body (slice_get (lines_in script.now body.callback body.name) body.next))
+        (held memory.old) (held memory.new) (done result) }
+{
+    match line_of(script, body) {
+        None => (None, leave_body(memory, run)),
+        Some(line) => {
+            let rest = body_from(script, body.callback, body.name, body.call, body.next + 1);
+            let place = Place::Running(Run { body: rest, ..run });
+            let (answer, step_record) = perform_at(memory, line.op, place);
+            let site = Site::In(body.callback, body.name, body.next);
+            (Some(Seen::Op(site, answer)), step_record)
+        }
+    }
+}
+
+/// The main program does its next line; past its end the step is refused.
+pub(crate) fn in_main(memory: &mut Memory<Place>, script: &Script, line: usize) -> Result<Turn, Why>
+    requires ready { IsReady (held memory.old) }
+    requires line { line < 2 ^ 63 }
+    ensures turns { Turns (λ s. main_step s line (slice_get script.now.main line)) (held memory.old) (held memory.new) result }
+{
+    match script.main_op(line) {
+        None => Err(Why::Ended),
+        Some(MainOp::Run(mode)) => {
+            let (seen, step_record) = begin_run(memory, line, mode);
+            Ok((Some(seen), step_record))
+        }
+        Some(MainOp::Op(op)) => {
+            let (answer, step_record) = perform_at(memory, op, Place::Main(line + 1));
+            Ok((Some(Seen::Op(Site::Main(line), answer)), step_record))
+        }
+    }
+}

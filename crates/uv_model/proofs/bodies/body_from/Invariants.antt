@@ -1,0 +1,7 @@
+use Rattle.std.proofs.Common.{◌≡◌, drop}
+use Rattle.uv_model.specs.Next.{next_line}
+use Rattle.uv_model.proofs.bodies.body_from.Given as goal
+
+-- the first line for the call is among those that are left
+abbrev pub invariant-loop-next : goal.invariant-loop-next
+invariant-loop-next l = next_line l.call l.next (drop l.next l.lines) ≡ next_line l.call l.from (drop l.from l.lines)

@@ -1,0 +1,104 @@
+-- A handle is made, and a name bound to it.
+use Rattle.std.proofs.Common.{◌≡◌, ◌≢◌, ◌∷◌, [], ◌++◌, Bool, true, false, if◌then◌else◌, Some, is_some, refl, sym, ap, ◌∙◌, subst}
+use Rattle.uv_ids.specs.declared.id.Id.{Id}
+use Rattle.uv_ids.specs.declared.id.Var.{Var}
+use Rattle.uv_ids.specs.declared.phase.Kind.{Kind}
+use Rattle.uv_ids.specs.declared.phase.Kind.TheVariants as kind
+use Rattle.uv_ids.specs.declared.code.Answer.TheVariants as answer
+use Rattle.uv_script.specs.declared.op.Op.TheVariants as op
+use Rattle.uv_records.specs.declared.lists.ListName.{ListName}
+use Rattle.uv_records.specs.declared.lists.ListName.TheVariants as name
+use Rattle.uv_records.specs.Handles as records
+use Rattle.uv_records.specs.Handles.{inited}
+use Rattle.uv_records.specs.Slots.{taken}
+use Rattle.uv_records.specs.Walks.{with_last}
+use Rattle.uv_arena.specs.Image as arena
+use Rattle.uv_arena.specs.Image.{IsSound, plain_slots}
+use Rattle.uv_requests.proofs.Holding.{id_is}
+use Rattle.uv_model.specs.declared.content.Content as content
+use Rattle.uv_model.specs.declared.content.Content.TheVariants as holds
+use Rattle.uv_model.specs.declared.place.Place.{Place}
+use Rattle.uv_model.specs.State.{State, live}
+use Rattle.uv_model.specs.Ops.{listed_last, with_new}
+use Rattle.uv_step.specs.declared.content.Content.{Content}
+use Rattle.uv_step.specs.declared.content.Content.TheVariants.{Handle}
+use Rattle.uv_step.specs.declared.record.Added.{Added}
+use Rattle.uv_step.specs.declared.record.Change.TheVariants as change
+use Rattle.uv_step.specs.declared.record.Record.{Record}
+use Rattle.uv_step.specs.Does.{By, IsMade, JoinsIf, is_async}
+use Rattle.uv_step.specs.Image.{Image, Held, counted_of}
+use Rattle.uv_step.specs.Names.{binding}
+use Rattle.uv_step.specs.Undo.{Recorded}
+use Rattle.uv_stands.specs.Doing.{Performs}
+use Rattle.uv_stands.specs.Stands.{StandsFor}
+use Rattle.uv_stands.proofs.Lists.{list_stays}
+use Rattle.uv_stands.proofs.Values.{bound_stands}
+use Rattle.uv_ops.proofs.Frames.{added_frame}
+use Rattle.uv_ops.proofs.Made.{make_done, taken_ids, at_end, with_asyncs, handle_stands}
+
+-- which kinds are listed as they are made, in the memory and in the state
+async_as : (k : Kind) → records.is_async k ≡ is_async k
+async_as kind.Timer = refl
+async_as kind.Idle = refl
+async_as kind.Prepare = refl
+async_as kind.Check = refl
+async_as kind.Async = refl
+
+module _ (r : Record Place) (h w : Held Place) (recorded : Recorded r h w) (sound : IsSound w.image.arena) (v : Var) (k : Kind) (d : Id) (u : Added)
+    (is : r.change ≡ change.Added u) (c : IsMade (counted_of h.image) (counted_of w.image) v k d u) where
+  abbrev new : content.Content
+  new = holds.Handle (inited v k)
+
+  abbrev a : arena.Image Content
+  a = w.image.arena
+
+  abbrev mid : Image Place
+  mid = record h.image { arena = a; active = w.image.active }
+
+  slots : (b : Bool) → JoinsIf b c.mid a d → plain_slots a ≡ taken d (Handle (inited v k)) (plain_slots h.image.arena)
+  slots false e = ap plain_slots e ∙ c.added.inserted.plain
+  slots true e = e.slots.plain ∙ c.added.inserted.plain
+
+  others : (b : Bool) → JoinsIf b c.mid a d → (l : ListName) → l ≢ name.Async → arena.members a l ≡ arena.members h.image.arena l
+  others false e l ne = ap (λ q. arena.members q l) e ∙ c.added.inserted.lists l
+  others true e l ne = e.others l ne ∙ c.added.inserted.lists l
+
+  module _ (s : State) (stands : StandsFor h.image s) where
+    listed_stands : (b : Bool) → records.is_async k ≡ b → JoinsIf b c.mid a d
+        → StandsFor mid (listed_last (record s { arena = taken d new s.arena }) k d)
+    listed_stands false apart e =
+        let plain = slots false e in
+        let ids = taken_ids h.image s stands a d new c.added.inserted.next plain in
+        let t = with_asyncs h.image s stands a d new c.added.inserted.next plain s.async.list in
+        subst (λ (b : Bool). StandsFor mid (if b then record t { async = with_last t.async d } else t))
+        (sym apart)
+        (handle_stands h.image s stands a d new c.added.inserted.next plain s.async.list w.image.active (others false e)
+        (list_stays h.image s stands a s name.Async ids (ap (λ q. arena.members q name.Async) e ∙ c.added.inserted.lists name.Async) refl)
+        sound recorded.fit.counts)
+    listed_stands true joins e =
+        let plain = slots true e in
+        let t = with_asyncs h.image s stands a d new c.added.inserted.next plain s.async.list in
+        let one = id_is a d (Handle (inited v k)) (e.slots.contents d ∙ c.added.inserted.now) in
+        subst (λ (b : Bool). StandsFor mid (if b then record t { async = with_last t.async d } else t))
+        (sym joins)
+        (handle_stands h.image s stands a d new c.added.inserted.next plain (s.async.list ++ d ∷ []) w.image.active (others true e)
+        (at_end h.image s stands a d new c.added.inserted.next plain name.Async one
+        (e.lists ∙ ap (λ xs. xs ++ d.slot ∷ []) (c.added.inserted.lists name.Async)))
+        sound recorded.fit.counts)
+
+    new_stands : StandsFor (record w.image { names = binding v.0 (Some d) w.image.names }) (with_new s v k d)
+    new_stands =
+        let t = listed_last (record s { arena = taken d new s.arena }) k d in
+        bound_stands w.image t v d
+        (subst (λ q. StandsFor q t) (sym (added_frame r h w recorded u is)) (listed_stands u.listed (async_as k ∙ sym c.listed) c.joins))
+
+  pub inits : ((s : State) → StandsFor h.image s → is_some (live s v) ≡ false)
+      → (j : Image Place) → j ≡ record w.image { names = binding v.0 (Some d) w.image.names } → Performs (op.Init v k) h.image j (answer.Id d)
+  inits free j same = make_done h.image v (λ s. with_new s v k) free j d c.added.inserted.next
+      (λ s stands. subst (λ q. StandsFor q (with_new s v k d)) (sym same) (new_stands s stands))
+
+pub inits_by : (r : Record Place) (h w : Held Place) → Recorded r h w → IsSound w.image.arena → (v : Var) (k : Kind) (d : Id)
+    → By change.Added (λ u. IsMade (counted_of h.image) (counted_of w.image) v k d u) r.change
+    → ((s : State) → StandsFor h.image s → is_some (live s v) ≡ false)
+    → (j : Image Place) → j ≡ record w.image { names = binding v.0 (Some d) w.image.names } → Performs (op.Init v k) h.image j (answer.Id d)
+inits_by r h w recorded sound v k d by = inits r h w recorded sound v k d by.undo by.is by.does

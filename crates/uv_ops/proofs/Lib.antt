@@ -1,0 +1,14 @@
+pub mod Refusing
+pub mod Frames
+pub mod Edited
+pub mod Valued
+pub mod Relisted
+pub mod Starting
+pub mod Leaving
+pub mod Stopping
+pub mod Taking
+pub mod Made
+pub mod Inits
+pub mod Queues
+pub mod Sends
+pub mod Cancels

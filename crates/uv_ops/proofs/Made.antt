@@ -1,0 +1,124 @@
+-- A handle is made, or a request queued: what the memory stands for then.
+use Rattle.std.proofs.Common.{◌≡◌, ◌≢◌, ℕ, ◌∷◌, [], ◌++◌, false, List, map, Option, Some, None, is_some, refl, sym, ap, ◌∙◌, subst}
+use Rattle.std.proofs.lemmas.List.{map-append}
+use Rattle.uv_ids.specs.declared.id.Id.{Id}
+use Rattle.uv_ids.specs.declared.id.Var.{Var}
+use Rattle.uv_ids.specs.declared.code.Code.TheVariants as code
+use Rattle.uv_ids.specs.declared.code.Answer.TheVariants as answer
+use Rattle.uv_records.specs.declared.lists.ListName.{ListName}
+use Rattle.uv_records.specs.declared.lists.ListName.TheVariants as name
+use Rattle.uv_records.specs.Slots as plain
+use Rattle.uv_records.specs.Slots.{next_free, taken}
+use Rattle.uv_records.specs.Count.{active_count}
+use Rattle.uv_arena.specs.Image as arena
+use Rattle.uv_arena.specs.Image.{IsSound, plain_slots}
+use Rattle.uv_handle.specs.Counted.{counted, IsCounted}
+use Rattle.uv_heap.specs.declared.entry.Entry.{Entry}
+use Rattle.uv_requests.specs.Working.{id_in}
+use Rattle.uv_model.specs.declared.content.Content as content
+use Rattle.uv_model.specs.declared.place.Place.{Place}
+use Rattle.uv_model.specs.Found.{found_or}
+use Rattle.uv_model.specs.State.{State, live}
+use Rattle.uv_model.specs.Ops.{make, refuses}
+use Rattle.uv_model.specs.Queries.{members}
+use Rattle.uv_step.specs.declared.content.Content.{Content}
+use Rattle.uv_step.specs.Content.{handle_in}
+use Rattle.uv_step.specs.Image.{Image}
+use Rattle.uv_stands.specs.Contents.{content_of, slots_of}
+use Rattle.uv_stands.specs.Doing.{Does}
+use Rattle.uv_stands.specs.Stands.{StandsFor, timer_in}
+use Rattle.uv_stands.proofs.Holding.{map_same, active_as}
+use Rattle.uv_stands.proofs.Lists.{Listed, all_but_one}
+use Rattle.uv_ops.proofs.Taking.{next_free_as, taken_as, ids_taken}
+
+-- ---- what is made, or not
+
+not_live : {A : Type 0} (o : Option A) → is_some o ≡ false → o ≡ None
+not_live None e = refl
+not_live (Some a) e = cc
+
+-- the name is bound to nothing live
+module _ (i : Image Place) (v : Var) (made : State → Id → State) (free : (s : State) → StandsFor i s → is_some (live s v) ≡ false) where
+  makes : (s : State) → StandsFor i s → (o : Option Id) → next_free (plain_slots i.arena) ≡ o
+      → make s (live s v) (made s) ≡ found_or o (λ id. record { state = made s id; answer = answer.Id id }) (refuses s code.Efull)
+  makes s h o e =
+      ap (λ x. make s x (made s)) (not_live (live s v) (free s h))
+      ∙ ap (λ x. found_or x (λ id. record { state = made s id; answer = answer.Id id }) (refuses s code.Efull))
+      (sym (next_free_as s.arena) ∙ sym (ap next_free h.slots) ∙ e)
+
+  -- no slot is left
+  pub make_full : (j : Image Place) → j ≡ i → next_free (plain_slots i.arena) ≡ None
+      → Does (λ s. make s (live s v) (made s)) i j (answer.Code code.Efull)
+  make_full j same e s h reached = (s, makes s h None e, subst (λ q. StandsFor q s) (sym same) h)
+
+  -- it is made
+  pub make_done : (j : Image Place) (d : Id) → next_free (plain_slots i.arena) ≡ Some d
+      → ((s : State) → StandsFor i s → StandsFor j (made s d)) → Does (λ s. make s (live s v) (made s)) i j (answer.Id d)
+  make_done j d e stands s h reached = (made s d, makes s h (Some d) e, stands s h)
+
+-- ---- what the memory stands for
+
+module _ (i : Image Place) (s : State) (h : StandsFor i s) (k : arena.Image Content) (d : Id) (v : content.Content)
+    (next : next_free (plain_slots i.arena) ≡ Some d) (slots : plain_slots k ≡ taken d (content_of v) (plain_slots i.arena)) where
+  pub taken_ids : (x : ℕ) → id_in k x ≡ id_in i.arena x
+  taken_ids = ids_taken i.arena k d (content_of v) next slots
+
+  pub taken_slots : plain_slots k ≡ slots_of (taken d v s.arena)
+  taken_slots = slots ∙ ap (taken d (content_of v)) h.slots ∙ taken_as s.arena d v
+
+  -- a list at whose end the new one is
+  pub at_end : (l : ListName) → id_in k d.slot ≡ d → arena.members k l ≡ arena.members i.arena l ++ d.slot ∷ []
+      → members s l ++ d ∷ [] ≡ map (id_in k) (arena.members k l)
+  at_end l one more =
+      let was = arena.members i.arena l in
+      (λ j. (h.lists l ∙ sym (map_same (id_in k) (id_in i.arena) taken_ids was)) j ++ sym one j ∷ [])
+      ∙ sym (map-append (id_in k) was (d.slot ∷ []))
+      ∙ ap (map (id_in k)) (sym more)
+
+  -- a handle is new, and these are the async ones
+  module _ (asyncs : List Id) where
+    abbrev pub with_asyncs : State
+    with_asyncs = record s { arena = taken d v s.arena; async = record { list = asyncs; yet = s.async.yet } }
+
+    beside_asyncs : (l : ListName) → l ≢ name.Async → members with_asyncs l ≡ members s l
+    beside_asyncs name.Ready ne = refl
+    beside_asyncs name.Idle ne = refl
+    beside_asyncs name.IdleYet ne = refl
+    beside_asyncs name.Prepare ne = refl
+    beside_asyncs name.PrepareYet ne = refl
+    beside_asyncs name.Check ne = refl
+    beside_asyncs name.CheckYet ne = refl
+    beside_asyncs name.Async ne = absurd (ne refl)
+    beside_asyncs name.AsyncYet ne = refl
+    beside_asyncs name.Closing ne = refl
+    beside_asyncs name.ClosingYet ne = refl
+    beside_asyncs name.Waiting ne = refl
+    beside_asyncs name.Done ne = refl
+    beside_asyncs name.DoneYet ne = refl
+
+    pub handle_stands : (m : ℕ) → ((l : ListName) → l ≢ name.Async → arena.members k l ≡ arena.members i.arena l)
+        → Listed k with_asyncs name.Async → IsSound k → IsCounted handle_in (counted k m)
+        → StandsFor (record i { arena = k; active = m }) with_asyncs
+    handle_stands m others listed sound counts = record {
+      place = h.place;
+      names = h.names;
+      time = h.time;
+      clock = h.clock;
+      next_start = h.next_start;
+      stop_flag = h.stop_flag;
+      idled = h.idled;
+      slots = taken_slots;
+      running = h.running;
+      lists = all_but_one i s h k with_asyncs taken_ids name.Async others beside_asyncs listed;
+      sound = sound;
+      heap = h.heap;
+      places = h.places;
+      timers = record {
+        entries = h.timers.entries;
+        ordered = h.timers.ordered;
+        same = h.timers.same
+            ∙ sym (map_same (timer_in k) (timer_in i.arena) (λ (e : Entry). ap (λ z. (e.due, z)) (taken_ids e.slot)) h.timers.entries);
+      };
+      active = counts ∙ ap (λ (q : plain.Slots Content). active_count handle_in q.slots) taken_slots ∙ active_as with_asyncs.arena.slots;
+      opened = h.opened;
+    }

@@ -1,0 +1,109 @@
+-- A handle gets another record, and is on other lists: what the memory stands for then.
+use Rattle.std.proofs.Common.{◌≡◌, ℕ, List, map, Some, sym, ap, ◌∙◌}
+use Rattle.std.proofs.lemmas.List.{map-set}
+use Rattle.uv_ids.specs.declared.id.Id.{Id}
+use Rattle.uv_records.specs.declared.handle.HandleRecord.{HandleRecord}
+use Rattle.uv_records.specs.declared.lists.ListName.{ListName}
+use Rattle.uv_records.specs.declared.lists.ListName.TheVariants as name
+use Rattle.uv_records.specs.declared.slot.Slot.{Slot}
+use Rattle.uv_records.specs.Slots as plain
+use Rattle.uv_records.specs.Walks.{Walk}
+use Rattle.uv_records.specs.Count.{active_count}
+use Rattle.uv_arena.specs.Image as arena
+use Rattle.uv_arena.specs.Image.{IsSound, plain_slots}
+use Rattle.uv_handle.specs.Counted.{counted, record_at, IsCounted}
+use Rattle.uv_handle.proofs.Counts as handles
+use Rattle.uv_heap.specs.declared.entry.Entry.{Entry}
+use Rattle.uv_requests.specs.Working.{id_in}
+use Rattle.uv_model.specs.declared.content.Content as content
+use Rattle.uv_model.specs.declared.content.Content.TheVariants as holds
+use Rattle.uv_model.specs.declared.place.Place.{Place}
+use Rattle.uv_model.specs.State.{State, with_handle}
+use Rattle.uv_model.specs.Queries.{members}
+use Rattle.uv_step.specs.declared.content.Content.{Content}
+use Rattle.uv_step.specs.declared.content.Content.TheVariants.{Handle}
+use Rattle.uv_step.specs.Content.{handle_in}
+use Rattle.uv_step.specs.Image.{Image}
+use Rattle.uv_stands.specs.Contents.{slot_of, slots_of}
+use Rattle.uv_stands.specs.Stands.{StandsFor, timer_in}
+use Rattle.uv_stands.proofs.Holding.{ids_kept, map_same, active_as}
+
+-- a list of ids is that list of the arena
+abbrev pub IsList : arena.Image Content → List Id → ListName → Type 0
+IsList k xs l = xs ≡ map (id_in k) (arena.members k l)
+
+-- a list that a section walks, with those that it has yet to run
+pub record IsWalk (k : arena.Image Content) (w : Walk Id) (list yet : ListName) : Type 0 where
+  pub all : IsList k w.list list
+  pub rest : IsList k w.yet yet
+
+module _ (i : Image Place) (s : State) (h : StandsFor i s) (k : arena.Image Content) (m : ℕ) (d : Id) (from to : HandleRecord)
+    (there : record_at handle_in i.arena d ≡ Some from)
+    (set : plain_slots k ≡ record (plain_slots i.arena) { slots = plain.with_held (plain_slots i.arena).slots d (Handle to) }) where
+  -- each slot's id is as it was
+  pub same_ids : (x : ℕ) → id_in k x ≡ id_in i.arena x
+  same_ids = let was = handles.content_of handle_in i.arena d from there in ids_kept i.arena k d (Handle to) was.0 was.1 set
+
+  slots : plain_slots k ≡ slots_of (with_handle s d to).arena
+  slots =
+      let new : Slot content.Content = record { generation = d.generation; content = Some (holds.Handle to) } in
+      set
+      ∙ ap (λ (q : plain.Slots Content). (let z : plain.Slots Content = record q { slots = plain.with_held q.slots d (Handle to) } in z)) h.slots
+      ∙ ap (λ xs. (let z : plain.Slots Content = record { slots = xs; free = s.arena.free; unused = s.arena.unused } in z))
+      (sym (map-set slot_of s.arena.slots d.slot new))
+
+  module _ (ready : List Id) (idle prepare check async closing : Walk Id) where
+    abbrev pub relisted : State
+    relisted = record (with_handle s d to) { ready = ready; idle = idle; prepare = prepare; check = check; async = async; closing = closing }
+
+    -- these are the lists of the arena
+    pub record AreRelisted : Type 0 where
+      pub of_ready : IsList k ready name.Ready
+      pub of_idle : IsWalk k idle name.Idle name.IdleYet
+      pub of_prepare : IsWalk k prepare name.Prepare name.PrepareYet
+      pub of_check : IsWalk k check name.Check name.CheckYet
+      pub of_async : IsWalk k async name.Async name.AsyncYet
+      pub of_closing : IsWalk k closing name.Closing name.ClosingYet
+      pub of_waiting : IsList k s.waiting name.Waiting
+      pub of_done : IsWalk k s.done name.Done name.DoneYet
+
+    each_list : AreRelisted → (l : ListName) → members relisted l ≡ map (id_in k) (arena.members k l)
+    each_list a name.Ready = a.of_ready
+    each_list a name.Idle = a.of_idle.all
+    each_list a name.IdleYet = a.of_idle.rest
+    each_list a name.Prepare = a.of_prepare.all
+    each_list a name.PrepareYet = a.of_prepare.rest
+    each_list a name.Check = a.of_check.all
+    each_list a name.CheckYet = a.of_check.rest
+    each_list a name.Async = a.of_async.all
+    each_list a name.AsyncYet = a.of_async.rest
+    each_list a name.Closing = a.of_closing.all
+    each_list a name.ClosingYet = a.of_closing.rest
+    each_list a name.Waiting = a.of_waiting
+    each_list a name.Done = a.of_done.all
+    each_list a name.DoneYet = a.of_done.rest
+
+    pub relisted_stands : AreRelisted → IsSound k → IsCounted handle_in (counted k m) → StandsFor (record i { arena = k; active = m }) relisted
+    relisted_stands lists sound counts = record {
+      place = h.place;
+      names = h.names;
+      time = h.time;
+      clock = h.clock;
+      next_start = h.next_start;
+      stop_flag = h.stop_flag;
+      idled = h.idled;
+      slots = slots;
+      running = h.running;
+      lists = each_list lists;
+      sound = sound;
+      heap = h.heap;
+      places = h.places;
+      timers = record {
+        entries = h.timers.entries;
+        ordered = h.timers.ordered;
+        same = h.timers.same
+            ∙ sym (map_same (timer_in k) (timer_in i.arena) (λ (e : Entry). ap (λ z. (e.due, z)) (same_ids e.slot)) h.timers.entries);
+      };
+      active = counts ∙ ap (λ (q : plain.Slots Content). active_count handle_in q.slots) slots ∙ active_as (with_handle s d to).arena.slots;
+      opened = h.opened;
+    }

@@ -1,0 +1,148 @@
+-- A watcher is stopped. The memory takes its slot off the list that it is on, unless it is closing; the state takes its id off each list that it
+-- could be called from.
+use Rattle.std.proofs.Common.{◌≡◌, ℕ, ◌++◌, ◌&&◌, true, false, if◌then◌else◌, eqb, List, map, Some, None, refl, sym, ap, ◌∙◌, subst}
+use Rattle.uv_ids.specs.declared.id.Id.{Id}
+use Rattle.uv_ids.specs.declared.code.Code.TheVariants as code
+use Rattle.uv_ids.specs.declared.code.Answer.TheVariants as answer
+use Rattle.uv_ids.specs.declared.phase.Kind.{Kind}
+use Rattle.uv_ids.specs.declared.phase.Kind.TheVariants as kind
+use Rattle.uv_records.specs.declared.handle.HandleRecord.{HandleRecord}
+use Rattle.uv_records.specs.declared.lists.ListName.{ListName}
+use Rattle.uv_records.specs.declared.lists.ListName.TheVariants as name
+use Rattle.uv_records.specs.Handles as records
+use Rattle.uv_records.specs.Handles.{is_timer}
+use Rattle.uv_records.specs.Refusals.{stop_refusal}
+use Rattle.uv_records.specs.Walks.{without}
+use Rattle.uv_arena.specs.Image as arena
+use Rattle.uv_arena.specs.Image.{IsSound}
+use Rattle.uv_handle.specs.declared.undo.DelistUndo.{DelistUndo}
+use Rattle.uv_handle.specs.Counted.{counted, record_at}
+use Rattle.uv_watch.specs.Watch.{IsStopped}
+use Rattle.uv_requests.specs.Working.{id_in}
+use Rattle.uv_model.specs.declared.place.Place.{Place}
+use Rattle.uv_model.specs.Ids.{without_id, walk_without_id}
+use Rattle.uv_model.specs.State.{State, with_handle}
+use Rattle.uv_model.specs.Timers.{without_timer}
+use Rattle.uv_model.specs.Ops.{stop, succeeds}
+use Rattle.uv_model.specs.Queries.{members}
+use Rattle.uv_order.specs.Active.{has_id, AreActive}
+use Rattle.uv_order.specs.Reached.{IsReached}
+use Rattle.uv_step.specs.declared.content.Content.{Content}
+use Rattle.uv_step.specs.declared.content.Content.TheVariants.{Handle}
+use Rattle.uv_step.specs.declared.record.Change.TheVariants as change
+use Rattle.uv_step.specs.declared.record.Record.{Record}
+use Rattle.uv_step.specs.Content.{handle_in}
+use Rattle.uv_step.specs.Does.{By}
+use Rattle.uv_step.specs.Fit.{IsFit}
+use Rattle.uv_step.specs.Image.{Image, Held, counted_of}
+use Rattle.uv_step.specs.Undo.{Recorded}
+use Rattle.uv_stands.specs.Doing.{Does}
+use Rattle.uv_stands.specs.Stands.{StandsFor}
+use Rattle.uv_stands.proofs.Holding.{map_same}
+use Rattle.uv_stands.proofs.Loose.{has_first, has_second}
+use Rattle.uv_timing.proofs.Absent.{IsOn, own_id, holds_it, has_it, ready_stays, not_waiting, not_done, not_done_yet, not_closing, not_closing_yet}
+use Rattle.uv_timing.proofs.Without.{without_ids}
+use Rattle.uv_ops.proofs.Frames.{delisted_frame}
+use Rattle.uv_ops.proofs.Relisted.{IsList, IsWalk, same_ids, relisted_stands}
+use Rattle.uv_ops.proofs.Leaving.{gone, kept}
+
+module _ (i : Image Place) (s : State) (h : StandsFor i s) (d : Id) (from : HandleRecord) (there : record_at handle_in i.arena d ≡ Some from) where
+  -- a handle that closes isn't active
+  idle_closing : IsReached s → (k : Kind) (ids : List Id) → AreActive s k ids → from.closing ≡ true → has_id ids d ≡ true → ⊥
+  idle_closing reached k ids a closing on =
+      let its = a.each d on in
+      let holds = holds_it i d from there s h in
+      let off = reached.shut d from holds closing in
+      cc (its.holds, holds, its.active, off)
+
+  -- ---- the lists afterwards
+
+  module _ (reached : IsReached s) (fit : IsFit i) (k : arena.Image Content) (m : ℕ) (u : DelistUndo)
+      (c : IsStopped handle_in Handle (counted_of i) (counted k m) d from u) where
+    ids : (x : ℕ) → id_in k x ≡ id_in i.arena x
+    ids = same_ids i s h k m d from (records.stopped from) c.there c.plain
+
+    map_ids : (xs : List ℕ) → map (id_in i.arena) xs ≡ map (id_in k) xs
+    map_ids xs = sym (map_same (id_in k) (id_in i.arena) ids xs)
+
+    -- a list that the state takes it off
+    off : (l : ListName) → (from.closing ≡ true → IsOn i l d → ⊥) → IsList k (without_id (members s l) d) l
+    off l none =
+        let was = arena.members i.arena l in
+        ap (λ xs. without_id xs d) (h.lists l)
+        ∙ without_ids (id_in i.arena) d (λ x. refl) (own_id i d from there) was
+        ∙ map_ids (without eqb was d.slot)
+        ∙ ap (map (id_in k)) (sym (gone from.closing was (arena.members k l) d.slot none (c.lists l)))
+
+    -- a list that it isn't taken off
+    stays : (l : ListName) → (from.closing ≡ false → IsOn i l d → ⊥) → IsList k (members s l) l
+    stays l none =
+        let was = arena.members i.arena l in
+        h.lists l ∙ map_ids was ∙ ap (map (id_in k)) (sym (kept from.closing was (arena.members k l) d.slot none (c.lists l)))
+
+    off_walk : (x : Kind) (a b : ListName) → AreActive s x (members s a ++ members s b)
+        → IsWalk k (walk_without_id (record { list = members s a; yet = members s b }) d) a b
+    off_walk x a b act =
+        let none = idle_closing reached x (members s a ++ members s b) act in
+        let has = has_it i d from there s h in
+        record {
+          all = off a (λ e on. none e (has_first (members s a) (members s b) d (has a on)));
+          rest = off b (λ e on. none e (has_second (members s a) (members s b) d (has b on)));
+        }
+
+    abbrev pub state_after : State
+    state_after = record (with_handle s d (records.stopped from)) {
+      ready = without_id s.ready d;
+      idle = walk_without_id s.idle d;
+      prepare = walk_without_id s.prepare d;
+      check = walk_without_id s.check d;
+      async = walk_without_id s.async d;
+    }
+
+    pub stopped_stands : IsSound k → StandsFor (record i { arena = k; active = m }) state_after
+    stopped_stands sound = relisted_stands i s h k m d from (records.stopped from) c.there c.plain (without_id s.ready d) (walk_without_id s.idle d)
+        (walk_without_id s.prepare d) (walk_without_id s.check d) (walk_without_id s.async d) s.closing
+        (record {
+          of_ready = off name.Ready (ready_stays i d from there s h reached);
+          of_idle = off_walk kind.Idle name.Idle name.IdleYet reached.idle;
+          of_prepare = off_walk kind.Prepare name.Prepare name.PrepareYet reached.prepare;
+          of_check = off_walk kind.Check name.Check name.CheckYet reached.check;
+          of_async = off_walk kind.Async name.Async name.AsyncYet reached.async;
+          of_closing = record {
+            all = stays name.Closing (not_closing i d from there s h reached);
+            rest = stays name.ClosingYet (not_closing_yet i d from there s h reached);
+          };
+          of_waiting = stays name.Waiting (λ e. not_waiting i d from there fit);
+          of_done = record {
+            all = stays name.Done (λ e. not_done i d from there fit);
+            rest = stays name.DoneYet (λ e. not_done_yet i d from there fit);
+          };
+        }) sound c.counts
+
+    -- it is no timer
+    pub stop_is : is_timer from.kind ≡ false → stop s d from ≡ record { state = state_after; answer = answer.Code code.Ok }
+    stop_is no_timer =
+        ap (λ b. succeeds (record state_after { timers = if b && from.active then without_timer s.timers from.due else s.timers })) no_timer
+
+-- ---- what the call does
+
+module _ (r : Record Place) (h w : Held Place) (recorded : Recorded r h w) (sound : IsSound w.image.arena) (fit : IsFit h.image) (d : Id)
+    (from : HandleRecord) (there : record_at handle_in h.image.arena d ≡ Some from) (no_timer : is_timer from.kind ≡ false) where
+  stops_with : (g : HandleRecord) (u : DelistUndo) → r.change ≡ change.Delisted u
+      → IsStopped handle_in Handle (counted_of h.image) (counted_of w.image) d g u
+      → Does (λ s. stop s d from) h.image w.image (answer.Code code.Ok)
+  stops_with g u is c s stands reached =
+      let same : g ≡ from = cc (c.there, there) in
+      let t = state_after h.image s stands d g c.there reached fit w.image.arena w.image.active u c in (
+        t,
+        ap (stop s d) (sym same)
+            ∙ stop_is h.image s stands d g c.there reached fit w.image.arena w.image.active u c
+            (ap (λ (q : HandleRecord). is_timer q.kind) same ∙ no_timer),
+        subst (λ q. StandsFor q t) (sym (delisted_frame r h w recorded u is))
+            (stopped_stands h.image s stands d g c.there reached fit w.image.arena w.image.active u c sound),
+      )
+
+  pub stops : By change.Delisted (λ u. (g : HandleRecord) × (stop_refusal g ≡ None)
+      × IsStopped handle_in Handle (counted_of h.image) (counted_of w.image) d g u) r.change
+      → Does (λ s. stop s d from) h.image w.image (answer.Code code.Ok)
+  stops by = stops_with by.does.0 by.undo by.is by.does.2

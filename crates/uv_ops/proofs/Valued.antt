@@ -1,0 +1,43 @@
+-- The run is to stop, or the loop's time is the clock's: what the memory stands for then.
+use Rattle.std.proofs.Common.{◌≡◌, true, refl, sym, ◌∙◌, subst}
+use Rattle.uv_ids.specs.declared.code.Code.TheVariants as code
+use Rattle.uv_ids.specs.declared.code.Answer.TheVariants as answer
+use Rattle.uv_script.specs.declared.op.Op.TheVariants as op
+use Rattle.uv_model.specs.declared.place.Place.{Place}
+use Rattle.uv_model.specs.State.{State, refreshed}
+use Rattle.uv_step.specs.Image.{Image}
+use Rattle.uv_stands.specs.Doing.{Performs}
+use Rattle.uv_stands.specs.Stands.{StandsFor}
+use Rattle.uv_stands.proofs.Values.{valued}
+
+module _ (i j : Image Place) where
+  pub stop_performs : j ≡ record i { stop_flag = true } → Performs op.StopLoop i j (answer.Code code.Ok)
+  stop_performs is s h reached =
+      let t : State = record s { stop_flag = true } in (
+        t,
+        refl,
+        subst (λ q. StandsFor q t)
+            (sym (is ∙ (λ l. record i {
+              place = h.place l;
+              times = record { time = h.time l; next_start = h.next_start l };
+              clock = h.clock l;
+              stop_flag = true;
+              idled = h.idled l;
+            })))
+            (valued i s s.place s.time s.clock s.next_start true s.idled h),
+      )
+
+  pub update_performs : j ≡ record i { times = record i.times { time = i.clock } } → Performs op.UpdateTime i j (answer.Code code.Ok)
+  update_performs is s h reached = (
+    refreshed s,
+    refl,
+    subst (λ q. StandsFor q (refreshed s))
+        (sym (is ∙ (λ l. record i {
+          place = h.place l;
+          times = record { time = h.clock l; next_start = h.next_start l };
+          clock = h.clock l;
+          stop_flag = h.stop_flag l;
+          idled = h.idled l;
+        })))
+        (valued i s s.place s.clock s.clock s.next_start s.stop_flag s.idled h),
+  )

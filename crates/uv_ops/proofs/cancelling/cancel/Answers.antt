@@ -1,0 +1,26 @@
+use Rattle.std.proofs.Common.{ap}
+use Rattle.uv_step.specs.Image.{held, image_of}
+use Rattle.uv_ops.proofs.Cancels.{cancel_refused, cancel_done, cancel_performs}
+use Rattle.uv_ops.proofs.cancelling.cancel.Goals as goal
+
+pub returns-in-Err-clause-cancels : goal.returns-in-Err-clause-cancels
+returns-in-Err-clause-cancels c =
+    cancel_refused (image_of c.args.memory.now) (image_of c.cancel.new.self) c.args.name (ap (λ h. h.image) c.in-Err.ensures.err.1) c.in-Some.id
+    c.in-Err.code c.in-Some.ensures c.in-Err.ensures.err.0
+
+pub returns-in-Err-clause-performs : goal.returns-in-Err-clause-performs
+returns-in-Err-clause-performs c =
+    cancel_performs c.args.name (image_of c.args.memory.now) (image_of c.cancel.new.self) _
+    (cancel_refused (image_of c.args.memory.now) (image_of c.cancel.new.self) c.args.name (ap (λ h. h.image) c.in-Err.ensures.err.1) c.in-Some.id
+    c.in-Err.code c.in-Some.ensures c.in-Err.ensures.err.0)
+
+pub returns-in-Ok-clause-cancels : goal.returns-in-Ok-clause-cancels
+returns-in-Ok-clause-cancels c =
+    cancel_done c.in-Ok.step_record (held c.args.memory.now) (held c.cancel.new.self) c.in-Ok.ensures.recorded c.is_sound.ensures c.args.name
+    c.in-Some.id c.in-Some.ensures c.in-Ok.ensures.does
+
+pub returns-in-Ok-clause-performs : goal.returns-in-Ok-clause-performs
+returns-in-Ok-clause-performs c =
+    cancel_performs c.args.name (image_of c.args.memory.now) (image_of c.cancel.new.self) _
+    (cancel_done c.in-Ok.step_record (held c.args.memory.now) (held c.cancel.new.self) c.in-Ok.ensures.recorded c.is_sound.ensures c.args.name
+    c.in-Some.id c.in-Some.ensures c.in-Ok.ensures.does)

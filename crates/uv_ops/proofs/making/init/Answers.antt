@@ -1,0 +1,16 @@
+use Rattle.std.proofs.Common.{ap}
+use Rattle.uv_model.specs.Ops.{with_new}
+use Rattle.uv_step.specs.Image.{held, image_of}
+use Rattle.uv_ops.proofs.Made.{make_full}
+use Rattle.uv_ops.proofs.Inits.{inits_by}
+use Rattle.uv_ops.proofs.making.init.Goals as goal
+
+pub returns-in-Err-clause-performs : goal.returns-in-Err-clause-performs
+returns-in-Err-clause-performs c =
+    make_full (image_of c.args.memory.now) c.args.name (λ s. with_new s c.args.name c.args.kind) c.if-is_live.ensures (image_of c.init.new.self)
+    (ap (λ h. h.image) c.in-Err.ensures.full.1) c.in-Err.ensures.full.0
+
+pub returns-in-Ok-clause-performs : goal.returns-in-Ok-clause-performs
+returns-in-Ok-clause-performs c =
+    inits_by c.in-Ok.step_record (held c.args.memory.now) (held c.init.new.self) c.in-Ok.ensures.recorded c.is_sound.ensures c.args.name c.args.kind
+    c.in-Ok.id c.in-Ok.ensures.made c.if-is_live.ensures (image_of c.bind_name-step_record.new.memory) c.bind_name-step_record.ensures.image

@@ -1,0 +1,17 @@
+use Rattle.std.proofs.Common.{ap}
+use Rattle.uv_model.specs.Ops.{with_queued}
+use Rattle.uv_step.specs.Image.{held, image_of}
+use Rattle.uv_ops.proofs.Made.{make_full}
+use Rattle.uv_ops.proofs.Queues.{queues}
+use Rattle.uv_ops.proofs.making.queue.Goals as goal
+
+pub returns-in-Err-clause-performs : goal.returns-in-Err-clause-performs
+returns-in-Err-clause-performs c =
+    make_full (image_of c.args.memory.now) c.args.name (λ s. with_queued s c.args.name c.args.task) c.if-is_live.ensures
+    (image_of c.queue.new.self) (ap (λ h. h.image) c.in-Err.ensures.full.1) c.in-Err.ensures.full.0
+
+pub returns-in-Ok-clause-performs : goal.returns-in-Ok-clause-performs
+returns-in-Ok-clause-performs c =
+    queues c.in-Ok.step_record (held c.args.memory.now) (held c.queue.new.self) c.in-Ok.ensures.recorded c.is_sound.ensures c.args.name c.args.task
+    c.in-Ok.id _ c.request_of-request.ensures c.in-Ok.ensures.does c.if-is_live.ensures (image_of c.bind_name-step_record.new.memory)
+    c.bind_name-step_record.ensures.image

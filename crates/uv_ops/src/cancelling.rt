@@ -1,0 +1,31 @@
+//! Requests are cancelled.
+ghost use Rattle.std.specs.Prelude.{◌≡◌};
+ghost use Rattle.uv_script.specs.declared.op.Op.TheVariants as op;
+ghost use Rattle.uv_step.specs.Fit.{IsFit};
+ghost use Rattle.uv_step.specs.Image.{held};
+ghost use Rattle.uv_stands.specs.Doing.{Performs, Returns};
+ghost use Rattle.uv_ops.specs.Outside.{Cancels};
+
+use uv_ids::{Answer, Code, Var};
+use uv_model::Place;
+use uv_stands::bound_id;
+use uv_step::{Memory, Record};
+
+/// Cancels a request (uv_cancel), for an op or from outside.
+pub fn cancel(memory: &mut Memory<Place>, name: Var) -> (Answer, Record<Place>)
+    requires { IsFit (held memory.old).image }
+    ensures returns { Returns result.1 (held memory.old) (held memory.new) }
+    ensures cancels { Cancels name (held memory.old).image (held memory.new).image result.0 }
+    ensures performs { Performs (op.Cancel name) (held memory.old).image (held memory.new).image result.0 }
+{
+    match bound_id(memory, name) {
+        None => (Answer::Code(Code::Estale), memory.pass()),
+        Some(id) => match memory.cancel(id) {
+            Err(code) => (Answer::Code(code), memory.pass()),
+            Ok(step_record) => {
+                memory.slots.is_sound();
+                (Answer::Cancelled(id), step_record)
+            }
+        },
+    }
+}

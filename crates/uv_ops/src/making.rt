@@ -1,0 +1,64 @@
+//! Handles are made and requests queued, and names bound to them.
+ghost use Rattle.std.specs.Prelude.{◌≡◌};
+ghost use Rattle.uv_script.specs.declared.op.Op.TheVariants as op;
+ghost use Rattle.uv_script.specs.Tasks.{text_of};
+ghost use Rattle.uv_work.specs.Requests.{queued};
+ghost use Rattle.uv_step.specs.Image.{held};
+ghost use Rattle.uv_stands.specs.Doing.{Performs, Returns};
+ghost use Rattle.uv_stands.specs.Ready.{IsReady};
+
+use uv_ids::{Answer, Code, Kind, Var};
+use uv_model::Place;
+use uv_script::Task;
+use uv_stands::{bind_name, is_live};
+use uv_step::{Memory, Record};
+use uv_work::RequestRecord;
+
+/// Makes a handle, to which the name is bound (uv_timer_init and the like).
+pub fn init(memory: &mut Memory<Place>, name: Var, kind: Kind) -> (Answer, Record<Place>)
+    requires { IsReady (held memory.old) }
+    ensures returns { Returns result.1 (held memory.old) (held memory.new) }
+    ensures performs { Performs (op.Init name kind) (held memory.old).image (held memory.new).image result.0 }
+{
+    if is_live(memory, name) {
+        return (Answer::Code(Code::Ebound), memory.pass());
+    }
+    match memory.init(name, kind) {
+        Err(_) => (Answer::Code(Code::Efull), memory.pass()),
+        Ok((id, step_record)) => {
+            memory.slots.is_sound();
+            let step_record = bind_name(memory, step_record, name, id);
+            (Answer::Id(id), step_record)
+        }
+    }
+}
+
+/// The request that a slot holds for a task that a name asks for.
+fn request_of(name: Var, task: &Task) -> RequestRecord
+    ensures { result ≡ queued name task.now.rounds (text_of task.now) }
+{
+    match RequestRecord::new(name, task.rounds(), task.text()) {
+        Some(request) => request,
+        None => unreachable!(),
+    }
+}
+
+/// Asks a worker to do a task, for which the name is bound to a request (uv_queue_work).
+pub fn queue(memory: &mut Memory<Place>, name: Var, task: Task) -> (Answer, Record<Place>)
+    requires { IsReady (held memory.old) }
+    ensures returns { Returns result.1 (held memory.old) (held memory.new) }
+    ensures performs { Performs (op.Queue name task) (held memory.old).image (held memory.new).image result.0 }
+{
+    if is_live(memory, name) {
+        return (Answer::Code(Code::Ebound), memory.pass());
+    }
+    let request = request_of(name, &task);
+    match memory.queue(request) {
+        Err(_) => (Answer::Code(Code::Efull), memory.pass()),
+        Ok((id, step_record)) => {
+            memory.slots.is_sound();
+            let step_record = bind_name(memory, step_record, name, id);
+            (Answer::Id(id), step_record)
+        }
+    }
+}

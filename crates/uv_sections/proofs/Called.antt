@@ -1,0 +1,105 @@
+-- A callback begins behind a change: of what was freed, or of what moved on.
+use Rattle.std.proofs.Common.{◌≡◌, ◌≢◌, Bool, true, if◌then◌else◌, None, ◌<◌, ◌^◌, drop, Some, sym, ap, ◌∙◌, subst}
+use Rattle.uv_ids.specs.declared.id.Id.{Id}
+use Rattle.uv_ids.specs.declared.id.Var.{Var}
+use Rattle.uv_ids.specs.declared.seen.Seen.{Seen}
+use Rattle.uv_ids.specs.declared.seen.Seen.TheVariants as seen
+use Rattle.uv_ids.specs.declared.seen.Callback.{Callback}
+use Rattle.uv_ids.specs.declared.seen.Callback.TheVariants as callback
+use Rattle.uv_records.specs.declared.handle.HandleRecord.{HandleRecord}
+use Rattle.uv_records.specs.declared.lists.WatcherKind.{WatcherKind}
+use Rattle.uv_records.specs.declared.lists.WatcherKind.TheVariants as watcher
+use Rattle.uv_records.specs.Handles.{woken}
+use Rattle.uv_records.specs.Slots.{freed}
+use Rattle.uv_work.specs.Requests.{Request}
+use Rattle.uv_script.specs.Program.{Program, arena_size}
+use Rattle.uv_model.specs.declared.place.Run.{Run}
+use Rattle.uv_model.specs.declared.place.Stage.TheVariants.{Async, Timers}
+use Rattle.uv_model.specs.declared.place.TimersOf.{TimersOf}
+use Rattle.uv_model.specs.declared.place.Timing.TheVariants.{Firing}
+use Rattle.uv_model.specs.Timers.{restarted}
+use Rattle.uv_timing.specs.Section.{Fires}
+use Rattle.uv_stands.specs.Doing.{Goes}
+use Rattle.uv_model.specs.declared.place.Place.{Place}
+use Rattle.uv_model.specs.State.{State, with_handle}
+use Rattle.uv_model.specs.Content.{digest_in}
+use Rattle.uv_model.specs.Next.{Moves, calls, close_front, collect_request, walk, walk_async, call, at, fire, front_moved}
+use Rattle.uv_step.specs.Names.{named, count_of}
+use Rattle.uv_step.specs.declared.record.Record.{Record}
+use Rattle.uv_step.specs.Undo.{Recorded}
+use Rattle.uv_step.specs.Image.{Image, Held}
+use Rattle.uv_stands.specs.Ready.{IsReady}
+use Rattle.uv_stands.specs.Stands.{StandsFor}
+use Rattle.uv_sections.specs.Gone.{RequestGone, HandleGone}
+use Rattle.uv_sections.specs.Moved.{HandleMoved, moved_state}
+use Rattle.uv_stands.proofs.Renaming.{names_stay}
+use Rattle.uv_sections.proofs.Moves.{calls_all}
+
+-- how often it was called is what it was before the change
+pub few_calls : (r : Record Place) (h k : Held Place) → IsReady h → Recorded r h k → (kind : Callback) (v : Var)
+    → count_of kind (named k.image.names v.0).calls < 2 ^ 31
+few_calls r h k ready recorded kind v =
+    subst (λ ns. count_of kind (named ns v.0).calls < 2 ^ 31) (sym (names_stay recorded)) (ready.calls v.0 kind)
+
+-- a callback begins in each state that the memory stands for
+abbrev pub Begins : Program → Run → Callback → Var → Image Place → Image Place → Type 0
+Begins p run kind v j k = (s : State) → StandsFor j s → (line : Seen)
+    → (t : State) × (calls p s run kind v line ≡ Moves t (Some line)) × StandsFor k t
+
+-- that of a handle that was closed
+pub close_goes : (p : Program) (run : Run) (j k : Image Place) (s : State) (id : Id) (r : HandleRecord)
+    → HandleGone (arena_size p).last_generation j s id r → Begins p run callback.Close r.name j k
+    → (t : State) × (close_front p s run ≡ Moves t (Some (seen.Closed r.name id))) × StandsFor k t
+close_goes p run j k s id r gone begins =
+    let b = begins _ gone.stands (seen.Closed r.name id) in
+    (b.0, rw gone.front b.1, b.2)
+
+-- that of a request that is done
+pub collect_goes : (p : Program) (run : Run) (j k : Image Place) (s : State) (id : Id) (r : Request) (v : Var) (line : Seen)
+    → RequestGone (arena_size p).last_generation j s id r → v ≡ r.name → line ≡ seen.After (digest_in r.outcome) r.name id
+    → Begins p run callback.After v j k → (t : State) × (collect_request p s run ≡ Moves t (Some line)) × StandsFor k t
+collect_goes p run j k s id r v line gone named_so told begins =
+    let b = begins _ gone.stands line in
+    let name : gone.request.name ≡ v = ap (λ (z : Request). z.name) gone.same ∙ sym named_so in
+    let lines : seen.After (digest_in gone.request.outcome) gone.request.name id ≡ line =
+    ap (λ (z : Request). seen.After (digest_in z.outcome) z.name id) gone.same ∙ sym told in
+    let freed_state : State = record s {
+      arena = freed (arena_size p).last_generation id s.arena;
+      done = record s.done { yet = drop 1 s.done.yet };
+    } in
+    (b.0, rw gone.front ((λ l. calls p freed_state run callback.After (name l) (lines l)) ∙ b.1), b.2)
+
+-- that of a watcher that moved on
+pub walk_goes : (p : Program) (run : Run) (j k : Image Place) (s : State) (w : WatcherKind) (id : Id) (r : HandleRecord) (pending : Bool)
+    → HandleMoved w j s id r pending → w ≢ watcher.Async → Begins p run callback.Handle r.name j k
+    → (t : State) × (walk p s run w ≡ Moves t (Some (seen.Call r.name id))) × StandsFor k t
+walk_goes p run j k s w id r pending moved other begins =
+    let stands : StandsFor j (front_moved s w id) =
+    subst (λ b. StandsFor j (moved_state b s w id r)) (moved.was ∙ calls_all w r other) moved.stands in
+    let b = begins _ stands (seen.Call r.name id) in
+    (b.0, rw moved.front b.1, b.2)
+
+-- that of an async handle that was sent to
+pub async_goes : (p : Program) (run : Run) (j k : Image Place) (s : State) (id : Id) (r : HandleRecord) (pending : Bool)
+    → HandleMoved watcher.Async j s id r pending → pending ≡ true → Begins p run callback.Handle r.name j k
+    → (t : State) × (walk_async p s run ≡ Moves t (Some (seen.Call r.name id))) × StandsFor k t
+async_goes p run j k s id r pending moved on begins =
+    let stands : StandsFor j (moved_state true s watcher.Async id r) =
+    subst (λ b. StandsFor j (moved_state b s watcher.Async id r)) on moved.stands in
+    let b = begins _ stands (seen.Call r.name id) in
+    let waits : r.pending ≡ true = sym moved.was ∙ on in
+    let m = front_moved s watcher.Async id in
+    let called = ap (λ x. if x then call p (with_handle m id (woken r)) run id r.name else Moves (at m run Async) None) waits in
+    (b.0, rw moved.front (called ∙ b.1), b.2)
+
+-- that of a timer that was set aside
+pub fire_goes : (p : Program) (run : Run) (part : TimersOf) (i j k : Image Place) (id : Id) (v : Var) → Fires i j id v
+    → Begins p (record run { stage = Timers part Firing }) callback.Handle v j k → Goes (λ s. fire p s run part) i k (Some (seen.Call v id))
+fire_goes p run part i j k id v fires begins s h reached =
+    let f = fires s h reached in
+    let b = begins _ f.3 (seen.Call v id) in
+    let fired = restarted (record s { ready = drop 1 s.ready }) id f.0 in (
+      b.0,
+      rw f.1 ((λ l. calls p fired (record run { stage = Timers part Firing }) callback.Handle (f.2 l) (seen.Call (f.2 l) id)) ∙ b.1),
+      b.2,
+    )

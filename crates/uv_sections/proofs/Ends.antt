@@ -1,0 +1,133 @@
+-- The front of those that end is gone, and its slot is free: what the memory stands for then.
+use Rattle.std.proofs.Common.{◌≡◌, ◌++◌, ◌∷◌, ℕ, eqb, Bool, ◌||◌, List, [], map, drop, Some, inl, inr, true, false, refl, sym, ap, ◌∙◌, subst}
+use Rattle.std.proofs.lemmas.Bool.{eq-eqb}
+use Rattle.uv_ids.specs.declared.id.Id.{Id}
+use Rattle.uv_ids.specs.declared.due.Due.{Due}
+use Rattle.uv_records.specs.declared.handle.HandleRecord.{HandleRecord}
+use Rattle.uv_records.specs.declared.lists.ListName.{ListName}
+use Rattle.uv_records.specs.declared.lists.ListName.TheVariants as name
+use Rattle.uv_records.specs.Slots.{freed}
+use Rattle.uv_records.specs.Walks.{without}
+use Rattle.uv_arena.specs.Image as arena
+use Rattle.uv_arena.specs.Image.{IsSound, plain_slots}
+use Rattle.uv_handle.specs.declared.undo.TakeUndo.{TakeUndo}
+use Rattle.uv_handle.specs.Changes.{IsTaken}
+use Rattle.uv_work.specs.Requests.{Request}
+use Rattle.uv_requests.specs.declared.undo.CollectUndo.{CollectUndo}
+use Rattle.uv_requests.specs.Calls.{IsCollected}
+use Rattle.uv_requests.specs.Working.{id_in}
+use Rattle.uv_model.specs.declared.place.Place.{Place}
+use Rattle.uv_model.specs.Content as model
+use Rattle.uv_model.specs.Ids.{same_id}
+use Rattle.uv_model.specs.State.{State, with_id, front_request}
+use Rattle.uv_order.specs.Active.{IsTimer, has_id}
+use Rattle.uv_order.specs.Reached.{IsReached}
+use Rattle.uv_step.specs.declared.content.Content.{Content}
+use Rattle.uv_step.specs.declared.content.Content.TheVariants.{Handle}
+use Rattle.uv_step.specs.declared.record.Change.TheVariants as change
+use Rattle.uv_step.specs.declared.record.Record.{Record}
+use Rattle.uv_step.specs.Content.{handle_in, request_in}
+use Rattle.uv_step.specs.Does.{FirstIs}
+use Rattle.uv_step.specs.Image.{Image, Held, counted_of, working_of}
+use Rattle.uv_step.specs.Undo.{Recorded}
+use Rattle.uv_stands.specs.Stands.{StandsFor}
+use Rattle.uv_stands.proofs.Lists.{list_is}
+use Rattle.uv_stands.proofs.Pools.{IsAsked, asked_there, first_one, front_there}
+use Rattle.uv_sections.specs.Gone.{RequestGone, HandleGone}
+use Rattle.uv_sections.proofs.Keeping.{ended_keeps, ended_time, closed_keeps, closed_time, sections_kept, stands_then}
+use Rattle.uv_sections.proofs.Frees.{freed_slots, freed_lists, freed_timers}
+use Rattle.uv_sections.proofs.Firsts.{front_is}
+use Rattle.uv_sections.proofs.Watched.{beside_closing_yet, beside_done_yet}
+
+-- an id in the middle of a list is on it
+itself : (d : Id) → same_id d d ≡ true
+itself d = rw (eq-eqb d.slot d.slot refl, eq-eqb d.generation d.generation refl) refl
+
+in_middle : (xs ys : List Id) (d : Id) → has_id (xs ++ d ∷ ys) d ≡ true
+in_middle [] ys d = rw (itself d) refl
+in_middle (x ∷ xs) ys d = at (same_id x d) (in_middle xs ys d) where
+  at : (b : Bool) → has_id (xs ++ d ∷ ys) d ≡ true → (b || has_id (xs ++ d ∷ ys) d) ≡ true
+  at true on = refl
+  at false on = on
+
+module _ (r : Record Place) (h k : Held Place) (last : ℕ) (so : h.image.arena.last ≡ last) (recorded : Recorded r h k) (sound : IsSound k.image.arena)
+    (d : Id) where
+  abbrev i : Image Place
+  i = h.image
+
+  abbrev j : Image Place
+  j = k.image
+
+  -- ---- a request
+
+  module _ (q : Request) (u : CollectUndo Content) (is : r.change ≡ change.Ended u)
+      (c : IsCollected request_in (working_of i) (working_of j) d q u) where
+    off_done : (l : ListName) → arena.members j.arena l ≡ without eqb (arena.members i.arena l) d.slot
+    off_done l = elim (list_is l name.DoneYet) [
+      | inl e ↦ subst (λ x. arena.members j.arena x ≡ without eqb (arena.members i.arena x) d.slot) (sym e) (c.yet ∙ sym c.first.after)
+      | inr ne ↦ c.others l ne ∙ sym (c.first.others l ne)
+    ]
+
+    freed_done : plain_slots j.arena ≡ freed last d (plain_slots i.arena)
+    freed_done = c.plain ∙ ap (λ n. freed n d (plain_slots i.arena)) so
+
+    pub request_gone : (s : State) → StandsFor i s → IsReached s → RequestGone last j s d q
+    request_gone s st reached =
+        let asks : IsAsked s d q = asked_there i s d q st c.was in
+        let a = freed last d s.arena in
+        let t : State = record s { arena = a; done = record s.done { yet = drop 1 s.done.yet } } in
+        let no_timer : (due : Due) → IsTimer s due d → ⊥ = λ due timer.
+        (let none = sym (ap model.handle_in asks.there) ∙ timer.holds in cc) in
+        record {
+          request = asks.request;
+          front = ap (front_request s) (front_there i s name.DoneYet d st c.first) ∙ ap (λ o. with_id d (model.request_in o)) asks.there;
+          same = asks.same;
+          stands = stands_then i j s t st (ended_keeps u r h k recorded is)
+              (sections_kept s a s.idle s.prepare s.check s.async s.closing (record s.done { yet = drop 1 s.done.yet }) s.time)
+              (ended_time u r h k recorded is ∙ st.time)
+              (freed_slots i s st j.arena last d name.DoneYet c.first freed_done off_done)
+              (freed_lists i s st j.arena last d name.DoneYet c.first freed_done off_done t (beside_done_yet s a (drop 1 s.done.yet)) refl)
+              (freed_timers i s st j.arena last d name.DoneYet c.first freed_done off_done reached no_timer)
+              sound recorded.fit;
+        }
+
+  -- ---- a handle
+
+  module _ (e : Id) (q : HandleRecord) (f : FirstIs i.arena name.ClosingYet e q) (v : Content) (u : TakeUndo Content)
+      (is : r.change ≡ change.Closed u) (c : IsTaken handle_in Handle (counted_of i) (counted_of j) d v u) where
+    one : d ≡ e
+    one = first_one i.arena name.ClosingYet e d f.first c.first
+
+    freed_closing : plain_slots j.arena ≡ freed last e (plain_slots i.arena)
+    freed_closing = c.plain ∙ (λ l. freed (so l) (one l) (plain_slots i.arena))
+
+    off_closing : (l : ListName) → arena.members j.arena l ≡ without eqb (arena.members i.arena l) e.slot
+    off_closing l = c.lists l ∙ ap (λ (z : Id). without eqb (arena.members i.arena l) z.slot) one
+
+    -- it closes, so it is no active timer
+    no_timer : (s : State) → StandsFor i s → IsReached s → (due : Due) → IsTimer s due e → ⊥
+    no_timer s st reached due timer =
+        let front = front_there i s name.ClosingYet e st f.first in
+        let on : has_id (s.closing.list ++ s.closing.yet) e ≡ true =
+        ap (λ ids. has_id (s.closing.list ++ ids) e) front ∙ in_middle s.closing.list (map (id_in i.arena) f.first.rest) e in
+        let closes = reached.closing.each e on in
+        let off : closes.its.active ≡ false = reached.shut e closes.its closes.holds closes.closing in
+        let same : Some closes.its ≡ Some timer.its = sym closes.holds ∙ timer.holds in
+        let active = timer.active in
+        cc
+
+    pub handle_gone : (s : State) → StandsFor i s → IsReached s → HandleGone last j s e q
+    handle_gone s st reached =
+        let a = freed last e s.arena in
+        let t : State = record s { arena = a; closing = record s.closing { yet = drop 1 s.closing.yet } } in
+        record {
+          front = front_is i s st name.ClosingYet e (Some q) f.first f.handle;
+          stands = stands_then i j s t st (closed_keeps u r h k recorded is)
+              (sections_kept s a s.idle s.prepare s.check s.async (record s.closing { yet = drop 1 s.closing.yet }) s.done s.time)
+              (closed_time u r h k recorded is ∙ st.time)
+              (freed_slots i s st j.arena last e name.ClosingYet f.first freed_closing off_closing)
+              (freed_lists i s st j.arena last e name.ClosingYet f.first freed_closing off_closing t
+              (beside_closing_yet s a (drop 1 s.closing.yet)) refl)
+              (freed_timers i s st j.arena last e name.ClosingYet f.first freed_closing off_closing reached (no_timer s st reached))
+              sound recorded.fit;
+        }

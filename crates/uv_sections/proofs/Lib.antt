@@ -1,0 +1,9 @@
+pub mod Calls
+pub mod Called
+pub mod Keeping
+pub mod Watched
+pub mod Begins
+pub mod Frees
+pub mod Firsts
+pub mod Ends
+pub mod Moves

@@ -1,0 +1,149 @@
+-- The front of those that a section has yet to run moves to the end of its list: what the memory stands for then.
+use Rattle.std.proofs.Common.{◌≡◌, ◌≢◌, ◌++◌, ◌∷◌, [], ℕ, Bool, true, false, map, drop, Some, refl, sym, ap, ◌∙◌}
+use Rattle.std.proofs.lemmas.List.{map-set, map-append}
+use Rattle.uv_ids.specs.declared.id.Id.{Id}
+use Rattle.uv_records.specs.declared.handle.HandleRecord.{HandleRecord}
+use Rattle.uv_records.specs.declared.lists.WatcherKind.{WatcherKind}
+use Rattle.uv_records.specs.declared.lists.WatcherKind.TheVariants as watcher
+use Rattle.uv_records.specs.declared.lists.ListName.{ListName}
+use Rattle.uv_records.specs.declared.slot.Slot.{Slot}
+use Rattle.uv_records.specs.Handles.{woken}
+use Rattle.uv_records.specs.Lists.{list_of, yet_of}
+use Rattle.uv_records.specs.Slots as plain
+use Rattle.uv_records.specs.Walks.{Walk, moved_on}
+use Rattle.uv_arena.specs.Image as arena
+use Rattle.uv_arena.specs.Image.{IsSound, plain_slots}
+use Rattle.uv_handle.specs.Counted.{record_at}
+use Rattle.uv_handle.proofs.Counts as handles
+use Rattle.uv_requests.specs.Working.{id_in}
+use Rattle.uv_requests.proofs.Holding.{listed_id}
+use Rattle.uv_watch.specs.declared.undo.WalkUndo.{WalkUndo}
+use Rattle.uv_watch.specs.Watch.{IsMovedOn, pending_of}
+use Rattle.uv_model.specs.declared.content.Content as content
+use Rattle.uv_model.specs.declared.content.Content.TheVariants as holds
+use Rattle.uv_model.specs.declared.place.Place.{Place}
+use Rattle.uv_model.specs.State.{State, front, watched, with_handle}
+use Rattle.uv_model.specs.Queries.{members}
+use Rattle.uv_model.specs.Next.{front_moved}
+use Rattle.uv_step.specs.declared.content.Content.{Content}
+use Rattle.uv_step.specs.declared.content.Content.TheVariants.{Handle}
+use Rattle.uv_step.specs.declared.record.Change.TheVariants as change
+use Rattle.uv_step.specs.declared.record.Record.{Record}
+use Rattle.uv_step.specs.Content.{handle_in}
+use Rattle.uv_step.specs.Does.{FirstIs}
+use Rattle.uv_step.specs.Image.{Image, Held, counted_of}
+use Rattle.uv_step.specs.Undo.{Recorded}
+use Rattle.uv_stands.specs.Contents.{slot_of, slots_of}
+use Rattle.uv_stands.specs.Stands.{StandsFor}
+use Rattle.uv_stands.proofs.Holding.{ids_kept}
+use Rattle.uv_stands.proofs.Lists.{Listed, all_but_two, beside_lists}
+use Rattle.uv_stands.proofs.Pools.{ids_moved, front_there, first_one}
+use Rattle.uv_sections.specs.Moved.{HandleMoved, moved_state}
+use Rattle.uv_sections.proofs.Firsts.{front_is}
+use Rattle.uv_sections.proofs.Keeping.{KeepsState, walked_keeps, walked_time, all_timers, listed_as, stands_then}
+use Rattle.uv_sections.proofs.Watched.{list_is, yet_is, list_now, yet_now, others_stay, arena_stays, time_stays, state_stays}
+
+-- a handle that isn't an async one isn't woken
+pub calls_all : (w : WatcherKind) (r : HandleRecord) → w ≢ watcher.Async → pending_of w (Some r) ≡ false
+calls_all watcher.Idle r ne = refl
+calls_all watcher.Prepare r ne = refl
+calls_all watcher.Check r ne = refl
+calls_all watcher.Async r ne = absurd (ne refl)
+
+module _ (r : Record Place) (h k : Held Place) (recorded : Recorded r h k) (sound : IsSound k.image.arena) (w : WatcherKind) (e : Id) (pending : Bool)
+    (u : WalkUndo) (is : r.change ≡ change.Walked u) (c : IsMovedOn handle_in Handle (counted_of h.image) (counted_of k.image) w e pending u) where
+  abbrev i : Image Place
+  i = h.image
+
+  abbrev j : Image Place
+  j = k.image
+
+  module _ (d : Id) (q : HandleRecord) (f : FirstIs i.arena (yet_of w) d q) where
+    one : e ≡ d
+    one = first_one i.arena (yet_of w) d e f.first c.first
+
+    handle_e : record_at handle_in i.arena e ≡ Some q
+    handle_e = ap (record_at handle_in i.arena) one ∙ f.handle
+
+    pub pends : pending ≡ pending_of w (Some q)
+    pends = c.was ∙ ap (pending_of w) handle_e
+
+    module _ (s : State) (st : StandsFor i s) where
+      abbrev walk : Walk Id
+      walk = moved_on (watched s w) d (drop 1 (watched s w).yet)
+
+      -- the two lists, where each id stays
+      module _ (ids : (x : ℕ) → id_in j.arena x ≡ id_in i.arena x) (t : State)
+          (lists : (l : ListName) → members t l ≡ members (front_moved s w d) l) where
+        here : Listed j.arena t (list_of w)
+        here =
+            let old = arena.members i.arena (list_of w) in
+            let same : id_in i.arena e.slot ≡ d = listed_id i.arena e c.first.listed.held ∙ one in
+            let was : (watched s w).list ≡ map (id_in i.arena) old = sym (list_is s w) ∙ st.lists (list_of w) in
+            listed_as i.arena j.arena t (list_of w) walk.list (old ++ e.slot ∷ []) ids
+            ((λ l. was l ++ sym same l ∷ []) ∙ sym (map-append (id_in i.arena) old (e.slot ∷ [])))
+            (lists (list_of w) ∙ list_now s w walk) (ap (λ (x : Walk ℕ). x.list) c.walk)
+
+        there : Listed j.arena t (yet_of w)
+        there =
+            let front = front_there i s (yet_of w) e st c.first in
+            listed_as i.arena j.arena t (yet_of w) walk.yet c.first.rest ids (ap (drop 1) (sym (yet_is s w) ∙ front))
+            (lists (yet_of w) ∙ yet_now s w walk) (ap (λ (x : Walk ℕ). x.yet) c.walk)
+
+        all_lists : (l : ListName) → Listed j.arena t l
+        all_lists = all_but_two i s st j.arena t ids (list_of w) (yet_of w) c.others (λ l a b. lists l ∙ others_stay s w walk l a b) here there
+
+      asleep_stands : pending ≡ false → StandsFor j (front_moved s w d)
+      asleep_stands off =
+          let ids = ids_moved i.arena j.arena (c.asleep off) in
+          let t = front_moved s w d in
+          stands_then i j s t st (walked_keeps u r h k recorded is) (state_stays s w walk)
+          (walked_time u r h k recorded is ∙ st.time ∙ sym (time_stays s w walk))
+          (c.asleep off ∙ st.slots ∙ ap (λ a. slots_of a) (sym (arena_stays s w walk)))
+          (all_lists ids t (λ l. refl)) (all_timers i.arena j.arena s.timers ids) sound recorded.fit
+
+      awake_stands : pending ≡ true → StandsFor j (with_handle (front_moved s w d) d (woken q))
+      awake_stands on =
+          let m = front_moved s w d in
+          let t = with_handle m d (woken q) in
+          let set : plain_slots j.arena ≡ record (plain_slots i.arena) { slots = plain.with_held (plain_slots i.arena).slots d (Handle (woken q)) } =
+          c.awake q handle_e on
+          ∙ ap (λ z. (let x : plain.Slots Content = record (plain_slots i.arena) {
+            slots = plain.with_held (plain_slots i.arena).slots z (Handle (woken q));
+          } in x)) one in
+          let was = handles.content_of handle_in i.arena d q f.handle in
+          let ids = ids_kept i.arena j.arena d (Handle (woken q)) was.0 was.1 set in
+          let new : Slot content.Content = record { generation = d.generation; content = Some (holds.Handle (woken q)) } in
+          let slots : plain_slots j.arena ≡ slots_of t.arena =
+          set
+          ∙ ap (λ (z : plain.Slots Content). (let x : plain.Slots Content = record z { slots = plain.with_held z.slots d (Handle (woken q)) } in x))
+          st.slots
+          ∙ ap (λ xs. (let x : plain.Slots Content = record { slots = xs; free = s.arena.free; unused = s.arena.unused } in x))
+          (sym (map-set slot_of s.arena.slots d.slot new))
+          ∙ ap (λ (a : plain.Slots content.Content). slots_of (record a { slots = plain.with_held a.slots d (holds.Handle (woken q)) }))
+          (sym (arena_stays s w walk)) in
+          let stays = state_stays s w walk in
+          let kept : KeepsState s t = record {
+            place = stays.place;
+            names = stays.names;
+            timers = stays.timers;
+            running = stays.running;
+            clock = stays.clock;
+            next_start = stays.next_start;
+            stop_flag = stays.stop_flag;
+            idled = stays.idled;
+          } in
+          let lists : (l : ListName) → members t l ≡ members m l =
+          beside_lists m m.place m.names t.arena m.timers m.running m.time m.clock m.next_start m.stop_flag m.idled in
+          stands_then i j s t st (walked_keeps u r h k recorded is) kept (walked_time u r h k recorded is ∙ st.time ∙ sym (time_stays s w walk))
+          slots (all_lists ids t lists) (all_timers i.arena j.arena s.timers ids) sound recorded.fit
+
+      pub handle_moved : HandleMoved w j s d q pending
+      handle_moved = record {
+        front = ap (front s) (sym (yet_is s w)) ∙ front_is i s st (yet_of w) d (Some q) f.first f.handle;
+        was = pends;
+        stands = at pending refl;
+      } where
+        at : (b : Bool) → pending ≡ b → StandsFor j (moved_state b s w d q)
+        at true on = awake_stands on
+        at false off = asleep_stands off

@@ -1,0 +1,100 @@
+-- The walked lists of a state: what one of them holds, and what the others do where it changes.
+use Rattle.std.proofs.Common.{◌≡◌, ◌≢◌, ℕ, List, refl}
+use Rattle.uv_ids.specs.declared.id.Id.{Id}
+use Rattle.uv_records.specs.declared.lists.ListName.{ListName}
+use Rattle.uv_records.specs.declared.lists.ListName.TheVariants as name
+use Rattle.uv_records.specs.declared.lists.WatcherKind.{WatcherKind}
+use Rattle.uv_records.specs.declared.lists.WatcherKind.TheVariants as watcher
+use Rattle.uv_records.specs.Lists.{list_of, yet_of}
+use Rattle.uv_records.specs.Walks.{Walk}
+use Rattle.uv_records.specs.Slots as plain
+use Rattle.uv_model.specs.declared.content.Content as content
+use Rattle.uv_model.specs.State.{State, watched, with_watched}
+use Rattle.uv_model.specs.Queries.{members}
+use Rattle.uv_sections.proofs.Keeping.{KeepsState, sections_kept}
+
+-- ---- what a section walks, as lists
+
+pub list_is : (s : State) (w : WatcherKind) → members s (list_of w) ≡ (watched s w).list
+list_is s watcher.Idle = refl
+list_is s watcher.Prepare = refl
+list_is s watcher.Check = refl
+list_is s watcher.Async = refl
+
+pub yet_is : (s : State) (w : WatcherKind) → members s (yet_of w) ≡ (watched s w).yet
+yet_is s watcher.Idle = refl
+yet_is s watcher.Prepare = refl
+yet_is s watcher.Check = refl
+yet_is s watcher.Async = refl
+
+-- ---- one that changes
+
+module _ (s : State) where
+  pub list_now : (w : WatcherKind) (q : Walk Id) → members (with_watched s w q) (list_of w) ≡ q.list
+  list_now watcher.Idle q = refl
+  list_now watcher.Prepare q = refl
+  list_now watcher.Check q = refl
+  list_now watcher.Async q = refl
+
+  pub yet_now : (w : WatcherKind) (q : Walk Id) → members (with_watched s w q) (yet_of w) ≡ q.yet
+  yet_now watcher.Idle q = refl
+  yet_now watcher.Prepare q = refl
+  yet_now watcher.Check q = refl
+  yet_now watcher.Async q = refl
+
+  pub others_stay : (w : WatcherKind) (q : Walk Id) (l : ListName) → l ≢ list_of w → l ≢ yet_of w → members (with_watched s w q) l ≡ members s l
+  others_stay watcher.Idle q name.Idle a b = absurd (a refl)
+  others_stay watcher.Idle q name.IdleYet a b = absurd (b refl)
+  others_stay watcher.Idle q l a b = refl
+  others_stay watcher.Prepare q name.Prepare a b = absurd (a refl)
+  others_stay watcher.Prepare q name.PrepareYet a b = absurd (b refl)
+  others_stay watcher.Prepare q l a b = refl
+  others_stay watcher.Check q name.Check a b = absurd (a refl)
+  others_stay watcher.Check q name.CheckYet a b = absurd (b refl)
+  others_stay watcher.Check q l a b = refl
+  others_stay watcher.Async q name.Async a b = absurd (a refl)
+  others_stay watcher.Async q name.AsyncYet a b = absurd (b refl)
+  others_stay watcher.Async q l a b = refl
+
+  pub arena_stays : (w : WatcherKind) (q : Walk Id) → (with_watched s w q).arena ≡ s.arena
+  arena_stays watcher.Idle q = refl
+  arena_stays watcher.Prepare q = refl
+  arena_stays watcher.Check q = refl
+  arena_stays watcher.Async q = refl
+
+  pub time_stays : (w : WatcherKind) (q : Walk Id) → (with_watched s w q).time ≡ s.time
+  time_stays watcher.Idle q = refl
+  time_stays watcher.Prepare q = refl
+  time_stays watcher.Check q = refl
+  time_stays watcher.Async q = refl
+
+  pub state_stays : (w : WatcherKind) (q : Walk Id) → KeepsState s (with_watched s w q)
+  state_stays watcher.Idle q = sections_kept s s.arena q s.prepare s.check s.async s.closing s.done s.time
+  state_stays watcher.Prepare q = sections_kept s s.arena s.idle q s.check s.async s.closing s.done s.time
+  state_stays watcher.Check q = sections_kept s s.arena s.idle s.prepare q s.async s.closing s.done s.time
+  state_stays watcher.Async q = sections_kept s s.arena s.idle s.prepare s.check q s.closing s.done s.time
+
+-- ---- those that close, and those that are done
+
+module _ (s : State) (a : plain.Slots content.Content) (time : ℕ) (q : Walk Id) where
+  pub beside_closing : (l : ListName) → l ≢ name.Closing → l ≢ name.ClosingYet
+      → members (record s { arena = a; closing = q; time = time }) l ≡ members s l
+  beside_closing name.Closing x y = absurd (x refl)
+  beside_closing name.ClosingYet x y = absurd (y refl)
+  beside_closing l x y = refl
+
+  pub beside_done : (l : ListName) → l ≢ name.Done → l ≢ name.DoneYet → members (record s { arena = a; done = q; time = time }) l ≡ members s l
+  beside_done name.Done x y = absurd (x refl)
+  beside_done name.DoneYet x y = absurd (y refl)
+  beside_done l x y = refl
+
+-- one that was at the front of those yet to run is gone from there
+module _ (s : State) (a : plain.Slots content.Content) (yet : List Id) where
+  pub beside_closing_yet : (l : ListName) → l ≢ name.ClosingYet
+      → members (record s { arena = a; closing = record s.closing { yet = yet } }) l ≡ members s l
+  beside_closing_yet name.ClosingYet x = absurd (x refl)
+  beside_closing_yet l x = refl
+
+  pub beside_done_yet : (l : ListName) → l ≢ name.DoneYet → members (record s { arena = a; done = record s.done { yet = yet } }) l ≡ members s l
+  beside_done_yet name.DoneYet x = absurd (x refl)
+  beside_done_yet l x = refl

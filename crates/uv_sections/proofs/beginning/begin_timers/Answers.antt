@@ -1,0 +1,5 @@
+use Rattle.std.proofs.Common.{refl}
+use Rattle.uv_sections.proofs.beginning.begin_timers.Goals as goal
+
+pub returns-clause-goes : goal.returns-clause-goes
+returns-clause-goes c s h reached = (_, refl, c.stand_in-step_record.ensures.stands _ (c.refresh-step_record.ensures.stands s h))

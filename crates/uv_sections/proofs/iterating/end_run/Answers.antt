@@ -1,0 +1,14 @@
+use Rattle.std.proofs.Common.{◌+◌, Bool, false, Some, ap}
+use Rattle.uv_ids.specs.declared.seen.Seen.TheVariants.{End}
+use Rattle.uv_model.specs.declared.place.Place.TheVariants.{Main}
+use Rattle.uv_model.specs.State.{State}
+use Rattle.uv_model.specs.Next.{Moves}
+use Rattle.uv_sections.proofs.iterating.end_run.Goals as goal
+
+pub returns-clause-goes : goal.returns-clause-goes
+returns-clause-goes c s h reached =
+    let ended : State = record s { place = Main (c.args.run.line + 1); stop_flag = false } in (
+      ended,
+      ap (λ (b : Bool). Moves ended (Some (End b))) (c.is_alive-alive.ensures s h reached),
+      c.stand_at-step_record.ensures.stands _ (c.clear_stop-step_record.ensures.stands s h),
+    )

@@ -1,0 +1,159 @@
+//! Sections and runs begin.
+ghost use Rattle.std.specs.Prelude.{◌≡◌, Some, [], if◌then◌else◌};
+ghost use Rattle.uv_records.specs.declared.lists.ListName.TheVariants.{ClosingYet, DoneYet};
+ghost use Rattle.uv_records.specs.Lists.{yet_of};
+ghost use Rattle.uv_records.specs.Walks.{all_yet};
+ghost use Rattle.uv_arena.specs.Image.{members};
+ghost use Rattle.uv_script.specs.declared.op.MainOp.TheVariants.{Run as run_line};
+ghost use Rattle.uv_model.specs.State.{State, watched, with_watched, refreshed};
+ghost use Rattle.uv_model.specs.Next.{stage_of, begin_walk, begin_closing, begin_done, begin_timers, main_step, is_default};
+ghost use Rattle.uv_step.specs.Fit.{IsFit};
+ghost use Rattle.uv_step.specs.Image.{held};
+ghost use Rattle.uv_step.specs.Undo.{Recorded};
+ghost use Rattle.uv_stands.specs.Doing.{Returns, Goes};
+ghost use Rattle.uv_stands.specs.Stands.{StandsFor};
+
+use crate::standing::stand_in;
+use uv_ids::{Mode, Phase, Seen};
+use uv_model::{Place, Run, Stage, TimersOf, Timing};
+use uv_records::WatcherKind;
+use uv_step::{Memory, Record};
+
+/// The place of a section that walks handles of a kind.
+fn stage_of(kind: WatcherKind) -> Stage
+    ensures { result ≡ stage_of kind }
+{
+    match kind {
+        WatcherKind::Idle => Stage::Idle,
+        WatcherKind::Prepare => Stage::Prepare,
+        WatcherKind::Check => Stage::Check,
+        WatcherKind::Async => Stage::Async,
+    }
+}
+
+/// The whole list of a kind is yet to run.
+fn make_all_yet(memory: &mut Memory<Place>, kind: WatcherKind) -> Record<Place>
+    requires fit { IsFit (held memory.old).image }
+    requires empty { members (held memory.old).image.arena (yet_of kind) ≡ [] }
+    ensures recorded { Recorded result (held memory.old) (held memory.new) }
+    ensures stands { (s : State) → StandsFor (held memory.old).image s
+        → StandsFor (held memory.new).image (with_watched s kind (all_yet (watched s kind))) }
+{
+    let step_record = memory.begin(kind);
+    memory.slots.is_sound();
+    step_record
+}
+
+/// Begins a section of watchers.
+pub fn begin_walk(memory: &mut Memory<Place>, run: Run, kind: WatcherKind) -> (Seen, Record<Place>)
+    requires fit { IsFit (held memory.old).image }
+    requires empty { members (held memory.old).image.arena (yet_of kind) ≡ [] }
+    ensures returns { Returns result.1 (held memory.old) (held memory.new) }
+    ensures goes { Goes (λ s. begin_walk s run kind) (held memory.old).image (held memory.new).image (Some result.0) }
+{
+    let step_record = make_all_yet(memory, kind);
+    let step_record = stand_in(memory, step_record, run, stage_of(kind));
+    (Seen::Section(kind.phase()), step_record)
+}
+
+/// The handles that close are yet to be called.
+fn close_all_yet(memory: &mut Memory<Place>) -> Record<Place>
+    requires fit { IsFit (held memory.old).image }
+    requires empty { members (held memory.old).image.arena ClosingYet ≡ [] }
+    ensures recorded { Recorded result (held memory.old) (held memory.new) }
+    ensures stands { (s : State) → StandsFor (held memory.old).image s
+        → StandsFor (held memory.new).image (record s { closing = all_yet s.closing }) }
+{
+    let step_record = memory.begin_closing();
+    memory.slots.is_sound();
+    step_record
+}
+
+/// Begins the closing section.
+pub fn begin_closing(memory: &mut Memory<Place>, run: Run) -> (Seen, Record<Place>)
+    requires fit { IsFit (held memory.old).image }
+    requires empty { members (held memory.old).image.arena ClosingYet ≡ [] }
+    ensures returns { Returns result.1 (held memory.old) (held memory.new) }
+    ensures goes { Goes (λ s. begin_closing s run) (held memory.old).image (held memory.new).image (Some result.0) }
+{
+    let step_record = close_all_yet(memory);
+    let step_record = stand_in(memory, step_record, run, Stage::Closing);
+    (Seen::Section(Phase::Closing), step_record)
+}
+
+/// The time is refreshed, and the requests that are done are yet to call back.
+fn end_all_yet(memory: &mut Memory<Place>) -> Record<Place>
+    requires fit { IsFit (held memory.old).image }
+    requires empty { members (held memory.old).image.arena DoneYet ≡ [] }
+    ensures recorded { Recorded result (held memory.old) (held memory.new) }
+    ensures stands { (s : State) → StandsFor (held memory.old).image s
+        → StandsFor (held memory.new).image (record (refreshed s) { done = all_yet s.done }) }
+{
+    let step_record = memory.leave_poll();
+    memory.slots.is_sound();
+    step_record
+}
+
+/// Leaves the poll.
+pub fn begin_done(memory: &mut Memory<Place>, run: Run) -> (Seen, Record<Place>)
+    requires fit { IsFit (held memory.old).image }
+    requires empty { members (held memory.old).image.arena DoneYet ≡ [] }
+    ensures returns { Returns result.1 (held memory.old) (held memory.new) }
+    ensures goes { Goes (λ s. begin_done s run) (held memory.old).image (held memory.new).image (Some result.0) }
+{
+    let step_record = end_all_yet(memory);
+    let step_record = stand_in(memory, step_record, run, Stage::Done);
+    (Seen::Section(Phase::Done), step_record)
+}
+
+/// The loop's time is that of the clock.
+fn refresh(memory: &mut Memory<Place>) -> Record<Place>
+    requires fit { IsFit (held memory.old).image }
+    ensures recorded { Recorded result (held memory.old) (held memory.new) }
+    ensures stands { (s : State) → StandsFor (held memory.old).image s → StandsFor (held memory.new).image (refreshed s) }
+{
+    memory.update_time()
+}
+
+/// Begins the timers of an iteration, with the time refreshed.
+pub fn begin_timers(memory: &mut Memory<Place>, run: Run) -> (Seen, Record<Place>)
+    requires fit { IsFit (held memory.old).image }
+    ensures returns { Returns result.1 (held memory.old) (held memory.new) }
+    ensures goes { Goes (λ s. begin_timers s run) (held memory.old).image (held memory.new).image (Some result.0) }
+{
+    let step_record = refresh(memory);
+    let stage = Stage::Timers(TimersOf::Iteration, Timing::Collecting);
+    let step_record = stand_in(memory, step_record, run, stage);
+    (Seen::Section(Phase::Timers), step_record)
+}
+
+/// The loop's time is that of the clock in a default run, and stays in another one.
+fn refresh_in(memory: &mut Memory<Place>, mode: Mode) -> Record<Place>
+    requires fit { IsFit (held memory.old).image }
+    ensures recorded { Recorded result (held memory.old) (held memory.new) }
+    ensures stands { (s : State) → StandsFor (held memory.old).image s
+        → StandsFor (held memory.new).image (if is_default mode then refreshed s else s) }
+{
+    match mode {
+        Mode::Default => refresh(memory),
+        Mode::Once | Mode::Nowait => memory.pass(),
+    }
+}
+
+/// Begins a run of a line of the main program (uv_run).
+pub fn begin_run(memory: &mut Memory<Place>, line: usize, mode: Mode) -> (Seen, Record<Place>)
+    requires fit { IsFit (held memory.old).image }
+    ensures returns { Returns result.1 (held memory.old) (held memory.new) }
+    ensures goes { Goes (λ s. main_step s line (Some (run_line mode)))
+        (held memory.old).image (held memory.new).image (Some result.0) }
+{
+    let step_record = refresh_in(memory, mode);
+    let run = Run {
+        mode,
+        line,
+        stage: Stage::Entry,
+        body: None,
+    };
+    let step_record = stand_in(memory, step_record, run, Stage::Entry);
+    (Seen::Run(mode), step_record)
+}

@@ -1,0 +1,140 @@
+//! Requests call back, and closing handles end: their slots are freed.
+ghost use Rattle.std.specs.Prelude.{◌≡◌, Option, Some, None, IfSome, IfNone};
+ghost use Rattle.uv_ids.specs.declared.seen.Seen.TheVariants.{After as after};
+ghost use Rattle.uv_script.specs.Program.{arena_size};
+ghost use Rattle.uv_work.specs.declared.outcome.Outcome.{Outcome};
+ghost use Rattle.uv_model.specs.Content.{digest_in};
+ghost use Rattle.uv_model.specs.State.{State, front, front_request};
+ghost use Rattle.uv_model.specs.Next.{collect_request, close_front};
+ghost use Rattle.uv_step.specs.Fit.{IsFit};
+ghost use Rattle.uv_step.specs.Image.{held};
+ghost use Rattle.uv_step.specs.Undo.{Recorded};
+ghost use Rattle.uv_stands.specs.Doing.{OfEach, Returns, Goes};
+ghost use Rattle.uv_stands.specs.Ready.{IsReady};
+ghost use Rattle.uv_sections.specs.Gone.{RequestGone, HandleGone};
+
+use crate::calling::begin_body;
+use crate::fronts::front_handle;
+use uv_ids::{Callback, Id, Seen, Var};
+use uv_model::{Place, Run};
+use uv_records::{HandleRecord, ListName};
+use uv_script::Script;
+use uv_step::{Memory, Record};
+use uv_work::{Outcome, RequestRecord};
+
+/// The digest that a request was finished with; none if it was cancelled.
+fn digest_in(outcome: Outcome) -> Option<[u8; 32]>
+    ensures { result ≡ digest_in outcome }
+{
+    match outcome {
+        Outcome::Finished(digest) => Some(digest),
+        Outcome::Open | Outcome::Cancelled => None,
+    }
+}
+
+/// The name of a request that calls back, and the line of its after callback.
+fn line_after(id: Id, request: RequestRecord) -> (Var, Seen)
+    ensures name { result.0 ≡ request.name }
+    ensures line { result.1 ≡ after (digest_in request.outcome) request.name id }
+{
+    let name = request.name();
+    let digest = digest_in(request.outcome());
+    (name, Seen::After(digest, name, id))
+}
+
+/// Takes the front of the requests that are yet to call back off its list, and frees its slot. None, and nothing changed, where there
+/// is none.
+fn free_request(
+    memory: &mut Memory<Place>,
+    script: &Script,
+) -> Option<(Id, RequestRecord, Record<Place>)>
+    requires fit { IsFit (held memory.old).image }
+    requires last { (held memory.old).image.arena.last ≡ (arena_size script.now).last_generation }
+    ensures recorded { IfSome result (λ r. Recorded r.2 (held memory.old) (held memory.new)) }
+    ensures gone { IfSome result (λ r. OfEach (held memory.old).image
+        (λ s. RequestGone (arena_size script.now).last_generation (held memory.new).image s r.0 r.1)) }
+    ensures same { IfNone result (held memory.new ≡ held memory.old) }
+    ensures none { IfNone result (OfEach (held memory.old).image (λ s. front_request s s.done.yet ≡ None)) }
+{
+    match memory.end_request() {
+        None => None,
+        Some(ended) => {
+            memory.slots.is_sound();
+            Some(ended)
+        }
+    }
+}
+
+/// Takes the front of the handles that are yet to be closed off its list, and frees its slot. None, and nothing changed, where there
+/// is none.
+fn free_handle(
+    memory: &mut Memory<Place>,
+    script: &Script,
+) -> Option<(Id, HandleRecord, Record<Place>)>
+    requires fit { IsFit (held memory.old).image }
+    requires last { (held memory.old).image.arena.last ≡ (arena_size script.now).last_generation }
+    ensures recorded { IfSome result (λ r. Recorded r.2 (held memory.old) (held memory.new)) }
+    ensures gone { IfSome result (λ r. OfEach (held memory.old).image
+        (λ s. HandleGone (arena_size script.now).last_generation (held memory.new).image s r.0 r.1)) }
+    ensures same { IfNone result (held memory.new ≡ held memory.old) }
+    ensures none { IfNone result (OfEach (held memory.old).image (λ s. front s s.closing.yet ≡ None)) }
+{
+    match front_handle(memory, ListName::ClosingYet) {
+        None => None,
+        Some((id, handle)) => match memory.end_handle() {
+            None => None,
+            Some((_, step_record)) => {
+                memory.slots.is_sound();
+                Some((id, handle, step_record))
+            }
+        },
+    }
+}
+
+/// Calls back the front of the requests that are done, whose slot is freed. None, and nothing changed, where there is none.
+pub(crate) fn collect_request(
+    memory: &mut Memory<Place>,
+    script: &Script,
+    run: Run,
+) -> Option<(Seen, Record<Place>)>
+    requires ready { IsReady (held memory.old) }
+    requires last { (held memory.old).image.arena.last ≡ (arena_size script.now).last_generation }
+    ensures returns { IfSome result (λ r. Returns r.1 (held memory.old) (held memory.new)) }
+    ensures goes { IfSome result (λ r. Goes (λ s. collect_request script.now s run)
+        (held memory.old).image (held memory.new).image (Some r.0)) }
+    ensures same { IfNone result (held memory.new ≡ held memory.old) }
+    ensures none { IfNone result (OfEach (held memory.old).image (λ s. front_request s s.done.yet ≡ None)) }
+{
+    match free_request(memory, script) {
+        None => None,
+        Some(freed) => {
+            let (name, line) = line_after(freed.0, freed.1);
+            let step_record = begin_body(memory, freed.2, script, run, Callback::After, name);
+            Some((line, step_record))
+        }
+    }
+}
+
+/// Calls the close callback of the front of the closing handles, whose slot is freed. None, and nothing changed, where there is none.
+pub(crate) fn close_front(
+    memory: &mut Memory<Place>,
+    script: &Script,
+    run: Run,
+) -> Option<(Seen, Record<Place>)>
+    requires ready { IsReady (held memory.old) }
+    requires last { (held memory.old).image.arena.last ≡ (arena_size script.now).last_generation }
+    ensures returns { IfSome result (λ r. Returns r.1 (held memory.old) (held memory.new)) }
+    ensures goes { IfSome result (λ r. Goes (λ s. close_front script.now s run)
+        (held memory.old).image (held memory.new).image (Some r.0)) }
+    ensures same { IfNone result (held memory.new ≡ held memory.old) }
+    ensures none { IfNone result (OfEach (held memory.old).image (λ s. front s s.closing.yet ≡ None)) }
+{
+    match free_handle(memory, script) {
+        None => None,
+        Some((id, handle, freed)) => {
+            let name = handle.name;
+            let step_record = begin_body(memory, freed, script, run, Callback::Close, name);
+            Some((Seen::Closed(name, id), step_record))
+        }
+    }
+}

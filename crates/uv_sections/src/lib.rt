@@ -1,0 +1,21 @@
+//! The sections of a run over a loop's memory.
+#![tactic(auto)]
+
+mod beginning;
+mod calling;
+mod freeing;
+mod fronts;
+mod iterating;
+mod polling;
+mod sections;
+mod standing;
+mod timers;
+mod walking;
+
+pub use beginning::{begin_closing, begin_done, begin_run, begin_timers, begin_walk};
+pub use calling::begin_body;
+pub use iterating::{end_run, enter, leave_timers, new_iteration};
+pub use polling::{begin_poll, poll};
+pub use sections::{in_async, in_check, in_closing, in_done, in_idle, in_prepare};
+pub use standing::stand_at;
+pub use timers::in_timers;

@@ -1,0 +1,126 @@
+//! The section of timers: those that are due are set aside, and then called.
+ghost use Rattle.std.specs.Prelude.{◌≡◌, ◌<◌, ◌^◌, Some, None, IfSome, IfNone};
+ghost use Rattle.uv_script.specs.Program.{Program};
+ghost use Rattle.uv_model.specs.Next.{fire, collect, timers};
+ghost use Rattle.uv_step.specs.Image.{held};
+ghost use Rattle.uv_stands.specs.Doing.{Returns, Goes};
+ghost use Rattle.uv_stands.specs.Ready.{IsReady};
+ghost use Rattle.uv_timing.specs.Section.{CollectsNone, FiresNone};
+
+use crate::calling::begin_body;
+use crate::iterating::leave_timers;
+use crate::standing::stand_in;
+use uv_ids::{Callback, Seen};
+use uv_model::{Place, Run, Stage, TimersOf, Timing};
+use uv_script::Script;
+use uv_step::{Memory, Record};
+use uv_timing::{collect_timer, fire_timer};
+
+/// Calls the front of the timers that are set aside. None, and nothing changed, where there is none.
+fn call_timer(
+    memory: &mut Memory<Place>,
+    script: &Script,
+    run: Run,
+    part: TimersOf,
+) -> Option<(Seen, Record<Place>)>
+    requires ready { IsReady (held memory.old) }
+    ensures returns { IfSome result (λ r. Returns r.1 (held memory.old) (held memory.new)) }
+    ensures goes { IfSome result (λ r. Goes (λ s. fire script.now s run part)
+        (held memory.old).image (held memory.new).image (Some r.0)) }
+    ensures same { IfNone result (held memory.new ≡ held memory.old) }
+    ensures none { IfNone result (FiresNone (held memory.old).image) }
+{
+    match fire_timer(memory) {
+        None => None,
+        Some((id, name, fired)) => {
+            let firing = Run {
+                stage: Stage::Timers(part, Timing::Firing),
+                ..run
+            };
+            let step_record = begin_body(memory, fired, script, firing, Callback::Handle, name);
+            Some((Seen::Call(name, id), step_record))
+        }
+    }
+}
+
+/// Calls the front of the timers that are set aside, or leaves the section.
+fn fire(
+    memory: &mut Memory<Place>,
+    script: &Script,
+    run: Run,
+    part: TimersOf,
+) -> (Seen, Record<Place>)
+    requires ready { IsReady (held memory.old) }
+    requires line { run.line < 2 ^ 63 }
+    ensures returns { Returns result.1 (held memory.old) (held memory.new) }
+    ensures goes { Goes (λ s. fire script.now s run part)
+        (held memory.old).image (held memory.new).image (Some result.0) }
+{
+    match call_timer(memory, script, run, part) {
+        Some(called) => called,
+        None => leave_timers(memory, run, part),
+    }
+}
+
+/// Sets the first timer aside, if it is due. None, and nothing changed, where none is.
+fn set_aside(memory: &mut Memory<Place>, run: Run, part: TimersOf) -> Option<Record<Place>>
+    requires ready { IsReady (held memory.old) }
+    ensures returns { IfSome result (λ r. Returns r (held memory.old) (held memory.new)) }
+    ensures goes { IfSome result (λ _. (p : Program)
+        → Goes (λ s. collect p s run part) (held memory.old).image (held memory.new).image None) }
+    ensures same { IfNone result (held memory.new ≡ held memory.old) }
+    ensures none { IfNone result (CollectsNone (held memory.old).image) }
+{
+    match collect_timer(memory) {
+        None => None,
+        Some((_, collected)) => {
+            let stage = Stage::Timers(part, Timing::Collecting);
+            Some(stand_in(memory, collected, run, stage))
+        }
+    }
+}
+
+/// Sets the first timer aside, without a line, if it is due; else begins to call those that are.
+fn collect(
+    memory: &mut Memory<Place>,
+    script: &Script,
+    run: Run,
+    part: TimersOf,
+) -> (Option<Seen>, Record<Place>)
+    requires ready { IsReady (held memory.old) }
+    requires line { run.line < 2 ^ 63 }
+    ensures returns { Returns result.1 (held memory.old) (held memory.new) }
+    ensures goes { Goes (λ s. collect script.now s run part)
+        (held memory.old).image (held memory.new).image result.0 }
+{
+    match set_aside(memory, run, part) {
+        Some(collected) => (None, collected),
+        None => {
+            let (line, step_record) = fire(memory, script, run, part);
+            (Some(line), step_record)
+        }
+    }
+}
+
+/// Goes on in a section of timers.
+pub fn in_timers(
+    memory: &mut Memory<Place>,
+    script: &Script,
+    run: Run,
+    part: TimersOf,
+    timing: Timing,
+) -> (Option<Seen>, Record<Place>)
+    requires ready { IsReady (held memory.old) }
+    requires line { run.line < 2 ^ 63 }
+    ensures returns { Returns result.1 (held memory.old) (held memory.new) }
+    ensures goes { Goes (λ s. timers script.now s run part timing)
+        (held memory.old).image (held memory.new).image result.0 }
+{
+    match timing {
+        Timing::Collecting => collect(memory, script, run, part),
+        Timing::Firing => {
+            let (line, step_record) = fire(memory, script, run, part);
+            (Some(line), step_record)
+        }
+    }
+}

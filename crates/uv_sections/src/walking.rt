@@ -1,0 +1,99 @@
+//! Sections of watchers call the front of those that they have yet to run.
+ghost use Rattle.std.specs.Prelude.{◌≡◌, ◌≢◌, Option, Some, None, IfSome, IfNone};
+ghost use Rattle.uv_records.specs.declared.lists.WatcherKind.TheVariants.{Async as async};
+ghost use Rattle.uv_model.specs.State.{State, front, watched};
+ghost use Rattle.uv_model.specs.Next.{walk, walk_async};
+ghost use Rattle.uv_step.specs.Fit.{IsFit};
+ghost use Rattle.uv_step.specs.Image.{held};
+ghost use Rattle.uv_step.specs.Undo.{Recorded};
+ghost use Rattle.uv_stands.specs.Doing.{OfEach, Returns, Goes};
+ghost use Rattle.uv_stands.specs.Ready.{IsReady};
+ghost use Rattle.uv_sections.specs.Moved.{HandleMoved};
+
+use crate::calling::begin_body;
+use crate::fronts::front_handle;
+use crate::standing::stand_in;
+use uv_ids::{Callback, Id, Seen};
+use uv_model::{Place, Run, Stage};
+use uv_records::{HandleRecord, WatcherKind};
+use uv_script::Script;
+use uv_step::{Memory, Record};
+
+/// Moves the front of those that are yet to run to the end of its list: whether a callback of it was pending, which then isn't any
+/// more. None, and nothing changed, where there is none.
+fn move_on(
+    memory: &mut Memory<Place>,
+    kind: WatcherKind,
+) -> Option<(Id, HandleRecord, bool, Record<Place>)>
+    requires fit { IsFit (held memory.old).image }
+    ensures recorded { IfSome result (λ r. Recorded r.3 (held memory.old) (held memory.new)) }
+    ensures moved { IfSome result (λ r. OfEach (held memory.old).image
+        (λ s. HandleMoved kind (held memory.new).image s r.0 r.1 r.2)) }
+    ensures same { IfNone result (held memory.new ≡ held memory.old) }
+    ensures none { IfNone result (OfEach (held memory.old).image (λ s. front s (watched s kind).yet ≡ None)) }
+{
+    match front_handle(memory, kind.yet()) {
+        None => None,
+        Some((id, handle)) => match memory.walk(kind) {
+            None => None,
+            Some((_, pending, step_record)) => {
+                memory.slots.is_sound();
+                Some((id, handle, pending, step_record))
+            }
+        },
+    }
+}
+
+/// Calls the front of the idle, prepare or check handles that are yet to run. None, and nothing changed, where there is none.
+pub(crate) fn walk(
+    memory: &mut Memory<Place>,
+    script: &Script,
+    run: Run,
+    kind: WatcherKind,
+) -> Option<(Seen, Record<Place>)>
+    requires ready { IsReady (held memory.old) }
+    requires other { kind ≢ async }
+    ensures returns { IfSome result (λ r. Returns r.1 (held memory.old) (held memory.new)) }
+    ensures goes { IfSome result (λ r. Goes (λ s. walk script.now s run kind)
+        (held memory.old).image (held memory.new).image (Some r.0)) }
+    ensures same { IfNone result (held memory.new ≡ held memory.old) }
+    ensures none { IfNone result (OfEach (held memory.old).image (λ s. front s (watched s kind).yet ≡ None)) }
+{
+    match move_on(memory, kind) {
+        None => None,
+        Some((id, handle, _, moved)) => {
+            let name = handle.name;
+            let step_record = begin_body(memory, moved, script, run, Callback::Handle, name);
+            Some((Seen::Call(name, id), step_record))
+        }
+    }
+}
+
+/// Calls the front of the async handles that are yet to run, if it was sent to, or passes it by. None, and nothing changed, where there
+/// is none.
+pub(crate) fn walk_async(
+    memory: &mut Memory<Place>,
+    script: &Script,
+    run: Run,
+) -> Option<(Option<Seen>, Record<Place>)>
+    requires ready { IsReady (held memory.old) }
+    ensures returns { IfSome result (λ r. Returns r.1 (held memory.old) (held memory.new)) }
+    ensures goes { IfSome result (λ r. Goes (λ s. walk_async script.now s run)
+        (held memory.old).image (held memory.new).image r.0) }
+    ensures same { IfNone result (held memory.new ≡ held memory.old) }
+    ensures none { IfNone result (OfEach (held memory.old).image (λ s. front s s.async.yet ≡ None)) }
+{
+    match move_on(memory, WatcherKind::Async) {
+        None => None,
+        Some((id, handle, pending, moved)) => {
+            if pending {
+                let name = handle.name;
+                let step_record = begin_body(memory, moved, script, run, Callback::Handle, name);
+                Some((Some(Seen::Call(name, id)), step_record))
+            } else {
+                let step_record = stand_in(memory, moved, run, Stage::Async);
+                Some((None, step_record))
+            }
+        }
+    }
+}

@@ -1,0 +1,113 @@
+-- A handle gets another record: what the memory stands for then.
+use Rattle.std.proofs.Common.{◌≡◌, ℕ, map, Some, refl, sym, ap, ◌∙◌}
+use Rattle.std.proofs.lemmas.List.{map-set}
+use Rattle.uv_ids.specs.declared.id.Id.{Id}
+use Rattle.uv_records.specs.declared.handle.HandleRecord.{HandleRecord}
+use Rattle.uv_records.specs.declared.lists.ListName.{ListName}
+use Rattle.uv_records.specs.declared.lists.ListName.TheVariants as name
+use Rattle.uv_records.specs.declared.slot.Slot.{Slot}
+use Rattle.uv_records.specs.Slots as plain
+use Rattle.uv_records.specs.Count.{active_count}
+use Rattle.uv_arena.specs.Image as arena
+use Rattle.uv_arena.specs.Image.{IsSound, plain_slots}
+use Rattle.uv_handle.specs.declared.undo.RecordUndo.{RecordUndo}
+use Rattle.uv_handle.specs.Counted.{counted, record_at}
+use Rattle.uv_handle.specs.Changes.{IsChanged}
+use Rattle.uv_handle.proofs.Counts as handles
+use Rattle.uv_heap.specs.declared.entry.Entry.{Entry}
+use Rattle.uv_requests.specs.Working.{id_in}
+use Rattle.uv_model.specs.declared.content.Content as content
+use Rattle.uv_model.specs.declared.content.Content.TheVariants as holds
+use Rattle.uv_model.specs.declared.place.Place.{Place}
+use Rattle.uv_model.specs.State.{State, with_handle}
+use Rattle.uv_model.specs.Queries.{members}
+use Rattle.uv_step.specs.declared.content.Content.{Content}
+use Rattle.uv_step.specs.declared.content.Content.TheVariants.{Handle}
+use Rattle.uv_step.specs.declared.record.Naming.TheVariants as naming
+use Rattle.uv_step.specs.declared.record.Change.TheVariants as change
+use Rattle.uv_step.specs.declared.record.Record.{Record}
+use Rattle.uv_step.specs.Content.{handle_in}
+use Rattle.uv_step.specs.Does.{changed}
+use Rattle.uv_step.specs.Parts.{unwind}
+use Rattle.uv_step.specs.Image.{Image, counted_of}
+use Rattle.uv_stands.specs.Contents.{slot_of, slots_of}
+use Rattle.uv_stands.specs.Stands.{StandsFor, timer_in}
+use Rattle.uv_stands.proofs.Holding.{ids_kept, map_same, active_as}
+
+-- ---- a handle gets another record
+
+-- the lists are the same
+listed_same : (s : State) (d : Id) (to : HandleRecord) (l : ListName) → members (with_handle s d to) l ≡ members s l
+listed_same s d to name.Ready = refl
+listed_same s d to name.Idle = refl
+listed_same s d to name.IdleYet = refl
+listed_same s d to name.Prepare = refl
+listed_same s d to name.PrepareYet = refl
+listed_same s d to name.Check = refl
+listed_same s d to name.CheckYet = refl
+listed_same s d to name.Async = refl
+listed_same s d to name.AsyncYet = refl
+listed_same s d to name.Closing = refl
+listed_same s d to name.ClosingYet = refl
+listed_same s d to name.Waiting = refl
+listed_same s d to name.Done = refl
+listed_same s d to name.DoneYet = refl
+
+pub changed_stands : (i : Image Place) (s : State) (k : arena.Image Content) (m : ℕ) (d : Id) (from to : HandleRecord) (u : RecordUndo)
+    → StandsFor i s → IsSound k → record_at handle_in i.arena d ≡ Some from
+    → IsChanged handle_in Handle (counted_of i) (counted k m) d from to u
+    → StandsFor (record i { arena = k; active = m }) (with_handle s d to)
+changed_stands i s k m d from to u h sound there c =
+    let was = handles.content_of handle_in i.arena d from there in
+    let ids = ids_kept i.arena k d (Handle to) was.0 was.1 c.set.plain in
+    let new : Slot content.Content = record { generation = d.generation; content = Some (holds.Handle to) } in
+    let slots : plain_slots k ≡ slots_of (with_handle s d to).arena =
+    c.set.plain
+    ∙ ap (λ (q : plain.Slots Content). (let z : plain.Slots Content = record q { slots = plain.with_held q.slots d (Handle to) } in z)) h.slots
+    ∙ ap (λ xs. (let z : plain.Slots Content = record { slots = xs; free = s.arena.free; unused = s.arena.unused } in z))
+    (sym (map-set slot_of s.arena.slots d.slot new)) in
+    record {
+      place = h.place;
+      names = h.names;
+      time = h.time;
+      clock = h.clock;
+      next_start = h.next_start;
+      stop_flag = h.stop_flag;
+      idled = h.idled;
+      slots = slots;
+      running = h.running;
+      lists = λ l. listed_same s d to l ∙ h.lists l ∙ sym (map_same (id_in k) (id_in i.arena) ids (arena.members i.arena l))
+          ∙ ap (map (id_in k)) (sym (c.set.lists l));
+      sound = sound;
+      heap = h.heap;
+      places = h.places;
+      timers = record {
+        entries = h.timers.entries;
+        ordered = h.timers.ordered;
+        same = h.timers.same
+            ∙ sym (map_same (timer_in k) (timer_in i.arena) (λ (e : Entry). ap (λ z. (e.due, z)) (ids e.slot)) h.timers.entries);
+      };
+      active = c.counts ∙ ap (λ (q : plain.Slots Content). active_count handle_in q.slots) slots ∙ active_as (with_handle s d to).arena.slots;
+      opened = h.opened;
+    }
+
+-- ---- the memory after a change of one handle's record
+
+-- only the arena and the count differ
+pub edited_frame : (r : Record Place) (i j : Image Place) (u : RecordUndo) → unwind r j ≡ i → r.naming ≡ naming.Same → r.change ≡ change.Edited u
+    → j.place ≡ i.place → j ≡ record i { arena = j.arena; active = j.active }
+edited_frame r i j u back unnamed edited place =
+    let same : r ≡ changed r.place (change.Edited u) = λ l. record { place = r.place; naming = unnamed l; change = edited l } in
+    let e : unwind (changed r.place (change.Edited u)) j ≡ i = ap (λ (q : Record Place). unwind q j) (sym same) ∙ back in
+    λ l. record {
+      place = place l;
+      names = ap (λ (q : Image Place). q.names) e l;
+      arena = j.arena;
+      active = j.active;
+      running = ap (λ (q : Image Place). q.running) e l;
+      heap = ap (λ (q : Image Place). q.heap) e l;
+      times = ap (λ (q : Image Place). q.times) e l;
+      clock = ap (λ (q : Image Place). q.clock) e l;
+      stop_flag = ap (λ (q : Image Place). q.stop_flag) e l;
+      idled = ap (λ (q : Image Place). q.idled) e l;
+    }

@@ -1,0 +1,44 @@
+-- The first timer: the least entry of the heap.
+use Rattle.std.proofs.Common.{◌≡◌, ◌-◌, ◌∷◌, [], List, min, map, Option, Some, None, slice_get, refl, sym, ap, subst, ◌∙◌, arith}
+use Rattle.std.specs.Ordering.{is_lt}
+use Rattle.std.specs.declared.cmp.Ordering.{Ordering}
+use Rattle.uv_arena.specs.Image as arena
+use Rattle.uv_heap.specs.declared.entry.Entry.{Entry}
+use Rattle.uv_heap.specs.Order.{IsInOrder, IsBeforeAll}
+use Rattle.uv_heap.proofs.OrderLemmas.{counts_itself}
+use Rattle.uv_model.specs.declared.place.Place.{Place}
+use Rattle.uv_model.specs.State.{State}
+use Rattle.uv_model.specs.Timeout.{until_first, LONGEST_POLL}
+use Rattle.uv_order.specs.Reached.{IsReached}
+use Rattle.uv_order.specs.Active.{Before, InOrder}
+use Rattle.uv_step.specs.declared.content.Content.{Content}
+use Rattle.uv_step.specs.Image.{Image}
+use Rattle.uv_stands.specs.Stands.{StandsFor, timer_in}
+
+-- an entry whose timer comes before each of the others comes before their entries
+pub before_all : (a : arena.Image Content) (f : Entry) (fs : List Entry) → Before f.due (map (timer_in a) fs) → IsBeforeAll f fs
+before_all a f [] b = tt
+before_all a f (x ∷ fs) b = (ap (λ (o : Ordering). is_lt o) b.0, before_all a f fs b.1)
+
+-- an array without entries in order is empty
+empty_array : (array : List Entry) → IsInOrder array [] → slice_get array 0 ≡ None
+empty_array [] o = refl
+empty_array (x ∷ xs) o = absurd (let none = o.same x in let one = counts_itself x xs in omega (arith, none, one))
+
+-- the timer of the array's first entry is the first one
+pub first_timer : (i : Image Place) (s : State) (o : Option Entry) → StandsFor i s → IsReached s → o ≡ slice_get i.heap 0
+    → ((f : Entry) (fs : List Entry) → IsInOrder i.heap (f ∷ fs) → IsBeforeAll f fs → o ≡ Some f)
+    → until_first s.time s.timers ≡ (elim o [ None ↦ None | Some e ↦ Some (min (e.due.at - i.times.time) LONGEST_POLL) ])
+first_timer i s o h r root first = at h.timers.entries h.timers.ordered h.timers.same where
+  at : (es : List Entry) → IsInOrder i.heap es → s.timers ≡ map (timer_in i.arena) es
+      → until_first s.time s.timers ≡ (elim o [ None ↦ None | Some e ↦ Some (min (e.due.at - i.times.time) LONGEST_POLL) ])
+  at [] ordered same =
+      let none : o ≡ None = root ∙ empty_array i.heap ordered in
+      ap (until_first s.time) same
+      ∙ ap (λ (z : Option Entry). elim z [ None ↦ None | Some e ↦ Some (min (e.due.at - i.times.time) LONGEST_POLL) ]) (sym none)
+  at (f ∷ fs) ordered same =
+      let sorted : InOrder (map (timer_in i.arena) (f ∷ fs)) = subst (λ ts. InOrder ts) same r.timers.sorted in
+      let one : o ≡ Some f = first f fs ordered (before_all i.arena f fs sorted.0) in
+      ap (until_first s.time) same
+      ∙ ap (λ t. Some (min (f.due.at - t) LONGEST_POLL)) (sym h.time)
+      ∙ ap (λ (z : Option Entry). elim z [ None ↦ None | Some e ↦ Some (min (e.due.at - i.times.time) LONGEST_POLL) ]) (sym one)

@@ -1,0 +1,111 @@
+-- What the memory holds is what the state holds, and ids stay where another content is set.
+use Rattle.std.proofs.Common.{◌≡◌, ◌+◌, ℕ, zero, suc, Bool, true, false, if◌then◌else◌, List, [], ◌∷◌, map, set, slice_get, Option, Some, None, option_map, option_and_then, unwrap_or, refl, sym, ap, ◌∙◌}
+use Rattle.std.proofs.lemmas.Option.{slice_get-map}
+use Rattle.uv_ids.specs.declared.id.Id.{Id}
+use Rattle.uv_ids.specs.declared.id.Var.{Var}
+use Rattle.uv_records.specs.declared.slot.Slot.{Slot}
+use Rattle.uv_records.specs.Slots as plain
+use Rattle.uv_records.specs.Count.{active_count, content_keeps, one_if}
+use Rattle.uv_arena.specs.declared.links.Cell.{Cell}
+use Rattle.uv_arena.specs.Image as arena
+use Rattle.uv_arena.specs.Image.{plain_slots, held_slots, slot_at, slot_in}
+use Rattle.uv_arena.proofs.Memories.{get-slots}
+use Rattle.uv_arena.proofs.Lookups.{held_tells}
+use Rattle.uv_requests.specs.Working.{id_in}
+use Rattle.uv_model.specs.declared.content.Content as content
+use Rattle.uv_model.specs.declared.content.Content.TheVariants as holds
+use Rattle.uv_model.specs.declared.named.Named as bound
+use Rattle.uv_model.specs.declared.place.Place.{Place}
+use Rattle.uv_model.specs.State as state
+use Rattle.uv_model.specs.State.{State}
+use Rattle.uv_step.specs.declared.content.Content.{Content}
+use Rattle.uv_step.specs.Content.{handle_in}
+use Rattle.uv_step.specs.Names.{named}
+use Rattle.uv_step.specs.Image.{Image}
+use Rattle.uv_stands.specs.Contents.{content_of, slot_of, named_of, handle_of}
+use Rattle.uv_stands.specs.Stands.{StandsFor}
+
+-- ---- what is held
+
+held_slot : (d : Id) (b : Bool) (o : Option content.Content)
+    → (if b then option_map content_of o else None) ≡ option_map content_of (if b then o else None)
+held_slot d true o = refl
+held_slot d false o = refl
+
+held_in_slot : (d : Id) (o : Option (Slot content.Content))
+    → option_and_then (plain.held_in d) (option_map slot_of o) ≡ option_map content_of (option_and_then (plain.held_in d) o)
+held_in_slot d None = refl
+held_in_slot d (Some t) = held_slot d _ t.content
+
+-- what is held under an id in the memory is what the state holds there
+pub held_as : (ss : List (Slot content.Content)) (d : Id) → plain.held (map slot_of ss) d ≡ option_map content_of (plain.held ss d)
+held_as ss d = ap (option_and_then (plain.held_in d)) (slice_get-map slot_of ss d.slot) ∙ held_in_slot d (slice_get ss d.slot)
+
+pub held_there : (i : Image Place) (s : State) (d : Id) → StandsFor i s → arena.held i.arena d ≡ option_map content_of (plain.held s.arena.slots d)
+held_there i s d h = ap (λ (q : plain.Slots Content). plain.held q.slots d) h.slots ∙ held_as s.arena.slots d
+
+-- what a name is bound to
+named_id : (ns : List bound.Named) (v : ℕ) → (named (map named_of ns) v).id ≡ (unwrap_or (slice_get ns v) state.unbound).id
+named_id [] v = refl
+named_id (n ∷ ns) zero = refl
+named_id (n ∷ ns) (suc v) = named_id ns v
+
+pub bound_there : (i : Image Place) (s : State) (v : Var) → StandsFor i s → (named i.names v.0).id ≡ (state.named s v).id
+bound_there i s v h = ap (λ ns. (named ns v.0).id) h.names ∙ named_id s.names v.0
+
+-- ---- the count
+
+keeps_as : (o : Option content.Content) → content_keeps handle_in (option_map content_of o) ≡ content_keeps handle_of o
+keeps_as None = refl
+keeps_as (Some (holds.Handle h)) = refl
+keeps_as (Some (holds.Request r)) = refl
+
+pub active_as : (ss : List (Slot content.Content)) → active_count handle_in (map slot_of ss) ≡ active_count handle_of ss
+active_as [] = refl
+active_as (s ∷ ss) = let here = keeps_as s.content in let rest = active_as ss in λ l. one_if (here l) + rest l
+
+-- ---- ids
+
+abbrev pub slot_or : {X : Type 0} → Option (Slot X) → Slot X
+slot_or None = record { generation = 0; content = None }
+slot_or (Some t) = t
+
+pub slot_by : {X : Type 0} (cs : List (Cell X)) (x : ℕ) → slot_in (slice_get cs x) ≡ slot_or (slice_get (map (λ (c : Cell X). c.slot) cs) x)
+slot_by [] x = refl
+slot_by (c ∷ cs) zero = refl
+slot_by (c ∷ cs) (suc x) = slot_by cs x
+
+-- a slot that holds something else keeps its generation
+pub generation_kept : {X : Type 0} (ss : List (Slot X)) (n x : ℕ) (t : Slot X)
+    → ((q : Slot X) → slice_get ss n ≡ Some q → q.generation ≡ t.generation)
+    → (slot_or (slice_get (set ss n t) x)).generation ≡ (slot_or (slice_get ss x)).generation
+generation_kept [] n x t h = refl
+generation_kept (q ∷ ss) zero zero t h = sym (h q refl)
+generation_kept (q ∷ ss) zero (suc x) t h = refl
+generation_kept (q ∷ ss) (suc n) zero t h = refl
+generation_kept (q ∷ ss) (suc n) (suc x) t h = generation_kept ss n x t h
+
+module _ (i k : arena.Image Content) (d : Id) (v was : Content) (there : arena.held i d ≡ Some was)
+    (same : plain_slots k ≡ record (plain_slots i) { slots = plain.with_held (plain_slots i).slots d v }) where
+  generation_is : (q : Slot Content) → slice_get (held_slots i.memory) d.slot ≡ Some q → q.generation ≡ d.generation
+  generation_is q e =
+      let t = held_tells i.memory d was there in
+      let at = get-slots i.memory.row.items d.slot t.0 t.1 in
+      let one : q ≡ t.0.slot = cc (e, at) in
+      ap (λ (z : Slot Content). z.generation) one ∙ t.3
+
+  -- each slot's id is as it was
+  pub ids_kept : (x : ℕ) → id_in k x ≡ id_in i x
+  ids_kept x =
+      let new : Slot Content = record { generation = d.generation; content = Some v } in
+      let slots : held_slots k.memory ≡ set (held_slots i.memory) d.slot new = ap (λ (q : plain.Slots Content). q.slots) same in
+      let here : (slot_at k.memory x).generation ≡ (slot_at i.memory x).generation =
+      ap (λ (z : Slot Content). z.generation) (slot_by k.memory.row.items x)
+      ∙ ap (λ ss. (slot_or (slice_get ss x)).generation) slots
+      ∙ generation_kept (held_slots i.memory) d.slot x new generation_is
+      ∙ ap (λ (z : Slot Content). z.generation) (sym (slot_by i.memory.row.items x)) in
+      λ l. record { slot = x; generation = here l }
+
+pub map_same : {A B : Type 0} (f g : A → B) → ((x : A) → f x ≡ g x) → (xs : List A) → map f xs ≡ map g xs
+map_same f g h [] = refl
+map_same f g h (x ∷ xs) = let here = h x in let rest = map_same f g h xs in λ l. here l ∷ rest l

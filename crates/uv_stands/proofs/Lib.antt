@@ -1,0 +1,12 @@
+pub mod Holding
+pub mod Edits
+pub mod Lists
+pub mod Values
+pub mod Pools
+pub mod Naming
+pub mod Slots
+pub mod First
+pub mod Onto
+pub mod Loose
+pub mod Returning
+pub mod Renaming

@@ -1,0 +1,89 @@
+-- The lists of a state and of the memory that stands for it, where all but one or two of them stay.
+use Rattle.std.proofs.Common.{◌≡◌, ◌≢◌, ◌⊎◌, inl, inr, ℕ, Bool, List, map, Option, refl, sym, ap, ◌∙◌, subst}
+use Rattle.std.proofs.lemmas.Bool.Decides.{eqb_tells}
+use Rattle.uv_ids.specs.declared.id.Id.{Id}
+use Rattle.uv_ids.specs.declared.due.Due.{Due}
+use Rattle.uv_records.specs.declared.lists.ListName.{ListName}
+use Rattle.uv_records.specs.declared.lists.ListName.TheVariants as name
+use Rattle.uv_records.specs.Lists.{number}
+use Rattle.uv_records.specs.Slots as plain
+use Rattle.uv_arena.specs.Image as arena
+use Rattle.uv_arena.proofs.Names.{number_apart}
+use Rattle.uv_requests.specs.Working.{id_in}
+use Rattle.uv_model.specs.declared.content.Content as content
+use Rattle.uv_model.specs.declared.named.Named as bound
+use Rattle.uv_model.specs.declared.place.Place.{Place}
+use Rattle.uv_model.specs.State.{State}
+use Rattle.uv_model.specs.Queries.{members}
+use Rattle.uv_step.specs.declared.content.Content.{Content}
+use Rattle.uv_step.specs.Image.{Image}
+use Rattle.uv_stands.specs.Stands.{StandsFor}
+use Rattle.uv_stands.proofs.Holding.{map_same}
+
+-- what is no list leaves the lists
+pub beside_lists : (s : State) (place : Place) (names : List bound.Named) (a : plain.Slots content.Content) (timers : List (Due × Id))
+    (running : List (Option Id)) (time clock next : ℕ) (stop idled : Bool) (l : ListName)
+    → members (record s {
+      place = place;
+      names = names;
+      arena = a;
+      timers = timers;
+      running = running;
+      time = time;
+      clock = clock;
+      next_start = next;
+      stop_flag = stop;
+      idled = idled;
+    }) l ≡ members s l
+beside_lists s place names a timers running time clock next stop idled name.Ready = refl
+beside_lists s place names a timers running time clock next stop idled name.Idle = refl
+beside_lists s place names a timers running time clock next stop idled name.IdleYet = refl
+beside_lists s place names a timers running time clock next stop idled name.Prepare = refl
+beside_lists s place names a timers running time clock next stop idled name.PrepareYet = refl
+beside_lists s place names a timers running time clock next stop idled name.Check = refl
+beside_lists s place names a timers running time clock next stop idled name.CheckYet = refl
+beside_lists s place names a timers running time clock next stop idled name.Async = refl
+beside_lists s place names a timers running time clock next stop idled name.AsyncYet = refl
+beside_lists s place names a timers running time clock next stop idled name.Closing = refl
+beside_lists s place names a timers running time clock next stop idled name.ClosingYet = refl
+beside_lists s place names a timers running time clock next stop idled name.Waiting = refl
+beside_lists s place names a timers running time clock next stop idled name.Done = refl
+beside_lists s place names a timers running time clock next stop idled name.DoneYet = refl
+
+-- a list is this one, or another
+pub list_is : (l a : ListName) → (l ≡ a) ⊎ (l ≢ a)
+list_is l a = elim (eqb_tells (number l) (number a)) [
+  | inl q ↦ inl (number_apart l a q.1)
+  | inr q ↦ inr (λ e. q.1 (ap number e))
+]
+
+-- a list of the state is that of the memory
+abbrev pub Listed : arena.Image Content → State → ListName → Type 0
+Listed k t l = members t l ≡ map (id_in k) (arena.members k l)
+
+module _ (i : Image Place) (s : State) (h : StandsFor i s) (k : arena.Image Content) (t : State) where
+  -- a list that stays, in the memory and in the state, each of whose ids stays
+  pub list_stays : (l : ListName) → ((x : ℕ) → id_in k x ≡ id_in i.arena x) → arena.members k l ≡ arena.members i.arena l
+      → members t l ≡ members s l → Listed k t l
+  list_stays l ids stays same =
+      same ∙ h.lists l ∙ sym (map_same (id_in k) (id_in i.arena) ids (arena.members i.arena l)) ∙ ap (map (id_in k)) (sym stays)
+
+  module _ (ids : (x : ℕ) → id_in k x ≡ id_in i.arena x) where
+    -- all lists but one stay
+    pub all_but_one : (a : ListName) → ((l : ListName) → l ≢ a → arena.members k l ≡ arena.members i.arena l)
+        → ((l : ListName) → l ≢ a → members t l ≡ members s l) → Listed k t a → (l : ListName) → Listed k t l
+    all_but_one a stays same here l = elim (list_is l a) [
+      | inl e ↦ subst (λ x. Listed k t x) (sym e) here
+      | inr ne ↦ list_stays l ids (stays l ne) (same l ne)
+    ]
+
+    -- all but two
+    pub all_but_two : (a b : ListName) → ((l : ListName) → l ≢ a → l ≢ b → arena.members k l ≡ arena.members i.arena l)
+        → ((l : ListName) → l ≢ a → l ≢ b → members t l ≡ members s l) → Listed k t a → Listed k t b → (l : ListName) → Listed k t l
+    all_but_two a b stays same here there l = elim (list_is l a) [
+      | inl e ↦ subst (λ x. Listed k t x) (sym e) here
+      | inr ne ↦ elim (list_is l b) [
+        | inl e ↦ subst (λ x. Listed k t x) (sym e) there
+        | inr other ↦ list_stays l ids (stays l ne other) (same l ne other)
+      ]
+    ]

@@ -1,0 +1,218 @@
+-- Requests change, and nothing else does: what the memory stands for then.
+use Rattle.std.proofs.Common.{◌≡◌, ◌≢◌, ℕ, ◌+◌, ◌++◌, List, [], ◌∷◌, map, set, slice_get, length, length-append, Option, Some, None, option_map, option_and_then, refl, sym, ap, ◌∙◌, arith}
+use Rattle.std.proofs.lemmas.List.{length-map, map-set, map-append}
+use Rattle.uv_ids.specs.declared.id.Id.{Id}
+use Rattle.uv_records.specs.declared.lists.ListName.{ListName}
+use Rattle.uv_records.specs.declared.lists.ListName.TheVariants as name
+use Rattle.uv_records.specs.declared.slot.Slot.{Slot}
+use Rattle.uv_records.specs.Slots as plain
+use Rattle.uv_records.specs.Walks.{Walk}
+use Rattle.uv_records.specs.Count.{active_count}
+use Rattle.uv_arena.specs.Calls.{IsFirst}
+use Rattle.uv_arena.specs.Image as arena
+use Rattle.uv_arena.specs.Image.{IsSound, plain_slots, held_slots, slot_at}
+use Rattle.uv_heap.specs.declared.entry.Entry.{Entry}
+use Rattle.uv_work.specs.Pool.{busy}
+use Rattle.uv_work.specs.Requests.{Request}
+use Rattle.uv_requests.specs.Working as work
+use Rattle.uv_requests.specs.Working.{Running, id_in, done_in}
+use Rattle.uv_requests.proofs.Holding.{listed_id}
+use Rattle.uv_model.specs.declared.content.Content as content
+use Rattle.uv_model.specs.declared.content.Content.TheVariants as holds
+use Rattle.uv_model.specs.declared.request.Request as queued
+use Rattle.uv_model.specs.declared.place.Place.{Place}
+use Rattle.uv_model.specs.State.{State}
+use Rattle.uv_model.specs.Queries.{members}
+use Rattle.uv_step.specs.declared.content.Content.{Content}
+use Rattle.uv_step.specs.declared.content.Content.TheVariants.{Request as Asked}
+use Rattle.uv_step.specs.declared.record.Change.{Change}
+use Rattle.uv_step.specs.declared.record.Record.{Record}
+use Rattle.uv_step.specs.Content.{handle_in, request_in}
+use Rattle.uv_step.specs.Does.{changed}
+use Rattle.uv_step.specs.Fit.{IsFit}
+use Rattle.uv_step.specs.Image.{Image, Held}
+use Rattle.uv_step.specs.Parts.{unwind}
+use Rattle.uv_step.specs.Undo.{Recorded}
+use Rattle.uv_stands.specs.Contents.{content_of, request_of, slot_of, slots_of, handle_of}
+use Rattle.uv_stands.specs.Stands.{StandsFor, timer_in, open_requests}
+use Rattle.uv_stands.proofs.Holding.{held_there, active_as, slot_or, slot_by, map_same}
+
+-- ---- what the memory alone says of the counts
+
+pub opened_fit : (i : Image Place) (t : State) → IsFit i → i.running.workers ≡ t.running
+    → ((l : ListName) → members t l ≡ map (id_in i.arena) (arena.members i.arena l)) → i.running.count ≡ open_requests t
+opened_fit i t fit runs lists =
+    let waits = arena.members i.arena name.Waiting in
+    let yet = arena.members i.arena name.DoneYet in
+    let done = arena.members i.arena name.Done in
+    let a : length t.waiting ≡ length (map (id_in i.arena) waits) = ap (λ ids. length ids) (lists name.Waiting) in
+    let b : length t.done.yet ≡ length yet = ap (λ ids. length ids) (lists name.DoneYet) ∙ length-map yet (id_in i.arena) in
+    let c : length t.done.list ≡ length done = ap (λ ids. length ids) (lists name.Done) ∙ length-map done (id_in i.arena) in
+    let d : length (map (done_in request_in i.arena) (yet ++ done)) ≡ length yet + length done =
+    length-map (yet ++ done) (done_in request_in i.arena) ∙ length-append yet done in
+    let e : busy i.running.workers ≡ busy t.running = ap busy runs in
+    let count : i.running.count
+    ≡ length (map (id_in i.arena) waits) + busy i.running.workers + length (map (done_in request_in i.arena) (yet ++ done)) = fit.work.count in
+    omega (arith, count, a, b, c, d, e)
+
+pub active_fit : (i : Image Place) (t : State) → IsFit i → plain_slots i.arena ≡ slots_of t.arena → i.active ≡ active_count handle_of t.arena.slots
+active_fit i t fit slots =
+    fit.counts ∙ ap (λ (q : plain.Slots Content). active_count handle_in q.slots) slots ∙ active_as t.arena.slots
+
+-- ---- what is in the memory, as the state has it
+
+pub ids_moved : (i k : arena.Image Content) → plain_slots k ≡ plain_slots i → (x : ℕ) → id_in k x ≡ id_in i x
+ids_moved i k same x =
+    let slots : held_slots k.memory ≡ held_slots i.memory = ap (λ (q : plain.Slots Content). q.slots) same in
+    let here : (slot_at k.memory x).generation ≡ (slot_at i.memory x).generation =
+    ap (λ (z : Slot Content). z.generation) (slot_by k.memory.row.items x)
+    ∙ ap (λ ss. (slot_or (slice_get ss x)).generation) slots
+    ∙ ap (λ (z : Slot Content). z.generation) (sym (slot_by i.memory.row.items x)) in
+    λ l. record { slot = x; generation = here l }
+
+-- a request is the state's
+pub record IsAsked (s : State) (d : Id) (r : Request) : Type 0 where
+  pub request : queued.Request
+  pub there : plain.held s.arena.slots d ≡ Some (holds.Request request)
+  pub same : request_of request ≡ r
+
+asked_in : (o : Option content.Content) (r : Request) → option_and_then request_in (option_map content_of o) ≡ Some r
+    → (x : queued.Request) × (o ≡ Some (holds.Request x)) × (request_of x ≡ r)
+asked_in None r e = cc
+asked_in (Some (holds.Handle h)) r e = cc
+asked_in (Some (holds.Request x)) r e = let q : request_of x ≡ r = cc e in (x, refl, q)
+
+pub asked_there : (i : Image Place) (s : State) (d : Id) (r : Request) → StandsFor i s → work.request_in request_in i.arena d ≡ Some r
+    → IsAsked s d r
+asked_there i s d r h e =
+    let t = asked_in (plain.held s.arena.slots d) r (ap (option_and_then request_in) (sym (held_there i s d h)) ∙ e) in
+    record { request = t.0; there = t.1; same = t.2 }
+
+-- the first of a list is the state's
+pub front_there : (i : Image Place) (s : State) (l : ListName) (d : Id) → StandsFor i s → (f : IsFirst i.arena l d)
+    → members s l ≡ d ∷ map (id_in i.arena) f.rest
+front_there i s l d h f = h.lists l ∙ ap (map (id_in i.arena)) f.is
+    ∙ ap (λ z. z ∷ map (id_in i.arena) f.rest) (listed_id i.arena d f.listed.held)
+
+pub first_one : (i : arena.Image Content) (l : ListName) (d e : Id) → IsFirst i l d → IsFirst i l e → e ≡ d
+first_one i l d e f g =
+    let same : e.slot ≡ d.slot = cc (f.is, g.is) in
+    sym (listed_id i e g.listed.held) ∙ ap (id_in i) same ∙ listed_id i d f.listed.held
+
+-- what a worker runs is the state's
+pub run_there : (i : Image Place) (s : State) (k : ℕ) (o : Option (Option Id)) → StandsFor i s → slice_get i.running.workers k ≡ o
+    → slice_get s.running k ≡ o
+run_there i s k o h e = ap (λ rs. slice_get rs k) (sym h.running) ∙ e
+
+-- a list that stays
+pub list_same : (i : Image Place) (k : arena.Image Content) → ((x : ℕ) → id_in k x ≡ id_in i.arena x) → (l : ListName) (xs : List Id)
+    → xs ≡ map (id_in i.arena) (arena.members i.arena l) → arena.members k l ≡ arena.members i.arena l → xs ≡ map (id_in k) (arena.members k l)
+list_same i k ids l xs is kept =
+    is ∙ sym (map_same (id_in k) (id_in i.arena) ids (arena.members i.arena l)) ∙ ap (map (id_in k)) (sym kept)
+
+-- one more is done
+pub done_more : (i : Image Place) (s : State) (k : arena.Image Content) (d : Id) → StandsFor i s → id_in i.arena d.slot ≡ d
+    → ((x : ℕ) → id_in k x ≡ id_in i.arena x) → arena.members k name.Done ≡ arena.members i.arena name.Done ++ d.slot ∷ []
+    → s.done.list ++ d ∷ [] ≡ map (id_in k) (arena.members k name.Done)
+done_more i s k d h one ids more =
+    let done = arena.members i.arena name.Done in
+    (λ l. h.lists name.Done l ++ sym one l ∷ [])
+    ∙ sym (map-append (id_in i.arena) done (d.slot ∷ []))
+    ∙ sym (map_same (id_in k) (id_in i.arena) ids (done ++ d.slot ∷ []))
+    ∙ ap (map (id_in k)) (sym more)
+
+-- a request is another one, in the memory and in the state
+pub slots_asked : (i : Image Place) (s : State) (k : arena.Image Content) (d : Id) (to : Request) (r : queued.Request) → StandsFor i s
+    → plain_slots k ≡ record (plain_slots i.arena) { slots = plain.with_held (plain_slots i.arena).slots d (Asked to) } → to ≡ request_of r
+    → plain_slots k ≡ slots_of (record s.arena { slots = plain.with_held s.arena.slots d (holds.Request r) })
+slots_asked i s k d to r h set is =
+    let new : Slot content.Content = record { generation = d.generation; content = Some (holds.Request r) } in
+    set
+    ∙ ap (λ (q : Request). (let z : plain.Slots Content = record (plain_slots i.arena) {
+      slots = plain.with_held (plain_slots i.arena).slots d (Asked q);
+    } in z)) is
+    ∙ ap (λ (q : plain.Slots Content). (let z : plain.Slots Content = record q {
+      slots = plain.with_held q.slots d (Asked (request_of r));
+    } in z)) h.slots
+    ∙ ap (λ xs. (let z : plain.Slots Content = record { slots = xs; free = s.arena.free; unused = s.arena.unused } in z))
+    (sym (map-set slot_of s.arena.slots d.slot new))
+
+-- ---- the memory after a change of requests
+
+-- only the arena and what the workers run differ
+pub frame_of : (i j : Image Place) (p : Place) (a : arena.Image Content) (n : Running) → record j { place = p; arena = a; running = n } ≡ i
+    → j.place ≡ i.place → j ≡ record i { arena = j.arena; running = j.running }
+frame_of i j p a n e place = λ l. record {
+  place = place l;
+  names = ap (λ (q : Image Place). q.names) e l;
+  arena = j.arena;
+  active = ap (λ (q : Image Place). q.active) e l;
+  running = j.running;
+  heap = ap (λ (q : Image Place). q.heap) e l;
+  times = ap (λ (q : Image Place). q.times) e l;
+  clock = ap (λ (q : Image Place). q.clock) e l;
+  stop_flag = ap (λ (q : Image Place). q.stop_flag) e l;
+  idled = ap (λ (q : Image Place). q.idled) e l;
+}
+
+-- what the record of a change alone gives back
+pub change_back : (r : Record Place) (c : Change) (h k : Held Place) → Recorded r h k → r.change ≡ c → unwind (changed r.place c) k.image ≡ h.image
+change_back r c h k recorded is =
+    let same : r ≡ changed r.place c = λ l. record { place = r.place; naming = recorded.unnamed l; change = is l } in
+    ap (λ (q : Record Place). unwind q k.image) (sym same) ∙ recorded.back
+
+module _ (i : Image Place) (s : State) (h : StandsFor i s) (k : arena.Image Content) (n : Running) (a : plain.Slots content.Content) (w : List Id)
+    (r : List (Option Id)) (q : Walk Id) (ids : (x : ℕ) → id_in k x ≡ id_in i.arena x)
+    (others : (l : ListName) → l ≢ name.Waiting → l ≢ name.Done → l ≢ name.DoneYet → arena.members k l ≡ arena.members i.arena l)
+    (waits : w ≡ map (id_in k) (arena.members k name.Waiting)) (done : q.list ≡ map (id_in k) (arena.members k name.Done))
+    (yet : q.yet ≡ map (id_in k) (arena.members k name.DoneYet)) where
+  abbrev j : Image Place
+  j = record i { arena = k; running = n }
+
+  abbrev t : State
+  t = record s { arena = a; waiting = w; running = r; done = q }
+
+  same : (l : ListName) → l ≢ name.Waiting → l ≢ name.Done → l ≢ name.DoneYet
+      → map (id_in i.arena) (arena.members i.arena l) ≡ map (id_in k) (arena.members k l)
+  same l x y z = sym (map_same (id_in k) (id_in i.arena) ids (arena.members i.arena l)) ∙ ap (map (id_in k)) (sym (others l x y z))
+
+  lists : (l : ListName) → members t l ≡ map (id_in k) (arena.members k l)
+  lists name.Ready = h.lists name.Ready ∙ same name.Ready (λ e. cc) (λ e. cc) (λ e. cc)
+  lists name.Idle = h.lists name.Idle ∙ same name.Idle (λ e. cc) (λ e. cc) (λ e. cc)
+  lists name.IdleYet = h.lists name.IdleYet ∙ same name.IdleYet (λ e. cc) (λ e. cc) (λ e. cc)
+  lists name.Prepare = h.lists name.Prepare ∙ same name.Prepare (λ e. cc) (λ e. cc) (λ e. cc)
+  lists name.PrepareYet = h.lists name.PrepareYet ∙ same name.PrepareYet (λ e. cc) (λ e. cc) (λ e. cc)
+  lists name.Check = h.lists name.Check ∙ same name.Check (λ e. cc) (λ e. cc) (λ e. cc)
+  lists name.CheckYet = h.lists name.CheckYet ∙ same name.CheckYet (λ e. cc) (λ e. cc) (λ e. cc)
+  lists name.Async = h.lists name.Async ∙ same name.Async (λ e. cc) (λ e. cc) (λ e. cc)
+  lists name.AsyncYet = h.lists name.AsyncYet ∙ same name.AsyncYet (λ e. cc) (λ e. cc) (λ e. cc)
+  lists name.Closing = h.lists name.Closing ∙ same name.Closing (λ e. cc) (λ e. cc) (λ e. cc)
+  lists name.ClosingYet = h.lists name.ClosingYet ∙ same name.ClosingYet (λ e. cc) (λ e. cc) (λ e. cc)
+  lists name.Waiting = waits
+  lists name.Done = done
+  lists name.DoneYet = yet
+
+  pub pool_stands : plain_slots k ≡ slots_of a → n.workers ≡ r → IsSound k → IsFit j → StandsFor j t
+  pool_stands slots running sound fit = record {
+    place = h.place;
+    names = h.names;
+    time = h.time;
+    clock = h.clock;
+    next_start = h.next_start;
+    stop_flag = h.stop_flag;
+    idled = h.idled;
+    slots = slots;
+    running = running;
+    lists = lists;
+    sound = sound;
+    heap = h.heap;
+    places = h.places;
+    timers = record {
+      entries = h.timers.entries;
+      ordered = h.timers.ordered;
+      same = h.timers.same
+          ∙ sym (map_same (timer_in k) (timer_in i.arena) (λ (e : Entry). ap (λ z. (e.due, z)) (ids e.slot)) h.timers.entries);
+    };
+    active = active_fit j t fit slots;
+    opened = opened_fit j t fit running lists;
+  }

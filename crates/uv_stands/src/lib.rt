@@ -1,0 +1,11 @@
+//! What it means that a loop's memory stands for a state, and what the memory says of each state that it stands for.
+#![tactic(auto)]
+
+mod names;
+mod queries;
+mod questions;
+
+pub use names::{bind_name, bound_id, call_name, is_live, live_handle};
+pub use queries::{
+    backend_timeout, has_members, has_pending, is_alive, is_in_use, may_leave, poll_timeout,
+};

@@ -1,0 +1,94 @@
+//! The names of a loop: what is live under them, and how they are bound and called.
+ghost use Rattle.std.specs.Prelude.{◌≡◌, ◌+◌, ◌<◌, ◌^◌, ◌-◌, Some, IfOk, length, is_some};
+ghost use Rattle.uv_model.specs.State.{State, live, live_handle};
+ghost use Rattle.uv_step.specs.declared.record.Naming.TheVariants.{Same as same};
+ghost use Rattle.uv_handle.specs.Counted.{record_at};
+ghost use Rattle.uv_step.specs.Content.{handle_in};
+ghost use Rattle.uv_step.specs.Fit.{IsFit};
+ghost use Rattle.uv_step.specs.Image.{held};
+ghost use Rattle.uv_step.specs.Names.{named, binding, calling, count_of};
+ghost use Rattle.uv_step.specs.Undo.{CanUnwind, Extended};
+ghost use Rattle.uv_stands.specs.Stands.{StandsFor};
+
+use uv_handle::handle_at;
+use uv_ids::{Callback, Code, Id, Var};
+use uv_model::Place;
+use uv_records::HandleRecord;
+use uv_step::{Memory, Record};
+
+/// What a name is bound to.
+pub fn bound_id(memory: &Memory<Place>, name: Var) -> Option<Id>
+    ensures { result ≡ (named (held memory.now).image.names name.0).id }
+{
+    let named = memory.names.get(name.0 as usize)?;
+    named.id
+}
+
+/// The handle of a name, for an op on handles: ESTALE if the name isn't live, EKIND if it is a request's.
+pub fn live_handle(memory: &Memory<Place>, name: Var) -> Result<(Id, HandleRecord), Code>
+    ensures found { IfOk result (λ t. record_at handle_in (held memory.now).image.arena t.0 ≡ Some t.1) }
+    ensures is { (s : State) → StandsFor (held memory.now).image s → live_handle s name ≡ result }
+{
+    match bound_id(memory, name) {
+        None => Err(Code::Estale),
+        Some(id) => match handle_at(&memory.slots, id) {
+            Err(code) => Err(code),
+            Ok(handle) => Ok((id, handle)),
+        },
+    }
+}
+
+/// Whether a name is live: still bound to the handle or the request that it was bound to.
+pub fn is_live(memory: &Memory<Place>, name: Var) -> bool
+    ensures { (s : State) → StandsFor (held memory.now).image s → is_some (live s name) ≡ result }
+{
+    match bound_id(memory, name) {
+        None => false,
+        Some(id) => memory.slots.get(id).is_some(),
+    }
+}
+
+/// The step of this record binds a name to this as well. A name that the loop doesn't have is bound to nothing.
+pub fn bind_name(
+    memory: &mut Memory<Place>,
+    step_record: Record<Place>,
+    name: Var,
+    id: Id,
+) -> Record<Place>
+    requires can { CanUnwind (held memory.old).room step_record (held memory.old).image }
+    requires fit { IsFit (held memory.old).image }
+    requires unnamed { step_record.naming ≡ same }
+    ensures image { (held memory.new).image
+        ≡ record (held memory.old).image { names = binding name.0 (Some id) (held memory.old).image.names } }
+    ensures extended { Extended step_record result (held memory.old) (held memory.new) }
+{
+    if name.0 as usize >= memory.names.len() {
+        return step_record;
+    }
+    memory.bind(step_record, name, Some(id))
+}
+
+/// The step of this record calls a callback of a name as well: how often it was called by then. It isn't counted for a name that the
+/// loop doesn't have.
+pub fn call_name(
+    memory: &mut Memory<Place>,
+    step_record: Record<Place>,
+    name: Var,
+    callback: Callback,
+) -> (u32, Record<Place>)
+    requires can { CanUnwind (held memory.old).room step_record (held memory.old).image }
+    requires fit { IsFit (held memory.old).image }
+    requires unnamed { step_record.naming ≡ same }
+    requires few { count_of callback (named (held memory.old).image.names name.0).calls < 2 ^ 32 - 1 }
+    ensures count { result.0 ≡ count_of callback (named (held memory.old).image.names name.0).calls + 1 }
+    ensures image { (held memory.new).image
+        ≡ record (held memory.old).image { names = calling name.0 callback result.0 (held memory.old).image.names } }
+    ensures extended { Extended step_record result.1 (held memory.old) (held memory.new) }
+{
+    if name.0 as usize >= memory.names.len() {
+        return (1, step_record);
+    }
+    let count = memory.names[name.0 as usize].calls.of(callback) + 1;
+    let step_record = memory.count_call(step_record, name, callback);
+    (count, step_record)
+}

@@ -1,0 +1,12 @@
+pub mod Without
+pub mod Keys
+pub mod Entries
+pub mod Absent
+pub mod Retimed
+pub mod TakenOff
+pub mod Stops
+pub mod Starts
+pub mod Closes
+pub mod Collects
+pub mod Fires
+pub mod Ordered

@@ -1,0 +1,196 @@
+-- A timer is started, and started again.
+use Rattle.std.proofs.Common.{◌≡◌, ℕ, ◌+◌, ◌==◌, ◌||◌, Bool, true, false, not, if◌then◌else◌, Option, Some, None, refl, sym, ap, ◌∙◌, subst}
+use Rattle.std.proofs.lemmas.List.{set-set}
+use Rattle.std.proofs.lemmas.Option.{same_Some}
+use Rattle.uv_ids.specs.declared.id.Id.{Id}
+use Rattle.uv_ids.specs.declared.due.Due.{Due}
+use Rattle.uv_ids.specs.declared.code.Code.{Code}
+use Rattle.uv_ids.specs.declared.code.Code.TheVariants.{Ok as success}
+use Rattle.uv_ids.specs.declared.code.Answer.TheVariants as answer
+use Rattle.uv_model.specs.Ops.{start, again}
+use Rattle.uv_stands.specs.Doing.{Does}
+use Rattle.uv_records.specs.declared.handle.HandleRecord.{HandleRecord}
+use Rattle.uv_records.specs.declared.lists.ListName.{ListName}
+use Rattle.uv_records.specs.Dues as dues
+use Rattle.uv_records.specs.Handles as records
+use Rattle.uv_records.specs.Handles.{is_timer, begun_at}
+use Rattle.uv_records.specs.Refusals.{invalid_if, only_if, start_timer_refusal, again_refusal}
+use Rattle.uv_arena.specs.Image.{plain_slots}
+use Rattle.uv_handle.specs.Counted.{record_at}
+use Rattle.uv_heap.specs.Order.{inserted}
+use Rattle.uv_timer.specs.declared.change.Change.{Change}
+use Rattle.uv_timer.specs.declared.change.Times.{Times}
+use Rattle.uv_timer.specs.declared.undo.TimerUndo.{TimerUndo}
+use Rattle.uv_timer.specs.Changes.{becoming, set_at, starting, stopping, starting_again}
+use Rattle.uv_timer.specs.Timed.{Timed}
+use Rattle.uv_timer.specs.Timers.{IsRescheduled, IsStarted, IsStartedAgain, cleared}
+use Rattle.uv_requests.specs.Working.{id_in}
+use Rattle.uv_model.specs.declared.place.Place.{Place}
+use Rattle.uv_model.specs.Queries.{members}
+use Rattle.uv_model.specs.State.{State}
+use Rattle.uv_model.specs.Timers.{taken_off, stopped, started, restarted, due_after}
+use Rattle.uv_order.specs.Reached.{IsReached}
+use Rattle.uv_step.specs.declared.record.Change.TheVariants as change
+use Rattle.uv_step.specs.declared.record.Record.{Record}
+use Rattle.uv_step.specs.declared.content.Content.{Content}
+use Rattle.uv_step.specs.declared.content.Content.TheVariants.{Handle}
+use Rattle.uv_step.specs.Content.{handle_in}
+use Rattle.uv_step.specs.Fit.{IsFit}
+use Rattle.uv_step.specs.Image.{Image, Held, timed_of}
+use Rattle.uv_step.specs.Undo.{Recorded}
+use Rattle.uv_stands.specs.Contents.{slots_of}
+use Rattle.uv_stands.specs.Stands.{StandsFor}
+use Rattle.uv_stands.proofs.Lists.{beside_lists}
+use Rattle.uv_timing.proofs.Absent.{own_id}
+use Rattle.uv_timing.proofs.Entries.{entry_of}
+use Rattle.uv_timing.proofs.Retimed.{retimed, timer_frame, OnlyTimers, AreRetimed, IsWhole, retimed_stands, put_slots, list_left, timers_are}
+use Rattle.uv_timing.proofs.Stops.{ids_rescheduled, stopped_retimed, only_stopped}
+use Rattle.uv_timing.proofs.TakenOff.{timers_set, lists_left}
+
+-- when a timer is due is the same in the memory and in the state
+pub due_same : (i : Image Place) (s : State) (timeout : ℕ) → StandsFor i s
+    → dues.due_after i.times.time i.times.next_start timeout ≡ due_after s timeout
+due_same i s timeout stands = λ l. dues.due_after (stands.time l) (stands.next_start l) timeout
+
+module _ (i : Image Place) (n : Timed Content) (room : ℕ) (d : Id) (h : HandleRecord) (timeout repeat : ℕ) (u : TimerUndo)
+    (started_so : IsRescheduled handle_in Handle room (timed_of i) n d (starting i.times h timeout repeat) u) (s : State) (stands : StandsFor i s)
+    (reached : IsReached s) (fit : IsFit i) (unclosed : h.closing ≡ false) where
+  abbrev key : Due
+  key = due_after s timeout
+
+  abbrev t : State
+  t = started (stopped s d h) d h timeout repeat
+
+  x : IsRescheduled handle_in Handle room (timed_of i) n d (set_at key h repeat) u
+  x = subst (λ (z : Due). IsRescheduled handle_in Handle room (timed_of i) n d (set_at z h repeat) u) (due_same i s timeout stands) started_so
+
+  there : record_at handle_in i.arena d ≡ Some h
+  there = x.handles.there
+
+  ids : (y : ℕ) → id_in n.handles.arena y ≡ id_in i.arena y
+  ids = ids_rescheduled i n room d (set_at key h repeat) u x
+
+  same_off : (l : ListName) → members t l ≡ members (taken_off s d h) l
+  same_off l =
+      let q = taken_off s d h in
+      beside_lists q q.place q.names t.arena t.timers q.running q.time q.clock t.next_start q.stop_flag q.idled l
+
+  -- the record is written once in the memory, and twice in the state
+  slots : plain_slots n.handles.arena ≡ slots_of t.arena
+  slots =
+      put_slots i s stands n.handles.arena d (begun_at key repeat h) x.handles.plain
+      ∙ ap (λ xs. slots_of (record s.arena { slots = xs })) (sym (set-set s.arena.slots d.slot _ _))
+
+  pub started_retimed : AreRetimed (retimed i n) s t
+  started_retimed = record {
+    slots = slots;
+    lists = λ l. list_left i s stands n.handles.arena d ids t l (own_id i d h there) (x.handles.lists l)
+        (same_off l ∙ lists_left i s stands reached d h there fit unclosed l);
+    timers = timers_are i s stands n.handles.arena d ids n.heap (inserted (entry_of key d.slot) (cleared d.slot stands.timers.entries)) t.timers
+        (x.timers stands.timers.entries stands.timers.ordered) (timers_set i s stands reached d h there reached.drawn key refl);
+    time = ap (λ z. z.time) x.times ∙ stands.time;
+    next_start = ap (λ z. z.next_start) x.times ∙ ap (λ z. z + 1) stands.next_start;
+  }
+
+pub only_started : (s : State) (d : Id) (h : HandleRecord) (timeout repeat : ℕ) → OnlyTimers s (started (stopped s d h) d h timeout repeat)
+only_started s d h timeout repeat =
+    record { place = refl; names = refl; running = refl; time = refl; clock = refl; stop_flag = refl; idled = refl }
+
+-- ---- what isn't refused
+
+valid : (b : Bool) → invalid_if b ≡ None → b ≡ false
+valid true e = cc e
+valid false e = refl
+
+only_so : (b : Bool) (why : Option Code) → only_if b why ≡ None → (b ≡ true) × (why ≡ None)
+only_so true why e = (refl, e)
+only_so false why e = cc e
+
+either_not : (a b : Bool) → (a || b) ≡ false → a ≡ false
+either_not true b e = cc e
+either_not false b e = refl
+
+pub start_unclosed : (h : HandleRecord) → start_timer_refusal h ≡ None → h.closing ≡ false
+start_unclosed h e = valid h.closing (only_so (is_timer h.kind) (invalid_if h.closing) e).1
+
+pub again_unclosed : (h : HandleRecord) → again_refusal h ≡ None → h.closing ≡ false
+again_unclosed h e =
+    either_not h.closing (not h.begun) (valid (h.closing || not h.begun) (only_so (is_timer h.kind) (invalid_if (h.closing || not h.begun)) e).1)
+
+again_timer : (h : HandleRecord) → again_refusal h ≡ None → is_timer h.kind ≡ true
+again_timer h e = (only_so (is_timer h.kind) (invalid_if (h.closing || not h.begun)) e).0
+
+-- ---- a start of a timer that is stopped
+
+module _ (i : Image Place) (n : Timed Content) (room : ℕ) (d : Id) (h : HandleRecord) (u : TimerUndo) (s : State) (stands : StandsFor i s)
+    (reached : IsReached s) (fit : IsFit i) (allowed : again_refusal h ≡ None) where
+  restarted_by : (b : Bool)
+      → IsRescheduled handle_in Handle room (timed_of i) n d
+      (if b then becoming h (records.stopped h) None else starting i.times h h.repeat h.repeat) u
+      → AreRetimed (retimed i n) s (if b then stopped s d h else started (stopped s d h) d h h.repeat h.repeat)
+  restarted_by true x =
+      let leaves : becoming h (records.stopped h) None ≡ stopping h =
+      ap (λ (b : Bool). (let c : Change = record { from = h; to = records.stopped h; leaves = not b; due = None } in c))
+      (sym (again_unclosed h allowed)) in
+      stopped_retimed i n room d h u (subst (λ c. IsRescheduled handle_in Handle room (timed_of i) n d c u) leaves x) s stands reached fit
+      (again_timer h allowed)
+  restarted_by false x = started_retimed i n room d h h.repeat h.repeat u x s stands reached fit (again_unclosed h allowed)
+
+  pub restarted_retimed : IsRescheduled handle_in Handle room (timed_of i) n d (starting_again i.times h) u
+      → AreRetimed (retimed i n) s (restarted (stopped s d h) d h)
+  restarted_retimed x = restarted_by (h.repeat == 0) x
+
+from_again : (times : Times) (h : HandleRecord) → (starting_again times h).from ≡ h
+from_again times h = at (h.repeat == 0) where
+  at : (b : Bool) → (if b then becoming h (records.stopped h) None else starting times h h.repeat h.repeat).from ≡ h
+  at true = refl
+  at false = refl
+
+only_restarted : (s : State) (d : Id) (h : HandleRecord) → OnlyTimers s (restarted (stopped s d h) d h)
+only_restarted s d h = at (h.repeat == 0) where
+  at : (b : Bool) → OnlyTimers s (if b then stopped s d h else started (stopped s d h) d h h.repeat h.repeat)
+  at true = only_stopped s d h
+  at false = only_started s d h h.repeat h.repeat
+
+-- ---- the ops
+
+module _ (r : Record Place) (h w : Held Place) (d : Id) (from : HandleRecord) (u : TimerUndo) (fit : IsFit h.image)
+    (there : record_at handle_in h.image.arena d ≡ Some from) (recorded : Recorded r h w) (is : r.change ≡ change.Timer u)
+    (whole : IsWhole w.image) where
+  -- where the timers change as the state's do
+  stands_then : (s t : State) → StandsFor h.image s → OnlyTimers s t → AreRetimed (retimed h.image (timed_of w.image)) s t → StandsFor w.image t
+  stands_then s t stands only now =
+      let frame : w.image ≡ retimed h.image (timed_of w.image) = timer_frame r h w recorded u is in
+      subst (λ q. StandsFor q t) (sym frame)
+      (retimed_stands h.image s t (timed_of w.image) stands only now (subst (λ q. IsWhole q) frame whole))
+
+  pub start_does : (timeout repeat : ℕ) → start_timer_refusal from ≡ None
+      → IsStarted handle_in Handle w.room (timed_of h.image) (timed_of w.image) d timeout repeat u
+      → Does (λ s. start s timeout repeat d from) h.image w.image (answer.Code success)
+  start_does timeout repeat allowed did s stands reached =
+      let i = h.image in
+      let n = timed_of w.image in
+      let t = started (stopped s d from) d from timeout repeat in
+      let same : did.from ≡ from = same_Some did.from from (sym did.changed.handles.there ∙ there) in
+      let changed = subst
+      (λ (z : HandleRecord). IsRescheduled handle_in Handle w.room (timed_of i) n d (starting i.times z timeout repeat) u) same did.changed in (
+        t,
+        refl,
+        stands_then s t stands (only_started s d from timeout repeat)
+            (started_retimed i n w.room d from timeout repeat u changed s stands reached fit (start_unclosed from allowed)),
+      )
+
+  pub again_does : again_refusal from ≡ None → IsStartedAgain handle_in Handle w.room (timed_of h.image) (timed_of w.image) d u
+      → Does (λ s. again s d from) h.image w.image (answer.Code success)
+  again_does allowed did s stands reached =
+      let i = h.image in
+      let n = timed_of w.image in
+      let t = restarted (stopped s d from) d from in
+      let was : did.from ≡ (starting_again i.times did.from).from = sym (from_again i.times did.from) in
+      let same : did.from ≡ from = same_Some did.from from (ap Some was ∙ sym did.changed.handles.there ∙ there) in
+      let changed = subst
+      (λ (z : HandleRecord). IsRescheduled handle_in Handle w.room (timed_of i) n d (starting_again i.times z) u) same did.changed in (
+        t,
+        refl,
+        stands_then s t stands (only_restarted s d from) (restarted_retimed i n w.room d from u s stands reached fit allowed changed),
+      )

@@ -1,0 +1,137 @@
+-- A timer is stopped.
+use Rattle.std.proofs.Common.{◌≡◌, ℕ, Bool, true, false, not, if◌then◌else◌, eqb, Some, refl, sym, ap, ◌∙◌, subst}
+use Rattle.std.proofs.lemmas.Option.{same_Some}
+use Rattle.uv_ids.specs.declared.id.Id.{Id}
+use Rattle.uv_ids.specs.declared.code.Code.TheVariants.{Ok as success}
+use Rattle.uv_ids.specs.declared.code.Answer.TheVariants as answer
+use Rattle.uv_ids.specs.declared.phase.Kind.TheVariants as kind
+use Rattle.uv_records.specs.declared.handle.HandleRecord.{HandleRecord}
+use Rattle.uv_records.specs.declared.lists.ListName.{ListName}
+use Rattle.uv_records.specs.declared.lists.ListName.TheVariants as name
+use Rattle.uv_records.specs.Handles.{is_timer}
+use Rattle.uv_records.specs.Walks.{without}
+use Rattle.uv_arena.specs.Image as arena
+use Rattle.uv_handle.specs.Counted.{record_at}
+use Rattle.uv_timer.specs.declared.change.Change.{Change}
+use Rattle.uv_timer.specs.declared.undo.TimerUndo.{TimerUndo}
+use Rattle.uv_timer.specs.Changes.{stopping}
+use Rattle.uv_timer.specs.Timed.{Timed}
+use Rattle.uv_timer.specs.Timers.{IsRescheduled, IsStopped, cleared}
+use Rattle.uv_requests.specs.Working.{id_in}
+use Rattle.uv_model.specs.declared.place.Place.{Place}
+use Rattle.uv_model.specs.Ids.{without_id}
+use Rattle.uv_model.specs.Ops.{stop}
+use Rattle.uv_model.specs.Queries.{members}
+use Rattle.uv_model.specs.State.{State}
+use Rattle.uv_model.specs.Timers.{taken_off, stopped}
+use Rattle.uv_order.specs.Reached.{IsReached}
+use Rattle.uv_step.specs.declared.content.Content.{Content}
+use Rattle.uv_step.specs.declared.content.Content.TheVariants.{Handle}
+use Rattle.uv_step.specs.declared.record.Change.TheVariants as change
+use Rattle.uv_step.specs.declared.record.Record.{Record}
+use Rattle.uv_step.specs.Content.{handle_in}
+use Rattle.uv_step.specs.Fit.{IsFit}
+use Rattle.uv_step.specs.Image.{Image, Held, timed_of}
+use Rattle.uv_step.specs.Undo.{Recorded}
+use Rattle.uv_stands.specs.Doing.{Does}
+use Rattle.uv_stands.specs.Stands.{StandsFor}
+use Rattle.uv_stands.proofs.Holding.{ids_kept}
+use Rattle.uv_stands.proofs.Lists.{Listed, beside_lists, list_stays}
+use Rattle.uv_timing.proofs.Absent.{IsOn, timer_kind, held_handle, own_id, stays, ready_stays, not_idle, not_idle_yet, not_prepare, not_prepare_yet, not_check, not_check_yet, not_async, not_async_yet}
+use Rattle.uv_timing.proofs.Retimed.{retimed, timer_frame, OnlyTimers, AreRetimed, IsWhole, retimed_stands, put_slots, list_left, timers_are}
+use Rattle.uv_timing.proofs.TakenOff.{timers_left, lists_left}
+
+-- ids stay where one handle is rescheduled
+pub ids_rescheduled : (i : Image Place) (n : Timed Content) (room : ℕ) (d : Id) (c : Change) (u : TimerUndo)
+    → IsRescheduled handle_in Handle room (timed_of i) n d c u → (x : ℕ) → id_in n.handles.arena x ≡ id_in i.arena x
+ids_rescheduled i n room d c u x =
+    ids_kept i.arena n.handles.arena d (Handle c.to) (Handle c.from) (held_handle i d c.from x.handles.there) x.handles.plain
+
+module _ (i : Image Place) (n : Timed Content) (room : ℕ) (d : Id) (h : HandleRecord) (u : TimerUndo)
+    (x : IsRescheduled handle_in Handle room (timed_of i) n d (stopping h) u) (s : State) (stands : StandsFor i s) (reached : IsReached s)
+    (fit : IsFit i) (timer : is_timer h.kind ≡ true) where
+  abbrev t : State
+  t = stopped s d h
+
+  there : record_at handle_in i.arena d ≡ Some h
+  there = x.handles.there
+
+  ids : (y : ℕ) → id_in n.handles.arena y ≡ id_in i.arena y
+  ids = ids_rescheduled i n room d (stopping h) u x
+
+  same_off : (l : ListName) → members t l ≡ members (taken_off s d h) l
+  same_off l =
+      let q = taken_off s d h in
+      beside_lists q q.place q.names t.arena q.timers q.running q.time q.clock q.next_start q.stop_flag q.idled l
+
+  -- one that doesn't close leaves its list
+  left : h.closing ≡ false → (l : ListName) → Listed n.handles.arena t l
+  left unclosed l = list_left i s stands n.handles.arena d ids t l (own_id i d h there)
+      (x.handles.lists l
+      ∙ ap (λ (b : Bool). if not b then without eqb (arena.members i.arena l) d.slot else arena.members i.arena l) unclosed)
+      (same_off l ∙ lists_left i s stands reached d h there fit unclosed l)
+
+  module _ (closing : h.closing ≡ true) where
+    -- one that closes is on no list that it is taken off
+    here : (l : ListName) → members t l ≡ members s l → Listed n.handles.arena t l
+    here l same = list_stays i s stands n.handles.arena t l ids
+        (x.handles.lists l
+        ∙ ap (λ (b : Bool). if not b then without eqb (arena.members i.arena l) d.slot else arena.members i.arena l) closing)
+        same
+
+    off : (l : ListName) → (IsOn i l d → ⊥) → without_id (members s l) d ≡ members s l
+    off l absent = stays i d h there s stands l absent
+
+    of_timer : h.kind ≡ kind.Timer
+    of_timer = timer_kind h.kind timer
+
+    stayed : (l : ListName) → Listed n.handles.arena t l
+    stayed name.Ready = here name.Ready (off name.Ready (ready_stays i d h there s stands reached closing))
+    stayed name.Idle = here name.Idle (off name.Idle (not_idle i d h there s stands reached of_timer))
+    stayed name.IdleYet = here name.IdleYet (off name.IdleYet (not_idle_yet i d h there s stands reached of_timer))
+    stayed name.Prepare = here name.Prepare (off name.Prepare (not_prepare i d h there s stands reached of_timer))
+    stayed name.PrepareYet = here name.PrepareYet (off name.PrepareYet (not_prepare_yet i d h there s stands reached of_timer))
+    stayed name.Check = here name.Check (off name.Check (not_check i d h there s stands reached of_timer))
+    stayed name.CheckYet = here name.CheckYet (off name.CheckYet (not_check_yet i d h there s stands reached of_timer))
+    stayed name.Async = here name.Async (off name.Async (not_async i d h there s stands reached of_timer))
+    stayed name.AsyncYet = here name.AsyncYet (off name.AsyncYet (not_async_yet i d h there s stands reached of_timer))
+    stayed name.Closing = here name.Closing refl
+    stayed name.ClosingYet = here name.ClosingYet refl
+    stayed name.Waiting = here name.Waiting refl
+    stayed name.Done = here name.Done refl
+    stayed name.DoneYet = here name.DoneYet refl
+
+  listed : (b : Bool) → h.closing ≡ b → (l : ListName) → Listed n.handles.arena t l
+  listed true e = stayed e
+  listed false e = left e
+
+  pub stopped_retimed : AreRetimed (retimed i n) s t
+  stopped_retimed = record {
+    slots = put_slots i s stands n.handles.arena d (stopping h).to x.handles.plain;
+    lists = listed h.closing refl;
+    timers = timers_are i s stands n.handles.arena d ids n.heap (cleared d.slot stands.timers.entries) t.timers
+        (x.timers stands.timers.entries stands.timers.ordered) (timers_left i s stands reached d h there);
+    time = ap (λ z. z.time) x.times ∙ stands.time;
+    next_start = ap (λ z. z.next_start) x.times ∙ stands.next_start;
+  }
+
+pub only_stopped : (s : State) (d : Id) (h : HandleRecord) → OnlyTimers s (stopped s d h)
+only_stopped s d h = record { place = refl; names = refl; running = refl; time = refl; clock = refl; stop_flag = refl; idled = refl }
+
+pub stop_does : (r : Record Place) (h w : Held Place) (d : Id) (from : HandleRecord) (u : TimerUndo) → IsFit h.image
+    → record_at handle_in h.image.arena d ≡ Some from → is_timer from.kind ≡ true
+    → IsStopped handle_in Handle w.room (timed_of h.image) (timed_of w.image) d u → Recorded r h w → r.change ≡ change.Timer u → IsWhole w.image
+    → Does (λ s. stop s d from) h.image w.image (answer.Code success)
+stop_does r h w d from u fit there timer x recorded is whole s stands reached =
+    let i = h.image in
+    let n = timed_of w.image in
+    let same : x.from ≡ from = same_Some x.from from (sym x.changed.handles.there ∙ there) in
+    let changed = subst (λ (z : HandleRecord). IsRescheduled handle_in Handle w.room (timed_of i) n d (stopping z) u) same x.changed in
+    let frame : w.image ≡ retimed i n = timer_frame r h w recorded u is in (
+      stopped s d from,
+      refl,
+      subst (λ q. StandsFor q (stopped s d from)) (sym frame)
+          (retimed_stands i s (stopped s d from) n stands (only_stopped s d from)
+          (stopped_retimed i n w.room d from u changed s stands reached fit timer)
+          (subst (λ q. IsWhole q) frame whole)),
+    )

@@ -1,0 +1,7 @@
+use Rattle.std.proofs.Common.{◌≡◌, take}
+use Rattle.uv_timing.specs.Section.{ids_of}
+use Rattle.uv_timing.proofs.order.ids_of.Given as goal
+
+-- those before this one
+abbrev pub invariant-loop-entry : goal.invariant-loop-entry
+invariant-loop-entry l = l.ids.items ≡ ids_of l.slots (take l.entry-index l.entries)

@@ -1,0 +1,10 @@
+use Rattle.std.proofs.Common.{sym, subst}
+use Rattle.uv_heap.specs.Order.{IsInOrder}
+use Rattle.uv_step.specs.Image.{image_of}
+use Rattle.uv_timing.proofs.Ordered.{if_read}
+use Rattle.uv_timing.proofs.order.timer_ids.Goals as goal
+
+pub returns : goal.returns
+returns c =
+    if_read (λ ids. ids.items) c.ids_of.result (image_of c.args.memory.now) c.deref.result.now
+    (subst (IsInOrder (image_of c.args.memory.now).heap) (sym c.deref.ensures.value) c.in_ok-entries.ensures) c.ids_of.ensures

@@ -1,0 +1,17 @@
+use Rattle.uv_step.specs.Image.{held, image_of}
+use Rattle.uv_timing.proofs.Collects.{timer_collects, none_collects}
+use Rattle.uv_timing.proofs.section.collect_timer.Goals as goal
+
+pub returns-in-None-clause-none : goal.returns-in-None-clause-none
+returns-in-None-clause-none c = none_collects (image_of c.args.memory.now) c.in-None.ensures.none.0
+
+pub returns-in-Some-clause-collects : goal.returns-in-Some-clause-collects
+returns-in-Some-clause-collects c =
+    timer_collects c.in-Some.step_record (held c.args.memory.now) (held c.collect_timer.new.self) c.in-Some.id _ c.requires.ready.fit
+    c.in-Some.ensures.does.does c.in-Some.ensures.recorded c.in-Some.ensures.does.is
+    (record {
+      fit = c.in-Some.ensures.recorded.fit;
+      sound = c.is_sound.ensures;
+      heap = c.entries.ensures.heap;
+      places = c.entries.ensures.slots;
+    })

@@ -1,0 +1,52 @@
+//! The section of timers: those that are due are collected, and then the ready ones are called.
+ghost use Rattle.std.specs.Prelude.{◌≡◌, IfSome, IfNone};
+ghost use Rattle.uv_step.specs.Image.{held};
+ghost use Rattle.uv_step.specs.Undo.{Recorded};
+ghost use Rattle.uv_stands.specs.Ready.{IsReady};
+ghost use Rattle.uv_timing.specs.Section.{Collects, CollectsNone, Fires, FiresNone};
+
+use uv_handle::handle_at;
+use uv_ids::{Id, Var};
+use uv_model::Place;
+use uv_step::{Memory, Record};
+
+/// Sets the first timer aside to be called, if it is due. None, and nothing changed, where none is due.
+pub fn collect_timer(memory: &mut Memory<Place>) -> Option<(Id, Record<Place>)>
+    requires ready { IsReady (held memory.old) }
+    ensures recorded { IfSome result (λ r. Recorded r.1 (held memory.old) (held memory.new)) }
+    ensures collects { IfSome result (λ r. Collects (held memory.old).image (held memory.new).image r.0) }
+    ensures none { IfNone result (CollectsNone (held memory.old).image) }
+    ensures unchanged { IfNone result (held memory.new ≡ held memory.old) }
+{
+    match memory.collect_timer() {
+        None => None,
+        Some((id, step_record)) => {
+            memory.slots.is_sound();
+            let _ = memory.heap.entries();
+            Some((id, step_record))
+        }
+    }
+}
+
+/// Takes the front of those that are set aside, which is to be called now: its id and its name. It is set again if it repeats. None,
+/// and nothing changed, where none is set aside.
+pub fn fire_timer(memory: &mut Memory<Place>) -> Option<(Id, Var, Record<Place>)>
+    requires ready { IsReady (held memory.old) }
+    ensures recorded { IfSome result (λ r. Recorded r.2 (held memory.old) (held memory.new)) }
+    ensures fires { IfSome result (λ r. Fires (held memory.old).image (held memory.new).image r.0 r.1) }
+    ensures none { IfNone result (FiresNone (held memory.old).image) }
+    ensures unchanged { IfNone result (held memory.new ≡ held memory.old) }
+{
+    memory.slots.is_sound();
+    match memory.fire_timer() {
+        None => None,
+        Some((id, step_record)) => match handle_at(&memory.slots, id) {
+            Err(_) => unreachable!(),
+            Ok(handle) => {
+                memory.slots.is_sound();
+                let _ = memory.heap.entries();
+                Some((id, handle.name, step_record))
+            }
+        },
+    }
+}
