@@ -14,7 +14,7 @@ struct Conversation {
     output: &'static str,
 }
 
-const CONVERSATIONS: [Conversation; 3] = [
+const CONVERSATIONS: [Conversation; 4] = [
     Conversation {
         what: "what was taken back is run again past a refused step until another step is done",
         input: "var t\n\
@@ -158,6 +158,20 @@ const CONVERSATIONS: [Conversation; 3] = [
          calls\n\
          after w 0.0 ECANCELED\n\
          end\n",
+    },
+    Conversation {
+        what: "a machine without one memory has no image",
+        input: "var t\n\
+         main init t timer\n\
+         begin\n\
+         loop\n\
+         image\n\
+         image t\n\
+         trace\n",
+        output: "init t timer = 0.0\n\
+         refused image\n\
+         bad command\n\
+         init t timer = 0.0\n",
     },
 ];
 

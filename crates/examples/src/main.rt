@@ -1,4 +1,4 @@
-//! Runs each example, and compares what is written with the output that stands beside it.
+//! Runs each example over the plain loop, but for those that print an image, and compares what is written with the output beside it.
 #![tactic(auto)]
 
 use std::{fs, io};

@@ -4,6 +4,8 @@
 #[cfg(test)]
 mod arena_loop;
 #[cfg(test)]
+mod images;
+#[cfg(test)]
 mod session;
 #[cfg(test)]
 mod text;

@@ -26,11 +26,22 @@ const WORK: &[u8] =
 const TIMERS: &[u8] =
     b"var t\nvar u\nmain init t timer\nmain start t 5 2\nmain init u timer\nmain start u 3 0\nmain run default\non t @2 stop t\n";
 
+/// A script that never ends: `a` is an async handle and a request in turn, in fewer and fewer slots; the callbacks of others stop, close and
+/// start one another.
+const MIXED: &[u8] =
+    b"slots 5 6\nworkers 2\nvar a\nvar t\nvar i\nvar u\nmain init a async\nmain init t timer\nmain start t 2 3\nmain init i idle\n\
+main start i\nmain init u timer\nmain start u 4 0\nmain run default\non a close a\nclosed a queue a 1 x\nafter a init a async\n\
+on i @5 stop i\non i @9 stop i\non t again u\non t start u 3 0\non t @2 stop t\non t @6 close t\non u start i\non u start t 1 2\n\
+closed t init t timer\nclosed t start t 0 2\n";
+
+/// The 64 marks that are drawn from.
+const DRAWN: &[u8] = b"................................................sstttt0011aabbc<";
+
 /// How many scripts there are.
-const SCRIPTS: usize = 6;
+pub(crate) const SCRIPTS: usize = 6;
 
 /// The text of a script.
-fn text_of(script: usize) -> &'static [u8] {
+pub(crate) fn text_of(script: usize) -> &'static [u8] {
     match script {
         0 => SENDS,
         1 => CLOSINGS,
@@ -42,7 +53,7 @@ fn text_of(script: usize) -> &'static [u8] {
 }
 
 /// The events of a script, a mark each.
-fn marks_of(script: usize) -> &'static [u8] {
+pub(crate) fn marks_of(script: usize) -> &'static [u8] {
     match script {
         0 => b"........sssss...........s.............",
         1 => b"...............................",
@@ -54,7 +65,7 @@ fn marks_of(script: usize) -> &'static [u8] {
 }
 
 /// The event of a mark.
-fn event_of(mark: u8) -> Event {
+pub(crate) fn event_of(mark: u8) -> Event {
     match mark {
         b's' => Event::Send(Var(0)),
         b'c' => Event::Cancel(Var(0)),
@@ -240,6 +251,62 @@ fn scripts_are_walked_alike_and_back(rt: HostRuntime) -> Result<(), Fail> {
             goes_twice(&mut machine, rt.alloc(), script),
             "script {script}"
         );
+    }
+    Ok(())
+}
+
+/// The number after this one in a series that only looks random.
+fn drawn_after(number: u32) -> u32 {
+    number.wrapping_mul(1_103_515_245).wrapping_add(12_345)
+}
+
+/// The mark for a number of the series.
+fn mark_of(number: u32) -> u8 {
+    match DRAWN.get((number >> 16) as usize % 64) {
+        Some(mark) => *mark,
+        None => b'.',
+    }
+}
+
+/// Whether both take a step back alike, for `<`, or else answer the mark's event alike.
+fn obey_alike(machine: &mut ArenaLoop, plain: &mut PlainLoop, mark: u8) -> bool {
+    if mark == b'<' {
+        plain.back() == Ok(machine.back())
+    } else {
+        answer_alike(machine, plain, mark)
+    }
+}
+
+/// Whether both stay alike through 300 marks that are drawn, and many steps stand then.
+fn stray_alike(machine: &mut ArenaLoop, plain: &mut PlainLoop, seed: u32) -> bool {
+    let mut number = seed;
+    for _ in 0..300 {
+        number = drawn_after(number);
+        if !obey_alike(machine, plain, mark_of(number)) || !are_alike(machine, plain) {
+            return false;
+        }
+    }
+    machine.len() == plain.len() && machine.len() > 200
+}
+
+/// Whether the machine goes back to this beginning, and no further.
+fn goes_home(machine: &mut ArenaLoop, begun: Note) -> bool {
+    for _ in 0..machine.len() {
+        if !machine.back() {
+            return false;
+        }
+    }
+    note_of(machine) == begun && !machine.back()
+}
+
+#[test]
+fn sessions_that_are_drawn_are_taken_alike(rt: HostRuntime) -> Result<(), Fail> {
+    for seed in 0..8 {
+        let mut machine = ArenaLoop::begin(rt.alloc(), Script::parse(rt.alloc(), MIXED)?)?;
+        let mut plain = PlainLoop::begin(rt.alloc(), Script::parse(rt.alloc(), MIXED)?)?;
+        let begun = note_of(&machine);
+        assert!(rt; stray_alike(&mut machine, &mut plain, seed), "seed {seed}");
+        assert!(rt; goes_home(&mut machine, begun), "seed {seed}, back");
     }
     Ok(())
 }

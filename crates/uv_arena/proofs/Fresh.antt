@@ -4,7 +4,7 @@ use Rattle.std.proofs.lemmas.List.{map-append}
 use Rattle.std.proofs.Math.Seq.{take-append_seam}
 use Rattle.uv_raw.specs.Row.{row}
 use Rattle.uv_arena.specs.declared.links.Links.{Links}
-use Rattle.uv_arena.specs.declared.links.Ends.{Ends}
+use Rattle.uv_records.specs.declared.lists.Ends.{Ends}
 use Rattle.uv_arena.specs.declared.links.Cell.{Cell}
 use Rattle.uv_arena.specs.declared.memory.Memory.{Memory}
 use Rattle.uv_arena.specs.Chains.{Chains, link, loose, first, IsSegment, Stands}

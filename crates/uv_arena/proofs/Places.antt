@@ -1,7 +1,7 @@
 -- A slot is put in a place of a list, or taken out of it; and each undoes the other.
 use Rattle.std.proofs.Common.{◌≡◌, ℕ, ◌<◌, List, [], ◌∷◌, ◌++◌, slice_get, Option, Some, None, refl, sym, ap, ◌∙◌, subst, inl, inr}
 use Rattle.uv_arena.specs.declared.links.Links.{Links}
-use Rattle.uv_arena.specs.declared.links.Ends.{Ends}
+use Rattle.uv_records.specs.declared.lists.Ends.{Ends}
 use Rattle.uv_arena.specs.declared.links.Place.{Place}
 use Rattle.uv_arena.specs.Chains.{Chains, link, loose, first, last, IsIn, IsSegment, IsList, Stands, ends_of, none_or, linked, unlinked, new_links}
 use Rattle.uv_arena.proofs.Each.{get-each}

@@ -1,7 +1,8 @@
 -- Doubly linked lists through the slots.
-use Rattle.std.specs.Prelude.{◌≡◌, ℕ, zero, suc, ◌<◌, ◌⊎◌, Bool, false, cond, eqb, List, [], ◌∷◌, length, Option, Some, None, slice_get}
+use Rattle.std.specs.Prelude.{◌≡◌, ℕ, zero, suc, ◌<◌, Bool, false, cond, eqb, List, [], ◌∷◌, length, Option, Some, None, slice_get}
+use Rattle.uv_records.specs.declared.lists.Ends.{Ends}
+pub use Rattle.uv_records.specs.Linked.{first, last, ends_of, IsIn}
 use Rattle.uv_arena.specs.declared.links.Links.{Links}
-use Rattle.uv_arena.specs.declared.links.Ends.{Ends}
 use Rattle.uv_arena.specs.declared.links.Place.{Place}
 
 -- the slots' links, and the ends of each list
@@ -25,21 +26,6 @@ abbrev pub is_at : Option ℕ → ℕ → Bool
 is_at None j = false
 is_at (Some i) j = eqb i j
 
--- the first slot of a list, or what follows it where it is empty
-abbrev pub first : List ℕ → Option ℕ → Option ℕ
-first [] n = n
-first (x ∷ xs) n = Some x
-
--- the last slot of a list, or what precedes it where it is empty
-abbrev pub last : Option ℕ → List ℕ → Option ℕ
-last p [] = p
-last p (x ∷ xs) = last (Some x) xs
-
--- x is one of them
-abbrev pub IsIn : ℕ → List ℕ → Type 0
-IsIn x [] = ⊥
-IsIn x (y ∷ ys) = (x ≡ y) ⊎ IsIn x ys
-
 abbrev pub IsApart : List ℕ → Type 0
 IsApart [] = Unit {0}
 IsApart (x ∷ xs) = (IsIn x xs → ⊥) × IsApart xs
@@ -48,9 +34,6 @@ IsApart (x ∷ xs) = (IsIn x xs → ⊥) × IsApart xs
 abbrev pub IsSegment : List Links → ℕ → Option ℕ → List ℕ → Option ℕ → Type 0
 IsSegment ls k p [] n = Unit {0}
 IsSegment ls k p (x ∷ xs) n = (slice_get ls x ≡ Some (link k p (first xs n))) × IsSegment ls k (Some x) xs n
-
-abbrev pub ends_of : List ℕ → Ends
-ends_of xs = record { head = first xs None; tail = last None xs }
 
 -- list k is xs, and its links agree both ways
 pub record IsList (c : Chains) (k : ℕ) (xs : List ℕ) : Type 0 where

@@ -7,7 +7,7 @@ use Rattle.uv_records.specs.declared.lists.ListName.{ListName}
 use Rattle.uv_records.specs.Lists.{number}
 use Rattle.uv_records.specs.Slots as plain
 use Rattle.uv_arena.specs.declared.links.Links.{Links}
-use Rattle.uv_arena.specs.declared.links.Ends.{Ends}
+use Rattle.uv_records.specs.declared.lists.Ends.{Ends}
 use Rattle.uv_arena.specs.declared.links.Place.{Place}
 use Rattle.uv_arena.specs.declared.links.Cell.{Cell}
 use Rattle.uv_arena.specs.declared.memory.Memory.{Memory}

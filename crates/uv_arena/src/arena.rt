@@ -11,14 +11,14 @@ mod lists;
 mod readers;
 mod undos;
 
-use crate::links::{Ends, Links, Place};
+use crate::links::{Links, Place};
 use crate::memory::Memory;
 use crate::undo::{InsertUndo, RemoveUndo};
 use std::alloc::{AllocError, Global};
 use std::marker::Model;
 use uv_ids::Id;
 use uv_raw::RawRow;
-use uv_records::{ListName, Slot};
+use uv_records::{Ends, ListName, Slot};
 
 /// The chain of the free slots.
 const FREE: u8 = 14;

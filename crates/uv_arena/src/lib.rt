@@ -8,5 +8,5 @@ mod memory;
 mod undo;
 
 pub use arena::{Full, Slots};
-pub use links::{Cell, Ends, Links, Place};
+pub use links::{Cell, Links, Place};
 pub use undo::{InsertUndo, PushUndo, RemoveUndo, SpliceUndo};

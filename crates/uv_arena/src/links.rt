@@ -9,13 +9,6 @@ pub struct Links {
     pub next: Option<u32>,
 }
 
-/// The first and the last slot of a list.
-#[derive(Clone, Copy, Debug, PartialEq, Eq)]
-pub struct Ends {
-    pub head: Option<u32>,
-    pub tail: Option<u32>,
-}
-
 /// A slot with its links.
 #[derive(Clone, Copy, Debug, PartialEq, Eq)]
 pub struct Cell<T> {

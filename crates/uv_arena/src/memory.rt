@@ -3,9 +3,9 @@ ghost use Rattle.std.specs.Prelude.{◌≡◌, ◌<◌, ℕ, cond, eqb, length, 
 ghost use Rattle.uv_arena.specs.Chains.{each, is_at, none_or, link, loose};
 ghost use Rattle.uv_arena.specs.Image.{with_links, with_cells, with_ends, relinked_memory, IsBelow, IsWithin, put_in, taken_out, edited, links_at, slot_at, head_at, tail_at, place_at, grown, shrunk};
 
-use crate::links::{Cell, Ends, LOOSE, Links, Place};
+use crate::links::{Cell, LOOSE, Links, Place};
 use uv_raw::RawRow;
-use uv_records::Slot;
+use uv_records::{Ends, Slot};
 
 /// The slots that were ever used with their links, and the ends of the fifteen chains.
 #[derive(Drop)]

@@ -4,7 +4,7 @@ use Rattle.uv_ids.specs.declared.fault.Fault.{Fault}
 use Rattle.uv_ids.specs.declared.fault.Fault.TheVariants as fault
 use Rattle.uv_script.specs.Program.{Program}
 use Rattle.uv_script.specs.Grammar.{Parses}
-use Rattle.uv_engine.specs.Alone.{SaysInFront, ReadsAlone}
+use Rattle.uv_engine.specs.Alone.{ReadsAlone}
 use Rattle.uv_engine.specs.Input.{Buffered, pending, left}
 use Rattle.uv_engine.specs.Start.{IsFront, IsStartFault}
 use Rattle.uv_engine.specs.Taking.{IsReadFault}

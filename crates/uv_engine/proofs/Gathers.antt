@@ -3,6 +3,7 @@ use Rattle.std.proofs.Common.{◌≡◌, ℕ, List, [], ◌++◌, Ok, Err, refl,
 use Rattle.std.specs.List.{flat_map}
 use Rattle.std.proofs.lemmas.List.{append_cancel_left}
 use Rattle.uv_ids.specs.declared.fault.Fault.{Fault}
+use Rattle.uv_text.specs.Image.{Puts}
 use Rattle.uv_engine.specs.Sink.{CutShort}
 use Rattle.uv_engine.specs.Gather.{Grown, CutOff, Gathered, Gathers, GathersOne}
 
@@ -55,6 +56,9 @@ gathers_text w t text u e = (grown_none w, ap (λ (xs : List ℕ). w ++ xs) e �
 -- a text of a kind was gathered without a write
 pub one_text : {Is : List ℕ → Type 0} {w t : List ℕ} (text : List ℕ) {u : List ℕ} → Is text → u ≡ t ++ text → GathersOne Is (Ok tt) w t w u
 one_text {Is} {w} {t} text {u} h e = record { text = text; is = h; gathers = gathers_text w t text u e }
+
+pub put_text : {Is : List ℕ → Type 0} {w t u : List ℕ} → Puts Is t u → GathersOne Is (Ok tt) w t w u
+put_text {Is} {w} {t} {u} h = one_text h.text h.is h.put
 
 -- there was no memory to gather it
 pub one_fault : {Is : List ℕ → Type 0} {f : Fault} {w t : List ℕ} (text : List ℕ) {u : List ℕ} → Is text → GathersOne Is (Err f) w t w u

@@ -1,6 +1,7 @@
 pub mod Text
 pub mod Replies
 pub mod Gathers
+pub mod Images
 pub mod Loops
 pub mod Talking
 pub mod Starting

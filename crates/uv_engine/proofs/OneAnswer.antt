@@ -16,41 +16,41 @@ use Rattle.uv_script.proofs.Agrees.{AreDistinct}
 use Rattle.uv_session.specs.declared.breaks.Break.{Break}
 use Rattle.uv_session.specs.Shown.{Shown, moved_back}
 use Rattle.uv_session.specs.Moving.{moved_forward, BREAKS}
-use Rattle.uv_text.specs.declared.command.Command.{Command}
-use Rattle.uv_text.specs.declared.command.Command.TheVariants.{Loop, Step, Back, Forward, AddBreak, ClearBreaks, BackToBreak, Trace, State, Record, Quit}
+use Rattle.uv_text.specs.declared.command.Command.TheVariants.{Loop, Step, Back, Forward, AddBreak, ClearBreaks, BackToBreak, Trace, State, Image, Record, Quit}
 use Rattle.uv_text.specs.declared.command.Asked.{Asked}
 use Rattle.uv_text.specs.declared.command.Asked.TheVariants.{Nothing, Do, Bad}
+use Rattle.uv_text.specs.Commands.{Asks}
 use Rattle.uv_text.proofs.Commands.{asks, asks_one}
 use Rattle.uv_engine.specs.declared.conversation.Ended.{Ended}
 use Rattle.uv_engine.specs.Input.{NoFeed}
-use Rattle.uv_engine.specs.Out.{IsAnswer, asked_after, Talks, input_ends, quits, goes_on, Begins, here, here_at_end, later, NeverBegins, nothing, last_line, one_line, fresh_session, Ends, BadScript, talks, bad_line, no_begin, bad_input, HasAnswer, HasOneAnswer}
+use Rattle.uv_engine.specs.Out.{IsAnswer, image_in, images_in, asked_after, Talks, input_ends, quits, goes_on, Begins, here, here_at_end, later, NeverBegins, nothing, last_line, one_line, fresh_session, Ends, BadScript, talks, bad_line, no_begin, bad_input, HasAnswer, HasOneAnswer}
 use Rattle.uv_engine.specs.Reply.{Reply, Full, reply, reply_to, reply_after, may_follow, loop_after, back_after, forward_after, add_after, last_break, break_back_after}
 use Rattle.uv_engine.proofs.Starting.{some_out}
 
 -- ---- the commands
 
-prints_one : (c : Command) (s : Shown) (a b : List ℕ) → IsAnswer (Do c) s a → IsAnswer (Do c) s b → a ≡ b
-prints_one (Loop n) s a b h k = h ∙ sym k
-prints_one (Step e) s a b h k = h ∙ sym k
-prints_one (Back n) s a b h k = h ∙ sym k
-prints_one (Forward n) s a b h k = h ∙ sym k
-prints_one (AddBreak at) s a b h k = h ∙ sym k
-prints_one ClearBreaks s a b h k = h ∙ sym k
-prints_one BackToBreak s a b h k = h ∙ sym k
-prints_one Trace s a b h k = h ∙ sym k
-prints_one State s a b h k = h ∙ sym k
-prints_one Record s a b h k = h ∙ sym k
-prints_one Quit s a b h k = h ∙ sym k
-
-answers_one : (asked : Asked) (s : Shown) (a b : List ℕ) → IsAnswer asked s a → IsAnswer asked s b → a ≡ b
-answers_one Nothing s a b h k = h ∙ sym k
-answers_one (Do c) s a b h k = prints_one c s a b h k
-answers_one Bad s a b h k = h ∙ sym k
-
--- one text and one end
-record Same (a b : List ℕ) (x y : Ended) : Type 0 where
+-- what two answers to a line print is the same, and so are the images that follow
+record Follows (a b : List ℕ) (xs ys : List (List ℕ)) : Type 0 where
   text : a ≡ b
-  end : x ≡ y
+  rest : xs ≡ ys
+
+-- so it is where the images are the same from this line on
+prints_one : (asked : Asked) (s : Shown) (a b : List ℕ) (xs ys : List (List ℕ)) → IsAnswer asked s a → IsAnswer asked s b →
+    image_in asked a ++ xs ≡ image_in asked b ++ ys → Follows a b xs ys
+prints_one Nothing s a b xs ys h k z = record { text = h ∙ sym k; rest = z }
+prints_one (Do (Loop n)) s a b xs ys h k z = record { text = h ∙ sym k; rest = z }
+prints_one (Do (Step e)) s a b xs ys h k z = record { text = h ∙ sym k; rest = z }
+prints_one (Do (Back n)) s a b xs ys h k z = record { text = h ∙ sym k; rest = z }
+prints_one (Do (Forward n)) s a b xs ys h k z = record { text = h ∙ sym k; rest = z }
+prints_one (Do (AddBreak at)) s a b xs ys h k z = record { text = h ∙ sym k; rest = z }
+prints_one (Do ClearBreaks) s a b xs ys h k z = record { text = h ∙ sym k; rest = z }
+prints_one (Do BackToBreak) s a b xs ys h k z = record { text = h ∙ sym k; rest = z }
+prints_one (Do Trace) s a b xs ys h k z = record { text = h ∙ sym k; rest = z }
+prints_one (Do State) s a b xs ys h k z = record { text = h ∙ sym k; rest = z }
+prints_one (Do Image) s a b xs ys h k z = let text : a ≡ b = cc z in let rest : xs ≡ ys = cc z in record { text = text; rest = rest }
+prints_one (Do Record) s a b xs ys h k z = record { text = h ∙ sym k; rest = z }
+prints_one (Do Quit) s a b xs ys h k z = record { text = h ∙ sym k; rest = z }
+prints_one Bad s a b xs ys h k z = record { text = h ∙ sym k; rest = z }
 
 -- ---- no command declares a name
 
@@ -99,26 +99,52 @@ same_program (Do ClearBreaks) s = refl
 same_program (Do BackToBreak) s = break_back_program s (last_break s)
 same_program (Do Trace) s = refl
 same_program (Do State) s = refl
+same_program (Do Image) s = refl
 same_program (Do Record) s = refl
 same_program (Do Quit) s = refl
 
 still_distinct : (asked : Asked) (s : Shown) → AreDistinct s.program.names → AreDistinct (asked_after asked s).program.names
 still_distinct asked s distinct = subst (λ (p : Program). AreDistinct p.names) (sym (same_program asked s)) distinct
 
-talks_one : (lines : List (List ℕ)) (s : Shown) (a b : List ℕ) (x y : Ended) → AreDistinct s.program.names → Talks lines s a x → Talks lines s b y
-    → Same a b x y
-talks_one [] s a b x y distinct input_ends input_ends = record { text = refl; end = refl }
-talks_one (line ∷ lines) s a b x y distinct (quits q) (quits r) = record { text = refl; end = refl }
-talks_one (line ∷ lines) s a b x y distinct (quits q) (goes_on asked text rest r other h k) = absurd
-    (other (asks_one s.program.names line asked (Do Quit) distinct r q))
-talks_one (line ∷ lines) s a b x y distinct (goes_on asked text rest r other h k) (quits q) = absurd
-    (other (asks_one s.program.names line asked (Do Quit) distinct r q))
-talks_one (line ∷ lines) s a b x y distinct (goes_on asked text rest r other h k) (goes_on asked' text' rest' r' other' h' k') =
-    let same = asks_one s.program.names line asked' asked distinct r' r in
-    let more = talks_one lines (asked_after asked s) rest rest' x y (still_distinct asked s distinct) k
-    (subst (λ (z : Asked). Talks lines (asked_after z s) rest' y) same k') in
-    let first = answers_one asked s text text' h (subst (λ (z : Asked). IsAnswer z s text') same h') in
-    record { text = ap (λ (t : List ℕ). t ++ rest) first ∙ ap (λ (t : List ℕ). text' ++ t) more.text; end = more.end }
+-- ---- the answers to lines
+
+-- two answers to lines end the same, and are the same text where their images are
+record Same {ls ms : List (List ℕ)} {s t : Shown} {a b : List ℕ} {x y : Ended} (h : Talks ls s a x) (k : Talks ms t b y) : Type 0 where
+  end : x ≡ y
+  text : images_in h ≡ images_in k → a ≡ b
+
+same_asked : (s t : Shown) (l m : List ℕ) (a b : Asked) → s ≡ t → l ≡ m → AreDistinct s.program.names → Asks s.program.names l a
+    → Asks t.program.names m b → a ≡ b
+same_asked s t l m a b f e distinct q r = asks_one s.program.names l a b distinct q
+    (subst (λ (z : Shown). Asks z.program.names l b) (sym f) (subst (λ (z : List ℕ). Asks t.program.names z b) (sym e) r))
+
+talks_one : (ls ms : List (List ℕ)) (s t : Shown) (a b : List ℕ) (x y : Ended) → ls ≡ ms → s ≡ t → AreDistinct s.program.names
+    → (h : Talks ls s a x) (k : Talks ms t b y) → Same h k
+talks_one ls ms s t a b x y e f distinct input_ends input_ends = record { end = refl; text = λ z. refl }
+talks_one ls ms s t a b x y e f distinct input_ends (quits r) = cc e
+talks_one ls ms s t a b x y e f distinct input_ends (goes_on asked text rest r other h k) = cc e
+talks_one ls ms s t a b x y e f distinct (quits q) input_ends = cc e
+talks_one ls ms s t a b x y e f distinct (goes_on asked text rest q other h k) input_ends = cc e
+talks_one ls ms s t a b x y e f distinct (quits q) (quits r) = record { end = refl; text = λ z. refl }
+talks_one ls ms s t a b x y e f distinct (quits {line = l} q) (goes_on {line = m} asked text rest r other h k) =
+    let line : l ≡ m = cc e in absurd (other (sym (same_asked s t l m (Do Quit) asked f line distinct q r)))
+talks_one ls ms s t a b x y e f distinct (goes_on {line = l} asked text rest q other h k) (quits {line = m} r) =
+    let line : l ≡ m = cc e in absurd (other (same_asked s t l m asked (Do Quit) f line distinct q r))
+talks_one ls ms s t a b x y e f distinct (goes_on {line = l} {lines = ls'} asked text rest q other h k)
+    (goes_on {line = m} {lines = ms'} asked' text' rest' r other' h' k') =
+    let line : l ≡ m = cc e in
+    let lines : ls' ≡ ms' = cc e in
+    let same = same_asked s t l m asked asked' f line distinct q r in
+    let answer = subst (λ (z : Shown). IsAnswer asked z text') (sym f) (subst (λ (z : Asked). IsAnswer z t text') (sym same) h') in
+    let session = ap (λ (z : Asked). asked_after z s) same ∙ ap (asked_after asked') f in
+    let more = talks_one ls' ms' (asked_after asked s) (asked_after asked' t) rest rest' x y lines session (still_distinct asked s distinct) k k' in
+    record {
+      end = more.end;
+      text = λ z.
+          let images = subst (λ (w : Asked). image_in asked text ++ images_in k ≡ image_in w text' ++ images_in k') (sym same) z in
+          let first = prints_one asked s text text' (images_in k) (images_in k') h answer images in
+          ap (λ (w : List ℕ). w ++ rest) first.text ∙ ap (λ (w : List ℕ). text' ++ w) (more.text first.rest);
+    }
 
 -- ---- where the commands begin
 
@@ -200,10 +226,9 @@ pub one_answer : (input : List ℕ) → HasOneAnswer input
 one_answer input a b x y (talks {end = f} script commands p begins is talk) (talks {end = g} script' commands' p' begins' is' talk') =
     let one = begins_one input input script script' commands commands' refl begins begins' in
     let same = one_script script p p' is (subst (λ (z : List ℕ). IsScript z p') (sym one.script) is') in
-    let there = subst (λ (z : Program). Talks (lines_of commands) (fresh_session z) b g) (sym same)
-    (subst (λ (z : List ℕ). Talks (lines_of z) (fresh_session p') b g) (sym one.commands) talk') in
-    let more = talks_one (lines_of commands) (fresh_session p) a b f g (distinct_names script p is) talk there in
-    record { text = more.text; end = ap Ends more.end }
+    let more = talks_one (lines_of commands) (lines_of commands') (fresh_session p) (fresh_session p') a b f g (ap lines_of one.commands)
+    (ap fresh_session same) (distinct_names script p is) talk talk' in
+    record { end = ap Ends more.end; text = more.text }
 one_answer input a b x y (talks script commands p begins is talk) (bad_line {number = m} script' commands' begins' bad) =
     let one = begins_one input input script script' commands commands' refl begins begins' in
     absurd (no_bad_line script p m is (subst (λ (z : List ℕ). IsBadLine z m) (sym one.script) bad))
@@ -216,7 +241,7 @@ one_answer input a b x y (bad_line script commands begins bad) (talks script' co
     absurd (no_bad_line script p' _ (subst (λ (z : List ℕ). IsScript z p') (sym one.script) is') bad)
 one_answer input a b x y (bad_line {number = n} script commands begins bad) (bad_line {number = m} script' commands' begins' bad') =
     let one = begins_one input input script script' commands commands' refl begins begins' in
-    record { text = refl; end = end_of n m (one_bad_line script n m bad (subst (λ (z : List ℕ). IsBadLine z m) (sym one.script) bad')) }
+    record { end = end_of n m (one_bad_line script n m bad (subst (λ (z : List ℕ). IsBadLine z m) (sym one.script) bad')); text = λ _. refl }
 one_answer input a b x y (bad_line script commands begins bad) (no_begin p' never is') = absurd
     (never_begins input input script commands refl begins never)
 one_answer input a b x y (bad_line script commands begins bad) (bad_input never bad') = absurd
@@ -225,7 +250,7 @@ one_answer input a b x y (no_begin p never is) (talks script commands p' begins 
     (never_begins input input script commands refl begins never)
 one_answer input a b x y (no_begin p never is) (bad_line script commands begins bad) = absurd
     (never_begins input input script commands refl begins never)
-one_answer input a b x y (no_begin p never is) (no_begin p' never' is') = record { text = refl; end = refl }
+one_answer input a b x y (no_begin p never is) (no_begin p' never' is') = record { end = refl; text = λ _. refl }
 one_answer input a b x y (no_begin p never is) (bad_input never' bad) = absurd (no_bad_line input p _ is bad)
 one_answer input a b x y (bad_input never bad) (talks script commands p' begins is' talk) = absurd
     (never_begins input input script commands refl begins never)
@@ -233,7 +258,7 @@ one_answer input a b x y (bad_input never bad) (bad_line script commands begins 
     (never_begins input input script commands refl begins never)
 one_answer input a b x y (bad_input never bad) (no_begin p' never' is') = absurd (no_bad_line input p' _ is' bad)
 one_answer input a b x y (bad_input {number = n} never bad)
-    (bad_input {number = m} never' bad') = record { text = refl; end = end_of n m (one_bad_line input n m bad bad') }
+    (bad_input {number = m} never' bad') = record { end = end_of n m (one_bad_line input n m bad bad'); text = λ _. refl }
 
 pub some_answer : (input : List ℕ) → HasAnswer input
 some_answer input = some_out some_reading asks input

@@ -2,7 +2,7 @@
 use Rattle.std.proofs.Common.{◌≡◌, ◌≢◌, ℕ, List, [], ◌∷◌, ◌++◌, Result, Ok, Err, suc, ◌==◌, arith, Bool, true, false, refl, ap, sym, ◌∙◌, subst, append_assoc, append-nil}
 use Rattle.uv_ids.specs.declared.fault.Fault.{Fault}
 use Rattle.uv_session.specs.Shown.{Shown}
-use Rattle.uv_text.specs.declared.command.Command.TheVariants.{Loop, Step, Back, Forward, AddBreak, ClearBreaks, BackToBreak, Trace, State, Record, Quit}
+use Rattle.uv_text.specs.declared.command.Command.TheVariants.{Loop, Step, Back, Forward, AddBreak, ClearBreaks, BackToBreak, Trace, State, Image, Record, Quit}
 use Rattle.uv_text.specs.declared.command.Asked.{Asked}
 use Rattle.uv_text.specs.declared.command.Asked.TheVariants.{Nothing, Do, Bad}
 use Rattle.uv_text.specs.Commands.{Asks}
@@ -13,7 +13,7 @@ use Rattle.uv_engine.specs.declared.conversation.Ended.{Ended}
 use Rattle.uv_engine.specs.declared.conversation.Ended.TheVariants as ended
 use Rattle.std.proofs.lemmas.List.{append_cancel_left}
 use Rattle.uv_engine.specs.Gather.{Grown, CutOff, Gathers, GathersOne}
-use Rattle.uv_engine.specs.Out.{Talks, input_ends, quits, goes_on, IsAnswer, asked_after}
+use Rattle.uv_engine.specs.Out.{refused, Talks, input_ends, quits, goes_on, IsAnswer, asked_after}
 use Rattle.uv_engine.specs.Talk.{TalksCut, TalksOn, Finishes}
 use Rattle.uv_engine.proofs.Gathers.{grown_none, grown_more}
 
@@ -56,6 +56,7 @@ some_talk every (line ∷ lines) s = at (asked_of s.program.names line) (every s
   at (Do BackToBreak) a k = on_line line lines s (Do BackToBreak) _ a (λ e. cc e) refl (k _)
   at (Do Trace) a k = on_line line lines s (Do Trace) _ a (λ e. cc e) refl (k s)
   at (Do State) a k = on_line line lines s (Do State) _ a (λ e. cc e) refl (k s)
+  at (Do Image) a k = on_line line lines s (Do Image) _ a (λ e. cc e) (refused refl) (k s)
   at (Do Record) a k = on_line line lines s (Do Record) _ a (λ e. cc e) refl (k s)
   at (Do Quit) a k = record { text = []; end = ended.Quit; is = quits a }
 

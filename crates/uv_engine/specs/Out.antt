@@ -8,17 +8,24 @@ use Rattle.uv_script.specs.Grammar.{IsScript, IsBadLine}
 use Rattle.uv_model.specs.After.{STEPS}
 use Rattle.uv_session.specs.Shown.{Shown}
 use Rattle.uv_text.specs.declared.command.Command.{Command}
-use Rattle.uv_text.specs.declared.command.Command.TheVariants.{Loop, Step, Back, Forward, AddBreak, ClearBreaks, BackToBreak, Trace, State, Record, Quit}
+use Rattle.uv_text.specs.declared.command.Command.TheVariants.{Loop, Step, Back, Forward, AddBreak, ClearBreaks, BackToBreak, Trace, State, Image, Record, Quit}
 use Rattle.uv_text.specs.declared.command.Asked.{Asked}
 use Rattle.uv_text.specs.declared.command.Asked.TheVariants.{Nothing, Do, Bad}
 use Rattle.uv_text.specs.Commands.{Asks}
 use Rattle.uv_text.specs.State.{state_text}
+use Rattle.uv_text.specs.Image.{IsImageText}
 use Rattle.uv_text.specs.Recording.{recording_text}
 use Rattle.uv_engine.specs.declared.conversation.Ended.{Ended}
 use Rattle.uv_engine.specs.declared.conversation.Ended.TheVariants as ended
 use Rattle.uv_engine.specs.Input.{NoFeed}
 use Rattle.uv_engine.specs.Sink.{CutShort}
 use Rattle.uv_engine.specs.Reply.{reply, reply_text, reply_after, loop_text, loop_after, back_text, back_after, forward_text, forward_after, add_text, add_after, last_break, break_back_text, break_back_after, trace_text}
+
+-- what `image` prints: the text of a memory that stands for the state, or that the machine has no one memory. Which of these it is, and how
+-- the memory lies, is left open
+pub data PrintsImage (s : Shown) (text : List ℕ) : Type 0 where
+  lies : IsImageText s text → PrintsImage s text
+  refused : text ≡ codes "refused image\n" → PrintsImage s text
 
 -- what a command prints
 abbrev pub Prints : Command → Shown → List ℕ → Type 0
@@ -31,6 +38,7 @@ Prints ClearBreaks s text = text ≡ codes "break ok\n"
 Prints BackToBreak s text = text ≡ break_back_text (last_break s)
 Prints Trace s text = text ≡ trace_text s
 Prints State s text = text ≡ state_text s
+Prints Image s text = PrintsImage s text
 Prints Record s text = text ≡ recording_text s.program s.standing
 Prints Quit s text = text ≡ []
 
@@ -45,6 +53,7 @@ command_after ClearBreaks s = record s { breaks = [] }
 command_after BackToBreak s = break_back_after s (last_break s)
 command_after Trace s = s
 command_after State s = s
+command_after Image s = s
 command_after Record s = s
 command_after Quit s = s
 
@@ -66,6 +75,17 @@ pub data Talks : List (List ℕ) → Shown → List ℕ → Ended → Type 0 whe
   goes_on : {line : List ℕ} {lines : List (List ℕ)} {s : Shown} {end : Ended} (asked : Asked) (text rest : List ℕ)
       → Asks s.program.names line asked → asked ≢ Do Quit → IsAnswer asked s text → Talks lines (asked_after asked s) rest end →
       Talks (line ∷ lines) s (text ++ rest) end
+
+-- the text that was printed for a line, if that is `image`
+abbrev pub image_in : Asked → List ℕ → List (List ℕ)
+image_in (Do Image) text = text ∷ []
+image_in _ text = []
+
+-- the texts that the commands `image` of these lines printed, in their order
+abbrev pub images_in : {lines : List (List ℕ)} {s : Shown} {text : List ℕ} {end : Ended} → Talks lines s text end → List (List ℕ)
+images_in input_ends = []
+images_in (quits asks) = []
+images_in (goes_on asked text rest asks other answer more) = image_in asked text ++ images_in more
 
 -- the line `begin` cuts an input: the bytes before it are the script, and those after it the commands
 pub data Begins : List ℕ → List ℕ → List ℕ → Type 0 where
@@ -103,13 +123,21 @@ pub record HasAnswer (input : List ℕ) : Type 0 where
   pub end : End
   pub is : Out input text end
 
--- two answers to an input are the same
-pub record AreSame (a b : List ℕ) (x y : End) : Type 0 where
-  pub text : a ≡ b
-  pub end : x ≡ y
+-- the texts that the commands `image` of an answer printed, in their order
+abbrev pub images_of : {input text : List ℕ} {end : End} → Out input text end → List (List ℕ)
+images_of (talks script commands p begins is talk) = images_in talk
+images_of (bad_line script commands begins bad) = []
+images_of (no_begin p never is) = []
+images_of (bad_input never bad) = []
 
+-- two answers to an input end the same, and they are the same text where their images are
+pub record AreSame {input a b : List ℕ} {x y : End} (h : Out input a x) (k : Out input b y) : Type 0 where
+  pub end : x ≡ y
+  pub text : images_of h ≡ images_of k → a ≡ b
+
+-- an input has one end, and one text but for its images
 abbrev pub HasOneAnswer : List ℕ → Type 0
-HasOneAnswer input = (a b : List ℕ) (x y : End) → Out input a x → Out input b y → AreSame a b x y
+HasOneAnswer input = (a b : List ℕ) (x y : End) (h : Out input a x) (k : Out input b y) → AreSame h k
 
 -- a beginning of what is written for the input
 pub record IsCut (input old new : List ℕ) : Type 0 where

@@ -9,7 +9,7 @@ ghost use Rattle.uv_engine.specs.Reply.{loop_text, loop_after, trace_text};
 ghost use Rattle.uv_engine.specs.Out.{Prints, command_after, IsAnswer, asked_after};
 
 use crate::conversation::Conversation;
-use crate::reply::{add_break, back_to_break, clear_breaks, go_back, go_forward, tell};
+use crate::reply::{add_break, back_to_break, clear_breaks, go_back, go_forward, show_image, tell};
 use crate::sink::{Sink, write_out};
 use uv_ids::{Event, Fault, Seen};
 use uv_model::Machine;
@@ -104,6 +104,7 @@ impl<M: Machine> Conversation<M> {
             Command::ClearBreaks => Ok(clear_breaks(&mut self.session, &mut self.text)?),
             Command::BackToBreak => Ok(back_to_break(&mut self.session, &mut self.text)?),
             Command::State => Ok(push_state(&mut self.text, &self.session)?),
+            Command::Image => Ok(show_image(&self.session, &mut self.text)?),
             Command::Record => Ok(push_recording(&mut self.text, &self.session)?),
             Command::Quit => Ok(()),
         }

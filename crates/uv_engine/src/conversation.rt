@@ -103,8 +103,8 @@ impl<M: Machine> Conversation<M> {
     }
 }
 
-/// Every input has an answer, a text and an end, and one alone: so what `converse` writes is settled by the input. It does
-/// nothing, and is called for its clauses.
+/// Every input has an answer, a text and an end. The end is one alone, and the text is one alone but for what the commands
+/// `image` print: so the input settles all else that `converse` writes. It does nothing, and is called for its clauses.
 #[tactic(auto, using(crate::proofs::OneAnswer::answers))]
 pub fn one_answer()
     ensures some { (input : List ℕ) → HasAnswer input }

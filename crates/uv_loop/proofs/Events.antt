@@ -8,16 +8,18 @@ use Rattle.uv_ids.specs.declared.event.Event.TheVariants.{Tick, Send, Cancel}
 use Rattle.uv_ids.specs.declared.seen.Seen.{Seen}
 use Rattle.uv_ids.specs.declared.seen.Seen.TheVariants as seen
 use Rattle.uv_ids.specs.declared.code.Code.{Code}
+use Rattle.uv_ids.specs.declared.code.Answer.{Answer}
 use Rattle.uv_ids.specs.declared.fault.Why.TheVariants.{Range}
 use Rattle.uv_script.specs.Program.{Program}
 use Rattle.uv_model.specs.declared.place.Place.{Place}
 use Rattle.uv_model.specs.State.{State, live_handle, live_request}
 use Rattle.uv_model.specs.Next.{Next, Moves, Refuses, next, LATEST}
-use Rattle.uv_model.specs.Ops.{Done, send, cancel}
+use Rattle.uv_model.specs.Ops.{Coded, Done, send, cancel}
 use Rattle.uv_model.specs.After.{IsMove}
 use Rattle.uv_step.specs.Image.{Image}
 use Rattle.uv_stands.specs.Contents.{named_of}
 use Rattle.uv_stands.specs.Stands.{StandsFor}
+use Rattle.uv_ops.specs.Outside.{Sends, Cancels}
 use Rattle.uv_loop.specs.Course.{Leads}
 use Rattle.uv_loop.proofs.Simulation.{ticked}
 
@@ -61,14 +63,13 @@ send_refused p i s v h l =
       | inr q ↦ ap (λ (b : Bool). if b then Moves done.state (Some (seen.Send v done.code)) else Refuses Range) q.0
     ]
 
-pub cancel_moves : (p : Program) (i : Image Place) (s : State) (v : Var) (done : Done) → StandsFor i s → v.0 < length i.names
-    → cancel s (live_request s v) ≡ done → next p s (Cancel v) ≡ Moves done.state (Some (seen.Cancel v done.answer))
+pub cancel_moves : (p : Program) (i : Image Place) (s : State) (v : Var) → StandsFor i s → v.0 < length i.names
+    → next p s (Cancel v) ≡ Moves (cancel s (live_request s v)).state (Some (seen.Cancel v (cancel s (live_request s v)).answer))
 unfolding next
-cancel_moves p i s v done h l is =
-    let did = cancel s (live_request s v) in
+cancel_moves p i s v h l =
+    let done = cancel s (live_request s v) in
     let within : v.0 < length s.names = (let e = names_as i s h in omega (arith, l, e)) in
-    ap (λ (b : Bool). if b then Moves did.state (Some (seen.Cancel v did.answer)) else Refuses Range) (lt-ltb v.0 (length s.names) within)
-    ∙ ap (λ (d : Done). Moves d.state (Some (seen.Cancel v d.answer))) is
+    ap (λ (b : Bool). if b then Moves done.state (Some (seen.Cancel v done.answer)) else Refuses Range) (lt-ltb v.0 (length s.names) within)
 
 pub cancel_refused : (p : Program) (i : Image Place) (s : State) (v : Var) → StandsFor i s → length i.names ≤ v.0
     → next p s (Cancel v) ≡ Refuses Range
@@ -99,14 +100,17 @@ tick_leads p i j ms l is s h reached = (
 pub send_may : (p : Program) (i : Image Place) (v : Var) → v.0 < length i.names → (s : State) → StandsFor i s → IsMove (next p s (Send v))
 send_may p i v l s h = is_move _ _ _ (send_moves p i s v h l)
 
-pub send_leads : (p : Program) (i j : Image Place) (v : Var) (code : Code) → v.0 < length i.names
-    → ((s : State) → StandsFor i s → (send s (live_handle s v)).code ≡ code)
-    → ((s : State) → StandsFor i s → StandsFor j (send s (live_handle s v)).state) → Leads p i j (Send v) (Some (seen.Send v code))
-send_leads p i j v code l is stands s h reached = (
-  (send s (live_handle s v)).state,
-  send_moves p i s v h l ∙ ap (λ (c : Code). Moves (send s (live_handle s v)).state (Some (seen.Send v c))) (is s h),
-  stands s h,
-)
+pub send_leads : (p : Program) (i j : Image Place) (v : Var) (c : Code) → v.0 < length i.names → Sends v i j c
+    → Leads p i j (Send v) (Some (seen.Send v c))
+send_leads p i j v c l sends s h reached =
+    let t = sends s h in
+    (t.0, send_moves p i s v h l ∙ ap (λ (d : Coded). Moves d.state (Some (seen.Send v d.code))) t.1, t.2)
 
 pub cancel_may : (p : Program) (i : Image Place) (v : Var) → v.0 < length i.names → (s : State) → StandsFor i s → IsMove (next p s (Cancel v))
-cancel_may p i v l s h = is_move _ _ _ (cancel_moves p i s v _ h l refl)
+cancel_may p i v l s h = is_move _ _ _ (cancel_moves p i s v h l)
+
+pub cancel_leads : (p : Program) (i j : Image Place) (v : Var) (a : Answer) → v.0 < length i.names → Cancels v i j a
+    → Leads p i j (Cancel v) (Some (seen.Cancel v a))
+cancel_leads p i j v a l cancels s h reached =
+    let t = cancels s h in
+    (t.0, cancel_moves p i s v h l ∙ ap (λ (d : Done). Moves d.state (Some (seen.Cancel v d.answer))) t.1, t.2)

@@ -6,9 +6,5 @@ pub mod Ready
 pub mod Lines
 pub mod Events
 pub mod Refusing
-pub mod Walked
-pub mod Shown
-pub mod Sends
 pub mod Takes
 pub mod Finishes
-pub mod Cancels

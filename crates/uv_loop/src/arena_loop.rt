@@ -10,6 +10,7 @@ ghost use Rattle.uv_step.specs.Fit.{IsFit};
 ghost use Rattle.uv_step.specs.Image.{held};
 ghost use Rattle.uv_step.specs.Trail.{unwound};
 ghost use Rattle.uv_stands.specs.Stands.{StandsFor};
+ghost use Rattle.uv_layout.specs.Laid.{ShowsAll};
 ghost use Rattle.uv_loop.specs.Course.{Adds, Drops, first_image};
 
 use crate::looping::{loop_refusal, turn};
@@ -19,7 +20,8 @@ use crate::steps::Steps;
 use std::alloc::{AllocError, Global};
 use std::marker::Model;
 use uv_ids::{Event, Fault, Seen, Var, Why};
-use uv_model::{Numbers, Outcome, Place, STEPS};
+use uv_layout::layout_of;
+use uv_model::{Layout, Numbers, Outcome, Place, STEPS};
 use uv_script::Script;
 use uv_step::{Memory, Record};
 use uv_work::WorkResult;
@@ -104,6 +106,22 @@ impl ArenaLoop {
             memory,
             steps: Steps::new(alloc),
         })
+    }
+
+    /// Takes one step. An accepted one adds its record, by which `back` takes it back.
+    pub fn step(&mut self, event: Event) -> Result<Outcome, Fault>
+        ensures program { self.new.program ≡ self.old.program }
+        ensures answer { Answers STEPS self.old.program self.old.standing event result self.new.standing }
+        ensures records { Adds result self.old self.new }
+    {
+        match event {
+            Event::Loop => self.turn(),
+            Event::Take(worker) => self.take(worker),
+            Event::Finish(worker) => self.finish(worker),
+            Event::Cancel(name) => self.cancel(name),
+            Event::Send(name) => self.send(name),
+            Event::Tick(ms) => self.tick(ms),
+        }
     }
 
     /// The loop does its next step.
@@ -322,6 +340,17 @@ impl ArenaLoop {
             stop_flag: self.memory.stop_flag,
             idled: self.memory.idled,
         }
+    }
+
+    /// How the memory lies.
+    pub fn layout(&self) -> Result<Layout, Fault>
+        ensures layout { IfOk result (λ layout. ShowsAll layout self.now.walk.image) }
+        ensures err { IfErr result (λ fault. fault ≡ no_memory) }
+    {
+        let Ok(layout) = layout_of(&self.memory, self.alloc) else {
+            return Err(Fault::Memory);
+        };
+        Ok(layout)
     }
 
     /// The memory.

@@ -3,12 +3,10 @@
 
 mod arena_loop;
 mod bodies;
-mod listing;
 mod looping;
 mod machine;
 mod pooling;
 mod sending;
-mod showing;
 mod staging;
 mod steps;
 

@@ -2,11 +2,10 @@
 ghost use Rattle.std.specs.Prelude.{◌≡◌, IfOk};
 
 use crate::arena_loop::ArenaLoop;
-use crate::listing::{free_slots, listed_ids};
-use crate::showing::{run_at, shown, shown_name, shown_slot};
 use std::alloc::Global;
 use uv_ids::{Event, Fault, Id, Seen, Var};
-use uv_model::{Content, Machine, Named, Numbers, Outcome, Place, runner_of};
+use uv_layout::{free_slots, listed_ids, run_at, shown, shown_name, shown_slot};
+use uv_model::{Content, Layout, Machine, Named, Numbers, Outcome, Place, runner_of};
 use uv_records::{ListName, Slot};
 use uv_script::Script;
 use uv_timing::timer_ids;
@@ -22,14 +21,7 @@ impl Machine for ArenaLoop {
     }
 
     fn step(&mut self, event: Event) -> Result<Outcome, Fault> {
-        match event {
-            Event::Loop => self.turn(),
-            Event::Take(worker) => self.take(worker),
-            Event::Finish(worker) => self.finish(worker),
-            Event::Cancel(name) => self.cancel(name),
-            Event::Send(name) => self.send(name),
-            Event::Tick(ms) => self.tick(ms),
-        }
+        ArenaLoop::step(self, event)
     }
 
     fn finish_with(&mut self, worker: u16, work: WorkResult) -> Result<Outcome, Fault> {
@@ -109,5 +101,11 @@ impl Machine for ArenaLoop {
     fn members(&self, list: ListName) -> Result<Vec<Id>, Fault> {
         let ids = listed_ids(&self.memory.slots, list, self.alloc)?;
         Ok(ids)
+    }
+
+    fn layout(&self) -> Result<Option<Layout>, Fault> {
+        self.stands();
+        let layout = ArenaLoop::layout(self)?;
+        Ok(Some(layout))
     }
 }

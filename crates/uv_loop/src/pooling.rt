@@ -7,11 +7,13 @@ ghost use Rattle.uv_work.specs.Requests.{job_of};
 ghost use Rattle.uv_step.specs.Fit.{IsFit};
 ghost use Rattle.uv_step.specs.Image.{held};
 ghost use Rattle.uv_step.specs.Undo.{Recorded};
+ghost use Rattle.uv_stands.specs.Doing.{Returns};
 ghost use Rattle.uv_loop.specs.Course.{Leads};
 ghost use Rattle.uv_loop.specs.Pooling.{MayTake, MayFinish};
 
-use uv_ids::{Answer, Code, Id, Seen, Var};
+use uv_ids::{Answer, Id, Seen, Var};
 use uv_model::Place;
+use uv_ops::cancel;
 use uv_step::{Memory, Record};
 use uv_work::{RequestRecord, WorkResult};
 
@@ -63,18 +65,9 @@ pub(crate) fn finish_work(
 pub(crate) fn cancel_named(memory: &mut Memory<Place>, name: Var) -> (Answer, Record<Place>)
     requires fit { IsFit (held memory.old).image }
     requires name { name.0 < length (held memory.old).image.names }
-    ensures recorded { Recorded result.1 (held memory.old) (held memory.new) }
+    ensures returns { Returns result.1 (held memory.old) (held memory.new) }
     ensures leads { (p : Program)
         → Leads p (held memory.old).image (held memory.new).image (Cancel name) (Some (cancelled name result.0)) }
 {
-    match memory.names[name.0 as usize].id {
-        None => (Answer::Code(Code::Estale), memory.pass()),
-        Some(id) => match memory.cancel(id) {
-            Err(code) => (Answer::Code(code), memory.pass()),
-            Ok(step_record) => {
-                memory.slots.is_sound();
-                (Answer::Cancelled(id), step_record)
-            }
-        },
-    }
+    cancel(memory, name)
 }

@@ -16,6 +16,10 @@ handle_in None = None
 handle_in (Some (content.Handle h)) = Some h
 handle_in (Some (content.Request r)) = None
 
+-- the handle's record, if it is a handle
+abbrev pub handle_of : Content → Option HandleRecord
+handle_of x = handle_in (Some x)
+
 -- the request that a slot holds, if it holds one
 abbrev pub request_in : Option Content → Option Request
 request_in None = None

@@ -12,3 +12,4 @@ pub mod After
 pub mod Handing
 pub mod Bounds
 pub mod Trail
+pub mod Layout

@@ -6,6 +6,7 @@ mod arena;
 mod bodies;
 mod content;
 mod ids;
+mod layout;
 mod machine;
 mod named;
 mod numbers;
@@ -18,6 +19,7 @@ mod walked;
 
 pub use bodies::body_from;
 pub use content::Content;
+pub use layout::{LaidSlot, Layout, ListEnds};
 pub use machine::{Machine, Outcome, STEPS};
 pub use named::{Counts, Named};
 pub use numbers::Numbers;

@@ -1,10 +1,11 @@
 //! What every machine does.
-ghost use Rattle.std.specs.Prelude.{◌≡◌, ◌≤◌, ◌-◌, IfOk, IfErr, List, length, slice_get, Some, []};
+ghost use Rattle.std.specs.Prelude.{◌≡◌, ◌≤◌, ◌-◌, IfOk, IfErr, IfSome, List, length, slice_get, Some, []};
 ghost use Rattle.uv_ids.specs.declared.event.Event.{Event};
 ghost use Rattle.uv_ids.specs.declared.fault.Fault.TheVariants.{Memory};
 ghost use Rattle.uv_script.specs.Program.{Program};
 
 use crate::content::Content;
+use crate::layout::Layout;
 use crate::named::Named;
 use crate::numbers::Numbers;
 use crate::place::Place;
@@ -30,6 +31,7 @@ pub trait Machine: Drop {
     ghost use Rattle.uv_model.specs.Handing.{AnswersResult};
     ghost use Rattle.uv_model.specs.State.{named};
     ghost use Rattle.uv_model.specs.Queries.{numbers, timer_ids, members, is_free, run_by, worker_of};
+    ghost use Rattle.uv_model.specs.Layout.{LiesFor};
     ghost use Rattle.uv_records.specs.Slots.{held};
 
     ghost program: { Self → Program };
@@ -129,5 +131,10 @@ pub trait Machine: Drop {
     /// The members of a list, front first.
     fn members(&self, list: ListName) -> Result<Vec<Id>, Fault>
         ensures members { IfOk result (λ ids. ids.items ≡ members (after (program self.now) (standing self.now)) list) }
+        ensures err { IfErr result (λ fault. fault ≡ Memory) };
+
+    /// How the memory lies that stands for the state; none of a machine without one memory (own).
+    fn layout(&self) -> Result<Option<Layout>, Fault>
+        ensures layout { IfOk result (λ laid. IfSome laid (λ layout. LiesFor layout (after (program self.now) (standing self.now)))) }
         ensures err { IfErr result (λ fault. fault ≡ Memory) };
 }

@@ -5,6 +5,7 @@ ghost use Rattle.uv_model.specs.Next.{next};
 ghost use Rattle.uv_model.specs.Bounds.{CanStep};
 
 use crate::content::Content;
+use crate::layout::Layout;
 use crate::machine::{Machine, Outcome, STEPS};
 use crate::named::Named;
 use crate::numbers::Numbers;
@@ -198,5 +199,9 @@ impl Machine for PlainLoop {
     fn members(&self, list: ListName) -> Result<Vec<Id>, Fault> {
         let ids = Vec::from_slice(self.alloc, self.state.members(list))?;
         Ok(ids)
+    }
+
+    fn layout(&self) -> Result<Option<Layout>, Fault> {
+        Ok(None)
     }
 }

@@ -46,7 +46,7 @@ use Rattle.uv_stands.specs.Stands.{StandsFor}
 use Rattle.uv_stands.proofs.Holding.{held_there, ids_kept, map_same}
 use Rattle.uv_stands.proofs.Naming.{live_by}
 use Rattle.uv_stands.proofs.Pools.{IsAsked, asked_there, list_same, done_more, slots_asked, frame_of, change_back, pool_stands}
-use Rattle.uv_timing.proofs.Without.{without_ids}
+use Rattle.uv_stands.proofs.Without.{without_ids}
 use Rattle.uv_ops.specs.Outside.{Cancels}
 
 -- ---- who waits

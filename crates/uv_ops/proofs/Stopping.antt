@@ -39,9 +39,8 @@ use Rattle.uv_step.specs.Undo.{Recorded}
 use Rattle.uv_stands.specs.Doing.{Does}
 use Rattle.uv_stands.specs.Stands.{StandsFor}
 use Rattle.uv_stands.proofs.Holding.{map_same}
-use Rattle.uv_stands.proofs.Loose.{has_first, has_second}
-use Rattle.uv_timing.proofs.Absent.{IsOn, own_id, holds_it, has_it, ready_stays, not_waiting, not_done, not_done_yet, not_closing, not_closing_yet}
-use Rattle.uv_timing.proofs.Without.{without_ids}
+use Rattle.uv_stands.proofs.Absent.{IsOn, has_first, has_second, own_id, holds_it, has_it, ready_stays, not_waiting, not_done, not_done_yet, not_closing, not_closing_yet}
+use Rattle.uv_stands.proofs.Without.{without_ids}
 use Rattle.uv_ops.proofs.Frames.{delisted_frame}
 use Rattle.uv_ops.proofs.Relisted.{IsList, IsWalk, same_ids, relisted_stands}
 use Rattle.uv_ops.proofs.Leaving.{gone, kept}

@@ -31,22 +31,22 @@ pub fn perform(memory: &mut Memory<Place>, op: Op) -> (Answer, Record<Place>)
         Op::Stop(name) => stop(memory, name),
         Op::Again(name) => again(memory, name),
         Op::SetRepeat(name, repeat) => set_repeat(memory, name, repeat),
-        Op::DueIn(name) => due_in(memory, name),
+        Op::DueIn(name) => (due_in(memory, name), memory.pass()),
         Op::Close(name) => close(memory, name),
         Op::Ref(name) => set_ref(memory, name, true),
         Op::Unref(name) => set_ref(memory, name, false),
-        Op::HasRef(name) => has_ref(memory, name),
-        Op::IsActive(name) => is_active(memory, name),
-        Op::IsClosing(name) => is_closing(memory, name),
+        Op::HasRef(name) => (has_ref(memory, name), memory.pass()),
+        Op::IsActive(name) => (is_active(memory, name), memory.pass()),
+        Op::IsClosing(name) => (is_closing(memory, name), memory.pass()),
         Op::Send(name) => {
             let (code, step_record) = send(memory, name);
             (Answer::Code(code), step_record)
         }
         Op::StopLoop => stop_loop(memory),
         Op::UpdateTime => update_time(memory),
-        Op::Now => now(memory),
-        Op::IsAlive => is_alive(memory),
-        Op::Timeout => timeout(memory),
-        Op::CloseLoop => close_loop(memory),
+        Op::Now => (now(memory), memory.pass()),
+        Op::IsAlive => (is_alive(memory), memory.pass()),
+        Op::Timeout => (timeout(memory), memory.pass()),
+        Op::CloseLoop => (close_loop(memory), memory.pass()),
     }
 }

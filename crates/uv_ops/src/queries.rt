@@ -3,52 +3,42 @@ ghost use Rattle.std.specs.Prelude.{◌≡◌};
 ghost use Rattle.uv_records.specs.Dues.{due_in};
 ghost use Rattle.uv_script.specs.declared.op.Op.TheVariants as op;
 ghost use Rattle.uv_step.specs.Image.{held};
-ghost use Rattle.uv_stands.specs.Doing.{Performs, Returns};
-ghost use Rattle.uv_stands.specs.Ready.{IsReady};
+ghost use Rattle.uv_stands.specs.Doing.{Performs};
 
 use uv_ids::{Answer, Code, Var};
 use uv_model::Place;
 use uv_records::HandleRecord;
 use uv_stands::{backend_timeout, is_in_use, live_handle};
-use uv_step::{Memory, Record};
+use uv_step::Memory;
 
 /// Whether a handle is referenced (uv_has_ref).
-pub fn has_ref(memory: &Memory<Place>, name: Var) -> (Answer, Record<Place>)
-    requires { IsReady (held memory.now) }
-    ensures returns { Returns result.1 (held memory.now) (held memory.now) }
-    ensures performs { Performs (op.HasRef name) (held memory.now).image (held memory.now).image result.0 }
+pub fn has_ref(memory: &Memory<Place>, name: Var) -> Answer
+    ensures { Performs (op.HasRef name) (held memory.now).image (held memory.now).image result }
 {
-    let answer = match live_handle(memory, name) {
+    match live_handle(memory, name) {
         Err(code) => Answer::Code(code),
         Ok((_, handle)) => Answer::Flag(handle.referenced),
-    };
-    (answer, memory.pass())
+    }
 }
 
 /// Whether a handle is active (uv_is_active).
-pub fn is_active(memory: &Memory<Place>, name: Var) -> (Answer, Record<Place>)
-    requires { IsReady (held memory.now) }
-    ensures returns { Returns result.1 (held memory.now) (held memory.now) }
-    ensures performs { Performs (op.IsActive name) (held memory.now).image (held memory.now).image result.0 }
+pub fn is_active(memory: &Memory<Place>, name: Var) -> Answer
+    ensures { Performs (op.IsActive name) (held memory.now).image (held memory.now).image result }
 {
-    let answer = match live_handle(memory, name) {
+    match live_handle(memory, name) {
         Err(code) => Answer::Code(code),
         Ok((_, handle)) => Answer::Flag(handle.active),
-    };
-    (answer, memory.pass())
+    }
 }
 
 /// Whether a handle closes (uv_is_closing).
-pub fn is_closing(memory: &Memory<Place>, name: Var) -> (Answer, Record<Place>)
-    requires { IsReady (held memory.now) }
-    ensures returns { Returns result.1 (held memory.now) (held memory.now) }
-    ensures performs { Performs (op.IsClosing name) (held memory.now).image (held memory.now).image result.0 }
+pub fn is_closing(memory: &Memory<Place>, name: Var) -> Answer
+    ensures { Performs (op.IsClosing name) (held memory.now).image (held memory.now).image result }
 {
-    let answer = match live_handle(memory, name) {
+    match live_handle(memory, name) {
         Err(code) => Answer::Code(code),
         Ok((_, handle)) => Answer::Flag(handle.closing),
-    };
-    (answer, memory.pass())
+    }
 }
 
 /// In how many ms a timer is due: 0 where it is due already, and where it isn't active.
@@ -63,60 +53,47 @@ fn left_until_due(time: u64, handle: HandleRecord) -> u64
 }
 
 /// In how many ms a timer is due (uv_timer_get_due_in).
-pub fn due_in(memory: &Memory<Place>, name: Var) -> (Answer, Record<Place>)
-    requires { IsReady (held memory.now) }
-    ensures returns { Returns result.1 (held memory.now) (held memory.now) }
-    ensures performs { Performs (op.DueIn name) (held memory.now).image (held memory.now).image result.0 }
+pub fn due_in(memory: &Memory<Place>, name: Var) -> Answer
+    ensures { Performs (op.DueIn name) (held memory.now).image (held memory.now).image result }
 {
-    let answer = match live_handle(memory, name) {
+    match live_handle(memory, name) {
         Err(code) => Answer::Code(code),
         Ok((_, handle)) => match handle.timer_refusal() {
             Some(code) => Answer::Code(code),
             None => Answer::Number(left_until_due(memory.times.time, handle)),
         },
-    };
-    (answer, memory.pass())
+    }
 }
 
 /// The loop's time in ms (uv_now).
-pub fn now(memory: &Memory<Place>) -> (Answer, Record<Place>)
-    requires { IsReady (held memory.now) }
-    ensures returns { Returns result.1 (held memory.now) (held memory.now) }
-    ensures performs { Performs op.Now (held memory.now).image (held memory.now).image result.0 }
+pub fn now(memory: &Memory<Place>) -> Answer
+    ensures { Performs op.Now (held memory.now).image (held memory.now).image result }
 {
-    (Answer::Number(memory.times.time), memory.pass())
+    Answer::Number(memory.times.time)
 }
 
 /// Whether the loop is alive (uv_loop_alive).
-pub fn is_alive(memory: &Memory<Place>) -> (Answer, Record<Place>)
-    requires { IsReady (held memory.now) }
-    ensures returns { Returns result.1 (held memory.now) (held memory.now) }
-    ensures performs { Performs op.IsAlive (held memory.now).image (held memory.now).image result.0 }
+pub fn is_alive(memory: &Memory<Place>) -> Answer
+    ensures { Performs op.IsAlive (held memory.now).image (held memory.now).image result }
 {
-    let alive = uv_stands::is_alive(memory);
-    (Answer::Flag(alive), memory.pass())
+    Answer::Flag(uv_stands::is_alive(memory))
 }
 
 /// How long a poll might wait, in ms; none is infinite (uv_backend_timeout).
-pub fn timeout(memory: &Memory<Place>) -> (Answer, Record<Place>)
-    requires { IsReady (held memory.now) }
-    ensures returns { Returns result.1 (held memory.now) (held memory.now) }
-    ensures performs { Performs op.Timeout (held memory.now).image (held memory.now).image result.0 }
+pub fn timeout(memory: &Memory<Place>) -> Answer
+    ensures { Performs op.Timeout (held memory.now).image (held memory.now).image result }
 {
-    let wait = backend_timeout(memory);
-    (Answer::Timeout(wait), memory.pass())
+    Answer::Timeout(backend_timeout(memory))
 }
 
 /// Whether the loop could be closed: EBUSY while a slot holds a handle or a request (uv_loop_close).
-pub fn close_loop(memory: &Memory<Place>) -> (Answer, Record<Place>)
-    requires { IsReady (held memory.now) }
-    ensures returns { Returns result.1 (held memory.now) (held memory.now) }
-    ensures performs { Performs op.CloseLoop (held memory.now).image (held memory.now).image result.0 }
+pub fn close_loop(memory: &Memory<Place>) -> Answer
+    ensures { Performs op.CloseLoop (held memory.now).image (held memory.now).image result }
 {
     let code = if is_in_use(memory) {
         Code::Ebusy
     } else {
         Code::Ok
     };
-    (Answer::Code(code), memory.pass())
+    Answer::Code(code)
 }

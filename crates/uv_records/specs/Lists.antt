@@ -1,5 +1,5 @@
 -- The lists that a slot can be on, and the kinds of handle that a section walks.
-use Rattle.std.specs.Prelude.{ℕ, Option, Some, None}
+use Rattle.std.specs.Prelude.{ℕ, List, [], ◌∷◌, Option, Some, None}
 use Rattle.uv_ids.specs.declared.phase.Kind.{Kind}
 use Rattle.uv_ids.specs.declared.phase.Kind.TheVariants as kind
 use Rattle.uv_ids.specs.declared.phase.Phase.{Phase}
@@ -25,6 +25,12 @@ number name.ClosingYet = 10
 number name.Waiting = 11
 number name.Done = 12
 number name.DoneYet = 13
+
+-- all of them, by number
+abbrev pub all_lists : List ListName
+all_lists =
+    name.Ready ∷ name.Idle ∷ name.IdleYet ∷ name.Prepare ∷ name.PrepareYet ∷ name.Check ∷ name.CheckYet ∷ name.Async ∷ name.AsyncYet
+    ∷ name.Closing ∷ name.ClosingYet ∷ name.Waiting ∷ name.Done ∷ name.DoneYet ∷ []
 
 -- the kind as one of these, unless it is a timer
 abbrev pub watcher_kind : Kind → Option WatcherKind

@@ -8,5 +8,5 @@ mod refusals;
 mod slot;
 
 pub use handle::HandleRecord;
-pub use lists::{ListName, WatcherKind};
+pub use lists::{Ends, ListName, WatcherKind};
 pub use slot::Slot;

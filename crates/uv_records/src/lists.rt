@@ -1,6 +1,6 @@
 //! The lists that a slot can be on, and the kinds of handle that a section walks.
 ghost use Rattle.std.specs.Prelude.{◌≡◌, ◌<◌};
-ghost use Rattle.uv_records.specs.Lists.{number, watcher_kind, list_of, yet_of, phase_of};
+ghost use Rattle.uv_records.specs.Lists.{number, all_lists, watcher_kind, list_of, yet_of, phase_of};
 
 use uv_ids::{Kind, Phase};
 
@@ -27,6 +27,28 @@ pub enum ListName {
 }
 
 impl ListName {
+    /// All of them, by number.
+    pub fn all() -> [ListName; 14]
+        ensures { result ≡ all_lists }
+    {
+        [
+            ListName::Ready,
+            ListName::Idle,
+            ListName::IdleYet,
+            ListName::Prepare,
+            ListName::PrepareYet,
+            ListName::Check,
+            ListName::CheckYet,
+            ListName::Async,
+            ListName::AsyncYet,
+            ListName::Closing,
+            ListName::ClosingYet,
+            ListName::Waiting,
+            ListName::Done,
+            ListName::DoneYet,
+        ]
+    }
+
     /// The list's number, from 0.
     pub fn number(self) -> u8
         ensures number { result ≡ number self }
@@ -49,6 +71,13 @@ impl ListName {
             ListName::DoneYet => 13,
         }
     }
+}
+
+/// The first and the last slot of a list.
+#[derive(Clone, Copy, Debug, PartialEq, Eq)]
+pub struct Ends {
+    pub head: Option<u32>,
+    pub tail: Option<u32>,
 }
 
 /// The kinds of handle that a section of each iteration walks.

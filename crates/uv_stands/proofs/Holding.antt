@@ -22,7 +22,8 @@ use Rattle.uv_step.specs.declared.content.Content.{Content}
 use Rattle.uv_step.specs.Content.{handle_in}
 use Rattle.uv_step.specs.Names.{named}
 use Rattle.uv_step.specs.Image.{Image}
-use Rattle.uv_stands.specs.Contents.{content_of, slot_of, named_of, handle_of}
+use Rattle.uv_model.specs.Content.{handle_of}
+use Rattle.uv_stands.specs.Contents.{content_of, slot_of, named_of}
 use Rattle.uv_stands.specs.Stands.{StandsFor}
 
 -- ---- what is held

@@ -7,6 +7,8 @@ pub mod Naming
 pub mod Slots
 pub mod First
 pub mod Onto
+pub mod Without
+pub mod Absent
 pub mod Loose
 pub mod Returning
 pub mod Renaming

@@ -95,7 +95,7 @@ list_at (suc (suc (suc (suc (suc (suc (suc (suc (suc (suc (suc (suc (suc (suc x)
 
 module _ {X : Type 0} where
   -- each of the fourteen chains is a list
-  list_named : (i : Image X) → IsSound i → (k : ℕ) → k < 14 → (l : ListName) × (name_at i.names (number l) ≡ k)
+  pub list_named : (i : Image X) → IsSound i → (k : ℕ) → k < 14 → (l : ListName) × (name_at i.names (number l) ≡ k)
   list_named i s k h =
       let x = all_of 14 (name_at i.names) s.names.below s.names.apart k h in
       let l = list_at x.0 x.1 in

@@ -33,8 +33,10 @@ use Rattle.uv_step.specs.Fit.{IsFit}
 use Rattle.uv_step.specs.Image.{Image, Held}
 use Rattle.uv_step.specs.Parts.{unwind}
 use Rattle.uv_step.specs.Undo.{Recorded}
-use Rattle.uv_stands.specs.Contents.{content_of, request_of, slot_of, slots_of, handle_of}
-use Rattle.uv_stands.specs.Stands.{StandsFor, timer_in, open_requests}
+use Rattle.uv_model.specs.Content.{handle_of}
+use Rattle.uv_model.specs.Layout.{open_requests}
+use Rattle.uv_stands.specs.Contents.{content_of, request_of, slot_of, slots_of}
+use Rattle.uv_stands.specs.Stands.{StandsFor, timer_in}
 use Rattle.uv_stands.proofs.Holding.{held_there, active_as, slot_or, slot_by, map_same}
 
 -- ---- what the memory alone says of the counts

@@ -1,6 +1,5 @@
 -- What slots and names hold in a loop's memory, by what they hold in a state.
-use Rattle.std.specs.Prelude.{Option, Some, map, option_map}
-use Rattle.uv_records.specs.declared.handle.HandleRecord.{HandleRecord}
+use Rattle.std.specs.Prelude.{map, option_map}
 use Rattle.uv_records.specs.declared.slot.Slot.{Slot}
 use Rattle.uv_records.specs.Slots.{Slots}
 use Rattle.uv_script.specs.Tasks.{text_of}
@@ -9,7 +8,6 @@ use Rattle.uv_model.specs.declared.request.Request as queued
 use Rattle.uv_model.specs.declared.content.Content as content
 use Rattle.uv_model.specs.declared.content.Content.TheVariants as holds
 use Rattle.uv_model.specs.declared.named.Named as bound
-use Rattle.uv_model.specs.Content.{handle_in}
 use Rattle.uv_step.specs.declared.content.Content.{Content}
 use Rattle.uv_step.specs.declared.content.Content.TheVariants.{Handle, Request as Asked}
 use Rattle.uv_step.specs.declared.named.Named.{Named}
@@ -32,7 +30,3 @@ slots_of s = record { slots = map slot_of s.slots; free = s.free; unused = s.unu
 -- what a name is bound to, and how often its callbacks were called
 abbrev pub named_of : bound.Named → Named
 named_of n = record { id = n.id; calls = record { handle = n.calls.handle; after = n.calls.after; close = n.calls.close } }
-
--- the handle's record, if it is a handle
-abbrev pub handle_of : content.Content → Option HandleRecord
-handle_of x = handle_in (Some x)

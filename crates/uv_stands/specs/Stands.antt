@@ -1,5 +1,5 @@
 -- What it means that a loop's memory stands for a state.
-use Rattle.std.specs.Prelude.{◌≡◌, ℕ, ◌+◌, List, map, length}
+use Rattle.std.specs.Prelude.{◌≡◌, List, map}
 use Rattle.uv_ids.specs.declared.id.Id.{Id}
 use Rattle.uv_ids.specs.declared.due.Due.{Due}
 use Rattle.uv_records.specs.declared.lists.ListName.{ListName}
@@ -9,14 +9,15 @@ use Rattle.uv_arena.specs.Image.{IsSound, plain_slots}
 use Rattle.uv_heap.specs.declared.entry.Entry.{Entry}
 use Rattle.uv_heap.specs.Array.{IsHeap, SlotsDiffer}
 use Rattle.uv_heap.specs.Order.{IsInOrder}
-use Rattle.uv_work.specs.Pool.{busy}
 use Rattle.uv_requests.specs.Working.{id_in}
 use Rattle.uv_model.specs.declared.place.Place.{Place}
+use Rattle.uv_model.specs.Content.{handle_of}
+use Rattle.uv_model.specs.Layout.{open_requests}
 use Rattle.uv_model.specs.State.{State}
 use Rattle.uv_model.specs.Queries.{members}
 use Rattle.uv_step.specs.declared.content.Content.{Content}
 use Rattle.uv_step.specs.Image.{Image}
-use Rattle.uv_stands.specs.Contents.{slots_of, named_of, handle_of}
+use Rattle.uv_stands.specs.Contents.{slots_of, named_of}
 
 -- when the timer of an entry is due, and its id
 abbrev pub timer_in : arena.Image Content → Entry → Due × Id
@@ -27,10 +28,6 @@ pub record AreTimers (a : arena.Image Content) (heap : List Entry) (timers : Lis
   pub entries : List Entry
   pub ordered : IsInOrder heap entries
   pub same : timers ≡ map (timer_in a) entries
-
--- those that wait, run or are done
-abbrev pub open_requests : State → ℕ
-open_requests s = length s.waiting + busy s.running + (length s.done.yet + length s.done.list)
 
 pub record StandsFor (i : Image Place) (s : State) : Type 0 where
   -- the place, the names and the single values are the state's

@@ -109,8 +109,9 @@ alone_right names word =
     (λ _. cond_both (bytes_eq word (codes "rback")) _ _ P (λ a. is.back_to_break (alone word _ (same _ _ a)))
     (λ _. cond_both (bytes_eq word (codes "trace")) _ _ P (λ a. is.trace (alone word _ (same _ _ a)))
     (λ _. cond_both (bytes_eq word (codes "state")) _ _ P (λ a. is.state (alone word _ (same _ _ a)))
+    (λ _. cond_both (bytes_eq word (codes "image")) _ _ P (λ a. is.image (alone word _ (same _ _ a)))
     (λ _. cond_both (bytes_eq word (codes "record")) _ _ P (λ a. is.recording (alone word _ (same _ _ a)))
-    (λ _. cond_both (bytes_eq word (codes "quit")) _ _ P (λ a. is.quit (alone word _ (same _ _ a))) (λ _. tt))))))
+    (λ _. cond_both (bytes_eq word (codes "quit")) _ _ P (λ a. is.quit (alone word _ (same _ _ a))) (λ _. tt)))))))
 
 -- what was found for a word and what follows it is right
 abbrev RightStep : List (List ℕ) → List ℕ → List ℕ → Option Event → Type 0
@@ -326,6 +327,7 @@ reads_command names fields c (is.clear_breaks e) = reads names fields c (ap (com
 reads_command names fields c (is.back_to_break e) = reads names fields c (ap (command_of names) e)
 reads_command names fields c (is.trace e) = reads names fields c (ap (command_of names) e)
 reads_command names fields c (is.state e) = reads names fields c (ap (command_of names) e)
+reads_command names fields c (is.image e) = reads names fields c (ap (command_of names) e)
 reads_command names fields c (is.recording e) = reads names fields c (ap (command_of names) e)
 reads_command names fields c (is.quit e) = reads names fields c (ap (command_of names) e)
 
@@ -369,6 +371,7 @@ says_something names line c (is.clear_breaks e) = line_begins line _ _ _ e
 says_something names line c (is.back_to_break e) = line_begins line _ _ _ e
 says_something names line c (is.trace e) = line_begins line _ _ _ e
 says_something names line c (is.state e) = line_begins line _ _ _ e
+says_something names line c (is.image e) = line_begins line _ _ _ e
 says_something names line c (is.recording e) = line_begins line _ _ _ e
 says_something names line c (is.quit e) = line_begins line _ _ _ e
 

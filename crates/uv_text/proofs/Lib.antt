@@ -1,5 +1,6 @@
 pub mod Commands
 pub mod Pieces
+pub mod Showing
 pub mod Recordings
 pub mod StepLines
 pub mod Sizes

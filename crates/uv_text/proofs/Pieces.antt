@@ -1,13 +1,15 @@
 -- A text that is written a piece at a time.
-use Rattle.std.proofs.Common.{◌≡◌, ℕ, ◌+◌, ◌<◌, List, [], ◌∷◌, ◌++◌, length, take, get_or, ap, ◌∙◌, append-nil, add-one}
+use Rattle.std.proofs.Common.{◌≡◌, ℕ, ◌+◌, ◌<◌, List, [], ◌∷◌, ◌++◌, length, take, drop, get_or, refl, ap, ◌∙◌, append-nil, add-one, drop-cons}
 use Rattle.std.proofs.lemmas.List.{take_more}
 use Rattle.std.proofs.lemmas.Grind.{flat_map-append}
 use Rattle.std.specs.List.{flat_map}
 use Rattle.std.specs.Prelude.{slice_get}
 use Rattle.uv_script.specs.Program.{Program}
+use Rattle.uv_model.specs.declared.layout.LaidSlot.{LaidSlot}
 use Rattle.uv_model.specs.State.{State, named}
 use Rattle.uv_model.specs.Queries.{run_by}
 use Rattle.uv_text.specs.State.{name_line, names_upto, slot_or_none, slots_upto, run_text, runs_upto}
+use Rattle.uv_text.specs.Image.{link_line, links_from}
 
 -- one more of a list
 pub flat_map-more : {A : Type 0} (f : A → List ℕ) (xs : List A) (i : ℕ) (d : A) → i < length xs →
@@ -30,4 +32,9 @@ slots_upto-more p s n = ap (slots_upto p s) (add-one n)
 pub runs_upto-more : (p : Program) (s : State) (n : ℕ) → runs_upto p s (n + 1) ≡ runs_upto p s n ++ run_text p s n (run_by s n)
 runs_upto-more p s n = ap (runs_upto p s) (add-one n)
 
-pub ruleset pieces = (flat_map-more, names_upto-more, slots_upto-more, runs_upto-more)
+-- a slot of those that are left is the next
+pub links_from-drop : (x : ℕ) (slots : List LaidSlot) (c : LaidSlot) → x < length slots → c ≡ get_or slots x c →
+    links_from x (drop x slots) ≡ link_line x c ++ links_from (x + 1) (drop (x + 1) slots)
+links_from-drop x slots c within is = rw (drop-cons slots x c within) (rw (← is) (rw add-one refl))
+
+pub ruleset pieces = (flat_map-more, names_upto-more, slots_upto-more, runs_upto-more, links_from-drop)

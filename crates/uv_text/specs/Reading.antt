@@ -14,7 +14,7 @@ use Rattle.uv_script.specs.Reading.{place_of}
 use Rattle.uv_session.specs.declared.breaks.Break.{Break}
 use Rattle.uv_session.specs.declared.breaks.Break.TheVariants as at
 use Rattle.uv_text.specs.declared.command.Command.{Command}
-use Rattle.uv_text.specs.declared.command.Command.TheVariants.{Loop, Step, Back, Forward, AddBreak, ClearBreaks, BackToBreak, Trace, State, Record, Quit}
+use Rattle.uv_text.specs.declared.command.Command.TheVariants.{Loop, Step, Back, Forward, AddBreak, ClearBreaks, BackToBreak, Trace, State, Image, Record, Quit}
 use Rattle.uv_text.specs.declared.command.Asked.{Asked}
 use Rattle.uv_text.specs.declared.command.Asked.TheVariants.{Nothing, Do, Bad}
 use Rattle.uv_text.specs.Commands.{MOST, LAST_WORKER}
@@ -63,8 +63,9 @@ command_alone word =
     else (if bytes_eq word (codes "rback") then Some BackToBreak
     else (if bytes_eq word (codes "trace") then Some Trace
     else (if bytes_eq word (codes "state") then Some State
+    else (if bytes_eq word (codes "image") then Some Image
     else (if bytes_eq word (codes "record") then Some Record
-    else (if bytes_eq word (codes "quit") then Some Quit else None)))))
+    else (if bytes_eq word (codes "quit") then Some Quit else None))))))
 
 abbrev pub loops : ℕ → Option Command
 loops n = if nat_le 1 n && nat_le n MOST then Some (Loop n) else None

@@ -9,6 +9,7 @@ use Rattle.uv_ids.specs.declared.phase.Kind.TheVariants as kind
 use Rattle.uv_ids.specs.declared.seen.Callback.{Callback}
 use Rattle.uv_ids.specs.declared.seen.Callback.TheVariants as callback
 use Rattle.uv_records.specs.declared.handle.HandleRecord.{HandleRecord}
+use Rattle.uv_records.specs.declared.lists.ListName.{ListName}
 use Rattle.uv_records.specs.declared.lists.ListName.TheVariants as name
 use Rattle.uv_records.specs.declared.slot.Slot.{Slot}
 use Rattle.uv_records.specs.Slots.{held, id_of}
@@ -182,21 +183,36 @@ member_text p s id = codes " " ++ holder_text p (held s.arena.slots id)
 unfoldable pub list_line : Program → State → List ℕ → List Id → List ℕ
 list_line p s word ids = word ++ flat_map (member_text p s) ids ++ codes "\n"
 
+-- the word of a list
+abbrev pub list_word : ListName → List ℕ
+list_word name.Ready = codes "ready"
+list_word name.Idle = codes "idle"
+list_word name.IdleYet = codes "idle-yet"
+list_word name.Prepare = codes "prepare"
+list_word name.PrepareYet = codes "prepare-yet"
+list_word name.Check = codes "check"
+list_word name.CheckYet = codes "check-yet"
+list_word name.Async = codes "async"
+list_word name.AsyncYet = codes "async-yet"
+list_word name.Closing = codes "closing"
+list_word name.ClosingYet = codes "closing-yet"
+list_word name.Waiting = codes "waiting"
+list_word name.Done = codes "done"
+list_word name.DoneYet = codes "done-yet"
+
+-- the word of a list and the names of its members
+abbrev pub members_line : Program → State → ListName → List ℕ
+members_line p s l = list_line p s (list_word l) (members s l)
+
 -- the handles whose section is before the poll
 unfoldable pub before_poll : Program → State → List ℕ
 before_poll p s =
-    list_line p s (codes "idle") (members s name.Idle)
-    ++ list_line p s (codes "idle-yet") (members s name.IdleYet)
-    ++ list_line p s (codes "prepare") (members s name.Prepare)
-    ++ list_line p s (codes "prepare-yet") (members s name.PrepareYet)
+    members_line p s name.Idle ++ members_line p s name.IdleYet ++ members_line p s name.Prepare ++ members_line p s name.PrepareYet
 
 -- those whose section is behind it
 unfoldable pub after_poll : Program → State → List ℕ
 after_poll p s =
-    list_line p s (codes "check") (members s name.Check)
-    ++ list_line p s (codes "check-yet") (members s name.CheckYet)
-    ++ list_line p s (codes "async") (members s name.Async)
-    ++ list_line p s (codes "async-yet") (members s name.AsyncYet)
+    members_line p s name.Check ++ members_line p s name.CheckYet ++ members_line p s name.Async ++ members_line p s name.AsyncYet
 
 -- a worker and the request that it runs, `K:NAME`; nothing where it runs none
 abbrev pub run_text : Program → State → ℕ → Option Id → List ℕ
@@ -214,19 +230,16 @@ running_line p s = codes "running" ++ runs_upto p s (length s.running) ++ codes 
 -- those that wait for a worker, those that one runs, and those that are done
 unfoldable pub work_text : Program → State → List ℕ
 work_text p s =
-    list_line p s (codes "waiting") (members s name.Waiting)
-    ++ running_line p s
-    ++ list_line p s (codes "done") (members s name.Done)
-    ++ list_line p s (codes "done-yet") (members s name.DoneYet)
+    members_line p s name.Waiting ++ running_line p s ++ members_line p s name.Done ++ members_line p s name.DoneYet
 
 unfoldable pub lists_text : Program → State → List ℕ
 lists_text p s =
     list_line p s (codes "timers") (timer_ids s)
-    ++ list_line p s (codes "ready") (members s name.Ready)
+    ++ members_line p s name.Ready
     ++ before_poll p s
     ++ after_poll p s
-    ++ list_line p s (codes "closing") (members s name.Closing)
-    ++ list_line p s (codes "closing-yet") (members s name.ClosingYet)
+    ++ members_line p s name.Closing
+    ++ members_line p s name.ClosingYet
     ++ work_text p s
 
 -- ---- all of it

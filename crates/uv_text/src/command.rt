@@ -31,6 +31,8 @@ pub enum Command {
     Trace,
     /// `state`: shows the state.
     State,
+    /// `image`: shows the state, and how the memory lies that stands for it.
+    Image,
     /// `record`: shows the recording of the standing steps.
     Record,
     /// `quit`: ends the conversation.
@@ -104,6 +106,8 @@ fn alone(word: &[u8]) -> Option<Command>
         Some(Command::Trace)
     } else if word == b"state".as_slice() {
         Some(Command::State)
+    } else if word == b"image".as_slice() {
+        Some(Command::Image)
     } else if word == b"record".as_slice() {
         Some(Command::Record)
     } else if word == b"quit".as_slice() {

@@ -3,12 +3,14 @@
 
 mod breaks;
 mod command;
+mod image;
 mod recorded;
 mod recording;
 mod state;
 mod trace;
 
 pub use command::{Asked, Command, every_line_asks, read_command};
+pub use image::{image_text, push_image};
 pub use recorded::{is_callback_line, read_step};
 pub use recording::{is_callback, push_recording, recording_text};
 pub use state::{push_state, state_text};

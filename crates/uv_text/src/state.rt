@@ -4,8 +4,8 @@ ghost use Rattle.std.specs.List.{flat_map};
 ghost use Rattle.uv_ids.specs.declared.fault.Fault.TheVariants.{Memory};
 ghost use Rattle.uv_records.specs.Slots.{held};
 ghost use Rattle.uv_model.specs.After.{after};
-ghost use Rattle.uv_model.specs.Queries.{timer_ids, members};
-ghost use Rattle.uv_text.specs.State.{numbered, flagged, steps_line, timers_text, stage_text, callback_word, body_text, place_line, bound_text, counts_text, name_line, names_upto, kind_text, record_text, open_text, outcome_text, request_text, content_text, slot_line, slot_or_none, slots_upto, free_line, unused_line, holder_text, member_text, list_line, before_poll, after_poll, run_text, runs_upto, running_line, work_text, lists_text, state_text};
+ghost use Rattle.uv_model.specs.Queries.{timer_ids};
+ghost use Rattle.uv_text.specs.State.{numbered, flagged, steps_line, timers_text, stage_text, callback_word, body_text, place_line, bound_text, counts_text, name_line, names_upto, kind_text, record_text, open_text, outcome_text, request_text, content_text, slot_line, slot_or_none, slots_upto, free_line, unused_line, holder_text, member_text, list_line, list_word, members_line, before_poll, after_poll, run_text, runs_upto, running_line, work_text, lists_text, state_text};
 
 use crate::trace::{push_id, push_timeout};
 use std::alloc::{AllocError, Global};
@@ -43,7 +43,7 @@ pub fn push_state<M: Machine>(text: &mut Vec<u8>, session: &Session<M>) -> Resul
 }
 
 /// A word and a number.
-fn push_numbered(text: &mut Vec<u8>, word: &str, n: u64) -> Result<(), AllocError>
+pub(crate) fn push_numbered(text: &mut Vec<u8>, word: &str, n: u64) -> Result<(), AllocError>
     ensures { OnOk result (text.new.items ≡ text.old.items ++ numbered word.now n) }
 {
     text.extend_from_slice(word.as_bytes())?;
@@ -419,20 +419,41 @@ fn push_timer_list<M: Machine>(text: &mut Vec<u8>, machine: &M) -> Result<(), Al
     push_line(text, machine, "timers", ids.as_slice())
 }
 
-fn push_list<M: Machine>(
+/// A list's word.
+pub(crate) fn list_word(list: ListName) -> &'static str
+    ensures { result.now ≡ list_word list }
+{
+    match list {
+        ListName::Ready => "ready",
+        ListName::Idle => "idle",
+        ListName::IdleYet => "idle-yet",
+        ListName::Prepare => "prepare",
+        ListName::PrepareYet => "prepare-yet",
+        ListName::Check => "check",
+        ListName::CheckYet => "check-yet",
+        ListName::Async => "async",
+        ListName::AsyncYet => "async-yet",
+        ListName::Closing => "closing",
+        ListName::ClosingYet => "closing-yet",
+        ListName::Waiting => "waiting",
+        ListName::Done => "done",
+        ListName::DoneYet => "done-yet",
+    }
+}
+
+/// A list's word and the names of its members.
+fn push_members<M: Machine>(
     text: &mut Vec<u8>,
     machine: &M,
-    word: &str,
     list: ListName,
 ) -> Result<(), AllocError>
-    ensures { OnOk result (text.new.items ≡ text.old.items ++ list_line
-        (M.program machine.now) (after (M.program machine.now) (M.standing machine.now))
-        word.now (members (after (M.program machine.now) (M.standing machine.now)) list)) }
+    ensures { OnOk result (text.new.items ≡ text.old.items ++ members_line
+        (M.program machine.now) (after (M.program machine.now) (M.standing machine.now)) list) }
 {
     let Ok(ids) = machine.members(list) else {
         return Err(AllocError);
     };
-    push_line(text, machine, word, ids.as_slice())
+    push_line(text, machine, list_word(list), ids.as_slice())
 }
 
 /// The handles whose section is before the poll.
@@ -441,10 +462,10 @@ fn push_before_poll<M: Machine>(text: &mut Vec<u8>, machine: &M) -> Result<(), A
     ensures { OnOk result (text.new.items ≡ text.old.items ++ before_poll
         (M.program machine.now) (after (M.program machine.now) (M.standing machine.now))) }
 {
-    push_list(text, machine, "idle", ListName::Idle)?;
-    push_list(text, machine, "idle-yet", ListName::IdleYet)?;
-    push_list(text, machine, "prepare", ListName::Prepare)?;
-    push_list(text, machine, "prepare-yet", ListName::PrepareYet)
+    push_members(text, machine, ListName::Idle)?;
+    push_members(text, machine, ListName::IdleYet)?;
+    push_members(text, machine, ListName::Prepare)?;
+    push_members(text, machine, ListName::PrepareYet)
 }
 
 /// Those whose section is behind it.
@@ -453,10 +474,10 @@ fn push_after_poll<M: Machine>(text: &mut Vec<u8>, machine: &M) -> Result<(), Al
     ensures { OnOk result (text.new.items ≡ text.old.items ++ after_poll
         (M.program machine.now) (after (M.program machine.now) (M.standing machine.now))) }
 {
-    push_list(text, machine, "check", ListName::Check)?;
-    push_list(text, machine, "check-yet", ListName::CheckYet)?;
-    push_list(text, machine, "async", ListName::Async)?;
-    push_list(text, machine, "async-yet", ListName::AsyncYet)
+    push_members(text, machine, ListName::Check)?;
+    push_members(text, machine, ListName::CheckYet)?;
+    push_members(text, machine, ListName::Async)?;
+    push_members(text, machine, ListName::AsyncYet)
 }
 
 /// A worker, and the request that it runs.
@@ -505,10 +526,10 @@ fn push_work<M: Machine>(text: &mut Vec<u8>, machine: &M) -> Result<(), AllocErr
     ensures { OnOk result (text.new.items ≡ text.old.items ++ work_text
         (M.program machine.now) (after (M.program machine.now) (M.standing machine.now))) }
 {
-    push_list(text, machine, "waiting", ListName::Waiting)?;
+    push_members(text, machine, ListName::Waiting)?;
     push_running(text, machine)?;
-    push_list(text, machine, "done", ListName::Done)?;
-    push_list(text, machine, "done-yet", ListName::DoneYet)
+    push_members(text, machine, ListName::Done)?;
+    push_members(text, machine, ListName::DoneYet)
 }
 
 #[tactic(auto, unfolding(crate::specs::State::lists_text))]
@@ -517,10 +538,10 @@ fn push_lists<M: Machine>(text: &mut Vec<u8>, machine: &M) -> Result<(), AllocEr
         (M.program machine.now) (after (M.program machine.now) (M.standing machine.now))) }
 {
     push_timer_list(text, machine)?;
-    push_list(text, machine, "ready", ListName::Ready)?;
+    push_members(text, machine, ListName::Ready)?;
     push_before_poll(text, machine)?;
     push_after_poll(text, machine)?;
-    push_list(text, machine, "closing", ListName::Closing)?;
-    push_list(text, machine, "closing-yet", ListName::ClosingYet)?;
+    push_members(text, machine, ListName::Closing)?;
+    push_members(text, machine, ListName::ClosingYet)?;
     push_work(text, machine)
 }

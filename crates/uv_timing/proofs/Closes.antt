@@ -38,7 +38,7 @@ use Rattle.uv_stands.specs.Stands.{StandsFor}
 use Rattle.uv_stands.proofs.Holding.{map_same}
 use Rattle.uv_stands.proofs.Lists.{Listed, list_is}
 use Rattle.uv_stands.proofs.Pools.{ids_moved}
-use Rattle.uv_timing.proofs.Absent.{own_id}
+use Rattle.uv_stands.proofs.Absent.{own_id}
 use Rattle.uv_timing.proofs.Retimed.{retimed, moved_frame, OnlyTimers, AreRetimed, IsWhole, retimed_stands, put_slots, list_left, timers_are}
 use Rattle.uv_timing.proofs.Stops.{ids_rescheduled}
 use Rattle.uv_timing.proofs.TakenOff.{timers_left, lists_left}

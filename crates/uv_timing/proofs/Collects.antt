@@ -44,7 +44,7 @@ use Rattle.uv_stands.specs.Stands.{StandsFor, timer_in}
 use Rattle.uv_stands.proofs.Holding.{held_there, ids_kept, map_same}
 use Rattle.uv_stands.proofs.Lists.{Listed, all_but_one}
 use Rattle.uv_timing.specs.Section.{Collects, CollectsNone}
-use Rattle.uv_timing.proofs.Absent.{IsOn, held_handle, own_id, holds_it, absent_active}
+use Rattle.uv_stands.proofs.Absent.{IsOn, held_handle, own_id, holds_it, absent_active}
 use Rattle.uv_timing.proofs.Entries.{cleared_first}
 use Rattle.uv_timing.proofs.Retimed.{retimed, moved_frame, OnlyTimers, AreRetimed, IsWhole, retimed_stands, put_slots, timers_are}
 use Rattle.uv_timing.proofs.TakenOff.{IsIts, its_timer}

@@ -45,7 +45,7 @@ use Rattle.uv_stands.proofs.Lists.{Listed, all_but_one, beside_lists}
 use Rattle.uv_stands.proofs.Naming.{record_there}
 use Rattle.uv_stands.proofs.Pools.{front_there}
 use Rattle.uv_timing.specs.Section.{Fires, FiresNone}
-use Rattle.uv_timing.proofs.Absent.{IsOn, holds_it, has_it}
+use Rattle.uv_stands.proofs.Absent.{IsOn, holds_it, has_it}
 use Rattle.uv_timing.proofs.Collects.{state_handle}
 use Rattle.uv_timing.proofs.Entries.{entry_of}
 use Rattle.uv_timing.proofs.Retimed.{retimed, timer_frame, OnlyTimers, AreRetimed, IsWhole, retimed_stands, put_slots, timers_are}

@@ -1,7 +1,5 @@
-pub mod Without
 pub mod Keys
 pub mod Entries
-pub mod Absent
 pub mod Retimed
 pub mod TakenOff
 pub mod Stops

@@ -38,7 +38,7 @@ use Rattle.uv_stands.specs.Stands.{StandsFor, AreTimers, timer_in}
 use Rattle.uv_stands.proofs.Holding.{map_same}
 use Rattle.uv_stands.proofs.Lists.{Listed}
 use Rattle.uv_stands.proofs.Pools.{change_back, active_fit, opened_fit}
-use Rattle.uv_timing.proofs.Without.{without_ids}
+use Rattle.uv_stands.proofs.Without.{without_ids}
 
 -- ---- the memory after a change of timers
 

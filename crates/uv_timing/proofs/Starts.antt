@@ -41,7 +41,7 @@ use Rattle.uv_step.specs.Undo.{Recorded}
 use Rattle.uv_stands.specs.Contents.{slots_of}
 use Rattle.uv_stands.specs.Stands.{StandsFor}
 use Rattle.uv_stands.proofs.Lists.{beside_lists}
-use Rattle.uv_timing.proofs.Absent.{own_id}
+use Rattle.uv_stands.proofs.Absent.{own_id}
 use Rattle.uv_timing.proofs.Entries.{entry_of}
 use Rattle.uv_timing.proofs.Retimed.{retimed, timer_frame, OnlyTimers, AreRetimed, IsWhole, retimed_stands, put_slots, list_left, timers_are}
 use Rattle.uv_timing.proofs.Stops.{ids_rescheduled, stopped_retimed, only_stopped}

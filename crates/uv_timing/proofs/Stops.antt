@@ -37,7 +37,7 @@ use Rattle.uv_stands.specs.Doing.{Does}
 use Rattle.uv_stands.specs.Stands.{StandsFor}
 use Rattle.uv_stands.proofs.Holding.{ids_kept}
 use Rattle.uv_stands.proofs.Lists.{Listed, beside_lists, list_stays}
-use Rattle.uv_timing.proofs.Absent.{IsOn, timer_kind, held_handle, own_id, stays, ready_stays, not_idle, not_idle_yet, not_prepare, not_prepare_yet, not_check, not_check_yet, not_async, not_async_yet}
+use Rattle.uv_stands.proofs.Absent.{IsOn, timer_kind, held_handle, own_id, stays, ready_stays, not_idle, not_idle_yet, not_prepare, not_prepare_yet, not_check, not_check_yet, not_async, not_async_yet}
 use Rattle.uv_timing.proofs.Retimed.{retimed, timer_frame, OnlyTimers, AreRetimed, IsWhole, retimed_stands, put_slots, list_left, timers_are}
 use Rattle.uv_timing.proofs.TakenOff.{timers_left, lists_left}
 

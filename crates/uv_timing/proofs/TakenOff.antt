@@ -28,7 +28,7 @@ use Rattle.uv_step.specs.Image.{Image}
 use Rattle.uv_stands.specs.Stands.{StandsFor, timer_in}
 use Rattle.uv_timing.proofs.Keys.{one_id}
 use Rattle.uv_timing.proofs.Entries.{entry_of, id_there, cleared_key, cleared_none, inserted_as}
-use Rattle.uv_timing.proofs.Absent.{timer_kind, own_id, holds_it, stays, not_waiting, not_done, not_done_yet, not_closing, not_closing_yet}
+use Rattle.uv_stands.proofs.Absent.{timer_kind, own_id, holds_it, stays, not_waiting, not_done, not_done_yet, not_closing, not_closing_yet}
 
 -- ---- the timers without one
 

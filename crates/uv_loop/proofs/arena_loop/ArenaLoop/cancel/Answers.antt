@@ -4,7 +4,6 @@ use Rattle.uv_ids.specs.declared.seen.Seen.TheVariants as seen
 use Rattle.uv_ids.specs.declared.fault.Why.TheVariants.{Range}
 use Rattle.uv_model.specs.After.{STEPS}
 use Rattle.uv_step.specs.Image.{held, image_of}
-use Rattle.uv_stands.proofs.Returning.{recorded_returns}
 use Rattle.uv_loop.proofs.Courses.{course_moved, answers_ok, answers_memory, answers_refused}
 use Rattle.uv_loop.proofs.Events.{cancel_refused, cancel_may}
 use Rattle.uv_loop.proofs.arena_loop.ArenaLoop.cancel.Goals as goal
@@ -35,7 +34,7 @@ invariant_of-self-2 c =
     (c.push.ensures.events ∙ ap (λ xs. xs ++ Cancel c.args.name ∷ []) c.reserve.ensures.same.events)
     (c.push.ensures.seen ∙ ap (λ xs. xs ++ Some line ∷ []) c.reserve.ensures.same.seen)
     (c.push.ensures.records ∙ ap (λ xs. xs ++ c.cancel_named-answer.result.1 ∷ []) c.reserve.ensures.same.records)
-    few c.self.invariant (recorded_returns c.cancel_named-answer.ensures.recorded) (c.cancel_named-answer.ensures.leads c.self.inside.script)
+    few c.self.invariant c.cancel_named-answer.ensures.returns (c.cancel_named-answer.ensures.leads c.self.inside.script)
 
 pub returns-clause-answer : goal.returns-clause-answer
 returns-clause-answer c =

@@ -1,0 +1,307 @@
+-- A layout that shows all of a memory lies for each state that the memory stands for.
+use Rattle.std.proofs.Common.{◌≡◌, ℕ, zero, suc, ◌<◌, ◌≤◌, ◌+◌, ◌++◌, ◌⊎◌, List, [], ◌∷◌, map, length, length-append, slice_get, Option, Some, None, option_map, IfNone, IfSome, refl, inl, inr, sym, ap, ◌∙◌, subst, arith}
+use Rattle.std.proofs.lemmas.Bool.Decides.{eqb_tells}
+use Rattle.std.proofs.lemmas.List.{length-map}
+use Rattle.std.proofs.lemmas.Option.{slice_get_past, slice_get_within}
+use Rattle.uv_ids.specs.declared.id.Id.{Id}
+use Rattle.uv_records.specs.declared.lists.ListName.{ListName}
+use Rattle.uv_records.specs.declared.slot.Slot.{Slot}
+use Rattle.uv_records.specs.Lists.{number, all_lists}
+use Rattle.uv_records.specs.Linked.{first, last, ends_of, IsIn}
+use Rattle.uv_records.specs.Slots as plain
+use Rattle.uv_arena.specs.declared.links.Cell.{Cell}
+use Rattle.uv_arena.specs.declared.links.Links.{Links}
+use Rattle.uv_arena.specs.Calls as calls
+use Rattle.uv_arena.specs.Calls.{IsFirst, IsLast}
+use Rattle.uv_arena.specs.Chains.{link, loose, IsSegment}
+use Rattle.uv_arena.specs.Image as arena
+use Rattle.uv_arena.specs.Image.{FREE, IsSound, chain, chains, links_in, links_at, name_at, slot_in, slot_at}
+use Rattle.uv_arena.proofs.Names.{number_apart, number_below}
+use Rattle.uv_arena.proofs.Memories.{get-links}
+use Rattle.uv_arena.proofs.Lists.{last_append, segment_tells}
+use Rattle.uv_heap.specs.declared.entry.Entry.{Entry}
+use Rattle.uv_heap.specs.Order.{IsInOrder}
+use Rattle.uv_heap.specs.Array.{IsHeap, SlotsDiffer, place_in}
+use Rattle.uv_requests.specs.Working.{id_in}
+use Rattle.uv_model.specs.declared.content.Content as content
+use Rattle.uv_model.specs.declared.content.Content.TheVariants as holds
+use Rattle.uv_model.specs.declared.layout.LaidSlot.{LaidSlot}
+use Rattle.uv_model.specs.declared.layout.Layout.{Layout}
+use Rattle.uv_model.specs.declared.layout.ListEnds.{ListEnds}
+use Rattle.uv_model.specs.declared.named.Named as bound
+use Rattle.uv_model.specs.declared.numbers.Numbers.{Numbers}
+use Rattle.uv_model.specs.declared.place.Place.{Place}
+use Rattle.uv_model.specs.State.{State}
+use Rattle.uv_model.specs.Queries.{members}
+use Rattle.uv_model.specs.Layout.{LiesFor, HasNeighbours, AreWalked, slots_on, with_ends, generation_in, id_now, entry_of}
+use Rattle.uv_step.specs.declared.content.Content.{Content}
+use Rattle.uv_step.specs.Image.{Image}
+use Rattle.uv_stands.specs.Contents.{content_of, named_of, request_of, slot_of}
+use Rattle.uv_stands.specs.Stands.{StandsFor, timer_in}
+use Rattle.uv_stands.proofs.Onto.{list_named}
+use Rattle.uv_layout.specs.Laid.{ShowsSlot, ShowsSlots, ShowsAll, shown_ends}
+use Rattle.uv_layout.proofs.Same.{named_same, request_shown}
+
+-- ---- what stands for the same is the same
+
+names_same : (ms ns : List bound.Named) → map named_of ms ≡ map named_of ns → ms ≡ ns
+names_same [] [] e = refl
+names_same [] (n ∷ ns) e = cc
+names_same (m ∷ ms) [] e = cc
+names_same (m ∷ ms) (n ∷ ns) e =
+    let one : named_of m ≡ named_of n = cc e in
+    let rest : map named_of ms ≡ map named_of ns = cc e in
+    let m_is = named_same m n one in
+    let ms_are = names_same ms ns rest in
+    λ l. m_is l ∷ ms_are l
+
+content_same : (x y : content.Content) → content_of x ≡ content_of y → x ≡ y
+content_same (holds.Handle h) (holds.Handle g) e = let same : h ≡ g = cc e in ap (λ z. holds.Handle z) same
+content_same (holds.Handle h) (holds.Request r) e = cc
+content_same (holds.Request q) (holds.Handle g) e = cc
+content_same (holds.Request q) (holds.Request r) e =
+    let same : request_of q ≡ request_of r = cc e in
+    ap (λ z. holds.Request z) (request_shown q (request_of r) r.task same (record { rounds_are = refl; text_is = refl }))
+
+held_same : (o p : Option content.Content) → option_map content_of o ≡ option_map content_of p → o ≡ p
+held_same None None e = refl
+held_same None (Some y) e = cc
+held_same (Some x) None e = cc
+held_same (Some x) (Some y) e = let same : content_of x ≡ content_of y = cc e in ap (λ z. Some z) (content_same x y same)
+
+slot_same : (a b : Slot content.Content) → slot_of a ≡ slot_of b → a ≡ b
+slot_same a b e =
+    let generation_is : a.generation ≡ b.generation = ap (λ (z : Slot Content). z.generation) e in
+    let content_is : a.content ≡ b.content = held_same a.content b.content (ap (λ (z : Slot Content). z.content) e) in
+    λ l. record { generation = generation_is l; content = content_is l }
+
+slots_same : (cs : List LaidSlot) (ks : List (Cell Content)) (ss : List (Slot content.Content)) → length cs ≡ length ks
+    → map (λ (k : Cell Content). k.slot) ks ≡ map slot_of ss
+    → ((x : ℕ) (c : LaidSlot) → slice_get cs x ≡ Some c → slot_of c.slot ≡ slot_in (slice_get ks x))
+    → map (λ (c : LaidSlot). c.slot) cs ≡ ss
+slots_same [] [] [] l e f = refl
+slots_same [] [] (s ∷ ss) l e f = cc
+slots_same [] (k ∷ ks) ss l e f = absurd (omega (arith, l))
+slots_same (c ∷ cs) [] ss l e f = absurd (omega (arith, l))
+slots_same (c ∷ cs) (k ∷ ks) [] l e f = cc
+slots_same (c ∷ cs) (k ∷ ks) (s ∷ ss) l e f =
+    let one : k.slot ≡ slot_of s = cc e in
+    let rest : map (λ (z : Cell Content). z.slot) ks ≡ map slot_of ss = cc e in
+    let c_is = slot_same c.slot s (f 0 c refl ∙ one) in
+    let cs_are = slots_same cs ks ss (omega (arith, l)) rest (λ x d at. f (suc x) d at) in
+    λ q. c_is q ∷ cs_are q
+
+-- ---- what follows from where the slots stand
+
+not_there : {X : Type 0} → (xs : List X) (i : ℕ) → slice_get xs i ≡ None → length xs ≤ i
+not_there [] i e = omega arith
+not_there (x ∷ xs) zero e = cc
+not_there (x ∷ xs) (suc i) e = let rest = not_there xs i e in omega (arith, rest)
+
+linked_so : (cs : List (Cell Content)) (y : ℕ) (l : Links) → slice_get (map (λ (c : Cell Content). c.links) cs) y ≡ Some l
+    → links_in (slice_get cs y) ≡ l
+linked_so [] y l e = cc
+linked_so (c ∷ cs) zero l e = let same : c.links ≡ l = cc e in same
+linked_so (c ∷ cs) (suc y) l e = linked_so cs y l e
+
+ids_slots : (a : arena.Image Content) (xs : List ℕ) → map (λ (id : Id). id.slot) (map (id_in a) xs) ≡ xs
+ids_slots a [] = refl
+ids_slots a (x ∷ xs) = ap (λ ys. x ∷ ys) (ids_slots a xs)
+
+entries_as : (a : arena.Image Content) (es : List Entry) → map entry_of (map (timer_in a) es) ≡ es
+entries_as a [] = refl
+entries_as a (e ∷ es) = ap (λ ys. e ∷ ys) (entries_as a es)
+
+module _ (i : Image Place) (s : State) (h : StandsFor i s) (cs : List LaidSlot) (shown : ShowsSlots i cs) where
+  neighbours : (k x : ℕ) (p n : Option ℕ) → slice_get (chains i.arena.memory).links x ≡ Some (link k p n) → HasNeighbours (slice_get cs x) p n
+  neighbours k x p n e = at (slice_get cs x) refl where
+    there : links_at i.arena.memory x ≡ link k p n
+    there = linked_so i.arena.memory.row.items x (link k p n) e
+
+    at : (o : Option LaidSlot) → slice_get cs x ≡ o → HasNeighbours o p n
+    at None q =
+        let past = not_there cs x q in
+        let within = slice_get_within (chains i.arena.memory).links x (link k p n) e in
+        let same = length-map i.arena.memory.row.items (λ (c : Cell Content). c.links) in
+        let all = shown.all in
+        absurd (omega (arith, past, within, same, all))
+    at (Some c) q =
+        let its = shown.each x c q in (
+          its.prev ∙ ap (λ (l : Links). l.prev) there,
+          its.next ∙ ap (λ (l : Links). l.next) there,
+        )
+
+  walked_as : (k : ℕ) (p : Option ℕ) (xs : List ℕ) → IsSegment (chains i.arena.memory).links k p xs None → AreWalked cs p xs
+  walked_as k p [] g = tt
+  walked_as k p (x ∷ xs) g = (neighbours k x p (first xs None) g.0, walked_as k (Some x) xs g.1)
+
+  -- which chain a list is
+  abbrev chain_no : Option ListName → ℕ
+  chain_no None = FREE
+  chain_no (Some l) = name_at i.arena.names (number l)
+
+  chain_below : (k : Option ListName) → chain_no k < 15
+  chain_below None = omega arith
+  chain_below (Some l) = let small = h.sound.names.below (number l) (number_below l) in omega (arith, small)
+
+  on_chain : (k : Option ListName) → slots_on s k ≡ chain i.arena.memory (chain_no k)
+  on_chain None = ap (λ (q : plain.Slots Content). q.free) (sym h.slots)
+  on_chain (Some l) = ap (λ (ids : List Id). map (λ (id : Id). id.slot) ids) (h.lists l) ∙ ids_slots i.arena (arena.members i.arena l)
+
+  pub are_walked : (k : Option ListName) → AreWalked cs None (slots_on s k)
+  are_walked k =
+      subst (λ xs. AreWalked cs None xs) (sym (on_chain k))
+      (walked_as (chain_no k) None (chain i.arena.memory (chain_no k)) (h.sound.linked.stands.lists (chain_no k) (chain_below k)).segment)
+
+  pub ends_as : (ls : List ListName) → map (shown_ends i.arena) ls ≡ map (with_ends s) ls
+  ends_as [] = refl
+  ends_as (l ∷ ls) =
+      let ends_are : ends_of (arena.members i.arena l) ≡ ends_of (slots_on s (Some l)) = ap ends_of (sym (on_chain (Some l))) in
+      let rest = ends_as ls in
+      λ q. (let e : ListEnds = record { list = l; ends = ends_are q } in e) ∷ rest q
+
+  generation_as : (x : ℕ) → (slot_at i.arena.memory x).generation ≡ generation_in (slice_get cs x)
+  generation_as x = at (slice_get cs x) refl where
+    at : (o : Option LaidSlot) → slice_get cs x ≡ o → (slot_at i.arena.memory x).generation ≡ generation_in o
+    at None q =
+        let past = not_there cs x q in
+        let all = shown.all in
+        ap (λ (o : Option (Cell Content)). (slot_in o).generation) (slice_get_past i.arena.memory.row.items x (omega (arith, past, all)))
+    at (Some c) q = ap (λ (z : Slot Content). z.generation) (sym (shown.each x c q).slot)
+
+  ids_as : (xs : List ℕ) → map (id_in i.arena) xs ≡ map (id_now cs) (map (id_in i.arena) xs)
+  ids_as [] = refl
+  ids_as (x ∷ xs) =
+      let g = generation_as x in
+      let rest = ids_as xs in
+      λ q. (let d : Id = record { slot = x; generation = g q } in d) ∷ rest q
+
+  pub are_now : (k : ListName) → members s k ≡ map (id_now cs) (members s k)
+  are_now k = h.lists k ∙ ids_as (arena.members i.arena k) ∙ ap (map (id_now cs)) (sym (h.lists k))
+
+  -- the chain of a slot on a list
+  on_its : (k : Option ListName) (x : ℕ) → IsIn x (slots_on s k)
+      → (m : Links) × (slice_get (chains i.arena.memory).links x ≡ Some m) × (m.list ≡ Some (chain_no k))
+  on_its k x on =
+      segment_tells (chains i.arena.memory).links (chain_no k) None (chain i.arena.memory (chain_no k)) None
+      (h.sound.linked.stands.lists (chain_no k) (chain_below k)).segment x (subst (λ xs. IsIn x xs) (on_chain k) on)
+
+  one_name : (j k : Option ListName) → chain_no j ≡ chain_no k → j ≡ k
+  one_name None None e = refl
+  one_name None (Some l) e = let small = h.sound.names.below (number l) (number_below l) in absurd (omega (arith, e, small))
+  one_name (Some l) None e = let small = h.sound.names.below (number l) (number_below l) in absurd (omega (arith, e, small))
+  one_name (Some l) (Some m) e =
+      ap (λ z. Some z) (number_apart l m (h.sound.names.apart (number l) (number m) (number_below l) (number_below m) e))
+
+  pub on_once : (j k : Option ListName) (x : ℕ) → IsIn x (slots_on s j) → IsIn x (slots_on s k) → j ≡ k
+  on_once j k x a b =
+      let f = on_its j x a in
+      let g = on_its k x b in
+      let both : f.0 ≡ g.0 = cc (f.1, g.1) in
+      let same : chain_no j ≡ chain_no k = cc (f.2, g.2, both) in
+      one_name j k same
+
+  -- the list of a chain
+  listed_as : (x k : ℕ) → k < 15 → IsIn x (chain i.arena.memory k) → (l : Option ListName) × IsIn x (slots_on s l)
+  listed_as x k small on = elim (below_or k small) [
+    | inl is ↦ (None, subst (λ xs. IsIn x xs) (sym (on_chain None)) (subst (λ n. IsIn x (chain i.arena.memory n)) is on))
+    | inr less ↦ (let l = list_named i.arena h.sound k less in
+        (Some l.0, subst (λ xs. IsIn x xs) (sym (on_chain (Some l.0))) (subst (λ n. IsIn x (chain i.arena.memory n)) (sym l.1) on)))
+  ] where
+    below_or : (n : ℕ) → n < 15 → (n ≡ FREE) ⊎ (n < 14)
+    below_or n less = elim (eqb_tells n FREE) [ inl q ↦ inl q.1 | inr q ↦ (let other = q.1 in inr (omega (arith, less, other))) ]
+
+  pub are_loose : (x : ℕ) (c : LaidSlot) → slice_get cs x ≡ Some c → ((k : Option ListName) → IsIn x (slots_on s k) → ⊥)
+      → (c.prev ≡ None) × (c.next ≡ None)
+  are_loose x c e none = at (slice_get i.arena.memory.row.items x) refl where
+    its : ShowsSlot i x c
+    its = shown.each x c e
+
+    by_list : (cell : Cell Content) → slice_get i.arena.memory.row.items x ≡ Some cell → (l : Option ℕ) → cell.links.list ≡ l
+        → (c.prev ≡ None) × (c.next ≡ None)
+    by_list cell q None on =
+        let rest : cell.links ≡ loose = h.sound.linked.stands.rest x cell.links (get-links i.arena.memory.row.items x cell q) on in
+        let links : links_at i.arena.memory x ≡ loose = ap (λ (o : Option (Cell Content)). links_in o) q ∙ rest in
+        (its.prev ∙ ap (λ (z : Links). z.prev) links, its.next ∙ ap (λ (z : Links). z.next) links)
+    by_list cell q (Some k) on =
+        let there = h.sound.linked.stands.listed x cell.links k (get-links i.arena.memory.row.items x cell q) on in
+        let l = listed_as x k there.0 there.1 in
+        absurd (none l.0 l.1)
+
+    at : (o : Option (Cell Content)) → slice_get i.arena.memory.row.items x ≡ o → (c.prev ≡ None) × (c.next ≡ None)
+    at None q =
+        let links : links_at i.arena.memory x ≡ loose = ap (λ (o : Option (Cell Content)). links_in o) q in
+        (its.prev ∙ ap (λ (z : Links). z.prev) links, its.next ∙ ap (λ (z : Links). z.next) links)
+    at (Some cell) q = by_list cell q cell.links.list refl
+
+-- ---- the ends of a list
+
+module _ (a : arena.Image Content) (l : ListName) where
+  pub first_is : (o : Option Id) → IfNone o (arena.members a l ≡ []) → IfSome o (λ d. IsFirst a l d)
+      → calls.slot_of o ≡ first (arena.members a l) None
+  first_is None none some = ap (λ xs. first xs None) (sym none)
+  first_is (Some d) none some = ap (λ xs. first xs None) (sym some.is)
+
+  pub last_is : (o : Option Id) → IfNone o (arena.members a l ≡ []) → IfSome o (λ d. IsLast a l d)
+      → calls.slot_of o ≡ last None (arena.members a l)
+  last_is None none some = ap (λ xs. last None xs) (sym none)
+  last_is (Some d) none some = sym (ap (λ xs. last None xs) some.is ∙ last_append some.front (d.slot ∷ []) None)
+
+-- ---- slots laid one after another
+
+-- the first so many slots
+pub record ShowsFirst (i : Image Place) (n : ℕ) (slots : List LaidSlot) : Type 0 where
+  pub all : length slots ≡ n
+  pub each : (x : ℕ) (c : LaidSlot) → slice_get slots x ≡ Some c → ShowsSlot i x c
+
+put_last : {X : Type 0} → (xs : List X) (c d : X) (x : ℕ) → slice_get (xs ++ c ∷ []) x ≡ Some d
+    → (slice_get xs x ≡ Some d) ⊎ ((x ≡ length xs) × (c ≡ d))
+put_last [] c d zero e = inr (refl, cc e)
+put_last [] c d (suc x) e = cc
+put_last (y ∷ ys) c d zero e = inl e
+put_last (y ∷ ys) c d (suc x) e = elim (put_last ys c d x e) [ inl l ↦ inl l | inr r ↦ inr (ap suc r.0, r.1) ]
+
+pub shows_more : (i : Image Place) (n : ℕ) (slots : List LaidSlot) (c : LaidSlot) → ShowsFirst i n slots → ShowsSlot i n c
+    → ShowsFirst i (n + 1) (slots ++ c ∷ [])
+shows_more i n slots c before its = record {
+  all = let long = before.all in omega (arith, length-append slots (c ∷ []), long);
+  each = λ x d e. elim (put_last slots c d x e) [
+    | inl l ↦ before.each x d l
+    | inr r ↦ subst (λ z. ShowsSlot i z d) (sym (r.0 ∙ before.all)) (subst (λ z. ShowsSlot i n z) r.1 its)
+  ];
+}
+
+-- ---- all of it
+
+pub lies_for : (l : Layout) (i : Image Place) (s : State) → ShowsAll l i → StandsFor i s → LiesFor l s
+lies_for l i s d h = record {
+  place = d.place ∙ h.place;
+  numbers =
+      d.numbers ∙ (λ q. (let n : Numbers = record {
+        time = h.time q;
+        clock = h.clock q;
+        next_start = h.next_start q;
+        stop_flag = h.stop_flag q;
+        idled = h.idled q;
+      } in n));
+  names = names_same l.names.items s.names (d.names ∙ h.names);
+  slots =
+      slots_same l.slots.items i.arena.memory.row.items s.arena.slots d.slots.all (ap (λ (q : plain.Slots Content). q.slots) h.slots)
+      (λ x c e. (d.slots.each x c e).slot);
+  unused = d.unused ∙ ap (λ (q : plain.Slots Content). q.unused) h.slots;
+  running = d.running ∙ h.running;
+  walked = are_walked i s h l.slots.items d.slots;
+  free = d.free ∙ ap ends_of (ap (λ (q : plain.Slots Content). q.free) h.slots);
+  lists = d.lists ∙ ends_as i s h l.slots.items d.slots all_lists;
+  ids = are_now i s h l.slots.items d.slots;
+  once = on_once i s h l.slots.items d.slots;
+  loose = are_loose i s h l.slots.items d.slots;
+  heap = subst IsHeap (sym d.heap) h.heap;
+  differ = subst SlotsDiffer (sym d.heap) h.places;
+  timers =
+      subst (λ a. IsInOrder a (map entry_of s.timers)) (sym d.heap)
+      (subst (λ ts. IsInOrder i.heap ts) (sym (ap (map entry_of) h.timers.same ∙ entries_as i.arena h.timers.entries)) h.timers.ordered);
+  places = λ x c e. (d.slots.each x c e).place ∙ ap (λ a. place_in a x) (sym d.heap);
+  active = d.active ∙ h.active;
+  opened = d.opened ∙ h.opened;
+}

@@ -1,0 +1,124 @@
+//! How the memory lies.
+ghost use Rattle.std.specs.Prelude.{◌≡◌, ◌<◌, IfOk, map, length};
+ghost use Rattle.uv_records.specs.Lists.{all_lists};
+ghost use Rattle.uv_records.specs.Linked.{ends_of};
+ghost use Rattle.uv_arena.specs.Calls.{slot_of};
+ghost use Rattle.uv_arena.specs.Image.{FREE, chain, members};
+ghost use Rattle.uv_step.specs.Image.{held};
+ghost use Rattle.uv_stands.specs.Contents.{named_of};
+ghost use Rattle.uv_layout.specs.Laid.{ShowsSlot, ShowsSlots, ShowsAll, shown_ends};
+
+use crate::showing::{shown_held, shown_named};
+use std::alloc::{AllocError, Global};
+use uv_arena::Slots;
+use uv_ids::Id;
+use uv_model::{LaidSlot, Layout, ListEnds, Named, Numbers, Place};
+use uv_records::{Ends, ListName, Slot};
+use uv_step::{Content, Memory};
+
+/// A slot that was used, with its links and its place on the heap.
+fn laid_slot(memory: &Memory<Place>, number: u32) -> LaidSlot
+    requires { number < length (held memory.now).image.arena.memory.row.items }
+    ensures { ShowsSlot (held memory.now).image number result }
+{
+    let slot = memory.slots.slot_at(number);
+    let links = memory.slots.links(number);
+    LaidSlot {
+        slot: Slot {
+            generation: slot.generation,
+            content: shown_held(slot.content),
+        },
+        prev: links.prev,
+        next: links.next,
+        place: memory.heap.place_of(number),
+    }
+}
+
+/// All slots that were used.
+fn laid_slots(memory: &Memory<Place>, alloc: Global) -> Result<Vec<LaidSlot>, AllocError>
+    ensures { IfOk result (λ slots. ShowsSlots (held memory.now).image slots.items) }
+{
+    let mut slots = Vec::new(alloc);
+    'slots: for number in 0..memory.slots.used() {
+        slots.push(laid_slot(memory, number))?;
+    }
+    Ok(slots)
+}
+
+/// All names with their counts.
+fn laid_names(names: &[uv_step::Named], alloc: Global) -> Result<Vec<Named>, AllocError>
+    ensures { IfOk result (λ shown. map named_of shown.items ≡ names.now) }
+{
+    let mut shown = Vec::new(alloc);
+    for named in names {
+        shown.push(shown_named(*named))?;
+    }
+    Ok(shown)
+}
+
+/// The slot of an id.
+fn slot_in(id: Option<Id>) -> Option<u32>
+    ensures { result ≡ slot_of id }
+{
+    match id {
+        None => None,
+        Some(id) => Some(id.slot),
+    }
+}
+
+/// A list with its first and last slot.
+fn laid_list(slots: &Slots<Content>, list: ListName) -> ListEnds
+    ensures { result ≡ shown_ends slots.now list }
+{
+    let ends = Ends {
+        head: slot_in(slots.first(list)),
+        tail: slot_in(slots.last(list)),
+    };
+    ListEnds { list, ends }
+}
+
+/// All lists with their first and last slots.
+fn laid_lists(slots: &Slots<Content>, alloc: Global) -> Result<Vec<ListEnds>, AllocError>
+    ensures { IfOk result (λ lists. lists.items ≡ map (shown_ends slots.now) all_lists) }
+{
+    let mut lists = Vec::new(alloc);
+    for list in &ListName::all() {
+        lists.push(laid_list(slots, *list))?;
+    }
+    Ok(lists)
+}
+
+/// The first and the last free slot.
+fn free_ends(slots: &Slots<Content>) -> Ends
+    ensures { result ≡ ends_of (chain slots.now.memory FREE) }
+{
+    Ends {
+        head: slots.first_free(),
+        tail: slots.last_free(),
+    }
+}
+
+/// How the memory lies.
+pub fn layout_of(memory: &Memory<Place>, alloc: Global) -> Result<Layout, AllocError>
+    ensures { IfOk result (λ layout. ShowsAll layout (held memory.now).image) }
+{
+    Ok(Layout {
+        place: memory.place,
+        numbers: Numbers {
+            time: memory.times.time,
+            clock: memory.clock,
+            next_start: memory.times.next_start,
+            stop_flag: memory.stop_flag,
+            idled: memory.idled,
+        },
+        names: laid_names(&memory.names, alloc)?,
+        slots: laid_slots(memory, alloc)?,
+        unused: memory.slots.capacity() - memory.slots.used(),
+        running: Vec::from_slice(alloc, memory.requests.workers())?,
+        free: free_ends(&memory.slots),
+        lists: laid_lists(&memory.slots, alloc)?,
+        heap: Vec::from_slice(alloc, memory.heap.entries())?,
+        active: memory.handles.active_referenced(),
+        opened: memory.requests.open_requests(),
+    })
+}

@@ -1,0 +1,162 @@
+//! The text of how a machine's memory lies.
+ghost use Rattle.std.specs.Prelude.{◌≡◌, ◌++◌, IfOk, IfErr, IfSome, OnOk};
+ghost use Rattle.std.specs.List.{flat_map};
+ghost use Rattle.uv_ids.specs.declared.fault.Fault.TheVariants.{Memory};
+ghost use Rattle.uv_text.specs.Image.{or_dash, link_line, links_from, ends_line, named_ends, entry_text, heap_line, place_text, places_line, counts_line, layout_text, image_text, IsImageText, PutsImage};
+
+use crate::state::{list_word, push_numbered, push_state};
+use std::alloc::{AllocError, Global};
+use uv_heap::Entry;
+use uv_ids::Fault;
+use uv_model::{LaidSlot, Layout, ListEnds, Machine};
+use uv_records::Ends;
+use uv_session::Session;
+
+/// The text of a session's state, and of how the memory lies that stands for it; none of a machine without one memory.
+pub fn image_text<M: Machine>(alloc: Global, session: &Session<M>) -> Result<Option<Vec<u8>>, Fault>
+    ensures text { IfOk result (λ image. IfSome image (λ text. IsImageText session.now text.items)) }
+    ensures err { IfErr result (λ fault. fault ≡ Memory) }
+{
+    let Some(layout) = session.machine().layout()? else {
+        return Ok(None);
+    };
+    let mut text = Vec::new(alloc);
+    push_whole(&mut text, session, &layout)?;
+    Ok(Some(text))
+}
+
+/// Puts the text of a session's state, and of how the memory lies that stands for it, behind a text. `false` where the machine has
+/// no one memory: then the text is as it was.
+pub fn push_image<M: Machine>(text: &mut Vec<u8>, session: &Session<M>) -> Result<bool, Fault>
+    ensures text { IfOk result (λ lies. PutsImage session.now lies text.old.items text.new.items) }
+    ensures err { IfErr result (λ fault. fault ≡ Memory) }
+{
+    let Some(layout) = session.machine().layout()? else {
+        return Ok(false);
+    };
+    push_whole(text, session, &layout)?;
+    Ok(true)
+}
+
+fn push_whole<M: Machine>(
+    text: &mut Vec<u8>,
+    session: &Session<M>,
+    layout: &Layout,
+) -> Result<(), AllocError>
+    ensures { OnOk result (text.new.items ≡ text.old.items ++ image_text session.now layout.now) }
+{
+    push_state(text, session)?;
+    push_layout(text, layout)
+}
+
+#[tactic(auto, unfolding(crate::specs::Image::layout_text))]
+fn push_layout(text: &mut Vec<u8>, layout: &Layout) -> Result<(), AllocError>
+    ensures { OnOk result (text.new.items ≡ text.old.items ++ layout_text layout.now) }
+{
+    push_links(text, layout.slots.as_slice())?;
+    push_ends(text, "free", layout.free)?;
+    push_lists(text, layout.lists.as_slice())?;
+    push_heap(text, layout.heap.as_slice())?;
+    push_places(text, layout.slots.as_slice())?;
+    push_counts(text, layout.active, layout.opened)
+}
+
+/// A space and a number, or a space and `-`.
+fn push_or_dash(text: &mut Vec<u8>, number: Option<u32>) -> Result<(), AllocError>
+    ensures { OnOk result (text.new.items ≡ text.old.items ++ or_dash number) }
+{
+    match number {
+        Some(number) => push_numbered(text, " ", u64::from(number)),
+        None => text.extend_from_slice(b" -"),
+    }
+}
+
+#[tactic(auto, unfolding(crate::specs::Image::link_line))]
+fn push_link(text: &mut Vec<u8>, number: usize, slot: LaidSlot) -> Result<(), AllocError>
+    ensures { OnOk result (text.new.items ≡ text.old.items ++ link_line number slot) }
+{
+    push_numbered(text, "link ", number as u64)?;
+    push_or_dash(text, slot.prev)?;
+    push_or_dash(text, slot.next)?;
+    text.extend_from_slice(b"\n")
+}
+
+/// All slots that were used.
+#[tactic(auto, using(crate::proofs::Pieces::pieces))]
+fn push_links(text: &mut Vec<u8>, slots: &[LaidSlot]) -> Result<(), AllocError>
+    ensures { OnOk result (text.new.items ≡ text.old.items ++ links_from 0 slots.now) }
+{
+    for number in 0..slots.len() {
+        push_link(text, number, slots[number])?;
+    }
+    Ok(())
+}
+
+#[tactic(auto, unfolding(crate::specs::Image::ends_line))]
+fn push_ends(text: &mut Vec<u8>, word: &str, ends: Ends) -> Result<(), AllocError>
+    ensures { OnOk result (text.new.items ≡ text.old.items ++ ends_line word.now ends) }
+{
+    text.extend_from_slice(b"list ")?;
+    text.extend_from_slice(word.as_bytes())?;
+    push_or_dash(text, ends.head)?;
+    push_or_dash(text, ends.tail)?;
+    text.extend_from_slice(b"\n")
+}
+
+#[tactic(auto, using(crate::proofs::Pieces::pieces))]
+fn push_lists(text: &mut Vec<u8>, lists: &[ListEnds]) -> Result<(), AllocError>
+    ensures { OnOk result (text.new.items ≡ text.old.items ++ flat_map named_ends lists.now) }
+{
+    for one in lists {
+        push_ends(text, list_word(one.list), one.ends)?;
+    }
+    Ok(())
+}
+
+#[tactic(auto, using(crate::proofs::Pieces::pieces))]
+fn push_entries(text: &mut Vec<u8>, heap: &[Entry]) -> Result<(), AllocError>
+    ensures { OnOk result (text.new.items ≡ text.old.items ++ flat_map entry_text heap.now) }
+{
+    for entry in heap {
+        push_numbered(text, " ", u64::from(entry.slot))?;
+    }
+    Ok(())
+}
+
+#[tactic(auto, unfolding(crate::specs::Image::heap_line))]
+fn push_heap(text: &mut Vec<u8>, heap: &[Entry]) -> Result<(), AllocError>
+    ensures { OnOk result (text.new.items ≡ text.old.items ++ heap_line heap.now) }
+{
+    text.extend_from_slice(b"heap")?;
+    push_entries(text, heap)?;
+    text.extend_from_slice(b"\n")
+}
+
+/// Where the heap has each slot.
+#[tactic(auto, using(crate::proofs::Pieces::pieces))]
+fn push_each_place(text: &mut Vec<u8>, slots: &[LaidSlot]) -> Result<(), AllocError>
+    ensures { OnOk result (text.new.items ≡ text.old.items ++ flat_map place_text slots.now) }
+{
+    for slot in slots {
+        push_or_dash(text, slot.place)?;
+    }
+    Ok(())
+}
+
+#[tactic(auto, unfolding(crate::specs::Image::places_line))]
+fn push_places(text: &mut Vec<u8>, slots: &[LaidSlot]) -> Result<(), AllocError>
+    ensures { OnOk result (text.new.items ≡ text.old.items ++ places_line slots.now) }
+{
+    text.extend_from_slice(b"places")?;
+    push_each_place(text, slots)?;
+    text.extend_from_slice(b"\n")
+}
+
+#[tactic(auto, unfolding(crate::specs::Image::counts_line))]
+fn push_counts(text: &mut Vec<u8>, active: u32, opened: u32) -> Result<(), AllocError>
+    ensures { OnOk result (text.new.items ≡ text.old.items ++ counts_line active opened) }
+{
+    push_numbered(text, "counts ", u64::from(active))?;
+    push_numbered(text, " ", u64::from(opened))?;
+    text.extend_from_slice(b"\n")
+}
