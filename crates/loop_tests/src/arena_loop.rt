@@ -1,83 +1,75 @@
 //! The loop over one memory goes on and back.
 
+use crate::given::{begun, told};
 use std::alloc::Global;
-use std::test::Fail;
-use uv_ids::{Answer, Code, Fault, Seen, Var, Why};
+use std::process::Abort;
+use uv_ids::{Answer, Code, Event, Fault, Seen, Var, Why};
 use uv_loop::ArenaLoop;
-use uv_model::Outcome;
-use uv_script::Script;
+use uv_model::Machine;
 
 const LATEST: u64 = 1 << 62;
 
-/// A loop of one timer.
-fn begun(alloc: Global) -> Result<ArenaLoop, Fault> {
-    let script = Script::parse(alloc, b"var t\nmain init t timer\n")?;
-    ArenaLoop::begin(alloc, script)
-}
-
-fn ticked(ms: u64) -> Result<Outcome, Fault> {
-    Ok(Outcome {
-        seen: Some(Seen::Tick(ms)),
-    })
-}
-
 /// Whether the clock shows this, after so many steps.
-fn shows(machine: &ArenaLoop, clock: u64, steps: usize) -> bool {
-    machine.memory().clock == clock && machine.len() == steps
+fn shows<M: Machine>(machine: &M, clock: u64, steps: usize) -> bool {
+    machine.numbers().clock == clock && machine.len() == steps
 }
 
-#[test]
-fn the_clock_goes_on_and_back(rt: HostRuntime) -> Result<(), Fail> {
-    let mut machine = begun(rt.alloc())?;
-    assert!(rt; shows(&machine, 0, 0));
-    assert!(rt; machine.tick(5) == ticked(5));
-    assert!(rt; machine.tick(LATEST) == Err(Fault::Refused(Why::Range)));
-    assert!(rt; machine.tick(LATEST - 5) == ticked(LATEST - 5));
-    assert!(rt; shows(&machine, LATEST, 2));
-    assert!(rt; machine.back() && shows(&machine, 5, 1));
-    assert!(rt; machine.back() && shows(&machine, 0, 0));
-    assert!(rt; !machine.back());
+/// Whether an event is refused, for this reason.
+fn refuses<M: Machine>(machine: &mut M, event: Event, why: Why) -> bool {
+    machine.step(event) == Err(Fault::Refused(why))
+}
+
+/// Whether an event is accepted, with this line, which stands as that of the last step then.
+fn appends<M: Machine>(machine: &mut M, event: Event, line: Seen) -> bool {
+    machine.step(event) == told(line)
+        && machine.len() > 0
+        && machine.seen(machine.len()) == Some(line)
+}
+
+/// Whether a step is taken back, to where the clock shows this, after so many steps.
+fn goes_back<M: Machine>(machine: &mut M, clock: u64, steps: usize) -> bool {
+    machine.back() == Ok(true) && shows(machine, clock, steps)
+}
+
+fn clock_goes<M: Machine, R: Abort>(rt: &R, machine: &mut M) {
+    assert!(rt; shows(machine, 0, 0));
+    assert!(rt; appends(machine, Event::Tick(5), Seen::Tick(5)));
+    assert!(rt; refuses(machine, Event::Tick(LATEST), Why::Range));
+    assert!(rt; appends(machine, Event::Tick(LATEST - 5), Seen::Tick(LATEST - 5)));
+    assert!(rt; shows(machine, LATEST, 2));
+    assert!(rt; goes_back(machine, 5, 1));
+    assert!(rt; goes_back(machine, 0, 0));
+    assert!(rt; machine.back() == Ok(false));
+}
+
+fn unbound_is_stale<M: Machine, R: Abort>(rt: &R, machine: &mut M) {
+    let send = Seen::Send(Var(0), Code::Estale);
+    let cancel = Seen::Cancel(Var(0), Answer::Code(Code::Estale));
+    assert!(rt; appends(machine, Event::Send(Var(0)), send));
+    assert!(rt; appends(machine, Event::Cancel(Var(0)), cancel));
+    assert!(rt; refuses(machine, Event::Send(Var(1)), Why::Range));
+    assert!(rt; refuses(machine, Event::Cancel(Var(1)), Why::Range));
+    assert!(rt; goes_back(machine, 0, 1));
+    assert!(rt; goes_back(machine, 0, 0));
+}
+
+fn nothing_to_do<M: Machine, R: Abort>(rt: &R, machine: &mut M) {
+    assert!(rt; refuses(machine, Event::Take(0), Why::NoWork));
+    assert!(rt; refuses(machine, Event::Take(4), Why::NoWorker));
+    assert!(rt; refuses(machine, Event::Finish(0), Why::IdleWorker));
+    assert!(rt; refuses(machine, Event::Finish(4), Why::NoWorker));
+    assert!(rt; shows(machine, 0, 0));
+}
+
+fn each_event<M: Machine, R: Abort>(rt: &R, alloc: Global) -> Result<(), Fault> {
+    let mut machine = begun::<M>(alloc)?;
+    clock_goes(rt, &mut machine);
+    unbound_is_stale(rt, &mut machine);
+    nothing_to_do(rt, &mut machine);
     Ok(())
 }
 
-/// What a step appended, if it stands.
-fn appended(machine: &ArenaLoop, step: usize) -> Option<Seen> {
-    if step == 0 || step > machine.len() {
-        return None;
-    }
-    machine.seen(step)
-}
-
 #[test]
-fn a_send_to_an_unbound_name_is_stale(rt: HostRuntime) -> Result<(), Fail> {
-    let mut machine = begun(rt.alloc())?;
-    let seen = Some(Seen::Send(Var(0), Code::Estale));
-    assert!(rt; machine.send(Var(0)) == Ok(Outcome { seen }));
-    assert!(rt; machine.send(Var(1)) == Err(Fault::Refused(Why::Range)));
-    assert!(rt; shows(&machine, 0, 1));
-    assert!(rt; appended(&machine, 1) == seen);
-    assert!(rt; machine.back() && shows(&machine, 0, 0));
-    Ok(())
-}
-
-#[test]
-fn workers_have_nothing_to_do_without_requests(rt: HostRuntime) -> Result<(), Fail> {
-    let mut machine = begun(rt.alloc())?;
-    assert!(rt; machine.take(0) == Err(Fault::Refused(Why::NoWork)));
-    assert!(rt; machine.take(4) == Err(Fault::Refused(Why::NoWorker)));
-    assert!(rt; machine.finish(0) == Err(Fault::Refused(Why::IdleWorker)));
-    assert!(rt; machine.finish(4) == Err(Fault::Refused(Why::NoWorker)));
-    assert!(rt; shows(&machine, 0, 0));
-    Ok(())
-}
-
-#[test]
-fn a_cancel_of_an_unbound_name_is_stale(rt: HostRuntime) -> Result<(), Fail> {
-    let mut machine = begun(rt.alloc())?;
-    let seen = Some(Seen::Cancel(Var(0), Answer::Code(Code::Estale)));
-    assert!(rt; machine.cancel(Var(0)) == Ok(Outcome { seen }));
-    assert!(rt; machine.cancel(Var(1)) == Err(Fault::Refused(Why::Range)));
-    assert!(rt; appended(&machine, 1) == seen);
-    assert!(rt; machine.back() && shows(&machine, 0, 0));
-    Ok(())
+fn the_loop_takes_each_event_or_refuses_it(rt: HostRuntime) -> Result<(), Fault> {
+    each_event::<ArenaLoop, _>(&rt, rt.alloc())
 }

@@ -4,7 +4,9 @@
 #[cfg(test)]
 mod arena_loop;
 #[cfg(test)]
-mod images;
+mod given;
+#[cfg(test)]
+mod scripts;
 #[cfg(test)]
 mod session;
 #[cfg(test)]

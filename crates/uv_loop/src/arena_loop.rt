@@ -125,7 +125,7 @@ impl ArenaLoop {
     }
 
     /// The loop does its next step.
-    pub fn turn(&mut self) -> Result<Outcome, Fault>
+    fn turn(&mut self) -> Result<Outcome, Fault>
         ensures program { self.new.program ≡ self.old.program }
         ensures answer { Answers STEPS self.old.program self.old.standing Loop result self.new.standing }
         ensures records { Adds result self.old self.new }
@@ -150,7 +150,7 @@ impl ArenaLoop {
     }
 
     /// The clock goes on by so many ms.
-    pub fn tick(&mut self, ms: u64) -> Result<Outcome, Fault>
+    fn tick(&mut self, ms: u64) -> Result<Outcome, Fault>
         ensures program { self.new.program ≡ self.old.program }
         ensures answer { Answers STEPS self.old.program self.old.standing (Tick ms) result self.new.standing }
         ensures records { Adds result self.old self.new }
@@ -172,7 +172,7 @@ impl ArenaLoop {
     }
 
     /// Another thread sends to an async handle, by its name (uv_async_send).
-    pub fn send(&mut self, name: Var) -> Result<Outcome, Fault>
+    fn send(&mut self, name: Var) -> Result<Outcome, Fault>
         ensures program { self.new.program ≡ self.old.program }
         ensures answer { Answers STEPS self.old.program self.old.standing (Send name) result self.new.standing }
         ensures records { Adds result self.old self.new }
@@ -193,7 +193,7 @@ impl ArenaLoop {
     }
 
     /// A worker takes the request that waits longest.
-    pub fn take(&mut self, worker: u16) -> Result<Outcome, Fault>
+    fn take(&mut self, worker: u16) -> Result<Outcome, Fault>
         ensures program { self.new.program ≡ self.old.program }
         ensures answer { Answers STEPS self.old.program self.old.standing (Take worker) result self.new.standing }
         ensures records { Adds result self.old self.new }
@@ -215,7 +215,7 @@ impl ArenaLoop {
     }
 
     /// A worker finishes the request that it runs: its job is done here.
-    pub fn finish(&mut self, worker: u16) -> Result<Outcome, Fault>
+    fn finish(&mut self, worker: u16) -> Result<Outcome, Fault>
         ensures program { self.new.program ≡ self.old.program }
         ensures answer { Answers STEPS self.old.program self.old.standing (Finish worker) result self.new.standing }
         ensures records { Adds result self.old self.new }
@@ -256,7 +256,7 @@ impl ArenaLoop {
     }
 
     /// A request is cancelled from outside, by its name (uv_cancel).
-    pub fn cancel(&mut self, name: Var) -> Result<Outcome, Fault>
+    fn cancel(&mut self, name: Var) -> Result<Outcome, Fault>
         ensures program { self.new.program ≡ self.old.program }
         ensures answer { Answers STEPS self.old.program self.old.standing (Cancel name) result self.new.standing }
         ensures records { Adds result self.old self.new }
