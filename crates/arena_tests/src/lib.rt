@@ -15,12 +15,6 @@ mod names;
 #[cfg(test)]
 mod raw;
 #[cfg(test)]
-mod step;
-#[cfg(test)]
-mod steps;
-#[cfg(test)]
-mod trail;
-#[cfg(test)]
 mod watch;
 #[cfg(test)]
 mod work;

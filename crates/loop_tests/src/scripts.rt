@@ -20,6 +20,13 @@ const WORK: &[u8] =
 const TIMERS: &[u8] =
     b"var t\nvar u\nmain init t timer\nmain start t 5 2\nmain init u timer\nmain start u 3 0\nmain run default\non t @2 stop t\n";
 
+/// Watchers that aren't called on their own account, and a loop that is stopped and run again.
+const OTHERS: &[u8] =
+    b"var p\nvar c\nvar t\nvar a\nmain init p prepare\nmain init c check\nmain init t timer\nmain init a async\nmain start p\n\
+main start c\nmain start t 2 3\nmain unref a\nmain run default\nmain run once\nmain run default\non p @1 unref p\non p @2 ref p\n\
+on c @1 stop c\non c @1 start c\non c @2 updatetime\non c @3 stoploop\non t @1 repeat t 1\non t @2 again t\non t @4 close t\n\
+closed t close p\nclosed p close c\nclosed c close a\n";
+
 /// A script that never ends: `a` is an async handle and a request in turn, in fewer and fewer slots; the callbacks of others stop, close and
 /// start one another.
 pub(crate) const MIXED: &[u8] =
@@ -32,7 +39,7 @@ closed t init t timer\nclosed t start t 0 2\n";
 const DRAWN: &[u8] = b"................................................sstttt0011aabbc<";
 
 /// How many scripts there are.
-pub(crate) const SCRIPTS: usize = 6;
+pub(crate) const SCRIPTS: usize = 7;
 
 /// The text of a script.
 pub(crate) fn text_of(script: usize) -> &'static [u8] {
@@ -42,7 +49,8 @@ pub(crate) fn text_of(script: usize) -> &'static [u8] {
         2 => RETIRED,
         3 => IDLES,
         4 => WORK,
-        _ => TIMERS,
+        5 => TIMERS,
+        _ => OTHERS,
     }
 }
 
@@ -54,7 +62,9 @@ pub(crate) fn marks_of(script: usize) -> &'static [u8] {
         2 => b".............................",
         3 => b".........................................",
         4 => b"..110a............b...c.........",
-        _ => b"..........t...........t............t.................",
+        5 => b"..........t...........t............t.................",
+        _ =>
+            b"............t........t........t........t........t........t........t........t........t........t........t........",
     }
 }
 

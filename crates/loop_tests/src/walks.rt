@@ -122,8 +122,8 @@ fn walks<A: Machine, B: Machine, R: Abort>(
     alloc: Global,
     script: usize,
 ) -> Result<(), Fault> {
-    let mut session = opened::<A>(alloc, text_of(script), 100)?;
-    let mut plain = opened::<B>(alloc, text_of(script), 100)?;
+    let mut session = opened::<A>(alloc, text_of(script), 200)?;
+    let mut plain = opened::<B>(alloc, text_of(script), 200)?;
     let mut images = Vec::new(alloc);
     let alike = go_alike(
         &mut session,

@@ -1,10 +1,9 @@
 -- Steps in a row, and taking all of them back.
-use Rattle.std.specs.Prelude.{◌≡◌, ◌≤◌, ℕ, Bool, true, false, List, [], ◌∷◌, ◌++◌}
+use Rattle.std.specs.Prelude.{◌≡◌, ℕ, List, [], ◌∷◌, ◌++◌}
 use Rattle.uv_step.specs.declared.record.Record.{Record}
-use Rattle.uv_step.specs.Image.{Image, Held}
+use Rattle.uv_step.specs.Image.{Image}
 use Rattle.uv_step.specs.Parts.{unwind}
 use Rattle.uv_step.specs.Undo.{CanUnwind}
-use Rattle.uv_step.specs.Fit.{IsFit}
 
 -- the memory of a loop, and the records of the steps that made it so, the first step's first
 pub record Walk (P : Type 0) : Type 0 where
@@ -27,17 +26,6 @@ module _ {P : Type 0} where
   AreSteps room i [] k = k ≡ i
   AreSteps room i (r ∷ rs) k = (j : Image P) × (unwind r j ≡ i) × CanUnwind room r j × AreSteps room j rs k
 
-  -- the memory before all steps
-  abbrev pub beginning : Walk P → Image P
-  beginning w = unwound w.records w.image
-
-  -- what always holds of a trail: of the memory, that each of its steps can be taken back in its turn, and that the heap has room
-  -- for the timers of so many slots
-  pub record IsTrail (slots : ℕ) (rs : List (Record P)) (h : Held P) : Type 0 where
-    pub fit : IsFit h.image
-    pub can : CanGoBack h.room rs h.image
-    pub room : slots ≤ h.room
-
   -- one step more, whose record gives back the very image from before
   pub record AddsOne (old new : Walk P) : Type 0 where
     pub added : Record P
@@ -49,8 +37,3 @@ module _ {P : Type 0} where
     pub dropped : Record P
     pub records : old.records ≡ new.records ++ dropped ∷ []
     pub back : new.image ≡ unwind dropped old.image
-
-  -- a step is done, or it is refused and nothing changes
-  abbrev pub Takes : Bool → Walk P → Walk P → Type 0
-  Takes true old new = AddsOne old new
-  Takes false old new = new ≡ old
