@@ -1,6 +1,7 @@
 pub mod Simulation
 pub mod Lasts
 pub mod Courses
+pub mod Told
 pub mod Clear
 pub mod Ready
 pub mod Lines

@@ -1,25 +1,36 @@
 -- The row of the steps that stand.
-use Rattle.std.specs.Prelude.{◌≡◌, ◌<◌, ◌++◌, [], ◌∷◌, Option, vec_len, vec_capacity}
+use Rattle.std.specs.Prelude.{◌≡◌, ◌<◌, ◌++◌, List, [], ◌∷◌, map, Option, Some, None, vec_len, vec_capacity}
 use Rattle.uv_ids.specs.declared.event.Event.{Event}
+use Rattle.uv_ids.specs.declared.event.Event.TheVariants.{Loop, Take, Finish, Cancel, Send, Tick}
 use Rattle.uv_ids.specs.declared.seen.Seen.{Seen}
+use Rattle.uv_ids.specs.declared.seen.Seen.TheVariants as seen
 use Rattle.uv_step.specs.declared.record.Record.{Record}
 use Rattle.uv_loop.specs.declared.steps.Steps.{Steps}
+
+-- the event of the step that appended this: a line from outside names its own, and all else is of the loop
+abbrev pub event_of : Option Seen → Event
+event_of (Some (seen.Take worker name id)) = Take worker
+event_of (Some (seen.Finish worker name id)) = Finish worker
+event_of (Some (seen.Cancel name answer)) = Cancel name
+event_of (Some (seen.Send name code)) = Send name
+event_of (Some (seen.Tick ms)) = Tick ms
+event_of other = Loop
+
+abbrev pub events_of : List (Option Seen) → List Event
+events_of lines = map event_of lines
 
 module _ {P : Type 0} where
   -- there is memory for one step more
   pub record HasRoom (steps : Steps P) : Type 0 where
-    pub events : vec_len steps.events < vec_capacity steps.events
     pub seen : vec_len steps.seen < vec_capacity steps.seen
     pub records : vec_len steps.records < vec_capacity steps.records
 
   -- the same steps
   pub record AreSame (old new : Steps P) : Type 0 where
-    pub events : new.events.items ≡ old.events.items
     pub seen : new.seen.items ≡ old.seen.items
     pub records : new.records.items ≡ old.records.items
 
   -- one step more
-  pub record IsOneMore (old new : Steps P) (event : Event) (line : Option Seen) (step_record : Record P) : Type 0 where
-    pub events : new.events.items ≡ old.events.items ++ event ∷ []
+  pub record IsOneMore (old new : Steps P) (line : Option Seen) (step_record : Record P) : Type 0 where
     pub seen : new.seen.items ≡ old.seen.items ++ line ∷ []
     pub records : new.records.items ≡ old.records.items ++ step_record ∷ []

@@ -29,8 +29,8 @@ use uv_work::WorkResult;
 /// The latest time that the clock may show, in ms.
 const LATEST: u64 = 1 << 62;
 
-// A record of a step has at most 32 words.
-const _: () = prove!(std::mem::size_of::<Record<Place>>() <= 256);
+// A record of a step has at most 31 words.
+const _: () = prove!(std::mem::size_of::<Record<Place>>() <= 248);
 
 /// What the clock shows so many ms later; none past its limit.
 fn later(clock: u64, ms: u64) -> Option<u64>
@@ -76,16 +76,17 @@ pub struct ArenaLoop {
 impl Model for ArenaLoop {
     ghost use Rattle.uv_step.specs.Image.{held};
     ghost use Rattle.uv_loop.specs.Course.{Course, IsCourse};
+    ghost use Rattle.uv_loop.specs.Taken.{events_of};
 
     ghost Value = { Course };
 
     ghost view = { λ a. record {
       program = a.script;
-      standing = a.steps.events.items;
+      standing = events_of a.steps.seen.items;
       walk = record { image = (held a.memory).image; records = a.steps.records.items };
     } };
 
-    ghost invariant = { λ a. IsCourse a.script a.steps.events.items a.steps.seen.items a.steps.records.items (held a.memory) };
+    ghost invariant = { λ a. IsCourse a.script (events_of a.steps.seen.items) a.steps.seen.items a.steps.records.items (held a.memory) };
 }
 
 impl ArenaLoop {
@@ -130,7 +131,7 @@ impl ArenaLoop {
         ensures answer { Answers STEPS self.old.program self.old.standing Loop result self.new.standing }
         ensures records { Adds result self.old self.new }
     {
-        if self.steps.events.len() >= STEPS {
+        if self.steps.seen.len() >= STEPS {
             return Err(Fault::StepsFull);
         }
         match loop_refusal(&self.memory, &self.script) {
@@ -143,7 +144,7 @@ impl ArenaLoop {
         match turn(&mut self.memory, &self.script) {
             Err(why) => Err(Fault::Refused(why)),
             Ok((seen, step_record)) => {
-                self.steps.push(Event::Loop, seen, step_record);
+                self.steps.push(seen, step_record);
                 Ok(Outcome { seen })
             }
         }
@@ -155,7 +156,7 @@ impl ArenaLoop {
         ensures answer { Answers STEPS self.old.program self.old.standing (Tick ms) result self.new.standing }
         ensures records { Adds result self.old self.new }
     {
-        if self.steps.events.len() >= STEPS {
+        if self.steps.seen.len() >= STEPS {
             return Err(Fault::StepsFull);
         }
         match later(self.memory.clock, ms) {
@@ -167,7 +168,7 @@ impl ArenaLoop {
         }
         let step_record = self.memory.tick(ms);
         let seen = Some(Seen::Tick(ms));
-        self.steps.push(Event::Tick(ms), seen, step_record);
+        self.steps.push(seen, step_record);
         Ok(Outcome { seen })
     }
 
@@ -177,7 +178,7 @@ impl ArenaLoop {
         ensures answer { Answers STEPS self.old.program self.old.standing (Send name) result self.new.standing }
         ensures records { Adds result self.old self.new }
     {
-        if self.steps.events.len() >= STEPS {
+        if self.steps.seen.len() >= STEPS {
             return Err(Fault::StepsFull);
         }
         if name.0 as usize >= self.memory.names.len() {
@@ -188,7 +189,7 @@ impl ArenaLoop {
         }
         let (code, step_record) = send_to(&mut self.memory, name);
         let seen = Some(Seen::Send(name, code));
-        self.steps.push(Event::Send(name), seen, step_record);
+        self.steps.push(seen, step_record);
         Ok(Outcome { seen })
     }
 
@@ -198,7 +199,7 @@ impl ArenaLoop {
         ensures answer { Answers STEPS self.old.program self.old.standing (Take worker) result self.new.standing }
         ensures records { Adds result self.old self.new }
     {
-        if self.steps.events.len() >= STEPS {
+        if self.steps.seen.len() >= STEPS {
             return Err(Fault::StepsFull);
         }
         let (id, request) = match self.memory.requests.next_work(&self.memory.slots, worker) {
@@ -210,7 +211,7 @@ impl ArenaLoop {
         }
         let (line, step_record) = take_work(&mut self.memory, worker, id, request);
         let seen = Some(line);
-        self.steps.push(Event::Take(worker), seen, step_record);
+        self.steps.push(seen, step_record);
         Ok(Outcome { seen })
     }
 
@@ -220,7 +221,7 @@ impl ArenaLoop {
         ensures answer { Answers STEPS self.old.program self.old.standing (Finish worker) result self.new.standing }
         ensures records { Adds result self.old self.new }
     {
-        if self.steps.events.len() >= STEPS {
+        if self.steps.seen.len() >= STEPS {
             return Err(Fault::StepsFull);
         }
         let (id, request) = match self.memory.requests.work_of(&self.memory.slots, worker) {
@@ -236,7 +237,7 @@ impl ArenaLoop {
         ensures answer { AnswersResult STEPS self.old.program self.old.standing worker work.job result self.new.standing }
         ensures records { Adds result self.old self.new }
     {
-        if self.steps.events.len() >= STEPS {
+        if self.steps.seen.len() >= STEPS {
             return Err(Fault::StepsFull);
         }
         let (id, request) = match self.memory.requests.work_of(&self.memory.slots, worker) {
@@ -251,7 +252,7 @@ impl ArenaLoop {
         }
         let (line, step_record) = finish_work(&mut self.memory, worker, id, request, work);
         let seen = Some(line);
-        self.steps.push(Event::Finish(worker), seen, step_record);
+        self.steps.push(seen, step_record);
         Ok(Outcome { seen })
     }
 
@@ -261,7 +262,7 @@ impl ArenaLoop {
         ensures answer { Answers STEPS self.old.program self.old.standing (Cancel name) result self.new.standing }
         ensures records { Adds result self.old self.new }
     {
-        if self.steps.events.len() >= STEPS {
+        if self.steps.seen.len() >= STEPS {
             return Err(Fault::StepsFull);
         }
         if name.0 as usize >= self.memory.names.len() {
@@ -272,7 +273,7 @@ impl ArenaLoop {
         }
         let (answer, step_record) = cancel_named(&mut self.memory, name);
         let seen = Some(Seen::Cancel(name, answer));
-        self.steps.push(Event::Cancel(name), seen, step_record);
+        self.steps.push(seen, step_record);
         Ok(Outcome { seen })
     }
 
@@ -297,14 +298,15 @@ impl ArenaLoop {
         ensures last { self.now.walk.image.arena.last ≡ (arena_size self.now.program).last_generation }
         ensures begins { unwound self.now.walk.records self.now.walk.image ≡ first_image self.now.program }
     {
-        let _ = self.steps.events.len();
+        let _ = self.steps.seen.len();
     }
 
     /// The number of standing steps.
+    #[tactic(auto, using(uv_model::proofs::Runs::runs))]
     pub fn len(&self) -> usize
         ensures { result ≡ length self.now.standing }
     {
-        self.steps.events.len()
+        self.steps.seen.len()
     }
 
     /// What a standing step appended, the first being 1.

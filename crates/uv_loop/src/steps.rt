@@ -3,25 +3,22 @@ ghost use Rattle.std.specs.Prelude.{◌≡◌, ◌++◌, ◌∷◌, [], OnOk, If
 ghost use Rattle.uv_loop.specs.Taken.{HasRoom, AreSame, IsOneMore};
 
 use std::alloc::{AllocError, Global};
-use uv_ids::{Event, Seen};
+use uv_ids::Seen;
 use uv_step::Record;
 
-/// The steps that stand: the event of each, what it appended to the trace, and what takes it back.
+/// The steps that stand: what each appended to the trace, which tells its event, and what takes it back.
 #[derive(Drop)]
 pub(crate) struct Steps<P: Copy> {
-    pub(crate) events: Vec<Event>,
     pub(crate) seen: Vec<Option<Seen>>,
     pub(crate) records: Vec<Record<P>>,
 }
 
 impl<P: Copy> Steps<P> {
     pub(crate) fn new(alloc: Global) -> Steps<P>
-        ensures events { result.events.items ≡ [] }
         ensures seen { result.seen.items ≡ [] }
         ensures records { result.records.items ≡ [] }
     {
         Steps {
-            events: Vec::new(alloc),
             seen: Vec::new(alloc),
             records: Vec::new(alloc),
         }
@@ -32,21 +29,17 @@ impl<P: Copy> Steps<P> {
         ensures same { AreSame self.old self.new }
         ensures ok { OnOk result (HasRoom self.new) }
     {
-        if self.events.reserve(1).is_err()
-            || self.seen.reserve(1).is_err()
-            || self.records.reserve(1).is_err()
-        {
+        if self.seen.reserve(1).is_err() || self.records.reserve(1).is_err() {
             return Err(AllocError);
         }
         Ok(())
     }
 
     /// One more. It takes no memory.
-    pub(crate) fn push(&mut self, event: Event, line: Option<Seen>, step_record: Record<P>)
+    pub(crate) fn push(&mut self, line: Option<Seen>, step_record: Record<P>)
         requires { HasRoom self.old }
-        ensures { IsOneMore self.old self.new event line step_record }
+        ensures { IsOneMore self.old self.new line step_record }
     {
-        self.events.push_reserved(event);
         self.seen.push_reserved(line);
         self.records.push_reserved(step_record);
     }
@@ -54,13 +47,11 @@ impl<P: Copy> Steps<P> {
     /// The last one goes: what takes it back.
     pub(crate) fn pop(&mut self) -> Option<Record<P>>
         ensures some { IfSome result (λ r. self.old.records.items ≡ self.new.records.items ++ r ∷ []) }
-        ensures events { IfSome result (λ r. self.new.events.items ≡ take (length self.new.records.items) self.old.events.items) }
         ensures seen { IfSome result (λ r. self.new.seen.items ≡ take (length self.new.records.items) self.old.seen.items) }
         ensures none { IfNone result ((self.old.records.items ≡ []) × AreSame self.old self.new) }
     {
         let step_record = self.records.pop()?;
         let shorter = self.records.len();
-        self.events.truncate(shorter);
         self.seen.truncate(shorter);
         Some(step_record)
     }

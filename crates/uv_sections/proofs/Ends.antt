@@ -24,10 +24,9 @@ use Rattle.uv_order.specs.Active.{IsTimer, has_id}
 use Rattle.uv_order.specs.Reached.{IsReached}
 use Rattle.uv_step.specs.declared.content.Content.{Content}
 use Rattle.uv_step.specs.declared.content.Content.TheVariants.{Handle}
-use Rattle.uv_step.specs.declared.record.Change.TheVariants as change
 use Rattle.uv_step.specs.declared.record.Record.{Record}
 use Rattle.uv_step.specs.Content.{handle_in, request_in}
-use Rattle.uv_step.specs.Does.{FirstIs}
+use Rattle.uv_step.specs.Does.{FirstIs, closed_by, ended_by}
 use Rattle.uv_step.specs.Image.{Image, Held, counted_of, working_of}
 use Rattle.uv_step.specs.Undo.{Recorded}
 use Rattle.uv_stands.specs.Stands.{StandsFor}
@@ -60,7 +59,7 @@ module _ (r : Record Place) (h k : Held Place) (last : ℕ) (so : h.image.arena.
 
   -- ---- a request
 
-  module _ (q : Request) (u : CollectUndo Content) (is : r.change ≡ change.Ended u)
+  module _ (q : Request) (u : CollectUndo Content) (is : r.change ≡ ended_by u)
       (c : IsCollected request_in (working_of i) (working_of j) d q u) where
     off_done : (l : ListName) → arena.members j.arena l ≡ without eqb (arena.members i.arena l) d.slot
     off_done l = elim (list_is l name.DoneYet) [
@@ -94,7 +93,7 @@ module _ (r : Record Place) (h k : Held Place) (last : ℕ) (so : h.image.arena.
   -- ---- a handle
 
   module _ (e : Id) (q : HandleRecord) (f : FirstIs i.arena name.ClosingYet e q) (v : Content) (u : TakeUndo Content)
-      (is : r.change ≡ change.Closed u) (c : IsTaken handle_in Handle (counted_of i) (counted_of j) d v u) where
+      (is : r.change ≡ closed_by u) (c : IsTaken handle_in Handle (counted_of i) (counted_of j) d v u) where
     one : d ≡ e
     one = first_one i.arena name.ClosingYet e d f.first c.first
 

@@ -26,6 +26,7 @@ use Rattle.uv_step.specs.declared.record.Change.{Change}
 use Rattle.uv_step.specs.declared.record.Change.TheVariants as change
 use Rattle.uv_step.specs.declared.record.Polled.{Polled}
 use Rattle.uv_step.specs.declared.record.Record.{Record}
+use Rattle.uv_step.specs.Does.{closed_by, ended_by}
 use Rattle.uv_step.specs.Fit.{IsFit}
 use Rattle.uv_step.specs.Image.{Image, Held}
 use Rattle.uv_step.specs.Parts.{Stood, TakenOff, PutOn, unwind_parts, woken_parts}
@@ -90,17 +91,17 @@ pub polled_keeps : (u : Polled) → Keeps (change.Polled u)
 polled_keeps u r h k recorded is = values_kept h.image k.image (change_back r (change.Polled u) h k recorded is) recorded.place
 
 -- a request or a closing handle is freed
-pub ended_keeps : (u : CollectUndo Content) → Keeps (change.Ended u)
-ended_keeps u r h k recorded is = values_kept h.image k.image (change_back r (change.Ended u) h k recorded is) recorded.place
+pub ended_keeps : (u : CollectUndo Content) → Keeps (ended_by u)
+ended_keeps u r h k recorded is = values_kept h.image k.image (change_back r (ended_by u) h k recorded is) recorded.place
 
-pub ended_time : (u : CollectUndo Content) → KeepsTime (change.Ended u)
-ended_time u r h k recorded is = ap (λ (q : Image Place). q.times.time) (change_back r (change.Ended u) h k recorded is)
+pub ended_time : (u : CollectUndo Content) → KeepsTime (ended_by u)
+ended_time u r h k recorded is = ap (λ (q : Image Place). q.times.time) (change_back r (ended_by u) h k recorded is)
 
-pub closed_keeps : (u : TakeUndo Content) → Keeps (change.Closed u)
-closed_keeps u r h k recorded is = values_kept h.image k.image (change_back r (change.Closed u) h k recorded is) recorded.place
+pub closed_keeps : (u : TakeUndo Content) → Keeps (closed_by u)
+closed_keeps u r h k recorded is = values_kept h.image k.image (change_back r (closed_by u) h k recorded is) recorded.place
 
-pub closed_time : (u : TakeUndo Content) → KeepsTime (change.Closed u)
-closed_time u r h k recorded is = ap (λ (q : Image Place). q.times.time) (change_back r (change.Closed u) h k recorded is)
+pub closed_time : (u : TakeUndo Content) → KeepsTime (closed_by u)
+closed_time u r h k recorded is = ap (λ (q : Image Place). q.times.time) (change_back r (closed_by u) h k recorded is)
 
 -- a handle moves on in its section, and is woken or not
 woken_or : (place : Place) (t : link.Place) (x : ℕ) (w : Option RecordUndo) (j : Image Place) → (a : arena.Image Content) × (active : ℕ)

@@ -98,16 +98,16 @@ change_quiet (change.Edited u) = (tt, (tt, tt))
 change_quiet (change.Enlisted u) = (tt, (tt, (tt, tt)))
 change_quiet (change.Delisted u) = off_list_quiet u
 change_quiet (change.Timer u) = timer_quiet u
-change_quiet (change.Moved u) = both (timer_parts u.timer) (part.PutOn u.pushed.slot ∷ []) (timer_quiet u.timer) (tt, tt)
+change_quiet (change.Moved put t) = both (timer_parts t) (part.PutOn put.slot ∷ []) (timer_quiet t) (tt, tt)
 change_quiet (change.Begun u) = (tt, tt)
 change_quiet (change.Polled u) = (tt, (tt, tt))
 change_quiet (change.Walked u) = (tt, (tt, woken_quiet u.woken))
-change_quiet (change.Closed u) = (tt, (tt, (tt, tt)))
+change_quiet (change.Closed t n u) = (tt, (tt, (tt, tt)))
 change_quiet (change.Queued u) = (tt, (tt, (tt, tt)))
 change_quiet (change.Taken u) = (tt, (tt, tt))
 change_quiet (change.Finished u) = (tt, (tt, (tt, tt)))
 change_quiet (change.Cancelled u) = (tt, (tt, (tt, tt)))
-change_quiet (change.Ended u) = (tt, (tt, (tt, tt)))
+change_quiet (change.Ended t n u) = (tt, (tt, (tt, tt)))
 
 pub names_stay : {r : Record Place} {h k : Held Place} → Recorded r h k → k.image.names ≡ h.image.names
 names_stay {r} {h} {k} recorded =

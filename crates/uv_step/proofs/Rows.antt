@@ -32,7 +32,7 @@ use Rattle.uv_step.specs.Image.{Image, counted_of, timed_of, with_counted, with_
 use Rattle.uv_step.specs.Parts.{Part, Stood, Bound, TakenOff, PutOn, undo, unwind_parts, unwind, was_bound, edit_parts, woken_parts, off_parts, put_parts, removed_parts, set_parts, timer_parts, change_parts, naming_parts}
 use Rattle.uv_step.specs.Undo.{CanRename, CanUndo, CanUnwind, Recorded, Extended, off_if}
 use Rattle.uv_step.specs.Fit.{IsFit}
-use Rattle.uv_step.specs.Does.{changed}
+use Rattle.uv_step.specs.Does.{changed, moved_by}
 
 names_back : (ns : List Named) (v : ℕ) (a b : Named) → b ≡ named ns v → set (set ns v a) v b ≡ ns
 names_back [] v a b e = refl
@@ -98,7 +98,7 @@ module _ {P : Type 0} where
   timer_back u i = timer_cases u.removed u.delisted.unlinked u.delisted.changed u.set i
 
   pub moved_back : (u : CollectUndo) (i : Image P)
-      → unwind_parts (change_parts (change.Moved u)) i ≡ with_timed (collect_undone handle_in Handle u (timed_of i)) i
+      → unwind_parts (change_parts (moved_by u)) i ≡ with_timed (collect_undone handle_in Handle u (timed_of i)) i
   moved_back u i = let put : List (Part P) = PutOn u.pushed.slot ∷ [] in unwind_append (timer_parts u.timer) put i
       ∙ timer_back u.timer (unwind_parts put i)
 

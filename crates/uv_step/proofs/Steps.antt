@@ -53,7 +53,7 @@ use Rattle.uv_step.specs.Content.{handle_in, request_in}
 use Rattle.uv_step.specs.Image.{Image, Held, counted_of, timed_of, with_counted, with_timed, with_working}
 use Rattle.uv_step.specs.Undo.{Recorded}
 use Rattle.uv_step.specs.Fit.{IsFit}
-use Rattle.uv_step.specs.Does.{changed, FirstIs}
+use Rattle.uv_step.specs.Does.{changed, moved_by, closed_by, ended_by, FirstIs}
 use Rattle.uv_step.proofs.Rows.{recorded, delist_back, timer_back, moved_back, walk_back}
 use Rattle.uv_step.proofs.Alone.{OfRequests}
 use Rattle.uv_step.proofs.Counting.{count_moved, count_pushed, count_unlinked, count_reopened, count_queued, count_freed}
@@ -189,23 +189,23 @@ module _ {P : Type 0} where
 
   pub collected : (i : Image P) (k : arena.Image Content) (m room : ℕ) (h : Heap) (t : Times) (r : Record P) (d : Id) (u : CollectUndo)
       → IsFit i → h.room ≡ room → IsCollected handle_in Handle h.room (timed_of i) (timed k m h t) d u
-      → r ≡ changed i.place (change.Moved u)
+      → r ≡ changed i.place (moved_by u)
       → Recorded r (at i room) (at (record i { arena = k; active = m; heap = h.array; times = t }) h.room)
   collected i k m room h t r d u fit same s is =
       let j = record i { arena = k; active = m; heap = h.array; times = t } in
-      recorded (change.Moved u) r i j room h.room same is (moved_back u j ∙ ap (λ q. with_timed q j) s.undone) s.can_undo fit
+      recorded (moved_by u) r i j room h.room same is (moved_back u j ∙ ap (λ q. with_timed q j) s.undone) s.can_undo fit
       (record { counts = s.counts; work = work_collected h.room (timed_of i) (timed k m h t) i.running d u fit.work s }) refl
 
   -- a handle is off its list and the heap, and at the front of the closing list
   pub shut : (i : Image P) (k l : arena.Image Content) (m room : ℕ) (h : Heap) (t : Times) (r : Record P) (d : Id) (c : timer.Change)
       (now : List ℕ) (u : CollectUndo)
       → IsFit i → h.room ≡ room → IsRescheduled handle_in Handle h.room (timed_of i) (timed k m h t) d c u.timer → IsPushed k l name.Closing d now
-      → u.pushed.slot ≡ d.slot → r ≡ changed i.place (change.Moved u)
+      → u.pushed.slot ≡ d.slot → r ≡ changed i.place (moved_by u)
       → Recorded r (at i room) (at (record i { arena = l; active = m; heap = h.array; times = t }) h.room)
   shut i k l m room h t r d c now u fit same s p slot is =
       let j = record i { arena = l; active = m; heap = h.array; times = t } in
       let off : push_undone u.pushed.slot l ≡ k = ap (λ x. push_undone x l) slot ∙ p.undone in
-      recorded (change.Moved u) r i j room h.room same is
+      recorded (moved_by u) r i j room h.room same is
       (moved_back u j ∙ ap (λ q. with_timed (timer_undone handle_in Handle u.timer (timed q m h t)) j) off ∙ ap (λ q. with_timed q j) s.undone)
       (record {
         pushed = subst (λ x. CanUndoPush l x) (sym slot) p.can_undo;
@@ -235,11 +235,11 @@ module _ {P : Type 0} where
 
   pub freed : (i : Image P) (k : arena.Image Content) (m room : ℕ) (r : Record P) (d e : Id) (h : HandleRecord) (v : Content) (u : TakeUndo Content)
       → IsFit i → FirstIs i.arena name.ClosingYet e h → IsTaken handle_in Handle (counted i.arena i.active) (counted k m) d v u
-      → r ≡ changed i.place (change.Closed u) → Recorded r (at i room) (at (record i { arena = k; active = m }) room)
+      → r ≡ changed i.place (closed_by u) → Recorded r (at i room) (at (record i { arena = k; active = m }) room)
   freed i k m room r d e h v u fit f c is =
       let j = record i { arena = k; active = m } in
       let there = first_there i.arena name.ClosingYet d e h f c.first in
-      recorded (change.Closed u) r i j room room refl is (ap (λ q. with_counted q j) c.undone) c.can_undo fit
+      recorded (closed_by u) r i j room room refl is (ap (λ q. with_counted q j) c.undone) c.can_undo fit
       (record { counts = c.counts; work = work_freed (counted_of i) (counted k m) i.running d h v u fit.work there c }) refl
 
   -- slots move from one list to another
@@ -314,11 +314,11 @@ module _ {P : Type 0} where
 
   pub ended : (i : Image P) (k : arena.Image Content) (q : Running) (room : ℕ) (r : Record P) (d : Id) (asked : Request)
       (u : collecting.CollectUndo Content) → IsFit i
-      → requests.IsCollected request_in (working i.arena i.running) (working k q) d asked u → r ≡ changed i.place (change.Ended u)
+      → requests.IsCollected request_in (working i.arena i.running) (working k q) d asked u → r ≡ changed i.place (ended_by u)
       → Recorded r (at i room) (at (record i { arena = k; running = q }) room)
   ended i k q room r d asked u fit c is =
       let j = record i { arena = k; running = q } in
-      recorded (change.Ended u) r i j room room refl is (ap (λ z. with_working z j) c.undone) c.can_undo fit
+      recorded (ended_by u) r i j room room refl is (ap (λ z. with_working z j) c.undone) c.can_undo fit
       (record { counts = fit.counts ∙ sym (count_freed i.arena k d asked c.was c.plain); work = c.work }) refl
 
   pub begun_done : (i : Image P) (k : arena.Image Content) (room : ℕ) (r : Record P) (u : SpliceUndo) → IsFit i

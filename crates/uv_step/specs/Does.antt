@@ -13,7 +13,9 @@ use Rattle.uv_arena.specs.Image as arena
 use Rattle.uv_arena.specs.Calls.{IsPushed, IsFirst}
 use Rattle.uv_handle.specs.Counted.{Counted, record_at}
 use Rattle.uv_handle.specs.Changes.{IsAdded}
+use Rattle.uv_handle.specs.declared.undo.TakeUndo.{TakeUndo}
 use Rattle.uv_timer.specs.declared.undo.CollectUndo.{CollectUndo}
+use Rattle.uv_requests.specs.declared.undo.CollectUndo as collecting
 use Rattle.uv_timer.specs.Changes.{becoming}
 use Rattle.uv_timer.specs.Timed.{Timed, with_arena}
 use Rattle.uv_timer.specs.Timers.{IsRescheduled}
@@ -30,6 +32,16 @@ use Rattle.uv_step.specs.Content.{handle_in}
 -- the record of a change alone
 abbrev pub changed : {P : Type 0} → P → Change → Record P
 changed place c = record { place = place; naming = unnamed; change = c }
+
+-- the changes whose tokens lie in parts
+abbrev pub moved_by : CollectUndo → Change
+moved_by u = change.Moved u.pushed u.timer
+
+abbrev pub closed_by : TakeUndo Content → Change
+closed_by u = change.Closed u.unlinked u.active u.removed
+
+abbrev pub ended_by : collecting.CollectUndo Content → Change
+ended_by u = change.Ended u.unlinked u.count u.removed
 
 -- a change of this kind, of whose token this holds
 pub record By {U : Type 0} (kind : U → Change) (F : U → Type 0) (c : Change) : Type 0 where

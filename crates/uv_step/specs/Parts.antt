@@ -138,16 +138,16 @@ module _ {P : Type 0} where
   change_parts (change.Enlisted u) = edit_parts u.changed ++ PutOn u.pushed.slot ∷ []
   change_parts (change.Delisted u) = off_list_parts u
   change_parts (change.Timer u) = timer_parts u
-  change_parts (change.Moved u) = timer_parts u.timer ++ PutOn u.pushed.slot ∷ []
+  change_parts (change.Moved put t) = timer_parts t ++ PutOn put.slot ∷ []
   change_parts (change.Begun u) = Moved u ∷ []
   change_parts (change.Polled u) = Time u.time ∷ Moved u.spliced ∷ []
   change_parts (change.Walked u) = TakenOff u.unlinked ∷ PutOn u.pushed.slot ∷ woken_parts u.woken
-  change_parts (change.Closed u) = TakenOff u.unlinked ∷ Freed u.removed ∷ Active u.active ∷ []
+  change_parts (change.Closed t n u) = TakenOff t ∷ Freed u ∷ Active n ∷ []
   change_parts (change.Queued u) = Taken u.inserted ∷ PutOn u.inserted.slot ∷ Open u.count ∷ []
   change_parts (change.Taken u) = TakenOff u.unlinked ∷ Ran u.worker None ∷ []
   change_parts (change.Finished u) = WasOpen u.id ∷ PutOn u.id.slot ∷ Ran u.worker (Some u.id) ∷ []
   change_parts (change.Cancelled u) = TakenOff u.unlinked ∷ WasOpen u.id ∷ PutOn u.id.slot ∷ []
-  change_parts (change.Ended u) = TakenOff u.unlinked ∷ Freed u.removed ∷ Open u.count ∷ []
+  change_parts (change.Ended t n u) = TakenOff t ∷ Freed u ∷ Open n ∷ []
 
   abbrev pub naming_parts : Naming → List (Part P)
   naming_parts naming.Same = []

@@ -43,16 +43,16 @@ module _ {P : Type 0} where
   CanUndo room (change.Enlisted u) i = CanUndoEnlist handle_in Handle (counted_of i) u
   CanUndo room (change.Delisted u) i = CanUndoDelist handle_in Handle (counted_of i) u
   CanUndo room (change.Timer u) i = CanUndoTimer handle_in Handle room (timed_of i) u
-  CanUndo room (change.Moved u) i = CanUndoCollect handle_in Handle room (timed_of i) u
+  CanUndo room (change.Moved put t) i = CanUndoCollect handle_in Handle room (timed_of i) (record { timer = t; pushed = put })
   CanUndo room (change.Begun u) i = CanUndoSplice i.arena u
   CanUndo room (change.Polled u) i = CanUndoSplice i.arena u.spliced
   CanUndo room (change.Walked u) i = CanUndoWalk handle_in Handle (counted_of i) u
-  CanUndo room (change.Closed u) i = CanUndoTake handle_in (counted_of i) u
+  CanUndo room (change.Closed t n u) i = CanUndoTake handle_in (counted_of i) (record { unlinked = t; removed = u; active = n })
   CanUndo room (change.Queued u) i = work.CanUndoQueue request_in (working_of i) u
   CanUndo room (change.Taken u) i = work.CanUndoTake request_in (working_of i) u
   CanUndo room (change.Finished u) i = work.CanUndoFinish request_in Asked (working_of i) u
   CanUndo room (change.Cancelled u) i = work.CanUndoCancel request_in Asked (working_of i) u
-  CanUndo room (change.Ended u) i = work.CanUndoCollect request_in (working_of i) u
+  CanUndo room (change.Ended t n u) i = work.CanUndoCollect request_in (working_of i) (record { unlinked = t; removed = u; count = n })
 
   -- the name is one of the loop's
   abbrev pub CanRename : Naming → Image P → Type 0

@@ -7,12 +7,12 @@ ghost use Rattle.uv_arena.specs.Image.{plain_slots};
 ghost use Rattle.uv_handle.specs.Counted.{found, record_at};
 ghost use Rattle.uv_handle.specs.Changes.{Did};
 ghost use Rattle.uv_step.specs.declared.content.Content.TheVariants.{Handle as handle};
-ghost use Rattle.uv_step.specs.declared.record.Change.TheVariants.{Added as added, Edited as edited, Moved as moved};
+ghost use Rattle.uv_step.specs.declared.record.Change.TheVariants.{Added as added, Edited as edited};
 ghost use Rattle.uv_step.specs.Content.{handle_in};
 ghost use Rattle.uv_step.specs.Image.{held, counted_of, timed_of};
 ghost use Rattle.uv_step.specs.Fit.{IsFit};
 ghost use Rattle.uv_step.specs.Undo.{Recorded};
-ghost use Rattle.uv_step.specs.Does.{By, IsMade, IsShut, changed};
+ghost use Rattle.uv_step.specs.Does.{By, IsMade, IsShut, changed, moved_by};
 
 use crate::memory::Memory;
 use crate::record::{Added, Change, Record};
@@ -20,7 +20,7 @@ use uv_arena::Full;
 use uv_handle::handle_at;
 use uv_ids::{Code, Id, Kind, Var};
 use uv_records::{HandleRecord, ListName};
-use uv_timer::{CollectUndo, reschedule, set_repeat};
+use uv_timer::{reschedule, set_repeat};
 use uv_watch::send;
 
 impl<P: Copy> Memory<P> {
@@ -106,7 +106,7 @@ impl<P: Copy> Memory<P> {
     pub fn close(&mut self, id: Id) -> Result<Record<P>, Code>
         requires fit { IsFit (held self.old).image }
         ensures recorded { IfOk result (λ r. Recorded r (held self.old) (held self.new)) }
-        ensures does { IfOk result (λ r. By moved (λ u. IsShut (held self.new).room
+        ensures does { IfOk result (λ r. By moved_by (λ u. IsShut (held self.new).room
             (timed_of (held self.old).image) (timed_of (held self.new).image) id u) r.change) }
         ensures err { IfErr result (λ code. (refusal close_refusal (found handle_in (held self.old).image.arena id) ≡ Some code)
             × (held self.new ≡ held self.old)) }
@@ -125,7 +125,7 @@ impl<P: Copy> Memory<P> {
         requires found { record_at handle_in (held self.old).image.arena id ≡ Some before }
         requires allowed { close_refusal before ≡ None }
         ensures recorded { Recorded result (held self.old) (held self.new) }
-        ensures does { By moved (λ u. IsShut (held self.new).room
+        ensures does { By moved_by (λ u. IsShut (held self.new).room
             (timed_of (held self.old).image) (timed_of (held self.new).image) id u) result.change }
     {
         let timer = reschedule(
@@ -142,6 +142,6 @@ impl<P: Copy> Memory<P> {
             },
         );
         let pushed = self.slots.push_front(ListName::Closing, id);
-        self.record(Change::Moved(CollectUndo { timer, pushed }))
+        self.record(Change::Moved(pushed, timer))
     }
 }

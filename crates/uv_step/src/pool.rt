@@ -8,12 +8,12 @@ ghost use Rattle.uv_work.specs.Pool.{waits};
 ghost use Rattle.uv_requests.specs.Working.{found, pool_of};
 ghost use Rattle.uv_requests.specs.Calls.{IsQueued, IsTaken, IsFinished, IsCancelled, IsBegun, IsCollected, RefusesTake, RefusesFinish};
 ghost use Rattle.uv_step.specs.declared.content.Content.TheVariants.{Request as asked};
-ghost use Rattle.uv_step.specs.declared.record.Change.TheVariants.{Queued as queued, Taken as taken, Finished as finished, Cancelled as cancelled, Begun as begun, Polled as polled, Ended as ended};
+ghost use Rattle.uv_step.specs.declared.record.Change.TheVariants.{Queued as queued, Taken as taken, Finished as finished, Cancelled as cancelled, Begun as begun, Polled as polled};
 ghost use Rattle.uv_step.specs.Content.{request_in};
 ghost use Rattle.uv_step.specs.Image.{held, working_of};
 ghost use Rattle.uv_step.specs.Fit.{IsFit};
 ghost use Rattle.uv_step.specs.Undo.{Recorded};
-ghost use Rattle.uv_step.specs.Does.{By};
+ghost use Rattle.uv_step.specs.Does.{By, ended_by};
 
 use crate::memory::Memory;
 use crate::record::{Change, Polled, Record};
@@ -113,14 +113,16 @@ impl<P: Copy> Memory<P> {
     pub fn end_request(&mut self) -> Option<(Id, RequestRecord, Record<P>)>
         requires fit { IsFit (held self.old).image }
         ensures recorded { IfSome result (λ r. Recorded r.2 (held self.old) (held self.new)) }
-        ensures does { IfSome result (λ r. By ended (λ u. IsCollected request_in
+        ensures does { IfSome result (λ r. By ended_by (λ u. IsCollected request_in
             (working_of (held self.old).image) (working_of (held self.new).image) r.0 r.1 u) r.2.change) }
         ensures none { IfNone result ((members (held self.old).image.arena DoneYet ≡ []) × (held self.new ≡ held self.old)) }
     {
         match self.requests.collect(&mut self.slots) {
             None => None,
             Some(ended) => {
-                let step_record = self.record(Change::Ended(ended.2));
+                let undo = ended.2;
+                let change = Change::Ended(undo.unlinked, undo.count, undo.removed);
+                let step_record = self.record(change);
                 Some((ended.0, ended.1, step_record))
             }
         }

@@ -3,11 +3,11 @@ ghost use Rattle.std.specs.Prelude.{◌≡◌};
 ghost use Rattle.uv_step.specs.Parts.{was_bound};
 
 use crate::content::Content;
-use uv_arena::SpliceUndo;
+use uv_arena::{Place, PushUndo, RemoveUndo, SpliceUndo};
 use uv_handle::{AddUndo, DelistUndo, ListUndo, RecordUndo};
 use uv_ids::{Callback, Id, Var};
 use uv_requests::{CancelUndo, FinishUndo, QueueUndo};
-use uv_timer::{CollectUndo, TimerUndo};
+use uv_timer::TimerUndo;
 use uv_watch::WalkUndo;
 
 /// A new handle: its slot and the count from before, and whether it was put on a list.
@@ -49,7 +49,8 @@ impl Naming {
     }
 }
 
-/// What takes a change back that a step did to the rest of the memory, by the kind of change.
+/// What takes a change back that a step did to the rest of the memory, by the kind of change. The largest kinds have their parts in
+/// the variant, the small ones first: as a struct each would take a word more.
 #[derive(Clone, Copy)]
 pub enum Change {
     /// Nothing was changed.
@@ -73,15 +74,15 @@ pub enum Change {
     /// A timer was started, stopped or called.
     Timer(TimerUndo),
     /// A handle was taken off its list and the heap, and put on another list.
-    Moved(CollectUndo),
+    Moved(PushUndo, TimerUndo),
     /// A section began.
     Begun(SpliceUndo),
     /// A section began at the end of a poll.
     Polled(Polled),
     /// A watcher was called.
     Walked(WalkUndo),
-    /// A closing handle was freed.
-    Closed(uv_handle::TakeUndo<Content>),
+    /// A closing handle was freed: where it stood on its list, and how many handles were active and referenced.
+    Closed(Place, u32, RemoveUndo<Content>),
     /// A request was queued.
     Queued(QueueUndo),
     /// A worker took a request.
@@ -90,8 +91,8 @@ pub enum Change {
     Finished(FinishUndo),
     /// A request was cancelled.
     Cancelled(CancelUndo),
-    /// A request that was done was freed.
-    Ended(uv_requests::CollectUndo<Content>),
+    /// A request that was done was freed: where it stood on its list, and how many requests were open.
+    Ended(Place, u32, RemoveUndo<Content>),
 }
 
 /// What takes one step back: where the loop stood, what became of a name, and the change of the rest.
@@ -102,5 +103,5 @@ pub struct Record<P: Copy> {
     pub change: Change,
 }
 
-// A record has at most 32 words where a place has at most 10.
-const _: () = prove!(std::mem::size_of::<Record<[u64; 10]>>() <= 256);
+// A record has at most 31 words where a place has at most 10.
+const _: () = prove!(std::mem::size_of::<Record<[u64; 10]>>() <= 248);

@@ -6,12 +6,12 @@ ghost use Rattle.uv_records.specs.Refusals.{start_timer_refusal, stop_refusal, a
 ghost use Rattle.uv_arena.specs.Calls.{IsFirst};
 ghost use Rattle.uv_timer.specs.Timers.{Refused, IsStarted, IsStopped, IsStartedAgain, IsCollected, IsFired, NoneIsDue, NoneIsReady};
 ghost use Rattle.uv_step.specs.declared.content.Content.TheVariants.{Handle as handle};
-ghost use Rattle.uv_step.specs.declared.record.Change.TheVariants.{Timer as timer, Moved as moved};
+ghost use Rattle.uv_step.specs.declared.record.Change.TheVariants.{Timer as timer};
 ghost use Rattle.uv_step.specs.Content.{handle_in};
 ghost use Rattle.uv_step.specs.Image.{held, timed_of};
 ghost use Rattle.uv_step.specs.Fit.{IsFit};
 ghost use Rattle.uv_step.specs.Undo.{Recorded};
-ghost use Rattle.uv_step.specs.Does.{By};
+ghost use Rattle.uv_step.specs.Does.{By, moved_by};
 
 use crate::memory::Memory;
 use crate::record::{Change, Record};
@@ -91,7 +91,7 @@ impl<P: Copy> Memory<P> {
     pub fn collect_timer(&mut self) -> Option<(Id, Record<P>)>
         requires fit { IsFit (held self.old).image }
         ensures recorded { IfSome result (λ r. Recorded r.1 (held self.old) (held self.new)) }
-        ensures does { IfSome result (λ r. By moved (λ u. IsCollected handle_in handle (held self.new).room
+        ensures does { IfSome result (λ r. By moved_by (λ u. IsCollected handle_in handle (held self.new).room
             (timed_of (held self.old).image) (timed_of (held self.new).image) r.0 u) r.1.change) }
         ensures none { IfNone result (NoneIsDue handle_in (held self.old).image.arena (held self.old).image.heap (held self.old).image.times.time
             × (held self.new ≡ held self.old)) }
@@ -103,7 +103,10 @@ impl<P: Copy> Memory<P> {
             &mut self.times,
         ) {
             None => None,
-            Some((id, undo)) => Some((id, self.record(Change::Moved(undo)))),
+            Some((id, undo)) => {
+                let step_record = self.record(Change::Moved(undo.pushed, undo.timer));
+                Some((id, step_record))
+            }
         }
     }
 

@@ -5,6 +5,7 @@ ghost use Rattle.uv_step.specs.Image.{held};
 ghost use Rattle.uv_step.specs.Parts.{unwind, unwind_parts, undo, naming_parts, change_parts, Bound as bound};
 ghost use Rattle.uv_step.specs.Fit.{IsFit};
 ghost use Rattle.uv_step.specs.Undo.{CanUnwind, CanRename, CanUndo};
+ghost use Rattle.uv_step.specs.Does.{moved_by, closed_by, ended_by};
 
 use crate::content::Content;
 use crate::memory::Memory;
@@ -78,19 +79,27 @@ impl<P: Copy> Memory<P> {
             Change::Enlisted(undo) => self.undo_enlisted(undo),
             Change::Delisted(undo) => self.undo_delisted(undo),
             Change::Timer(undo) => self.undo_timer(undo),
-            Change::Moved(undo) => self.undo_moved(undo),
+            Change::Moved(pushed, timer) => self.undo_moved(CollectUndo { timer, pushed }),
             Change::Begun(undo) => self.slots.undo_splice(undo),
             Change::Polled(undo) => {
                 self.slots.undo_splice(undo.spliced);
                 self.times.time = undo.time;
             }
             Change::Walked(undo) => self.undo_walked(undo),
-            Change::Closed(undo) => self.undo_closed(undo),
+            Change::Closed(unlinked, active, removed) => self.undo_closed(uv_handle::TakeUndo {
+                unlinked,
+                removed,
+                active,
+            }),
             Change::Queued(undo) => self.undo_queued(undo),
             Change::Taken(undo) => self.undo_taken(undo),
             Change::Finished(undo) => self.undo_finished(undo),
             Change::Cancelled(undo) => self.undo_cancelled(undo),
-            Change::Ended(undo) => self.undo_ended(undo),
+            Change::Ended(unlinked, count, removed) => self.undo_ended(uv_requests::CollectUndo {
+                unlinked,
+                removed,
+                count,
+            }),
         }
     }
 
@@ -146,8 +155,8 @@ impl<P: Copy> Memory<P> {
     }
 
     fn undo_moved(&mut self, undo: CollectUndo)
-        requires { CanUndo (held self.old).room (change.Moved undo) (held self.old).image }
-        ensures image { (held self.new).image ≡ unwind_parts (change_parts (change.Moved undo)) (held self.old).image }
+        requires { CanUndo (held self.old).room (moved_by undo) (held self.old).image }
+        ensures image { (held self.new).image ≡ unwind_parts (change_parts (moved_by undo)) (held self.old).image }
         ensures room { (held self.new).room ≡ (held self.old).room }
     {
         undo_collect_one(
@@ -168,8 +177,8 @@ impl<P: Copy> Memory<P> {
     }
 
     fn undo_closed(&mut self, undo: uv_handle::TakeUndo<Content>)
-        requires { CanUndo (held self.old).room (change.Closed undo) (held self.old).image }
-        ensures image { (held self.new).image ≡ unwind_parts (change_parts (change.Closed undo)) (held self.old).image }
+        requires { CanUndo (held self.old).room (closed_by undo) (held self.old).image }
+        ensures image { (held self.new).image ≡ unwind_parts (change_parts (closed_by undo)) (held self.old).image }
         ensures room { (held self.new).room ≡ (held self.old).room }
     {
         self.handles.undo_take_closing(&mut self.slots, undo);
@@ -208,8 +217,8 @@ impl<P: Copy> Memory<P> {
     }
 
     fn undo_ended(&mut self, undo: uv_requests::CollectUndo<Content>)
-        requires { CanUndo (held self.old).room (change.Ended undo) (held self.old).image }
-        ensures image { (held self.new).image ≡ unwind_parts (change_parts (change.Ended undo)) (held self.old).image }
+        requires { CanUndo (held self.old).room (ended_by undo) (held self.old).image }
+        ensures image { (held self.new).image ≡ unwind_parts (change_parts (ended_by undo)) (held self.old).image }
         ensures room { (held self.new).room ≡ (held self.old).room }
     {
         self.requests.undo_collect(&mut self.slots, undo);

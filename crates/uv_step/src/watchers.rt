@@ -12,12 +12,12 @@ ghost use Rattle.uv_handle.specs.Changes.{IsTaken};
 ghost use Rattle.uv_watch.specs.Watch.{IsStopped, IsBegun, IsMovedOn};
 ghost use Rattle.uv_step.specs.declared.content.Content.{Content};
 ghost use Rattle.uv_step.specs.declared.content.Content.TheVariants.{Handle as handle};
-ghost use Rattle.uv_step.specs.declared.record.Change.TheVariants.{Delisted as delisted, Begun as begun, Walked as walked, Closed as closed};
+ghost use Rattle.uv_step.specs.declared.record.Change.TheVariants.{Delisted as delisted, Begun as begun, Walked as walked};
 ghost use Rattle.uv_step.specs.Content.{handle_in};
 ghost use Rattle.uv_step.specs.Image.{held, counted_of};
 ghost use Rattle.uv_step.specs.Fit.{IsFit};
 ghost use Rattle.uv_step.specs.Undo.{Recorded};
-ghost use Rattle.uv_step.specs.Does.{By, StartsBy, FirstIs, NoHandleFirst};
+ghost use Rattle.uv_step.specs.Does.{By, StartsBy, FirstIs, NoHandleFirst, closed_by};
 
 use crate::memory::Memory;
 use crate::record::{Change, Record};
@@ -103,7 +103,7 @@ impl<P: Copy> Memory<P> {
     pub fn end_handle(&mut self) -> Option<(Id, Record<P>)>
         requires fit { IsFit (held self.old).image }
         ensures recorded { IfSome result (λ r. Recorded r.1 (held self.old) (held self.new)) }
-        ensures does { IfSome result (λ r. By closed (λ u. (v : Content) × IsTaken handle_in handle
+        ensures does { IfSome result (λ r. By closed_by (λ u. (v : Content) × IsTaken handle_in handle
             (counted_of (held self.old).image) (counted_of (held self.new).image) r.0 v u) r.1.change) }
         ensures none { IfNone result (NoHandleFirst (held self.old).image.arena ClosingYet × (held self.new ≡ held self.old)) }
     {
@@ -111,7 +111,10 @@ impl<P: Copy> Memory<P> {
         let _ = first;
         match self.handles.take_closing(&mut self.slots) {
             None => None,
-            Some((id, _, undo)) => Some((id, self.record(Change::Closed(undo)))),
+            Some((id, _, undo)) => {
+                let change = Change::Closed(undo.unlinked, undo.active, undo.removed);
+                Some((id, self.record(change)))
+            }
         }
     }
 

@@ -26,10 +26,9 @@ use Rattle.uv_model.specs.Timers.{taken_off}
 use Rattle.uv_order.specs.Reached.{IsReached}
 use Rattle.uv_step.specs.declared.content.Content.{Content}
 use Rattle.uv_step.specs.declared.content.Content.TheVariants.{Handle}
-use Rattle.uv_step.specs.declared.record.Change.TheVariants as change
 use Rattle.uv_step.specs.declared.record.Record.{Record}
 use Rattle.uv_step.specs.Content.{handle_in}
-use Rattle.uv_step.specs.Does.{IsShut}
+use Rattle.uv_step.specs.Does.{IsShut, moved_by}
 use Rattle.uv_step.specs.Fit.{IsFit}
 use Rattle.uv_step.specs.Image.{Image, Held, timed_of}
 use Rattle.uv_step.specs.Undo.{Recorded}
@@ -119,7 +118,7 @@ only_closed s d h = record { place = refl; names = refl; running = refl; time = 
 
 pub close_does : (r : Record Place) (h w : Held Place) (d : Id) (from : HandleRecord) (u : CollectUndo) → IsFit h.image
     → record_at handle_in h.image.arena d ≡ Some from → close_refusal from ≡ None
-    → IsShut w.room (timed_of h.image) (timed_of w.image) d u → Recorded r h w → r.change ≡ change.Moved u → IsWhole w.image
+    → IsShut w.room (timed_of h.image) (timed_of w.image) d u → Recorded r h w → r.change ≡ moved_by u → IsWhole w.image
     → Does (λ s. close s d from) h.image w.image (answer.Code success)
 close_does r h w d from u fit there allowed x recorded is whole s stands reached =
     let i = h.image in

@@ -33,9 +33,9 @@ use Rattle.uv_order.specs.Active.{Before, InOrder, Has}
 use Rattle.uv_order.specs.Reached.{IsReached}
 use Rattle.uv_step.specs.declared.content.Content.{Content}
 use Rattle.uv_step.specs.declared.content.Content.TheVariants.{Handle}
-use Rattle.uv_step.specs.declared.record.Change.TheVariants as change
 use Rattle.uv_step.specs.declared.record.Record.{Record}
 use Rattle.uv_step.specs.Content.{handle_in}
+use Rattle.uv_step.specs.Does.{moved_by}
 use Rattle.uv_step.specs.Fit.{IsFit}
 use Rattle.uv_step.specs.Image.{Image, Held, timed_of}
 use Rattle.uv_step.specs.Undo.{Recorded}
@@ -167,7 +167,7 @@ only_collected : (s : State) (d : Id) (h : HandleRecord) → OnlyTimers s (colle
 only_collected s d h = record { place = refl; names = refl; running = refl; time = refl; clock = refl; stop_flag = refl; idled = refl }
 
 pub timer_collects : (r : Record Place) (h w : Held Place) (d : Id) (u : CollectUndo) → IsFit h.image
-    → IsCollected handle_in Handle w.room (timed_of h.image) (timed_of w.image) d u → Recorded r h w → r.change ≡ change.Moved u → IsWhole w.image
+    → IsCollected handle_in Handle w.room (timed_of h.image) (timed_of w.image) d u → Recorded r h w → r.change ≡ moved_by u → IsWhole w.image
     → Collects h.image w.image d
 timer_collects r h w d u fit c recorded is whole s stands reached =
     let i = h.image in

@@ -28,7 +28,7 @@ use Rattle.uv_step.specs.declared.content.Content.TheVariants.{Handle}
 use Rattle.uv_step.specs.declared.record.Change.TheVariants as change
 use Rattle.uv_step.specs.declared.record.Record.{Record}
 use Rattle.uv_step.specs.Content.{handle_in}
-use Rattle.uv_step.specs.Does.{changed}
+use Rattle.uv_step.specs.Does.{changed, moved_by}
 use Rattle.uv_step.specs.Fit.{IsFit}
 use Rattle.uv_step.specs.Image.{Image, Held, timed_of, with_timed, standing}
 use Rattle.uv_step.specs.Undo.{Recorded}
@@ -68,11 +68,11 @@ module _ (r : Record Place) (h w : Held Place) (recorded : Recorded r h w) where
       (sym (unwind_apart (changed r.place (change.Timer u)) w.image ∙ timer_back u j) ∙ change_back r (change.Timer u) h w recorded is)
       recorded.place
 
-  pub moved_frame : (u : CollectUndo) → r.change ≡ change.Moved u → w.image ≡ retimed h.image (timed_of w.image)
+  pub moved_frame : (u : CollectUndo) → r.change ≡ moved_by u → w.image ≡ retimed h.image (timed_of w.image)
   moved_frame u is =
       let j = standing r.place w.image in
       frame h.image w.image r.place (collect_undone handle_in Handle u (timed_of j))
-      (sym (unwind_apart (changed r.place (change.Moved u)) w.image ∙ moved_back u j) ∙ change_back r (change.Moved u) h w recorded is)
+      (sym (unwind_apart (changed r.place (moved_by u)) w.image ∙ moved_back u j) ∙ change_back r (moved_by u) h w recorded is)
       recorded.place
 
 -- ---- what it stands for
