@@ -1,7 +1,7 @@
 -- Which event appended a line.
-use Rattle.std.proofs.Common.{◌≡◌, ◌<◌, ℕ, List, [], ◌∷◌, ◌++◌, length, take, map, ◌&&◌, slice_get, nat_le, nat_lt, length-map, Option, Some, None, Result, Ok, Err, refl, sym, ap, ◌∙◌, subst, arith}
+use Rattle.std.proofs.Common.{◌≡◌, ◌<◌, ℕ, List, [], ◌∷◌, ◌++◌, length, take, ◌&&◌, slice_get, nat_le, nat_lt, ◌+◌, Option, Some, None, Result, Ok, Err, refl, sym, ap, ◌∙◌, subst}
 use Rattle.std.proofs.lemmas.Bool.{cond_both}
-use Rattle.std.proofs.lemmas.List.{map-append, take-map}
+use Rattle.std.proofs.lemmas.List.{map-append, take-map, length-map}
 use Rattle.uv_ids.specs.declared.id.Id.{Id}
 use Rattle.uv_ids.specs.declared.id.Var.{Var}
 use Rattle.uv_ids.specs.declared.event.Event.{Event}
@@ -143,14 +143,14 @@ events_same same = ap (λ zs. events_of zs) same
 pub few_events : (xs : List (Option Seen)) → length xs < STEPS → length (events_of xs) < STEPS
 few_events xs few = subst (λ n. n < STEPS) (sym (length-map xs event_of)) few
 
-pub events_take : {n : ℕ} {xs ys : List (Option Seen)} → ys ≡ take n xs → events_of ys ≡ take n (events_of xs)
-events_take {n} {xs} {ys} is = ap (λ zs. events_of zs) is ∙ sym (take-map event_of n xs)
+pub events_take : (n : ℕ) (xs ys : List (Option Seen)) → ys ≡ take n xs → events_of ys ≡ take n (events_of xs)
+events_take n xs ys is = ap (λ zs. events_of zs) is ∙ sym (take-map event_of n xs)
 
 -- one step more, of this event
-pub events_told : {xs ys zs : List (Option Seen)} {p : Program} {rs : List (Record Place)} {h : Held Place} {i : Image Place} {e : Event}
+pub events_told : (e : Event) {xs ys zs : List (Option Seen)} {p : Program} {rs : List (Record Place)} {h : Held Place} {i : Image Place}
     {line : Option Seen} → IsCourse p (events_of xs) xs rs h → Leads p h.image i e line → zs ≡ ys ++ line ∷ [] → ys ≡ xs
     → events_of zs ≡ events_of xs ++ e ∷ []
-events_told {xs} {ys} {zs} {p} {rs} {h} {i} {e} {line} c leads more same =
+events_told e {xs} {ys} {zs} {p} {rs} {h} {i} {line} c leads more same =
     let es = events_of xs in
     let t = leads (after p es) (course_stands p es xs rs h c) (reached p es) in
     let told : event_of line ≡ e = subst (λ n. Tells e n) t.1 (next_tells p (after p es) e) in

@@ -13,11 +13,11 @@ pub invariant_of-self-2 : goal.invariant_of-self-2
 invariant_of-self-2 c =
     course_shorter c.self.inside.script _ (events_of c.pop.new.self.seen.items) c.self.inside.steps.seen.items
     c.pop.new.self.seen.items c.self.inside.steps.records.items c.pop.new.self.records.items (held c.self.inside.memory) (held c.unwind.new.self)
-    c.in-Some.step_record c.in-Some.ensures.some (events_take c.in-Some.ensures.seen) c.in-Some.ensures.seen c.unwind.ensures.image
+    c.in-Some.step_record c.in-Some.ensures.some (events_take _ _ _ c.in-Some.ensures.seen) c.in-Some.ensures.seen c.unwind.ensures.image
     c.unwind.ensures.room c.self.invariant
 
 pub returns-clause-drops : goal.returns-clause-drops
 returns-clause-drops c =
     drops c.self.inside.script _ c.self.inside.steps.seen.items c.self.inside.steps.records.items
     (held c.self.inside.memory) c.args.self.now c.self.view_is c.self.invariant (events_of c.pop.new.self.seen.items) c.pop.new.self.records.items
-    c.in-Some.step_record (image_of c.unwind.new.self) c.in-Some.ensures.some (events_take c.in-Some.ensures.seen) c.unwind.ensures.image
+    c.in-Some.step_record (image_of c.unwind.new.self) c.in-Some.ensures.some (events_take _ _ _ c.in-Some.ensures.seen) c.unwind.ensures.image

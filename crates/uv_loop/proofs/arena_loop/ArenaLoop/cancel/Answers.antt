@@ -32,7 +32,7 @@ invariant_of-self-2 c =
     course_moved c.self.inside.script _ (events_of c.push.new.self.seen.items) c.self.inside.steps.seen.items
     c.push.new.self.seen.items c.self.inside.steps.records.items c.push.new.self.records.items (held c.self.inside.memory)
     (held c.cancel_named-answer.new.memory) c.cancel_named-answer.result.1 (Cancel c.args.name) (Some line)
-    (events_told c.self.invariant (c.cancel_named-answer.ensures.leads c.self.inside.script) c.push.ensures.seen
+    (events_told (Cancel c.args.name) c.self.invariant (c.cancel_named-answer.ensures.leads c.self.inside.script) c.push.ensures.seen
     c.reserve.ensures.same.seen)
     (c.push.ensures.seen ∙ ap (λ xs. xs ++ Some line ∷ []) c.reserve.ensures.same.seen)
     (c.push.ensures.records ∙ ap (λ xs. xs ++ c.cancel_named-answer.result.1 ∷ []) c.reserve.ensures.same.records)
@@ -45,5 +45,5 @@ returns-clause-answer c =
     c.self.view_is c.self.invariant (Cancel c.args.name) few (image_of c.cancel_named-answer.new.memory)
     (Some (seen.Cancel c.args.name c.cancel_named-answer.result.0)) (events_of c.push.new.self.seen.items)
     (c.cancel_named-answer.ensures.leads c.self.inside.script)
-    (events_told c.self.invariant (c.cancel_named-answer.ensures.leads c.self.inside.script) c.push.ensures.seen
+    (events_told (Cancel c.args.name) c.self.invariant (c.cancel_named-answer.ensures.leads c.self.inside.script) c.push.ensures.seen
     c.reserve.ensures.same.seen)

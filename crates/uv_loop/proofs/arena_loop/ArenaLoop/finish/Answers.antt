@@ -1,6 +1,6 @@
 use Rattle.std.proofs.Common.{◌≡◌, Some, sym, ap, ◌∙◌, arith}
 use Rattle.uv_ids.specs.declared.event.Event.TheVariants.{Finish}
-use Rattle.uv_model.specs.After.{STEPS, after}
+use Rattle.uv_model.specs.After.{after}
 use Rattle.uv_model.specs.Handing.{job_run}
 use Rattle.uv_step.specs.Image.{held, image_of}
 use Rattle.uv_loop.proofs.Courses.{answers_refused, answers_event, asked}

@@ -55,7 +55,8 @@ invariant_of-self-2 c =
     course_moved c.self.inside.script _ (events_of c.push.new.self.seen.items) c.self.inside.steps.seen.items
     c.push.new.self.seen.items c.self.inside.steps.records.items c.push.new.self.records.items (held c.self.inside.memory)
     (held c.finish_work-line.new.memory) c.finish_work-line.result.1 (Finish c.args.worker) (Some line)
-    (events_told c.self.invariant (c.finish_work-line.ensures.leads c.self.inside.script) c.push.ensures.seen c.reserve.ensures.same.seen)
+    (events_told (Finish c.args.worker) c.self.invariant (c.finish_work-line.ensures.leads c.self.inside.script)
+    c.push.ensures.seen c.reserve.ensures.same.seen)
     (c.push.ensures.seen ∙ ap (λ xs. xs ++ Some line ∷ []) c.reserve.ensures.same.seen)
     (c.push.ensures.records ∙ ap (λ xs. xs ++ c.finish_work-line.result.1 ∷ []) c.reserve.ensures.same.records)
     few c.self.invariant (recorded_returns c.finish_work-line.ensures.recorded) (c.finish_work-line.ensures.leads c.self.inside.script)
@@ -71,5 +72,6 @@ returns-clause-answer c =
       answers_ok c.self.inside.script _ _ c.self.inside.steps.records.items (held c.self.inside.memory) _
           c.self.view_is c.self.invariant (Finish c.args.worker) few (image_of c.finish_work-line.new.memory)
           (Some c.finish_work-line.result.0) (events_of c.push.new.self.seen.items) (c.finish_work-line.ensures.leads c.self.inside.script)
-          (events_told c.self.invariant (c.finish_work-line.ensures.leads c.self.inside.script) c.push.ensures.seen c.reserve.ensures.same.seen),
+          (events_told (Finish c.args.worker) c.self.invariant (c.finish_work-line.ensures.leads c.self.inside.script)
+          c.push.ensures.seen c.reserve.ensures.same.seen),
     )

@@ -32,7 +32,8 @@ invariant_of-self-2 c =
     course_moved c.self.inside.script _ (events_of c.push.new.self.seen.items) c.self.inside.steps.seen.items
     c.push.new.self.seen.items c.self.inside.steps.records.items c.push.new.self.records.items (held c.self.inside.memory)
     (held c.send_to-code.new.memory) c.send_to-code.result.1 (Send c.args.name) (Some line)
-    (events_told c.self.invariant (c.send_to-code.ensures.leads c.self.inside.script) c.push.ensures.seen c.reserve.ensures.same.seen)
+    (events_told (Send c.args.name) c.self.invariant (c.send_to-code.ensures.leads c.self.inside.script)
+    c.push.ensures.seen c.reserve.ensures.same.seen)
     (c.push.ensures.seen ∙ ap (λ xs. xs ++ Some line ∷ []) c.reserve.ensures.same.seen)
     (c.push.ensures.records ∙ ap (λ xs. xs ++ c.send_to-code.result.1 ∷ []) c.reserve.ensures.same.records)
     few c.self.invariant c.send_to-code.ensures.returns (c.send_to-code.ensures.leads c.self.inside.script)
@@ -44,4 +45,5 @@ returns-clause-answer c =
     c.self.view_is c.self.invariant (Send c.args.name) few (image_of c.send_to-code.new.memory)
     (Some (seen.Send c.args.name c.send_to-code.result.0)) (events_of c.push.new.self.seen.items)
     (c.send_to-code.ensures.leads c.self.inside.script)
-    (events_told c.self.invariant (c.send_to-code.ensures.leads c.self.inside.script) c.push.ensures.seen c.reserve.ensures.same.seen)
+    (events_told (Send c.args.name) c.self.invariant (c.send_to-code.ensures.leads c.self.inside.script)
+    c.push.ensures.seen c.reserve.ensures.same.seen)

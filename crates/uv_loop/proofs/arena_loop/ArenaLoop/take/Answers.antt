@@ -33,7 +33,8 @@ invariant_of-self-2 c =
     course_moved c.self.inside.script _ (events_of c.push.new.self.seen.items) c.self.inside.steps.seen.items
     c.push.new.self.seen.items c.self.inside.steps.records.items c.push.new.self.records.items (held c.self.inside.memory)
     (held c.take_work-line.new.memory) c.take_work-line.result.1 (Take c.args.worker) (Some line)
-    (events_told c.self.invariant (c.take_work-line.ensures.leads c.self.inside.script) c.push.ensures.seen c.reserve.ensures.same.seen)
+    (events_told (Take c.args.worker) c.self.invariant (c.take_work-line.ensures.leads c.self.inside.script)
+    c.push.ensures.seen c.reserve.ensures.same.seen)
     (c.push.ensures.seen ∙ ap (λ xs. xs ++ Some line ∷ []) c.reserve.ensures.same.seen)
     (c.push.ensures.records ∙ ap (λ xs. xs ++ c.take_work-line.result.1 ∷ []) c.reserve.ensures.same.records)
     few c.self.invariant (recorded_returns c.take_work-line.ensures.recorded) (c.take_work-line.ensures.leads c.self.inside.script)
@@ -44,4 +45,5 @@ returns-clause-answer c =
     answers_ok c.self.inside.script _ _ c.self.inside.steps.records.items (held c.self.inside.memory) _
     c.self.view_is c.self.invariant (Take c.args.worker) few (image_of c.take_work-line.new.memory)
     (Some c.take_work-line.result.0) (events_of c.push.new.self.seen.items) (c.take_work-line.ensures.leads c.self.inside.script)
-    (events_told c.self.invariant (c.take_work-line.ensures.leads c.self.inside.script) c.push.ensures.seen c.reserve.ensures.same.seen)
+    (events_told (Take c.args.worker) c.self.invariant (c.take_work-line.ensures.leads c.self.inside.script)
+    c.push.ensures.seen c.reserve.ensures.same.seen)

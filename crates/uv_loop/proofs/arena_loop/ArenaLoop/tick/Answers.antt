@@ -32,7 +32,7 @@ invariant_of-self-2 c =
     course_moved c.self.inside.script _ (events_of c.push.new.self.seen.items) c.self.inside.steps.seen.items
     c.push.new.self.seen.items c.self.inside.steps.records.items c.push.new.self.records.items (held c.self.inside.memory)
     (held c.tick-step_record.new.self) c.tick-step_record.result (Tick c.args.ms) (Some (seen.Tick c.args.ms))
-    (events_told c.self.invariant leads c.push.ensures.seen c.reserve.ensures.same.seen)
+    (events_told (Tick c.args.ms) c.self.invariant leads c.push.ensures.seen c.reserve.ensures.same.seen)
     (c.push.ensures.seen ∙ ap (λ xs. xs ++ Some (seen.Tick c.args.ms) ∷ []) c.reserve.ensures.same.seen)
     (c.push.ensures.records ∙ ap (λ xs. xs ++ c.tick-step_record.result ∷ []) c.reserve.ensures.same.records)
     few c.self.invariant (recorded_returns c.tick-step_record.ensures.recorded) leads
@@ -45,4 +45,4 @@ returns-clause-answer c =
     answers_ok c.self.inside.script _ _ c.self.inside.steps.records.items (held c.self.inside.memory) _
     c.self.view_is c.self.invariant (Tick c.args.ms) few (image_of c.tick-step_record.new.self) (Some (seen.Tick c.args.ms))
     (events_of c.push.new.self.seen.items) leads
-    (events_told c.self.invariant leads c.push.ensures.seen c.reserve.ensures.same.seen)
+    (events_told (Tick c.args.ms) c.self.invariant leads c.push.ensures.seen c.reserve.ensures.same.seen)

@@ -39,7 +39,7 @@ invariant_of-self-in-Ok c =
     course_moved c.self.inside.script _ (events_of c.push.new.self.seen.items) c.self.inside.steps.seen.items
     c.push.new.self.seen.items c.self.inside.steps.records.items c.push.new.self.records.items (held c.self.inside.memory)
     (held c.turn.new.memory) c.in-Ok.step_record Loop c.in-Ok.seen
-    (events_told c.self.invariant c.in-Ok.ensures.turns.1 c.push.ensures.seen c.reserve.ensures.same.seen)
+    (events_told Loop c.self.invariant c.in-Ok.ensures.turns.1 c.push.ensures.seen c.reserve.ensures.same.seen)
     (c.push.ensures.seen ∙ ap (λ xs. xs ++ c.in-Ok.seen ∷ []) c.reserve.ensures.same.seen)
     (c.push.ensures.records ∙ ap (λ xs. xs ++ c.in-Ok.step_record ∷ []) c.reserve.ensures.same.records)
     few c.self.invariant c.in-Ok.ensures.turns.0 c.in-Ok.ensures.turns.1
@@ -56,4 +56,4 @@ returns-in-Ok-clause-answer c =
     let few = few_events c.self.inside.steps.seen.items (omega arith) in
     answers_ok c.self.inside.script _ _ c.self.inside.steps.records.items (held c.self.inside.memory) _
     c.self.view_is c.self.invariant Loop few (image_of c.turn.new.memory) c.in-Ok.seen (events_of c.push.new.self.seen.items) c.in-Ok.ensures.turns.1
-    (events_told c.self.invariant c.in-Ok.ensures.turns.1 c.push.ensures.seen c.reserve.ensures.same.seen)
+    (events_told Loop c.self.invariant c.in-Ok.ensures.turns.1 c.push.ensures.seen c.reserve.ensures.same.seen)

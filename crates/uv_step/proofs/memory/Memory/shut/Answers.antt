@@ -1,4 +1,12 @@
-use Rattle.uv_step.specs.Image.{image_of}
+use Rattle.std.proofs.Common.{None, ap, subst}
+use Rattle.uv_records.specs.declared.handle.HandleRecord.{HandleRecord}
+use Rattle.uv_timer.specs.Changes.{becoming}
+use Rattle.uv_timer.specs.Timed.{timed}
+use Rattle.uv_timer.specs.Timers.{IsRescheduled}
+use Rattle.uv_step.specs.declared.content.Content.TheVariants.{Handle}
+use Rattle.uv_step.specs.declared.record.Record.{Record}
+use Rattle.uv_step.specs.Content.{handle_in}
+use Rattle.uv_step.specs.Image.{image_of, timed_of}
 use Rattle.uv_step.proofs.Steps.{shut}
 use Rattle.uv_step.proofs.memory.Memory.shut.Goals as goal
 
@@ -7,3 +15,18 @@ returns-clause-recorded g c = shut (image_of c.args.self.now) c.reschedule-timer
     c.reschedule-timer.new.handles _ c.reschedule-timer.new.heap c.reschedule-timer.new.times _ _ _ _ _ c.requires.fit
     c.reschedule-timer.ensures.room c.reschedule-timer.ensures.changed c.push_front-pushed.ensures.pushed c.push_front-pushed.ensures.token
     c.record.ensures
+
+pub returns-clause-does : goal.returns-clause-does
+returns-clause-does g c = record {
+  undo = record { timer = c.reschedule-timer.result; pushed = c.push_front-pushed.result };
+  is = ap (λ (r : Record _). r.change) c.record.ensures;
+  does = record {
+    from = c.args.before;
+    allowed = c.requires.allowed;
+    mid = c.reschedule-timer.new.slots;
+    changed = subst (λ (to : HandleRecord). IsRescheduled handle_in Handle c.reschedule-timer.new.heap.room (timed_of (image_of c.args.self.now))
+        (timed c.reschedule-timer.new.slots c.reschedule-timer.new.handles c.reschedule-timer.new.heap c.reschedule-timer.new.times) c.args.id
+        (becoming c.args.before to None) c.reschedule-timer.result) c.closed.ensures c.reschedule-timer.ensures.changed;
+    listed = c.push_front-pushed.ensures.pushed;
+  };
+}
