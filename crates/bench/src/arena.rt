@@ -2,7 +2,7 @@
 ghost use Rattle.std.specs.Prelude.{◌≡◌};
 
 use crate::figures::{BATCH, Row, STRIDE, Total, Watch};
-use std::alloc::{AllocError, Global};
+use std::alloc::Global;
 use std::rt::Clock;
 use uv_arena::Slots;
 use uv_ids::Id;
@@ -207,10 +207,12 @@ fn rounds(
     watch: &mut Watch,
     slots: &mut Slots<Content>,
     loose: &[Id],
-    on_list: &[Id],
     batch: u32,
     totals: &mut Totals,
 ) {
+    let mut on_list = [id(0); BATCH as usize];
+    let on_list = &mut on_list[..batch.min(BATCH) as usize];
+    listed(slots, on_list);
     for _ in 0..ROUNDS {
         round_of_loose(clock, watch, slots, loose, batch, totals);
         watch.start(clock);
@@ -234,43 +236,51 @@ fn inserts(
     }
 }
 
-/// What inserts take: an arena with so many slots on the idle list, and a batch of free ones.
+/// What inserts take: an arena with so many slots on the idle list, and as many free ones as there are ids.
 fn measure_inserts(
     clock: &impl Clock,
     watch: &mut Watch,
     alloc: Global,
     size: u32,
     batch: u32,
+    ids: &mut [Id],
     insert: &mut Total,
-) -> Result<(), AllocError> {
-    let mut ids = Vec::from_elem(alloc, id(0), batch as usize)?;
-    let mut slots = Slots::new(alloc, size.saturating_add(batch), 9)?;
-    fill(watch, &mut slots, size, &mut ids);
-    list(watch, &mut slots, size);
-    free(&mut slots, &ids);
-    inserts(clock, watch, &mut slots, batch, insert);
-    Ok(())
+) {
+    match Slots::new(alloc, size.saturating_add(batch), 9) {
+        Ok(mut slots) => {
+            fill(watch, &mut slots, size, ids);
+            list(watch, &mut slots, size);
+            free(&mut slots, ids);
+            inserts(clock, watch, &mut slots, batch, insert);
+        }
+        Err(_) => watch.fail_memory(),
+    }
 }
 
-/// What the other calls take: an arena with so many slots on the idle list, and a batch more on no list. Whether the list is as
-/// before.
+/// What the other calls take: an arena with so many slots on the idle list, and as many more on no list as there are loose ids.
+/// Whether the list is as before.
 fn measure_others(
     clock: &impl Clock,
     watch: &mut Watch,
     alloc: Global,
     size: u32,
     batch: u32,
+    loose: &mut [Id],
     totals: &mut Totals,
-) -> Result<bool, AllocError> {
-    let mut loose = Vec::from_elem(alloc, id(0), batch as usize)?;
-    let mut on_list = Vec::from_elem(alloc, id(0), batch as usize)?;
-    let mut slots = Slots::new(alloc, size.saturating_add(batch), 9)?;
-    fill(watch, &mut slots, size, &mut loose);
-    list(watch, &mut slots, size);
-    listed(&slots, &mut on_list);
-    let first = slots.first(ListName::Idle);
-    rounds(clock, watch, &mut slots, &loose, &on_list, batch, totals);
-    Ok(slots.first(ListName::Idle) == first)
+) -> bool {
+    match Slots::new(alloc, size.saturating_add(batch), 9) {
+        Ok(mut slots) => {
+            fill(watch, &mut slots, size, loose);
+            list(watch, &mut slots, size);
+            let first = slots.first(ListName::Idle);
+            rounds(clock, watch, &mut slots, loose, batch, totals);
+            slots.first(ListName::Idle) == first
+        }
+        Err(_) => {
+            watch.fail_memory();
+            false
+        }
+    }
 }
 
 /// What each call and its undo takes in an arena of this size; and whether the list is as before.
@@ -279,18 +289,19 @@ pub fn measure(
     watch: &mut Watch,
     alloc: Global,
     size: u32,
-) -> Result<([Row; 5], bool), AllocError> {
-    let none = Total::new();
+) -> ([Row; 5], bool) {
     let mut totals = Totals {
-        insert: none,
-        remove: none,
-        push: none,
-        unlink: none,
-        splice: none,
+        insert: Total::new(),
+        remove: Total::new(),
+        push: Total::new(),
+        unlink: Total::new(),
+        splice: Total::new(),
     };
     let batch = BATCH.min(size);
-    measure_inserts(clock, watch, alloc, size, batch, &mut totals.insert)?;
-    let as_before = measure_others(clock, watch, alloc, size, batch, &mut totals)?;
+    let mut ids = [id(0); BATCH as usize];
+    let ids = &mut ids[..batch as usize];
+    measure_inserts(clock, watch, alloc, size, batch, ids, &mut totals.insert);
+    let as_before = measure_others(clock, watch, alloc, size, batch, ids, &mut totals);
     let rows = [
         totals.insert.row("insert"),
         totals.remove.row("remove"),
@@ -298,5 +309,5 @@ pub fn measure(
         totals.unlink.row("unlink"),
         totals.splice.row("splice"),
     ];
-    Ok((rows, as_before))
+    (rows, as_before)
 }

@@ -21,12 +21,13 @@ pub struct Lap {
 }
 
 /// Reads a clock where a round starts, where it turns and where it ends. It knows whether a measure ended early: before all of its
-/// calls were done, or because the clock couldn't be read.
+/// calls were done, because memory was short, or because the clock couldn't be read.
 #[derive(Clone, Copy)]
 pub struct Watch {
     started: Instant,
     turned: Instant,
     is_early: bool,
+    is_short: bool,
 }
 
 impl Watch {
@@ -36,6 +37,7 @@ impl Watch {
             started: now,
             turned: now,
             is_early: false,
+            is_short: false,
         })
     }
 
@@ -75,8 +77,16 @@ impl Watch {
         self.is_early = true;
     }
 
+    /// A measure ends for want of memory.
+    pub fn fail_memory(&mut self) {
+        self.is_short = true;
+    }
+
     /// An error if a measure ended early.
     pub fn settle(&self) -> io::Result<()> {
+        if self.is_short {
+            return Err(io::ErrorKind::OutOfMemory.into());
+        }
         if self.is_early {
             return Err(io::ErrorKind::UnexpectedEof.into());
         }

@@ -2,7 +2,7 @@
 ghost use Rattle.std.specs.Prelude.{◌≡◌, ◌≤◌};
 
 use crate::figures::{BATCH, BothWays, Figure, ROUNDS, Rounds, Row, STRIDE, Watch};
-use std::alloc::{AllocError, Global};
+use std::alloc::Global;
 use std::cmp::Reverse;
 use std::collections::BinaryHeap;
 use std::rt::Clock;
@@ -278,13 +278,14 @@ fn there_and_back(
     slots: &mut [u32],
     size: u32,
     changes: &mut Changes,
-) -> Result<(), AllocError> {
-    let before = Vec::from_slice(alloc, heap.entries())?;
+) {
+    let Ok(before) = Vec::from_slice(alloc, heap.entries()) else {
+        return watch.fail_memory();
+    };
     undo_rounds(clock, watch, heap, slots, size, changes);
     if heap.entries() != before.as_slice() {
         watch.fail();
     }
-    Ok(())
 }
 
 /// Changes of a heap of so many entries, and what takes them back.
@@ -293,11 +294,11 @@ fn undos(
     watch: &mut Watch,
     alloc: Global,
     size: u32,
+    slots: &mut [u32],
     changes: &mut Changes,
-) -> Result<(), AllocError> {
-    let mut slots = Vec::from_elem(alloc, 0u32, BATCH.min(size) as usize)?;
+) {
     let mut heap = filled(watch, alloc, size);
-    there_and_back(clock, watch, alloc, &mut heap, &mut slots, size, changes)
+    there_and_back(clock, watch, alloc, &mut heap, slots, size, changes);
 }
 
 /// The rounds of restarts of any timer.
@@ -326,12 +327,12 @@ fn restarted(
     watch: &mut Watch,
     alloc: Global,
     size: u32,
-) -> Result<Figure, AllocError> {
-    let mut slots = Vec::from_elem(alloc, 0u32, BATCH.min(size) as usize)?;
+    slots: &mut [u32],
+) -> Figure {
     let mut heap = filled(watch, alloc, size);
     let mut rounds = Rounds::new();
-    restarts(clock, watch, &mut heap, &mut slots, size, &mut rounds);
-    Ok(rounds.median())
+    restarts(clock, watch, &mut heap, slots, size, &mut rounds);
+    rounds.median()
 }
 
 /// The two heaps, one beside the other.
@@ -349,27 +350,24 @@ fn compared(
 }
 
 /// What the calls take at heaps of so many entries.
-pub fn measure(
-    clock: &impl Clock,
-    watch: &mut Watch,
-    alloc: Global,
-    size: u32,
-) -> Result<Figures, AllocError> {
+pub fn measure(clock: &impl Clock, watch: &mut Watch, alloc: Global, size: u32) -> Figures {
+    let mut slots = [0; BATCH as usize];
+    let slots = &mut slots[..BATCH.min(size) as usize];
     let mut changes = Changes {
         push: BothWays::new(),
         least: BothWays::new(),
         anywhere: BothWays::new(),
     };
-    let restart = restarted(clock, watch, alloc, size)?;
-    undos(clock, watch, alloc, size, &mut changes)?;
+    let restart = restarted(clock, watch, alloc, size, slots);
+    undos(clock, watch, alloc, size, slots, &mut changes);
     let anywhere = "the least is taken off and put in again anywhere:";
     let last = "the least is taken off and put in again last:";
-    Ok(Figures {
+    Figures {
         repeat: compared(clock, watch, alloc, size, false, anywhere),
         same_timeout: compared(clock, watch, alloc, size, true, last),
         restart,
         push: changes.push.row("push", "its undo"),
         least: changes.least.row("removal of the least", "its undo"),
         anywhere: changes.anywhere.row("removal anywhere", "its undo"),
-    })
+    }
 }

@@ -8,7 +8,7 @@ use uv_heap::TimerHeap;
 use uv_timer::{CollectUndo, TimerUndo, Times, undo_collect_one, undo_reschedule};
 
 /// A handle's record, or a request, as large as one.
-#[derive(Clone, Copy, Debug, PartialEq, Eq)]
+#[derive(Clone, Copy, PartialEq, Eq)]
 pub enum Content {
     Handle(HandleRecord),
     Request([u64; 13]),

@@ -306,18 +306,25 @@ fn all_rounds(
 }
 
 /// What each call and its undo takes where so many timers are set.
-pub fn measure(
-    clock: &impl Clock,
-    watch: &mut Watch,
-    alloc: Global,
-    size: u32,
-) -> Result<Figures, AllocError> {
+pub fn measure(clock: &impl Clock, watch: &mut Watch, alloc: Global, size: u32) -> Figures {
     let batch = BATCH.min(size);
     let slots = size.saturating_add(batch);
-    let mut set = Vec::from_elem(alloc, NONE, batch as usize)?;
-    let mut loose = Vec::from_elem(alloc, NONE, batch as usize)?;
-    let mut parts = empty(alloc, slots)?;
-    fill_set(watch, &mut parts, slots, size, &mut set);
-    fill_loose(watch, &mut parts, slots, &mut loose);
-    Ok(all_rounds(clock, watch, &mut parts, slots, &loose, &set))
+    let mut set = [NONE; BATCH as usize];
+    let mut loose = [NONE; BATCH as usize];
+    let set = &mut set[..batch as usize];
+    let loose = &mut loose[..batch as usize];
+    match empty(alloc, slots) {
+        Ok(mut parts) => {
+            fill_set(watch, &mut parts, slots, size, set);
+            fill_loose(watch, &mut parts, slots, loose);
+            all_rounds(clock, watch, &mut parts, slots, loose, set)
+        }
+        Err(_) => {
+            watch.fail_memory();
+            Figures {
+                rows: [Total::new().row(""); 5],
+                calls: 0,
+            }
+        }
+    }
 }

@@ -1,9 +1,14 @@
 //! Runs each example over the plain loop, but for those that print an image, and compares what is written with the output beside it.
+//! Then it converses over devices that fail in mid-stream.
 #![tactic(auto)]
 
+mod devices;
+
+use devices::{answers_line_by_line, conversations, fails_early, fault_of};
+use std::alloc::Global;
+use std::io::Print;
+use std::rt::Files;
 use std::{fs, io};
-use uv_engine::{Reader, Writer, converse};
-use uv_model::PlainLoop;
 
 const EXAMPLES: [&str; 21] = [
     "two-timers",
@@ -29,22 +34,41 @@ const EXAMPLES: [&str; 21] = [
     "live-run-back",
 ];
 
+/// The examples: behind a function, since a proof writes out a constant where it meets it.
+fn examples() -> &'static [&'static str] {
+    &EXAMPLES
+}
+
+/// Whether a conversation of this input writes this.
+fn is_answered(alloc: Global, input: &[u8], wanted: &[u8]) -> bool {
+    let mut written = Vec::new(alloc);
+    fault_of(alloc, input, &mut written).is_none() && written.as_slice() == wanted
+}
+
+fn read<R: Files + AllocGlobal>(rt: &R, name: &str, ending: &str) -> io::Result<Vec<u8>> {
+    let path = format!(in rt.alloc(); "{name}.{ending}")?;
+    fs::read(rt, path.as_str())
+}
+
+/// Whether an example writes what is shown beside it.
+fn is_as_shown<R: Files + AllocGlobal>(rt: &R, name: &str) -> io::Result<bool> {
+    let input = read(rt, name, "uvt")?;
+    let wanted = read(rt, name, "out")?;
+    Ok(is_answered(rt.alloc(), &input, &wanted))
+}
+
+fn tell<R: Print>(rt: &R, what: &str, is_right: bool) -> io::Result<()> {
+    let verdict = if is_right { "as shown" } else { "differs" };
+    println!(rt; "{what}: {verdict}")
+}
+
 fn main(rt: HostRuntime) -> io::Result<()> {
-    let alloc = rt.alloc();
-    for name in EXAMPLES {
-        let input = fs::read(&rt, format!(in alloc; "{name}.uvt")?.as_str())?;
-        let wanted = fs::read(&rt, format!(in alloc; "{name}.out")?.as_str())?;
-        let mut written = Vec::new(alloc);
-        let mut reader = Reader::new(input.as_slice());
-        let mut writer = Writer::new(&mut written);
-        let ended = converse::<PlainLoop, _, _>(alloc, &mut reader, &mut writer);
-        drop(writer);
-        let verdict = if ended.is_ok() && written.as_slice() == wanted.as_slice() {
-            "as shown"
-        } else {
-            "differs"
-        };
-        println!(rt; "{name}: {verdict}")?;
+    for name in examples() {
+        tell(&rt, name, is_as_shown(&rt, name)?)?;
     }
-    Ok(())
+    for one in conversations() {
+        tell(&rt, one.what, fails_early(rt.alloc(), one))?;
+    }
+    let what = "each line is answered before the next is read";
+    tell(&rt, what, answers_line_by_line(rt.alloc()))
 }

@@ -1,4 +1,4 @@
-//! Tests of the thread pool and of live runs by their public calls: worked examples, and runs on real threads that come to their end.
+//! Tests of the wake board, the thread pool and live runs by their public calls: worked examples, and runs on real threads that come to their end.
 #![tactic(auto)]
 
 #[cfg(test)]
@@ -13,3 +13,5 @@ mod pool_examples;
 mod pool_threads;
 #[cfg(test)]
 mod scripts;
+#[cfg(test)]
+mod wake;

@@ -32,23 +32,18 @@ fn job<R: Abort>(rt: &R, id: Id, text: &[u8]) -> Job {
     Job::new(id, text, 1).expect(rt, "within the limits")
 }
 
-/// A closed book whose one worker has done one job, and the worker's shift.
+/// The shift of the one worker of a book, which has done one job. The book is closed.
 fn worked<L: Ledger, R: Abort + Wait>(
     rt: &R,
     alloc: Global,
-    blank: Blank,
-) -> Result<(PoolBook<L>, Vec<Shift<L>>), Fault>
-    requires name { blank.name ≡ L.name }
-    requires parts { blank.parts ≡ L.parts }
-    requires more { 1 < blank.parts }
-{
-    let mut book = PoolBook::<L>::new(alloc, blank, 1)?;
+    book: &mut PoolBook<L>,
+) -> Result<Vec<Shift<L>>, Fault> {
     book.submit(job(rt, id(0), b""))?;
-    let mut shifts = Vec::new(alloc);
-    let shift = worker(rt, alloc, &mut book, &Quiet, 0)?;
-    put(&mut shifts, shift)?;
+    let shift = worker(rt, alloc, book, &Quiet, 0)?;
     book.close();
-    Ok((book, shifts))
+    let mut shifts = Vec::new(alloc);
+    put(&mut shifts, shift)?;
+    Ok(shifts)
 }
 
 fn follow<F: Follower, L: Ledger>(session: &mut F, book: &PoolBook<L>) -> Result<usize, Fault>
@@ -60,21 +55,35 @@ fn follow<F: Follower, L: Ledger>(session: &mut F, book: &PoolBook<L>) -> Result
     sync(session, book)
 }
 
-fn settles<F: Follower, L: Ledger, R: Abort>(
-    rt: &R,
+/// Whether a session settles once it follows the book, and then with the shift alone.
+fn settles<F: Follower, L: Ledger>(
     session: &mut F,
     book: &PoolBook<L>,
     shifts: &[Shift<L>],
     seat: &LoopSeat,
-)
+) -> bool
     requires { names_of seat.now.board ≡ (F.plan session.old).names }
 {
     let early = settle(session, book, shifts, seat);
-    assert!(rt; matches!(early, Err(Fault::Torn { at: 2 })));
-    assert!(rt; matches!(follow(session, book), Ok(2)));
-    assert!(rt; settle(session, book, shifts, seat).is_ok());
+    let followed = follow(session, book);
+    let settled = settle(session, book, shifts, seat);
     let nobody = settle(session, book, &shifts[..0], seat);
-    assert!(rt; matches!(nobody, Err(Fault::Torn { at: 0 })));
+    early == Err(Fault::Torn { at: 2 })
+        && followed == Ok(2)
+        && settled == Ok(())
+        && nobody == Err(Fault::Torn { at: 0 })
+}
+
+/// Does one job by the book, and lets a session follow it.
+fn follows_one_job<F: Follower, L: Ledger, R: Abort + Wait>(
+    rt: &R,
+    alloc: Global,
+    book: &mut PoolBook<L>,
+    session: &mut F,
+) -> Result<bool, Fault> {
+    let shifts = worked(rt, alloc, book)?;
+    let (_board, seat) = Board::new(alloc, session.name_count() as usize, 1)?;
+    Ok(settles(session, book, &shifts, &seat))
 }
 
 fn settles_once_it_follows<F: Follower, L: Ledger, R: Abort + Wait>(
@@ -82,19 +91,17 @@ fn settles_once_it_follows<F: Follower, L: Ledger, R: Abort + Wait>(
     alloc: Global,
     blank: Blank,
     session: &mut F,
-) -> Result<(), Fault>
+) -> Result<bool, Fault>
     requires name { blank.name ≡ L.name }
     requires parts { blank.parts ≡ L.parts }
     requires more { 1 < blank.parts }
 {
-    let (book, shifts) = worked::<L, R>(rt, alloc, blank)?;
-    let (_board, seat) = Board::new(alloc, session.name_count() as usize, 1)?;
-    settles(rt, session, &book, shifts.as_slice(), &seat);
-    Ok(())
+    let mut book = PoolBook::<L>::new(alloc, blank, 1)?;
+    follows_one_job(rt, alloc, &mut book, session)
 }
 
 /// The run of one job over a machine.
-fn one_job<M: Machine, R: Abort + Wait>(rt: &R, alloc: Global) -> Result<(), Fault> {
+fn one_job<M: Machine, R: Abort + Wait>(rt: &R, alloc: Global) -> Result<bool, Fault> {
     let session = begun::<M>(alloc, b"workers 1\nvar p\nmain queue p 1\n")?;
     let mut live = LiveSession::new(alloc, session, Vec::new(alloc));
     assert!(rt; live.step().is_ok());
@@ -103,7 +110,8 @@ fn one_job<M: Machine, R: Abort + Wait>(rt: &R, alloc: Global) -> Result<(), Fau
 
 #[test]
 fn a_run_settles_once_all_was_applied(rt: HostRuntime) -> Result<(), Fault> {
-    one_job::<PlainLoop, _>(&rt, rt.alloc())
+    assert!(&rt; one_job::<PlainLoop, _>(&rt, rt.alloc())?);
+    Ok(())
 }
 
 #[test]
@@ -138,14 +146,19 @@ fn is_handed_in<M: Machine, R: Abort>(
 }
 
 /// Worker 1 hands in the result of the job that worker 0 runs, and then its own.
-fn two_results<M: Machine, R: Abort>(rt: &R, alloc: Global) -> Result<(), Fault> {
+fn hands_in<M: Machine, R: Abort>(rt: &R, session: &mut Session<M>) -> Result<bool, Fault> {
+    let other = is_handed_in(rt, session, 1, id(1), b"")?;
+    let own = is_handed_in(rt, session, 1, id(0), b"abc")?;
+    Ok(!other && own)
+}
+
+fn two_results<M: Machine, R: Abort>(rt: &R, alloc: Global) -> Result<bool, Fault> {
     let mut session = two_taken::<M>(alloc)?;
-    assert!(rt; !is_handed_in(rt, &mut session, 1, id(1), b"")?);
-    assert!(rt; is_handed_in(rt, &mut session, 1, id(0), b"abc")?);
-    Ok(())
+    hands_in(rt, &mut session)
 }
 
 #[test]
 fn a_result_is_that_of_the_job_that_the_worker_runs(rt: HostRuntime) -> Result<(), Fault> {
-    two_results::<PlainLoop, _>(&rt, rt.alloc())
+    assert!(&rt; two_results::<PlainLoop, _>(&rt, rt.alloc())?);
+    Ok(())
 }

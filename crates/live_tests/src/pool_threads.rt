@@ -2,7 +2,7 @@
 ghost use Rattle.std.specs.Prelude.{◌≡◌, ◌<◌};
 
 use crate::given::{Quiet, id, job};
-use std::alloc::{AllocError, Global};
+use std::alloc::Global;
 use std::marker::Brand;
 use std::process::Abort;
 use std::sync::Wait;
@@ -47,54 +47,76 @@ enum Fate {
     Cancelled,
 }
 
-/// What became of each request, by the log. Each event finds its request as it must be.
-fn fates<R: Abort>(
-    rt: &R,
-    alloc: Global,
-    log: &[PoolEvent],
-    jobs: usize,
-) -> Result<Vec<Fate>, AllocError> {
-    let mut fates = Vec::from_elem(alloc, Fate::Unknown, jobs)?;
-    for event in log {
-        let (id, before, after) = match *event {
-            PoolEvent::Queue(id) => (id, Fate::Unknown, Fate::Waits),
-            PoolEvent::Take(_, id) => (id, Fate::Waits, Fate::Runs),
-            PoolEvent::Finish(_, id) => (id, Fate::Runs, Fate::Finished),
-            PoolEvent::Cancel(id) => (id, Fate::Waits, Fate::Cancelled),
-            PoolEvent::Collect(_) => panic!(rt; "nobody collects"),
-        };
-        let slot = id.slot as usize;
-        assert!(rt; slot < fates.len());
-        assert!(rt; fates[slot] == before, "request {slot}");
-        fates[slot] = after;
+/// What became of the requests, by how many, and how many events the workers have.
+#[derive(Clone, Copy)]
+struct Tally {
+    unknown: usize,
+    running: usize,
+    finished: usize,
+    events: usize,
+}
+
+/// Whether an event finds its request as it must be. The request is then as the event leaves it.
+fn applies(fates: &mut [Fate], event: PoolEvent) -> bool {
+    let (id, before, after) = match event {
+        PoolEvent::Queue(id) => (id, Fate::Unknown, Fate::Waits),
+        PoolEvent::Take(_, id) => (id, Fate::Waits, Fate::Runs),
+        PoolEvent::Finish(_, id) => (id, Fate::Runs, Fate::Finished),
+        PoolEvent::Cancel(id) => (id, Fate::Waits, Fate::Cancelled),
+        PoolEvent::Collect(_) => return false,
+    };
+    match fates.get_mut(id.slot as usize) {
+        Some(fate) if *fate == before => {
+            *fate = after;
+            true
+        }
+        _ => false,
     }
-    Ok(fates)
 }
 
-fn count(fates: &[Fate], fate: Fate) -> usize {
-    fates.iter().filter(|x| **x == fate).count()
-}
-
-/// How many events the workers have.
-fn events<L: Ledger>(shifts: &[Shift<L>]) -> usize {
+fn count(fates: &[Fate], wanted: Fate) -> usize {
     let mut sum: usize = 0;
-    for shift in shifts {
-        sum = sum.saturating_add(shift.events.len());
+    for fate in fates {
+        if *fate == wanted {
+            sum = sum.wrapping_add(1);
+        }
     }
     sum
 }
 
-fn shifts<L: Ledger>(
+/// What became of the requests, by the log.
+fn judged<R: Abort>(
+    rt: &R,
     alloc: Global,
-    answers: Vec<Result<Shift<L>, Fault>>,
-) -> Result<Vec<Shift<L>>, Fault> {
-    let mut shifts = Vec::new(alloc);
+    log: &[PoolEvent],
+    jobs: usize,
+    events: Result<usize, Fault>,
+) -> Result<Tally, Fault> {
+    let events = events?;
+    let mut fates = Vec::from_elem(alloc, Fate::Unknown, jobs)?;
+    let mut place: u32 = 0;
+    for event in log {
+        assert!(rt; applies(&mut fates, *event), "event {place}");
+        place = place.wrapping_add(1);
+    }
+    Ok(Tally {
+        unknown: count(&fates, Fate::Unknown),
+        running: count(&fates, Fate::Runs),
+        finished: count(&fates, Fate::Finished),
+        events,
+    })
+}
+
+/// How many events the workers have.
+fn events<L: Ledger>(answers: &[Result<Shift<L>, Fault>]) -> Result<usize, Fault> {
+    let mut sum: usize = 0;
     for answer in answers {
-        if shifts.push(answer?).is_err() {
-            return Err(Fault::Memory);
+        match answer {
+            Ok(shift) => sum = sum.saturating_add(shift.events.len()),
+            Err(fault) => return Err(*fault),
         }
     }
-    Ok(shifts)
+    Ok(sum)
 }
 
 /// What is asked of the workers.
@@ -133,42 +155,48 @@ fn submit_all<L: Ledger, R: Abort + Wait>(
     Ok(())
 }
 
-/// What became of the requests, and how many events the workers have.
+/// Feeds the workers, which work on threads of their own: how many events they have.
+fn work_all<L: Ledger + Send + Sync, R: Abort + Threads + Wait + Sync>(
+    rt: &R,
+    alloc: Global,
+    book: &LockedBook<L>,
+    workers: u16,
+    load: Load,
+) -> Result<usize, Fault> {
+    let (fed, answers) = join(
+        rt,
+        move || feed(rt, book, load),
+        move || {
+            map_indices(
+                rt,
+                alloc,
+                workers as usize,
+                &|k| { work(rt, alloc, book, k.min(1024) as u16) },
+            )
+        },
+    );
+    match (fed, &answers) {
+        (Ok(()), Ok(answers)) => events(answers),
+        (Err(fault), _) => Err(fault),
+        (_, Err(_)) => Err(Fault::Memory),
+    }
+}
+
 fn run<L: Ledger + Send + Sync, R: Abort + Threads + Wait + Sync>(
     rt: &R,
     alloc: Global,
     blank: Blank,
     workers: u16,
     load: Load,
-) -> Result<(Vec<Fate>, usize), Fault>
+) -> Result<Tally, Fault>
     requires name { blank.name ≡ L.name }
     requires parts { blank.parts ≡ L.parts }
     requires more { workers < blank.parts }
 {
     let book = LockedBook::new(PoolBook::<L>::new(alloc, blank, workers)?);
-    let shared = &book;
-    let (fed, answers) = join(
-        rt,
-        move || feed(rt, shared, load),
-        move || {
-            map_indices(
-                rt,
-                alloc,
-                workers as usize,
-                &|k| { work(rt, alloc, shared, k.min(1024) as u16) },
-            )
-        },
-    );
-    fed?;
-    let shifts = match answers {
-        Ok(answers) => shifts(alloc, answers)?,
-        Err(_) => return Err(Fault::Memory),
-    };
+    let events = work_all(rt, alloc, &book, workers, load);
     let book = book.into_book();
-    match fates(rt, alloc, book.log(), load.jobs as usize) {
-        Ok(fates) => Ok((fates, events(&shifts))),
-        Err(_) => Err(Fault::Memory),
-    }
+    judged(rt, alloc, book.log(), load.jobs as usize, events)
 }
 
 #[test]
@@ -178,8 +206,8 @@ fn four_threads_do_forty_jobs(rt: HostRuntime) -> Result<(), Fault> {
         open: 40,
         cancels: false,
     };
-    let (fates, events) = run::<Brand, _>(&rt, rt.alloc(), Blank::new(5), 4, load)?;
-    assert!(&rt; count(&fates, Fate::Finished) == 40 && events == 80);
+    let tally = run::<Brand, _>(&rt, rt.alloc(), Blank::new(5), 4, load)?;
+    assert!(&rt; tally.finished == 40 && tally.events == 80);
     Ok(())
 }
 
@@ -190,9 +218,9 @@ fn eight_threads_end_by_themselves(rt: HostRuntime) -> Result<(), Fault> {
         open: 1000,
         cancels: true,
     };
-    let (fates, events) = run::<Brand, _>(&rt, rt.alloc(), Blank::new(9), 8, load)?;
-    let finished = count(&fates, Fate::Finished);
-    assert!(&rt; 0 < finished && events / 2 == finished && events % 2 == 0);
-    assert!(&rt; count(&fates, Fate::Unknown) == 0 && count(&fates, Fate::Runs) == 0);
+    let tally = run::<Brand, _>(&rt, rt.alloc(), Blank::new(9), 8, load)?;
+    let finished = tally.finished;
+    assert!(&rt; 0 < finished && tally.events / 2 == finished && tally.events % 2 == 0);
+    assert!(&rt; tally.unknown == 0 && tally.running == 0);
     Ok(())
 }

@@ -1,6 +1,6 @@
 //! Live runs of scripts on real threads.
 use crate::gates::Ordered;
-use crate::given::{Quiet, id, put};
+use crate::given::{Quiet, id};
 use std::alloc::{AllocError, Global};
 use std::process::Abort;
 use std::sync::Wait;
@@ -12,6 +12,7 @@ use uv_model::{Machine, PlainLoop};
 use uv_pool::Gate;
 use uv_run::live;
 use uv_script::{Script, push_number};
+use uv_session::Session;
 
 /// SHA-256 of `abc`, and of the empty text (FIPS 180-4).
 const OF_ABC: [u8; 32] = [
@@ -65,6 +66,13 @@ struct Story {
     trace: Vec<Seen>,
 }
 
+fn told<M: Machine>(alloc: Global, session: &Session<M>) -> Result<Story, Fault> {
+    Ok(Story {
+        steps: Vec::from_slice(alloc, session.steps())?,
+        trace: session.trace()?,
+    })
+}
+
 /// Runs a script on real threads, over a machine.
 fn ran_over<M: Machine, G: Gate + Sync, R: Threads + Wait + Sync>(
     rt: &R,
@@ -74,10 +82,7 @@ fn ran_over<M: Machine, G: Gate + Sync, R: Threads + Wait + Sync>(
 ) -> Result<Story, Fault> {
     let script = Script::parse(alloc, text)?;
     let session = live::<M, _, _, _>(rt, alloc, script, &mut JumpClock::new(0), gate)?;
-    Ok(Story {
-        steps: Vec::from_slice(alloc, session.steps())?,
-        trace: session.trace()?,
-    })
+    told(alloc, &session)
 }
 
 /// Runs a script on real threads, over the plain loop.
@@ -90,16 +95,34 @@ fn ran<G: Gate + Sync, R: Threads + Wait + Sync>(
     ran_over::<PlainLoop, _, _>(rt, alloc, text, gate)
 }
 
-/// The callbacks of a run.
-fn called(alloc: Global, trace: &[Seen]) -> Result<Vec<Seen>, Fault> {
-    let mut all = Vec::new(alloc);
+/// Whether the callbacks of a run are these, in this order.
+fn are_called(trace: &[Seen], wanted: &[Seen]) -> bool {
+    let mut left = wanted;
     for seen in trace {
-        match *seen {
-            Seen::Call(_, _) | Seen::After(_, _, _) | Seen::Closed(_, _) => put(&mut all, *seen)?,
-            _ => {}
+        if !is_callback(*seen) {
+            continue;
+        }
+        match left.split_first() {
+            Some((first, rest)) if first == seen => left = rest,
+            _ => return false,
         }
     }
-    Ok(all)
+    left.is_empty()
+}
+
+fn is_callback(seen: Seen) -> bool {
+    matches!(
+        seen,
+        Seen::Call(_, _) | Seen::After(_, _, _) | Seen::Closed(_, _)
+    )
+}
+
+fn callbacks(trace: &[Seen]) -> u32 {
+    let mut sum: u32 = 0;
+    for seen in trace {
+        sum = sum.wrapping_add(u32::from(is_callback(*seen)));
+    }
+    sum
 }
 
 #[test]
@@ -115,8 +138,7 @@ fn a_timer_is_due_when_the_clock_has_jumped(rt: HostRuntime) -> Result<(), Fault
 fn two_workers_do_two_jobs(rt: HostRuntime) -> Result<(), Fault> {
     let story = ran(&rt, rt.alloc(), TWO_JOBS, &Quiet)?;
     let counts = counted(&story.steps);
-    assert!(&rt; counts.takes == 2 && counts.finishes == 2);
-    assert!(&rt; called(rt.alloc(), &story.trace)?.len() == 2);
+    assert!(&rt; counts.takes == 2 && counts.finishes == 2 && callbacks(&story.trace) == 2);
     Ok(())
 }
 
@@ -127,22 +149,26 @@ fn takes(seen: Seen, k: u16, id: Id) -> bool {
     }
 }
 
+/// Whether the run has two takes, which are those that the workers told.
+fn are_taken(trace: &[Seen], begun: &[(u16, Id)]) -> bool {
+    let mut found = begun.len() == 2;
+    for (k, id) in begun {
+        found = found && trace.iter().any(|seen| takes(*seen, *k, *id));
+    }
+    found
+}
+
 /// Two jobs on two workers, of which one is held until the other has ended: their callbacks come in this order.
 fn in_order<R: Abort + Threads + Wait + Clock + Sync>(
     rt: &R,
     alloc: Global,
     held: Id,
-    wanted: [Seen; 2],
+    wanted: &[Seen],
 ) -> Result<(), Fault> {
     let gate = Ordered::new(rt, alloc, held);
     let story = ran(rt, alloc, TWO_JOBS, &gate)?;
-    assert!(rt; !gate.is_late());
-    assert!(rt; called(alloc, &story.trace)?.as_slice() == wanted.as_slice());
-    let begun = gate.into_begun();
-    assert!(rt; begun.len() == 2);
-    for (k, id) in begun.iter() {
-        assert!(rt; story.trace.iter().any(|seen| takes(*seen, *k, *id)));
-    }
+    assert!(rt; !gate.is_late() && are_called(&story.trace, wanted));
+    assert!(rt; are_taken(&story.trace, &gate.into_begun()));
     Ok(())
 }
 
@@ -166,12 +192,12 @@ const Q: Seen = Seen::After(
 
 #[test]
 fn a_job_that_is_held_calls_back_last(rt: HostRuntime) -> Result<(), Fault> {
-    in_order(&rt, rt.alloc(), id(0), [Q, P])
+    in_order(&rt, rt.alloc(), id(0), &[Q, P])
 }
 
 #[test]
 fn the_other_one_calls_back_last_if_it_is_held(rt: HostRuntime) -> Result<(), Fault> {
-    in_order(&rt, rt.alloc(), id(1), [P, Q])
+    in_order(&rt, rt.alloc(), id(1), &[P, Q])
 }
 
 #[test]
@@ -180,10 +206,8 @@ fn two_senders_wait_for_one_another(rt: HostRuntime) -> Result<(), Fault> {
         thread 0 send a\nthread 1 send a\n";
     let gate = Ordered::new(&rt, rt.alloc(), id(1));
     let story = ran(&rt, rt.alloc(), text, &gate)?;
-    assert!(&rt; !gate.is_late());
-    let called = called(rt.alloc(), &story.trace)?;
     let wanted = [Seen::Call(Var(0), id(0)), Seen::Closed(Var(0), id(0))];
-    assert!(&rt; called.as_slice() == wanted.as_slice());
+    assert!(&rt; !gate.is_late() && are_called(&story.trace, &wanted));
     Ok(())
 }
 

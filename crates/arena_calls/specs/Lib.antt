@@ -1,2 +1,0 @@
-pub mod Trail
-pub mod Undone

@@ -1,0 +1,5 @@
+pub mod Arena
+pub mod Held
+pub mod Requests
+pub mod Timers
+pub mod Trail

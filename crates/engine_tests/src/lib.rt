@@ -1,5 +1,0 @@
-//! Tests of conversations over devices that fail.
-#![tactic(auto)]
-
-#[cfg(test)]
-mod devices;

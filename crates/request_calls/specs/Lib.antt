@@ -1,3 +1,0 @@
-pub mod Content
-pub mod Undone
-pub mod Trail
