@@ -7,6 +7,7 @@ pub mod Cut
 pub mod Ending
 pub mod Finished
 pub mod Fresh
+pub mod Fronts
 pub mod Holding
 pub mod Queued
 pub mod Rules

@@ -1,2 +1,3 @@
 mod Collected
 mod Order
+mod Repeating
