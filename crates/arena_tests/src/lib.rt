@@ -1,5 +1,5 @@
 //! Tests of the arena, of its parts and of what stands on it, by their public calls: each once with ample memory, and worked examples. The calls of
-//! timers and of requests are tried by the programs `timer_calls` and `request_calls`, against lists and maps.
+//! timers and of requests are tried by the program `calls`, against lists and maps.
 #![tactic(auto)]
 
 #[cfg(test)]

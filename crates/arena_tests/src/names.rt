@@ -18,10 +18,10 @@ fn bind(memory: &mut Memory<u32>, name: Var, id: Id) -> Option<Record<u32>>
     if name.0 as usize >= memory.names.len() {
         return None;
     }
-    let passed = memory.pass();
-    let step_record = passed;
-    memory.stand_at(7, passed);
-    Some(memory.bind(step_record, name, Some(id)))
+    let mut step_record = memory.pass();
+    memory.stand_at(7, &step_record);
+    memory.bind(&mut step_record, name, Some(id));
+    Some(step_record)
 }
 
 /// Counts a call of a name, where there is such a name.
@@ -35,8 +35,9 @@ fn count(memory: &mut Memory<u32>, name: Var) -> Option<Record<u32>>
     {
         return None;
     }
-    let step_record = memory.pass();
-    Some(memory.count_call(step_record, name, Callback::Close))
+    let mut step_record = memory.pass();
+    memory.count_call(&mut step_record, name, Callback::Close);
+    Some(step_record)
 }
 
 /// Whether the loop stands here, and a name is bound to this and its close callback was called so often.

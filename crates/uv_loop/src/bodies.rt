@@ -22,8 +22,8 @@ fn perform_at(memory: &mut Memory<Place>, op: Op, place: Place) -> (Answer, Reco
     ensures returns { Returns result.1 (held memory.old) (held memory.new) }
     ensures performs { PerformsAt op place (held memory.old).image (held memory.new).image result.0 }
 {
-    let (answer, performed) = perform(memory, op);
-    let step_record = stand_at(memory, performed, place);
+    let (answer, step_record) = perform(memory, op);
+    stand_at(memory, &step_record, place);
     (answer, step_record)
 }
 
@@ -34,11 +34,9 @@ fn leave_body(memory: &mut Memory<Place>, run: Run) -> Record<Place>
         (held memory.old) (held memory.new) (done (None, result)) }
 {
     let step_record = memory.pass();
-    stand_at(
-        memory,
-        step_record,
-        Place::Running(Run { body: None, ..run }),
-    )
+    let place = Place::Running(Run { body: None, ..run });
+    stand_at(memory, &step_record, place);
+    step_record
 }
 
 /// The line that a body does next, if it has one.

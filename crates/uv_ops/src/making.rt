@@ -25,9 +25,9 @@ pub fn init(memory: &mut Memory<Place>, name: Var, kind: Kind) -> (Answer, Recor
     }
     match memory.init(name, kind) {
         Err(_) => (Answer::Code(Code::Efull), memory.pass()),
-        Ok((id, step_record)) => {
+        Ok((id, mut step_record)) => {
             memory.slots.is_sound();
-            let step_record = bind_name(memory, step_record, name, id);
+            bind_name(memory, &mut step_record, name, id);
             (Answer::Id(id), step_record)
         }
     }
@@ -55,9 +55,9 @@ pub fn queue(memory: &mut Memory<Place>, name: Var, task: Task) -> (Answer, Reco
     let request = request_of(name, &task);
     match memory.queue(request) {
         Err(_) => (Answer::Code(Code::Efull), memory.pass()),
-        Ok((id, step_record)) => {
+        Ok((id, mut step_record)) => {
             memory.slots.is_sound();
-            let step_record = bind_name(memory, step_record, name, id);
+            bind_name(memory, &mut step_record, name, id);
             (Answer::Id(id), step_record)
         }
     }

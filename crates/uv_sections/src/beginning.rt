@@ -52,7 +52,7 @@ pub fn begin_walk(memory: &mut Memory<Place>, run: Run, kind: WatcherKind) -> (S
     ensures goes { Goes (λ s. begin_walk s run kind) (held memory.old).image (held memory.new).image (Some result.0) }
 {
     let step_record = make_all_yet(memory, kind);
-    let step_record = stand_in(memory, step_record, run, stage_of(kind));
+    stand_in(memory, &step_record, run, stage_of(kind));
     (Seen::Section(kind.phase()), step_record)
 }
 
@@ -77,7 +77,7 @@ pub fn begin_closing(memory: &mut Memory<Place>, run: Run) -> (Seen, Record<Plac
     ensures goes { Goes (λ s. begin_closing s run) (held memory.old).image (held memory.new).image (Some result.0) }
 {
     let step_record = close_all_yet(memory);
-    let step_record = stand_in(memory, step_record, run, Stage::Closing);
+    stand_in(memory, &step_record, run, Stage::Closing);
     (Seen::Section(Phase::Closing), step_record)
 }
 
@@ -102,7 +102,7 @@ pub fn begin_done(memory: &mut Memory<Place>, run: Run) -> (Seen, Record<Place>)
     ensures goes { Goes (λ s. begin_done s run) (held memory.old).image (held memory.new).image (Some result.0) }
 {
     let step_record = end_all_yet(memory);
-    let step_record = stand_in(memory, step_record, run, Stage::Done);
+    stand_in(memory, &step_record, run, Stage::Done);
     (Seen::Section(Phase::Done), step_record)
 }
 
@@ -123,7 +123,7 @@ pub fn begin_timers(memory: &mut Memory<Place>, run: Run) -> (Seen, Record<Place
 {
     let step_record = refresh(memory);
     let stage = Stage::Timers(TimersOf::Iteration, Timing::Collecting);
-    let step_record = stand_in(memory, step_record, run, stage);
+    stand_in(memory, &step_record, run, stage);
     (Seen::Section(Phase::Timers), step_record)
 }
 
@@ -154,6 +154,6 @@ pub fn begin_run(memory: &mut Memory<Place>, line: usize, mode: Mode) -> (Seen, 
         stage: Stage::Entry,
         body: None,
     };
-    let step_record = stand_in(memory, step_record, run, Stage::Entry);
+    stand_in(memory, &step_record, run, Stage::Entry);
     (Seen::Run(mode), step_record)
 }

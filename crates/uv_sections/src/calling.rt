@@ -19,24 +19,22 @@ use uv_step::{Memory, Record};
 /// The step of this record begins a callback of a name as well: one call more, and the body of that call is under way.
 pub fn begin_body(
     memory: &mut Memory<Place>,
-    step_record: Record<Place>,
+    step_record: &mut Record<Place>,
     script: &Script,
     run: Run,
     callback: Callback,
     name: Var,
-) -> Record<Place>
-    requires can { CanUnwind (held memory.old).room step_record (held memory.old).image }
+)
+    requires can { CanUnwind (held memory.old).room step_record.old (held memory.old).image }
     requires fit { IsFit (held memory.old).image }
-    requires unnamed { step_record.naming ≡ same }
+    requires unnamed { step_record.old.naming ≡ same }
     requires few { count_of callback (named (held memory.old).image.names name.0).calls < 2 ^ 31 }
-    ensures extended { Extended step_record result (held memory.old) (held memory.new) }
+    ensures extended { Extended step_record.old step_record.new (held memory.old) (held memory.new) }
     ensures calls { (s : State) → StandsFor (held memory.old).image s → (line : Seen)
         → (t : State) × (calls script.now s run callback name line ≡ Moves t (Some line)) × StandsFor (held memory.new).image t }
 {
-    let (count, called) = call_name(memory, step_record, name, callback);
-    let grown = called;
+    let count = call_name(memory, step_record, name, callback);
     let body = body_from(script, callback, name, count, 0);
     let place = Place::Running(Run { body, ..run });
-    memory.stand_at(place, called);
-    grown
+    memory.stand_at(place, step_record);
 }

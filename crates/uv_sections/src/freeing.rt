@@ -109,7 +109,8 @@ pub(crate) fn collect_request(
         None => None,
         Some(freed) => {
             let (name, line) = line_after(freed.0, freed.1);
-            let step_record = begin_body(memory, freed.2, script, run, Callback::After, name);
+            let mut step_record = freed.2;
+            begin_body(memory, &mut step_record, script, run, Callback::After, name);
             Some((line, step_record))
         }
     }
@@ -131,10 +132,10 @@ pub(crate) fn close_front(
 {
     match free_handle(memory, script) {
         None => None,
-        Some((id, handle, freed)) => {
+        Some((id, handle, mut freed)) => {
             let name = handle.name;
-            let step_record = begin_body(memory, freed, script, run, Callback::Close, name);
-            Some((Seen::Closed(name, id), step_record))
+            begin_body(memory, &mut freed, script, run, Callback::Close, name);
+            Some((Seen::Closed(name, id), freed))
         }
     }
 }

@@ -38,7 +38,7 @@ pub fn new_iteration(memory: &mut Memory<Place>, run: Run) -> (Seen, Record<Plac
     ensures goes { Goes (λ s. new_iteration s run) (held memory.old).image (held memory.new).image (Some result.0) }
 {
     let step_record = note_idle(memory);
-    let step_record = stand_in(memory, step_record, run, Stage::Pending);
+    stand_in(memory, &step_record, run, Stage::Pending);
     (Seen::Section(Phase::Pending), step_record)
 }
 
@@ -61,7 +61,7 @@ pub fn end_run(memory: &mut Memory<Place>, run: Run) -> (Seen, Record<Place>)
 {
     let alive = is_alive(memory);
     let step_record = clear_stop(memory);
-    let step_record = stand_at(memory, step_record, Place::Main(run.line + 1));
+    stand_at(memory, &step_record, Place::Main(run.line + 1));
     (Seen::End(alive), step_record)
 }
 
@@ -81,7 +81,7 @@ fn enter_timers(memory: &mut Memory<Place>, run: Run) -> (Seen, Record<Place>)
 {
     let step_record = memory.pass();
     let stage = Stage::Timers(TimersOf::Entry, Timing::Collecting);
-    let step_record = stand_in(memory, step_record, run, stage);
+    stand_in(memory, &step_record, run, stage);
     (Seen::Section(Phase::Timers), step_record)
 }
 

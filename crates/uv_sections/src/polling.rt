@@ -36,7 +36,7 @@ pub fn begin_poll(memory: &mut Memory<Place>, run: Run) -> (Seen, Record<Place>)
     let timeout = poll_timeout(memory, run.mode);
     let deadline = deadline_of(memory, timeout);
     let step_record = memory.pass();
-    let step_record = stand_in(memory, step_record, run, Stage::Poll(deadline));
+    stand_in(memory, &step_record, run, Stage::Poll(deadline));
     (Seen::Poll(timeout), step_record)
 }
 

@@ -11,32 +11,26 @@ use uv_model::{Place, Run, Stage};
 use uv_step::{Memory, Record};
 
 /// After the step of this record the loop is at this place.
-pub fn stand_at(
-    memory: &mut Memory<Place>,
-    step_record: Record<Place>,
-    place: Place,
-) -> Record<Place>
-    requires can { CanUnwind (held memory.old).room step_record (held memory.old).image }
+pub fn stand_at(memory: &mut Memory<Place>, step_record: &Record<Place>, place: Place)
+    requires can { CanUnwind (held memory.old).room step_record.now (held memory.old).image }
     requires fit { IsFit (held memory.old).image }
-    ensures extended { Extended step_record result (held memory.old) (held memory.new) }
+    ensures extended { Extended step_record.now step_record.now (held memory.old) (held memory.new) }
     ensures stands { (s : State) → StandsFor (held memory.old).image s
         → StandsFor (held memory.new).image (record s { place = place }) }
 {
-    let grown = step_record;
     memory.stand_at(place, step_record);
-    grown
 }
 
 /// After the step of this record the run is at this stage, with no body under way.
 pub(crate) fn stand_in(
     memory: &mut Memory<Place>,
-    step_record: Record<Place>,
+    step_record: &Record<Place>,
     run: Run,
     stage: Stage,
-) -> Record<Place>
-    requires can { CanUnwind (held memory.old).room step_record (held memory.old).image }
+)
+    requires can { CanUnwind (held memory.old).room step_record.now (held memory.old).image }
     requires fit { IsFit (held memory.old).image }
-    ensures extended { Extended step_record result (held memory.old) (held memory.new) }
+    ensures extended { Extended step_record.now step_record.now (held memory.old) (held memory.new) }
     ensures stands { (s : State) → StandsFor (held memory.old).image s → StandsFor (held memory.new).image (at s run stage) }
 {
     let place = Place::Running(Run {
@@ -44,5 +38,5 @@ pub(crate) fn stand_in(
         body: None,
         ..run
     });
-    stand_at(memory, step_record, place)
+    stand_at(memory, step_record, place);
 }

@@ -32,13 +32,13 @@ fn call_timer(
 {
     match fire_timer(memory) {
         None => None,
-        Some((id, name, fired)) => {
+        Some((id, name, mut fired)) => {
             let firing = Run {
                 stage: Stage::Timers(part, Timing::Firing),
                 ..run
             };
-            let step_record = begin_body(memory, fired, script, firing, Callback::Handle, name);
-            Some((Seen::Call(name, id), step_record))
+            begin_body(memory, &mut fired, script, firing, Callback::Handle, name);
+            Some((Seen::Call(name, id), fired))
         }
     }
 }
@@ -75,7 +75,8 @@ fn set_aside(memory: &mut Memory<Place>, run: Run, part: TimersOf) -> Option<Rec
         None => None,
         Some((_, collected)) => {
             let stage = Stage::Timers(part, Timing::Collecting);
-            Some(stand_in(memory, collected, run, stage))
+            stand_in(memory, &collected, run, stage);
+            Some(collected)
         }
     }
 }

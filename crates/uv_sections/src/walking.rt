@@ -61,10 +61,10 @@ pub(crate) fn walk(
 {
     match move_on(memory, kind) {
         None => None,
-        Some((id, handle, _, moved)) => {
+        Some((id, handle, _, mut moved)) => {
             let name = handle.name;
-            let step_record = begin_body(memory, moved, script, run, Callback::Handle, name);
-            Some((Seen::Call(name, id), step_record))
+            begin_body(memory, &mut moved, script, run, Callback::Handle, name);
+            Some((Seen::Call(name, id), moved))
         }
     }
 }
@@ -85,14 +85,14 @@ pub(crate) fn walk_async(
 {
     match move_on(memory, WatcherKind::Async) {
         None => None,
-        Some((id, handle, pending, moved)) => {
+        Some((id, handle, pending, mut moved)) => {
             if pending {
                 let name = handle.name;
-                let step_record = begin_body(memory, moved, script, run, Callback::Handle, name);
-                Some((Some(Seen::Call(name, id)), step_record))
+                begin_body(memory, &mut moved, script, run, Callback::Handle, name);
+                Some((Some(Seen::Call(name, id)), moved))
             } else {
-                let step_record = stand_in(memory, moved, run, Stage::Async);
-                Some((None, step_record))
+                stand_in(memory, &moved, run, Stage::Async);
+                Some((None, moved))
             }
         }
     }

@@ -49,46 +49,40 @@ pub fn is_live(memory: &Memory<Place>, name: Var) -> bool
 }
 
 /// The step of this record binds a name to this as well. A name that the loop doesn't have is bound to nothing.
-pub fn bind_name(
-    memory: &mut Memory<Place>,
-    step_record: Record<Place>,
-    name: Var,
-    id: Id,
-) -> Record<Place>
-    requires can { CanUnwind (held memory.old).room step_record (held memory.old).image }
+pub fn bind_name(memory: &mut Memory<Place>, step_record: &mut Record<Place>, name: Var, id: Id)
+    requires can { CanUnwind (held memory.old).room step_record.old (held memory.old).image }
     requires fit { IsFit (held memory.old).image }
-    requires unnamed { step_record.naming ≡ same }
+    requires unnamed { step_record.old.naming ≡ same }
     ensures image { (held memory.new).image
         ≡ record (held memory.old).image { names = binding name.0 (Some id) (held memory.old).image.names } }
-    ensures extended { Extended step_record result (held memory.old) (held memory.new) }
+    ensures extended { Extended step_record.old step_record.new (held memory.old) (held memory.new) }
 {
-    if name.0 as usize >= memory.names.len() {
-        return step_record;
+    if (name.0 as usize) < memory.names.len() {
+        memory.bind(step_record, name, Some(id));
     }
-    memory.bind(step_record, name, Some(id))
 }
 
 /// The step of this record calls a callback of a name as well: how often it was called by then. It isn't counted for a name that the
 /// loop doesn't have.
 pub fn call_name(
     memory: &mut Memory<Place>,
-    step_record: Record<Place>,
+    step_record: &mut Record<Place>,
     name: Var,
     callback: Callback,
-) -> (u32, Record<Place>)
-    requires can { CanUnwind (held memory.old).room step_record (held memory.old).image }
+) -> u32
+    requires can { CanUnwind (held memory.old).room step_record.old (held memory.old).image }
     requires fit { IsFit (held memory.old).image }
-    requires unnamed { step_record.naming ≡ same }
+    requires unnamed { step_record.old.naming ≡ same }
     requires few { count_of callback (named (held memory.old).image.names name.0).calls < 2 ^ 32 - 1 }
-    ensures count { result.0 ≡ count_of callback (named (held memory.old).image.names name.0).calls + 1 }
+    ensures count { result ≡ count_of callback (named (held memory.old).image.names name.0).calls + 1 }
     ensures image { (held memory.new).image
-        ≡ record (held memory.old).image { names = calling name.0 callback result.0 (held memory.old).image.names } }
-    ensures extended { Extended step_record result.1 (held memory.old) (held memory.new) }
+        ≡ record (held memory.old).image { names = calling name.0 callback result (held memory.old).image.names } }
+    ensures extended { Extended step_record.old step_record.new (held memory.old) (held memory.new) }
 {
     if name.0 as usize >= memory.names.len() {
-        return (1, step_record);
+        return 1;
     }
     let count = memory.names[name.0 as usize].calls.of(callback) + 1;
-    let step_record = memory.count_call(step_record, name, callback);
-    (count, step_record)
+    memory.count_call(step_record, name, callback);
+    count
 }

@@ -67,48 +67,44 @@ impl<P: Copy> Memory<P> {
     }
 
     /// The loop stands here after the step of this record.
-    pub fn stand_at(&mut self, place: P, step_record: Record<P>)
-        requires can { CanUnwind (held self.old).room step_record (held self.old).image }
+    pub fn stand_at(&mut self, place: P, step_record: &Record<P>)
+        requires can { CanUnwind (held self.old).room step_record.now (held self.old).image }
         requires fit { IsFit (held self.old).image }
         ensures place { (held self.new).image ≡ standing place (held self.old).image }
-        ensures extended { Extended step_record step_record (held self.old) (held self.new) }
+        ensures extended { Extended step_record.now step_record.now (held self.old) (held self.new) }
     {
         let _ = step_record;
         self.place = place;
     }
 
     /// The step of this record binds a name to this as well.
-    pub fn bind(&mut self, step_record: Record<P>, name: Var, id: Option<Id>) -> Record<P>
-        requires can { CanUnwind (held self.old).room step_record (held self.old).image }
+    pub fn bind(&mut self, step_record: &mut Record<P>, name: Var, id: Option<Id>)
+        requires can { CanUnwind (held self.old).room step_record.old (held self.old).image }
         requires fit { IsFit (held self.old).image }
-        requires unnamed { step_record.naming ≡ same }
+        requires unnamed { step_record.old.naming ≡ same }
         requires name { name.0 < length (held self.old).image.names }
         ensures image { (held self.new).image ≡ record (held self.old).image { names = binding name.0 id (held self.old).image.names } }
-        ensures extended { Extended step_record result (held self.old) (held self.new) }
+        ensures extended { Extended step_record.old step_record.new (held self.old) (held self.new) }
     {
         let named = self.names[name.0 as usize];
         self.names[name.0 as usize] = Named {
             id,
             calls: named.calls,
         };
-        Record {
-            place: step_record.place,
-            naming: Naming::bound(name, named.id),
-            change: step_record.change,
-        }
+        step_record.naming = Naming::bound(name, named.id);
     }
 
     /// The step of this record calls a callback of a name as well.
-    pub fn count_call(&mut self, step_record: Record<P>, name: Var, callback: Callback) -> Record<P>
-        requires can { CanUnwind (held self.old).room step_record (held self.old).image }
+    pub fn count_call(&mut self, step_record: &mut Record<P>, name: Var, callback: Callback)
+        requires can { CanUnwind (held self.old).room step_record.old (held self.old).image }
         requires fit { IsFit (held self.old).image }
-        requires unnamed { step_record.naming ≡ same }
+        requires unnamed { step_record.old.naming ≡ same }
         requires name { name.0 < length (held self.old).image.names }
         requires few { count_of callback (named (held self.old).image.names name.0).calls < 2 ^ 32 - 1 }
         ensures image { (held self.new).image ≡ record (held self.old).image {
           names = calling name.0 callback (count_of callback (named (held self.old).image.names name.0).calls + 1) (held self.old).image.names;
         } }
-        ensures extended { Extended step_record result (held self.old) (held self.new) }
+        ensures extended { Extended step_record.old step_record.new (held self.old) (held self.new) }
     {
         let named = self.names[name.0 as usize];
         let count = named.calls.of(callback);
@@ -116,10 +112,6 @@ impl<P: Copy> Memory<P> {
             id: named.id,
             calls: named.calls.with(callback, count + 1),
         };
-        Record {
-            place: step_record.place,
-            naming: Naming::Called(name, callback, count),
-            change: step_record.change,
-        }
+        step_record.naming = Naming::Called(name, callback, count);
     }
 }

@@ -13,4 +13,4 @@ returns-in-Err-clause-performs c =
 pub returns-in-Ok-clause-performs : goal.returns-in-Ok-clause-performs
 returns-in-Ok-clause-performs c =
     inits_by c.in-Ok.step_record (held c.args.memory.now) (held c.init.new.self) c.in-Ok.ensures.recorded c.is_sound.ensures c.args.name c.args.kind
-    c.in-Ok.id c.in-Ok.ensures.made c.if-is_live.ensures (image_of c.bind_name-step_record.new.memory) c.bind_name-step_record.ensures.image
+    c.in-Ok.id c.in-Ok.ensures.made c.if-is_live.ensures (image_of c.bind_name.new.memory) c.bind_name.ensures.image

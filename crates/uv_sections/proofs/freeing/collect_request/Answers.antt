@@ -3,14 +3,14 @@ use Rattle.uv_step.specs.Image.{held, image_of}
 use Rattle.uv_sections.proofs.Called.{few_calls, collect_goes}
 use Rattle.uv_sections.proofs.freeing.collect_request.Goals as goal
 
-pub begin_body-step_record-requires-clause-few : goal.begin_body-step_record-requires-clause-few
-begin_body-step_record-requires-clause-few c =
+pub begin_body-requires-clause-few : goal.begin_body-requires-clause-few
+begin_body-requires-clause-few c =
     few_calls c.in-Some.freed.2 (held c.args.memory.now) (held c.free_request.new.memory) c.requires.ready c.in-Some.ensures.recorded After
     c.line_after-line.result.0
 
 pub returns-in-Some-clause-goes : goal.returns-in-Some-clause-goes
 returns-in-Some-clause-goes c s h reached =
     let f = c.in-Some.freed in
-    collect_goes c.args.script.now c.args.run (image_of c.free_request.new.memory) (image_of c.begin_body-step_record.new.memory) s f.0 f.1
+    collect_goes c.args.script.now c.args.run (image_of c.free_request.new.memory) (image_of c.begin_body.new.memory) s f.0 f.1
     c.line_after-line.result.0 c.line_after-line.result.1 (c.in-Some.ensures.gone s h reached) c.line_after-line.ensures.name
-    c.line_after-line.ensures.line c.begin_body-step_record.ensures.calls
+    c.line_after-line.ensures.line c.begin_body.ensures.calls

@@ -3,12 +3,12 @@ use Rattle.uv_step.specs.Image.{held, image_of}
 use Rattle.uv_sections.proofs.Called.{few_calls, fire_goes}
 use Rattle.uv_sections.proofs.timers.call_timer.Goals as goal
 
-pub begin_body-step_record-requires-clause-few : goal.begin_body-step_record-requires-clause-few
-begin_body-step_record-requires-clause-few c =
+pub begin_body-requires-clause-few : goal.begin_body-requires-clause-few
+begin_body-requires-clause-few c =
     few_calls c.in-Some.fired (held c.args.memory.now) (held c.fire_timer.new.memory) c.requires.ready c.in-Some.ensures.recorded Handle
     c.in-Some.name
 
 pub returns-in-Some-clause-goes : goal.returns-in-Some-clause-goes
 returns-in-Some-clause-goes c =
     fire_goes c.args.script.now c.args.run c.args.part (image_of c.args.memory.now) (image_of c.fire_timer.new.memory)
-    (image_of c.begin_body-step_record.new.memory) c.in-Some.id c.in-Some.name c.in-Some.ensures.fires c.begin_body-step_record.ensures.calls
+    (image_of c.begin_body.new.memory) c.in-Some.id c.in-Some.name c.in-Some.ensures.fires c.begin_body.ensures.calls

@@ -3,12 +3,12 @@ use Rattle.uv_step.specs.Image.{held, image_of}
 use Rattle.uv_sections.proofs.Called.{few_calls, async_goes}
 use Rattle.uv_sections.proofs.walking.walk_async.Goals as goal
 
-pub begin_body-step_record-requires-clause-few : goal.begin_body-step_record-requires-clause-few
-begin_body-step_record-requires-clause-few c =
+pub begin_body-requires-clause-few : goal.begin_body-requires-clause-few
+begin_body-requires-clause-few c =
     few_calls c.in-Some.moved (held c.args.memory.now) (held c.move_on.new.memory) c.requires.ready c.in-Some.ensures.recorded Handle
     c.in-Some.handle.name
 
 pub returns-then-pending-clause-goes : goal.returns-then-pending-clause-goes
 returns-then-pending-clause-goes c s h reached =
-    async_goes c.args.script.now c.args.run (image_of c.move_on.new.memory) (image_of c.begin_body-step_record.new.memory) s c.in-Some.id
-    c.in-Some.handle c.in-Some.pending (c.in-Some.ensures.moved s h reached) c.if-pending.true c.begin_body-step_record.ensures.calls
+    async_goes c.args.script.now c.args.run (image_of c.move_on.new.memory) (image_of c.begin_body.new.memory) s c.in-Some.id
+    c.in-Some.handle c.in-Some.pending (c.in-Some.ensures.moved s h reached) c.if-pending.true c.begin_body.ensures.calls
