@@ -24,7 +24,7 @@ use uv_records::{Ends, ListName, Slot};
 const FREE: u8 = 14;
 
 /// No slot is free, and none is unused.
-#[derive(Clone, Copy, Debug, PartialEq, Eq)]
+#[derive(Clone, Copy)]
 pub struct Full;
 
 /// Slots for what is held under ids. Each is on at most one of the fourteen lists.

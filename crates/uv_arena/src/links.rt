@@ -2,7 +2,7 @@
 use uv_records::Slot;
 
 /// The list that a slot is on, and its two neighbours there.
-#[derive(Clone, Copy, Debug, PartialEq, Eq)]
+#[derive(Clone, Copy, PartialEq, Eq)]
 pub struct Links {
     pub list: Option<u8>,
     pub prev: Option<u32>,
@@ -10,14 +10,14 @@ pub struct Links {
 }
 
 /// A slot with its links.
-#[derive(Clone, Copy, Debug, PartialEq, Eq)]
+#[derive(Clone, Copy)]
 pub struct Cell<T> {
     pub slot: Slot<T>,
     pub links: Links,
 }
 
 /// A place of a list, between two neighbours or at an end: where a slot is put in or taken out.
-#[derive(Clone, Copy, Debug, PartialEq, Eq)]
+#[derive(Clone, Copy)]
 pub struct Place {
     pub list: u8,
     pub before: Option<u32>,

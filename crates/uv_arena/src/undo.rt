@@ -2,14 +2,14 @@
 use uv_records::ListName;
 
 /// Takes an insert back: the slot that it took, and whether that was never used before.
-#[derive(Clone, Copy, Debug, PartialEq, Eq)]
+#[derive(Clone, Copy)]
 pub struct InsertUndo {
     pub slot: u32,
     pub fresh: bool,
 }
 
 /// Takes a removal back: the slot that was freed, whether it was retired, and what it held.
-#[derive(Clone, Copy, Debug, PartialEq, Eq)]
+#[derive(Clone, Copy)]
 pub struct RemoveUndo<T> {
     pub slot: u32,
     pub retired: bool,
@@ -17,13 +17,13 @@ pub struct RemoveUndo<T> {
 }
 
 /// Takes a push back: the slot that was put on a list.
-#[derive(Clone, Copy, Debug, PartialEq, Eq)]
+#[derive(Clone, Copy)]
 pub struct PushUndo {
     pub slot: u32,
 }
 
 /// Takes a splice back: the two lists whose members changed places.
-#[derive(Clone, Copy, Debug, PartialEq, Eq)]
+#[derive(Clone, Copy)]
 pub struct SpliceUndo {
     pub from: ListName,
     pub to: ListName,

@@ -12,7 +12,7 @@ use std::alloc::{AllocError, Global};
 use uv_script::number;
 
 /// What the program is to do.
-#[derive(Clone, Copy, Debug, PartialEq, Eq)]
+#[derive(Clone, Copy)]
 pub enum Job {
     /// `debug`: a conversation on standard input and output.
     Debug,
@@ -23,7 +23,7 @@ pub enum Job {
 }
 
 /// Why there is no job.
-#[derive(Clone, Copy, Debug, PartialEq, Eq)]
+#[derive(Clone, Copy)]
 pub enum NoJob {
     /// Words that are no command line.
     BadWords,

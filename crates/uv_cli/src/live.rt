@@ -19,7 +19,7 @@ use uv_script::Script;
 use uv_text::recording_text;
 
 /// Why a live run wrote no recording, or not all of it.
-#[derive(Clone, Copy, Debug, PartialEq, Eq)]
+#[derive(Clone, Copy)]
 pub enum NoRecording {
     /// This line of the script is outside the grammar.
     BadScript(usize),

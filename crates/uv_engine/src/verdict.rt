@@ -10,7 +10,7 @@ use uv_ids::{Fault, Why};
 use uv_script::push_number;
 
 /// What the rerun of a recording comes to.
-#[derive(Clone, Copy, Debug, PartialEq, Eq)]
+#[derive(Clone, Copy, PartialEq, Eq)]
 pub enum Verdict {
     /// The rerun's callbacks are those that are recorded.
     Same,

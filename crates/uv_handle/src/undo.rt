@@ -3,7 +3,7 @@ use uv_arena::{InsertUndo, Place, PushUndo, RemoveUndo};
 use uv_records::HandleRecord;
 
 /// Takes a change of a record back: its slot, the count of active referenced handles, and the record from before.
-#[derive(Clone, Copy, Debug, PartialEq, Eq)]
+#[derive(Clone, Copy)]
 pub struct RecordUndo {
     pub slot: u32,
     pub active: u32,
@@ -11,28 +11,28 @@ pub struct RecordUndo {
 }
 
 /// Takes a new handle back: its slot, and the count from before.
-#[derive(Clone, Copy, Debug, PartialEq, Eq)]
+#[derive(Clone, Copy)]
 pub struct AddUndo {
     pub inserted: InsertUndo,
     pub active: u32,
 }
 
 /// Takes back that a handle got another record and was put on a list.
-#[derive(Clone, Copy, Debug, PartialEq, Eq)]
+#[derive(Clone, Copy)]
 pub struct ListUndo {
     pub changed: RecordUndo,
     pub pushed: PushUndo,
 }
 
 /// Takes back that a handle got another record and was taken off its list: where it stood there, if it was on one.
-#[derive(Clone, Copy, Debug, PartialEq, Eq)]
+#[derive(Clone, Copy)]
 pub struct DelistUndo {
     pub unlinked: Option<Place>,
     pub changed: RecordUndo,
 }
 
 /// Takes back that a closing handle was taken off its list and freed.
-#[derive(Clone, Copy, Debug, PartialEq, Eq)]
+#[derive(Clone, Copy)]
 pub struct TakeUndo<T> {
     pub unlinked: Place,
     pub removed: RemoveUndo<T>,

@@ -5,7 +5,7 @@ ghost use Rattle.uv_heap.specs.Order.{is_before};
 use uv_ids::Due;
 
 /// A timer that is set: when it is due, and the slot of its handle.
-#[derive(Clone, Copy, Debug, PartialEq, Eq)]
+#[derive(Clone, Copy, PartialEq, Eq)]
 pub struct Entry {
     pub due: Due,
     pub slot: u32,

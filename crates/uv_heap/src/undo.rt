@@ -2,13 +2,13 @@
 use crate::entry::Entry;
 
 /// Takes a push back: the place where the new entry came to rest.
-#[derive(Clone, Copy, Debug, PartialEq, Eq)]
+#[derive(Clone, Copy, PartialEq, Eq)]
 pub struct PushUndo {
     pub place: u32,
 }
 
 /// Takes a removal back.
-#[derive(Clone, Copy, Debug, PartialEq, Eq)]
+#[derive(Clone, Copy, PartialEq, Eq)]
 pub struct RemoveUndo {
     /// Where the removed entry stood.
     pub place: u32,

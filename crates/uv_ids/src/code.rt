@@ -5,7 +5,7 @@ ghost use Rattle.uv_ids.specs.Words.{code_word};
 use crate::id::Id;
 
 /// A status: success, or one of libuv's error codes, or one of this profile's own.
-#[derive(Clone, Copy, Debug, PartialEq, Eq)]
+#[derive(Clone, Copy, PartialEq, Eq)]
 pub enum Code {
     Ok,
     /// UV_EINVAL: a timer that was never started, or a closing handle (own).
@@ -43,7 +43,7 @@ impl Code {
 }
 
 /// What an op answers: a status, the id of what it made, or what it was asked for.
-#[derive(Clone, Copy, Debug, PartialEq, Eq)]
+#[derive(Clone, Copy, PartialEq, Eq)]
 pub enum Answer {
     Code(Code),
     Id(Id),

@@ -4,7 +4,7 @@
 ///
 /// Timers are ordered by due time, and of those due at the same time the one that was started first comes first
 /// (uv_timer_t).
-#[derive(Clone, Copy, Debug, PartialEq, Eq, PartialOrd, Ord)]
+#[derive(Clone, Copy, PartialEq, Eq, PartialOrd, Ord)]
 pub struct Due {
     pub at: u64,
     pub start: u64,

@@ -3,7 +3,7 @@
 use crate::id::Var;
 
 /// One step of the core.
-#[derive(Clone, Copy, Debug, PartialEq, Eq)]
+#[derive(Clone, Copy, PartialEq, Eq)]
 pub enum Event {
     /// The loop's thread does its next step.
     Loop,

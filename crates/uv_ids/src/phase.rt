@@ -3,7 +3,7 @@ ghost use Rattle.std.specs.Prelude.{◌≡◌, IfSome, IfNone};
 ghost use Rattle.uv_ids.specs.Words.{kind_word, mode_word, phase_word, IsNoKind, IsNoMode};
 
 /// The kind of a handle (uv_handle_type).
-#[derive(Clone, Copy, Debug, PartialEq, Eq)]
+#[derive(Clone, Copy, PartialEq, Eq)]
 pub enum Kind {
     /// Called when its time has come (uv_timer_t).
     Timer,
@@ -48,7 +48,7 @@ impl Kind {
 }
 
 /// How far a run goes (uv_run_mode).
-#[derive(Clone, Copy, Debug, PartialEq, Eq)]
+#[derive(Clone, Copy, PartialEq, Eq)]
 pub enum Mode {
     /// Until the loop isn't alive or is stopped.
     Default,
@@ -87,7 +87,7 @@ impl Mode {
 /// A section of the loop, as its trace line names it; the poll has a line of its own, which shows its timeout.
 ///
 /// The order of an iteration is that of libuv's design overview at 1.45.
-#[derive(Clone, Copy, Debug, PartialEq, Eq)]
+#[derive(Clone, Copy, PartialEq, Eq)]
 pub enum Phase {
     Pending,
     Idle,

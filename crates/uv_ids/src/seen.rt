@@ -5,7 +5,7 @@ use crate::id::{Id, Var};
 use crate::phase::{Mode, Phase};
 
 /// Which callback of a name.
-#[derive(Clone, Copy, Debug, PartialEq, Eq)]
+#[derive(Clone, Copy, PartialEq, Eq)]
 pub enum Callback {
     /// That of its handle: `on` in scripts (uv_timer_cb and the like).
     Handle,
@@ -16,7 +16,7 @@ pub enum Callback {
 }
 
 /// Where an op stands in the script.
-#[derive(Clone, Copy, Debug, PartialEq, Eq)]
+#[derive(Clone, Copy, PartialEq, Eq)]
 pub enum Site {
     /// The line of the main program, from 0.
     Main(usize),
@@ -25,7 +25,7 @@ pub enum Site {
 }
 
 /// One line of the trace. An op is named by its place in the script, which has its text.
-#[derive(Clone, Copy, Debug, PartialEq, Eq)]
+#[derive(Clone, Copy, PartialEq, Eq)]
 pub enum Seen {
     /// An op was done, and answered this.
     Op(Site, Answer),

@@ -11,7 +11,7 @@ pub trait Clock {
 }
 
 /// A clock that doesn't wait: it jumps to each time that it is asked to wait for.
-#[derive(Clone, Copy, Debug)]
+#[derive(Clone, Copy)]
 pub struct JumpClock {
     time: u64,
 }

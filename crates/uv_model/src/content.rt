@@ -6,7 +6,7 @@ use crate::request::Request;
 use uv_records::HandleRecord;
 
 /// What a slot holds.
-#[derive(Clone, Copy, Debug, PartialEq, Eq)]
+#[derive(Clone, Copy, PartialEq, Eq)]
 pub enum Content {
     Handle(HandleRecord),
     Request(Request),

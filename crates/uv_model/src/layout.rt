@@ -8,7 +8,7 @@ use uv_ids::Id;
 use uv_records::{Ends, ListName, Slot};
 
 /// A slot that was used, as it lies in memory.
-#[derive(Clone, Copy, Debug, PartialEq, Eq)]
+#[derive(Clone, Copy)]
 pub struct LaidSlot {
     /// Its generation, and what it holds.
     pub slot: Slot<Content>,
@@ -21,7 +21,7 @@ pub struct LaidSlot {
 }
 
 /// A list, and its first and last slot.
-#[derive(Clone, Copy, Debug, PartialEq, Eq)]
+#[derive(Clone, Copy)]
 pub struct ListEnds {
     pub list: ListName,
     pub ends: Ends,

@@ -19,7 +19,7 @@ use uv_work::WorkResult;
 pub const STEPS: usize = 16_777_216;
 
 /// What an accepted step did.
-#[derive(Clone, Copy, Debug, PartialEq, Eq)]
+#[derive(Clone, Copy, PartialEq, Eq)]
 pub struct Outcome {
     /// The line that the step appended to the trace; a step appends one at most.
     pub seen: Option<Seen>,

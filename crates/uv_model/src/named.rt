@@ -6,7 +6,7 @@ ghost use Rattle.uv_model.specs.State.{unbound, count_of, counted};
 use uv_ids::{Callback, Id};
 
 /// How often each of a name's callbacks was called.
-#[derive(Clone, Copy, Debug, PartialEq, Eq)]
+#[derive(Clone, Copy, PartialEq, Eq)]
 pub struct Counts {
     /// Its handle callback.
     pub handle: u32,
@@ -51,7 +51,7 @@ impl Counts {
 }
 
 /// What a name is bound to, and how often its callbacks were called.
-#[derive(Clone, Copy, Debug, PartialEq, Eq)]
+#[derive(Clone, Copy, PartialEq, Eq)]
 pub struct Named {
     /// The id that the last `init` or `queue` of the name gave. It stays when the slot is freed.
     pub id: Option<Id>,

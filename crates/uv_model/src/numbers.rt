@@ -1,7 +1,7 @@
 //! The numbers and flags of a loop.
 
 /// What a loop keeps beside its handles and its place.
-#[derive(Clone, Copy, Debug, PartialEq, Eq)]
+#[derive(Clone, Copy, PartialEq, Eq)]
 pub struct Numbers {
     /// The loop's cached time in ms (uv_now).
     pub time: u64,

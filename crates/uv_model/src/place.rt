@@ -3,7 +3,7 @@
 use uv_ids::{Callback, Mode, Var};
 
 /// Where the loop stands.
-#[derive(Clone, Copy, Debug, PartialEq, Eq)]
+#[derive(Clone, Copy, PartialEq, Eq)]
 pub enum Place {
     /// At a line of the main program, from 0.
     Main(usize),
@@ -12,7 +12,7 @@ pub enum Place {
 }
 
 /// A run under way.
-#[derive(Clone, Copy, Debug, PartialEq, Eq)]
+#[derive(Clone, Copy, PartialEq, Eq)]
 pub struct Run {
     pub mode: Mode,
     /// The line of the main program that began the run.
@@ -23,7 +23,7 @@ pub struct Run {
 }
 
 /// How far a run is.
-#[derive(Clone, Copy, Debug, PartialEq, Eq)]
+#[derive(Clone, Copy, PartialEq, Eq)]
 pub enum Stage {
     /// After the run's line.
     Entry,
@@ -41,7 +41,7 @@ pub enum Stage {
 }
 
 /// Which timers section it is.
-#[derive(Clone, Copy, Debug, PartialEq, Eq)]
+#[derive(Clone, Copy, PartialEq, Eq)]
 pub enum TimersOf {
     /// The one at the entry of a default run (own).
     Entry,
@@ -50,7 +50,7 @@ pub enum TimersOf {
 }
 
 /// How far a timers section is.
-#[derive(Clone, Copy, Debug, PartialEq, Eq)]
+#[derive(Clone, Copy, PartialEq, Eq)]
 pub enum Timing {
     /// The due timers are moved to the ready list (own).
     Collecting,
@@ -59,7 +59,7 @@ pub enum Timing {
 }
 
 /// A callback's body: the call that it belongs to, and its next line.
-#[derive(Clone, Copy, Debug, PartialEq, Eq)]
+#[derive(Clone, Copy, PartialEq, Eq)]
 pub struct Body {
     pub callback: Callback,
     pub name: Var,

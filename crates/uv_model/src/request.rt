@@ -7,7 +7,7 @@ use uv_script::Task;
 use uv_work::Outcome;
 
 /// A work request (uv_work_t).
-#[derive(Clone, Copy, Debug, PartialEq, Eq)]
+#[derive(Clone, Copy, PartialEq, Eq)]
 pub struct Request {
     /// The name that its `queue` bound to it.
     pub name: Var,

@@ -23,7 +23,7 @@ use uv_ids::{Due, Kind, Var};
 const NO_DUE: Due = Due { at: 0, start: 0 };
 
 /// A handle's record.
-#[derive(Clone, Copy, Debug, PartialEq, Eq)]
+#[derive(Clone, Copy, PartialEq, Eq)]
 pub struct HandleRecord {
     /// The name that its `init` bound to it.
     pub name: Var,

@@ -5,7 +5,7 @@ ghost use Rattle.uv_records.specs.Lists.{number, all_lists, watcher_kind, list_o
 use uv_ids::{Kind, Phase};
 
 /// A list of slots. A slot is on one of them, or on none.
-#[derive(Clone, Copy, Debug, PartialEq, Eq)]
+#[derive(Clone, Copy, PartialEq, Eq)]
 pub enum ListName {
     /// The timers that a section collected and will call.
     Ready,
@@ -74,14 +74,14 @@ impl ListName {
 }
 
 /// The first and the last slot of a list.
-#[derive(Clone, Copy, Debug, PartialEq, Eq)]
+#[derive(Clone, Copy, PartialEq, Eq)]
 pub struct Ends {
     pub head: Option<u32>,
     pub tail: Option<u32>,
 }
 
 /// The kinds of handle that a section of each iteration walks.
-#[derive(Clone, Copy, Debug, PartialEq, Eq)]
+#[derive(Clone, Copy, PartialEq, Eq)]
 pub enum WatcherKind {
     /// uv_idle_t
     Idle,

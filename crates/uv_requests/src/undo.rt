@@ -4,35 +4,35 @@ use uv_arena::{InsertUndo, Place, RemoveUndo};
 use uv_ids::Id;
 
 /// Takes a queue back: the slot that was taken, and how many requests were open before.
-#[derive(Clone, Copy, Debug, PartialEq, Eq)]
+#[derive(Clone, Copy)]
 pub struct QueueUndo {
     pub inserted: InsertUndo,
     pub count: u32,
 }
 
 /// Takes a take back: the worker, and where the request stood among those that wait.
-#[derive(Clone, Copy, Debug, PartialEq, Eq)]
+#[derive(Clone, Copy)]
 pub struct TakeUndo {
     pub worker: u16,
     pub unlinked: Place,
 }
 
 /// Takes a finish back: the worker, and the request that it ran.
-#[derive(Clone, Copy, Debug, PartialEq, Eq)]
+#[derive(Clone, Copy)]
 pub struct FinishUndo {
     pub worker: u16,
     pub id: Id,
 }
 
 /// Takes a cancel back: the request, and where it stood among those that wait.
-#[derive(Clone, Copy, Debug, PartialEq, Eq)]
+#[derive(Clone, Copy)]
 pub struct CancelUndo {
     pub id: Id,
     pub unlinked: Place,
 }
 
 /// Takes a collect back: where the request stood, what its slot held, and how many requests were open before.
-#[derive(Clone, Copy, Debug, PartialEq, Eq)]
+#[derive(Clone, Copy)]
 pub struct CollectUndo<T> {
     pub unlinked: Place,
     pub removed: RemoveUndo<T>,

@@ -9,7 +9,7 @@ use std::marker::Model;
 use uv_ids::{Callback, Kind, Mode, Var};
 
 /// An op, as it stands in the main program or in a callback.
-#[derive(Clone, Copy, Debug, PartialEq, Eq)]
+#[derive(Clone, Copy)]
 pub enum Op {
     /// `init NAME KIND`: takes a slot for a handle and binds the name to it (uv_timer_init and the like).
     Init(Var, Kind),
@@ -59,7 +59,7 @@ pub enum Op {
 }
 
 /// A line of the main program.
-#[derive(Clone, Copy, Debug, PartialEq, Eq)]
+#[derive(Clone, Copy)]
 pub enum MainOp {
     Op(Op),
     /// `run MODE` (uv_run), which stands in the main program only.
@@ -120,7 +120,7 @@ impl Callbacks {
 }
 
 /// A line of a name's callback.
-#[derive(Clone, Copy, Debug, PartialEq, Eq)]
+#[derive(Clone, Copy)]
 pub struct CallbackLine {
     /// In which of the name's calls the op is done, from 1; none is in every call.
     pub call: Option<u32>,

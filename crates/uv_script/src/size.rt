@@ -3,7 +3,7 @@ ghost use Rattle.std.specs.Prelude.{◌≡◌};
 ghost use Rattle.uv_script.specs.Program.{DEFAULT_SIZE};
 
 /// The arena that the slots of handles are taken from.
-#[derive(Clone, Copy, Debug, PartialEq, Eq)]
+#[derive(Clone, Copy, PartialEq, Eq)]
 pub struct ArenaSize {
     /// How many slots it has, 1 to 65535.
     pub slots: u32,

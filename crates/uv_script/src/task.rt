@@ -9,7 +9,7 @@ const MOST_ROUNDS: u16 = 1000;
 const LONGEST_TEXT: usize = 64;
 
 /// How often a worker hashes, and the text that it begins with: 1 to 1000 rounds, and a text of at most 64 bytes (own).
-#[derive(Clone, Copy, Debug, PartialEq, Eq)]
+#[derive(Clone, Copy, PartialEq, Eq)]
 pub struct Task {
     rounds: u16,
     len: u8,

@@ -6,7 +6,7 @@ ghost use Rattle.uv_session.specs.Breaks.{calls_name, is_code, answers_code, beg
 use uv_ids::{Answer, Code, Fault, Phase, Seen, Var, Why};
 
 /// Where a run is to stop (own). A step matches by the line that it appended.
-#[derive(Clone, Copy, Debug, PartialEq, Eq)]
+#[derive(Clone, Copy, PartialEq, Eq)]
 pub enum Break {
     /// A callback of this name: that of its handle, that of its request, or that of its close.
     Call(Var),
@@ -19,7 +19,7 @@ pub enum Break {
 }
 
 /// Why no further step was done.
-#[derive(Clone, Copy, Debug, PartialEq, Eq)]
+#[derive(Clone, Copy, PartialEq, Eq)]
 pub enum Stop {
     /// All of them are done, and the last one matches no break.
     All,

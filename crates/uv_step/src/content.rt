@@ -5,7 +5,7 @@ use uv_requests::HoldsWork;
 use uv_work::RequestRecord;
 
 /// What a slot holds: a handle's record, or a request's.
-#[derive(Clone, Copy, Debug, PartialEq, Eq)]
+#[derive(Clone, Copy, PartialEq, Eq)]
 pub enum Content {
     Handle(HandleRecord),
     Request(RequestRecord),

@@ -5,7 +5,7 @@ ghost use Rattle.uv_step.specs.Names.{count_of, with_count, unbound};
 use uv_ids::{Callback, Id};
 
 /// How often each callback of a name was called.
-#[derive(Clone, Copy, Debug, PartialEq, Eq)]
+#[derive(Clone, Copy)]
 pub struct Calls {
     /// That of its handle.
     pub handle: u32,
@@ -49,7 +49,7 @@ impl Calls {
 }
 
 /// What a name is bound to, and how often its callbacks were called.
-#[derive(Clone, Copy, Debug, PartialEq, Eq)]
+#[derive(Clone, Copy)]
 pub struct Named {
     /// What the last handle or request made under the name got as its id. It stays when the slot is freed.
     pub id: Option<Id>,

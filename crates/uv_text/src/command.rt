@@ -11,7 +11,7 @@ use uv_script::{Fields, Names, is_line, is_skipped, number};
 use uv_session::Break;
 
 /// What a line of a conversation asks for.
-#[derive(Clone, Copy, Debug, PartialEq, Eq)]
+#[derive(Clone, Copy)]
 pub enum Command {
     /// `loop [n]`: so many steps of the loop, 1 to 2^24.
     Loop(u32),
@@ -40,7 +40,7 @@ pub enum Command {
 }
 
 /// How a line of a conversation is read.
-#[derive(Clone, Copy, Debug, PartialEq, Eq)]
+#[derive(Clone, Copy)]
 pub enum Asked {
     /// An empty line, or a comment.
     Nothing,

@@ -7,7 +7,7 @@ use uv_handle::HandleRecord;
 use uv_ids::Due;
 
 /// The loop's cached time in ms (uv_now), and the number that the next start of a timer draws.
-#[derive(Clone, Copy, Debug, PartialEq, Eq)]
+#[derive(Clone, Copy, PartialEq, Eq)]
 pub struct Times {
     pub time: u64,
     pub next_start: u64,
@@ -26,7 +26,7 @@ impl Times {
 }
 
 /// What becomes of a timer: its record, whether it leaves its list, and when it is due, if it is set.
-#[derive(Clone, Copy, Debug, PartialEq, Eq)]
+#[derive(Clone, Copy)]
 pub struct Change {
     pub from: HandleRecord,
     pub to: HandleRecord,

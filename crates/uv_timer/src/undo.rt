@@ -4,7 +4,7 @@ use uv_handle::DelistUndo;
 use uv_heap::RemoveUndo;
 
 /// Takes back that a timer was put on the heap: where it came to rest there, and the start number that it drew.
-#[derive(Clone, Copy, Debug, PartialEq, Eq)]
+#[derive(Clone, Copy)]
 pub struct SetUndo {
     pub pushed: uv_heap::PushUndo,
     pub start: u64,
@@ -12,7 +12,7 @@ pub struct SetUndo {
 
 /// Takes back what became of a timer: where it was taken off the heap, if it was there; its record and its list; and that it was
 /// set, if it was.
-#[derive(Clone, Copy, Debug, PartialEq, Eq)]
+#[derive(Clone, Copy)]
 pub struct TimerUndo {
     pub removed: Option<RemoveUndo>,
     pub delisted: DelistUndo,
@@ -20,7 +20,7 @@ pub struct TimerUndo {
 }
 
 /// Takes back that a timer was collected.
-#[derive(Clone, Copy, Debug, PartialEq, Eq)]
+#[derive(Clone, Copy)]
 pub struct CollectUndo {
     pub timer: TimerUndo,
     pub pushed: PushUndo,

@@ -4,7 +4,7 @@ use uv_handle::RecordUndo;
 
 /// Takes one step of a walk back: where the handle stood among those yet to run, and the record of an async handle that was
 /// woken.
-#[derive(Clone, Copy, Debug, PartialEq, Eq)]
+#[derive(Clone, Copy)]
 pub struct WalkUndo {
     pub unlinked: Place,
     pub pushed: PushUndo,

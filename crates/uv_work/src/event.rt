@@ -3,7 +3,7 @@
 use uv_ids::Id;
 
 /// One event of the thread pool. `specs/Pool.antt` has the rule of each.
-#[derive(Clone, Copy, Debug, PartialEq, Eq)]
+#[derive(Clone, Copy, PartialEq, Eq)]
 pub enum PoolEvent {
     /// A request was queued (uv_queue_work).
     Queue(Id),

@@ -1,7 +1,7 @@
 //! What became of a request.
 
 /// What became of a request.
-#[derive(Clone, Copy, Debug, PartialEq, Eq)]
+#[derive(Clone, Copy, PartialEq, Eq)]
 pub enum Outcome {
     /// It waits for a worker, or one runs it.
     Open,

@@ -11,7 +11,7 @@ use std::marker::Model;
 use uv_ids::{Id, Var};
 
 /// A request's record, as a slot holds it. The request's id is that of its slot.
-#[derive(Clone, Copy, Debug, PartialEq, Eq)]
+#[derive(Clone, Copy, PartialEq, Eq)]
 pub struct RequestRecord {
     name: Var,
     rounds: u16,

@@ -7,7 +7,7 @@ use std::marker::Model;
 const LONGEST_TEXT: usize = 64;
 
 /// A text of at most 64 bytes. Contracts see it as its bytes.
-#[derive(Clone, Copy, Debug, PartialEq, Eq)]
+#[derive(Clone, Copy, PartialEq, Eq)]
 pub struct Text {
     len: u8,
     bytes: [u8; LONGEST_TEXT],
