@@ -9,40 +9,34 @@ use uv_arena::Slots;
 use uv_ids::Id;
 use uv_records::ListName;
 
-/// The members of a list, front first.
-fn members(alloc: Global, slots: &Slots<u64>, list: ListName) -> Result<Vec<u32>, AllocError> {
-    let mut found = Vec::new(alloc);
+/// Whether these are the members of a list, read from its front.
+fn has_members(slots: &Slots<u64>, list: ListName, members: &[u32]) -> bool {
     let mut next = slots.first(list);
-    for _ in 0..slots.used() {
+    for slot in members {
         let Some(id) = next else {
-            break;
+            return false;
         };
-        found.push(id.slot)?;
-        next = if slots.on_list(id) {
-            slots.next(id)
-        } else {
-            None
-        };
+        if id.slot != *slot || !slots.on_list(id) {
+            return false;
+        }
+        next = slots.next(id);
     }
-    Ok(found)
+    next.is_none()
 }
 
-/// The members of a list, from the back.
-fn turned(alloc: Global, slots: &Slots<u64>, list: ListName) -> Result<Vec<u32>, AllocError> {
-    let mut found = Vec::new(alloc);
+/// Whether these are the members of a list, read from its back.
+fn has_turned(slots: &Slots<u64>, list: ListName, members: &[u32]) -> bool {
     let mut next = slots.last(list);
-    for _ in 0..slots.used() {
+    for slot in members {
         let Some(id) = next else {
-            break;
+            return false;
         };
-        found.push(id.slot)?;
-        next = if slots.on_list(id) {
-            slots.prev(id)
-        } else {
-            None
-        };
+        if id.slot != *slot || !slots.on_list(id) {
+            return false;
+        }
+        next = slots.prev(id);
     }
-    Ok(found)
+    next.is_none()
 }
 
 /// Puts a slot on a list, if it may be put there.
@@ -111,42 +105,62 @@ fn live(slot: u32) -> Id {
     }
 }
 
+const FIRST: Id = Id {
+    slot: 0,
+    generation: 0,
+};
+
+/// What the first slot holds once it was freed.
+const AGAIN: Id = Id {
+    slot: 0,
+    generation: 1,
+};
+
+/// Two slots are taken, and no third one is left.
+fn fill<R: Abort>(rt: &R, slots: &mut Slots<u64>) {
+    assert!(rt; slots.insert(70).ok().map(|made| made.0) == Some(FIRST));
+    assert!(rt; slots.insert(71).ok().map(|made| made.0) == Some(live(1)));
+    assert!(rt; slots.insert(72).is_err());
+}
+
+/// The first slot is freed and taken again, and both are taken back.
+fn reuse<R: Abort>(rt: &R, slots: &mut Slots<u64>) {
+    assert!(rt; !slots.on_list(FIRST));
+    assert!(rt; there_and_back(slots, FIRST, 73) == Some((70, AGAIN)));
+    assert!(rt; slots.get(FIRST) == Some(70) && slots.get(AGAIN).is_none());
+    assert!(rt; slots.first_free().is_none() && slots.last_free().is_none());
+    assert!(rt; slots.used() == slots.capacity());
+}
+
 #[test]
-fn takes_a_reused_slot_back(rt: HostRuntime) {
-    let first = Id {
-        slot: 0,
-        generation: 0,
-    };
-    let again = Id {
-        slot: 0,
-        generation: 1,
-    };
-    let mut slots = Slots::new(rt.alloc(), 2, 1).expect(&rt, "there is memory");
-    assert!(&rt; slots.insert(70u64).ok().map(|made| made.0) == Some(first));
-    assert!(&rt; slots.insert(71).ok().map(|made| made.0) == Some(live(1)));
-    assert!(&rt; slots.insert(72).is_err());
-    assert!(&rt; !slots.on_list(first));
-    assert!(&rt; there_and_back(&mut slots, first, 73) == Some((70, again)));
-    assert!(&rt; slots.get(first) == Some(70));
-    assert!(&rt; slots.get(again) == None);
-    assert!(&rt; slots.first_free() == None);
-    assert!(&rt; slots.last_free() == None);
-    assert!(&rt; slots.used() == slots.capacity());
+fn takes_a_reused_slot_back(rt: HostRuntime) -> Result<(), Fail> {
+    let mut slots = Slots::new(rt.alloc(), 2, 1)?;
+    fill(&rt, &mut slots);
+    reuse(&rt, &mut slots);
+    Ok(())
+}
+
+/// A list of four, there and back.
+fn read<R: Abort>(rt: &R, slots: &mut Slots<u64>) {
+    assert!(rt; has_members(slots, ListName::Idle, &[2, 0, 1, 3]));
+    assert!(rt; has_turned(slots, ListName::Idle, &[3, 1, 0, 2]));
+    unlink_and_back(slots, live(0));
+    assert!(rt; has_members(slots, ListName::Idle, &[2, 0, 1, 3]));
+}
+
+/// All of it goes to another list, off which nothing is pushed.
+fn move_all<R: Abort>(rt: &R, slots: &mut Slots<u64>) {
+    splice(slots, ListName::Idle, ListName::IdleYet);
+    assert!(rt; has_members(slots, ListName::IdleYet, &[2, 0, 1, 3]));
+    assert!(rt; has_members(slots, ListName::Idle, &[]));
+    push(slots, ListName::Idle, live(1), true);
+    assert!(rt; has_members(slots, ListName::Idle, &[]));
 }
 
 #[test]
 fn lists_read_both_ways(rt: HostRuntime) -> Result<(), Fail> {
     let mut slots = listed(rt.alloc())?;
-    assert!(rt; members(rt.alloc(), &slots, ListName::Idle)?.as_slice() == [2, 0, 1, 3].as_slice());
-    assert!(rt; turned(rt.alloc(), &slots, ListName::Idle)?.as_slice() == [3, 1, 0, 2].as_slice());
-    unlink_and_back(&mut slots, live(0));
-    assert!(rt; members(rt.alloc(), &slots, ListName::Idle)?.as_slice() == [2, 0, 1, 3].as_slice());
-    splice(&mut slots, ListName::Idle, ListName::IdleYet);
-    assert!(rt;
-        members(rt.alloc(), &slots, ListName::IdleYet)?.as_slice() == [2, 0, 1, 3].as_slice()
-    );
-    assert!(rt; members(rt.alloc(), &slots, ListName::Idle)?.as_slice() == [0u32; 0].as_slice());
-    push(&mut slots, ListName::Idle, live(1), true);
-    assert!(rt; members(rt.alloc(), &slots, ListName::Idle)?.as_slice() == [0u32; 0].as_slice());
+    read(&rt, &mut slots);
+    move_all(&rt, &mut slots);
     Ok(())
 }

@@ -34,37 +34,46 @@ fn assert_dues(rt: &impl Abort, heap: &TimerHeap, dues: &[u64]) {
     }
 }
 
+/// Seven timers are put in.
+fn fill<R: Abort>(rt: &R, heap: &mut TimerHeap) {
+    assert!(rt; heap.is_empty() && heap.least().is_none());
+    for at in [1, 10, 2, 11, 12, 3, 4] {
+        put(rt, heap, timer(at));
+    }
+    assert_dues(rt, heap, &[1, 10, 2, 11, 12, 3, 4]);
+    assert!(rt; heap.least() == Some(timer(1)) && heap.place_of(12) == Some(4));
+}
+
+/// One in the middle is removed, and put back.
+fn remove_and_back<R: Abort>(rt: &R, heap: &mut TimerHeap) {
+    assert!(rt; 3 < heap.len());
+    let undo = heap.remove_at(3);
+    assert_dues(rt, heap, &[1, 4, 2, 10, 12, 3]);
+    let removed = RemoveUndo {
+        place: 3,
+        rest: 1,
+        entry: timer(11),
+    };
+    assert!(rt; undo == removed && heap.place_of(11).is_none());
+    heap.undo_remove(undo);
+    assert_dues(rt, heap, &[1, 10, 2, 11, 12, 3, 4]);
+}
+
+/// One that goes to the top is put in, and taken out again.
+fn push_and_back<R: Abort>(rt: &R, heap: &mut TimerHeap) {
+    let undo = put(rt, heap, timer(0));
+    assert_dues(rt, heap, &[0, 1, 2, 10, 12, 3, 4, 11]);
+    assert!(rt; undo == PushUndo { place: 0 });
+    heap.undo_push(undo);
+    assert_dues(rt, heap, &[1, 10, 2, 11, 12, 3, 4]);
+}
+
 #[test]
 fn walks_a_path_both_ways(rt: HostRuntime) {
     let mut heap = TimerHeap::new(rt.alloc());
-    assert!(&rt; heap.is_empty());
-    assert!(&rt; heap.least() == None);
-    for at in [1, 10, 2, 11, 12, 3, 4] {
-        put(&rt, &mut heap, timer(at));
-    }
-    assert_dues(&rt, &heap, &[1, 10, 2, 11, 12, 3, 4]);
-    assert!(&rt; heap.least() == Some(timer(1)));
-    assert!(&rt; heap.place_of(12) == Some(4));
-
-    assert!(&rt; 3 < heap.len());
-    let undo = heap.remove_at(3);
-    assert_dues(&rt, &heap, &[1, 4, 2, 10, 12, 3]);
-    assert!(&rt;
-        undo == RemoveUndo {
-            place: 3,
-            rest: 1,
-            entry: timer(11)
-        }
-    );
-    assert!(&rt; heap.place_of(11) == None);
-    heap.undo_remove(undo);
-    assert_dues(&rt, &heap, &[1, 10, 2, 11, 12, 3, 4]);
-
-    let undo = put(&rt, &mut heap, timer(0));
-    assert_dues(&rt, &heap, &[0, 1, 2, 10, 12, 3, 4, 11]);
-    assert!(&rt; undo == PushUndo { place: 0 });
-    heap.undo_push(undo);
-    assert_dues(&rt, &heap, &[1, 10, 2, 11, 12, 3, 4]);
+    fill(&rt, &mut heap);
+    remove_and_back(&rt, &mut heap);
+    push_and_back(&rt, &mut heap);
 }
 
 /// Makes so many changes, chosen by chance, and takes them back, the last one first. Answers whether each earlier array

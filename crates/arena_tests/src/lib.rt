@@ -5,16 +5,24 @@
 #[cfg(test)]
 mod arena;
 #[cfg(test)]
+mod call;
+#[cfg(test)]
+mod counted;
+#[cfg(test)]
 mod given;
 #[cfg(test)]
 mod handle;
 #[cfg(test)]
 mod heap;
 #[cfg(test)]
+mod look;
+#[cfg(test)]
 mod names;
 #[cfg(test)]
 mod raw;
 #[cfg(test)]
 mod watch;
+#[cfg(test)]
+mod watchers;
 #[cfg(test)]
 mod work;

@@ -145,50 +145,100 @@ const DIGESTS: [(usize, u16, [u8; 32]); 15] = [
     ),
 ];
 
+/// One byte more than a text may have.
+const TOO_LONG: &[u8; 65] = &[0; 65];
+
+/// The texts, and the digests: behind functions, since a proof writes out a constant where it meets it.
+fn text() -> &'static [u8] {
+    TEXT
+}
+
+fn too_long() -> &'static [u8] {
+    TOO_LONG
+}
+
+fn digests() -> &'static [(usize, u16, [u8; 32])] {
+    &DIGESTS
+}
+
 const REQ: Id = Id {
     slot: 3,
     generation: 1,
 };
 
-fn job(rt: &impl Abort, text: &[u8], rounds: u16) -> Job {
+fn job<R: Abort>(rt: &R, text: &[u8], rounds: u16) -> Job {
     Job::new(REQ, text, rounds).expect(rt, "within the limits")
+}
+
+/// Whether so many rounds of the first bytes of the text, so many, have this digest.
+fn has_digest<R: Abort>(rt: &R, len: usize, rounds: u16, digest: [u8; 32]) -> bool {
+    match text().get(..len) {
+        None => false,
+        Some(first) => WorkResult::compute(job(rt, first, rounds)).digest() == digest,
+    }
 }
 
 #[test]
 fn digests_are_those_of_sha256sum(rt: HostRuntime) {
-    for (len, rounds, digest) in DIGESTS {
-        assert!(&rt; len <= TEXT.len());
-        let work = WorkResult::compute(job(&rt, &TEXT[..len], rounds));
-        assert!(&rt; work.digest() == digest, "{rounds} rounds of {len} bytes");
+    for (len, rounds, digest) in digests() {
+        assert!(&rt;
+            has_digest(&rt, *len, *rounds, *digest),
+            "{rounds} rounds of {len} bytes"
+        );
     }
+}
+
+/// Whether there is a job of this text and of so many rounds.
+fn is_job(text: &[u8], rounds: u16) -> bool {
+    Job::new(REQ, text, rounds).is_some()
+}
+
+/// Whether a job is the one that was asked for.
+fn is_asked(job: Job, text: &[u8], rounds: u16) -> bool {
+    job.req() == REQ && job.text() == text && job.rounds() == rounds
 }
 
 #[test]
 fn jobs_are_within_the_limits(rt: HostRuntime) {
-    let longest = job(&rt, TEXT, 1000);
-    assert!(&rt; longest.text() == TEXT.as_slice() && longest.rounds() == 1000);
-    assert!(&rt; longest.req() == REQ && longest.is(WorkResult::compute(longest).job()));
-    for rounds in [0, 1001] {
-        assert!(&rt; Job::new(REQ, TEXT, rounds).is_none());
-    }
-    assert!(&rt; Job::new(REQ, &[0; 65], 1).is_none());
+    let longest = job(&rt, text(), 1000);
+    assert!(&rt; is_asked(longest, text(), 1000));
+    assert!(&rt; longest.is(WorkResult::compute(longest).job()));
+    assert!(&rt; !is_job(text(), 0) && !is_job(text(), 1001) && !is_job(too_long(), 1));
+}
+
+/// Whether there is a request of this text and of so many rounds.
+fn is_request(text: &[u8], rounds: u16) -> bool {
+    RequestRecord::new(Var(2), rounds, text).is_some()
+}
+
+#[test]
+fn requests_are_within_the_limits(rt: HostRuntime) {
+    assert!(&rt; is_request(text(), 1000));
+    assert!(&rt; !is_request(text(), 0) && !is_request(text(), 1001) && !is_request(too_long(), 1));
+}
+
+/// Whether a request is open, and its job the one that was asked for.
+fn opens(request: RequestRecord) -> bool {
+    request.name() == Var(2)
+        && request.rounds() == 1
+        && request.text().is_empty()
+        && request.is_open()
+        && request.outcome() == Outcome::Open
+        && is_asked(request.job(REQ), &[], 1)
+}
+
+/// Whether a request ends with this digest, and opens again.
+fn ends(request: RequestRecord, digest: [u8; 32]) -> bool {
+    let finished = request.finished(WorkResult::compute(request.job(REQ)));
+    finished.outcome() == Outcome::Finished(digest)
+        && !finished.is_open()
+        && finished.reopened() == request
 }
 
 #[test]
 fn what_becomes_of_a_request(rt: HostRuntime) {
     let request = RequestRecord::new(Var(2), 1, b"").expect(&rt, "within the limits");
-    assert!(&rt; request.name() == Var(2) && request.rounds() == 1 && request.text().is_empty());
-    assert!(&rt; request.is_open() && request.outcome() == Outcome::Open);
-    let job = request.job(REQ);
-    assert!(&rt; job.req() == REQ && job.rounds() == 1 && job.text().is_empty());
-    let (_, _, digest) = DIGESTS[0];
-    let finished = request.finished(WorkResult::compute(job));
-    assert!(&rt; finished.outcome() == Outcome::Finished(digest) && !finished.is_open());
-    assert!(&rt; finished.reopened() == request);
+    let (_, _, digest) = digests().first().expect(&rt, "the digest of nothing");
+    assert!(&rt; opens(request) && ends(request, *digest));
     assert!(&rt; request.cancelled().outcome() == Outcome::Cancelled);
-    assert!(&rt; RequestRecord::new(Var(2), 1000, TEXT).is_some());
-    for rounds in [0, 1001] {
-        assert!(&rt; RequestRecord::new(Var(2), rounds, TEXT).is_none());
-    }
-    assert!(&rt; RequestRecord::new(Var(2), 1, &[0; 65]).is_none());
 }
