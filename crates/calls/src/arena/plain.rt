@@ -138,7 +138,12 @@ impl Plain {
 
     /// Whether the arena has these slots and these lists.
     pub fn agrees(&self, slots: &Slots<u64>) -> bool {
-        self.agrees_in_slots(slots) && LISTS.iter().all(|list| self.agrees_in_list(slots, *list))
+        for list in LISTS.iter() {
+            if !self.agrees_in_list(slots, *list) {
+                return false;
+            }
+        }
+        self.agrees_in_slots(slots)
     }
 
     fn agrees_in_slots(&self, slots: &Slots<u64>) -> bool {

@@ -41,24 +41,23 @@ impl Plain {
     }
 
     fn runs(&self, id: Id) -> bool {
-        self.running.iter().any(|run| *run == Some(id))
+        self.running.contains(&Some(id))
     }
 
     fn is_done(&self, id: Id) -> bool {
-        self.done.iter().any(|member| member.0 == id)
-            || self.yet.iter().any(|member| member.0 == id)
+        holds(&self.done, id) || holds(&self.yet, id)
     }
 
     fn waits(&self, id: Id) -> bool {
-        self.waiting.iter().any(|other| *other == id)
+        self.waiting.contains(&id)
     }
 
     fn size(&self) -> usize {
-        let running = self.running.iter().filter(|run| run.is_some()).count();
-        self.waiting
-            .len()
-            .saturating_add(running)
-            .saturating_add(self.done.len())
+        let mut size = self.waiting.len();
+        for run in self.running.iter() {
+            size = size.saturating_add(usize::from(run.is_some()));
+        }
+        size.saturating_add(self.done.len())
             .saturating_add(self.yet.len())
     }
 
@@ -153,17 +152,36 @@ impl Plain {
         Some(front)
     }
 
+    /// Whether the workers run these.
+    fn agrees_in_workers(&self, requests: &Requests) -> bool {
+        let mut worker: u16 = 0;
+        for run in self.running.iter() {
+            if requests.running(worker) != Some(*run) {
+                return false;
+            }
+            worker = worker.wrapping_add(1);
+        }
+        true
+    }
+
     /// Whether the requests are these.
     pub fn agrees(&self, slots: &Slots<Held>, requests: &Requests) -> bool {
-        let same_workers = self.running.iter().enumerate().all(|(worker, run)| {
-            requests.running(u16::try_from(worker).unwrap_or(u16::MAX)) == Some(*run)
-        });
-        same_workers
+        self.agrees_in_workers(requests)
             && requests.open_requests() as usize == self.size()
             && are_waiting(slots, &self.waiting)
             && are_done(slots, ListName::Done, &self.done)
             && are_done(slots, ListName::DoneYet, &self.yet)
     }
+}
+
+/// Whether a request is among those that are done.
+fn holds(members: &[(Id, Outcome)], id: Id) -> bool {
+    for member in members {
+        if member.0 == id {
+            return true;
+        }
+    }
+    false
 }
 
 /// The one after an id on its list.

@@ -202,14 +202,13 @@ impl Plain {
     }
 
     pub fn fire(&mut self, answer: Option<Id>, score: &mut Score) {
-        let Some(slot) = self.ready.first().copied() else {
+        if self.ready.is_empty() {
             return score.note(answer.is_none());
-        };
+        }
         let id = Id {
-            slot,
+            slot: self.ready.remove(0),
             generation: 0,
         };
-        self.ready.retain(|other| *other != slot);
         if let Ok(handle) = self.found(id) {
             if handle.repeat > 0 {
                 self.set(id, handle, handle.repeat, handle.repeat, score);
