@@ -18,10 +18,10 @@ fn bind(memory: &mut Memory<u32>, name: Var, id: Id) -> Option<Record<u32>>
     if name.0 as usize >= memory.names.len() {
         return None;
     }
-    let mut step_record = memory.pass();
-    memory.stand_at(7, &step_record);
-    memory.bind(&mut step_record, name, Some(id));
-    Some(step_record)
+    memory.step_record = memory.pass();
+    memory.stand_at(7);
+    memory.bind(name, Some(id));
+    Some(memory.step_record)
 }
 
 /// Counts a call of a name, where there is such a name.
@@ -35,9 +35,9 @@ fn count(memory: &mut Memory<u32>, name: Var) -> Option<Record<u32>>
     {
         return None;
     }
-    let mut step_record = memory.pass();
-    memory.count_call(&mut step_record, name, Callback::Close);
-    Some(step_record)
+    memory.step_record = memory.pass();
+    memory.count_call(name, Callback::Close);
+    Some(memory.step_record)
 }
 
 /// Whether the loop stands here, and a name is bound to this and its close callback was called so often.

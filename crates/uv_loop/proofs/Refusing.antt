@@ -25,10 +25,10 @@ module _ (p : Program) (i : Image Place) (s : State) (h : StandsFor i s) where
   run_there run is = ap (loop_step p s) (sym h.place ∙ is)
 
 -- a step that does the same to each state answers the same
-pub turns_by : (f g : State → Next) (h k : Held Place) (r : Result (Option Seen × Record Place) Why)
-    → ((s : State) → StandsFor h.image s → g s ≡ f s) → Turns f h k r → Turns g h k r
-turns_by f g h k (Ok r) same t = (t.0, λ s stands reached. let q = t.1 s stands reached in (q.0, same s stands ∙ q.1, q.2))
-turns_by f g h k (Err why) same t = (t.0, λ s stands reached. same s stands ∙ t.1 s stands reached)
+pub turns_by : (f g : State → Next) (r : Record Place) (h k : Held Place) (line : Result (Option Seen) Why)
+    → ((s : State) → StandsFor h.image s → g s ≡ f s) → Turns f r h k line → Turns g r h k line
+turns_by f g r h k (Ok line) same t = (t.0, λ s stands reached. let q = t.1 s stands reached in (q.0, same s stands ∙ q.1, q.2))
+turns_by f g r h k (Err why) same t = (t.0, λ s stands reached. same s stands ∙ t.1 s stands reached)
 
 -- a step is refused so, or taken, by why it is refused
 pub refuses_by : (n : Next) (why : Why) → refusal_of n ≡ Some why → n ≡ Refuses why

@@ -13,10 +13,10 @@ use Rattle.uv_step.specs.Image.{Image, Held}
 use Rattle.uv_stands.specs.Stands.{StandsFor}
 use Rattle.uv_stands.specs.Doing.{Returns, OfEach, Goes}
 
--- its line, if it has one, and what takes it back, where each state goes on so; or why it is refused, and nothing changes
-abbrev pub Turns : (State → Next) → Held Place → Held Place → Result (Option Seen × Record Place) Why → Type 0
-Turns f h k (Ok r) = Returns r.1 h k × Goes f h.image k.image r.0
-Turns f h k (Err why) = (k ≡ h) × OfEach h.image (λ s. f s ≡ Refuses why)
+-- its line, if it has one, where each state goes on so, and this takes it back; or why it is refused, and nothing changes
+abbrev pub Turns : (State → Next) → Record Place → Held Place → Held Place → Result (Option Seen) Why → Type 0
+Turns f r h k (Ok line) = Returns r h k × Goes f h.image k.image line
+Turns f r h k (Err why) = (k ≡ h) × OfEach h.image (λ s. f s ≡ Refuses why)
 
 -- an op with its answer, after which the loop is at this place
 abbrev pub PerformsAt : Op → Place → Image Place → Image Place → Answer → Type 0

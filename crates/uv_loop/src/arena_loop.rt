@@ -143,8 +143,8 @@ impl ArenaLoop {
         }
         match turn(&mut self.memory, &self.script) {
             Err(why) => Err(Fault::Refused(why)),
-            Ok((seen, step_record)) => {
-                self.steps.push(seen, step_record);
+            Ok(seen) => {
+                self.steps.push(seen, self.memory.step_record);
                 Ok(Outcome { seen })
             }
         }
@@ -166,9 +166,9 @@ impl ArenaLoop {
         if self.steps.reserve().is_err() {
             return Err(Fault::Memory);
         }
-        let step_record = self.memory.tick(ms);
+        self.memory.tick(ms);
         let seen = Some(Seen::Tick(ms));
-        self.steps.push(seen, step_record);
+        self.steps.push(seen, self.memory.step_record);
         Ok(Outcome { seen })
     }
 
@@ -187,9 +187,9 @@ impl ArenaLoop {
         if self.steps.reserve().is_err() {
             return Err(Fault::Memory);
         }
-        let (code, step_record) = send_to(&mut self.memory, name);
+        let code = send_to(&mut self.memory, name);
         let seen = Some(Seen::Send(name, code));
-        self.steps.push(seen, step_record);
+        self.steps.push(seen, self.memory.step_record);
         Ok(Outcome { seen })
     }
 
@@ -209,9 +209,9 @@ impl ArenaLoop {
         if self.steps.reserve().is_err() {
             return Err(Fault::Memory);
         }
-        let (line, step_record) = take_work(&mut self.memory, worker, id, request);
+        let line = take_work(&mut self.memory, worker, id, request);
         let seen = Some(line);
-        self.steps.push(seen, step_record);
+        self.steps.push(seen, self.memory.step_record);
         Ok(Outcome { seen })
     }
 
@@ -250,9 +250,9 @@ impl ArenaLoop {
         if self.steps.reserve().is_err() {
             return Err(Fault::Memory);
         }
-        let (line, step_record) = finish_work(&mut self.memory, worker, id, request, work);
+        let line = finish_work(&mut self.memory, worker, id, request, work);
         let seen = Some(line);
-        self.steps.push(seen, step_record);
+        self.steps.push(seen, self.memory.step_record);
         Ok(Outcome { seen })
     }
 
@@ -271,9 +271,9 @@ impl ArenaLoop {
         if self.steps.reserve().is_err() {
             return Err(Fault::Memory);
         }
-        let (answer, step_record) = cancel_named(&mut self.memory, name);
+        let answer = cancel_named(&mut self.memory, name);
         let seen = Some(Seen::Cancel(name, answer));
-        self.steps.push(seen, step_record);
+        self.steps.push(seen, self.memory.step_record);
         Ok(Outcome { seen })
     }
 

@@ -8,35 +8,33 @@ ghost use Rattle.uv_stands.specs.Doing.{Returns};
 ghost use Rattle.uv_stands.specs.Ready.{IsReady};
 ghost use Rattle.uv_loop.specs.Turning.{Turns, PerformsAt};
 
-use crate::staging::Turn;
 use uv_ids::{Answer, Seen, Site, Why};
 use uv_model::{Body, Place, Run, body_from};
 use uv_ops::perform;
 use uv_script::{CallbackLine, MainOp, Op, Script};
 use uv_sections::{begin_run, stand_at};
-use uv_step::{Memory, Record};
+use uv_step::Memory;
 
 /// Does an op, after which the loop is at this place.
-fn perform_at(memory: &mut Memory<Place>, op: Op, place: Place) -> (Answer, Record<Place>)
+fn perform_at(memory: &mut Memory<Place>, op: Op, place: Place) -> Answer
     requires ready { IsReady (held memory.old) }
-    ensures returns { Returns result.1 (held memory.old) (held memory.new) }
-    ensures performs { PerformsAt op place (held memory.old).image (held memory.new).image result.0 }
+    ensures returns { Returns memory.new.step_record (held memory.old) (held memory.new) }
+    ensures performs { PerformsAt op place (held memory.old).image (held memory.new).image result }
 {
-    let (answer, step_record) = perform(memory, op);
-    stand_at(memory, &step_record, place);
-    (answer, step_record)
+    let answer = perform(memory, op);
+    stand_at(memory, place);
+    answer
 }
 
 /// The body under way is over.
-fn leave_body(memory: &mut Memory<Place>, run: Run) -> Record<Place>
+fn leave_body(memory: &mut Memory<Place>, run: Run)
     requires ready { IsReady (held memory.old) }
     ensures turns { (p : Program) → (body : Body) → Turns (λ s. body_step p s run body None)
-        (held memory.old) (held memory.new) (done (None, result)) }
+        memory.new.step_record (held memory.old) (held memory.new) (done None) }
 {
-    let step_record = memory.pass();
+    memory.step_record = memory.pass();
     let place = Place::Running(Run { body: None, ..run });
-    stand_at(memory, &step_record, place);
-    step_record
+    stand_at(memory, place);
 }
 
 /// The line that a body does next, if it has one.
@@ -49,39 +47,51 @@ fn line_of(script: &Script, body: Body) -> Option<CallbackLine>
 }
 
 /// The body under way does its next op.
-pub(crate) fn in_body(memory: &mut Memory<Place>, script: &Script, run: Run, body: Body) -> Turn
+pub(crate) fn in_body(
+    memory: &mut Memory<Place>,
+    script: &Script,
+    run: Run,
+    body: Body,
+) -> Option<Seen>
     requires ready { IsReady (held memory.old) }
     ensures turns { Turns
         (λ s. body_step script.now s run body (slice_get (lines_in script.now body.callback body.name) body.next))
-        (held memory.old) (held memory.new) (done result) }
+        memory.new.step_record (held memory.old) (held memory.new) (done result) }
 {
     match line_of(script, body) {
-        None => (None, leave_body(memory, run)),
+        None => {
+            leave_body(memory, run);
+            None
+        }
         Some(line) => {
             let rest = body_from(script, body.callback, body.name, body.call, body.next + 1);
             let place = Place::Running(Run { body: rest, ..run });
-            let (answer, step_record) = perform_at(memory, line.op, place);
+            let answer = perform_at(memory, line.op, place);
             let site = Site::In(body.callback, body.name, body.next);
-            (Some(Seen::Op(site, answer)), step_record)
+            Some(Seen::Op(site, answer))
         }
     }
 }
 
 /// The main program does its next line; past its end the step is refused.
-pub(crate) fn in_main(memory: &mut Memory<Place>, script: &Script, line: usize) -> Result<Turn, Why>
+pub(crate) fn in_main(
+    memory: &mut Memory<Place>,
+    script: &Script,
+    line: usize,
+) -> Result<Option<Seen>, Why>
     requires ready { IsReady (held memory.old) }
     requires line { line < 2 ^ 63 }
-    ensures turns { Turns (λ s. main_step s line (slice_get script.now.main line)) (held memory.old) (held memory.new) result }
+    ensures turns { Turns (λ s. main_step s line (slice_get script.now.main line)) memory.new.step_record (held memory.old) (held memory.new) result }
 {
     match script.main_op(line) {
         None => Err(Why::Ended),
         Some(MainOp::Run(mode)) => {
-            let (seen, step_record) = begin_run(memory, line, mode);
-            Ok((Some(seen), step_record))
+            let seen = begin_run(memory, line, mode);
+            Ok(Some(seen))
         }
         Some(MainOp::Op(op)) => {
-            let (answer, step_record) = perform_at(memory, op, Place::Main(line + 1));
-            Ok((Some(Seen::Op(Site::Main(line), answer)), step_record))
+            let answer = perform_at(memory, op, Place::Main(line + 1));
+            Ok(Some(Seen::Op(Site::Main(line), answer)))
         }
     }
 }

@@ -12,8 +12,8 @@ ghost use Rattle.uv_loop.specs.Begins.{IsClear, IsClearIn};
 ghost use Rattle.uv_loop.specs.Turning.{Turns};
 
 use crate::bodies::{in_body, in_main};
-use crate::staging::{Turn, in_stage};
-use uv_ids::Why;
+use crate::staging::in_stage;
+use uv_ids::{Seen, Why};
 use uv_model::{Place, Run, Stage};
 use uv_script::Script;
 use uv_stands::may_leave;
@@ -74,11 +74,11 @@ fn stage_refusal(memory: &Memory<Place>, run: Run) -> Option<Why>
 }
 
 /// The loop does its next step.
-pub(crate) fn turn(memory: &mut Memory<Place>, script: &Script) -> Result<Turn, Why>
+pub(crate) fn turn(memory: &mut Memory<Place>, script: &Script) -> Result<Option<Seen>, Why>
     requires ready { IsReady (held memory.old) }
     requires last { (held memory.old).image.arena.last ≡ (arena_size script.now).last_generation }
     requires clear { IsClear (held memory.old).image }
-    ensures turns { Turns (λ s. next script.now s Loop) (held memory.old) (held memory.new) result }
+    ensures turns { Turns (λ s. next script.now s Loop) memory.new.step_record (held memory.old) (held memory.new) result }
 {
     match memory.place {
         Place::Main(line) => in_main(memory, script, line),
@@ -87,12 +87,12 @@ pub(crate) fn turn(memory: &mut Memory<Place>, script: &Script) -> Result<Turn, 
 }
 
 /// The run under way goes on.
-fn in_run(memory: &mut Memory<Place>, script: &Script, run: Run) -> Result<Turn, Why>
+fn in_run(memory: &mut Memory<Place>, script: &Script, run: Run) -> Result<Option<Seen>, Why>
     requires ready { IsReady (held memory.old) }
     requires last { (held memory.old).image.arena.last ≡ (arena_size script.now).last_generation }
     requires line { run.line < 2 ^ 63 }
     requires clear { IsClearIn run.body run.stage (held memory.old).image.arena }
-    ensures turns { Turns (λ s. run_step script.now s run run.body) (held memory.old) (held memory.new) result }
+    ensures turns { Turns (λ s. run_step script.now s run run.body) memory.new.step_record (held memory.old) (held memory.new) result }
 {
     match run.body {
         None => in_stage(memory, script, run),

@@ -14,7 +14,7 @@ ghost use Rattle.uv_loop.specs.Pooling.{MayTake, MayFinish};
 use uv_ids::{Answer, Id, Seen, Var};
 use uv_model::Place;
 use uv_ops::cancel;
-use uv_step::{Memory, Record};
+use uv_step::Memory;
 use uv_work::{RequestRecord, WorkResult};
 
 /// A worker takes a request: what that appends, and what takes it back.
@@ -23,17 +23,17 @@ pub(crate) fn take_work(
     worker: u16,
     id: Id,
     request: RequestRecord,
-) -> (Seen, Record<Place>)
+) -> Seen
     requires fit { IsFit (held memory.old).image }
     requires may { MayTake (held memory.old).image worker id request }
-    ensures recorded { Recorded result.1 (held memory.old) (held memory.new) }
-    ensures leads { (p : Program) → Leads p (held memory.old).image (held memory.new).image (Take worker) (Some result.0) }
+    ensures recorded { Recorded memory.new.step_record (held memory.old) (held memory.new) }
+    ensures leads { (p : Program) → Leads p (held memory.old).image (held memory.new).image (Take worker) (Some result) }
 {
     match memory.take(worker) {
         Err(_) => unreachable!(),
-        Ok((_, step_record)) => {
+        Ok(_) => {
             memory.slots.is_sound();
-            (Seen::Take(worker, request.name(), id), step_record)
+            Seen::Take(worker, request.name(), id)
         }
     }
 }
@@ -45,29 +45,29 @@ pub(crate) fn finish_work(
     id: Id,
     request: RequestRecord,
     work: WorkResult,
-) -> (Seen, Record<Place>)
+) -> Seen
     requires fit { IsFit (held memory.old).image }
     requires may { MayFinish (held memory.old).image worker id request }
     requires job { job_of id request ≡ work.job }
-    ensures recorded { Recorded result.1 (held memory.old) (held memory.new) }
-    ensures leads { (p : Program) → Leads p (held memory.old).image (held memory.new).image (Finish worker) (Some result.0) }
+    ensures recorded { Recorded memory.new.step_record (held memory.old) (held memory.new) }
+    ensures leads { (p : Program) → Leads p (held memory.old).image (held memory.new).image (Finish worker) (Some result) }
 {
     match memory.finish(worker, work) {
         Err(_) => unreachable!(),
-        Ok((_, step_record)) => {
+        Ok(_) => {
             memory.slots.is_sound();
-            (Seen::Finish(worker, request.name(), id), step_record)
+            Seen::Finish(worker, request.name(), id)
         }
     }
 }
 
 /// Cancels the request of a name: what that answers, and what takes it back.
-pub(crate) fn cancel_named(memory: &mut Memory<Place>, name: Var) -> (Answer, Record<Place>)
+pub(crate) fn cancel_named(memory: &mut Memory<Place>, name: Var) -> Answer
     requires fit { IsFit (held memory.old).image }
     requires name { name.0 < length (held memory.old).image.names }
-    ensures returns { Returns result.1 (held memory.old) (held memory.new) }
+    ensures returns { Returns memory.new.step_record (held memory.old) (held memory.new) }
     ensures leads { (p : Program)
-        → Leads p (held memory.old).image (held memory.new).image (Cancel name) (Some (cancelled name result.0)) }
+        → Leads p (held memory.old).image (held memory.new).image (Cancel name) (Some (cancelled name result)) }
 {
     cancel(memory, name)
 }

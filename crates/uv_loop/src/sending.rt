@@ -11,15 +11,15 @@ ghost use Rattle.uv_loop.specs.Course.{Leads};
 use uv_ids::{Code, Var};
 use uv_model::Place;
 use uv_ops::send;
-use uv_step::{Memory, Record};
+use uv_step::Memory;
 
 /// Sends to the async handle of a name: what that answers, and what takes it back.
-pub(crate) fn send_to(memory: &mut Memory<Place>, name: Var) -> (Code, Record<Place>)
+pub(crate) fn send_to(memory: &mut Memory<Place>, name: Var) -> Code
     requires fit { IsFit (held memory.old).image }
     requires name { name.0 < length (held memory.old).image.names }
-    ensures returns { Returns result.1 (held memory.old) (held memory.new) }
+    ensures returns { Returns memory.new.step_record (held memory.old) (held memory.new) }
     ensures leads { (p : Program)
-        → Leads p (held memory.old).image (held memory.new).image (Send name) (Some (sent name result.0)) }
+        → Leads p (held memory.old).image (held memory.new).image (Send name) (Some (sent name result)) }
 {
     send(memory, name)
 }

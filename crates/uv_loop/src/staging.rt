@@ -15,39 +15,33 @@ use uv_sections::{
     begin_walk, enter, in_async, in_check, in_closing, in_done, in_idle, in_prepare, in_timers,
     poll,
 };
-use uv_step::{Memory, Record};
-
-/// What a step of the loop did: the line that it appended, if it appended one, and what takes it back.
-pub(crate) type Turn = (Option<Seen>, Record<Place>);
-
-/// A step that appended a line.
-fn told(step: (Seen, Record<Place>)) -> Turn
-    ensures { result ≡ (Some step.0, step.1) }
-{
-    (Some(step.0), step.1)
-}
+use uv_step::Memory;
 
 /// What the run does next where no body is under way.
-pub(crate) fn in_stage(memory: &mut Memory<Place>, script: &Script, run: Run) -> Result<Turn, Why>
+pub(crate) fn in_stage(
+    memory: &mut Memory<Place>,
+    script: &Script,
+    run: Run,
+) -> Result<Option<Seen>, Why>
     requires ready { IsReady (held memory.old) }
     requires last { (held memory.old).image.arena.last ≡ (arena_size script.now).last_generation }
     requires line { run.line < 2 ^ 63 }
     requires clear { IsClearBehind run.stage (held memory.old).image.arena }
-    ensures turns { Turns (λ s. stage_step script.now s run run.stage) (held memory.old) (held memory.new) result }
+    ensures turns { Turns (λ s. stage_step script.now s run run.stage) memory.new.step_record (held memory.old) (held memory.new) result }
 {
     match run.stage {
-        Stage::Entry => Ok(told(enter(memory, run))),
-        Stage::Pending => Ok(told(begin_walk(memory, run, WatcherKind::Idle))),
-        Stage::Idle => Ok(told(in_idle(memory, script, run))),
-        Stage::Prepare => Ok(told(in_prepare(memory, script, run))),
+        Stage::Entry => Ok(Some(enter(memory, run))),
+        Stage::Pending => Ok(Some(begin_walk(memory, run, WatcherKind::Idle))),
+        Stage::Idle => Ok(Some(in_idle(memory, script, run))),
+        Stage::Prepare => Ok(Some(in_prepare(memory, script, run))),
         Stage::Poll(deadline) => match poll(memory, run, deadline) {
-            Ok(step) => Ok(told(step)),
+            Ok(line) => Ok(Some(line)),
             Err(why) => Err(why),
         },
-        Stage::Done => Ok(told(in_done(memory, script, run))),
+        Stage::Done => Ok(Some(in_done(memory, script, run))),
         Stage::Async => Ok(in_async(memory, script, run)),
-        Stage::Check => Ok(told(in_check(memory, script, run))),
-        Stage::Closing => Ok(told(in_closing(memory, script, run))),
+        Stage::Check => Ok(Some(in_check(memory, script, run))),
+        Stage::Closing => Ok(Some(in_closing(memory, script, run))),
         Stage::Timers(part, timing) => Ok(in_timers(memory, script, run, part, timing)),
     }
 }

@@ -76,6 +76,9 @@ refused_by s d (Some (holds.Request r)) false why any e =
     let done : Done = record { state = ops.cancelled s d r; answer = answer.Cancelled d } in
     ap (λ (b : Bool). if b then done else refuses s code.Ebusy) any ∙ ap (refuses s) q
 
+pub cancel_unbound : (i : Image Place) (v : Var) → None ≡ (named i.names v.0).id → Cancels v i i (answer.Code code.Estale)
+cancel_unbound i v unbound s h = (s, ap (λ o. cancel s (as_request o)) (live_by i s v None h unbound), h)
+
 pub cancel_refused : (i j : Image Place) (v : Var) → j ≡ i → (d : Id) (why : Code) → Some d ≡ (named i.names v.0).id
     → cancel_refusal (work.found request_in i.arena d) (waits (pool_of request_in (working_of i)).waiting d) ≡ Some why
     → Cancels v i j (answer.Code why)

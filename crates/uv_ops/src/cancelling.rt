@@ -9,22 +9,28 @@ ghost use Rattle.uv_ops.specs.Outside.{Cancels};
 use uv_ids::{Answer, Code, Var};
 use uv_model::Place;
 use uv_stands::bound_id;
-use uv_step::{Memory, Record};
+use uv_step::Memory;
 
 /// Cancels a request (uv_cancel), for an op or from outside.
-pub fn cancel(memory: &mut Memory<Place>, name: Var) -> (Answer, Record<Place>)
+pub fn cancel(memory: &mut Memory<Place>, name: Var) -> Answer
     requires { IsFit (held memory.old).image }
-    ensures returns { Returns result.1 (held memory.old) (held memory.new) }
-    ensures cancels { Cancels name (held memory.old).image (held memory.new).image result.0 }
-    ensures performs { Performs (op.Cancel name) (held memory.old).image (held memory.new).image result.0 }
+    ensures returns { Returns memory.new.step_record (held memory.old) (held memory.new) }
+    ensures cancels { Cancels name (held memory.old).image (held memory.new).image result }
+    ensures performs { Performs (op.Cancel name) (held memory.old).image (held memory.new).image result }
 {
     match bound_id(memory, name) {
-        None => (Answer::Code(Code::Estale), memory.pass()),
+        None => {
+            memory.step_record = memory.pass();
+            Answer::Code(Code::Estale)
+        }
         Some(id) => match memory.cancel(id) {
-            Err(code) => (Answer::Code(code), memory.pass()),
-            Ok(step_record) => {
+            Err(code) => {
+                memory.step_record = memory.pass();
+                Answer::Code(code)
+            }
+            Ok(()) => {
                 memory.slots.is_sound();
-                (Answer::Cancelled(id), step_record)
+                Answer::Cancelled(id)
             }
         },
     }

@@ -11,24 +11,28 @@ use uv_ids::{Answer, Code, Kind, Var};
 use uv_model::Place;
 use uv_script::Task;
 use uv_stands::{bind_name, is_live};
-use uv_step::{Memory, Record};
+use uv_step::Memory;
 use uv_work::RequestRecord;
 
 /// Makes a handle, to which the name is bound (uv_timer_init and the like).
-pub fn init(memory: &mut Memory<Place>, name: Var, kind: Kind) -> (Answer, Record<Place>)
+pub fn init(memory: &mut Memory<Place>, name: Var, kind: Kind) -> Answer
     requires { IsReady (held memory.old) }
-    ensures returns { Returns result.1 (held memory.old) (held memory.new) }
-    ensures performs { Performs (op.Init name kind) (held memory.old).image (held memory.new).image result.0 }
+    ensures returns { Returns memory.new.step_record (held memory.old) (held memory.new) }
+    ensures performs { Performs (op.Init name kind) (held memory.old).image (held memory.new).image result }
 {
     if is_live(memory, name) {
-        return (Answer::Code(Code::Ebound), memory.pass());
+        memory.step_record = memory.pass();
+        return Answer::Code(Code::Ebound);
     }
     match memory.init(name, kind) {
-        Err(_) => (Answer::Code(Code::Efull), memory.pass()),
-        Ok((id, mut step_record)) => {
+        Err(_) => {
+            memory.step_record = memory.pass();
+            Answer::Code(Code::Efull)
+        }
+        Ok(id) => {
             memory.slots.is_sound();
-            bind_name(memory, &mut step_record, name, id);
-            (Answer::Id(id), step_record)
+            bind_name(memory, name, id);
+            Answer::Id(id)
         }
     }
 }
@@ -44,21 +48,25 @@ fn request_of(name: Var, task: &Task) -> RequestRecord
 }
 
 /// Asks a worker to do a task, for which the name is bound to a request (uv_queue_work).
-pub fn queue(memory: &mut Memory<Place>, name: Var, task: Task) -> (Answer, Record<Place>)
+pub fn queue(memory: &mut Memory<Place>, name: Var, task: Task) -> Answer
     requires { IsReady (held memory.old) }
-    ensures returns { Returns result.1 (held memory.old) (held memory.new) }
-    ensures performs { Performs (op.Queue name task) (held memory.old).image (held memory.new).image result.0 }
+    ensures returns { Returns memory.new.step_record (held memory.old) (held memory.new) }
+    ensures performs { Performs (op.Queue name task) (held memory.old).image (held memory.new).image result }
 {
     if is_live(memory, name) {
-        return (Answer::Code(Code::Ebound), memory.pass());
+        memory.step_record = memory.pass();
+        return Answer::Code(Code::Ebound);
     }
     let request = request_of(name, &task);
     match memory.queue(request) {
-        Err(_) => (Answer::Code(Code::Efull), memory.pass()),
-        Ok((id, mut step_record)) => {
+        Err(_) => {
+            memory.step_record = memory.pass();
+            Answer::Code(Code::Efull)
+        }
+        Ok(id) => {
             memory.slots.is_sound();
-            bind_name(memory, &mut step_record, name, id);
-            (Answer::Id(id), step_record)
+            bind_name(memory, name, id);
+            Answer::Id(id)
         }
     }
 }

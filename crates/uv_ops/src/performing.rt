@@ -14,13 +14,13 @@ use crate::watchers::start_watcher;
 use uv_ids::Answer;
 use uv_model::Place;
 use uv_script::Op;
-use uv_step::{Memory, Record};
+use uv_step::Memory;
 
 /// Does an op: its answer, and the record that takes it back.
-pub fn perform(memory: &mut Memory<Place>, op: Op) -> (Answer, Record<Place>)
+pub fn perform(memory: &mut Memory<Place>, op: Op) -> Answer
     requires { IsReady (held memory.old) }
-    ensures returns { Returns result.1 (held memory.old) (held memory.new) }
-    ensures performs { Performs op (held memory.old).image (held memory.new).image result.0 }
+    ensures returns { Returns memory.new.step_record (held memory.old) (held memory.new) }
+    ensures performs { Performs op (held memory.old).image (held memory.new).image result }
 {
     match op {
         Op::Init(name, kind) => init(memory, name, kind),
@@ -31,22 +31,46 @@ pub fn perform(memory: &mut Memory<Place>, op: Op) -> (Answer, Record<Place>)
         Op::Stop(name) => stop(memory, name),
         Op::Again(name) => again(memory, name),
         Op::SetRepeat(name, repeat) => set_repeat(memory, name, repeat),
-        Op::DueIn(name) => (due_in(memory, name), memory.pass()),
+        Op::DueIn(name) => {
+            memory.step_record = memory.pass();
+            due_in(memory, name)
+        }
         Op::Close(name) => close(memory, name),
         Op::Ref(name) => set_ref(memory, name, true),
         Op::Unref(name) => set_ref(memory, name, false),
-        Op::HasRef(name) => (has_ref(memory, name), memory.pass()),
-        Op::IsActive(name) => (is_active(memory, name), memory.pass()),
-        Op::IsClosing(name) => (is_closing(memory, name), memory.pass()),
+        Op::HasRef(name) => {
+            memory.step_record = memory.pass();
+            has_ref(memory, name)
+        }
+        Op::IsActive(name) => {
+            memory.step_record = memory.pass();
+            is_active(memory, name)
+        }
+        Op::IsClosing(name) => {
+            memory.step_record = memory.pass();
+            is_closing(memory, name)
+        }
         Op::Send(name) => {
-            let (code, step_record) = send(memory, name);
-            (Answer::Code(code), step_record)
+            let code = send(memory, name);
+            Answer::Code(code)
         }
         Op::StopLoop => stop_loop(memory),
         Op::UpdateTime => update_time(memory),
-        Op::Now => (now(memory), memory.pass()),
-        Op::IsAlive => (is_alive(memory), memory.pass()),
-        Op::Timeout => (timeout(memory), memory.pass()),
-        Op::CloseLoop => (close_loop(memory), memory.pass()),
+        Op::Now => {
+            memory.step_record = memory.pass();
+            now(memory)
+        }
+        Op::IsAlive => {
+            memory.step_record = memory.pass();
+            is_alive(memory)
+        }
+        Op::Timeout => {
+            memory.step_record = memory.pass();
+            timeout(memory)
+        }
+        Op::CloseLoop => {
+            memory.step_record = memory.pass();
+            close_loop(memory)
+        }
     }
 }

@@ -10,22 +10,28 @@ ghost use Rattle.uv_ops.specs.Outside.{Sends};
 use uv_ids::{Code, Var};
 use uv_model::Place;
 use uv_stands::live_handle;
-use uv_step::{Memory, Record};
+use uv_step::Memory;
 
 /// Has an async handle called (uv_async_send), for an op or from outside.
-pub fn send(memory: &mut Memory<Place>, name: Var) -> (Code, Record<Place>)
+pub fn send(memory: &mut Memory<Place>, name: Var) -> Code
     requires { IsFit (held memory.old).image }
-    ensures returns { Returns result.1 (held memory.old) (held memory.new) }
-    ensures sends { Sends name (held memory.old).image (held memory.new).image result.0 }
-    ensures performs { Performs (op.Send name) (held memory.old).image (held memory.new).image (answer.Code result.0) }
+    ensures returns { Returns memory.new.step_record (held memory.old) (held memory.new) }
+    ensures sends { Sends name (held memory.old).image (held memory.new).image result }
+    ensures performs { Performs (op.Send name) (held memory.old).image (held memory.new).image (answer.Code result) }
 {
     match live_handle(memory, name) {
-        Err(code) => (code, memory.pass()),
+        Err(code) => {
+            memory.step_record = memory.pass();
+            code
+        }
         Ok((id, _)) => match memory.send(id) {
-            Err(code) => (code, memory.pass()),
-            Ok(step_record) => {
+            Err(code) => {
+                memory.step_record = memory.pass();
+                code
+            }
+            Ok(()) => {
                 memory.slots.is_sound();
-                (Code::Ok, step_record)
+                Code::Ok
             }
         },
     }

@@ -16,56 +16,63 @@ use uv_ids::{Answer, Code, Id, Var};
 use uv_model::Place;
 use uv_records::HandleRecord;
 use uv_stands::live_handle;
-use uv_step::{Memory, Record};
+use uv_step::Memory;
 use uv_timing::{close_handle, start_again, start_timer, stop_timer};
 
 /// Starts a timer; both times in ms (uv_timer_start).
-pub fn start(
-    memory: &mut Memory<Place>,
-    name: Var,
-    timeout: u64,
-    repeat: u64,
-) -> (Answer, Record<Place>)
+pub fn start(memory: &mut Memory<Place>, name: Var, timeout: u64, repeat: u64) -> Answer
     requires { IsReady (held memory.old) }
-    ensures returns { Returns result.1 (held memory.old) (held memory.new) }
-    ensures performs { Performs (op.Start name timeout repeat) (held memory.old).image (held memory.new).image result.0 }
+    ensures returns { Returns memory.new.step_record (held memory.old) (held memory.new) }
+    ensures performs { Performs (op.Start name timeout repeat) (held memory.old).image (held memory.new).image result }
 {
     match live_handle(memory, name) {
-        Err(code) => (Answer::Code(code), memory.pass()),
+        Err(code) => {
+            memory.step_record = memory.pass();
+            Answer::Code(code)
+        }
         Ok((id, handle)) => match handle.start_timer_refusal() {
-            Some(code) => (Answer::Code(code), memory.pass()),
+            Some(code) => {
+                memory.step_record = memory.pass();
+                Answer::Code(code)
+            }
             None => {
-                let step_record = start_timer(memory, id, handle, timeout, repeat);
-                (Answer::Code(Code::Ok), step_record)
+                start_timer(memory, id, handle, timeout, repeat);
+                Answer::Code(Code::Ok)
             }
         },
     }
 }
 
 /// Stops a timer, and starts it again if it repeats (uv_timer_again).
-pub fn again(memory: &mut Memory<Place>, name: Var) -> (Answer, Record<Place>)
+pub fn again(memory: &mut Memory<Place>, name: Var) -> Answer
     requires { IsReady (held memory.old) }
-    ensures returns { Returns result.1 (held memory.old) (held memory.new) }
-    ensures performs { Performs (op.Again name) (held memory.old).image (held memory.new).image result.0 }
+    ensures returns { Returns memory.new.step_record (held memory.old) (held memory.new) }
+    ensures performs { Performs (op.Again name) (held memory.old).image (held memory.new).image result }
 {
     match live_handle(memory, name) {
-        Err(code) => (Answer::Code(code), memory.pass()),
+        Err(code) => {
+            memory.step_record = memory.pass();
+            Answer::Code(code)
+        }
         Ok((id, handle)) => match handle.again_refusal() {
-            Some(code) => (Answer::Code(code), memory.pass()),
+            Some(code) => {
+                memory.step_record = memory.pass();
+                Answer::Code(code)
+            }
             None => {
-                let step_record = start_again(memory, id, handle);
-                (Answer::Code(Code::Ok), step_record)
+                start_again(memory, id, handle);
+                Answer::Code(Code::Ok)
             }
         },
     }
 }
 
 /// Stops a handle that may be stopped.
-fn stop_handle(memory: &mut Memory<Place>, id: Id, handle: HandleRecord) -> Record<Place>
+fn stop_handle(memory: &mut Memory<Place>, id: Id, handle: HandleRecord)
     requires ready { IsReady (held memory.old) }
     requires found { record_at handle_in (held memory.old).image.arena id ≡ Some handle }
     requires allowed { stop_refusal handle ≡ None }
-    ensures returns { Returns result (held memory.old) (held memory.new) }
+    ensures returns { Returns memory.new.step_record (held memory.old) (held memory.new) }
     ensures does { Does (λ s. stop s id handle) (held memory.old).image (held memory.new).image (answer.Code code.Ok) }
 {
     if handle.is_timer() {
@@ -76,36 +83,48 @@ fn stop_handle(memory: &mut Memory<Place>, id: Id, handle: HandleRecord) -> Reco
 }
 
 /// Stops a handle (uv_timer_stop and the like).
-pub fn stop(memory: &mut Memory<Place>, name: Var) -> (Answer, Record<Place>)
+pub fn stop(memory: &mut Memory<Place>, name: Var) -> Answer
     requires { IsReady (held memory.old) }
-    ensures returns { Returns result.1 (held memory.old) (held memory.new) }
-    ensures performs { Performs (op.Stop name) (held memory.old).image (held memory.new).image result.0 }
+    ensures returns { Returns memory.new.step_record (held memory.old) (held memory.new) }
+    ensures performs { Performs (op.Stop name) (held memory.old).image (held memory.new).image result }
 {
     match live_handle(memory, name) {
-        Err(code) => (Answer::Code(code), memory.pass()),
+        Err(code) => {
+            memory.step_record = memory.pass();
+            Answer::Code(code)
+        }
         Ok((id, handle)) => match handle.stop_refusal() {
-            Some(code) => (Answer::Code(code), memory.pass()),
+            Some(code) => {
+                memory.step_record = memory.pass();
+                Answer::Code(code)
+            }
             None => {
-                let step_record = stop_handle(memory, id, handle);
-                (Answer::Code(Code::Ok), step_record)
+                stop_handle(memory, id, handle);
+                Answer::Code(Code::Ok)
             }
         },
     }
 }
 
 /// Closes a handle (uv_close).
-pub fn close(memory: &mut Memory<Place>, name: Var) -> (Answer, Record<Place>)
+pub fn close(memory: &mut Memory<Place>, name: Var) -> Answer
     requires { IsReady (held memory.old) }
-    ensures returns { Returns result.1 (held memory.old) (held memory.new) }
-    ensures performs { Performs (op.Close name) (held memory.old).image (held memory.new).image result.0 }
+    ensures returns { Returns memory.new.step_record (held memory.old) (held memory.new) }
+    ensures performs { Performs (op.Close name) (held memory.old).image (held memory.new).image result }
 {
     match live_handle(memory, name) {
-        Err(code) => (Answer::Code(code), memory.pass()),
+        Err(code) => {
+            memory.step_record = memory.pass();
+            Answer::Code(code)
+        }
         Ok((id, handle)) => match handle.close_refusal() {
-            Some(code) => (Answer::Code(code), memory.pass()),
+            Some(code) => {
+                memory.step_record = memory.pass();
+                Answer::Code(code)
+            }
             None => {
-                let step_record = close_handle(memory, id, handle);
-                (Answer::Code(Code::Ok), step_record)
+                close_handle(memory, id, handle);
+                Answer::Code(Code::Ok)
             }
         },
     }

@@ -7,24 +7,24 @@ ghost use Rattle.uv_stands.specs.Ready.{IsReady};
 
 use uv_ids::{Answer, Code};
 use uv_model::Place;
-use uv_step::{Memory, Record};
+use uv_step::Memory;
 
 /// Has the run end before its next iteration (uv_stop).
-pub fn stop_loop(memory: &mut Memory<Place>) -> (Answer, Record<Place>)
+pub fn stop_loop(memory: &mut Memory<Place>) -> Answer
     requires { IsReady (held memory.old) }
-    ensures returns { Returns result.1 (held memory.old) (held memory.new) }
-    ensures performs { Performs op.StopLoop (held memory.old).image (held memory.new).image result.0 }
+    ensures returns { Returns memory.new.step_record (held memory.old) (held memory.new) }
+    ensures performs { Performs op.StopLoop (held memory.old).image (held memory.new).image result }
 {
-    let step_record = memory.set_stop(true);
-    (Answer::Code(Code::Ok), step_record)
+    memory.set_stop(true);
+    Answer::Code(Code::Ok)
 }
 
 /// Sets the loop's time to the clock (uv_update_time).
-pub fn update_time(memory: &mut Memory<Place>) -> (Answer, Record<Place>)
+pub fn update_time(memory: &mut Memory<Place>) -> Answer
     requires { IsReady (held memory.old) }
-    ensures returns { Returns result.1 (held memory.old) (held memory.new) }
-    ensures performs { Performs op.UpdateTime (held memory.old).image (held memory.new).image result.0 }
+    ensures returns { Returns memory.new.step_record (held memory.old) (held memory.new) }
+    ensures performs { Performs op.UpdateTime (held memory.old).image (held memory.new).image result }
 {
-    let step_record = memory.update_time();
-    (Answer::Code(Code::Ok), step_record)
+    memory.update_time();
+    Answer::Code(Code::Ok)
 }

@@ -16,41 +16,46 @@ use uv_ids::{Answer, Code, Id, Var};
 use uv_model::Place;
 use uv_records::HandleRecord;
 use uv_stands::live_handle;
-use uv_step::{Memory, Record};
+use uv_step::Memory;
 
 /// Starts an idle, prepare or check handle, if it isn't active (uv_idle_start and the like).
-pub fn start_watcher(memory: &mut Memory<Place>, name: Var) -> (Answer, Record<Place>)
+pub fn start_watcher(memory: &mut Memory<Place>, name: Var) -> Answer
     requires { IsReady (held memory.old) }
-    ensures returns { Returns result.1 (held memory.old) (held memory.new) }
-    ensures performs { Performs (op.StartWatcher name) (held memory.old).image (held memory.new).image result.0 }
+    ensures returns { Returns memory.new.step_record (held memory.old) (held memory.new) }
+    ensures performs { Performs (op.StartWatcher name) (held memory.old).image (held memory.new).image result }
 {
     match live_handle(memory, name) {
-        Err(code) => (Answer::Code(code), memory.pass()),
+        Err(code) => {
+            memory.step_record = memory.pass();
+            Answer::Code(code)
+        }
         Ok((id, _)) => match memory.start_watcher(id) {
-            Err(code) => (Answer::Code(code), memory.pass()),
-            Ok(step_record) => {
+            Err(code) => {
+                memory.step_record = memory.pass();
+                Answer::Code(code)
+            }
+            Ok(()) => {
                 memory.slots.is_sound();
-                (Answer::Code(Code::Ok), step_record)
+                Answer::Code(Code::Ok)
             }
         },
     }
 }
 
 /// Stops a handle that is no timer and may be stopped (uv_idle_stop and the like).
-pub fn stop_watcher(memory: &mut Memory<Place>, id: Id, handle: HandleRecord) -> Record<Place>
+pub fn stop_watcher(memory: &mut Memory<Place>, id: Id, handle: HandleRecord)
     requires ready { IsReady (held memory.old) }
     requires found { record_at handle_in (held memory.old).image.arena id ≡ Some handle }
     requires no_timer { is_timer handle.kind ≡ false }
     requires allowed { stop_refusal handle ≡ None }
-    ensures returns { Returns result (held memory.old) (held memory.new) }
+    ensures returns { Returns memory.new.step_record (held memory.old) (held memory.new) }
     ensures does { Does (λ s. stop s id handle) (held memory.old).image (held memory.new).image (answer.Code code.Ok) }
 {
     let _ = handle;
     match memory.stop_watcher(id) {
         Err(_) => unreachable!(),
-        Ok(step_record) => {
+        Ok(()) => {
             memory.slots.is_sound();
-            step_record
         }
     }
 }

@@ -17,7 +17,7 @@ use crate::standing::stand_in;
 use uv_ids::{Mode, Phase, Seen};
 use uv_model::{Place, Run, Stage, TimersOf, Timing};
 use uv_records::WatcherKind;
-use uv_step::{Memory, Record};
+use uv_step::Memory;
 
 /// The place of a section that walks handles of a kind.
 fn stage_of(kind: WatcherKind) -> Stage
@@ -32,128 +32,125 @@ fn stage_of(kind: WatcherKind) -> Stage
 }
 
 /// The whole list of a kind is yet to run.
-fn make_all_yet(memory: &mut Memory<Place>, kind: WatcherKind) -> Record<Place>
+fn make_all_yet(memory: &mut Memory<Place>, kind: WatcherKind)
     requires fit { IsFit (held memory.old).image }
     requires empty { members (held memory.old).image.arena (yet_of kind) ≡ [] }
-    ensures recorded { Recorded result (held memory.old) (held memory.new) }
+    ensures recorded { Recorded memory.new.step_record (held memory.old) (held memory.new) }
     ensures stands { (s : State) → StandsFor (held memory.old).image s
         → StandsFor (held memory.new).image (with_watched s kind (all_yet (watched s kind))) }
 {
-    let step_record = memory.begin(kind);
+    memory.begin(kind);
     memory.slots.is_sound();
-    step_record
 }
 
 /// Begins a section of watchers.
-pub fn begin_walk(memory: &mut Memory<Place>, run: Run, kind: WatcherKind) -> (Seen, Record<Place>)
+pub fn begin_walk(memory: &mut Memory<Place>, run: Run, kind: WatcherKind) -> Seen
     requires fit { IsFit (held memory.old).image }
     requires empty { members (held memory.old).image.arena (yet_of kind) ≡ [] }
-    ensures returns { Returns result.1 (held memory.old) (held memory.new) }
-    ensures goes { Goes (λ s. begin_walk s run kind) (held memory.old).image (held memory.new).image (Some result.0) }
+    ensures returns { Returns memory.new.step_record (held memory.old) (held memory.new) }
+    ensures goes { Goes (λ s. begin_walk s run kind) (held memory.old).image (held memory.new).image (Some result) }
 {
-    let step_record = make_all_yet(memory, kind);
-    stand_in(memory, &step_record, run, stage_of(kind));
-    (Seen::Section(kind.phase()), step_record)
+    make_all_yet(memory, kind);
+    stand_in(memory, run, stage_of(kind));
+    Seen::Section(kind.phase())
 }
 
 /// The handles that close are yet to be called.
-fn close_all_yet(memory: &mut Memory<Place>) -> Record<Place>
+fn close_all_yet(memory: &mut Memory<Place>)
     requires fit { IsFit (held memory.old).image }
     requires empty { members (held memory.old).image.arena ClosingYet ≡ [] }
-    ensures recorded { Recorded result (held memory.old) (held memory.new) }
+    ensures recorded { Recorded memory.new.step_record (held memory.old) (held memory.new) }
     ensures stands { (s : State) → StandsFor (held memory.old).image s
         → StandsFor (held memory.new).image (record s { closing = all_yet s.closing }) }
 {
-    let step_record = memory.begin_closing();
+    memory.begin_closing();
     memory.slots.is_sound();
-    step_record
 }
 
 /// Begins the closing section.
-pub fn begin_closing(memory: &mut Memory<Place>, run: Run) -> (Seen, Record<Place>)
+pub fn begin_closing(memory: &mut Memory<Place>, run: Run) -> Seen
     requires fit { IsFit (held memory.old).image }
     requires empty { members (held memory.old).image.arena ClosingYet ≡ [] }
-    ensures returns { Returns result.1 (held memory.old) (held memory.new) }
-    ensures goes { Goes (λ s. begin_closing s run) (held memory.old).image (held memory.new).image (Some result.0) }
+    ensures returns { Returns memory.new.step_record (held memory.old) (held memory.new) }
+    ensures goes { Goes (λ s. begin_closing s run) (held memory.old).image (held memory.new).image (Some result) }
 {
-    let step_record = close_all_yet(memory);
-    stand_in(memory, &step_record, run, Stage::Closing);
-    (Seen::Section(Phase::Closing), step_record)
+    close_all_yet(memory);
+    stand_in(memory, run, Stage::Closing);
+    Seen::Section(Phase::Closing)
 }
 
 /// The time is refreshed, and the requests that are done are yet to call back.
-fn end_all_yet(memory: &mut Memory<Place>) -> Record<Place>
+fn end_all_yet(memory: &mut Memory<Place>)
     requires fit { IsFit (held memory.old).image }
     requires empty { members (held memory.old).image.arena DoneYet ≡ [] }
-    ensures recorded { Recorded result (held memory.old) (held memory.new) }
+    ensures recorded { Recorded memory.new.step_record (held memory.old) (held memory.new) }
     ensures stands { (s : State) → StandsFor (held memory.old).image s
         → StandsFor (held memory.new).image (record (refreshed s) { done = all_yet s.done }) }
 {
-    let step_record = memory.leave_poll();
+    memory.leave_poll();
     memory.slots.is_sound();
-    step_record
 }
 
 /// Leaves the poll.
-pub fn begin_done(memory: &mut Memory<Place>, run: Run) -> (Seen, Record<Place>)
+pub fn begin_done(memory: &mut Memory<Place>, run: Run) -> Seen
     requires fit { IsFit (held memory.old).image }
     requires empty { members (held memory.old).image.arena DoneYet ≡ [] }
-    ensures returns { Returns result.1 (held memory.old) (held memory.new) }
-    ensures goes { Goes (λ s. begin_done s run) (held memory.old).image (held memory.new).image (Some result.0) }
+    ensures returns { Returns memory.new.step_record (held memory.old) (held memory.new) }
+    ensures goes { Goes (λ s. begin_done s run) (held memory.old).image (held memory.new).image (Some result) }
 {
-    let step_record = end_all_yet(memory);
-    stand_in(memory, &step_record, run, Stage::Done);
-    (Seen::Section(Phase::Done), step_record)
+    end_all_yet(memory);
+    stand_in(memory, run, Stage::Done);
+    Seen::Section(Phase::Done)
 }
 
 /// The loop's time is that of the clock.
-fn refresh(memory: &mut Memory<Place>) -> Record<Place>
+fn refresh(memory: &mut Memory<Place>)
     requires fit { IsFit (held memory.old).image }
-    ensures recorded { Recorded result (held memory.old) (held memory.new) }
+    ensures recorded { Recorded memory.new.step_record (held memory.old) (held memory.new) }
     ensures stands { (s : State) → StandsFor (held memory.old).image s → StandsFor (held memory.new).image (refreshed s) }
 {
-    memory.update_time()
+    memory.update_time();
 }
 
 /// Begins the timers of an iteration, with the time refreshed.
-pub fn begin_timers(memory: &mut Memory<Place>, run: Run) -> (Seen, Record<Place>)
+pub fn begin_timers(memory: &mut Memory<Place>, run: Run) -> Seen
     requires fit { IsFit (held memory.old).image }
-    ensures returns { Returns result.1 (held memory.old) (held memory.new) }
-    ensures goes { Goes (λ s. begin_timers s run) (held memory.old).image (held memory.new).image (Some result.0) }
+    ensures returns { Returns memory.new.step_record (held memory.old) (held memory.new) }
+    ensures goes { Goes (λ s. begin_timers s run) (held memory.old).image (held memory.new).image (Some result) }
 {
-    let step_record = refresh(memory);
+    refresh(memory);
     let stage = Stage::Timers(TimersOf::Iteration, Timing::Collecting);
-    stand_in(memory, &step_record, run, stage);
-    (Seen::Section(Phase::Timers), step_record)
+    stand_in(memory, run, stage);
+    Seen::Section(Phase::Timers)
 }
 
 /// The loop's time is that of the clock in a default run, and stays in another one.
-fn refresh_in(memory: &mut Memory<Place>, mode: Mode) -> Record<Place>
+fn refresh_in(memory: &mut Memory<Place>, mode: Mode)
     requires fit { IsFit (held memory.old).image }
-    ensures recorded { Recorded result (held memory.old) (held memory.new) }
+    ensures recorded { Recorded memory.new.step_record (held memory.old) (held memory.new) }
     ensures stands { (s : State) → StandsFor (held memory.old).image s
         → StandsFor (held memory.new).image (if is_default mode then refreshed s else s) }
 {
     match mode {
         Mode::Default => refresh(memory),
-        Mode::Once | Mode::Nowait => memory.pass(),
+        Mode::Once | Mode::Nowait => memory.step_record = memory.pass(),
     }
 }
 
 /// Begins a run of a line of the main program (uv_run).
-pub fn begin_run(memory: &mut Memory<Place>, line: usize, mode: Mode) -> (Seen, Record<Place>)
+pub fn begin_run(memory: &mut Memory<Place>, line: usize, mode: Mode) -> Seen
     requires fit { IsFit (held memory.old).image }
-    ensures returns { Returns result.1 (held memory.old) (held memory.new) }
+    ensures returns { Returns memory.new.step_record (held memory.old) (held memory.new) }
     ensures goes { Goes (λ s. main_step s line (Some (run_line mode)))
-        (held memory.old).image (held memory.new).image (Some result.0) }
+        (held memory.old).image (held memory.new).image (Some result) }
 {
-    let step_record = refresh_in(memory, mode);
+    refresh_in(memory, mode);
     let run = Run {
         mode,
         line,
         stage: Stage::Entry,
         body: None,
     };
-    stand_in(memory, &step_record, run, Stage::Entry);
-    (Seen::Run(mode), step_record)
+    stand_in(memory, run, Stage::Entry);
+    Seen::Run(mode)
 }

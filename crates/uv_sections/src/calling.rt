@@ -14,27 +14,26 @@ use uv_ids::{Callback, Var};
 use uv_model::{Place, Run, body_from};
 use uv_script::Script;
 use uv_stands::call_name;
-use uv_step::{Memory, Record};
+use uv_step::Memory;
 
-/// The step of this record begins a callback of a name as well: one call more, and the body of that call is under way.
+/// The last step begins a callback of a name as well: one call more, and the body of that call is under way.
 pub fn begin_body(
     memory: &mut Memory<Place>,
-    step_record: &mut Record<Place>,
     script: &Script,
     run: Run,
     callback: Callback,
     name: Var,
 )
-    requires can { CanUnwind (held memory.old).room step_record.old (held memory.old).image }
+    requires can { CanUnwind (held memory.old).room memory.old.step_record (held memory.old).image }
     requires fit { IsFit (held memory.old).image }
-    requires unnamed { step_record.old.naming ≡ same }
+    requires unnamed { memory.old.step_record.naming ≡ same }
     requires few { count_of callback (named (held memory.old).image.names name.0).calls < 2 ^ 31 }
-    ensures extended { Extended step_record.old step_record.new (held memory.old) (held memory.new) }
+    ensures extended { Extended memory.old.step_record memory.new.step_record (held memory.old) (held memory.new) }
     ensures calls { (s : State) → StandsFor (held memory.old).image s → (line : Seen)
         → (t : State) × (calls script.now s run callback name line ≡ Moves t (Some line)) × StandsFor (held memory.new).image t }
 {
-    let count = call_name(memory, step_record, name, callback);
+    let count = call_name(memory, name, callback);
     let body = body_from(script, callback, name, count, 0);
     let place = Place::Running(Run { body, ..run });
-    memory.stand_at(place, step_record);
+    memory.stand_at(place);
 }

@@ -19,7 +19,7 @@ use uv_ids::{Callback, Id, Seen, Var};
 use uv_model::{Place, Run};
 use uv_records::{HandleRecord, ListName};
 use uv_script::Script;
-use uv_step::{Memory, Record};
+use uv_step::Memory;
 use uv_work::{Outcome, RequestRecord};
 
 /// The digest that a request was finished with; none if it was cancelled.
@@ -44,13 +44,10 @@ fn line_after(id: Id, request: RequestRecord) -> (Var, Seen)
 
 /// Takes the front of the requests that are yet to call back off its list, and frees its slot. None, and nothing changed, where there
 /// is none.
-fn free_request(
-    memory: &mut Memory<Place>,
-    script: &Script,
-) -> Option<(Id, RequestRecord, Record<Place>)>
+fn free_request(memory: &mut Memory<Place>, script: &Script) -> Option<(Id, RequestRecord)>
     requires fit { IsFit (held memory.old).image }
     requires last { (held memory.old).image.arena.last ≡ (arena_size script.now).last_generation }
-    ensures recorded { IfSome result (λ r. Recorded r.2 (held memory.old) (held memory.new)) }
+    ensures recorded { IfSome result (λ _. Recorded memory.new.step_record (held memory.old) (held memory.new)) }
     ensures gone { IfSome result (λ r. OfEach (held memory.old).image
         (λ s. RequestGone (arena_size script.now).last_generation (held memory.new).image s r.0 r.1)) }
     ensures same { IfNone result (held memory.new ≡ held memory.old) }
@@ -67,13 +64,10 @@ fn free_request(
 
 /// Takes the front of the handles that are yet to be closed off its list, and frees its slot. None, and nothing changed, where there
 /// is none.
-fn free_handle(
-    memory: &mut Memory<Place>,
-    script: &Script,
-) -> Option<(Id, HandleRecord, Record<Place>)>
+fn free_handle(memory: &mut Memory<Place>, script: &Script) -> Option<(Id, HandleRecord)>
     requires fit { IsFit (held memory.old).image }
     requires last { (held memory.old).image.arena.last ≡ (arena_size script.now).last_generation }
-    ensures recorded { IfSome result (λ r. Recorded r.2 (held memory.old) (held memory.new)) }
+    ensures recorded { IfSome result (λ _. Recorded memory.new.step_record (held memory.old) (held memory.new)) }
     ensures gone { IfSome result (λ r. OfEach (held memory.old).image
         (λ s. HandleGone (arena_size script.now).last_generation (held memory.new).image s r.0 r.1)) }
     ensures same { IfNone result (held memory.new ≡ held memory.old) }
@@ -83,25 +77,21 @@ fn free_handle(
         None => None,
         Some((id, handle)) => match memory.end_handle() {
             None => None,
-            Some((_, step_record)) => {
+            Some(_) => {
                 memory.slots.is_sound();
-                Some((id, handle, step_record))
+                Some((id, handle))
             }
         },
     }
 }
 
 /// Calls back the front of the requests that are done, whose slot is freed. None, and nothing changed, where there is none.
-pub(crate) fn collect_request(
-    memory: &mut Memory<Place>,
-    script: &Script,
-    run: Run,
-) -> Option<(Seen, Record<Place>)>
+pub(crate) fn collect_request(memory: &mut Memory<Place>, script: &Script, run: Run) -> Option<Seen>
     requires ready { IsReady (held memory.old) }
     requires last { (held memory.old).image.arena.last ≡ (arena_size script.now).last_generation }
-    ensures returns { IfSome result (λ r. Returns r.1 (held memory.old) (held memory.new)) }
-    ensures goes { IfSome result (λ r. Goes (λ s. collect_request script.now s run)
-        (held memory.old).image (held memory.new).image (Some r.0)) }
+    ensures returns { IfSome result (λ _. Returns memory.new.step_record (held memory.old) (held memory.new)) }
+    ensures goes { IfSome result (λ line. Goes (λ s. collect_request script.now s run)
+        (held memory.old).image (held memory.new).image (Some line)) }
     ensures same { IfNone result (held memory.new ≡ held memory.old) }
     ensures none { IfNone result (OfEach (held memory.old).image (λ s. front_request s s.done.yet ≡ None)) }
 {
@@ -109,33 +99,28 @@ pub(crate) fn collect_request(
         None => None,
         Some(freed) => {
             let (name, line) = line_after(freed.0, freed.1);
-            let mut step_record = freed.2;
-            begin_body(memory, &mut step_record, script, run, Callback::After, name);
-            Some((line, step_record))
+            begin_body(memory, script, run, Callback::After, name);
+            Some(line)
         }
     }
 }
 
 /// Calls the close callback of the front of the closing handles, whose slot is freed. None, and nothing changed, where there is none.
-pub(crate) fn close_front(
-    memory: &mut Memory<Place>,
-    script: &Script,
-    run: Run,
-) -> Option<(Seen, Record<Place>)>
+pub(crate) fn close_front(memory: &mut Memory<Place>, script: &Script, run: Run) -> Option<Seen>
     requires ready { IsReady (held memory.old) }
     requires last { (held memory.old).image.arena.last ≡ (arena_size script.now).last_generation }
-    ensures returns { IfSome result (λ r. Returns r.1 (held memory.old) (held memory.new)) }
-    ensures goes { IfSome result (λ r. Goes (λ s. close_front script.now s run)
-        (held memory.old).image (held memory.new).image (Some r.0)) }
+    ensures returns { IfSome result (λ _. Returns memory.new.step_record (held memory.old) (held memory.new)) }
+    ensures goes { IfSome result (λ line. Goes (λ s. close_front script.now s run)
+        (held memory.old).image (held memory.new).image (Some line)) }
     ensures same { IfNone result (held memory.new ≡ held memory.old) }
     ensures none { IfNone result (OfEach (held memory.old).image (λ s. front s s.closing.yet ≡ None)) }
 {
     match free_handle(memory, script) {
         None => None,
-        Some((id, handle, mut freed)) => {
+        Some((id, handle)) => {
             let name = handle.name;
-            begin_body(memory, &mut freed, script, run, Callback::Close, name);
-            Some((Seen::Closed(name, id), freed))
+            begin_body(memory, script, run, Callback::Close, name);
+            Some(Seen::Closed(name, id))
         }
     }
 }

@@ -18,51 +18,51 @@ use uv_ids::{Mode, Phase, Seen};
 use uv_model::{Place, Run, Stage, TimersOf, Timing};
 use uv_records::ListName;
 use uv_stands::{has_members, is_alive};
-use uv_step::{Memory, Record};
+use uv_step::Memory;
 
 /// Keeps whether an idle handle is active.
-fn note_idle(memory: &mut Memory<Place>) -> Record<Place>
+fn note_idle(memory: &mut Memory<Place>)
     requires fit { IsFit (held memory.old).image }
-    ensures recorded { Recorded result (held memory.old) (held memory.new) }
+    ensures recorded { Recorded memory.new.step_record (held memory.old) (held memory.new) }
     ensures stands { OfEach (held memory.old).image
         (λ s. StandsFor (held memory.new).image (record s { idled = has_some s.idle.list })) }
 {
     let idled = has_members(memory, ListName::Idle);
-    memory.set_idled(idled)
+    memory.set_idled(idled);
 }
 
 /// An iteration begins, and keeps whether an idle handle is active.
-pub fn new_iteration(memory: &mut Memory<Place>, run: Run) -> (Seen, Record<Place>)
+pub fn new_iteration(memory: &mut Memory<Place>, run: Run) -> Seen
     requires fit { IsFit (held memory.old).image }
-    ensures returns { Returns result.1 (held memory.old) (held memory.new) }
-    ensures goes { Goes (λ s. new_iteration s run) (held memory.old).image (held memory.new).image (Some result.0) }
+    ensures returns { Returns memory.new.step_record (held memory.old) (held memory.new) }
+    ensures goes { Goes (λ s. new_iteration s run) (held memory.old).image (held memory.new).image (Some result) }
 {
-    let step_record = note_idle(memory);
-    stand_in(memory, &step_record, run, Stage::Pending);
-    (Seen::Section(Phase::Pending), step_record)
+    note_idle(memory);
+    stand_in(memory, run, Stage::Pending);
+    Seen::Section(Phase::Pending)
 }
 
 /// Clears the stop flag.
-fn clear_stop(memory: &mut Memory<Place>) -> Record<Place>
+fn clear_stop(memory: &mut Memory<Place>)
     requires fit { IsFit (held memory.old).image }
-    ensures recorded { Recorded result (held memory.old) (held memory.new) }
+    ensures recorded { Recorded memory.new.step_record (held memory.old) (held memory.new) }
     ensures stands { (s : State) → StandsFor (held memory.old).image s
         → StandsFor (held memory.new).image (record s { stop_flag = false }) }
 {
-    memory.set_stop(false)
+    memory.set_stop(false);
 }
 
 /// The run ends, and says whether the loop is alive; the stop flag is cleared.
-pub fn end_run(memory: &mut Memory<Place>, run: Run) -> (Seen, Record<Place>)
+pub fn end_run(memory: &mut Memory<Place>, run: Run) -> Seen
     requires fit { IsFit (held memory.old).image }
     requires line { run.line < 2 ^ 63 }
-    ensures returns { Returns result.1 (held memory.old) (held memory.new) }
-    ensures goes { Goes (λ s. ends s run) (held memory.old).image (held memory.new).image (Some result.0) }
+    ensures returns { Returns memory.new.step_record (held memory.old) (held memory.new) }
+    ensures goes { Goes (λ s. ends s run) (held memory.old).image (held memory.new).image (Some result) }
 {
     let alive = is_alive(memory);
-    let step_record = clear_stop(memory);
-    stand_at(memory, &step_record, Place::Main(run.line + 1));
-    (Seen::End(alive), step_record)
+    clear_stop(memory);
+    stand_at(memory, Place::Main(run.line + 1));
+    Seen::End(alive)
 }
 
 /// Whether the loop goes on: it is alive, and the stop flag is clear.
@@ -73,24 +73,24 @@ fn goes(memory: &Memory<Place>) -> bool
 }
 
 /// The timers that are due at the entry of a default run.
-fn enter_timers(memory: &mut Memory<Place>, run: Run) -> (Seen, Record<Place>)
+fn enter_timers(memory: &mut Memory<Place>, run: Run) -> Seen
     requires fit { IsFit (held memory.old).image }
-    ensures returns { Returns result.1 (held memory.old) (held memory.new) }
+    ensures returns { Returns memory.new.step_record (held memory.old) (held memory.new) }
     ensures goes { Goes (λ s. begins s run (timers entry collecting) phase.Timers)
-        (held memory.old).image (held memory.new).image (Some result.0) }
+        (held memory.old).image (held memory.new).image (Some result) }
 {
-    let step_record = memory.pass();
+    memory.step_record = memory.pass();
     let stage = Stage::Timers(TimersOf::Entry, Timing::Collecting);
-    stand_in(memory, &step_record, run, stage);
-    (Seen::Section(Phase::Timers), step_record)
+    stand_in(memory, run, stage);
+    Seen::Section(Phase::Timers)
 }
 
 /// Enters a run: in default the timers that are due run first.
-pub fn enter(memory: &mut Memory<Place>, run: Run) -> (Seen, Record<Place>)
+pub fn enter(memory: &mut Memory<Place>, run: Run) -> Seen
     requires fit { IsFit (held memory.old).image }
     requires line { run.line < 2 ^ 63 }
-    ensures returns { Returns result.1 (held memory.old) (held memory.new) }
-    ensures goes { Goes (λ s. enter s run) (held memory.old).image (held memory.new).image (Some result.0) }
+    ensures returns { Returns memory.new.step_record (held memory.old) (held memory.new) }
+    ensures goes { Goes (λ s. enter s run) (held memory.old).image (held memory.new).image (Some result) }
 {
     if !goes(memory) {
         return end_run(memory, run);
@@ -102,11 +102,11 @@ pub fn enter(memory: &mut Memory<Place>, run: Run) -> (Seen, Record<Place>)
 }
 
 /// Leaves the timers: from the entry the first iteration begins, and in default one iteration after another.
-pub fn leave_timers(memory: &mut Memory<Place>, run: Run, part: TimersOf) -> (Seen, Record<Place>)
+pub fn leave_timers(memory: &mut Memory<Place>, run: Run, part: TimersOf) -> Seen
     requires fit { IsFit (held memory.old).image }
     requires line { run.line < 2 ^ 63 }
-    ensures returns { Returns result.1 (held memory.old) (held memory.new) }
-    ensures goes { Goes (λ s. leave_timers s run part) (held memory.old).image (held memory.new).image (Some result.0) }
+    ensures returns { Returns memory.new.step_record (held memory.old) (held memory.new) }
+    ensures goes { Goes (λ s. leave_timers s run part) (held memory.old).image (held memory.new).image (Some result) }
 {
     let iterates = match part {
         TimersOf::Entry => true,

@@ -13,7 +13,7 @@ use crate::standing::stand_in;
 use uv_ids::{Seen, Why};
 use uv_model::{Place, Run, Stage};
 use uv_stands::{may_leave, poll_timeout};
-use uv_step::{Memory, Record};
+use uv_step::Memory;
 
 /// When the poll is over, at the latest, in ms; none is never.
 fn deadline_of(memory: &Memory<Place>, timeout: Option<u64>) -> Option<u64>
@@ -28,29 +28,25 @@ fn deadline_of(memory: &Memory<Place>, timeout: Option<u64>) -> Option<u64>
 }
 
 /// Begins the poll, with its timeout.
-pub fn begin_poll(memory: &mut Memory<Place>, run: Run) -> (Seen, Record<Place>)
+pub fn begin_poll(memory: &mut Memory<Place>, run: Run) -> Seen
     requires ready { IsReady (held memory.old) }
-    ensures returns { Returns result.1 (held memory.old) (held memory.new) }
-    ensures goes { Goes (λ s. begin_poll s run) (held memory.old).image (held memory.new).image (Some result.0) }
+    ensures returns { Returns memory.new.step_record (held memory.old) (held memory.new) }
+    ensures goes { Goes (λ s. begin_poll s run) (held memory.old).image (held memory.new).image (Some result) }
 {
     let timeout = poll_timeout(memory, run.mode);
     let deadline = deadline_of(memory, timeout);
-    let step_record = memory.pass();
-    stand_in(memory, &step_record, run, Stage::Poll(deadline));
-    (Seen::Poll(timeout), step_record)
+    memory.step_record = memory.pass();
+    stand_in(memory, run, Stage::Poll(deadline));
+    Seen::Poll(timeout)
 }
 
 /// Goes on in the poll: leaves it, or refuses the step.
-pub fn poll(
-    memory: &mut Memory<Place>,
-    run: Run,
-    deadline: Option<u64>,
-) -> Result<(Seen, Record<Place>), Why>
+pub fn poll(memory: &mut Memory<Place>, run: Run, deadline: Option<u64>) -> Result<Seen, Why>
     requires ready { IsReady (held memory.old) }
     requires empty { members (held memory.old).image.arena DoneYet ≡ [] }
-    ensures returns { IfOk result (λ r. Returns r.1 (held memory.old) (held memory.new)) }
-    ensures goes { IfOk result (λ r. Goes (λ s. poll s run deadline)
-        (held memory.old).image (held memory.new).image (Some r.0)) }
+    ensures returns { IfOk result (λ _. Returns memory.new.step_record (held memory.old) (held memory.new)) }
+    ensures goes { IfOk result (λ line. Goes (λ s. poll s run deadline)
+        (held memory.old).image (held memory.new).image (Some line)) }
     ensures same { IfErr result (λ _. held memory.new ≡ held memory.old) }
     ensures refuses { IfErr result (λ why. OfEach (held memory.old).image (λ s. poll s run deadline ≡ Refuses why)) }
 {

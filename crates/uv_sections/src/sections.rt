@@ -17,16 +17,16 @@ use uv_ids::Seen;
 use uv_model::{Place, Run};
 use uv_records::WatcherKind;
 use uv_script::Script;
-use uv_step::{Memory, Record};
+use uv_step::Memory;
 
 /// Goes on in the done section: the front of the requests that are done calls back, or the async handles begin.
-pub fn in_done(memory: &mut Memory<Place>, script: &Script, run: Run) -> (Seen, Record<Place>)
+pub fn in_done(memory: &mut Memory<Place>, script: &Script, run: Run) -> Seen
     requires ready { IsReady (held memory.old) }
     requires last { (held memory.old).image.arena.last ≡ (arena_size script.now).last_generation }
     requires empty { members (held memory.old).image.arena AsyncYet ≡ [] }
-    ensures returns { Returns result.1 (held memory.old) (held memory.new) }
+    ensures returns { Returns memory.new.step_record (held memory.old) (held memory.new) }
     ensures goes { Goes (λ s. collect_request script.now s run)
-        (held memory.old).image (held memory.new).image (Some result.0) }
+        (held memory.old).image (held memory.new).image (Some result) }
 {
     match collect_request(memory, script, run) {
         Some(called) => called,
@@ -35,12 +35,12 @@ pub fn in_done(memory: &mut Memory<Place>, script: &Script, run: Run) -> (Seen, 
 }
 
 /// Goes on in the closing section: the close callback of the front of the closing handles is called, or the timers begin.
-pub fn in_closing(memory: &mut Memory<Place>, script: &Script, run: Run) -> (Seen, Record<Place>)
+pub fn in_closing(memory: &mut Memory<Place>, script: &Script, run: Run) -> Seen
     requires ready { IsReady (held memory.old) }
     requires last { (held memory.old).image.arena.last ≡ (arena_size script.now).last_generation }
-    ensures returns { Returns result.1 (held memory.old) (held memory.new) }
+    ensures returns { Returns memory.new.step_record (held memory.old) (held memory.new) }
     ensures goes { Goes (λ s. close_front script.now s run)
-        (held memory.old).image (held memory.new).image (Some result.0) }
+        (held memory.old).image (held memory.new).image (Some result) }
 {
     match close_front(memory, script, run) {
         Some(called) => called,
@@ -49,12 +49,12 @@ pub fn in_closing(memory: &mut Memory<Place>, script: &Script, run: Run) -> (See
 }
 
 /// Goes on in the idle section: the front of the idle handles that are yet to run is called, or the prepare handles begin.
-pub fn in_idle(memory: &mut Memory<Place>, script: &Script, run: Run) -> (Seen, Record<Place>)
+pub fn in_idle(memory: &mut Memory<Place>, script: &Script, run: Run) -> Seen
     requires ready { IsReady (held memory.old) }
     requires empty { members (held memory.old).image.arena PrepareYet ≡ [] }
-    ensures returns { Returns result.1 (held memory.old) (held memory.new) }
+    ensures returns { Returns memory.new.step_record (held memory.old) (held memory.new) }
     ensures goes { Goes (λ s. walk script.now s run idle)
-        (held memory.old).image (held memory.new).image (Some result.0) }
+        (held memory.old).image (held memory.new).image (Some result) }
 {
     match walk(memory, script, run, WatcherKind::Idle) {
         Some(called) => called,
@@ -63,11 +63,11 @@ pub fn in_idle(memory: &mut Memory<Place>, script: &Script, run: Run) -> (Seen, 
 }
 
 /// Goes on in the prepare section: the front of the prepare handles that are yet to run is called, or the poll begins.
-pub fn in_prepare(memory: &mut Memory<Place>, script: &Script, run: Run) -> (Seen, Record<Place>)
+pub fn in_prepare(memory: &mut Memory<Place>, script: &Script, run: Run) -> Seen
     requires ready { IsReady (held memory.old) }
-    ensures returns { Returns result.1 (held memory.old) (held memory.new) }
+    ensures returns { Returns memory.new.step_record (held memory.old) (held memory.new) }
     ensures goes { Goes (λ s. walk script.now s run prepare)
-        (held memory.old).image (held memory.new).image (Some result.0) }
+        (held memory.old).image (held memory.new).image (Some result) }
 {
     match walk(memory, script, run, WatcherKind::Prepare) {
         Some(called) => called,
@@ -76,12 +76,12 @@ pub fn in_prepare(memory: &mut Memory<Place>, script: &Script, run: Run) -> (See
 }
 
 /// Goes on in the check section: the front of the check handles that are yet to run is called, or the closing section begins.
-pub fn in_check(memory: &mut Memory<Place>, script: &Script, run: Run) -> (Seen, Record<Place>)
+pub fn in_check(memory: &mut Memory<Place>, script: &Script, run: Run) -> Seen
     requires ready { IsReady (held memory.old) }
     requires empty { members (held memory.old).image.arena ClosingYet ≡ [] }
-    ensures returns { Returns result.1 (held memory.old) (held memory.new) }
+    ensures returns { Returns memory.new.step_record (held memory.old) (held memory.new) }
     ensures goes { Goes (λ s. walk script.now s run check)
-        (held memory.old).image (held memory.new).image (Some result.0) }
+        (held memory.old).image (held memory.new).image (Some result) }
 {
     match walk(memory, script, run, WatcherKind::Check) {
         Some(called) => called,
@@ -91,22 +91,15 @@ pub fn in_check(memory: &mut Memory<Place>, script: &Script, run: Run) -> (Seen,
 
 /// Goes on in the async section: the front of the async handles that are yet to run is called or passed by, or the check handles
 /// begin.
-pub fn in_async(
-    memory: &mut Memory<Place>,
-    script: &Script,
-    run: Run,
-) -> (Option<Seen>, Record<Place>)
+pub fn in_async(memory: &mut Memory<Place>, script: &Script, run: Run) -> Option<Seen>
     requires ready { IsReady (held memory.old) }
     requires empty { members (held memory.old).image.arena CheckYet ≡ [] }
-    ensures returns { Returns result.1 (held memory.old) (held memory.new) }
+    ensures returns { Returns memory.new.step_record (held memory.old) (held memory.new) }
     ensures goes { Goes (λ s. walk_async script.now s run)
-        (held memory.old).image (held memory.new).image result.0 }
+        (held memory.old).image (held memory.new).image result }
 {
     match walk_async(memory, script, run) {
         Some(passed) => passed,
-        None => {
-            let (line, step_record) = begin_walk(memory, run, WatcherKind::Check);
-            (Some(line), step_record)
-        }
+        None => Some(begin_walk(memory, run, WatcherKind::Check)),
     }
 }

@@ -8,29 +8,26 @@ ghost use Rattle.uv_step.specs.Undo.{CanUnwind, Extended};
 ghost use Rattle.uv_stands.specs.Stands.{StandsFor};
 
 use uv_model::{Place, Run, Stage};
-use uv_step::{Memory, Record};
+use uv_step::Memory;
 
-/// After the step of this record the loop is at this place.
-pub fn stand_at(memory: &mut Memory<Place>, step_record: &Record<Place>, place: Place)
-    requires can { CanUnwind (held memory.old).room step_record.now (held memory.old).image }
+/// After the last step the loop is at this place.
+pub fn stand_at(memory: &mut Memory<Place>, place: Place)
+    requires can { CanUnwind (held memory.old).room memory.old.step_record (held memory.old).image }
     requires fit { IsFit (held memory.old).image }
-    ensures extended { Extended step_record.now step_record.now (held memory.old) (held memory.new) }
+    ensures same { memory.new.step_record ≡ memory.old.step_record }
+    ensures extended { Extended memory.old.step_record memory.new.step_record (held memory.old) (held memory.new) }
     ensures stands { (s : State) → StandsFor (held memory.old).image s
         → StandsFor (held memory.new).image (record s { place = place }) }
 {
-    memory.stand_at(place, step_record);
+    memory.stand_at(place);
 }
 
-/// After the step of this record the run is at this stage, with no body under way.
-pub(crate) fn stand_in(
-    memory: &mut Memory<Place>,
-    step_record: &Record<Place>,
-    run: Run,
-    stage: Stage,
-)
-    requires can { CanUnwind (held memory.old).room step_record.now (held memory.old).image }
+/// After the last step the run is at this stage, with no body under way.
+pub(crate) fn stand_in(memory: &mut Memory<Place>, run: Run, stage: Stage)
+    requires can { CanUnwind (held memory.old).room memory.old.step_record (held memory.old).image }
     requires fit { IsFit (held memory.old).image }
-    ensures extended { Extended step_record.now step_record.now (held memory.old) (held memory.new) }
+    ensures same { memory.new.step_record ≡ memory.old.step_record }
+    ensures extended { Extended memory.old.step_record memory.new.step_record (held memory.old) (held memory.new) }
     ensures stands { (s : State) → StandsFor (held memory.old).image s → StandsFor (held memory.new).image (at s run stage) }
 {
     let place = Place::Running(Run {
@@ -38,5 +35,5 @@ pub(crate) fn stand_in(
         body: None,
         ..run
     });
-    stand_at(memory, step_record, place);
+    stand_at(memory, place);
 }

@@ -10,51 +10,41 @@ ghost use Rattle.uv_timing.specs.Section.{CollectsNone, FiresNone};
 use crate::calling::begin_body;
 use crate::iterating::leave_timers;
 use crate::standing::stand_in;
-use uv_ids::{Callback, Seen};
+use uv_ids::{Callback, Id, Seen};
 use uv_model::{Place, Run, Stage, TimersOf, Timing};
 use uv_script::Script;
-use uv_step::{Memory, Record};
+use uv_step::Memory;
 use uv_timing::{collect_timer, fire_timer};
 
 /// Calls the front of the timers that are set aside. None, and nothing changed, where there is none.
-fn call_timer(
-    memory: &mut Memory<Place>,
-    script: &Script,
-    run: Run,
-    part: TimersOf,
-) -> Option<(Seen, Record<Place>)>
+fn call_timer(memory: &mut Memory<Place>, script: &Script, run: Run, part: TimersOf) -> Option<Seen>
     requires ready { IsReady (held memory.old) }
-    ensures returns { IfSome result (λ r. Returns r.1 (held memory.old) (held memory.new)) }
-    ensures goes { IfSome result (λ r. Goes (λ s. fire script.now s run part)
-        (held memory.old).image (held memory.new).image (Some r.0)) }
+    ensures returns { IfSome result (λ _. Returns memory.new.step_record (held memory.old) (held memory.new)) }
+    ensures goes { IfSome result (λ line. Goes (λ s. fire script.now s run part)
+        (held memory.old).image (held memory.new).image (Some line)) }
     ensures same { IfNone result (held memory.new ≡ held memory.old) }
     ensures none { IfNone result (FiresNone (held memory.old).image) }
 {
     match fire_timer(memory) {
         None => None,
-        Some((id, name, mut fired)) => {
+        Some((id, name)) => {
             let firing = Run {
                 stage: Stage::Timers(part, Timing::Firing),
                 ..run
             };
-            begin_body(memory, &mut fired, script, firing, Callback::Handle, name);
-            Some((Seen::Call(name, id), fired))
+            begin_body(memory, script, firing, Callback::Handle, name);
+            Some(Seen::Call(name, id))
         }
     }
 }
 
 /// Calls the front of the timers that are set aside, or leaves the section.
-fn fire(
-    memory: &mut Memory<Place>,
-    script: &Script,
-    run: Run,
-    part: TimersOf,
-) -> (Seen, Record<Place>)
+fn fire(memory: &mut Memory<Place>, script: &Script, run: Run, part: TimersOf) -> Seen
     requires ready { IsReady (held memory.old) }
     requires line { run.line < 2 ^ 63 }
-    ensures returns { Returns result.1 (held memory.old) (held memory.new) }
+    ensures returns { Returns memory.new.step_record (held memory.old) (held memory.new) }
     ensures goes { Goes (λ s. fire script.now s run part)
-        (held memory.old).image (held memory.new).image (Some result.0) }
+        (held memory.old).image (held memory.new).image (Some result) }
 {
     match call_timer(memory, script, run, part) {
         Some(called) => called,
@@ -63,9 +53,9 @@ fn fire(
 }
 
 /// Sets the first timer aside, if it is due. None, and nothing changed, where none is.
-fn set_aside(memory: &mut Memory<Place>, run: Run, part: TimersOf) -> Option<Record<Place>>
+fn set_aside(memory: &mut Memory<Place>, run: Run, part: TimersOf) -> Option<Id>
     requires ready { IsReady (held memory.old) }
-    ensures returns { IfSome result (λ r. Returns r (held memory.old) (held memory.new)) }
+    ensures returns { IfSome result (λ _. Returns memory.new.step_record (held memory.old) (held memory.new)) }
     ensures goes { IfSome result (λ _. (p : Program)
         → Goes (λ s. collect p s run part) (held memory.old).image (held memory.new).image None) }
     ensures same { IfNone result (held memory.new ≡ held memory.old) }
@@ -73,33 +63,25 @@ fn set_aside(memory: &mut Memory<Place>, run: Run, part: TimersOf) -> Option<Rec
 {
     match collect_timer(memory) {
         None => None,
-        Some((_, collected)) => {
+        Some(id) => {
             let stage = Stage::Timers(part, Timing::Collecting);
-            stand_in(memory, &collected, run, stage);
-            Some(collected)
+            stand_in(memory, run, stage);
+            Some(id)
         }
     }
 }
 
 /// Sets the first timer aside, without a line, if it is due; else begins to call those that are.
-fn collect(
-    memory: &mut Memory<Place>,
-    script: &Script,
-    run: Run,
-    part: TimersOf,
-) -> (Option<Seen>, Record<Place>)
+fn collect(memory: &mut Memory<Place>, script: &Script, run: Run, part: TimersOf) -> Option<Seen>
     requires ready { IsReady (held memory.old) }
     requires line { run.line < 2 ^ 63 }
-    ensures returns { Returns result.1 (held memory.old) (held memory.new) }
+    ensures returns { Returns memory.new.step_record (held memory.old) (held memory.new) }
     ensures goes { Goes (λ s. collect script.now s run part)
-        (held memory.old).image (held memory.new).image result.0 }
+        (held memory.old).image (held memory.new).image result }
 {
     match set_aside(memory, run, part) {
-        Some(collected) => (None, collected),
-        None => {
-            let (line, step_record) = fire(memory, script, run, part);
-            (Some(line), step_record)
-        }
+        Some(_) => None,
+        None => Some(fire(memory, script, run, part)),
     }
 }
 
@@ -110,18 +92,15 @@ pub fn in_timers(
     run: Run,
     part: TimersOf,
     timing: Timing,
-) -> (Option<Seen>, Record<Place>)
+) -> Option<Seen>
     requires ready { IsReady (held memory.old) }
     requires line { run.line < 2 ^ 63 }
-    ensures returns { Returns result.1 (held memory.old) (held memory.new) }
+    ensures returns { Returns memory.new.step_record (held memory.old) (held memory.new) }
     ensures goes { Goes (λ s. timers script.now s run part timing)
-        (held memory.old).image (held memory.new).image result.0 }
+        (held memory.old).image (held memory.new).image result }
 {
     match timing {
         Timing::Collecting => collect(memory, script, run, part),
-        Timing::Firing => {
-            let (line, step_record) = fire(memory, script, run, part);
-            (Some(line), step_record)
-        }
+        Timing::Firing => Some(fire(memory, script, run, part)),
     }
 }

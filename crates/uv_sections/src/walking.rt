@@ -17,16 +17,13 @@ use uv_ids::{Callback, Id, Seen};
 use uv_model::{Place, Run, Stage};
 use uv_records::{HandleRecord, WatcherKind};
 use uv_script::Script;
-use uv_step::{Memory, Record};
+use uv_step::Memory;
 
 /// Moves the front of those that are yet to run to the end of its list: whether a callback of it was pending, which then isn't any
 /// more. None, and nothing changed, where there is none.
-fn move_on(
-    memory: &mut Memory<Place>,
-    kind: WatcherKind,
-) -> Option<(Id, HandleRecord, bool, Record<Place>)>
+fn move_on(memory: &mut Memory<Place>, kind: WatcherKind) -> Option<(Id, HandleRecord, bool)>
     requires fit { IsFit (held memory.old).image }
-    ensures recorded { IfSome result (λ r. Recorded r.3 (held memory.old) (held memory.new)) }
+    ensures recorded { IfSome result (λ _. Recorded memory.new.step_record (held memory.old) (held memory.new)) }
     ensures moved { IfSome result (λ r. OfEach (held memory.old).image
         (λ s. HandleMoved kind (held memory.new).image s r.0 r.1 r.2)) }
     ensures same { IfNone result (held memory.new ≡ held memory.old) }
@@ -36,9 +33,9 @@ fn move_on(
         None => None,
         Some((id, handle)) => match memory.walk(kind) {
             None => None,
-            Some((_, pending, step_record)) => {
+            Some((_, pending)) => {
                 memory.slots.is_sound();
-                Some((id, handle, pending, step_record))
+                Some((id, handle, pending))
             }
         },
     }
@@ -50,21 +47,21 @@ pub(crate) fn walk(
     script: &Script,
     run: Run,
     kind: WatcherKind,
-) -> Option<(Seen, Record<Place>)>
+) -> Option<Seen>
     requires ready { IsReady (held memory.old) }
     requires other { kind ≢ async }
-    ensures returns { IfSome result (λ r. Returns r.1 (held memory.old) (held memory.new)) }
-    ensures goes { IfSome result (λ r. Goes (λ s. walk script.now s run kind)
-        (held memory.old).image (held memory.new).image (Some r.0)) }
+    ensures returns { IfSome result (λ _. Returns memory.new.step_record (held memory.old) (held memory.new)) }
+    ensures goes { IfSome result (λ line. Goes (λ s. walk script.now s run kind)
+        (held memory.old).image (held memory.new).image (Some line)) }
     ensures same { IfNone result (held memory.new ≡ held memory.old) }
     ensures none { IfNone result (OfEach (held memory.old).image (λ s. front s (watched s kind).yet ≡ None)) }
 {
     match move_on(memory, kind) {
         None => None,
-        Some((id, handle, _, mut moved)) => {
+        Some((id, handle, _)) => {
             let name = handle.name;
-            begin_body(memory, &mut moved, script, run, Callback::Handle, name);
-            Some((Seen::Call(name, id), moved))
+            begin_body(memory, script, run, Callback::Handle, name);
+            Some(Seen::Call(name, id))
         }
     }
 }
@@ -75,24 +72,24 @@ pub(crate) fn walk_async(
     memory: &mut Memory<Place>,
     script: &Script,
     run: Run,
-) -> Option<(Option<Seen>, Record<Place>)>
+) -> Option<Option<Seen>>
     requires ready { IsReady (held memory.old) }
-    ensures returns { IfSome result (λ r. Returns r.1 (held memory.old) (held memory.new)) }
-    ensures goes { IfSome result (λ r. Goes (λ s. walk_async script.now s run)
-        (held memory.old).image (held memory.new).image r.0) }
+    ensures returns { IfSome result (λ _. Returns memory.new.step_record (held memory.old) (held memory.new)) }
+    ensures goes { IfSome result (λ line. Goes (λ s. walk_async script.now s run)
+        (held memory.old).image (held memory.new).image line) }
     ensures same { IfNone result (held memory.new ≡ held memory.old) }
     ensures none { IfNone result (OfEach (held memory.old).image (λ s. front s s.async.yet ≡ None)) }
 {
     match move_on(memory, WatcherKind::Async) {
         None => None,
-        Some((id, handle, pending, mut moved)) => {
+        Some((id, handle, pending)) => {
             if pending {
                 let name = handle.name;
-                begin_body(memory, &mut moved, script, run, Callback::Handle, name);
-                Some((Some(Seen::Call(name, id)), moved))
+                begin_body(memory, script, run, Callback::Handle, name);
+                Some(Some(Seen::Call(name, id)))
             } else {
-                stand_in(memory, &moved, run, Stage::Async);
-                Some((None, moved))
+                stand_in(memory, run, Stage::Async);
+                Some(None)
             }
         }
     }

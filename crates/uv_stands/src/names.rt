@@ -14,7 +14,7 @@ use uv_handle::handle_at;
 use uv_ids::{Callback, Code, Id, Var};
 use uv_model::Place;
 use uv_records::HandleRecord;
-use uv_step::{Memory, Record};
+use uv_step::Memory;
 
 /// What a name is bound to.
 pub fn bound_id(memory: &Memory<Place>, name: Var) -> Option<Id>
@@ -48,41 +48,36 @@ pub fn is_live(memory: &Memory<Place>, name: Var) -> bool
     }
 }
 
-/// The step of this record binds a name to this as well. A name that the loop doesn't have is bound to nothing.
-pub fn bind_name(memory: &mut Memory<Place>, step_record: &mut Record<Place>, name: Var, id: Id)
-    requires can { CanUnwind (held memory.old).room step_record.old (held memory.old).image }
+/// The last step binds a name to this as well. A name that the loop doesn't have is bound to nothing.
+pub fn bind_name(memory: &mut Memory<Place>, name: Var, id: Id)
+    requires can { CanUnwind (held memory.old).room memory.old.step_record (held memory.old).image }
     requires fit { IsFit (held memory.old).image }
-    requires unnamed { step_record.old.naming ≡ same }
+    requires unnamed { memory.old.step_record.naming ≡ same }
     ensures image { (held memory.new).image
         ≡ record (held memory.old).image { names = binding name.0 (Some id) (held memory.old).image.names } }
-    ensures extended { Extended step_record.old step_record.new (held memory.old) (held memory.new) }
+    ensures extended { Extended memory.old.step_record memory.new.step_record (held memory.old) (held memory.new) }
 {
     if (name.0 as usize) < memory.names.len() {
-        memory.bind(step_record, name, Some(id));
+        memory.bind(name, Some(id));
     }
 }
 
-/// The step of this record calls a callback of a name as well: how often it was called by then. It isn't counted for a name that the
+/// The last step calls a callback of a name as well: how often it was called by then. It isn't counted for a name that the
 /// loop doesn't have.
-pub fn call_name(
-    memory: &mut Memory<Place>,
-    step_record: &mut Record<Place>,
-    name: Var,
-    callback: Callback,
-) -> u32
-    requires can { CanUnwind (held memory.old).room step_record.old (held memory.old).image }
+pub fn call_name(memory: &mut Memory<Place>, name: Var, callback: Callback) -> u32
+    requires can { CanUnwind (held memory.old).room memory.old.step_record (held memory.old).image }
     requires fit { IsFit (held memory.old).image }
-    requires unnamed { step_record.old.naming ≡ same }
+    requires unnamed { memory.old.step_record.naming ≡ same }
     requires few { count_of callback (named (held memory.old).image.names name.0).calls < 2 ^ 32 - 1 }
     ensures count { result ≡ count_of callback (named (held memory.old).image.names name.0).calls + 1 }
     ensures image { (held memory.new).image
         ≡ record (held memory.old).image { names = calling name.0 callback result (held memory.old).image.names } }
-    ensures extended { Extended step_record.old step_record.new (held memory.old) (held memory.new) }
+    ensures extended { Extended memory.old.step_record memory.new.step_record (held memory.old) (held memory.new) }
 {
     if name.0 as usize >= memory.names.len() {
         return 1;
     }
     let count = memory.names[name.0 as usize].calls.of(callback) + 1;
-    memory.count_call(step_record, name, callback);
+    memory.count_call(name, callback);
     count
 }

@@ -15,7 +15,7 @@ ghost use Rattle.uv_step.specs.Undo.{Recorded};
 ghost use Rattle.uv_step.specs.Does.{By, IsMade, IsShut, changed, moved_by};
 
 use crate::memory::Memory;
-use crate::record::{Added, Change, Record};
+use crate::record::{Added, Change};
 use uv_arena::Full;
 use uv_handle::handle_at;
 use uv_ids::{Code, Id, Kind, Var};
@@ -25,11 +25,11 @@ use uv_watch::send;
 
 impl<P: Copy> Memory<P> {
     /// Makes a handle (uv_timer_init and the like). An async one goes to the end of its list.
-    pub fn init(&mut self, name: Var, kind: Kind) -> Result<(Id, Record<P>), Full>
+    pub fn init(&mut self, name: Var, kind: Kind) -> Result<Id, Full>
         requires fit { IsFit (held self.old).image }
-        ensures recorded { IfOk result (λ r. Recorded r.1 (held self.old) (held self.new)) }
-        ensures made { IfOk result (λ r. By added (λ u. IsMade
-            (counted_of (held self.old).image) (counted_of (held self.new).image) name kind r.0 u) r.1.change) }
+        ensures recorded { IfOk result (λ _. Recorded self.new.step_record (held self.old) (held self.new)) }
+        ensures made { IfOk result (λ id. By added (λ u. IsMade
+            (counted_of (held self.old).image) (counted_of (held self.new).image) name kind id u) self.new.step_record.change) }
         ensures full { IfErr result (λ _. (next_free (plain_slots (held self.old).image.arena) ≡ None) × (held self.new ≡ held self.old)) }
     {
         match self.handles.add(&mut self.slots, name, kind) {
@@ -37,77 +37,77 @@ impl<P: Copy> Memory<P> {
             Ok((id, added)) => {
                 if kind == Kind::Async {
                     self.slots.push_back(ListName::Async, id);
-                    Ok((
-                        id,
-                        self.record(Change::Added(Added {
-                            added,
-                            listed: true,
-                        })),
-                    ))
+                    let listed = true;
+                    self.step_record = self.record(Change::Added(Added { added, listed }));
                 } else {
-                    Ok((
-                        id,
-                        self.record(Change::Added(Added {
-                            added,
-                            listed: false,
-                        })),
-                    ))
+                    let listed = false;
+                    self.step_record = self.record(Change::Added(Added { added, listed }));
                 }
+                Ok(id)
             }
         }
     }
 
     /// References a handle, or not (uv_ref, uv_unref).
-    pub fn set_ref(&mut self, id: Id, referenced: bool) -> Result<Record<P>, Code>
+    pub fn set_ref(&mut self, id: Id, referenced: bool) -> Result<(), Code>
         requires fit { IsFit (held self.old).image }
-        ensures recorded { IfOk result (λ r. Recorded r (held self.old) (held self.new)) }
-        ensures does { IfOk result (λ r. By edited (λ u. Did handle_in handle no_refusal (referenced_as referenced)
-            (counted_of (held self.old).image) (counted_of (held self.new).image) id u) r.change) }
+        ensures recorded { IfOk result (λ _. Recorded self.new.step_record (held self.old) (held self.new)) }
+        ensures does { IfOk result (λ _. By edited (λ u. Did handle_in handle no_refusal (referenced_as referenced)
+            (counted_of (held self.old).image) (counted_of (held self.new).image) id u) self.new.step_record.change) }
         ensures err { IfErr result (λ code. (refusal no_refusal (found handle_in (held self.old).image.arena id) ≡ Some code)
             × (held self.new ≡ held self.old)) }
     {
         match self.handles.set_ref(&mut self.slots, id, referenced) {
             Err(code) => Err(code),
-            Ok(undo) => Ok(self.record(Change::Edited(undo))),
+            Ok(undo) => {
+                self.step_record = self.record(Change::Edited(undo));
+                Ok(())
+            }
         }
     }
 
     /// Gives a timer another repeat in ms (uv_timer_set_repeat).
-    pub fn set_repeat(&mut self, id: Id, repeat: u64) -> Result<Record<P>, Code>
+    pub fn set_repeat(&mut self, id: Id, repeat: u64) -> Result<(), Code>
         requires fit { IsFit (held self.old).image }
-        ensures recorded { IfOk result (λ r. Recorded r (held self.old) (held self.new)) }
-        ensures does { IfOk result (λ r. By edited (λ u. Did handle_in handle timer_refusal (repeating repeat)
-            (counted_of (held self.old).image) (counted_of (held self.new).image) id u) r.change) }
+        ensures recorded { IfOk result (λ _. Recorded self.new.step_record (held self.old) (held self.new)) }
+        ensures does { IfOk result (λ _. By edited (λ u. Did handle_in handle timer_refusal (repeating repeat)
+            (counted_of (held self.old).image) (counted_of (held self.new).image) id u) self.new.step_record.change) }
         ensures err { IfErr result (λ code. (refusal timer_refusal (found handle_in (held self.old).image.arena id) ≡ Some code)
             × (held self.new ≡ held self.old)) }
     {
         match set_repeat(&mut self.handles, &mut self.slots, id, repeat) {
             Err(code) => Err(code),
-            Ok(undo) => Ok(self.record(Change::Edited(undo))),
+            Ok(undo) => {
+                self.step_record = self.record(Change::Edited(undo));
+                Ok(())
+            }
         }
     }
 
     /// Sends to an async handle (uv_async_send).
-    pub fn send(&mut self, id: Id) -> Result<Record<P>, Code>
+    pub fn send(&mut self, id: Id) -> Result<(), Code>
         requires fit { IsFit (held self.old).image }
-        ensures recorded { IfOk result (λ r. Recorded r (held self.old) (held self.new)) }
-        ensures does { IfOk result (λ r. By edited (λ u. Did handle_in handle send_refusal sent
-            (counted_of (held self.old).image) (counted_of (held self.new).image) id u) r.change) }
+        ensures recorded { IfOk result (λ _. Recorded self.new.step_record (held self.old) (held self.new)) }
+        ensures does { IfOk result (λ _. By edited (λ u. Did handle_in handle send_refusal sent
+            (counted_of (held self.old).image) (counted_of (held self.new).image) id u) self.new.step_record.change) }
         ensures err { IfErr result (λ code. (refusal send_refusal (found handle_in (held self.old).image.arena id) ≡ Some code)
             × (held self.new ≡ held self.old)) }
     {
         match send(&mut self.handles, &mut self.slots, id) {
             Err(code) => Err(code),
-            Ok(undo) => Ok(self.record(Change::Edited(undo))),
+            Ok(undo) => {
+                self.step_record = self.record(Change::Edited(undo));
+                Ok(())
+            }
         }
     }
 
     /// Closes a handle: it is stopped, and goes to the front of the closing list (uv_close).
-    pub fn close(&mut self, id: Id) -> Result<Record<P>, Code>
+    pub fn close(&mut self, id: Id) -> Result<(), Code>
         requires fit { IsFit (held self.old).image }
-        ensures recorded { IfOk result (λ r. Recorded r (held self.old) (held self.new)) }
-        ensures does { IfOk result (λ r. By moved_by (λ u. IsShut (held self.new).room
-            (timed_of (held self.old).image) (timed_of (held self.new).image) id u) r.change) }
+        ensures recorded { IfOk result (λ _. Recorded self.new.step_record (held self.old) (held self.new)) }
+        ensures does { IfOk result (λ _. By moved_by (λ u. IsShut (held self.new).room
+            (timed_of (held self.old).image) (timed_of (held self.new).image) id u) self.new.step_record.change) }
         ensures err { IfErr result (λ code. (refusal close_refusal (found handle_in (held self.old).image.arena id) ≡ Some code)
             × (held self.new ≡ held self.old)) }
     {
@@ -115,18 +115,21 @@ impl<P: Copy> Memory<P> {
             Err(code) => Err(code),
             Ok(before) => match before.close_refusal() {
                 Some(code) => Err(code),
-                None => Ok(self.shut(id, before)),
+                None => {
+                    self.shut(id, before);
+                    Ok(())
+                }
             },
         }
     }
 
-    fn shut(&mut self, id: Id, before: HandleRecord) -> Record<P>
+    fn shut(&mut self, id: Id, before: HandleRecord)
         requires fit { IsFit (held self.old).image }
         requires found { record_at handle_in (held self.old).image.arena id ≡ Some before }
         requires allowed { close_refusal before ≡ None }
-        ensures recorded { Recorded result (held self.old) (held self.new) }
+        ensures recorded { Recorded self.new.step_record (held self.old) (held self.new) }
         ensures does { By moved_by (λ u. IsShut (held self.new).room
-            (timed_of (held self.old).image) (timed_of (held self.new).image) id u) result.change }
+            (timed_of (held self.old).image) (timed_of (held self.new).image) id u) self.new.step_record.change }
     {
         let timer = reschedule(
             &mut self.handles,
@@ -142,6 +145,6 @@ impl<P: Copy> Memory<P> {
             },
         );
         let pushed = self.slots.push_front(ListName::Closing, id);
-        self.record(Change::Moved(pushed, timer))
+        self.step_record = self.record(Change::Moved(pushed, timer));
     }
 }

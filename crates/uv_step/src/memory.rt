@@ -14,7 +14,7 @@ use uv_heap::TimerHeap;
 use uv_requests::{Requests, fresh_requests};
 use uv_timer::Times;
 
-/// All that the steps of a loop change. `P` says where the loop stands.
+/// All that the steps of a loop change, and what takes the last one back. `P` says where the loop stands.
 #[derive(Drop)]
 pub struct Memory<P: Copy> {
     pub place: P,
@@ -31,6 +31,8 @@ pub struct Memory<P: Copy> {
     pub stop_flag: bool,
     /// An idle handle was active as the iteration began.
     pub idled: bool,
+    /// The record of the last step that was done, which takes it back. It is no part of what a step changes.
+    pub step_record: Record<P>,
 }
 
 impl<P: Copy> Memory<P> {
@@ -65,6 +67,11 @@ impl<P: Copy> Memory<P> {
             clock: 0,
             stop_flag: false,
             idled: false,
+            step_record: Record {
+                place,
+                naming: Naming::Same,
+                change: Change::Nothing,
+            },
         })
     }
 

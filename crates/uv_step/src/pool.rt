@@ -16,105 +16,118 @@ ghost use Rattle.uv_step.specs.Undo.{Recorded};
 ghost use Rattle.uv_step.specs.Does.{By, ended_by};
 
 use crate::memory::Memory;
-use crate::record::{Change, Polled, Record};
+use crate::record::{Change, Polled};
 use uv_arena::Full;
 use uv_ids::{Code, Id, Why};
 use uv_work::{RequestRecord, WorkResult};
 
 impl<P: Copy> Memory<P> {
     /// Puts an open request in a slot, behind those that wait (uv_queue_work).
-    pub fn queue(&mut self, request: RequestRecord) -> Result<(Id, Record<P>), Full>
+    pub fn queue(&mut self, request: RequestRecord) -> Result<Id, Full>
         requires fit { IsFit (held self.old).image }
         requires opened { is_open request.outcome ≡ true }
-        ensures recorded { IfOk result (λ r. Recorded r.1 (held self.old) (held self.new)) }
-        ensures does { IfOk result (λ r. By queued (λ u. IsQueued request_in asked
-            (working_of (held self.old).image) (working_of (held self.new).image) request r.0 u) r.1.change) }
+        ensures recorded { IfOk result (λ _. Recorded self.new.step_record (held self.old) (held self.new)) }
+        ensures does { IfOk result (λ id. By queued (λ u. IsQueued request_in asked
+            (working_of (held self.old).image) (working_of (held self.new).image) request id u) self.new.step_record.change) }
         ensures full { IfErr result (λ _. (next_free (plain_slots (held self.old).image.arena) ≡ None) × (held self.new ≡ held self.old)) }
     {
         self.slots.is_sound();
         match self.requests.queue(&mut self.slots, request) {
             Err(full) => Err(full),
-            Ok((id, undo)) => Ok((id, self.record(Change::Queued(undo)))),
+            Ok((id, undo)) => {
+                self.step_record = self.record(Change::Queued(undo));
+                Ok(id)
+            }
         }
     }
 
     /// A worker takes the request that waits longest.
-    pub fn take(&mut self, worker: u16) -> Result<(Id, Record<P>), Why>
+    pub fn take(&mut self, worker: u16) -> Result<Id, Why>
         requires fit { IsFit (held self.old).image }
-        ensures recorded { IfOk result (λ r. Recorded r.1 (held self.old) (held self.new)) }
-        ensures does { IfOk result (λ r. By taken (λ u. IsTaken request_in
-            (working_of (held self.old).image) (working_of (held self.new).image) worker r.0 u) r.1.change) }
+        ensures recorded { IfOk result (λ _. Recorded self.new.step_record (held self.old) (held self.new)) }
+        ensures does { IfOk result (λ id. By taken (λ u. IsTaken request_in
+            (working_of (held self.old).image) (working_of (held self.new).image) worker id u) self.new.step_record.change) }
         ensures err { IfErr result (λ why. RefusesTake request_in (working_of (held self.old).image) worker why × (held self.new ≡ held self.old)) }
     {
         match self.requests.take(&mut self.slots, worker) {
             Err(why) => Err(why),
-            Ok((id, undo)) => Ok((id, self.record(Change::Taken(undo)))),
+            Ok((id, undo)) => {
+                self.step_record = self.record(Change::Taken(undo));
+                Ok(id)
+            }
         }
     }
 
     /// A worker hands in the result of the request that it runs.
-    pub fn finish(&mut self, worker: u16, work: WorkResult) -> Result<(Id, Record<P>), Why>
+    pub fn finish(&mut self, worker: u16, work: WorkResult) -> Result<Id, Why>
         requires fit { IsFit (held self.old).image }
-        ensures recorded { IfOk result (λ r. Recorded r.1 (held self.old) (held self.new)) }
-        ensures does { IfOk result (λ r. By finished (λ u. IsFinished request_in asked
-            (working_of (held self.old).image) (working_of (held self.new).image) worker r.0 work.job work.digest u) r.1.change) }
+        ensures recorded { IfOk result (λ _. Recorded self.new.step_record (held self.old) (held self.new)) }
+        ensures does { IfOk result (λ id. By finished (λ u. IsFinished request_in asked
+            (working_of (held self.old).image) (working_of (held self.new).image) worker id work.job work.digest u) self.new.step_record.change) }
         ensures err { IfErr result (λ why. RefusesFinish request_in (working_of (held self.old).image) worker work.job why
             × (held self.new ≡ held self.old)) }
     {
         match self.requests.finish(&mut self.slots, worker, work) {
             Err(why) => Err(why),
-            Ok((id, undo)) => Ok((id, self.record(Change::Finished(undo)))),
+            Ok((id, undo)) => {
+                self.step_record = self.record(Change::Finished(undo));
+                Ok(id)
+            }
         }
     }
 
     /// Cancels a request that waits (uv_cancel).
-    pub fn cancel(&mut self, id: Id) -> Result<Record<P>, Code>
+    pub fn cancel(&mut self, id: Id) -> Result<(), Code>
         requires fit { IsFit (held self.old).image }
-        ensures recorded { IfOk result (λ r. Recorded r (held self.old) (held self.new)) }
-        ensures does { IfOk result (λ r. By cancelled (λ u. IsCancelled request_in asked
-            (working_of (held self.old).image) (working_of (held self.new).image) id u) r.change) }
+        ensures recorded { IfOk result (λ _. Recorded self.new.step_record (held self.old) (held self.new)) }
+        ensures does { IfOk result (λ _. By cancelled (λ u. IsCancelled request_in asked
+            (working_of (held self.old).image) (working_of (held self.new).image) id u) self.new.step_record.change) }
         ensures err { IfErr result (λ code. (cancel_refusal (found request_in (held self.old).image.arena id)
             (waits (pool_of request_in (working_of (held self.old).image)).waiting id) ≡ Some code) × (held self.new ≡ held self.old)) }
     {
         match self.requests.cancel(&mut self.slots, id) {
             Err(code) => Err(code),
-            Ok(undo) => Ok(self.record(Change::Cancelled(undo))),
+            Ok(undo) => {
+                self.step_record = self.record(Change::Cancelled(undo));
+                Ok(())
+            }
         }
     }
 
     /// Begins the done section: all that are done have yet to be called back.
-    pub fn begin_done(&mut self) -> Record<P>
+    pub fn begin_done(&mut self)
         requires fit { IsFit (held self.old).image }
         requires empty { members (held self.old).image.arena DoneYet ≡ [] }
-        ensures recorded { Recorded result (held self.old) (held self.new) }
-        ensures does { By begun (λ u. IsBegun request_in (working_of (held self.old).image) (working_of (held self.new).image) u) result.change }
+        ensures recorded { Recorded self.new.step_record (held self.old) (held self.new) }
+        ensures does { By begun (λ u. IsBegun request_in
+            (working_of (held self.old).image) (working_of (held self.new).image) u) self.new.step_record.change }
     {
         let undo = self.requests.begin(&mut self.slots);
-        self.record(Change::Begun(undo))
+        self.step_record = self.record(Change::Begun(undo));
     }
 
     /// The poll is over: the loop's time is that of the clock, and the done section begins.
-    pub fn leave_poll(&mut self) -> Record<P>
+    pub fn leave_poll(&mut self)
         requires fit { IsFit (held self.old).image }
         requires empty { members (held self.old).image.arena DoneYet ≡ [] }
-        ensures recorded { Recorded result (held self.old) (held self.new) }
+        ensures recorded { Recorded self.new.step_record (held self.old) (held self.new) }
         ensures time { (held self.new).image.times.time ≡ (held self.old).image.clock }
         ensures does { By polled (λ u. IsBegun request_in
-            (working_of (held self.old).image) (working_of (held self.new).image) u.spliced) result.change }
+            (working_of (held self.old).image) (working_of (held self.new).image) u.spliced) self.new.step_record.change }
     {
         let spliced = self.requests.begin(&mut self.slots);
         let time = self.times.time;
         self.times.time = self.clock;
-        self.record(Change::Polled(Polled { time, spliced }))
+        self.step_record = self.record(Change::Polled(Polled { time, spliced }));
     }
 
     /// Takes the front of those that have yet to be called back off its list, and frees its slot: the request as it was. None, and
     /// nothing changed, where there is none.
-    pub fn end_request(&mut self) -> Option<(Id, RequestRecord, Record<P>)>
+    pub fn end_request(&mut self) -> Option<(Id, RequestRecord)>
         requires fit { IsFit (held self.old).image }
-        ensures recorded { IfSome result (λ r. Recorded r.2 (held self.old) (held self.new)) }
+        ensures recorded { IfSome result (λ _. Recorded self.new.step_record (held self.old) (held self.new)) }
         ensures does { IfSome result (λ r. By ended_by (λ u. IsCollected request_in
-            (working_of (held self.old).image) (working_of (held self.new).image) r.0 r.1 u) r.2.change) }
+            (working_of (held self.old).image) (working_of (held self.new).image) r.0 r.1 u) self.new.step_record.change) }
         ensures none { IfNone result ((members (held self.old).image.arena DoneYet ≡ []) × (held self.new ≡ held self.old)) }
     {
         match self.requests.collect(&mut self.slots) {
@@ -122,8 +135,8 @@ impl<P: Copy> Memory<P> {
             Some(ended) => {
                 let undo = ended.2;
                 let change = Change::Ended(undo.unlinked, undo.count, undo.removed);
-                let step_record = self.record(change);
-                Some((ended.0, ended.1, step_record))
+                self.step_record = self.record(change);
+                Some((ended.0, ended.1))
             }
         }
     }

@@ -14,18 +14,18 @@ ghost use Rattle.uv_step.specs.Undo.{Recorded};
 ghost use Rattle.uv_step.specs.Does.{By, moved_by};
 
 use crate::memory::Memory;
-use crate::record::{Change, Record};
+use crate::record::Change;
 use uv_ids::{Code, Id};
 
 impl<P: Copy> Memory<P> {
     /// Starts a timer (uv_timer_start). The room on the heap has to be reserved before.
-    pub fn start_timer(&mut self, id: Id, timeout: u64, repeat: u64) -> Result<Record<P>, Code>
+    pub fn start_timer(&mut self, id: Id, timeout: u64, repeat: u64) -> Result<(), Code>
         requires fit { IsFit (held self.old).image }
         requires room { id.slot < (held self.old).room }
         requires starts { (held self.old).image.times.next_start < 2 ^ 64 - 1 }
-        ensures recorded { IfOk result (λ r. Recorded r (held self.old) (held self.new)) }
-        ensures does { IfOk result (λ r. By timer (λ u. IsStarted handle_in handle (held self.new).room
-            (timed_of (held self.old).image) (timed_of (held self.new).image) id timeout repeat u) r.change) }
+        ensures recorded { IfOk result (λ _. Recorded self.new.step_record (held self.old) (held self.new)) }
+        ensures does { IfOk result (λ _. By timer (λ u. IsStarted handle_in handle (held self.new).room
+            (timed_of (held self.old).image) (timed_of (held self.new).image) id timeout repeat u) self.new.step_record.change) }
         ensures err { IfErr result (λ code. Refused handle_in start_timer_refusal
             (timed_of (held self.old).image) (timed_of (held self.new).image) id code × (held self.new ≡ held self.old)) }
     {
@@ -39,16 +39,19 @@ impl<P: Copy> Memory<P> {
             repeat,
         ) {
             Err(code) => Err(code),
-            Ok(undo) => Ok(self.record(Change::Timer(undo))),
+            Ok(undo) => {
+                self.step_record = self.record(Change::Timer(undo));
+                Ok(())
+            }
         }
     }
 
     /// Stops a timer (uv_timer_stop).
-    pub fn stop_timer(&mut self, id: Id) -> Result<Record<P>, Code>
+    pub fn stop_timer(&mut self, id: Id) -> Result<(), Code>
         requires fit { IsFit (held self.old).image }
-        ensures recorded { IfOk result (λ r. Recorded r (held self.old) (held self.new)) }
-        ensures does { IfOk result (λ r. By timer (λ u. IsStopped handle_in handle (held self.new).room
-            (timed_of (held self.old).image) (timed_of (held self.new).image) id u) r.change) }
+        ensures recorded { IfOk result (λ _. Recorded self.new.step_record (held self.old) (held self.new)) }
+        ensures does { IfOk result (λ _. By timer (λ u. IsStopped handle_in handle (held self.new).room
+            (timed_of (held self.old).image) (timed_of (held self.new).image) id u) self.new.step_record.change) }
         ensures err { IfErr result (λ code. Refused handle_in stop_refusal
             (timed_of (held self.old).image) (timed_of (held self.new).image) id code × (held self.new ≡ held self.old)) }
     {
@@ -60,18 +63,21 @@ impl<P: Copy> Memory<P> {
             id,
         ) {
             Err(code) => Err(code),
-            Ok(undo) => Ok(self.record(Change::Timer(undo))),
+            Ok(undo) => {
+                self.step_record = self.record(Change::Timer(undo));
+                Ok(())
+            }
         }
     }
 
     /// Starts a timer again with its repeat (uv_timer_again). The room on the heap has to be reserved before.
-    pub fn again(&mut self, id: Id) -> Result<Record<P>, Code>
+    pub fn again(&mut self, id: Id) -> Result<(), Code>
         requires fit { IsFit (held self.old).image }
         requires room { id.slot < (held self.old).room }
         requires starts { (held self.old).image.times.next_start < 2 ^ 64 - 1 }
-        ensures recorded { IfOk result (λ r. Recorded r (held self.old) (held self.new)) }
-        ensures does { IfOk result (λ r. By timer (λ u. IsStartedAgain handle_in handle (held self.new).room
-            (timed_of (held self.old).image) (timed_of (held self.new).image) id u) r.change) }
+        ensures recorded { IfOk result (λ _. Recorded self.new.step_record (held self.old) (held self.new)) }
+        ensures does { IfOk result (λ _. By timer (λ u. IsStartedAgain handle_in handle (held self.new).room
+            (timed_of (held self.old).image) (timed_of (held self.new).image) id u) self.new.step_record.change) }
         ensures err { IfErr result (λ code. Refused handle_in again_refusal
             (timed_of (held self.old).image) (timed_of (held self.new).image) id code × (held self.new ≡ held self.old)) }
     {
@@ -83,16 +89,19 @@ impl<P: Copy> Memory<P> {
             id,
         ) {
             Err(code) => Err(code),
-            Ok(undo) => Ok(self.record(Change::Timer(undo))),
+            Ok(undo) => {
+                self.step_record = self.record(Change::Timer(undo));
+                Ok(())
+            }
         }
     }
 
     /// Moves the first timer, if it is due, to the end of the ready list. None, and nothing changed, where none is due.
-    pub fn collect_timer(&mut self) -> Option<(Id, Record<P>)>
+    pub fn collect_timer(&mut self) -> Option<Id>
         requires fit { IsFit (held self.old).image }
-        ensures recorded { IfSome result (λ r. Recorded r.1 (held self.old) (held self.new)) }
-        ensures does { IfSome result (λ r. By moved_by (λ u. IsCollected handle_in handle (held self.new).room
-            (timed_of (held self.old).image) (timed_of (held self.new).image) r.0 u) r.1.change) }
+        ensures recorded { IfSome result (λ _. Recorded self.new.step_record (held self.old) (held self.new)) }
+        ensures does { IfSome result (λ id. By moved_by (λ u. IsCollected handle_in handle (held self.new).room
+            (timed_of (held self.old).image) (timed_of (held self.new).image) id u) self.new.step_record.change) }
         ensures none { IfNone result (NoneIsDue handle_in (held self.old).image.arena (held self.old).image.heap (held self.old).image.times.time
             × (held self.new ≡ held self.old)) }
     {
@@ -104,21 +113,21 @@ impl<P: Copy> Memory<P> {
         ) {
             None => None,
             Some((id, undo)) => {
-                let step_record = self.record(Change::Moved(undo.pushed, undo.timer));
-                Some((id, step_record))
+                self.step_record = self.record(Change::Moved(undo.pushed, undo.timer));
+                Some(id)
             }
         }
     }
 
     /// Takes the front of the ready list off it, and sets it again from now if it repeats: its callback is to be called. None, and
     /// nothing changed, where none is ready.
-    pub fn fire_timer(&mut self) -> Option<(Id, Record<P>)>
+    pub fn fire_timer(&mut self) -> Option<Id>
         requires fit { IsFit (held self.old).image }
         requires room { (d : Id) → IsFirst (held self.old).image.arena Ready d → d.slot < (held self.old).room }
         requires starts { (held self.old).image.times.next_start < 2 ^ 64 - 1 }
-        ensures recorded { IfSome result (λ r. Recorded r.1 (held self.old) (held self.new)) }
-        ensures does { IfSome result (λ r. By timer (λ u. IsFired handle_in handle (held self.new).room
-            (timed_of (held self.old).image) (timed_of (held self.new).image) r.0 u) r.1.change) }
+        ensures recorded { IfSome result (λ _. Recorded self.new.step_record (held self.old) (held self.new)) }
+        ensures does { IfSome result (λ id. By timer (λ u. IsFired handle_in handle (held self.new).room
+            (timed_of (held self.old).image) (timed_of (held self.new).image) id u) self.new.step_record.change) }
         ensures none { IfNone result (NoneIsReady handle_in (held self.old).image.arena × (held self.new ≡ held self.old)) }
     {
         match uv_timer::fire_one(
@@ -128,7 +137,10 @@ impl<P: Copy> Memory<P> {
             &mut self.times,
         ) {
             None => None,
-            Some((id, undo)) => Some((id, self.record(Change::Timer(undo)))),
+            Some((id, fired)) => {
+                self.step_record = self.record(Change::Timer(fired));
+                Some(id)
+            }
         }
     }
 }

@@ -13,52 +13,52 @@ use uv_ids::{Callback, Id, Var};
 
 impl<P: Copy> Memory<P> {
     /// The clock goes on by so many ms.
-    pub fn tick(&mut self, ms: u64) -> Record<P>
+    pub fn tick(&mut self, ms: u64)
         requires fit { IsFit (held self.old).image }
         requires fits { (held self.old).image.clock + ms < 2 ^ 64 }
-        ensures recorded { Recorded result (held self.old) (held self.new) }
+        ensures recorded { Recorded self.new.step_record (held self.old) (held self.new) }
         ensures image { (held self.new).image ≡ record (held self.old).image { clock = (held self.old).image.clock + ms } }
     {
         let change = Change::Clock(self.clock);
         self.clock += ms;
-        self.record(change)
+        self.step_record = self.record(change);
     }
 
     /// The loop's time is that of the clock (uv_update_time).
-    pub fn update_time(&mut self) -> Record<P>
+    pub fn update_time(&mut self)
         requires fit { IsFit (held self.old).image }
-        ensures recorded { Recorded result (held self.old) (held self.new) }
+        ensures recorded { Recorded self.new.step_record (held self.old) (held self.new) }
         ensures image { (held self.new).image
             ≡ record (held self.old).image { times = record (held self.old).image.times { time = (held self.old).image.clock } } }
     {
         let change = Change::Time(self.times.time);
         self.times.time = self.clock;
-        self.record(change)
+        self.step_record = self.record(change);
     }
 
     /// The run is to end before its next iteration (uv_stop), or not.
-    pub fn set_stop(&mut self, stop: bool) -> Record<P>
+    pub fn set_stop(&mut self, stop: bool)
         requires fit { IsFit (held self.old).image }
-        ensures recorded { Recorded result (held self.old) (held self.new) }
+        ensures recorded { Recorded self.new.step_record (held self.old) (held self.new) }
         ensures image { (held self.new).image ≡ record (held self.old).image { stop_flag = stop } }
     {
         let change = Change::Stop(self.stop_flag);
         self.stop_flag = stop;
-        self.record(change)
+        self.step_record = self.record(change);
     }
 
     /// Whether an idle handle is active as the iteration begins.
-    pub fn set_idled(&mut self, idled: bool) -> Record<P>
+    pub fn set_idled(&mut self, idled: bool)
         requires fit { IsFit (held self.old).image }
-        ensures recorded { Recorded result (held self.old) (held self.new) }
+        ensures recorded { Recorded self.new.step_record (held self.old) (held self.new) }
         ensures image { (held self.new).image ≡ record (held self.old).image { idled = idled } }
     {
         let change = Change::Idled(self.idled);
         self.idled = idled;
-        self.record(change)
+        self.step_record = self.record(change);
     }
 
-    /// A step that changes nothing but where the loop stands.
+    /// What takes a step back that changes nothing but where the loop stands.
     pub fn pass(&self) -> Record<P>
         requires fit { IsFit (held self.now).image }
         ensures recorded { Recorded result (held self.now) (held self.now) }
@@ -66,45 +66,45 @@ impl<P: Copy> Memory<P> {
         self.record(Change::Nothing)
     }
 
-    /// The loop stands here after the step of this record.
-    pub fn stand_at(&mut self, place: P, step_record: &Record<P>)
-        requires can { CanUnwind (held self.old).room step_record.now (held self.old).image }
+    /// The loop stands here after the last step.
+    pub fn stand_at(&mut self, place: P)
+        requires can { CanUnwind (held self.old).room self.old.step_record (held self.old).image }
         requires fit { IsFit (held self.old).image }
         ensures place { (held self.new).image ≡ standing place (held self.old).image }
-        ensures extended { Extended step_record.now step_record.now (held self.old) (held self.new) }
+        ensures same { self.new.step_record ≡ self.old.step_record }
+        ensures extended { Extended self.old.step_record self.new.step_record (held self.old) (held self.new) }
     {
-        let _ = step_record;
         self.place = place;
     }
 
-    /// The step of this record binds a name to this as well.
-    pub fn bind(&mut self, step_record: &mut Record<P>, name: Var, id: Option<Id>)
-        requires can { CanUnwind (held self.old).room step_record.old (held self.old).image }
+    /// The last step binds a name to this as well.
+    pub fn bind(&mut self, name: Var, id: Option<Id>)
+        requires can { CanUnwind (held self.old).room self.old.step_record (held self.old).image }
         requires fit { IsFit (held self.old).image }
-        requires unnamed { step_record.old.naming ≡ same }
+        requires unnamed { self.old.step_record.naming ≡ same }
         requires name { name.0 < length (held self.old).image.names }
         ensures image { (held self.new).image ≡ record (held self.old).image { names = binding name.0 id (held self.old).image.names } }
-        ensures extended { Extended step_record.old step_record.new (held self.old) (held self.new) }
+        ensures extended { Extended self.old.step_record self.new.step_record (held self.old) (held self.new) }
     {
         let named = self.names[name.0 as usize];
         self.names[name.0 as usize] = Named {
             id,
             calls: named.calls,
         };
-        step_record.naming = Naming::bound(name, named.id);
+        self.step_record.naming = Naming::bound(name, named.id);
     }
 
-    /// The step of this record calls a callback of a name as well.
-    pub fn count_call(&mut self, step_record: &mut Record<P>, name: Var, callback: Callback)
-        requires can { CanUnwind (held self.old).room step_record.old (held self.old).image }
+    /// The last step calls a callback of a name as well.
+    pub fn count_call(&mut self, name: Var, callback: Callback)
+        requires can { CanUnwind (held self.old).room self.old.step_record (held self.old).image }
         requires fit { IsFit (held self.old).image }
-        requires unnamed { step_record.old.naming ≡ same }
+        requires unnamed { self.old.step_record.naming ≡ same }
         requires name { name.0 < length (held self.old).image.names }
         requires few { count_of callback (named (held self.old).image.names name.0).calls < 2 ^ 32 - 1 }
         ensures image { (held self.new).image ≡ record (held self.old).image {
           names = calling name.0 callback (count_of callback (named (held self.old).image.names name.0).calls + 1) (held self.old).image.names;
         } }
-        ensures extended { Extended step_record.old step_record.new (held self.old) (held self.new) }
+        ensures extended { Extended self.old.step_record self.new.step_record (held self.old) (held self.new) }
     {
         let named = self.names[name.0 as usize];
         let count = named.calls.of(callback);
@@ -112,6 +112,6 @@ impl<P: Copy> Memory<P> {
             id: named.id,
             calls: named.calls.with(callback, count + 1),
         };
-        step_record.naming = Naming::Called(name, callback, count);
+        self.step_record.naming = Naming::Called(name, callback, count);
     }
 }

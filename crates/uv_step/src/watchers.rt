@@ -20,91 +20,105 @@ ghost use Rattle.uv_step.specs.Undo.{Recorded};
 ghost use Rattle.uv_step.specs.Does.{By, StartsBy, FirstIs, NoHandleFirst, closed_by};
 
 use crate::memory::Memory;
-use crate::record::{Change, Record};
+use crate::record::Change;
 use uv_handle::{HandleRecord, handle_at};
 use uv_ids::{Code, Id};
 use uv_records::{ListName, WatcherKind};
 
 impl<P: Copy> Memory<P> {
     /// Starts an idle, prepare or check handle (uv_idle_start and the like). One that is active stays as it is.
-    pub fn start_watcher(&mut self, id: Id) -> Result<Record<P>, Code>
+    pub fn start_watcher(&mut self, id: Id) -> Result<(), Code>
         requires fit { IsFit (held self.old).image }
         requires loose { (h : HandleRecord) → record_at handle_in (held self.old).image.arena id ≡ Some h → start_watcher_refusal h ≡ None
             → h.active ≡ false → on_list (held self.old).image.arena id ≡ false }
-        ensures recorded { IfOk result (λ r. Recorded r (held self.old) (held self.new)) }
-        ensures does { IfOk result (λ r. StartsBy (counted_of (held self.old).image) (counted_of (held self.new).image) id r.change) }
+        ensures recorded { IfOk result (λ _. Recorded self.new.step_record (held self.old) (held self.new)) }
+        ensures does { IfOk result (λ _. StartsBy
+            (counted_of (held self.old).image) (counted_of (held self.new).image) id self.new.step_record.change) }
         ensures err { IfErr result (λ code. (refusal start_watcher_refusal (found handle_in (held self.old).image.arena id) ≡ Some code)
             × (held self.new ≡ held self.old)) }
     {
         match uv_watch::start(&mut self.handles, &mut self.slots, id) {
             Err(code) => Err(code),
-            Ok(None) => Ok(self.record(Change::Nothing)),
-            Ok(Some(undo)) => Ok(self.record(Change::Enlisted(undo))),
+            Ok(None) => {
+                self.step_record = self.record(Change::Nothing);
+                Ok(())
+            }
+            Ok(Some(undo)) => {
+                self.step_record = self.record(Change::Enlisted(undo));
+                Ok(())
+            }
         }
     }
 
     /// Stops an idle, prepare or check handle (uv_idle_stop and the like).
-    pub fn stop_watcher(&mut self, id: Id) -> Result<Record<P>, Code>
+    pub fn stop_watcher(&mut self, id: Id) -> Result<(), Code>
         requires fit { IsFit (held self.old).image }
         requires no_timer { (h : HandleRecord) → record_at handle_in (held self.old).image.arena id ≡ Some h → is_timer h.kind ≡ false }
-        ensures recorded { IfOk result (λ r. Recorded r (held self.old) (held self.new)) }
-        ensures does { IfOk result (λ r. By delisted (λ u. (h : HandleRecord) × (stop_refusal h ≡ None) × IsStopped handle_in handle
-            (counted_of (held self.old).image) (counted_of (held self.new).image) id h u) r.change) }
+        ensures recorded { IfOk result (λ _. Recorded self.new.step_record (held self.old) (held self.new)) }
+        ensures does { IfOk result (λ _. By delisted (λ u. (h : HandleRecord) × (stop_refusal h ≡ None) × IsStopped handle_in handle
+            (counted_of (held self.old).image) (counted_of (held self.new).image) id h u) self.new.step_record.change) }
         ensures err { IfErr result (λ code. (refusal stop_refusal (found handle_in (held self.old).image.arena id) ≡ Some code)
             × (held self.new ≡ held self.old)) }
     {
         match uv_watch::stop(&mut self.handles, &mut self.slots, id) {
             Err(code) => Err(code),
-            Ok(undo) => Ok(self.record(Change::Delisted(undo))),
+            Ok(undo) => {
+                self.step_record = self.record(Change::Delisted(undo));
+                Ok(())
+            }
         }
     }
 
     /// Begins a section of watchers: the whole list is yet to run.
-    pub fn begin(&mut self, kind: WatcherKind) -> Record<P>
+    pub fn begin(&mut self, kind: WatcherKind)
         requires fit { IsFit (held self.old).image }
         requires empty { members (held self.old).image.arena (yet_of kind) ≡ [] }
-        ensures recorded { Recorded result (held self.old) (held self.new) }
-        ensures does { By begun (λ u. IsBegun (held self.old).image.arena (held self.new).image.arena kind u) result.change }
+        ensures recorded { Recorded self.new.step_record (held self.old) (held self.new) }
+        ensures does { By begun (λ u. IsBegun (held self.old).image.arena (held self.new).image.arena kind u) self.new.step_record.change }
     {
         let undo = uv_watch::begin(&mut self.slots, kind);
-        self.record(Change::Begun(undo))
+        self.step_record = self.record(Change::Begun(undo));
     }
 
     /// Moves the front of those yet to run to the end of its list: its id, and whether a callback was due by a send. None, and
     /// nothing changed, where there is none.
-    pub fn walk(&mut self, kind: WatcherKind) -> Option<(Id, bool, Record<P>)>
+    pub fn walk(&mut self, kind: WatcherKind) -> Option<(Id, bool)>
         requires fit { IsFit (held self.old).image }
-        ensures recorded { IfSome result (λ r. Recorded r.2 (held self.old) (held self.new)) }
+        ensures recorded { IfSome result (λ _. Recorded self.new.step_record (held self.old) (held self.new)) }
         ensures does { IfSome result (λ r. By walked (λ u. IsMovedOn handle_in handle
-            (counted_of (held self.old).image) (counted_of (held self.new).image) kind r.0 r.1 u) r.2.change) }
+            (counted_of (held self.old).image) (counted_of (held self.new).image) kind r.0 r.1 u) self.new.step_record.change) }
         ensures none { IfNone result (NoHandleFirst (held self.old).image.arena (yet_of kind) × (held self.new ≡ held self.old)) }
     {
         let (first, _) = self.first_handle(kind.yet())?;
         let _ = first;
         match uv_watch::take(&mut self.handles, &mut self.slots, kind) {
             None => None,
-            Some((id, pending, undo)) => Some((id, pending, self.record(Change::Walked(undo)))),
+            Some((id, pending, undo)) => {
+                self.step_record = self.record(Change::Walked(undo));
+                Some((id, pending))
+            }
         }
     }
 
     /// Begins the closing section.
-    pub fn begin_closing(&mut self) -> Record<P>
+    pub fn begin_closing(&mut self)
         requires fit { IsFit (held self.old).image }
         requires empty { members (held self.old).image.arena ClosingYet ≡ [] }
-        ensures recorded { Recorded result (held self.old) (held self.new) }
-        ensures does { By begun (λ u. IsSpliced (held self.old).image.arena (held self.new).image.arena Closing ClosingYet u) result.change }
+        ensures recorded { Recorded self.new.step_record (held self.old) (held self.new) }
+        ensures does { By begun (λ u. IsSpliced
+            (held self.old).image.arena (held self.new).image.arena Closing ClosingYet u) self.new.step_record.change }
     {
         let undo = self.handles.begin_closing(&mut self.slots);
-        self.record(Change::Begun(undo))
+        self.step_record = self.record(Change::Begun(undo));
     }
 
     /// Takes the front of those that have yet to be closed off its list, and frees its slot: its close callback is to be called.
     /// None, and nothing changed, where there is none.
-    pub fn end_handle(&mut self) -> Option<(Id, Record<P>)>
+    pub fn end_handle(&mut self) -> Option<Id>
         requires fit { IsFit (held self.old).image }
-        ensures recorded { IfSome result (λ r. Recorded r.1 (held self.old) (held self.new)) }
-        ensures does { IfSome result (λ r. By closed_by (λ u. (v : Content) × IsTaken handle_in handle
-            (counted_of (held self.old).image) (counted_of (held self.new).image) r.0 v u) r.1.change) }
+        ensures recorded { IfSome result (λ _. Recorded self.new.step_record (held self.old) (held self.new)) }
+        ensures does { IfSome result (λ id. By closed_by (λ u. (v : Content) × IsTaken handle_in handle
+            (counted_of (held self.old).image) (counted_of (held self.new).image) id v u) self.new.step_record.change) }
         ensures none { IfNone result (NoHandleFirst (held self.old).image.arena ClosingYet × (held self.new ≡ held self.old)) }
     {
         let (first, _) = self.first_handle(ListName::ClosingYet)?;
@@ -113,7 +127,8 @@ impl<P: Copy> Memory<P> {
             None => None,
             Some((id, _, undo)) => {
                 let change = Change::Closed(undo.unlinked, undo.active, undo.removed);
-                Some((id, self.record(change)))
+                self.step_record = self.record(change);
+                Some(id)
             }
         }
     }

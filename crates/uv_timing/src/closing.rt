@@ -13,22 +13,21 @@ ghost use Rattle.uv_stands.specs.Ready.{IsReady};
 use uv_ids::Id;
 use uv_model::Place;
 use uv_records::HandleRecord;
-use uv_step::{Memory, Record};
+use uv_step::Memory;
 
 /// Closes a handle (uv_close): it is stopped, and goes to the front of the closing list.
-pub fn close_handle(memory: &mut Memory<Place>, id: Id, handle: HandleRecord) -> Record<Place>
+pub fn close_handle(memory: &mut Memory<Place>, id: Id, handle: HandleRecord)
     requires ready { IsReady (held memory.old) }
     requires found { record_at handle_in (held memory.old).image.arena id ≡ Some handle }
     requires allowed { close_refusal handle ≡ None }
-    ensures returns { Returns result (held memory.old) (held memory.new) }
+    ensures returns { Returns memory.new.step_record (held memory.old) (held memory.new) }
     ensures does { Does (λ s. close s id handle) (held memory.old).image (held memory.new).image (code success) }
 {
     match memory.close(id) {
         Err(_) => unreachable!(),
-        Ok(step_record) => {
+        Ok(()) => {
             memory.slots.is_sound();
             let _ = memory.heap.entries();
-            step_record
         }
     }
 }

@@ -8,31 +8,31 @@ ghost use Rattle.uv_timing.specs.Section.{Collects, CollectsNone, Fires, FiresNo
 use uv_handle::handle_at;
 use uv_ids::{Id, Var};
 use uv_model::Place;
-use uv_step::{Memory, Record};
+use uv_step::Memory;
 
 /// Sets the first timer aside to be called, if it is due. None, and nothing changed, where none is due.
-pub fn collect_timer(memory: &mut Memory<Place>) -> Option<(Id, Record<Place>)>
+pub fn collect_timer(memory: &mut Memory<Place>) -> Option<Id>
     requires ready { IsReady (held memory.old) }
-    ensures recorded { IfSome result (λ r. Recorded r.1 (held memory.old) (held memory.new)) }
-    ensures collects { IfSome result (λ r. Collects (held memory.old).image (held memory.new).image r.0) }
+    ensures recorded { IfSome result (λ _. Recorded memory.new.step_record (held memory.old) (held memory.new)) }
+    ensures collects { IfSome result (λ id. Collects (held memory.old).image (held memory.new).image id) }
     ensures none { IfNone result (CollectsNone (held memory.old).image) }
     ensures unchanged { IfNone result (held memory.new ≡ held memory.old) }
 {
     match memory.collect_timer() {
         None => None,
-        Some((id, step_record)) => {
+        Some(id) => {
             memory.slots.is_sound();
             let _ = memory.heap.entries();
-            Some((id, step_record))
+            Some(id)
         }
     }
 }
 
 /// Takes the front of those that are set aside, which is to be called now: its id and its name. It is set again if it repeats. None,
 /// and nothing changed, where none is set aside.
-pub fn fire_timer(memory: &mut Memory<Place>) -> Option<(Id, Var, Record<Place>)>
+pub fn fire_timer(memory: &mut Memory<Place>) -> Option<(Id, Var)>
     requires ready { IsReady (held memory.old) }
-    ensures recorded { IfSome result (λ r. Recorded r.2 (held memory.old) (held memory.new)) }
+    ensures recorded { IfSome result (λ _. Recorded memory.new.step_record (held memory.old) (held memory.new)) }
     ensures fires { IfSome result (λ r. Fires (held memory.old).image (held memory.new).image r.0 r.1) }
     ensures none { IfNone result (FiresNone (held memory.old).image) }
     ensures unchanged { IfNone result (held memory.new ≡ held memory.old) }
@@ -40,12 +40,12 @@ pub fn fire_timer(memory: &mut Memory<Place>) -> Option<(Id, Var, Record<Place>)
     memory.slots.is_sound();
     match memory.fire_timer() {
         None => None,
-        Some((id, step_record)) => match handle_at(&memory.slots, id) {
+        Some(id) => match handle_at(&memory.slots, id) {
             Err(_) => unreachable!(),
             Ok(handle) => {
                 memory.slots.is_sound();
                 let _ = memory.heap.entries();
-                Some((id, handle.name, step_record))
+                Some((id, handle.name))
             }
         },
     }

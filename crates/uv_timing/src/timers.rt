@@ -14,22 +14,21 @@ ghost use Rattle.uv_stands.specs.Ready.{IsReady};
 use uv_ids::Id;
 use uv_model::Place;
 use uv_records::HandleRecord;
-use uv_step::{Memory, Record};
+use uv_step::Memory;
 
 /// Stops a timer (uv_timer_stop). One that closes stays on the list of those that close.
-pub fn stop_timer(memory: &mut Memory<Place>, id: Id, handle: HandleRecord) -> Record<Place>
+pub fn stop_timer(memory: &mut Memory<Place>, id: Id, handle: HandleRecord)
     requires ready { IsReady (held memory.old) }
     requires found { record_at handle_in (held memory.old).image.arena id ≡ Some handle }
     requires timer { is_timer handle.kind ≡ true }
-    ensures returns { Returns result (held memory.old) (held memory.new) }
+    ensures returns { Returns memory.new.step_record (held memory.old) (held memory.new) }
     ensures does { Does (λ s. stop s id handle) (held memory.old).image (held memory.new).image (code success) }
 {
     match memory.stop_timer(id) {
         Err(_) => unreachable!(),
-        Ok(step_record) => {
+        Ok(()) => {
             memory.slots.is_sound();
             let _ = memory.heap.entries();
-            step_record
         }
     }
 }
@@ -41,39 +40,37 @@ pub fn start_timer(
     handle: HandleRecord,
     timeout: u64,
     repeat: u64,
-) -> Record<Place>
+)
     requires ready { IsReady (held memory.old) }
     requires found { record_at handle_in (held memory.old).image.arena id ≡ Some handle }
     requires allowed { start_timer_refusal handle ≡ None }
-    ensures returns { Returns result (held memory.old) (held memory.new) }
+    ensures returns { Returns memory.new.step_record (held memory.old) (held memory.new) }
     ensures does { Does (λ s. start s timeout repeat id handle) (held memory.old).image (held memory.new).image (code success) }
 {
     memory.slots.is_sound();
     match memory.start_timer(id, timeout, repeat) {
         Err(_) => unreachable!(),
-        Ok(step_record) => {
+        Ok(()) => {
             memory.slots.is_sound();
             let _ = memory.heap.entries();
-            step_record
         }
     }
 }
 
 /// Starts a timer again (uv_timer_again): it is stopped, and due its repeat from now if it repeats.
-pub fn start_again(memory: &mut Memory<Place>, id: Id, handle: HandleRecord) -> Record<Place>
+pub fn start_again(memory: &mut Memory<Place>, id: Id, handle: HandleRecord)
     requires ready { IsReady (held memory.old) }
     requires found { record_at handle_in (held memory.old).image.arena id ≡ Some handle }
     requires allowed { again_refusal handle ≡ None }
-    ensures returns { Returns result (held memory.old) (held memory.new) }
+    ensures returns { Returns memory.new.step_record (held memory.old) (held memory.new) }
     ensures does { Does (λ s. again s id handle) (held memory.old).image (held memory.new).image (code success) }
 {
     memory.slots.is_sound();
     match memory.again(id) {
         Err(_) => unreachable!(),
-        Ok(step_record) => {
+        Ok(()) => {
             memory.slots.is_sound();
             let _ = memory.heap.entries();
-            step_record
         }
     }
 }

@@ -4,5 +4,5 @@ use Rattle.uv_loop.proofs.pooling.cancel_named.Goals as goal
 
 pub returns-clause-leads : goal.returns-clause-leads
 returns-clause-leads c p =
-    cancel_leads p (image_of c.args.memory.now) (image_of c.cancel.new.memory) c.args.name c.cancel.result.0 c.requires.name
+    cancel_leads p (image_of c.args.memory.now) (image_of c.cancel.new.memory) c.args.name c.cancel.result c.requires.name
     c.cancel.ensures.cancels

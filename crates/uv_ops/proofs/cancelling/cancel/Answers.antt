@@ -1,7 +1,15 @@
 use Rattle.std.proofs.Common.{ap}
 use Rattle.uv_step.specs.Image.{held, image_of}
-use Rattle.uv_ops.proofs.Cancels.{cancel_refused, cancel_done, cancel_performs}
+use Rattle.uv_ops.proofs.Cancels.{cancel_unbound, cancel_refused, cancel_done, cancel_performs}
 use Rattle.uv_ops.proofs.cancelling.cancel.Goals as goal
+
+pub returns-in-None-clause-cancels : goal.returns-in-None-clause-cancels
+returns-in-None-clause-cancels c = cancel_unbound (image_of c.args.memory.now) c.args.name c.in-None.ensures
+
+pub returns-in-None-clause-performs : goal.returns-in-None-clause-performs
+returns-in-None-clause-performs c =
+    let i = image_of c.args.memory.now in
+    cancel_performs c.args.name i i _ (cancel_unbound i c.args.name c.in-None.ensures)
 
 pub returns-in-Err-clause-cancels : goal.returns-in-Err-clause-cancels
 returns-in-Err-clause-cancels c =
@@ -16,11 +24,13 @@ returns-in-Err-clause-performs c =
 
 pub returns-in-Ok-clause-cancels : goal.returns-in-Ok-clause-cancels
 returns-in-Ok-clause-cancels c =
-    cancel_done c.in-Ok.step_record (held c.args.memory.now) (held c.cancel.new.self) c.in-Ok.ensures.recorded c.is_sound.ensures c.args.name
+    cancel_done c.cancel.new.self.step_record (held c.args.memory.now) (held c.cancel.new.self) c.in-Ok.ensures.recorded c.is_sound.ensures
+    c.args.name
     c.in-Some.id c.in-Some.ensures c.in-Ok.ensures.does
 
 pub returns-in-Ok-clause-performs : goal.returns-in-Ok-clause-performs
 returns-in-Ok-clause-performs c =
     cancel_performs c.args.name (image_of c.args.memory.now) (image_of c.cancel.new.self) _
-    (cancel_done c.in-Ok.step_record (held c.args.memory.now) (held c.cancel.new.self) c.in-Ok.ensures.recorded c.is_sound.ensures c.args.name
+    (cancel_done c.cancel.new.self.step_record (held c.args.memory.now) (held c.cancel.new.self) c.in-Ok.ensures.recorded c.is_sound.ensures
+    c.args.name
     c.in-Some.id c.in-Some.ensures c.in-Ok.ensures.does)

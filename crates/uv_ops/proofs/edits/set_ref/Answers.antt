@@ -15,5 +15,5 @@ returns-in-Err-clause-performs c =
 pub returns-in-Ok-set_ref-clause-performs : goal.returns-in-Ok-set_ref-clause-performs
 returns-in-Ok-set_ref-clause-performs c =
     refs c.args.referenced c.args.name (image_of c.args.memory.now) (image_of c.set_ref.new.self) _
-    (edits c.in-Ok-set_ref.step_record (held c.args.memory.now) (held c.set_ref.new.self) c.in-Ok-set_ref.ensures.recorded c.is_sound.ensures _ _ _
+    (edits c.set_ref.new.self.step_record (held c.args.memory.now) (held c.set_ref.new.self) c.in-Ok-set_ref.ensures.recorded c.is_sound.ensures _ _ _
     c.in-Ok-set_ref.ensures.does c.args.name _ c.in-Ok.ensures.is c.in-Ok.ensures.found)

@@ -4,4 +4,4 @@ use Rattle.uv_ops.proofs.values.stop_loop.Goals as goal
 
 pub returns-clause-performs : goal.returns-clause-performs
 returns-clause-performs c =
-    stop_performs (image_of c.args.memory.now) (image_of c.set_stop-step_record.new.self) c.set_stop-step_record.ensures.image
+    stop_performs (image_of c.args.memory.now) (image_of c.set_stop.new.self) c.set_stop.ensures.image

@@ -4,5 +4,6 @@ use Rattle.uv_sections.proofs.beginning.close_all_yet.Goals as goal
 
 pub returns-clause-stands : goal.returns-clause-stands
 returns-clause-stands c =
-    let b = c.begin_closing-step_record in
-    closing_begun b.result (held c.args.memory.now) (held b.new.self) b.ensures.recorded c.is_sound.ensures _ b.ensures.does.is b.ensures.does.does
+    let b = c.begin_closing in
+    closing_begun b.new.self.step_record (held c.args.memory.now) (held b.new.self) b.ensures.recorded c.is_sound.ensures _
+    b.ensures.does.is b.ensures.does.does

@@ -5,7 +5,8 @@ use Rattle.uv_sections.proofs.freeing.close_front.Goals as goal
 
 pub begin_body-requires-clause-few : goal.begin_body-requires-clause-few
 begin_body-requires-clause-few c =
-    few_calls c.in-Some.freed (held c.args.memory.now) (held c.free_handle.new.memory) c.requires.ready c.in-Some.ensures.recorded Close
+    few_calls c.free_handle.new.memory.step_record (held c.args.memory.now) (held c.free_handle.new.memory) c.requires.ready
+    c.in-Some.ensures.recorded Close
     c.in-Some.handle.name
 
 pub returns-in-Some-clause-goes : goal.returns-in-Some-clause-goes

@@ -5,7 +5,8 @@ use Rattle.uv_sections.proofs.freeing.collect_request.Goals as goal
 
 pub begin_body-requires-clause-few : goal.begin_body-requires-clause-few
 begin_body-requires-clause-few c =
-    few_calls c.in-Some.freed.2 (held c.args.memory.now) (held c.free_request.new.memory) c.requires.ready c.in-Some.ensures.recorded After
+    few_calls c.free_request.new.memory.step_record (held c.args.memory.now) (held c.free_request.new.memory) c.requires.ready
+    c.in-Some.ensures.recorded After
     c.line_after-line.result.0
 
 pub returns-in-Some-clause-goes : goal.returns-in-Some-clause-goes

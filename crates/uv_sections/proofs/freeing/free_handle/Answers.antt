@@ -5,5 +5,6 @@ use Rattle.uv_sections.proofs.freeing.free_handle.Goals as goal
 pub returns-in-Some-end_handle-clause-gone : goal.returns-in-Some-end_handle-clause-gone
 returns-in-Some-end_handle-clause-gone c =
     let e = c.in-Some-end_handle.ensures in
-    handle_gone c.in-Some-end_handle.step_record (held c.args.memory.now) (held c.end_handle.new.self) _ c.requires.last e.recorded c.is_sound.ensures
-    c.in-Some-end_handle.field-0-0 c.in-Some.id c.in-Some.handle c.in-Some.ensures.some _ _ e.does.is e.does.does.1
+    handle_gone c.end_handle.new.self.step_record (held c.args.memory.now) (held c.end_handle.new.self) _ c.requires.last e.recorded
+    c.is_sound.ensures
+    c.in-Some-end_handle.field-0 c.in-Some.id c.in-Some.handle c.in-Some.ensures.some _ _ e.does.is e.does.does.1

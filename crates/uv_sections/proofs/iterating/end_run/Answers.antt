@@ -10,5 +10,5 @@ returns-clause-goes c s h reached =
     let ended : State = record s { place = Main (c.args.run.line + 1); stop_flag = false } in (
       ended,
       ap (λ (b : Bool). Moves ended (Some (End b))) (c.is_alive-alive.ensures s h reached),
-      c.stand_at.ensures.stands _ (c.clear_stop-step_record.ensures.stands s h),
+      c.stand_at.ensures.stands _ (c.clear_stop.ensures.stands s h),
     )

@@ -5,7 +5,8 @@ use Rattle.uv_sections.proofs.timers.call_timer.Goals as goal
 
 pub begin_body-requires-clause-few : goal.begin_body-requires-clause-few
 begin_body-requires-clause-few c =
-    few_calls c.in-Some.fired (held c.args.memory.now) (held c.fire_timer.new.memory) c.requires.ready c.in-Some.ensures.recorded Handle
+    few_calls c.fire_timer.new.memory.step_record (held c.args.memory.now) (held c.fire_timer.new.memory) c.requires.ready
+    c.in-Some.ensures.recorded Handle
     c.in-Some.name
 
 pub returns-in-Some-clause-goes : goal.returns-in-Some-clause-goes

@@ -5,7 +5,7 @@ use Rattle.uv_sections.proofs.walking.walk.Goals as goal
 
 pub begin_body-requires-clause-few : goal.begin_body-requires-clause-few
 begin_body-requires-clause-few c =
-    few_calls c.in-Some.moved (held c.args.memory.now) (held c.move_on.new.memory) c.requires.ready c.in-Some.ensures.recorded Handle
+    few_calls c.move_on.new.memory.step_record (held c.args.memory.now) (held c.move_on.new.memory) c.requires.ready c.in-Some.ensures.recorded Handle
     c.in-Some.handle.name
 
 pub returns-in-Some-clause-goes : goal.returns-in-Some-clause-goes

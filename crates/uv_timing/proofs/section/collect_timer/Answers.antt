@@ -7,7 +7,7 @@ returns-in-None-clause-none c = none_collects (image_of c.args.memory.now) c.in-
 
 pub returns-in-Some-clause-collects : goal.returns-in-Some-clause-collects
 returns-in-Some-clause-collects c =
-    timer_collects c.in-Some.step_record (held c.args.memory.now) (held c.collect_timer.new.self) c.in-Some.id _ c.requires.ready.fit
+    timer_collects c.collect_timer.new.self.step_record (held c.args.memory.now) (held c.collect_timer.new.self) c.in-Some.id _ c.requires.ready.fit
     c.in-Some.ensures.does.does c.in-Some.ensures.recorded c.in-Some.ensures.does.is
     (record {
       fit = c.in-Some.ensures.recorded.fit;

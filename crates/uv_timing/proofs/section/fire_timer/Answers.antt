@@ -7,7 +7,7 @@ returns-in-None-clause-none c = none_fires (image_of c.args.memory.now) c.in-Non
 
 pub returns-in-Ok-clause-fires : goal.returns-in-Ok-clause-fires
 returns-in-Ok-clause-fires c =
-    timer_fires c.in-Some.step_record (held c.args.memory.now) (held c.fire_timer.new.self) c.in-Some.id _ c.in-Some.ensures.does.does
+    timer_fires c.fire_timer.new.self.step_record (held c.args.memory.now) (held c.fire_timer.new.self) c.in-Some.id _ c.in-Some.ensures.does.does
     c.in-Some.ensures.recorded c.in-Some.ensures.does.is
     (record {
       fit = c.in-Some.ensures.recorded.fit;

@@ -4,7 +4,7 @@ use Rattle.uv_timing.proofs.timers.start_again.Goals as goal
 
 pub returns-clause-does : goal.returns-clause-does
 returns-clause-does c =
-    again_does c.in-Ok.step_record (held c.args.memory.now) (held c.again.new.self) c.args.id c.args.handle _ c.requires.ready.fit
+    again_does c.again.new.self.step_record (held c.args.memory.now) (held c.again.new.self) c.args.id c.args.handle _ c.requires.ready.fit
     c.requires.found c.in-Ok.ensures.recorded c.in-Ok.ensures.does.is
     (record {
       fit = c.in-Ok.ensures.recorded.fit;

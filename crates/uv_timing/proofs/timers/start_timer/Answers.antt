@@ -4,7 +4,8 @@ use Rattle.uv_timing.proofs.timers.start_timer.Goals as goal
 
 pub returns-clause-does : goal.returns-clause-does
 returns-clause-does c =
-    start_does c.in-Ok.step_record (held c.args.memory.now) (held c.start_timer.new.self) c.args.id c.args.handle _ c.requires.ready.fit
+    start_does c.start_timer.new.self.step_record (held c.args.memory.now) (held c.start_timer.new.self) c.args.id c.args.handle _
+    c.requires.ready.fit
     c.requires.found c.in-Ok.ensures.recorded c.in-Ok.ensures.does.is
     (record {
       fit = c.in-Ok.ensures.recorded.fit;

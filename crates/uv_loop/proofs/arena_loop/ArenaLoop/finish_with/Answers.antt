@@ -51,14 +51,14 @@ returns-then-is_err-clause-answer c =
 pub invariant_of-self-2 : goal.invariant_of-self-2
 invariant_of-self-2 c =
     let few = few_events c.self.inside.steps.seen.items (omega arith) in
-    let line = c.finish_work-line.result.0 in
+    let line = c.finish_work-line.result in
     course_moved c.self.inside.script _ (events_of c.push.new.self.seen.items) c.self.inside.steps.seen.items
     c.push.new.self.seen.items c.self.inside.steps.records.items c.push.new.self.records.items (held c.self.inside.memory)
-    (held c.finish_work-line.new.memory) c.finish_work-line.result.1 (Finish c.args.worker) (Some line)
+    (held c.finish_work-line.new.memory) c.finish_work-line.new.memory.step_record (Finish c.args.worker) (Some line)
     (events_told (Finish c.args.worker) c.self.invariant (c.finish_work-line.ensures.leads c.self.inside.script)
     c.push.ensures.seen c.reserve.ensures.same.seen)
     (c.push.ensures.seen ∙ ap (λ xs. xs ++ Some line ∷ []) c.reserve.ensures.same.seen)
-    (c.push.ensures.records ∙ ap (λ xs. xs ++ c.finish_work-line.result.1 ∷ []) c.reserve.ensures.same.records)
+    (c.push.ensures.records ∙ ap (λ xs. xs ++ c.finish_work-line.new.memory.step_record ∷ []) c.reserve.ensures.same.records)
     few c.self.invariant (recorded_returns c.finish_work-line.ensures.recorded) (c.finish_work-line.ensures.leads c.self.inside.script)
 
 pub returns-clause-answer : goal.returns-clause-answer
@@ -71,7 +71,7 @@ returns-clause-answer c =
           c.in-Ok.ensures.request ∙ ap Some same),
       answers_ok c.self.inside.script _ _ c.self.inside.steps.records.items (held c.self.inside.memory) _
           c.self.view_is c.self.invariant (Finish c.args.worker) few (image_of c.finish_work-line.new.memory)
-          (Some c.finish_work-line.result.0) (events_of c.push.new.self.seen.items) (c.finish_work-line.ensures.leads c.self.inside.script)
+          (Some c.finish_work-line.result) (events_of c.push.new.self.seen.items) (c.finish_work-line.ensures.leads c.self.inside.script)
           (events_told (Finish c.args.worker) c.self.invariant (c.finish_work-line.ensures.leads c.self.inside.script)
           c.push.ensures.seen c.reserve.ensures.same.seen),
     )

@@ -28,14 +28,14 @@ returns-then-is_err-clause-answer c =
 pub invariant_of-self-2 : goal.invariant_of-self-2
 invariant_of-self-2 c =
     let few = few_events c.self.inside.steps.seen.items (omega arith) in
-    let line = seen.Send c.args.name c.send_to-code.result.0 in
+    let line = seen.Send c.args.name c.send_to-code.result in
     course_moved c.self.inside.script _ (events_of c.push.new.self.seen.items) c.self.inside.steps.seen.items
     c.push.new.self.seen.items c.self.inside.steps.records.items c.push.new.self.records.items (held c.self.inside.memory)
-    (held c.send_to-code.new.memory) c.send_to-code.result.1 (Send c.args.name) (Some line)
+    (held c.send_to-code.new.memory) c.send_to-code.new.memory.step_record (Send c.args.name) (Some line)
     (events_told (Send c.args.name) c.self.invariant (c.send_to-code.ensures.leads c.self.inside.script)
     c.push.ensures.seen c.reserve.ensures.same.seen)
     (c.push.ensures.seen ∙ ap (λ xs. xs ++ Some line ∷ []) c.reserve.ensures.same.seen)
-    (c.push.ensures.records ∙ ap (λ xs. xs ++ c.send_to-code.result.1 ∷ []) c.reserve.ensures.same.records)
+    (c.push.ensures.records ∙ ap (λ xs. xs ++ c.send_to-code.new.memory.step_record ∷ []) c.reserve.ensures.same.records)
     few c.self.invariant c.send_to-code.ensures.returns (c.send_to-code.ensures.leads c.self.inside.script)
 
 pub returns-clause-answer : goal.returns-clause-answer
@@ -43,7 +43,7 @@ returns-clause-answer c =
     let few = few_events c.self.inside.steps.seen.items (omega arith) in
     answers_ok c.self.inside.script _ _ c.self.inside.steps.records.items (held c.self.inside.memory) _
     c.self.view_is c.self.invariant (Send c.args.name) few (image_of c.send_to-code.new.memory)
-    (Some (seen.Send c.args.name c.send_to-code.result.0)) (events_of c.push.new.self.seen.items)
+    (Some (seen.Send c.args.name c.send_to-code.result)) (events_of c.push.new.self.seen.items)
     (c.send_to-code.ensures.leads c.self.inside.script)
     (events_told (Send c.args.name) c.self.invariant (c.send_to-code.ensures.leads c.self.inside.script)
     c.push.ensures.seen c.reserve.ensures.same.seen)

@@ -29,14 +29,14 @@ returns-then-is_err-clause-answer c =
 pub invariant_of-self-2 : goal.invariant_of-self-2
 invariant_of-self-2 c =
     let few = few_events c.self.inside.steps.seen.items (omega arith) in
-    let line = c.take_work-line.result.0 in
+    let line = c.take_work-line.result in
     course_moved c.self.inside.script _ (events_of c.push.new.self.seen.items) c.self.inside.steps.seen.items
     c.push.new.self.seen.items c.self.inside.steps.records.items c.push.new.self.records.items (held c.self.inside.memory)
-    (held c.take_work-line.new.memory) c.take_work-line.result.1 (Take c.args.worker) (Some line)
+    (held c.take_work-line.new.memory) c.take_work-line.new.memory.step_record (Take c.args.worker) (Some line)
     (events_told (Take c.args.worker) c.self.invariant (c.take_work-line.ensures.leads c.self.inside.script)
     c.push.ensures.seen c.reserve.ensures.same.seen)
     (c.push.ensures.seen ∙ ap (λ xs. xs ++ Some line ∷ []) c.reserve.ensures.same.seen)
-    (c.push.ensures.records ∙ ap (λ xs. xs ++ c.take_work-line.result.1 ∷ []) c.reserve.ensures.same.records)
+    (c.push.ensures.records ∙ ap (λ xs. xs ++ c.take_work-line.new.memory.step_record ∷ []) c.reserve.ensures.same.records)
     few c.self.invariant (recorded_returns c.take_work-line.ensures.recorded) (c.take_work-line.ensures.leads c.self.inside.script)
 
 pub returns-clause-answer : goal.returns-clause-answer
@@ -44,6 +44,6 @@ returns-clause-answer c =
     let few = few_events c.self.inside.steps.seen.items (omega arith) in
     answers_ok c.self.inside.script _ _ c.self.inside.steps.records.items (held c.self.inside.memory) _
     c.self.view_is c.self.invariant (Take c.args.worker) few (image_of c.take_work-line.new.memory)
-    (Some c.take_work-line.result.0) (events_of c.push.new.self.seen.items) (c.take_work-line.ensures.leads c.self.inside.script)
+    (Some c.take_work-line.result) (events_of c.push.new.self.seen.items) (c.take_work-line.ensures.leads c.self.inside.script)
     (events_told (Take c.args.worker) c.self.invariant (c.take_work-line.ensures.leads c.self.inside.script)
     c.push.ensures.seen c.reserve.ensures.same.seen)

@@ -27,22 +27,22 @@ returns-then-is_err-clause-answer c =
 pub invariant_of-self-2 : goal.invariant_of-self-2
 invariant_of-self-2 c =
     let few = few_events c.self.inside.steps.seen.items (omega arith) in
-    let leads = tick_leads c.self.inside.script (image_of c.self.inside.memory) (image_of c.tick-step_record.new.self) c.args.ms
-    c.in-Some.ensures.some c.tick-step_record.ensures.image in
+    let leads = tick_leads c.self.inside.script (image_of c.self.inside.memory) (image_of c.tick.new.self) c.args.ms
+    c.in-Some.ensures.some c.tick.ensures.image in
     course_moved c.self.inside.script _ (events_of c.push.new.self.seen.items) c.self.inside.steps.seen.items
     c.push.new.self.seen.items c.self.inside.steps.records.items c.push.new.self.records.items (held c.self.inside.memory)
-    (held c.tick-step_record.new.self) c.tick-step_record.result (Tick c.args.ms) (Some (seen.Tick c.args.ms))
+    (held c.tick.new.self) c.tick.new.self.step_record (Tick c.args.ms) (Some (seen.Tick c.args.ms))
     (events_told (Tick c.args.ms) c.self.invariant leads c.push.ensures.seen c.reserve.ensures.same.seen)
     (c.push.ensures.seen ∙ ap (λ xs. xs ++ Some (seen.Tick c.args.ms) ∷ []) c.reserve.ensures.same.seen)
-    (c.push.ensures.records ∙ ap (λ xs. xs ++ c.tick-step_record.result ∷ []) c.reserve.ensures.same.records)
-    few c.self.invariant (recorded_returns c.tick-step_record.ensures.recorded) leads
+    (c.push.ensures.records ∙ ap (λ xs. xs ++ c.tick.new.self.step_record ∷ []) c.reserve.ensures.same.records)
+    few c.self.invariant (recorded_returns c.tick.ensures.recorded) leads
 
 pub returns-clause-answer : goal.returns-clause-answer
 returns-clause-answer c =
     let few = few_events c.self.inside.steps.seen.items (omega arith) in
-    let leads = tick_leads c.self.inside.script (image_of c.self.inside.memory) (image_of c.tick-step_record.new.self) c.args.ms
-    c.in-Some.ensures.some c.tick-step_record.ensures.image in
+    let leads = tick_leads c.self.inside.script (image_of c.self.inside.memory) (image_of c.tick.new.self) c.args.ms
+    c.in-Some.ensures.some c.tick.ensures.image in
     answers_ok c.self.inside.script _ _ c.self.inside.steps.records.items (held c.self.inside.memory) _
-    c.self.view_is c.self.invariant (Tick c.args.ms) few (image_of c.tick-step_record.new.self) (Some (seen.Tick c.args.ms))
+    c.self.view_is c.self.invariant (Tick c.args.ms) few (image_of c.tick.new.self) (Some (seen.Tick c.args.ms))
     (events_of c.push.new.self.seen.items) leads
     (events_told (Tick c.args.ms) c.self.invariant leads c.push.ensures.seen c.reserve.ensures.same.seen)

@@ -38,10 +38,10 @@ invariant_of-self-in-Ok c =
     let few = few_events c.self.inside.steps.seen.items (omega arith) in
     course_moved c.self.inside.script _ (events_of c.push.new.self.seen.items) c.self.inside.steps.seen.items
     c.push.new.self.seen.items c.self.inside.steps.records.items c.push.new.self.records.items (held c.self.inside.memory)
-    (held c.turn.new.memory) c.in-Ok.step_record Loop c.in-Ok.seen
+    (held c.turn.new.memory) c.turn.new.memory.step_record Loop c.in-Ok.seen
     (events_told Loop c.self.invariant c.in-Ok.ensures.turns.1 c.push.ensures.seen c.reserve.ensures.same.seen)
     (c.push.ensures.seen ∙ ap (λ xs. xs ++ c.in-Ok.seen ∷ []) c.reserve.ensures.same.seen)
-    (c.push.ensures.records ∙ ap (λ xs. xs ++ c.in-Ok.step_record ∷ []) c.reserve.ensures.same.records)
+    (c.push.ensures.records ∙ ap (λ xs. xs ++ c.turn.new.memory.step_record ∷ []) c.reserve.ensures.same.records)
     few c.self.invariant c.in-Ok.ensures.turns.0 c.in-Ok.ensures.turns.1
 
 pub returns-in-Err-clause-answer : goal.returns-in-Err-clause-answer

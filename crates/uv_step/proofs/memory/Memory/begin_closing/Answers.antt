@@ -4,4 +4,4 @@ use Rattle.uv_step.proofs.memory.Memory.begin_closing.Goals as goal
 
 pub returns-clause-recorded : goal.returns-clause-recorded
 returns-clause-recorded g c = begun_closing (image_of c.args.self.now) c.begin_closing-undo.new.slots _ _ _ c.requires.fit
-    c.begin_closing-undo.ensures.spliced c.record.ensures
+    c.begin_closing-undo.ensures.spliced c.record-self.ensures

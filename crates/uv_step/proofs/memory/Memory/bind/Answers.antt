@@ -6,6 +6,6 @@ use Rattle.uv_step.proofs.memory.Memory.bind.Goals as goal
 
 pub returns-clause-extended : goal.returns-clause-extended
 returns-clause-extended g c =
-    bound c.args.step_record.now _ (image_of c.args.self.now) _ c.args.name c.args.id _ _ c.bound-step_record.result c.bound-step_record.ensures
+    bound c.args.self.now.step_record _ (image_of c.args.self.now) _ c.args.name c.args.id _ _ c.bound-self.result c.bound-self.ensures
     c.requires.can c.requires.fit c.requires.unnamed c.requires.name
     (grind (arith, common_steps)) (grind (arith, common_steps)) refl

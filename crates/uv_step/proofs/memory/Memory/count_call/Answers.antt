@@ -6,6 +6,6 @@ use Rattle.uv_step.proofs.memory.Memory.count_call.Goals as goal
 
 pub returns-clause-extended : goal.returns-clause-extended
 returns-clause-extended g c =
-    called c.args.step_record.now _ (image_of c.args.self.now) _ c.args.name c.args.callback
+    called c.args.self.now.step_record _ (image_of c.args.self.now) _ c.args.name c.args.callback
     (c.of-count.result + 1) c.of-count.result _ c.requires.can c.requires.fit c.requires.unnamed c.requires.name
     (grind (arith, common_steps)) (grind (arith, common_steps)) refl

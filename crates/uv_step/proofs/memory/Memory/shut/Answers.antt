@@ -14,12 +14,12 @@ pub returns-clause-recorded : goal.returns-clause-recorded
 returns-clause-recorded g c = shut (image_of c.args.self.now) c.reschedule-timer.new.slots c.push_front-pushed.new.self
     c.reschedule-timer.new.handles _ c.reschedule-timer.new.heap c.reschedule-timer.new.times _ _ _ _ _ c.requires.fit
     c.reschedule-timer.ensures.room c.reschedule-timer.ensures.changed c.push_front-pushed.ensures.pushed c.push_front-pushed.ensures.token
-    c.record.ensures
+    c.record-self.ensures
 
 pub returns-clause-does : goal.returns-clause-does
 returns-clause-does g c = record {
   undo = record { timer = c.reschedule-timer.result; pushed = c.push_front-pushed.result };
-  is = ap (λ (r : Record _). r.change) c.record.ensures;
+  is = ap (λ (r : Record _). r.change) c.record-self.ensures;
   does = record {
     from = c.args.before;
     allowed = c.requires.allowed;

@@ -4,4 +4,4 @@ use Rattle.uv_step.proofs.memory.Memory.stand_at.Goals as goal
 
 pub returns-clause-extended : goal.returns-clause-extended
 returns-clause-extended g c =
-    stood c.args.step_record.now (image_of c.args.self.now) c.args.self.now.heap.room c.args.place c.requires.can c.requires.fit
+    stood c.args.self.now.step_record (image_of c.args.self.now) c.args.self.now.heap.room c.args.place c.requires.can c.requires.fit

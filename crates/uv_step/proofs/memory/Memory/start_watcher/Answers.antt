@@ -6,4 +6,4 @@ pub returns-in-Ok-Some-clause-recorded : goal.returns-in-Ok-Some-clause-recorded
 returns-in-Ok-Some-clause-recorded g c =
     let h = c.in-Ok-Some in
     watched (image_of c.args.self.now) c.start.new.slots c.start.new.handles _ _ _ _ _ c.requires.fit h.ensures.ok h.field-0-is
-    c.record-in-Ok-Some.ensures
+    c.record-self-in-Ok-Some.ensures

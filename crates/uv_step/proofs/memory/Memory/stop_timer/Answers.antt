@@ -4,4 +4,4 @@ use Rattle.uv_step.proofs.memory.Memory.stop_timer.Goals as goal
 
 pub returns-in-Ok-clause-recorded : goal.returns-in-Ok-clause-recorded
 returns-in-Ok-clause-recorded g c = stopped_timer (image_of c.args.self.now) c.stop.new.slots c.stop.new.handles _ c.stop.new.heap c.stop.new.times
-    _ _ _ c.requires.fit c.stop.ensures.room c.in-Ok.ensures.ok c.record.ensures
+    _ _ _ c.requires.fit c.stop.ensures.room c.in-Ok.ensures.ok c.record-self.ensures
