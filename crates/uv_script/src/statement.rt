@@ -1,5 +1,6 @@
 //! What the lines of a script say, one at a time.
 ghost use Rattle.std.specs.Prelude.{◌≡◌, Some, option_map};
+ghost use Rattle.std.specs.Str.{bytes_eq};
 ghost use Rattle.uv_script.specs.Lines.{fields_of};
 ghost use Rattle.uv_script.specs.Reading.{none_left, kind_of, mode_of, init_of, timer_start_of, start_of, repeat_of, text_by, queue_of, bare_op, named_op, name_alone, short_op_of, op_of, declaration_of, run_of, main_of, main_by, close_loop_of, call_of, marked, in_calls_of, in_call_of, callback_of, last_of, size_of, workers_of, sender_of, thread_of, setting_of, statement_of};
 ghost use Rattle.uv_script.specs.Said.{said};
@@ -38,6 +39,13 @@ fn none_left(mut fields: Fields<'_>) -> Option<()>
         Some(_) => None,
         None => Some(()),
     }
+}
+
+/// Whether a word is this one.
+fn is(word: &[u8], this: &[u8]) -> bool
+    ensures { result ≡ bytes_eq word.now this.now }
+{
+    word == this
 }
 
 #[tactic(auto, unfolding(crate::specs::Reading::init_of))]
@@ -121,13 +129,18 @@ fn task(rounds: u64, text: &[u8]) -> Option<Task>
 fn bare_op(word: &[u8]) -> Option<Op>
     ensures { result ≡ bare_op word.now }
 {
-    match word {
-        b"stoploop" => Some(Op::StopLoop),
-        b"updatetime" => Some(Op::UpdateTime),
-        b"now" => Some(Op::Now),
-        b"alive" => Some(Op::IsAlive),
-        b"timeout" => Some(Op::Timeout),
-        _ => None,
+    if is(word, b"stoploop") {
+        Some(Op::StopLoop)
+    } else if is(word, b"updatetime") {
+        Some(Op::UpdateTime)
+    } else if is(word, b"now") {
+        Some(Op::Now)
+    } else if is(word, b"alive") {
+        Some(Op::IsAlive)
+    } else if is(word, b"timeout") {
+        Some(Op::Timeout)
+    } else {
+        None
     }
 }
 
@@ -136,19 +149,30 @@ fn bare_op(word: &[u8]) -> Option<Op>
 fn named_op(word: &[u8], name: Var) -> Option<Op>
     ensures { result ≡ named_op word.now name }
 {
-    match word {
-        b"stop" => Some(Op::Stop(name)),
-        b"again" => Some(Op::Again(name)),
-        b"due" => Some(Op::DueIn(name)),
-        b"ref" => Some(Op::Ref(name)),
-        b"unref" => Some(Op::Unref(name)),
-        b"hasref" => Some(Op::HasRef(name)),
-        b"active" => Some(Op::IsActive(name)),
-        b"close" => Some(Op::Close(name)),
-        b"closing" => Some(Op::IsClosing(name)),
-        b"send" => Some(Op::Send(name)),
-        b"cancel" => Some(Op::Cancel(name)),
-        _ => None,
+    if is(word, b"stop") {
+        Some(Op::Stop(name))
+    } else if is(word, b"again") {
+        Some(Op::Again(name))
+    } else if is(word, b"due") {
+        Some(Op::DueIn(name))
+    } else if is(word, b"ref") {
+        Some(Op::Ref(name))
+    } else if is(word, b"unref") {
+        Some(Op::Unref(name))
+    } else if is(word, b"hasref") {
+        Some(Op::HasRef(name))
+    } else if is(word, b"active") {
+        Some(Op::IsActive(name))
+    } else if is(word, b"close") {
+        Some(Op::Close(name))
+    } else if is(word, b"closing") {
+        Some(Op::IsClosing(name))
+    } else if is(word, b"send") {
+        Some(Op::Send(name))
+    } else if is(word, b"cancel") {
+        Some(Op::Cancel(name))
+    } else {
+        None
     }
 }
 
@@ -183,12 +207,16 @@ fn short_op(names: &Names, word: &[u8], fields: Fields<'_>) -> Option<Op>
 fn op_by_word(names: &Names, word: &[u8], fields: Fields<'_>) -> Option<Op>
     ensures { result ≡ op_of names.now word.now fields.entry }
 {
-    match word {
-        b"init" => init(names, fields),
-        b"start" => start(names, fields),
-        b"repeat" => set_repeat(names, fields),
-        b"queue" => queue(names, fields),
-        _ => short_op(names, word, fields),
+    if is(word, b"init") {
+        init(names, fields)
+    } else if is(word, b"start") {
+        start(names, fields)
+    } else if is(word, b"repeat") {
+        set_repeat(names, fields)
+    } else if is(word, b"queue") {
+        queue(names, fields)
+    } else {
+        short_op(names, word, fields)
     }
 }
 
@@ -197,13 +225,19 @@ pub(crate) fn statement_in<'a>(names: &Names, line: &'a [u8]) -> Option<Statemen
     ensures { option_map said result ≡ statement_of names.now (fields_of line.now) }
 {
     let mut fields = Fields::of(line);
-    match fields.next()? {
-        b"var" => declaration(names, fields),
-        b"main" => main_line(names, fields),
-        b"on" => callback(names, Callback::Handle, fields),
-        b"after" => callback(names, Callback::After, fields),
-        b"closed" => callback(names, Callback::Close, fields),
-        word => setting(names, word, fields),
+    let word = fields.next()?;
+    if is(word, b"var") {
+        declaration(names, fields)
+    } else if is(word, b"main") {
+        main_line(names, fields)
+    } else if is(word, b"on") {
+        callback(names, Callback::Handle, fields)
+    } else if is(word, b"after") {
+        callback(names, Callback::After, fields)
+    } else if is(word, b"closed") {
+        callback(names, Callback::Close, fields)
+    } else {
+        setting(names, word, fields)
     }
 }
 
@@ -212,11 +246,14 @@ pub(crate) fn statement_in<'a>(names: &Names, line: &'a [u8]) -> Option<Statemen
 fn setting<'a>(names: &Names, word: &[u8], fields: Fields<'a>) -> Option<Statement<'a>>
     ensures { option_map said result ≡ setting_of names.now word.now fields.entry }
 {
-    match word {
-        b"slots" => size(fields),
-        b"workers" => workers(fields),
-        b"thread" => thread(names, fields),
-        _ => None,
+    if is(word, b"slots") {
+        size(fields)
+    } else if is(word, b"workers") {
+        workers(fields)
+    } else if is(word, b"thread") {
+        thread(names, fields)
+    } else {
+        None
     }
 }
 
@@ -245,13 +282,13 @@ fn main_line<'a>(names: &Names, mut fields: Fields<'a>) -> Option<Statement<'a>>
 fn main_by_word<'a>(names: &Names, word: &[u8], fields: Fields<'a>) -> Option<Statement<'a>>
     ensures { option_map said result ≡ main_by names.now word.now fields.entry }
 {
-    match word {
-        b"run" => run(fields),
-        b"closeloop" => close_loop(fields),
-        _ => {
-            let op = op_by_word(names, word, fields)?;
-            Some(Statement::InMain(MainOp::Op(op)))
-        }
+    if is(word, b"run") {
+        run(fields)
+    } else if is(word, b"closeloop") {
+        close_loop(fields)
+    } else {
+        let op = op_by_word(names, word, fields)?;
+        Some(Statement::InMain(MainOp::Op(op)))
     }
 }
 
@@ -407,8 +444,10 @@ fn thread<'a>(names: &Names, mut fields: Fields<'a>) -> Option<Statement<'a>>
     ensures { option_map said result ≡ thread_of names.now fields.entry }
 {
     let thread = number(fields.next()?)?;
-    match fields.next()? {
-        b"send" => sender(names, thread, fields),
-        _ => None,
+    let word = fields.next()?;
+    if is(word, b"send") {
+        sender(names, thread, fields)
+    } else {
+        None
     }
 }
