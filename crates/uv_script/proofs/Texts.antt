@@ -26,10 +26,10 @@ line_turn f xs i d start text within all =
     add_one : i + 1 ≡ suc i
     add_one = omega arith
 
-pub lines_end : {A : Type 0} (f : A → List ℕ) (xs : List A) (start text : List ℕ) →
-    text ++ lines_text (map f (drop (length xs) xs)) ≡ start ++ lines_text (map f xs) → text ≡ start ++ lines_text (map f xs)
-lines_end f xs start text all =
-    sym (append-nil text) ∙ ap (λ l. text ++ lines_text (map f l)) (sym (drop-length xs)) ∙ all
+pub lines_end : {A : Type 0} (f : A → List ℕ) (xs : List A) (i : ℕ) (start text : List ℕ) → i ≡ length xs →
+    text ++ lines_text (map f (drop i xs)) ≡ start ++ lines_text (map f xs) → text ≡ start ++ lines_text (map f xs)
+lines_end f xs i start text at_end all =
+    sym (append-nil text) ∙ ap (λ l. text ++ lines_text (map f l)) (sym (ap (λ n. drop n xs) at_end ∙ drop-length xs)) ∙ all
 
 -- two lines
 pub two_lines : (text a b : List ℕ) → text ++ a ++ 10 ∷ [] ++ b ++ 10 ∷ [] ≡ text ++ lines_text (a ∷ b ∷ [])
@@ -70,25 +70,27 @@ callbacks_turn p i start text within all =
     add_one : i + 1 ≡ suc i
     add_one = omega arith
 
-pub callbacks_end : (p : Program) (start text : List ℕ) →
-    text ++ lines_text (callback_lines p (length p.names) (drop (length p.names) p.names)) ≡ start ++ lines_text (callback_lines p 0 p.names) →
+pub callbacks_end : (p : Program) (i : ℕ) (start text : List ℕ) → i ≡ length p.names →
+    text ++ lines_text (callback_lines p i (drop i p.names)) ≡ start ++ lines_text (callback_lines p 0 p.names) →
     text ≡ start ++ lines_text (callback_lines p 0 p.names)
-callbacks_end p start text all =
-    sym (append-nil text) ∙ ap (λ names. text ++ lines_text (callback_lines p (length p.names) names)) (sym (drop-length p.names)) ∙ all
+callbacks_end p i start text at_end all =
+    sym (append-nil text) ∙ ap (λ names. text ++ lines_text (callback_lines p i names)) (sym (ap (λ n. drop n p.names) at_end ∙ drop-length p.names))
+    ∙ all
 
 -- the texts of a script's parts
-pub whole_text : (p : Program) →
-    [] ++ lines_text (workers_line (worker_count p) ∷ slots_line (arena_size p) ∷ []) ++ lines_text (map var_line p.names)
+pub whole_text : (text : List ℕ) (p : Program) →
+    text ++ lines_text (workers_line (worker_count p) ∷ slots_line (arena_size p) ∷ []) ++ lines_text (map var_line p.names)
     ++ lines_text (map (main_line p.names) p.main) ++ lines_text (callback_lines p 0 p.names) ++ lines_text (map (thread_line p.names) p.threads)
-    ≡ script_text p
+    ≡ text ++ script_text p
 unfolding script_text
-whole_text p =
+whole_text text p =
     let settings = workers_line (worker_count p) ∷ slots_line (arena_size p) ∷ [] in
     let names = map var_line p.names in
     let main = map (main_line p.names) p.main in
     let callbacks = callback_lines p 0 p.names in
     let threads = map (thread_line p.names) p.threads in
-    ap (λ t. t ++ lines_text threads) (three_lists (lines_text settings) names main callbacks)
-    ∙ append_assoc (lines_text settings) (lines_text (names ++ main ++ callbacks)) (lines_text threads)
-    ∙ ap (λ t. lines_text settings ++ t) (sym (lines_text-append (names ++ main ++ callbacks) threads))
-    ∙ sym (lines_text-append settings (names ++ main ++ callbacks ++ threads))
+    ap (λ t. t ++ lines_text threads) (three_lists (text ++ lines_text settings) names main callbacks)
+    ∙ append_assoc (text ++ lines_text settings) (lines_text (names ++ main ++ callbacks)) (lines_text threads)
+    ∙ append_assoc text (lines_text settings) (lines_text (names ++ main ++ callbacks) ++ lines_text threads)
+    ∙ ap (λ t. text ++ (lines_text settings ++ t)) (sym (lines_text-append (names ++ main ++ callbacks) threads))
+    ∙ ap (λ t. text ++ t) (sym (lines_text-append settings (names ++ main ++ callbacks ++ threads)))

@@ -1,6 +1,6 @@
 -- A script whose number of workers is set is one that was read, too: from the same lines without the one that says it, and from one that says
 -- this number.
-use Rattle.std.proofs.Common.{◌≡◌, ℕ, List, [], ◌∷◌, ◌++◌, None, refl}
+use Rattle.std.proofs.Common.{ℕ, List, [], ◌∷◌, ◌++◌, None, refl}
 use Rattle.uv_script.specs.Grammar.{Declares, InMain, InCallback, Sizes, HasWorkers, InThread, Reads, skips, says, ReadsAll, none, one, blank, WasRead, IsReadScript}
 use Rattle.uv_script.specs.Program.{Program, with_workers, IsWorkerCount}
 use Rattle.uv_script.specs.Text.{workers_line}

@@ -1,6 +1,7 @@
 //! The text of a script's parts.
 ghost use Rattle.std.specs.Prelude.{◌≡◌, ◌++◌, ◌∷◌, [], map, decimal, OnOk, IfOk, IfErr};
 ghost use Rattle.uv_ids.specs.declared.fault.Fault.TheVariants.{Memory};
+ghost use Rattle.uv_script.specs.Grammar.{WasRead};
 ghost use Rattle.uv_script.specs.Laws.{IsReadBack};
 ghost use Rattle.uv_script.specs.Program.{arena_size, worker_count};
 ghost use Rattle.uv_script.specs.declared.op.Op.TheVariants.{Start, Queue};
@@ -249,14 +250,23 @@ impl Script {
         ensures err { IfErr result (λ fault. fault ≡ Memory) }
         ensures read_back { IsReadBack self.now }
     {
-        let main = self.main();
         let mut text = Vec::new(self.allocator());
-        self.push_settings(&mut text)?;
-        self.names().push_declarations(&mut text)?;
-        push_main(&mut text, self.names(), main)?;
-        self.push_callbacks(&mut text)?;
-        push_threads(&mut text, self.names(), self.thread_lines())?;
+        self.push_lines(&mut text)?;
         Ok(text)
+    }
+
+    /// Writes all lines.
+    fn push_lines(&self, text: &mut Vec<u8>) -> Result<(), AllocError>
+        ensures text { OnOk result (text.new.items ≡ text.old.items ++ script_text self.now) }
+        ensures read { WasRead self.now }
+    {
+        let main = self.main();
+        self.push_settings(text)?;
+        self.names().push_declarations(text)?;
+        push_main(text, self.names(), main)?;
+        self.push_callbacks(text)?;
+        push_threads(text, self.names(), self.thread_lines())?;
+        Ok(())
     }
 
     /// Writes how many workers there are.
