@@ -1,5 +1,6 @@
 //! The words of a break.
 ghost use Rattle.std.specs.Prelude.{◌≡◌, option_map};
+ghost use Rattle.std.specs.Str.{bytes_eq};
 ghost use Rattle.uv_script.specs.Reading.{place_of};
 ghost use Rattle.uv_text.specs.Reading.{code_of, phase_of, section_of, break_of};
 
@@ -7,21 +8,36 @@ use uv_ids::{Code, Phase};
 use uv_script::Names;
 use uv_session::Break;
 
+/// Whether a word is this one.
+pub(crate) fn is(word: &[u8], this: &[u8]) -> bool
+    ensures { result ≡ bytes_eq word.now this.now }
+{
+    word == this
+}
+
 /// The code that a word names.
 #[tactic(auto, unfolding(crate::specs::Reading::code_of))]
 fn code_by_word(word: &[u8]) -> Option<Code>
     ensures { result ≡ code_of word.now }
 {
-    match word {
-        b"ok" => Some(Code::Ok),
-        b"EINVAL" => Some(Code::Einval),
-        b"EBUSY" => Some(Code::Ebusy),
-        b"ECANCELED" => Some(Code::Ecanceled),
-        b"EBOUND" => Some(Code::Ebound),
-        b"EFULL" => Some(Code::Efull),
-        b"ESTALE" => Some(Code::Estale),
-        b"EKIND" => Some(Code::Ekind),
-        _ => None,
+    if is(word, b"ok") {
+        Some(Code::Ok)
+    } else if is(word, b"EINVAL") {
+        Some(Code::Einval)
+    } else if is(word, b"EBUSY") {
+        Some(Code::Ebusy)
+    } else if is(word, b"ECANCELED") {
+        Some(Code::Ecanceled)
+    } else if is(word, b"EBOUND") {
+        Some(Code::Ebound)
+    } else if is(word, b"EFULL") {
+        Some(Code::Efull)
+    } else if is(word, b"ESTALE") {
+        Some(Code::Estale)
+    } else if is(word, b"EKIND") {
+        Some(Code::Ekind)
+    } else {
+        None
     }
 }
 
@@ -30,16 +46,24 @@ fn code_by_word(word: &[u8]) -> Option<Code>
 fn phase_by_word(word: &[u8]) -> Option<Phase>
     ensures { result ≡ phase_of word.now }
 {
-    match word {
-        b"pending" => Some(Phase::Pending),
-        b"idle" => Some(Phase::Idle),
-        b"prepare" => Some(Phase::Prepare),
-        b"done" => Some(Phase::Done),
-        b"async" => Some(Phase::Async),
-        b"check" => Some(Phase::Check),
-        b"closing" => Some(Phase::Closing),
-        b"timers" => Some(Phase::Timers),
-        _ => None,
+    if is(word, b"pending") {
+        Some(Phase::Pending)
+    } else if is(word, b"idle") {
+        Some(Phase::Idle)
+    } else if is(word, b"prepare") {
+        Some(Phase::Prepare)
+    } else if is(word, b"done") {
+        Some(Phase::Done)
+    } else if is(word, b"async") {
+        Some(Phase::Async)
+    } else if is(word, b"check") {
+        Some(Phase::Check)
+    } else if is(word, b"closing") {
+        Some(Phase::Closing)
+    } else if is(word, b"timers") {
+        Some(Phase::Timers)
+    } else {
+        None
     }
 }
 
@@ -47,7 +71,7 @@ fn phase_by_word(word: &[u8]) -> Option<Phase>
 fn read_section(word: &[u8]) -> Option<Break>
     ensures { result ≡ section_of word.now }
 {
-    if word == b"poll".as_slice() {
+    if is(word, b"poll") {
         return Some(Break::Poll);
     }
     let phase = phase_by_word(word)?;
@@ -72,11 +96,11 @@ fn read_call(names: &Names, name: &[u8]) -> Option<Break>
 pub(crate) fn read_break(names: &Names, what: &[u8], argument: &[u8]) -> Option<Break>
     ensures { result ≡ break_of names.now what.now argument.now }
 {
-    if what == b"call".as_slice() {
+    if is(what, b"call") {
         read_call(names, argument)
-    } else if what == b"code".as_slice() {
+    } else if is(what, b"code") {
         read_code(argument)
-    } else if what == b"section".as_slice() {
+    } else if is(what, b"section") {
         read_section(argument)
     } else {
         None

@@ -4,7 +4,7 @@ ghost use Rattle.uv_text.specs.declared.command.Asked.{Asked};
 ghost use Rattle.uv_text.specs.Commands.{Asks, MOST, LAST_WORKER};
 ghost use Rattle.uv_text.specs.Reading.{asked_of, command_of, command_alone, command_by, command_with, command_with_two, clears, step_by, loops, goes_back, goes_forward};
 
-use crate::breaks::read_break;
+use crate::breaks::{is, read_break};
 use uv_ids::Event;
 use uv_model::STEPS;
 use uv_script::{Fields, Names, is_line, is_skipped, number};
@@ -98,19 +98,19 @@ fn read_fields(names: &Names, mut fields: Fields) -> Option<Command>
 fn alone(word: &[u8]) -> Option<Command>
     ensures { result ≡ command_alone word.now }
 {
-    if word == b"loop".as_slice() {
+    if is(word, b"loop") {
         Some(Command::Loop(1))
-    } else if word == b"rback".as_slice() {
+    } else if is(word, b"rback") {
         Some(Command::BackToBreak)
-    } else if word == b"trace".as_slice() {
+    } else if is(word, b"trace") {
         Some(Command::Trace)
-    } else if word == b"state".as_slice() {
+    } else if is(word, b"state") {
         Some(Command::State)
-    } else if word == b"image".as_slice() {
+    } else if is(word, b"image") {
         Some(Command::Image)
-    } else if word == b"record".as_slice() {
+    } else if is(word, b"record") {
         Some(Command::Record)
-    } else if word == b"quit".as_slice() {
+    } else if is(word, b"quit") {
         Some(Command::Quit)
     } else {
         None
@@ -120,13 +120,13 @@ fn alone(word: &[u8]) -> Option<Command>
 fn with_argument(names: &Names, word: &[u8], argument: &[u8]) -> Option<Command>
     ensures { result ≡ command_with names.now word.now argument.now }
 {
-    if word == b"cancel".as_slice() {
+    if is(word, b"cancel") {
         let name = names.number(argument)?;
         Some(Command::Step(Event::Cancel(name)))
-    } else if word == b"send".as_slice() {
+    } else if is(word, b"send") {
         let name = names.number(argument)?;
         Some(Command::Step(Event::Send(name)))
-    } else if word == b"break".as_slice() {
+    } else if is(word, b"break") {
         clears(argument)
     } else {
         with_number(word, number(argument))
@@ -136,7 +136,7 @@ fn with_argument(names: &Names, word: &[u8], argument: &[u8]) -> Option<Command>
 fn clears(argument: &[u8]) -> Option<Command>
     ensures { result ≡ clears argument.now }
 {
-    if argument == b"clear".as_slice() {
+    if is(argument, b"clear") {
         Some(Command::ClearBreaks)
     } else {
         None
@@ -146,7 +146,7 @@ fn clears(argument: &[u8]) -> Option<Command>
 fn with_two(names: &Names, word: &[u8], what: &[u8], argument: &[u8]) -> Option<Command>
     ensures { result ≡ command_with_two names.now word.now what.now argument.now }
 {
-    if word != b"break".as_slice() {
+    if !is(word, b"break") {
         return None;
     }
     let at = read_break(names, what, argument)?;
@@ -157,11 +157,11 @@ fn with_number(word: &[u8], number: Option<u64>) -> Option<Command>
     ensures { result ≡ command_by word.now number }
 {
     let n = number?;
-    if word == b"loop".as_slice() {
+    if is(word, b"loop") {
         loops(n)
-    } else if word == b"back".as_slice() {
+    } else if is(word, b"back") {
         goes_back(n)
-    } else if word == b"forward".as_slice() {
+    } else if is(word, b"forward") {
         goes_forward(n)
     } else {
         let event = step_with(word, n)?;
@@ -173,15 +173,15 @@ fn with_number(word: &[u8], number: Option<u64>) -> Option<Command>
 fn step_with(word: &[u8], n: u64) -> Option<Event>
     ensures { result ≡ step_by word.now n }
 {
-    if word == b"tick".as_slice() {
+    if is(word, b"tick") {
         return Some(Event::Tick(n));
     }
     if n > LAST_WORKER {
         return None;
     }
-    if word == b"take".as_slice() {
+    if is(word, b"take") {
         Some(Event::Take(n as u16))
-    } else if word == b"finish".as_slice() {
+    } else if is(word, b"finish") {
         Some(Event::Finish(n as u16))
     } else {
         None

@@ -4,6 +4,7 @@ ghost use Rattle.std.specs.List.{flat_map};
 ghost use Rattle.uv_ids.specs.declared.fault.Fault.TheVariants.{Memory};
 ghost use Rattle.uv_records.specs.Slots.{held};
 ghost use Rattle.uv_model.specs.After.{after};
+ghost use Rattle.uv_model.specs.declared.place.Place.TheVariants.{Running};
 ghost use Rattle.uv_model.specs.Queries.{timer_ids};
 ghost use Rattle.uv_text.specs.State.{numbered, flagged, steps_line, timers_text, stage_text, callback_word, body_text, place_line, bound_text, counts_text, name_line, names_upto, kind_text, record_text, open_text, outcome_text, request_text, content_text, slot_line, slot_or_none, slots_upto, free_line, unused_line, holder_text, member_text, list_line, list_word, members_line, before_poll, after_poll, run_text, runs_upto, running_line, work_text, lists_text, state_text};
 
@@ -11,7 +12,7 @@ use crate::trace::{push_id, push_timeout};
 use std::alloc::{AllocError, Global};
 use uv_ids::{Callback, Fault, Id, Kind, Var};
 use uv_model::{
-    Body, Content, Counts, Machine, Named, Numbers, Place, Request, Stage, TimersOf, Timing,
+    Body, Content, Counts, Machine, Named, Numbers, Place, Request, Run, Stage, TimersOf, Timing,
 };
 use uv_records::{HandleRecord, ListName};
 use uv_script::{Script, push_number, push_task_text};
@@ -132,16 +133,25 @@ fn push_place(text: &mut Vec<u8>, script: &Script, place: Place) -> Result<(), A
     ensures { OnOk result (text.new.items ≡ text.old.items ++ place_line script.now place) }
 {
     match place {
-        Place::Main(line) => push_numbered(text, "place main ", line as u64)?,
-        Place::Running(run) => {
-            text.extend_from_slice(b"place ")?;
-            text.extend_from_slice(run.mode.word().as_bytes())?;
-            push_numbered(text, " ", run.line as u64)?;
-            text.extend_from_slice(b" ")?;
-            push_stage(text, run.stage)?;
-            push_body(text, script, run.body)?;
+        Place::Main(line) => {
+            push_numbered(text, "place main ", line as u64)?;
+            text.extend_from_slice(b"\n")
         }
+        Place::Running(run) => push_run_place(text, script, run),
     }
+}
+
+/// The place of a run that is under way.
+#[tactic(auto, unfolding(crate::specs::State::place_line))]
+fn push_run_place(text: &mut Vec<u8>, script: &Script, run: Run) -> Result<(), AllocError>
+    ensures { OnOk result (text.new.items ≡ text.old.items ++ place_line script.now (Running run)) }
+{
+    text.extend_from_slice(b"place ")?;
+    text.extend_from_slice(run.mode.word().as_bytes())?;
+    push_numbered(text, " ", run.line as u64)?;
+    text.extend_from_slice(b" ")?;
+    push_stage(text, run.stage)?;
+    push_body(text, script, run.body)?;
     text.extend_from_slice(b"\n")
 }
 

@@ -1,0 +1,18 @@
+use Rattle.std.proofs.Common.{◌∙◌, arith}
+use Rattle.uv_model.specs.After.{after}
+use Rattle.uv_text.specs.State.{member_text}
+use Rattle.uv_text.proofs.Pieces.{each_turn, each_end}
+use Rattle.uv_text.proofs.state.push_ids.Goals as goal
+
+pub loop-id-preserved : goal.loop-id-preserved
+loop-id-preserved g c =
+    let p = g.M.Machine.program c.args.machine.now in
+    let member = member_text p (after p (g.M.Machine.standing c.args.machine.now)) in
+    c.in_ok-push_member.ensures
+    ∙ each_turn member c.args.ids.now c.loop-id.id-index _ c.args.text.now.items c.loop-id.text.items (omega arith) c.loop-id.invariant
+
+pub returns : goal.returns
+returns g c =
+    let p = g.M.Machine.program c.args.machine.now in
+    let member = member_text p (after p (g.M.Machine.standing c.args.machine.now)) in
+    each_end member c.args.ids.now c.loop-id.id-index c.args.text.now.items c.loop-id.text.items (omega arith) c.loop-id.invariant

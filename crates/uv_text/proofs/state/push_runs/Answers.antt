@@ -1,0 +1,23 @@
+use Rattle.std.proofs.Common.{◌≡◌, ◌++◌, length, Option, ap, ◌∙◌, arith}
+use Rattle.uv_ids.specs.declared.id.Id.{Id}
+use Rattle.uv_model.specs.After.{after}
+use Rattle.uv_text.specs.State.{run_text, runs_upto}
+use Rattle.uv_text.proofs.Pieces.{one_more, runs_upto-more}
+use Rattle.uv_text.proofs.state.push_runs.Goals as goal
+
+pub loop-worker-preserved : goal.loop-worker-preserved
+loop-worker-preserved g c =
+    let p = g.M.Machine.program c.args.machine.now in
+    let s = after p (g.M.Machine.standing c.args.machine.now) in
+    let worker = c.loop-worker.worker in
+    let text = c.loop-worker.text.items in
+    c.in_ok-push_run.ensures
+    ∙ ap (λ (run : Option Id). text ++ run_text p s worker run) c.run_by.ensures
+    ∙ one_more (runs_upto p s) worker c.args.text.now.items text _ (runs_upto-more p s worker) c.loop-worker.invariant
+
+pub returns : goal.returns
+returns g c =
+    let p = g.M.Machine.program c.args.machine.now in
+    let s = after p (g.M.Machine.standing c.args.machine.now) in
+    let all : c.loop-worker.worker ≡ length s.running = omega (arith, c.loop-worker-test.false, c.workers-worker-end.ensures) in
+    c.loop-worker.invariant ∙ ap (λ n. c.args.text.now.items ++ runs_upto p s n) all
