@@ -1,6 +1,6 @@
-use Rattle.std.proofs.Common.{◌<◌, ◌+◌, ◌++◌, length, drop, ap, ◌∙◌, arith}
+use Rattle.std.proofs.Common.{◌≡◌, ◌<◌, ◌+◌, ◌++◌, length, drop, ap, ◌∙◌, arith}
 use Rattle.uv_script.specs.Text.{callback_lines, lines_text}
-use Rattle.uv_script.proofs.Texts.{callbacks_turn}
+use Rattle.uv_script.proofs.Texts.{callbacks_turn, callbacks_end}
 use Rattle.uv_script.proofs.script.Script.push_callbacks.Goals as goal
 
 pub loop-number-preserved : goal.loop-number-preserved
@@ -11,3 +11,10 @@ loop-number-preserved c =
     let within : i < length p.names = omega (arith, c.loop-number-test.true, c.len-number-end.ensures.len, count) in
     ap (λ t. t ++ lines_text (callback_lines p (i + 1) (drop (i + 1) p.names))) c.in_ok-push_callbacks_of.ensures
     ∙ callbacks_turn p i c.args.text.now.items c.loop-number.text.items within c.loop-number.invariant
+
+pub returns : goal.returns
+returns c =
+    let p = c.args.self.now in
+    let count = ap length c.names.ensures.names in
+    let all : c.loop-number.number ≡ length p.names = omega (arith, c.loop-number-test.false, c.len-number-end.ensures.len, count) in
+    callbacks_end p c.loop-number.number c.args.text.now.items c.loop-number.text.items all c.loop-number.invariant
