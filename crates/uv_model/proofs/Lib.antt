@@ -12,3 +12,4 @@ pub mod Refusals
 pub mod Counting
 pub mod Bounded
 pub mod Runs
+pub mod Kept

@@ -11,7 +11,10 @@ use uv_script::{CallbackLine, Script};
 fn is_for(line: CallbackLine, call: u32) -> bool
     ensures { result ≡ is_for call line.call }
 {
-    line.call.is_none_or(|k| k == call)
+    match line.call {
+        None => true,
+        Some(its) => its == call,
+    }
 }
 
 /// The body of a call, if it has a line from this one on.

@@ -1,6 +1,7 @@
 //! The plain loop: a machine of lists and an ordered map, which goes back by running the shorter list of steps anew.
-ghost use Rattle.std.specs.Prelude.{◌≡◌, ◌≤◌, IfOk, OnOk, length};
+ghost use Rattle.std.specs.Prelude.{◌≡◌, ◌<◌, ◌≤◌, IfOk, OnOk, OnErr, length, vec_len, vec_capacity};
 ghost use Rattle.uv_model.specs.After.{after, state_of, STEPS};
+ghost use Rattle.uv_model.specs.State.{fresh};
 ghost use Rattle.uv_model.specs.Next.{next};
 ghost use Rattle.uv_model.specs.Bounds.{CanStep};
 
@@ -13,6 +14,7 @@ use crate::place::Place;
 use crate::state::LoopState;
 use std::alloc::{AllocError, Global};
 use std::marker::Model;
+use std::mem;
 use uv_ids::{Event, Fault, Id, Seen, Var};
 use uv_records::{ListName, Slot};
 use uv_script::Script;
@@ -49,17 +51,48 @@ fn follow(state: &mut LoopState, script: &Script, event: Event) -> Result<(), Al
     }
 }
 
-/// The state after a list of steps, from the beginning.
+/// Does a list of steps, from the beginning.
 #[tactic(auto, using(crate::proofs::Runs::runs, crate::proofs::Bounded::after_able))]
-fn replay(alloc: Global, script: &Script, steps: &[Event]) -> Result<LoopState, AllocError>
-    requires { length steps.now ≤ STEPS }
-    ensures { IfOk result (λ state. state ≡ after script.now steps.now) }
+fn follow_all(state: &mut LoopState, script: &Script, steps: &[Event]) -> Result<(), AllocError>
+    requires begun { state.old ≡ fresh script.now }
+    requires few { length steps.now ≤ STEPS }
+    ensures { OnOk result (state.new ≡ after script.now steps.now) }
 {
-    let mut state = LoopState::fresh(alloc, script)?;
     for event in steps {
-        follow(&mut state, script, *event)?;
+        follow(state, script, *event)?;
     }
-    Ok(state)
+    Ok(())
+}
+
+/// Makes a state the one after a list of steps, from the beginning. Without memory nothing changes.
+fn replay(
+    state: &mut LoopState,
+    alloc: Global,
+    script: &Script,
+    steps: &[Event],
+) -> Result<(), AllocError>
+    requires { length steps.now ≤ STEPS }
+    ensures ok { OnOk result (state.new ≡ after script.now steps.now) }
+    ensures err { OnErr result (state.new ≡ state.old) }
+{
+    let mut earlier = LoopState::fresh(alloc, script)?;
+    let followed = follow_all(&mut earlier, script, steps);
+    if followed.is_ok() {
+        mem::swap(state, &mut earlier);
+    }
+    drop(earlier);
+    followed
+}
+
+/// Makes room for one more step and its line. Without memory nothing changes.
+fn reserve_step(steps: &mut Vec<Event>, seen: &mut Vec<Option<Seen>>) -> Result<(), AllocError>
+    ensures steps { steps.new.items ≡ steps.old.items }
+    ensures seen { seen.new.items ≡ seen.old.items }
+    ensures steps_room { OnOk result (vec_len steps.new < vec_capacity steps.new) }
+    ensures seen_room { OnOk result (vec_len seen.new < vec_capacity seen.new) }
+{
+    steps.reserve(1)?;
+    seen.reserve(1)
 }
 
 #[tactic(auto, using(crate::proofs::Runs::runs, crate::proofs::Bounded::after_able))]
@@ -89,10 +122,14 @@ impl Machine for PlainLoop {
             Some(why) => return Err(Fault::Refused(why)),
             None => {}
         }
-        if self.steps.reserve(1).is_err() || self.seen.reserve(1).is_err() {
-            return Err(Fault::Memory);
+        match reserve_step(&mut self.steps, &mut self.seen) {
+            Ok(()) => {}
+            Err(_) => return Err(Fault::Memory),
         }
-        let outcome = self.state.step(&self.script, event)?;
+        let outcome = match self.state.step(&self.script, event) {
+            Ok(outcome) => outcome,
+            Err(fault) => return Err(fault),
+        };
         self.steps.push_reserved(event);
         self.seen.push_reserved(outcome.seen);
         Ok(outcome)
@@ -106,10 +143,14 @@ impl Machine for PlainLoop {
         if let Some(why) = refusal {
             return Err(Fault::Refused(why));
         }
-        if self.steps.reserve(1).is_err() || self.seen.reserve(1).is_err() {
-            return Err(Fault::Memory);
+        match reserve_step(&mut self.steps, &mut self.seen) {
+            Ok(()) => {}
+            Err(_) => return Err(Fault::Memory),
         }
-        let outcome = self.state.finish_with(&self.script, worker, work)?;
+        let outcome = match self.state.finish_with(&self.script, worker, work) {
+            Ok(outcome) => outcome,
+            Err(fault) => return Err(fault),
+        };
         self.steps.push_reserved(Event::Finish(worker));
         self.seen.push_reserved(outcome.seen);
         Ok(outcome)
@@ -120,10 +161,15 @@ impl Machine for PlainLoop {
             return Ok(false);
         }
         let shorter = self.steps.len() - 1;
-        let Ok(state) = replay(self.alloc, &self.script, &self.steps[..shorter]) else {
-            return Err(Fault::Memory);
-        };
-        self.state = state;
+        match replay(
+            &mut self.state,
+            self.alloc,
+            &self.script,
+            &self.steps[..shorter],
+        ) {
+            Ok(()) => {}
+            Err(_) => return Err(Fault::Memory),
+        }
         self.steps.truncate(shorter);
         self.seen.truncate(shorter);
         Ok(true)

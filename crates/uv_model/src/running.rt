@@ -16,7 +16,6 @@ fn is_run(run: Option<Id>, id: Id) -> bool
 }
 
 /// The first of the workers that runs a request, by what each of them runs.
-#[tactic(auto, using(crate::proofs::Runners::steps))]
 pub fn runner_of(running: &[Option<Id>], id: Id) -> Option<usize>
     ensures { result ≡ runner_from 0 running.now id }
 {

@@ -234,7 +234,10 @@ impl LoopState {
             Timing::Collecting => self.collect(script, run, part),
             Timing::Firing => self.fire(script, run, part),
         };
-        outcome.map_err(|_| Fault::Memory)
+        match outcome {
+            Ok(outcome) => Ok(outcome),
+            Err(_) => Err(Fault::Memory),
+        }
     }
 
     /// What the run does next where no body is under way.

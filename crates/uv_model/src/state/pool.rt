@@ -245,6 +245,9 @@ impl LoopState {
         requires { CanStep self.old }
         ensures { Steps (collect_request script.now self.old run) self.old result self.new }
     {
-        self.collect_request(script, run).map_err(|_| Fault::Memory)
+        match self.collect_request(script, run) {
+            Ok(outcome) => Ok(outcome),
+            Err(_) => Err(Fault::Memory),
+        }
     }
 }

@@ -87,6 +87,9 @@ impl LoopState {
     fn has_passed(&self, deadline: Option<u64>) -> bool
         ensures { result ≡ has_passed self.now.clock deadline }
     {
-        deadline.is_some_and(|deadline| deadline <= self.clock)
+        match deadline {
+            None => false,
+            Some(deadline) => deadline <= self.clock,
+        }
     }
 }

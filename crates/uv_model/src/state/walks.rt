@@ -148,7 +148,10 @@ impl LoopState {
         requires { CanStep self.old }
         ensures { Steps (walk script.now self.old run kind) self.old result self.new }
     {
-        self.walk(script, run, kind).map_err(|_| Fault::Memory)
+        match self.walk(script, run, kind) {
+            Ok(outcome) => Ok(outcome),
+            Err(_) => Err(Fault::Memory),
+        }
     }
 
     /// Calls the front of those yet to run, if it was sent to, or leaves the section. Without memory nothing changes.
@@ -179,7 +182,10 @@ impl LoopState {
         requires { CanStep self.old }
         ensures { Steps (walk_async script.now self.old run) self.old result self.new }
     {
-        self.walk_async(script, run).map_err(|_| Fault::Memory)
+        match self.walk_async(script, run) {
+            Ok(outcome) => Ok(outcome),
+            Err(_) => Err(Fault::Memory),
+        }
     }
 
     /// Frees the slot of the front of the closing handles and calls it, or leaves the section. Without memory nothing changes.
@@ -203,6 +209,9 @@ impl LoopState {
         requires { CanStep self.old }
         ensures { Steps (close_front script.now self.old run) self.old result self.new }
     {
-        self.close_front(script, run).map_err(|_| Fault::Memory)
+        match self.close_front(script, run) {
+            Ok(outcome) => Ok(outcome),
+            Err(_) => Err(Fault::Memory),
+        }
     }
 }

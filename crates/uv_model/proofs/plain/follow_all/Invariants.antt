@@ -1,6 +1,6 @@
 use Rattle.std.proofs.Common.{◌≡◌, take}
 use Rattle.uv_model.specs.After.{after}
-use Rattle.uv_model.proofs.plain.replay.Given as goal
+use Rattle.uv_model.proofs.plain.follow_all.Given as goal
 
 -- the state is that after the steps so far
 abbrev pub invariant-loop-event : goal.invariant-loop-event

@@ -2,7 +2,7 @@ use Rattle.std.proofs.Common.{arith, length-take}
 use Rattle.std.proofs.lemmas.Grind.{common_steps}
 use Rattle.uv_model.proofs.Bounded.{after_able}
 use Rattle.uv_model.proofs.Runs.{after-take}
-use Rattle.uv_model.proofs.plain.replay.Goals as goal
+use Rattle.uv_model.proofs.plain.follow_all.Goals as goal
 
 pub follow-requires : goal.follow-requires
 follow-requires c = rw c.loop-event.invariant (after_able _ _ (simp length-take (omega arith)))
