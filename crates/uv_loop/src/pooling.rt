@@ -17,7 +17,7 @@ use uv_ops::cancel;
 use uv_step::Memory;
 use uv_work::{RequestRecord, WorkResult};
 
-/// A worker takes a request: what that appends, and what takes it back.
+/// A worker takes a request: what that appends.
 pub(crate) fn take_work(
     memory: &mut Memory<Place>,
     worker: u16,
@@ -38,7 +38,7 @@ pub(crate) fn take_work(
     }
 }
 
-/// A worker finishes the request that it runs, of whose job this is the result: what that appends, and what takes it back.
+/// A worker finishes the request that it runs, of whose job this is the result: what that appends.
 pub(crate) fn finish_work(
     memory: &mut Memory<Place>,
     worker: u16,
@@ -61,7 +61,7 @@ pub(crate) fn finish_work(
     }
 }
 
-/// Cancels the request of a name: what that answers, and what takes it back.
+/// Cancels the request of a name: what that answers.
 pub(crate) fn cancel_named(memory: &mut Memory<Place>, name: Var) -> Answer
     requires fit { IsFit (held memory.old).image }
     requires name { name.0 < length (held memory.old).image.names }

@@ -13,7 +13,7 @@ use uv_model::Place;
 use uv_ops::send;
 use uv_step::Memory;
 
-/// Sends to the async handle of a name: what that answers, and what takes it back.
+/// Sends to the async handle of a name: what that answers.
 pub(crate) fn send_to(memory: &mut Memory<Place>, name: Var) -> Code
     requires fit { IsFit (held memory.old).image }
     requires name { name.0 < length (held memory.old).image.names }

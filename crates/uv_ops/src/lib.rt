@@ -1,4 +1,5 @@
-//! The ops of a script over a loop's memory: each does what the plain loop's does, and has a record that takes it back.
+//! The ops of a script over a loop's memory: each does what the plain loop's does, and leaves the record
+//! that takes it back in the memory.
 #![tactic(auto)]
 
 mod cancelling;

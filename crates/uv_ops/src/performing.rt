@@ -16,7 +16,7 @@ use uv_model::Place;
 use uv_script::Op;
 use uv_step::Memory;
 
-/// Does an op: its answer, and the record that takes it back.
+/// Does an op: its answer.
 pub fn perform(memory: &mut Memory<Place>, op: Op) -> Answer
     requires { IsReady (held memory.old) }
     ensures returns { Returns memory.new.step_record (held memory.old) (held memory.new) }

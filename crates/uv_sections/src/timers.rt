@@ -52,7 +52,7 @@ fn fire(memory: &mut Memory<Place>, script: &Script, run: Run, part: TimersOf) -
     }
 }
 
-/// Sets the first timer aside, if it is due. None, and nothing changed, where none is.
+/// Sets the first timer aside, if it is due: its id. None, and nothing changed, where none is.
 fn set_aside(memory: &mut Memory<Place>, run: Run, part: TimersOf) -> Option<Id>
     requires ready { IsReady (held memory.old) }
     ensures returns { IfSome result (λ _. Returns memory.new.step_record (held memory.old) (held memory.new)) }
