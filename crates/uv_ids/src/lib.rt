@@ -9,6 +9,7 @@ mod id;
 mod phase;
 mod seen;
 mod thread_line;
+mod word;
 
 pub use code::{Answer, Code};
 pub use due::Due;
@@ -18,3 +19,4 @@ pub use id::{Id, Var};
 pub use phase::{Kind, Mode, Phase};
 pub use seen::{Callback, Seen, Site};
 pub use thread_line::ThreadLine;
+pub use word::is;

@@ -2,6 +2,8 @@
 ghost use Rattle.std.specs.Prelude.{◌≡◌, IfSome, IfNone};
 ghost use Rattle.uv_ids.specs.Words.{kind_word, mode_word, phase_word, IsNoKind, IsNoMode};
 
+use crate::word::is;
+
 /// The kind of a handle (uv_handle_type).
 #[derive(Clone, Copy, PartialEq, Eq)]
 pub enum Kind {
@@ -36,13 +38,18 @@ impl Kind {
         ensures some { IfSome result (λ kind. word.now ≡ kind_word kind) }
         ensures none { IfNone result (IsNoKind word.now) }
     {
-        match word {
-            b"timer" => Some(Kind::Timer),
-            b"idle" => Some(Kind::Idle),
-            b"prepare" => Some(Kind::Prepare),
-            b"check" => Some(Kind::Check),
-            b"async" => Some(Kind::Async),
-            _ => None,
+        if is(word, b"timer") {
+            Some(Kind::Timer)
+        } else if is(word, b"idle") {
+            Some(Kind::Idle)
+        } else if is(word, b"prepare") {
+            Some(Kind::Prepare)
+        } else if is(word, b"check") {
+            Some(Kind::Check)
+        } else if is(word, b"async") {
+            Some(Kind::Async)
+        } else {
+            None
         }
     }
 }
@@ -75,11 +82,14 @@ impl Mode {
         ensures some { IfSome result (λ mode. word.now ≡ mode_word mode) }
         ensures none { IfNone result (IsNoMode word.now) }
     {
-        match word {
-            b"default" => Some(Mode::Default),
-            b"once" => Some(Mode::Once),
-            b"nowait" => Some(Mode::Nowait),
-            _ => None,
+        if is(word, b"default") {
+            Some(Mode::Default)
+        } else if is(word, b"once") {
+            Some(Mode::Once)
+        } else if is(word, b"nowait") {
+            Some(Mode::Nowait)
+        } else {
+            None
         }
     }
 }

@@ -1,6 +1,5 @@
 //! What the lines of a script say, one at a time.
 ghost use Rattle.std.specs.Prelude.{◌≡◌, Some, option_map};
-ghost use Rattle.std.specs.Str.{bytes_eq};
 ghost use Rattle.uv_script.specs.Lines.{fields_of};
 ghost use Rattle.uv_script.specs.Reading.{none_left, kind_of, mode_of, init_of, timer_start_of, start_of, repeat_of, text_by, queue_of, bare_op, named_op, name_alone, short_op_of, op_of, declaration_of, run_of, main_of, main_by, close_loop_of, call_of, marked, in_calls_of, in_call_of, callback_of, last_of, size_of, workers_of, sender_of, thread_of, setting_of, statement_of};
 ghost use Rattle.uv_script.specs.Said.{said};
@@ -12,7 +11,7 @@ use crate::op::{CallbackLine, MainOp, Op};
 use crate::size::ArenaSize;
 use crate::task::Task;
 use crate::words::{is_name, number};
-use uv_ids::{Callback, Kind, Mode, ThreadLine, Var};
+use uv_ids::{Callback, Kind, Mode, ThreadLine, Var, is};
 
 /// What a line says.
 #[derive(Drop)]
@@ -39,13 +38,6 @@ fn none_left(mut fields: Fields<'_>) -> Option<()>
         Some(_) => None,
         None => Some(()),
     }
-}
-
-/// Whether a word is this one.
-fn is(word: &[u8], this: &[u8]) -> bool
-    ensures { result ≡ bytes_eq word.now this.now }
-{
-    word == this
 }
 
 #[tactic(auto, unfolding(crate::specs::Reading::init_of))]

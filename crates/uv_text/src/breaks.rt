@@ -1,19 +1,11 @@
 //! The words of a break.
 ghost use Rattle.std.specs.Prelude.{◌≡◌, option_map};
-ghost use Rattle.std.specs.Str.{bytes_eq};
 ghost use Rattle.uv_script.specs.Reading.{place_of};
 ghost use Rattle.uv_text.specs.Reading.{code_of, phase_of, section_of, break_of};
 
-use uv_ids::{Code, Phase};
+use uv_ids::{Code, Phase, is};
 use uv_script::Names;
 use uv_session::Break;
-
-/// Whether a word is this one.
-pub(crate) fn is(word: &[u8], this: &[u8]) -> bool
-    ensures { result ≡ bytes_eq word.now this.now }
-{
-    word == this
-}
 
 /// The code that a word names.
 #[tactic(auto, unfolding(crate::specs::Reading::code_of))]

@@ -4,8 +4,8 @@ ghost use Rattle.uv_text.specs.declared.command.Asked.{Asked};
 ghost use Rattle.uv_text.specs.Commands.{Asks, MOST, LAST_WORKER};
 ghost use Rattle.uv_text.specs.Reading.{asked_of, command_of, command_alone, command_by, command_with, command_with_two, clears, step_by, loops, goes_back, goes_forward};
 
-use crate::breaks::{is, read_break};
-use uv_ids::Event;
+use crate::breaks::read_break;
+use uv_ids::{Event, is};
 use uv_model::STEPS;
 use uv_script::{Fields, Names, is_line, is_skipped, number};
 use uv_session::Break;
