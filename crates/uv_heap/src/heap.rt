@@ -83,6 +83,16 @@ impl TimerHeap {
         self.entries.as_slice()
     }
 
+    /// What always holds of a heap: no entry comes before its parent, a slot has one entry at the most, and room for it. It
+    /// costs nothing when it runs.
+    pub fn is_sound(&self)
+        ensures heap { IsHeap self.now.array }
+        ensures slots { SlotsDiffer self.now.array }
+        ensures room { SlotsFit self.now.array self.now.room }
+    {
+        let _ = self.entries.as_slice();
+    }
+
     /// The place of a slot in the array, if it is on the heap.
     pub fn place_of(&self, slot: u32) -> Option<u32>
         ensures place { result ≡ place_in self.now.array slot }

@@ -18,7 +18,7 @@ fn enter_queue<L: Ledger>(book: &mut PoolBook<L>, job: Job)
     requires legal { IsLegal (length book.old.hold.contents.running) (book.old.hold.contents.log ++ event.Queue job.req ∷ []) }
     ensures { book.new.hold.contents.log ≡ book.old.hold.contents.log ++ event.Queue job.req ∷ [] }
 {
-    let _ = book.log();
+    book.is_sound();
     let _ = book.submit(job);
 }
 
@@ -28,7 +28,7 @@ fn enter_cancel<L: Ledger>(book: &mut PoolBook<L>, id: Id)
     requires legal { IsLegal (length book.old.hold.contents.running) (book.old.hold.contents.log ++ event.Cancel id ∷ []) }
     ensures { book.new.hold.contents.log ≡ book.old.hold.contents.log ++ event.Cancel id ∷ [] }
 {
-    let _ = book.log();
+    book.is_sound();
     let _ = book.cancel(id);
 }
 
@@ -38,7 +38,7 @@ fn enter_collect<L: Ledger>(book: &mut PoolBook<L>, id: Id)
     requires legal { IsLegal (length book.old.hold.contents.running) (book.old.hold.contents.log ++ event.Collect id ∷ []) }
     ensures { book.new.hold.contents.log ≡ book.old.hold.contents.log ++ event.Collect id ∷ [] }
 {
-    let _ = book.log();
+    book.is_sound();
     let _ = book.collect();
 }
 
@@ -67,7 +67,7 @@ pub fn turn<F: Follower, L: Ledger>(session: &mut F, book: &mut PoolBook<L>) -> 
     ensures turned { Turns book.old.hold.contents.log (F.course session.old) result book.new.hold.contents.log (F.course session.new) }
     ensures refused { Refuses result (F.refusal session.new) }
 {
-    let _ = book.log();
+    book.is_sound();
     match sync(session, book) {
         Ok(_) => {}
         Err(fault) => return Err(fault),

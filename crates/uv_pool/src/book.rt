@@ -83,6 +83,13 @@ impl<L: Ledger> PoolBook<L> {
         self.held.log.as_slice()
     }
 
+    /// What always holds of a book: its pool is the replay of its log. It costs nothing when it runs.
+    pub fn is_sound(&self)
+        ensures { IsReplay self.now.hold.contents }
+    {
+        let _ = self.held.log.len();
+    }
+
     /// A share has no more finishes than the log, and one with all parts has them all. Nothing changes.
     pub fn audit(&mut self, share: &mut Share<L>)
         ensures same { self.new ≡ self.old }

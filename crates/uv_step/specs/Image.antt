@@ -1,5 +1,5 @@
 -- The memory of a loop, as it lies there: all that a step may change.
-use Rattle.std.specs.Prelude.{ℕ, List, [], Bool, false, replicate}
+use Rattle.std.specs.Prelude.{◌≡◌, ℕ, List, [], Bool, false, replicate}
 use Rattle.uv_handle.specs.Counted.{Counted, counted}
 use Rattle.uv_heap.specs.declared.entry.Entry.{Entry}
 use Rattle.uv_timer.specs.declared.change.Times.{Times}
@@ -54,6 +54,10 @@ module _ {P : Type 0} where
 
   abbrev pub held : Memory P → Held P
   held m = record { image = image_of m; room = m.heap.room }
+
+  -- nothing of it changed, and what takes the last step back is the same
+  abbrev pub Untouched : Memory P → Memory P → Type 0
+  Untouched old new = (held new ≡ held old) × (new.step_record ≡ old.step_record)
 
   -- what the calls of handles see and change
   abbrev pub counted_of : Image P → Counted Content

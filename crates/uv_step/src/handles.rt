@@ -9,7 +9,7 @@ ghost use Rattle.uv_handle.specs.Changes.{Did};
 ghost use Rattle.uv_step.specs.declared.content.Content.TheVariants.{Handle as handle};
 ghost use Rattle.uv_step.specs.declared.record.Change.TheVariants.{Added as added, Edited as edited};
 ghost use Rattle.uv_step.specs.Content.{handle_in};
-ghost use Rattle.uv_step.specs.Image.{held, counted_of, timed_of};
+ghost use Rattle.uv_step.specs.Image.{held, Untouched, counted_of, timed_of};
 ghost use Rattle.uv_step.specs.Fit.{IsFit};
 ghost use Rattle.uv_step.specs.Undo.{Recorded};
 ghost use Rattle.uv_step.specs.Does.{By, IsMade, IsShut, changed, moved_by};
@@ -30,7 +30,7 @@ impl<P: Copy> Memory<P> {
         ensures recorded { IfOk result (λ _. Recorded self.new.step_record (held self.old) (held self.new)) }
         ensures made { IfOk result (λ id. By added (λ u. IsMade
             (counted_of (held self.old).image) (counted_of (held self.new).image) name kind id u) self.new.step_record.change) }
-        ensures full { IfErr result (λ _. (next_free (plain_slots (held self.old).image.arena) ≡ None) × (held self.new ≡ held self.old)) }
+        ensures full { IfErr result (λ _. (next_free (plain_slots (held self.old).image.arena) ≡ None) × Untouched self.old self.new) }
     {
         match self.handles.add(&mut self.slots, name, kind) {
             Err(full) => Err(full),
@@ -55,7 +55,7 @@ impl<P: Copy> Memory<P> {
         ensures does { IfOk result (λ _. By edited (λ u. Did handle_in handle no_refusal (referenced_as referenced)
             (counted_of (held self.old).image) (counted_of (held self.new).image) id u) self.new.step_record.change) }
         ensures err { IfErr result (λ code. (refusal no_refusal (found handle_in (held self.old).image.arena id) ≡ Some code)
-            × (held self.new ≡ held self.old)) }
+            × Untouched self.old self.new) }
     {
         match self.handles.set_ref(&mut self.slots, id, referenced) {
             Err(code) => Err(code),
@@ -73,7 +73,7 @@ impl<P: Copy> Memory<P> {
         ensures does { IfOk result (λ _. By edited (λ u. Did handle_in handle timer_refusal (repeating repeat)
             (counted_of (held self.old).image) (counted_of (held self.new).image) id u) self.new.step_record.change) }
         ensures err { IfErr result (λ code. (refusal timer_refusal (found handle_in (held self.old).image.arena id) ≡ Some code)
-            × (held self.new ≡ held self.old)) }
+            × Untouched self.old self.new) }
     {
         match set_repeat(&mut self.handles, &mut self.slots, id, repeat) {
             Err(code) => Err(code),
@@ -91,7 +91,7 @@ impl<P: Copy> Memory<P> {
         ensures does { IfOk result (λ _. By edited (λ u. Did handle_in handle send_refusal sent
             (counted_of (held self.old).image) (counted_of (held self.new).image) id u) self.new.step_record.change) }
         ensures err { IfErr result (λ code. (refusal send_refusal (found handle_in (held self.old).image.arena id) ≡ Some code)
-            × (held self.new ≡ held self.old)) }
+            × Untouched self.old self.new) }
     {
         match send(&mut self.handles, &mut self.slots, id) {
             Err(code) => Err(code),
@@ -109,7 +109,7 @@ impl<P: Copy> Memory<P> {
         ensures does { IfOk result (λ _. By moved_by (λ u. IsShut (held self.new).room
             (timed_of (held self.old).image) (timed_of (held self.new).image) id u) self.new.step_record.change) }
         ensures err { IfErr result (λ code. (refusal close_refusal (found handle_in (held self.old).image.arena id) ≡ Some code)
-            × (held self.new ≡ held self.old)) }
+            × Untouched self.old self.new) }
     {
         match handle_at(&self.slots, id) {
             Err(code) => Err(code),

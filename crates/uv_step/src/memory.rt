@@ -1,5 +1,7 @@
 //! The memory of a loop.
 ghost use Rattle.std.specs.Prelude.{◌≡◌, ◌<◌, ◌≤◌, IfOk, OnOk, OnErr};
+ghost use Rattle.uv_arena.specs.Image.{IsSound};
+ghost use Rattle.uv_heap.specs.Array.{IsHeap, SlotsDiffer};
 ghost use Rattle.uv_step.specs.Image.{held, fresh};
 ghost use Rattle.uv_step.specs.Fit.{IsFit};
 ghost use Rattle.uv_step.specs.Does.{changed};
@@ -78,6 +80,7 @@ impl<P: Copy> Memory<P> {
     /// Makes room on the heap for the timer of a slot. No other call takes memory.
     pub fn reserve(&mut self, slot: u32) -> Result<(), AllocError>
         ensures image { (held self.new).image ≡ (held self.old).image }
+        ensures same { self.new.step_record ≡ self.old.step_record }
         ensures ok { OnOk result (slot < (held self.new).room) }
         ensures kept { (held self.old).room ≤ (held self.new).room }
         ensures wanted { OnErr result ((held self.old).room ≤ slot) }
@@ -86,6 +89,16 @@ impl<P: Copy> Memory<P> {
             Ok(()) => Ok(()),
             Err(_) => Err(AllocError),
         }
+    }
+
+    /// What always holds of the arena and of the heap. It costs nothing when it runs.
+    pub fn is_sound(&self)
+        ensures arena { IsSound (held self.now).image.arena }
+        ensures heap { IsHeap (held self.now).image.heap }
+        ensures places { SlotsDiffer (held self.now).image.heap }
+    {
+        self.slots.is_sound();
+        self.heap.is_sound();
     }
 
     /// The record of a change, where no name was touched.

@@ -10,7 +10,7 @@ ghost use Rattle.uv_requests.specs.Calls.{IsQueued, IsTaken, IsFinished, IsCance
 ghost use Rattle.uv_step.specs.declared.content.Content.TheVariants.{Request as asked};
 ghost use Rattle.uv_step.specs.declared.record.Change.TheVariants.{Queued as queued, Taken as taken, Finished as finished, Cancelled as cancelled, Begun as begun, Polled as polled};
 ghost use Rattle.uv_step.specs.Content.{request_in};
-ghost use Rattle.uv_step.specs.Image.{held, working_of};
+ghost use Rattle.uv_step.specs.Image.{held, Untouched, working_of};
 ghost use Rattle.uv_step.specs.Fit.{IsFit};
 ghost use Rattle.uv_step.specs.Undo.{Recorded};
 ghost use Rattle.uv_step.specs.Does.{By, ended_by};
@@ -29,7 +29,7 @@ impl<P: Copy> Memory<P> {
         ensures recorded { IfOk result (λ _. Recorded self.new.step_record (held self.old) (held self.new)) }
         ensures does { IfOk result (λ id. By queued (λ u. IsQueued request_in asked
             (working_of (held self.old).image) (working_of (held self.new).image) request id u) self.new.step_record.change) }
-        ensures full { IfErr result (λ _. (next_free (plain_slots (held self.old).image.arena) ≡ None) × (held self.new ≡ held self.old)) }
+        ensures full { IfErr result (λ _. (next_free (plain_slots (held self.old).image.arena) ≡ None) × Untouched self.old self.new) }
     {
         self.slots.is_sound();
         match self.requests.queue(&mut self.slots, request) {
@@ -47,7 +47,7 @@ impl<P: Copy> Memory<P> {
         ensures recorded { IfOk result (λ _. Recorded self.new.step_record (held self.old) (held self.new)) }
         ensures does { IfOk result (λ id. By taken (λ u. IsTaken request_in
             (working_of (held self.old).image) (working_of (held self.new).image) worker id u) self.new.step_record.change) }
-        ensures err { IfErr result (λ why. RefusesTake request_in (working_of (held self.old).image) worker why × (held self.new ≡ held self.old)) }
+        ensures err { IfErr result (λ why. RefusesTake request_in (working_of (held self.old).image) worker why × Untouched self.old self.new) }
     {
         match self.requests.take(&mut self.slots, worker) {
             Err(why) => Err(why),
@@ -65,7 +65,7 @@ impl<P: Copy> Memory<P> {
         ensures does { IfOk result (λ id. By finished (λ u. IsFinished request_in asked
             (working_of (held self.old).image) (working_of (held self.new).image) worker id work.job work.digest u) self.new.step_record.change) }
         ensures err { IfErr result (λ why. RefusesFinish request_in (working_of (held self.old).image) worker work.job why
-            × (held self.new ≡ held self.old)) }
+            × Untouched self.old self.new) }
     {
         match self.requests.finish(&mut self.slots, worker, work) {
             Err(why) => Err(why),
@@ -83,7 +83,7 @@ impl<P: Copy> Memory<P> {
         ensures does { IfOk result (λ _. By cancelled (λ u. IsCancelled request_in asked
             (working_of (held self.old).image) (working_of (held self.new).image) id u) self.new.step_record.change) }
         ensures err { IfErr result (λ code. (cancel_refusal (found request_in (held self.old).image.arena id)
-            (waits (pool_of request_in (working_of (held self.old).image)).waiting id) ≡ Some code) × (held self.new ≡ held self.old)) }
+            (waits (pool_of request_in (working_of (held self.old).image)).waiting id) ≡ Some code) × Untouched self.old self.new) }
     {
         match self.requests.cancel(&mut self.slots, id) {
             Err(code) => Err(code),
@@ -128,7 +128,7 @@ impl<P: Copy> Memory<P> {
         ensures recorded { IfSome result (λ _. Recorded self.new.step_record (held self.old) (held self.new)) }
         ensures does { IfSome result (λ r. By ended_by (λ u. IsCollected request_in
             (working_of (held self.old).image) (working_of (held self.new).image) r.0 r.1 u) self.new.step_record.change) }
-        ensures none { IfNone result ((members (held self.old).image.arena DoneYet ≡ []) × (held self.new ≡ held self.old)) }
+        ensures none { IfNone result ((members (held self.old).image.arena DoneYet ≡ []) × Untouched self.old self.new) }
     {
         match self.requests.collect(&mut self.slots) {
             None => None,

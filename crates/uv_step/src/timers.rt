@@ -8,7 +8,7 @@ ghost use Rattle.uv_timer.specs.Timers.{Refused, IsStarted, IsStopped, IsStarted
 ghost use Rattle.uv_step.specs.declared.content.Content.TheVariants.{Handle as handle};
 ghost use Rattle.uv_step.specs.declared.record.Change.TheVariants.{Timer as timer};
 ghost use Rattle.uv_step.specs.Content.{handle_in};
-ghost use Rattle.uv_step.specs.Image.{held, timed_of};
+ghost use Rattle.uv_step.specs.Image.{held, Untouched, timed_of};
 ghost use Rattle.uv_step.specs.Fit.{IsFit};
 ghost use Rattle.uv_step.specs.Undo.{Recorded};
 ghost use Rattle.uv_step.specs.Does.{By, moved_by};
@@ -27,7 +27,7 @@ impl<P: Copy> Memory<P> {
         ensures does { IfOk result (λ _. By timer (λ u. IsStarted handle_in handle (held self.new).room
             (timed_of (held self.old).image) (timed_of (held self.new).image) id timeout repeat u) self.new.step_record.change) }
         ensures err { IfErr result (λ code. Refused handle_in start_timer_refusal
-            (timed_of (held self.old).image) (timed_of (held self.new).image) id code × (held self.new ≡ held self.old)) }
+            (timed_of (held self.old).image) (timed_of (held self.new).image) id code × Untouched self.old self.new) }
     {
         match uv_timer::start(
             &mut self.handles,
@@ -53,7 +53,7 @@ impl<P: Copy> Memory<P> {
         ensures does { IfOk result (λ _. By timer (λ u. IsStopped handle_in handle (held self.new).room
             (timed_of (held self.old).image) (timed_of (held self.new).image) id u) self.new.step_record.change) }
         ensures err { IfErr result (λ code. Refused handle_in stop_refusal
-            (timed_of (held self.old).image) (timed_of (held self.new).image) id code × (held self.new ≡ held self.old)) }
+            (timed_of (held self.old).image) (timed_of (held self.new).image) id code × Untouched self.old self.new) }
     {
         match uv_timer::stop(
             &mut self.handles,
@@ -79,7 +79,7 @@ impl<P: Copy> Memory<P> {
         ensures does { IfOk result (λ _. By timer (λ u. IsStartedAgain handle_in handle (held self.new).room
             (timed_of (held self.old).image) (timed_of (held self.new).image) id u) self.new.step_record.change) }
         ensures err { IfErr result (λ code. Refused handle_in again_refusal
-            (timed_of (held self.old).image) (timed_of (held self.new).image) id code × (held self.new ≡ held self.old)) }
+            (timed_of (held self.old).image) (timed_of (held self.new).image) id code × Untouched self.old self.new) }
     {
         match uv_timer::again(
             &mut self.handles,
@@ -103,7 +103,7 @@ impl<P: Copy> Memory<P> {
         ensures does { IfSome result (λ id. By moved_by (λ u. IsCollected handle_in handle (held self.new).room
             (timed_of (held self.old).image) (timed_of (held self.new).image) id u) self.new.step_record.change) }
         ensures none { IfNone result (NoneIsDue handle_in (held self.old).image.arena (held self.old).image.heap (held self.old).image.times.time
-            × (held self.new ≡ held self.old)) }
+            × Untouched self.old self.new) }
     {
         match uv_timer::collect_one(
             &mut self.handles,
@@ -128,7 +128,7 @@ impl<P: Copy> Memory<P> {
         ensures recorded { IfSome result (λ _. Recorded self.new.step_record (held self.old) (held self.new)) }
         ensures does { IfSome result (λ id. By timer (λ u. IsFired handle_in handle (held self.new).room
             (timed_of (held self.old).image) (timed_of (held self.new).image) id u) self.new.step_record.change) }
-        ensures none { IfNone result (NoneIsReady handle_in (held self.old).image.arena × (held self.new ≡ held self.old)) }
+        ensures none { IfNone result (NoneIsReady handle_in (held self.old).image.arena × Untouched self.old self.new) }
     {
         match uv_timer::fire_one(
             &mut self.handles,

@@ -14,7 +14,7 @@ ghost use Rattle.uv_step.specs.declared.content.Content.{Content};
 ghost use Rattle.uv_step.specs.declared.content.Content.TheVariants.{Handle as handle};
 ghost use Rattle.uv_step.specs.declared.record.Change.TheVariants.{Delisted as delisted, Begun as begun, Walked as walked};
 ghost use Rattle.uv_step.specs.Content.{handle_in};
-ghost use Rattle.uv_step.specs.Image.{held, counted_of};
+ghost use Rattle.uv_step.specs.Image.{held, Untouched, counted_of};
 ghost use Rattle.uv_step.specs.Fit.{IsFit};
 ghost use Rattle.uv_step.specs.Undo.{Recorded};
 ghost use Rattle.uv_step.specs.Does.{By, StartsBy, FirstIs, NoHandleFirst, closed_by};
@@ -35,7 +35,7 @@ impl<P: Copy> Memory<P> {
         ensures does { IfOk result (λ _. StartsBy
             (counted_of (held self.old).image) (counted_of (held self.new).image) id self.new.step_record.change) }
         ensures err { IfErr result (λ code. (refusal start_watcher_refusal (found handle_in (held self.old).image.arena id) ≡ Some code)
-            × (held self.new ≡ held self.old)) }
+            × Untouched self.old self.new) }
     {
         match uv_watch::start(&mut self.handles, &mut self.slots, id) {
             Err(code) => Err(code),
@@ -58,7 +58,7 @@ impl<P: Copy> Memory<P> {
         ensures does { IfOk result (λ _. By delisted (λ u. (h : HandleRecord) × (stop_refusal h ≡ None) × IsStopped handle_in handle
             (counted_of (held self.old).image) (counted_of (held self.new).image) id h u) self.new.step_record.change) }
         ensures err { IfErr result (λ code. (refusal stop_refusal (found handle_in (held self.old).image.arena id) ≡ Some code)
-            × (held self.new ≡ held self.old)) }
+            × Untouched self.old self.new) }
     {
         match uv_watch::stop(&mut self.handles, &mut self.slots, id) {
             Err(code) => Err(code),
@@ -87,10 +87,9 @@ impl<P: Copy> Memory<P> {
         ensures recorded { IfSome result (λ _. Recorded self.new.step_record (held self.old) (held self.new)) }
         ensures does { IfSome result (λ r. By walked (λ u. IsMovedOn handle_in handle
             (counted_of (held self.old).image) (counted_of (held self.new).image) kind r.0 r.1 u) self.new.step_record.change) }
-        ensures none { IfNone result (NoHandleFirst (held self.old).image.arena (yet_of kind) × (held self.new ≡ held self.old)) }
+        ensures none { IfNone result (NoHandleFirst (held self.old).image.arena (yet_of kind) × Untouched self.old self.new) }
     {
-        let (first, _) = self.first_handle(kind.yet())?;
-        let _ = first;
+        self.first_handle(kind.yet())?;
         match uv_watch::take(&mut self.handles, &mut self.slots, kind) {
             None => None,
             Some((id, pending, undo)) => {
@@ -119,10 +118,9 @@ impl<P: Copy> Memory<P> {
         ensures recorded { IfSome result (λ _. Recorded self.new.step_record (held self.old) (held self.new)) }
         ensures does { IfSome result (λ id. By closed_by (λ u. (v : Content) × IsTaken handle_in handle
             (counted_of (held self.old).image) (counted_of (held self.new).image) id v u) self.new.step_record.change) }
-        ensures none { IfNone result (NoHandleFirst (held self.old).image.arena ClosingYet × (held self.new ≡ held self.old)) }
+        ensures none { IfNone result (NoHandleFirst (held self.old).image.arena ClosingYet × Untouched self.old self.new) }
     {
-        let (first, _) = self.first_handle(ListName::ClosingYet)?;
-        let _ = first;
+        self.first_handle(ListName::ClosingYet)?;
         match self.handles.take_closing(&mut self.slots) {
             None => None,
             Some((id, _, undo)) => {

@@ -13,7 +13,7 @@ use uv_ids::Due;
 pub(crate) fn unhook(heap: &mut TimerHeap, slot: u32) -> Option<RemoveUndo>
     ensures { IsUnhooked slot heap.old heap.new result }
 {
-    let _ = heap.entries();
+    heap.is_sound();
     let place = heap.place_of(slot)?;
     Some(heap.remove_at(place))
 }

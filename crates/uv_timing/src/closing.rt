@@ -26,8 +26,7 @@ pub fn close_handle(memory: &mut Memory<Place>, id: Id, handle: HandleRecord)
     match memory.close(id) {
         Err(_) => unreachable!(),
         Ok(()) => {
-            memory.slots.is_sound();
-            let _ = memory.heap.entries();
+            memory.is_sound();
         }
     }
 }

@@ -21,8 +21,7 @@ pub fn collect_timer(memory: &mut Memory<Place>) -> Option<Id>
     match memory.collect_timer() {
         None => None,
         Some(id) => {
-            memory.slots.is_sound();
-            let _ = memory.heap.entries();
+            memory.is_sound();
             Some(id)
         }
     }
@@ -43,8 +42,7 @@ pub fn fire_timer(memory: &mut Memory<Place>) -> Option<(Id, Var)>
         Some(id) => match handle_at(&memory.slots, id) {
             Err(_) => unreachable!(),
             Ok(handle) => {
-                memory.slots.is_sound();
-                let _ = memory.heap.entries();
+                memory.is_sound();
                 Some((id, handle.name))
             }
         },

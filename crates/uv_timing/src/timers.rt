@@ -27,8 +27,7 @@ pub fn stop_timer(memory: &mut Memory<Place>, id: Id, handle: HandleRecord)
     match memory.stop_timer(id) {
         Err(_) => unreachable!(),
         Ok(()) => {
-            memory.slots.is_sound();
-            let _ = memory.heap.entries();
+            memory.is_sound();
         }
     }
 }
@@ -51,8 +50,7 @@ pub fn start_timer(
     match memory.start_timer(id, timeout, repeat) {
         Err(_) => unreachable!(),
         Ok(()) => {
-            memory.slots.is_sound();
-            let _ = memory.heap.entries();
+            memory.is_sound();
         }
     }
 }
@@ -69,8 +67,7 @@ pub fn start_again(memory: &mut Memory<Place>, id: Id, handle: HandleRecord)
     match memory.again(id) {
         Err(_) => unreachable!(),
         Ok(()) => {
-            memory.slots.is_sound();
-            let _ = memory.heap.entries();
+            memory.is_sound();
         }
     }
 }

@@ -13,13 +13,13 @@ returns-in-None-clause-performs c =
 
 pub returns-in-Err-clause-cancels : goal.returns-in-Err-clause-cancels
 returns-in-Err-clause-cancels c =
-    cancel_refused (image_of c.args.memory.now) (image_of c.cancel.new.self) c.args.name (ap (λ h. h.image) c.in-Err.ensures.err.1) c.in-Some.id
+    cancel_refused (image_of c.args.memory.now) (image_of c.cancel.new.self) c.args.name (ap (λ h. h.image) c.in-Err.ensures.err.1.0) c.in-Some.id
     c.in-Err.code c.in-Some.ensures c.in-Err.ensures.err.0
 
 pub returns-in-Err-clause-performs : goal.returns-in-Err-clause-performs
 returns-in-Err-clause-performs c =
     cancel_performs c.args.name (image_of c.args.memory.now) (image_of c.cancel.new.self) _
-    (cancel_refused (image_of c.args.memory.now) (image_of c.cancel.new.self) c.args.name (ap (λ h. h.image) c.in-Err.ensures.err.1) c.in-Some.id
+    (cancel_refused (image_of c.args.memory.now) (image_of c.cancel.new.self) c.args.name (ap (λ h. h.image) c.in-Err.ensures.err.1.0) c.in-Some.id
     c.in-Err.code c.in-Some.ensures c.in-Err.ensures.err.0)
 
 pub returns-in-Ok-clause-cancels : goal.returns-in-Ok-clause-cancels

@@ -14,7 +14,7 @@ returns-in-Err-clause-performs c =
 pub returns-in-Err-set_repeat-clause-performs : goal.returns-in-Err-set_repeat-clause-performs
 returns-in-Err-set_repeat-clause-performs c =
     let refused = c.in-Err-set_repeat.ensures.err in
-    refused_on (image_of c.args.memory.now) (image_of c.set_repeat.new.self) c.args.name (ap (λ h. h.image) refused.1) timer_refusal
+    refused_on (image_of c.args.memory.now) (image_of c.set_repeat.new.self) c.args.name (ap (λ h. h.image) refused.1.0) timer_refusal
     (λ s. set_repeat s c.args.repeat) _ _ _ c.in-Ok.ensures.is c.in-Ok.ensures.found refused.0
 
 pub returns-in-Ok-set_repeat-clause-performs : goal.returns-in-Ok-set_repeat-clause-performs

@@ -8,7 +8,7 @@ use Rattle.uv_ops.proofs.making.init.Goals as goal
 pub returns-in-Err-clause-performs : goal.returns-in-Err-clause-performs
 returns-in-Err-clause-performs c =
     make_full (image_of c.args.memory.now) c.args.name (λ s. with_new s c.args.name c.args.kind) c.if-is_live.ensures (image_of c.init.new.self)
-    (ap (λ h. h.image) c.in-Err.ensures.full.1) c.in-Err.ensures.full.0
+    (ap (λ h. h.image) c.in-Err.ensures.full.1.0) c.in-Err.ensures.full.0
 
 pub returns-in-Ok-clause-performs : goal.returns-in-Ok-clause-performs
 returns-in-Ok-clause-performs c =

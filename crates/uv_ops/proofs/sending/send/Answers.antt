@@ -6,14 +6,14 @@ use Rattle.uv_ops.proofs.sending.send.Goals as goal
 pub returns-in-Err-send-clause-sends : goal.returns-in-Err-send-clause-sends
 returns-in-Err-send-clause-sends c =
     let refused = c.in-Err-send.ensures.err in
-    send_refused (image_of c.args.memory.now) (image_of c.send.new.self) c.args.name (ap (λ h. h.image) refused.1) _ _ _
+    send_refused (image_of c.args.memory.now) (image_of c.send.new.self) c.args.name (ap (λ h. h.image) refused.1.0) _ _ _
     c.in-Ok.ensures.is c.in-Ok.ensures.found refused.0
 
 pub returns-in-Err-send-clause-performs : goal.returns-in-Err-send-clause-performs
 returns-in-Err-send-clause-performs c =
     let refused = c.in-Err-send.ensures.err in
     send_performs c.args.name (image_of c.args.memory.now) (image_of c.send.new.self) _
-    (send_refused (image_of c.args.memory.now) (image_of c.send.new.self) c.args.name (ap (λ h. h.image) refused.1) _ _ _
+    (send_refused (image_of c.args.memory.now) (image_of c.send.new.self) c.args.name (ap (λ h. h.image) refused.1.0) _ _ _
     c.in-Ok.ensures.is c.in-Ok.ensures.found refused.0)
 
 pub returns-in-Ok-send-clause-sends : goal.returns-in-Ok-send-clause-sends

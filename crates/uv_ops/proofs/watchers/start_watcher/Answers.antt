@@ -14,7 +14,7 @@ returns-in-Err-clause-performs c =
 pub returns-in-Err-start_watcher-clause-performs : goal.returns-in-Err-start_watcher-clause-performs
 returns-in-Err-start_watcher-clause-performs c =
     let refused = c.in-Err-start_watcher.ensures.err in
-    refused_on (image_of c.args.memory.now) (image_of c.start_watcher.new.self) c.args.name (ap (λ h. h.image) refused.1) start_watcher_refusal
+    refused_on (image_of c.args.memory.now) (image_of c.start_watcher.new.self) c.args.name (ap (λ h. h.image) refused.1.0) start_watcher_refusal
     start_watcher _ _ _ c.in-Ok.ensures.is c.in-Ok.ensures.found refused.0
 
 pub returns-in-Ok-start_watcher-clause-performs : goal.returns-in-Ok-start_watcher-clause-performs

@@ -22,7 +22,7 @@ returns c =
     record {
       absent = subst (λ x. place_in c.remove_at.new.self.array x ≡ None) slot c.remove_at.ensures.can_undo.put_back.slot_absent;
       timers = λ ts h. order_one c.args.slot c.args.heap.now.array c.remove_at.new.self.array ts c.in_ok-place.place c.remove_at.result.entry
-          c.entries.ensures.slots
+          c.is_sound.ensures.slots
           c.in_ok-place.ensures.within (sym c.remove_at.ensures.entry) slot h (c.remove_at.ensures.order ts h);
       room = c.remove_at.ensures.room;
       undone = c.remove_at.ensures.undone;

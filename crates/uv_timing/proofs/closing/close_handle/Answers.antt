@@ -8,7 +8,7 @@ returns-clause-does c =
     c.requires.found c.requires.allowed c.in-Ok.ensures.does.does c.in-Ok.ensures.recorded c.in-Ok.ensures.does.is
     (record {
       fit = c.in-Ok.ensures.recorded.fit;
-      sound = c.is_sound.ensures;
-      heap = c.entries.ensures.heap;
-      places = c.entries.ensures.slots;
+      sound = c.is_sound.ensures.arena;
+      heap = c.is_sound.ensures.heap;
+      places = c.is_sound.ensures.places;
     })

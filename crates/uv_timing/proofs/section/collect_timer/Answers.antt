@@ -11,7 +11,7 @@ returns-in-Some-clause-collects c =
     c.in-Some.ensures.does.does c.in-Some.ensures.recorded c.in-Some.ensures.does.is
     (record {
       fit = c.in-Some.ensures.recorded.fit;
-      sound = c.is_sound.ensures;
-      heap = c.entries.ensures.heap;
-      places = c.entries.ensures.slots;
+      sound = c.is_sound.ensures.arena;
+      heap = c.is_sound.ensures.heap;
+      places = c.is_sound.ensures.places;
     })

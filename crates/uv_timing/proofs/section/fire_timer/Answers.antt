@@ -11,8 +11,8 @@ returns-in-Ok-clause-fires c =
     c.in-Some.ensures.recorded c.in-Some.ensures.does.is
     (record {
       fit = c.in-Some.ensures.recorded.fit;
-      sound = c.is_sound-in-Ok.ensures;
-      heap = c.entries.ensures.heap;
-      places = c.entries.ensures.slots;
+      sound = c.is_sound-in-Ok.ensures.arena;
+      heap = c.is_sound-in-Ok.ensures.heap;
+      places = c.is_sound-in-Ok.ensures.places;
     })
     c.in-Ok.handle c.in-Ok.ensures.ok.0

@@ -8,8 +8,8 @@ returns-clause-does c =
     c.requires.found c.in-Ok.ensures.recorded c.in-Ok.ensures.does.is
     (record {
       fit = c.in-Ok.ensures.recorded.fit;
-      sound = c.is_sound-in-Ok.ensures;
-      heap = c.entries.ensures.heap;
-      places = c.entries.ensures.slots;
+      sound = c.is_sound-in-Ok.ensures.arena;
+      heap = c.is_sound-in-Ok.ensures.heap;
+      places = c.is_sound-in-Ok.ensures.places;
     })
     c.requires.allowed c.in-Ok.ensures.does.does
