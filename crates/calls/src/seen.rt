@@ -24,7 +24,7 @@ pub const LISTS: [ListName; 14] = [
 ];
 
 /// What is held at a place.
-#[derive(Clone, Copy, PartialEq)]
+#[derive(Drop, PartialEq)]
 pub enum Seen<T, O> {
     /// A slot and its links.
     Slot(Slot<T>, Links),

@@ -16,12 +16,13 @@ use uv_model::Place;
 use uv_script::Op;
 use uv_step::Memory;
 
-/// Does an op: its answer.
+/// Does an op: its answer. One that changes nothing leaves the record of a step that does so.
 pub fn perform(memory: &mut Memory<Place>, op: Op) -> Answer
     requires { IsReady (held memory.old) }
     ensures returns { Returns memory.new.step_record (held memory.old) (held memory.new) }
     ensures performs { Performs op (held memory.old).image (held memory.new).image result }
 {
+    memory.step_record = memory.pass();
     match op {
         Op::Init(name, kind) => init(memory, name, kind),
         Op::Queue(name, task) => queue(memory, name, task),
@@ -31,46 +32,19 @@ pub fn perform(memory: &mut Memory<Place>, op: Op) -> Answer
         Op::Stop(name) => stop(memory, name),
         Op::Again(name) => again(memory, name),
         Op::SetRepeat(name, repeat) => set_repeat(memory, name, repeat),
-        Op::DueIn(name) => {
-            memory.step_record = memory.pass();
-            due_in(memory, name)
-        }
+        Op::DueIn(name) => due_in(memory, name),
         Op::Close(name) => close(memory, name),
         Op::Ref(name) => set_ref(memory, name, true),
         Op::Unref(name) => set_ref(memory, name, false),
-        Op::HasRef(name) => {
-            memory.step_record = memory.pass();
-            has_ref(memory, name)
-        }
-        Op::IsActive(name) => {
-            memory.step_record = memory.pass();
-            is_active(memory, name)
-        }
-        Op::IsClosing(name) => {
-            memory.step_record = memory.pass();
-            is_closing(memory, name)
-        }
-        Op::Send(name) => {
-            let code = send(memory, name);
-            Answer::Code(code)
-        }
+        Op::HasRef(name) => has_ref(memory, name),
+        Op::IsActive(name) => is_active(memory, name),
+        Op::IsClosing(name) => is_closing(memory, name),
+        Op::Send(name) => Answer::Code(send(memory, name)),
         Op::StopLoop => stop_loop(memory),
         Op::UpdateTime => update_time(memory),
-        Op::Now => {
-            memory.step_record = memory.pass();
-            now(memory)
-        }
-        Op::IsAlive => {
-            memory.step_record = memory.pass();
-            is_alive(memory)
-        }
-        Op::Timeout => {
-            memory.step_record = memory.pass();
-            timeout(memory)
-        }
-        Op::CloseLoop => {
-            memory.step_record = memory.pass();
-            close_loop(memory)
-        }
+        Op::Now => now(memory),
+        Op::IsAlive => is_alive(memory),
+        Op::Timeout => timeout(memory),
+        Op::CloseLoop => close_loop(memory),
     }
 }
