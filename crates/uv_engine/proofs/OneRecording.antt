@@ -7,9 +7,8 @@ use Rattle.uv_ids.specs.declared.event.Event.{Event}
 use Rattle.uv_script.specs.Program.{Program}
 use Rattle.uv_script.specs.Lines.{fields_of}
 use Rattle.uv_script.specs.Reading as reading
-use Rattle.uv_script.specs.Text.{said_whole}
 use Rattle.uv_script.specs.Grammar as script
-use Rattle.uv_script.specs.Grammar.{blank, IsScript}
+use Rattle.uv_script.specs.Grammar.{Draft, unread, IsScript}
 use Rattle.uv_script.proofs.Agrees.{AreDistinct}
 use Rattle.uv_script.proofs.AfterLines.{after_complete, distinct_reads, distinct_none}
 use Rattle.uv_model.specs.Next.{Refuses, next}
@@ -21,13 +20,12 @@ use Rattle.uv_text.specs.Commands as is
 use Rattle.uv_text.specs.Commands.{IsCommand, command}
 use Rattle.uv_text.specs.Recorded.{SaysStep, loop, outside, IsCallbackLine, call, after as after_callback, closed, step_asked}
 use Rattle.uv_text.specs.Recording.{callback_lines, recording_text}
-use Rattle.uv_text.proofs.Alike.{callbacks_alike}
 use Rattle.uv_text.proofs.Commands.{asks_one}
 use Rattle.uv_engine.specs.declared.verdict.Verdict.{Verdict}
 use Rattle.uv_engine.specs.declared.verdict.Verdict.TheVariants.{Same}
 use Rattle.uv_engine.specs.Recordings.{Part, Start, InScript, InSteps, InCalls, Whole, Reads, version, in_script, begins, step, calls, callback, ends, ReadsAll, none, one}
 use Rattle.uv_engine.specs.Verdict.{IsHalt, refused, full, AreApart, AllTaken, IsVerdict, halts, same, differs, HasVerdict}
-use Rattle.uv_engine.proofs.Remade.{is_made, made_read, taken_alike}
+use Rattle.uv_engine.proofs.Remade.{is_made, made_read}
 
 -- ---- which lines are no step and no callback
 
@@ -43,9 +41,9 @@ end_no_callback (call text l e) = let long = ap length e in absurd (omega (arith
 end_no_callback (after_callback text l e) = let long = ap length e in absurd (omega (arith, long))
 end_no_callback (closed text l e) = let long = ap length e in absurd (omega (arith, long))
 
-begin_no_statement : (p q : Program) → AreDistinct p.names → script.Reads p (codes "begin") q → ⊥
+begin_no_statement : (d e : Draft) → AreDistinct d.program.names → script.Reads d (codes "begin") e → ⊥
 unfolding reading.after_line reading.statement_of reading.setting_of
-begin_no_statement p q distinct h = none-some q (after_complete p q (codes "begin") distinct h)
+begin_no_statement d e distinct h = none-some e (after_complete d e (codes "begin") distinct h)
 
 -- where no name is declared twice, a line says one step at most
 one_step : (names : List (List ℕ)) (line : List ℕ) (e f : Event) → AreDistinct names → SaysStep names line e → SaysStep names line f → e ≡ f
@@ -62,23 +60,25 @@ one_step names line e f distinct (outside _ l h) (outside _ m k) =
 
 abbrev IsDistinct : Part → Type 0
 IsDistinct Start = Unit {0}
-IsDistinct (InScript p) = AreDistinct p.names
+IsDistinct (InScript d) = AreDistinct d.program.names
 IsDistinct (InSteps p es) = AreDistinct p.names
 IsDistinct (InCalls p es called) = Unit {0}
 IsDistinct (Whole p es called) = Unit {0}
 
-from_start : (line : List ℕ) (z : Part) → Reads Start line z → z ≡ InScript blank
+from_start : (line : List ℕ) (z : Part) → Reads Start line z → z ≡ InScript unread
 from_start _ _ version = refl
 
-from_script : (p q : Program) (line : List ℕ) (z : Part) → AreDistinct p.names → script.Reads p line q → Reads (InScript p) line z → z ≡ InScript q
-from_script p q line _ distinct h (in_script {q = r} k) =
-    ap InScript (same_Some r q (sym (after_complete p r line distinct k) ∙ after_complete p q line distinct h))
-from_script p q _ _ distinct h begins = absurd (begin_no_statement p q distinct h)
+from_script : (d e : Draft) (line : List ℕ) (z : Part) → AreDistinct d.program.names → script.Reads d line e → Reads (InScript d) line z →
+    z ≡ InScript e
+from_script d e line _ distinct h (in_script {e = f} says k) =
+    ap InScript (same_Some f e (sym (after_complete d f line distinct k) ∙ after_complete d e line distinct h))
+from_script d e _ _ distinct h begins = absurd (begin_no_statement d e distinct h)
 
-at_begin : (p : Program) (line : List ℕ) (z : Part) → AreDistinct p.names → line ≡ codes "begin" → Reads (InScript p) line z → z ≡ InSteps p []
-at_begin p line _ distinct e (in_script {q = q} h) =
-    absurd (begin_no_statement p q distinct (subst (λ (l : List ℕ). script.Reads p l q) e h))
-at_begin p _ _ distinct e begins = refl
+at_begin : (d : Draft) (line : List ℕ) (z : Part) → AreDistinct d.program.names → line ≡ codes "begin" → Reads (InScript d) line z →
+    z ≡ InSteps d.program []
+at_begin d line _ distinct is_begin (in_script {e = e} says h) =
+    absurd (begin_no_statement d e distinct (subst (λ (l : List ℕ). script.Reads d l e) is_begin h))
+at_begin d _ _ distinct is_begin begins = refl
 
 from_steps : (p : Program) (es : List Event) (e : Event) (line : List ℕ) (z : Part) → AreDistinct p.names → SaysStep p.names line e →
     Reads (InSteps p es) line z → z ≡ InSteps p (es ++ e ∷ [])
@@ -101,8 +101,8 @@ at_end p es called _ _ is_end ends = refl
 
 one_part : (x y z : Part) (line : List ℕ) → IsDistinct x → Reads x line y → Reads x line z → z ≡ y
 one_part _ _ z line distinct version k = from_start (codes "uvt 1") z k
-one_part _ _ z line distinct (in_script {p = p} {q = q} h) k = from_script p q line z distinct h k
-one_part _ _ z line distinct (begins {p = p}) k = at_begin p (codes "begin") z distinct refl k
+one_part _ _ z line distinct (in_script {d = d} {e = e} says h) k = from_script d e line z distinct h k
+one_part _ _ z line distinct (begins {d = d}) k = at_begin d (codes "begin") z distinct refl k
 one_part _ _ z line distinct (step {p = p} {es = es} {e = e} h) k = from_steps p es e line z distinct h k
 one_part _ _ z line distinct (calls {p = p} {es = es}) k = at_calls p es (codes "calls") z refl k
 one_part _ _ z line distinct (callback {p = p} {es = es} {called = called} h) k = from_calls p es called line z h k
@@ -110,7 +110,7 @@ one_part _ _ z line distinct (ends {p = p} {es = es} {called = called}) k = at_e
 
 distinct_part : (x y : Part) (line : List ℕ) → IsDistinct x → Reads x line y → IsDistinct y
 distinct_part _ _ line distinct version = distinct_none
-distinct_part _ _ line distinct (in_script {p = p} {q = q} h) = distinct_reads p q line distinct h
+distinct_part _ _ line distinct (in_script {d = d} {e = e} says h) = distinct_reads d e line distinct h
 distinct_part _ _ line distinct begins = distinct
 distinct_part _ _ line distinct (step h) = distinct
 distinct_part _ _ line distinct calls = tt
@@ -159,7 +159,6 @@ Judged v x = Unit {0}
 pub says_only_same : (text : List ℕ) (p : Program) (es : List Event) → IsScript text p → AllTaken p es → (v : Verdict) →
     HasVerdict (recording_text p es) v → v ≡ Same
 says_only_same text p es is taken v h =
-    let q = said_whole p in
     let called = callback_lines p es in
-    let whole = all_one Start (Whole h.program h.steps h.called) (Whole q es called) _ tt h.recording (made_read p es (is_made text p es is taken)) in
-    only_same q es called v (taken_alike p es taken) (callbacks_alike p es) (subst (Judged v) whole h.verdict)
+    let whole = all_one Start (Whole h.program h.steps h.called) (Whole p es called) _ tt h.recording (made_read p es (is_made text p es is taken)) in
+    only_same p es called v taken refl (subst (Judged v) whole h.verdict)

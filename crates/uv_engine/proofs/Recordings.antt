@@ -1,15 +1,17 @@
 -- The lines of a recording, one after another.
-use Rattle.std.proofs.Common.{◌≡◌, ◌≢◌, ℕ, ◌+◌, ◌≤◌, List, [], ◌∷◌, ◌++◌, Bool, true, false, length, Err, refl, ap, sym, subst, ◌∙◌, arith, append_assoc, append-nil, length-append, codes}
+use Rattle.std.proofs.Common.{◌≡◌, ◌≢◌, inl, inr, ℕ, ◌+◌, ◌<◌, ◌≤◌, ◌==◌, List, [], ◌∷◌, ◌++◌, Bool, true, false, length, map, get_or, Option, Some, None, Ok, Err, refl, ap, sym, subst, ◌∙◌, arith, append_assoc, append-nil, length-append, codes}
+use Rattle.std.proofs.lemmas.Bool.{both_ways}
+use Rattle.std.proofs.lemmas.List.{map-append, length-map}
 use Rattle.uv_ids.specs.declared.event.Event.{Event}
 use Rattle.uv_ids.specs.declared.fault.Fault.TheVariants as fault
 use Rattle.uv_script.specs.Program.{Program}
-use Rattle.uv_script.specs.Lines.{lines_of}
+use Rattle.uv_script.specs.Lines.{lines_of, IsSkipped, empty, comment}
 use Rattle.uv_script.specs.Grammar as script
-use Rattle.uv_script.specs.Grammar.{blank, IsScript, Parses}
+use Rattle.uv_script.specs.Grammar.{Draft, unread, IsScript, Parses}
 use Rattle.uv_text.specs.Recorded.{SaysStep, IsCallbackLine}
 use Rattle.uv_engine.specs.Input.{TakesLine}
 use Rattle.uv_engine.specs.Out.{Begins, here, here_at_end, later, NeverBegins, nothing, last_line, one_line}
-use Rattle.uv_engine.specs.Start.{IsFront, ParsesFront, after_last, at_line}
+use Rattle.uv_engine.specs.Start.{IsFront, ParsesFront, after_last, at_line, NoneSkipped, IsFirstSkipped, FindsSkipped, IsFirstBad}
 use Rattle.uv_engine.specs.Recordings.{Part, Start, InScript, InSteps, InCalls, Whole, Reads, version, in_script, begins, step, calls, callback, ends, ReadsAll, none, one, IsStuck, IsBadFrom}
 use Rattle.uv_engine.specs.Rerun.{ReadsTo}
 use Rattle.uv_engine.proofs.Talking.{lines_fed, lines_last, lines_next}
@@ -79,9 +81,40 @@ bad_end x a b old n e h = record {
 
 -- ---- the script
 
-pub script_on : (p q : Program) (ls : List (List ℕ)) → script.ReadsAll p ls q → ReadsAll (InScript p) ls (InScript q)
-script_on p q [] script.none = none
-script_on p q (l ∷ ls) (script.one {q = m} h more) = one (in_script h) (script_on m q ls more)
+pub script_on : (d e : Draft) (ls : List (List ℕ)) → NoneSkipped ls → script.ReadsAll d ls e → ReadsAll (InScript d) ls (InScript e)
+script_on d e [] say script.none = none
+script_on d e (l ∷ ls) say (script.one {e = m} h more) = one (in_script say.0 h) (script_on m e ls say.1 more)
+
+-- of two beginnings of a list the longer one begins with the other
+prefix : (xs ys us vs : List (List ℕ)) → xs ++ us ≡ ys ++ vs → length xs ≤ length ys → (more : List (List ℕ)) × (ys ≡ xs ++ more)
+prefix [] ys us vs e less = (ys, refl)
+prefix (x ∷ xs) [] us vs e less = absurd (omega arith)
+prefix (x ∷ xs) (y ∷ ys) us vs e less =
+    let same : x ≡ y = cc in
+    let rest : xs ++ us ≡ ys ++ vs = cc in
+    let k = prefix xs ys us vs rest (omega arith) in
+    (k.0, λ i. sym same i ∷ k.1 i)
+
+none_before : (xs ys : List (List ℕ)) → NoneSkipped (xs ++ ys) → NoneSkipped xs
+none_before [] ys h = tt
+none_before (x ∷ xs) ys h = (h.0, none_before xs ys h.1)
+
+-- a line that begins with another byte isn't skipped
+pub begins_says : (b : ℕ) (line : List ℕ) → (b == 35) ≡ false → IsSkipped (b ∷ line) → ⊥
+begins_says b line other (empty e) = let long = ap length e in absurd (omega (arith, long))
+begins_says b line other (comment text e) = both_ways _ other (ap (λ (n : ℕ). n == 35) (ap (λ (bs : List ℕ). get_or bs 0 35) e))
+
+-- each line before the one of this number says something
+abbrev AllSay : List (List ℕ) → ℕ → Type 0
+AllSay ls number = (before after : List (List ℕ)) → ls ≡ before ++ after → length before < number → NoneSkipped before
+
+say_all : (ls : List (List ℕ)) (number : ℕ) → NoneSkipped ls → AllSay ls number
+say_all ls number h before after e less = none_before before after (subst NoneSkipped e h)
+
+say_up_to : (ls : List (List ℕ)) (skipped number : ℕ) → IsFirstSkipped ls skipped → number < skipped → AllSay ls number
+say_up_to ls skipped number first few before after e less =
+    let k = prefix before first.before after (first.line ∷ first.after) (sym e ∙ first.lines_are) (omega (arith, first.counted)) in
+    none_before before k.0 (subst NoneSkipped k.1 first.others)
 
 -- no line of these is `begin`
 abbrev NoBegin : List (List ℕ) → Type 0
@@ -114,58 +147,161 @@ never_begin _ (last_line {line = []} free other) = tt
 never_begin _ (last_line {line = b ∷ bs} free other) = subst NoBegin (sym (lines_last (b ∷ bs) free (λ e. cc e))) (other, tt)
 never_begin _ (one_line {line = line} {rest = rest} free other h) = subst NoBegin (sym (lines_fed line rest free)) (other, never_begin rest h)
 
-stuck_script : (p : Program) (line : List ℕ) → line ≢ codes "begin" → ((q : Program) → script.Reads p line q → ⊥) → (y : Part) →
-    Reads (InScript p) line y → ⊥
-stuck_script p line other h _ (in_script {q = q} k) = h q k
-stuck_script p line other h _ begins = other refl
+stuck_script : (d : Draft) (line : List ℕ) → line ≢ codes "begin" → ((e : Draft) → script.Reads d line e → ⊥) → (y : Part) →
+    Reads (InScript d) line y → ⊥
+stuck_script d line other h _ (in_script {e = e} says k) = h e k
+stuck_script d line other h _ begins = other refl
 
 -- the script was read, and `begin`
-pub script_read : (input text rest : List ℕ) (p : Program) (a b : ℕ) → Begins input text rest → IsScript text p →
-    b ≡ a + length (lines_of text) + 1 → ReadsTo (InScript blank) a input (InSteps p []) b rest
-script_read input text rest p a b h is n =
+pub script_read : (input text rest : List ℕ) (p : Program) (a b : ℕ) → Begins input text rest → IsScript text p → NoneSkipped (lines_of text) →
+    b ≡ a + length (lines_of text) + 1 → ReadsTo (InScript unread) a input (InSteps p []) b rest
+script_read input text rest p a b h is say n =
     let k = fronts input text rest h in
+    let d : Draft = record { program = p; said = is.said } in
     record {
       before = lines_of text ++ codes "begin" ∷ [];
       lines_are = k.lines_are ∙ sym (append_assoc (lines_of text) (codes "begin" ∷ []) (lines_of rest));
       counted = omega (arith, n, length-append (lines_of text) (codes "begin" ∷ []));
-      read = reads_on (InScript blank) (InScript p) (InSteps p []) (lines_of text) (codes "begin" ∷ []) (script_on blank p (lines_of text) is)
-          (one begins none);
+      read = reads_on (InScript unread) (InScript d) (InSteps p []) (lines_of text) (codes "begin" ∷ [])
+          (script_on unread d (lines_of text) say is.read) (one begins none);
     }
 
 -- a line of it is bad
 script_bad : (input text : List ℕ) (rest : List (List ℕ)) (a n m : ℕ) → lines_of input ≡ lines_of text ++ rest → NoBegin (lines_of text) →
-    script.IsBadLine text n → m ≡ a + n → IsBadFrom (InScript blank) a input m
-script_bad input text rest a n m lines no_begin bad e = record {
+    (bad : script.IsBadLine text n) → AllSay (lines_of text) n → m ≡ a + n → IsBadFrom (InScript unread) a input m
+script_bad input text rest a n m lines no_begin bad say e = record {
   before = bad.before;
   after = bad.line ∷ (bad.after ++ rest);
-  part = InScript bad.script;
+  part = InScript bad.draft;
   lines_are = lines ∙ ap (λ (ls : List (List ℕ)). ls ++ rest) bad.lines_are ∙ append_assoc bad.before (bad.line ∷ bad.after) rest;
   counted = omega (arith, e, bad.counted);
-  read = script_on blank bad.script bad.before bad.read;
-  stuck = stuck_script bad.script bad.line (no_begin_at bad.before bad.after bad.line (subst NoBegin bad.lines_are no_begin)) bad.refused;
+  read = script_on unread bad.draft bad.before (say bad.before (bad.line ∷ bad.after) bad.lines_are (omega (arith, bad.counted))) bad.read;
+  stuck = stuck_script bad.draft bad.line (no_begin_at bad.before bad.after bad.line (subst NoBegin bad.lines_are no_begin)) bad.refused;
 }
 
 -- there is no `begin`
-script_missing : (input text : List ℕ) (p : Program) (a m : ℕ) → input ≡ text → IsScript text p → m ≡ a + (length (lines_of text) + 1) →
-    IsBadFrom (InScript blank) a input m
-script_missing input text p a m e is n = record {
+script_missing : (input text : List ℕ) (p : Program) (a m : ℕ) → input ≡ text → IsScript text p →
+    AllSay (lines_of text) (length (lines_of text) + 1) → m ≡ a + (length (lines_of text) + 1) → IsBadFrom (InScript unread) a input m
+script_missing input text p a m e is say n = record {
   before = lines_of text;
   after = [];
-  part = InScript p;
+  part = InScript (record { program = p; said = is.said });
   lines_are = ap lines_of e ∙ sym (append-nil (lines_of text));
   counted = omega (arith, n);
-  read = script_on blank p (lines_of text) is;
+  read = script_on unread (record { program = p; said = is.said }) (lines_of text)
+      (say (lines_of text) [] (sym (append-nil (lines_of text))) (omega arith)) is.read;
   stuck = tt;
 }
 
-pub front_bad : (input text rest : List ℕ) (begun : Bool) (a n m : ℕ) → IsFront input text begun rest →
-    ParsesFront text begun (Err (fault.Script n)) → m ≡ a + n → IsBadFrom (InScript blank) a input m
-front_bad input text rest true a n m h p e =
-    let k = fronts input text rest h in script_bad input text (codes "begin" ∷ lines_of rest) a n m k.lines_are k.no_begin p e
-front_bad input text rest false a n m h (after_last p is) e = script_missing input text p a m h.1 is e
-front_bad input text rest false a n m h (at_line bad) e =
+front_outside : (input text rest : List ℕ) (begun : Bool) (a n m : ℕ) → IsFront input text begun rest →
+    ParsesFront text begun (Err (fault.Script n)) → AllSay (lines_of text) n → m ≡ a + n → IsBadFrom (InScript unread) a input m
+front_outside input text rest true a n m h p say e =
+    let k = fronts input text rest h in script_bad input text (codes "begin" ∷ lines_of rest) a n m k.lines_are k.no_begin p say e
+front_outside input text rest false a n m h (after_last p is) say e = script_missing input text p a m h.1 is say e
+front_outside input text rest false a n m h (at_line bad) say e =
     script_bad input text [] a n m (ap lines_of h.1 ∙ sym (append-nil (lines_of text)))
-    (subst (λ (xs : List ℕ). NoBegin (lines_of xs)) h.1 (never_begin input h.0)) bad e
+    (subst (λ (xs : List ℕ). NoBegin (lines_of xs)) h.1 (never_begin input h.0)) bad say e
+
+-- a line of it is skipped, and those before it are a script
+stuck_skipped : (d : Draft) (line : List ℕ) → IsSkipped line → (y : Part) → Reads (InScript d) line y → ⊥
+stuck_skipped d line skipped _ (in_script says k) = says skipped
+stuck_skipped d _ skipped _ begins = begins_says _ _ refl skipped
+
+abbrev FrontLines : List ℕ → List ℕ → Type 0
+FrontLines input text = (behind : List (List ℕ)) × (lines_of input ≡ lines_of text ++ behind)
+
+front_lines : (input text rest : List ℕ) (begun : Bool) → IsFront input text begun rest → FrontLines input text
+front_lines input text rest true h = (codes "begin" ∷ lines_of rest, (fronts input text rest h).lines_are)
+front_lines input text rest false h = ([], ap lines_of h.1 ∙ sym (append-nil (lines_of text)))
+
+-- the script of the lines before one
+abbrev ReadsSome : Draft → List (List ℕ) → Type 0
+ReadsSome d ls = (e : Draft) × script.ReadsAll d ls e
+
+reads_some : (d e : Draft) (ls more : List (List ℕ)) → script.ReadsAll d (ls ++ more) e → ReadsSome d ls
+reads_some d e [] more read = (d, script.none)
+reads_some d e (l ∷ ls) more (script.one {e = m} first rest) = let k = reads_some m e ls more rest in (k.0, script.one first k.1)
+
+abbrev Before : List (List ℕ) → Type 0
+Before ls = ReadsSome unread ls
+
+before_skipped : (text : List ℕ) (p : Program) (n : ℕ) (first : IsFirstSkipped (lines_of text) n) → IsScript text p → Before first.before
+before_skipped text p n first is =
+    let d : Draft = record { program = p; said = is.said } in
+    reads_some unread d first.before (first.line ∷ first.after)
+    (subst (λ (ls : List (List ℕ)). script.ReadsAll unread ls d) first.lines_are is.read)
+
+before_bad : (text : List ℕ) (n k : ℕ) (first : IsFirstSkipped (lines_of text) n) → script.IsBadLine text k → n ≤ k → Before first.before
+before_bad text n k first bad less =
+    let longer = prefix first.before bad.before (first.line ∷ first.after) (bad.line ∷ bad.after) (sym first.lines_are ∙ bad.lines_are)
+    (omega (arith, first.counted, bad.counted)) in
+    reads_some unread bad.draft first.before longer.0
+    (subst (λ (ls : List (List ℕ)). script.ReadsAll unread ls bad.draft) longer.1 bad.read)
+
+before_front : (text : List ℕ) (begun : Bool) (n k : ℕ) (first : IsFirstSkipped (lines_of text) n) →
+    ParsesFront text begun (Err (fault.Script k)) → n ≤ k → Before first.before
+before_front text true n k first bad less = before_bad text n k first bad less
+before_front text false n k first (after_last p is) less = before_skipped text p n first is
+before_front text false n k first (at_line bad) less = before_bad text n k first bad less
+
+skipped_bad : (input text : List ℕ) (a n m : ℕ) → FrontLines input text → (first : IsFirstSkipped (lines_of text) n) → Before first.before →
+    m ≡ a + n → IsBadFrom (InScript unread) a input m
+skipped_bad input text a n m front first before e = record {
+  before = first.before;
+  after = first.line ∷ (first.after ++ front.0);
+  part = InScript before.0;
+  lines_are = front.1 ∙ ap (λ (ls : List (List ℕ)). ls ++ front.0) first.lines_are ∙ append_assoc first.before (first.line ∷ first.after) front.0;
+  counted = omega (arith, e, first.counted);
+  read = script_on unread before.0 first.before first.others before.1;
+  stuck = stuck_skipped before.0 first.line first.skipped;
+}
+
+-- it is a script, but a line is skipped
+pub front_skipped : (input text rest : List ℕ) (begun : Bool) (p : Program) (a n m : ℕ) → IsFront input text begun rest →
+    ParsesFront text begun (Ok p) → IsFirstSkipped (lines_of text) n → m ≡ a + n → IsBadFrom (InScript unread) a input m
+front_skipped input text rest true p a n m h is first e =
+    skipped_bad input text a n m (front_lines input text rest true h) first (before_skipped text p n first is) e
+front_skipped input text rest false p a n m h is first e = absurd is
+
+-- the first line that is outside the grammar or skipped
+pub front_bad : (input text rest : List ℕ) (begun : Bool) (skipped : Option ℕ) (a k n m : ℕ) → IsFront input text begun rest →
+    ParsesFront text begun (Err (fault.Script k)) → FindsSkipped (lines_of text) skipped → IsFirstBad k skipped n → m ≡ a + n →
+    IsBadFrom (InScript unread) a input m
+front_bad input text rest begun None a k n m h p say is e =
+    front_outside input text rest begun a k m h p (say_all (lines_of text) k say) (omega (arith, e, is))
+front_bad input text rest begun (Some skipped) a k n m h p first (inl is) e =
+    skipped_bad input text a skipped m (front_lines input text rest begun h) first (before_front text begun skipped k first p is.0)
+    (omega (arith, e, is.1))
+front_bad input text rest begun (Some skipped) a k n m h p first (inr is) e =
+    front_outside input text rest begun a k m h p (say_up_to (lines_of text) skipped k first is.0) (omega (arith, e, is.1))
+
+-- ---- the first line that is skipped, as it is looked for
+
+none_push : (ls : List (List ℕ)) (line : List ℕ) → NoneSkipped ls → (IsSkipped line → ⊥) → NoneSkipped (ls ++ line ∷ [])
+none_push [] line h say = (say, tt)
+none_push (l ∷ ls) line h say = (h.0, none_push ls line h.1 say)
+
+pub none_step : {A : Type 0} (f : A → List ℕ) (before : List A) (x : A) → NoneSkipped (map f before) → (IsSkipped (f x) → ⊥) →
+    NoneSkipped (map f (before ++ x ∷ []))
+none_step f before x h say = subst NoneSkipped (sym (map-append f before (x ∷ []))) (none_push (map f before) (f x) h say)
+
+pub none_left : {A : Type 0} (f : A → List ℕ) (ls : List (List ℕ)) (before : List A) (left : List (List ℕ)) → NoneSkipped (map f before) →
+    map f before ++ left ≡ ls → left ≡ [] → NoneSkipped ls
+none_left f ls before left h whole e =
+    subst NoneSkipped (sym (append-nil (map f before)) ∙ ap (λ (more : List (List ℕ)). map f before ++ more) (sym e) ∙ whole) h
+
+pub skipped_here : {A : Type 0} (f : A → List ℕ) (ls : List (List ℕ)) (number : ℕ) (before : List A) (x : A) (left after : List (List ℕ)) →
+    NoneSkipped (map f before) → map f before ++ left ≡ ls → left ≡ f x ∷ after → number ≡ length before + 1 → IsSkipped (f x) →
+    IsFirstSkipped ls number
+skipped_here f ls number before x left after h whole onto count skipped = record {
+  before = map f before;
+  line = f x;
+  after = after;
+  lines_are = sym whole ∙ ap (λ (more : List (List ℕ)). map f before ++ more) onto;
+  counted = count ∙ ap (λ (n : ℕ). n + 1) (sym (length-map before f));
+  others = h;
+  skipped = skipped;
+}
 
 -- a bad line's number is at most one more than the lines
 pub front_within : (text : List ℕ) (begun : Bool) (n : ℕ) → ParsesFront text begun (Err (fault.Script n)) → n ≤ length (lines_of text) + 1

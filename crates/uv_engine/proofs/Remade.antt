@@ -1,27 +1,33 @@
 -- The recording of a script and of steps that it takes is read as that very script, those steps and their callbacks; so its rerun says same,
 -- and nothing else.
-use Rattle.std.proofs.Common.{ℕ, ◌≤◌, List, [], ◌∷◌, ◌++◌, length, map, Contains, refl, sym, subst, arith, append_assoc, append-nil, codes}
+use Rattle.std.proofs.Common.{ℕ, ◌+◌, ◌≤◌, List, [], ◌∷◌, ◌++◌, length, map, Contains, refl, sym, subst, arith, append_assoc, append-nil, codes}
 use Rattle.std.specs.List.{AllByRecursion}
 use Rattle.uv_ids.specs.declared.event.Event.{Event}
-use Rattle.uv_script.specs.Program.{Program, worker_count}
-use Rattle.uv_script.specs.Lines.{lines_of, IsLine}
-use Rattle.uv_script.specs.Text.{script_lines, said_whole}
+use Rattle.uv_ids.specs.declared.id.Var.{Var}
+use Rattle.uv_ids.specs.declared.seen.Callback.{Callback}
+use Rattle.uv_ids.specs.declared.seen.Callback.TheVariants as kinds
+use Rattle.uv_script.specs.declared.op.CallbackLine.{CallbackLine}
+use Rattle.uv_script.specs.declared.op.MainOp.{MainOp}
+use Rattle.uv_script.specs.declared.op.MainOp.TheVariants as main
+use Rattle.uv_script.specs.Program.{Program, worker_count, lines_in}
+use Rattle.uv_script.specs.Lines.{lines_of, IsLine, IsSkipped}
+use Rattle.uv_script.specs.Text.{var_line, main_line, callback_line, name_lines, callback_lines as script_callbacks, thread_line, script_lines}
 use Rattle.uv_script.specs.Words.{IsName}
 use Rattle.uv_script.specs.Grammar as script
-use Rattle.uv_script.specs.Grammar.{blank, IsScript}
+use Rattle.uv_script.specs.Grammar.{unread, IsScript}
 use Rattle.uv_script.proofs.Checks.{is_line_decides}
-use Rattle.uv_script.proofs.ReadBack.{lines_back, lines_read_back, read_lines, size_fits, workers_fit}
+use Rattle.uv_script.proofs.ReadBack.{settled, lines_back, lines_read_back, read_lines}
 use Rattle.uv_script.proofs.Written.{script_written}
 use Rattle.uv_text.specs.Recorded.{SaysStep, loop, outside, IsCallbackLine, call, after as after_line, closed}
 use Rattle.uv_text.specs.Recording.{step_line, callback_lines, recording_lines, recording_text}
-use Rattle.uv_text.proofs.Alike.{accepts_alike, callbacks_alike}
 use Rattle.uv_text.proofs.Played.{played, callbacks_said}
 use Rattle.uv_text.proofs.Printed.{step_said}
 use Rattle.uv_text.proofs.Sizes.{CanBe}
 use Rattle.uv_engine.specs.declared.verdict.Verdict.TheVariants.{Same}
 use Rattle.uv_engine.specs.Recordings.{Start, InScript, InSteps, InCalls, Whole, version, begins, step, calls, callback, ends, ReadsAll, none, one}
+use Rattle.uv_engine.specs.Start.{NoneSkipped}
 use Rattle.uv_engine.specs.Verdict.{AllTaken, same, HasVerdict}
-use Rattle.uv_engine.proofs.Recordings.{reads_on, script_on}
+use Rattle.uv_engine.proofs.Recordings.{reads_on, begins_says, script_on}
 
 -- ---- its lines
 
@@ -50,6 +56,55 @@ steps_are_lines : (names : List (List ℕ)) (es : List Event) → AllByRecursion
 steps_are_lines names [] h = tt
 steps_are_lines names (e ∷ es) h = (step_is_line names (step_line names e) e h.0, steps_are_lines names es h.1)
 
+-- no line of a script's text is skipped
+none_append : (xs ys : List (List ℕ)) → NoneSkipped xs → NoneSkipped ys → NoneSkipped (xs ++ ys)
+none_append [] ys h k = k
+none_append (x ∷ xs) ys h k = (h.0, none_append xs ys h.1 k)
+
+none_mapped : {A : Type 0} (f : A → List ℕ) (xs : List A) → ((x : A) → IsSkipped (f x) → ⊥) → NoneSkipped (map f xs)
+none_mapped f [] each = tt
+none_mapped f (x ∷ xs) each = (each x, none_mapped f xs each)
+
+main_says : (names : List (List ℕ)) (o : MainOp) → IsSkipped (main_line names o) → ⊥
+main_says names (main.Op o) = begins_says _ _ refl
+main_says names (main.Run mode) = begins_says _ _ refl
+
+callback_says : (names : List (List ℕ)) (kind : Callback) (v : Var) (line : CallbackLine) → IsSkipped (callback_line names kind v line) → ⊥
+callback_says names kinds.Handle v line = begins_says _ _ refl
+callback_says names kinds.After v line = begins_says _ _ refl
+callback_says names kinds.Close v line = begins_says _ _ refl
+
+callbacks_say : (p : Program) (n : ℕ) (names : List (List ℕ)) → NoneSkipped (script_callbacks p n names)
+callbacks_say p n [] = tt
+callbacks_say p n (name ∷ names) =
+    let v : Var = record { 0 = n } in
+    let one : (kind : Callback) → NoneSkipped (map (callback_line p.names kind v) (lines_in p kind v)) =
+    λ kind. none_mapped (callback_line p.names kind v) (lines_in p kind v) (callback_says p.names kind v) in
+    none_append (name_lines p v) (script_callbacks p (n + 1) names)
+    (none_append (map (callback_line p.names kinds.Handle v) (lines_in p kinds.Handle v) ++ map (callback_line p.names kinds.After v)
+    (lines_in p kinds.After v))
+    (map (callback_line p.names kinds.Close v) (lines_in p kinds.Close v))
+    (none_append (map (callback_line p.names kinds.Handle v) (lines_in p kinds.Handle v))
+    (map (callback_line p.names kinds.After v) (lines_in p kinds.After v))
+    (one kinds.Handle) (one kinds.After)) (one kinds.Close)) (callbacks_say p (n + 1) names)
+
+script_says : (p : Program) → NoneSkipped (script_lines p)
+script_says p =
+    let names = map var_line p.names in
+    let ops = map (main_line p.names) p.main in
+    let called = script_callbacks p 0 p.names in
+    let sent = map (thread_line p.names) p.threads in (
+      begins_says _ _ refl,
+      (
+        begins_says _ _ refl,
+        none_append (names ++ ops ++ called) sent
+            (none_append (names ++ ops) called
+            (none_append names ops (none_mapped var_line p.names (λ name. begins_says _ _ refl))
+            (none_mapped (main_line p.names) p.main (main_says p.names)))
+            (callbacks_say p 0 p.names)) (none_mapped (thread_line p.names) p.threads (λ line. begins_says _ _ refl)),
+      ),
+    )
+
 steps_on : (p : Program) (before es : List Event) → AllByRecursion (Said p.names) es →
     ReadsAll (InSteps p before) (map (step_line p.names) es) (InSteps p (before ++ es))
 steps_on p before [] h = subst (λ (xs : List Event). ReadsAll (InSteps p before) [] (InSteps p xs)) (sym (append-nil before)) none
@@ -69,7 +124,7 @@ calls_on p es before (l ∷ ls) h =
 
 -- what is known of a script that was read, and of steps that it takes
 pub record IsMade (p : Program) (es : List Event) : Type 0 where
-  pub script : script.ReadsAll blank (script_lines p) (said_whole p)
+  pub script : script.ReadsAll unread (script_lines p) (settled p)
   pub steps : AllByRecursion (Said p.names) es
   pub called : AllByRecursion IsCallbackLine (callback_lines p es)
 
@@ -82,11 +137,10 @@ pub is_made : (text : List ℕ) (p : Program) (es : List Event) → IsScript tex
 is_made text p es is taken =
     let written = script_written p (lines_of text) is in
     let each : (name : List ℕ) → Contains p.names name → IsName name = λ name h. (written.names name h).0 in
-    let run = played p es (size_fits p.size written.size).slots taken.0 taken.1 in
+    let run = played p es written.size.slots taken.0 taken.1 in
     record {
       script = lines_read_back p written;
-      steps = steps_said p each (length p.callbacks) (worker_count p) es (omega (arith, written.each)) (workers_fit p.workers written.workers).1
-          run.steps;
+      steps = steps_said p each (length p.callbacks) (worker_count p) es (omega (arith, written.each)) written.workers.1 run.steps;
       called = callbacks_said p each es run.lines;
     }
 
@@ -101,37 +155,33 @@ are_lines p es h =
     let cs = codes "calls" ∷ callback_lines p es in
     every_append IsLine (ks ++ bs ++ cs) (codes "end" ∷ [])
     (every_append IsLine (ks ++ bs) cs
-    (every_append IsLine ks bs (front, read_lines blank (said_whole p) (script_lines p) h.script) (begin, steps_are_lines p.names es h.steps))
+    (every_append IsLine ks bs (front, read_lines unread (settled p) (script_lines p) h.script) (begin, steps_are_lines p.names es h.steps))
     (middle, called_are_lines (callback_lines p es) h.called)) (last, tt)
 
-are_read : (p : Program) (es : List Event) → IsMade p es → ReadsAll Start (recording_lines p es) (Whole (said_whole p) es (callback_lines p es))
+are_read : (p : Program) (es : List Event) → IsMade p es → ReadsAll Start (recording_lines p es) (Whole p es (callback_lines p es))
 are_read p es h =
-    let q = said_whole p in
     let called = callback_lines p es in
+    let d = settled p in
     let ks = codes "uvt 1" ∷ script_lines p in
     let bs = codes "begin" ∷ map (step_line p.names) es in
     let cs = codes "calls" ∷ called in
-    reads_on Start (InCalls q es called) (Whole q es called) (ks ++ bs ++ cs) (codes "end" ∷ [])
-    (reads_on Start (InSteps q es) (InCalls q es called) (ks ++ bs) cs
-    (reads_on Start (InScript q) (InSteps q es) ks bs (one version (script_on blank q (script_lines p) h.script))
-    (one begins (steps_on q [] es h.steps)))
-    (one calls (calls_on q es [] called h.called))) (one ends none)
+    reads_on Start (InCalls p es called) (Whole p es called) (ks ++ bs ++ cs) (codes "end" ∷ [])
+    (reads_on Start (InSteps p es) (InCalls p es called) (ks ++ bs) cs
+    (reads_on Start (InScript d) (InSteps p es) ks bs (one version (script_on unread d (script_lines p) (script_says p) h.script))
+    (one begins (steps_on p [] es h.steps)))
+    (one calls (calls_on p es [] called h.called))) (one ends none)
 
-pub made_read : (p : Program) (es : List Event) → IsMade p es →
-    ReadsAll Start (lines_of (recording_text p es)) (Whole (said_whole p) es (callback_lines p es))
+pub made_read : (p : Program) (es : List Event) → IsMade p es → ReadsAll Start (lines_of (recording_text p es)) (Whole p es (callback_lines p es))
 unfolding recording_text
 made_read p es h =
-    subst (λ (ls : List (List ℕ)). ReadsAll Start ls (Whole (said_whole p) es (callback_lines p es)))
+    subst (λ (ls : List (List ℕ)). ReadsAll Start ls (Whole p es (callback_lines p es)))
     (sym (lines_back (recording_lines p es) (are_lines p es h))) (are_read p es h)
-
-pub taken_alike : (p : Program) (es : List Event) → AllTaken p es → AllTaken (said_whole p) es
-taken_alike p es h = (accepts_alike p es h.0, h.1)
 
 pub says_same : (text : List ℕ) (p : Program) (es : List Event) → IsScript text p → AllTaken p es → HasVerdict (recording_text p es) Same
 says_same text p es is taken = record {
-  program = said_whole p;
+  program = p;
   steps = es;
   called = callback_lines p es;
   recording = made_read p es (is_made text p es is taken);
-  verdict = same (taken_alike p es taken) (callbacks_alike p es);
+  verdict = same taken refl;
 }

@@ -2,15 +2,15 @@
 use Rattle.std.specs.Prelude.{◌≡◌, ℕ, ◌+◌, List, [], ◌∷◌, ◌++◌, length, codes}
 use Rattle.uv_ids.specs.declared.event.Event.{Event}
 use Rattle.uv_script.specs.Program.{Program}
-use Rattle.uv_script.specs.Lines.{lines_of}
+use Rattle.uv_script.specs.Lines.{lines_of, IsSkipped}
 use Rattle.uv_script.specs.Grammar as script
-use Rattle.uv_script.specs.Grammar.{blank}
+use Rattle.uv_script.specs.Grammar.{Draft, unread}
 use Rattle.uv_text.specs.Recorded.{SaysStep, IsCallbackLine}
 
 -- how far a recording was read: the script so far, the steps, and the lines of callbacks
 pub data Part : Type 0 where
   Start : Part
-  InScript : Program → Part
+  InScript : Draft → Part
   InSteps : Program → List Event → Part
   InCalls : Program → List Event → List (List ℕ) → Part
   -- its last line was read
@@ -18,9 +18,10 @@ pub data Part : Type 0 where
 
 -- the line goes on from one part to another
 pub data Reads : Part → List ℕ → Part → Type 0 where
-  version : Reads Start (codes "uvt 1") (InScript blank)
-  in_script : {p q : Program} {line : List ℕ} → script.Reads p line q → Reads (InScript p) line (InScript q)
-  begins : {p : Program} → Reads (InScript p) (codes "begin") (InSteps p [])
+  version : Reads Start (codes "uvt 1") (InScript unread)
+  -- a recording takes no empty line and no comment
+  in_script : {d e : Draft} {line : List ℕ} → (IsSkipped line → ⊥) → script.Reads d line e → Reads (InScript d) line (InScript e)
+  begins : {d : Draft} → Reads (InScript d) (codes "begin") (InSteps d.program [])
   step : {p : Program} {es : List Event} {e : Event} {line : List ℕ} → SaysStep p.names line e →
       Reads (InSteps p es) line (InSteps p (es ++ e ∷ []))
   calls : {p : Program} {es : List Event} → Reads (InSteps p es) (codes "calls") (InCalls p es [])

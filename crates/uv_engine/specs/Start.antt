@@ -1,9 +1,9 @@
 -- How a conversation's script is read.
-use Rattle.std.specs.Prelude.{◌≡◌, ℕ, ◌+◌, List, [], ◌∷◌, ◌++◌, Bool, true, false, length, Result, Ok, Err}
+use Rattle.std.specs.Prelude.{◌≡◌, ℕ, ◌+◌, ◌<◌, ◌≤◌, ◌⊎◌, List, [], ◌∷◌, ◌++◌, Bool, true, false, length, Option, Some, None, Result, Ok, Err}
 use Rattle.uv_ids.specs.declared.fault.Fault.{Fault}
 use Rattle.uv_ids.specs.declared.fault.Fault.TheVariants as fault
 use Rattle.uv_script.specs.Program.{Program}
-use Rattle.uv_script.specs.Lines.{lines_of}
+use Rattle.uv_script.specs.Lines.{lines_of, IsSkipped}
 use Rattle.uv_script.specs.Grammar.{IsScript, IsBadLine, Parses}
 use Rattle.uv_engine.specs.Out.{Out, Begins, NeverBegins, BadScript}
 
@@ -51,3 +51,27 @@ abbrev pub ParsesFront : List ℕ → Bool → Result Program Fault → Type 0
 ParsesFront text true r = Parses text r
 ParsesFront text false (Ok p) = ⊥
 ParsesFront text false (Err fault) = NoScript text fault
+
+-- none of these lines is an empty one or a comment
+abbrev pub NoneSkipped : List (List ℕ) → Type 0
+NoneSkipped [] = Unit {0}
+NoneSkipped (line ∷ lines) = (IsSkipped line → ⊥) × NoneSkipped lines
+
+-- the first of these lines that is an empty one or a comment, from 1
+pub record IsFirstSkipped (lines : List (List ℕ)) (number : ℕ) : Type 0 where
+  pub before : List (List ℕ)
+  pub line : List ℕ
+  pub after : List (List ℕ)
+  pub lines_are : lines ≡ before ++ line ∷ after
+  pub counted : number ≡ length before + 1
+  pub others : NoneSkipped before
+  pub skipped : IsSkipped line
+
+abbrev pub FindsSkipped : List (List ℕ) → Option ℕ → Type 0
+FindsSkipped lines (Some number) = IsFirstSkipped lines number
+FindsSkipped lines None = NoneSkipped lines
+
+-- the first one of a bad line and of one that is skipped
+abbrev pub IsFirstBad : ℕ → Option ℕ → ℕ → Type 0
+IsFirstBad line None first = first ≡ line
+IsFirstBad line (Some skipped) first = ((skipped ≤ line) × (first ≡ skipped)) ⊎ ((line < skipped) × (first ≡ line))

@@ -1,12 +1,14 @@
 //! The lines of a recording, with their numbers.
-ghost use Rattle.std.specs.Prelude.{◌≡◌, ◌≢◌, ◌<◌, ◌≤◌, ◌+◌, ◌-◌, ◌^◌, [], List, ℕ, length, true, false, codes, IfOk, IfErr, IfNone, OnOk, OnSome};
+ghost use Rattle.std.specs.Prelude.{◌≡◌, ◌≢◌, ◌<◌, ◌≤◌, ◌+◌, ◌-◌, ◌^◌, [], List, ℕ, length, true, false, codes, IfOk, IfErr, IfSome, IfNone, OnOk, OnSome};
 ghost use Rattle.uv_ids.specs.declared.event.Event.{Event};
-ghost use Rattle.uv_script.specs.Grammar.{blank};
+ghost use Rattle.uv_script.specs.Grammar.{unread};
+ghost use Rattle.uv_script.specs.Lines.{lines_of};
 ghost use Rattle.uv_script.specs.Program.{Program};
 ghost use Rattle.uv_engine.specs.Devices.{ReaderCounts};
 ghost use Rattle.uv_engine.specs.Input.{left, EndIsSeen, size};
 ghost use Rattle.uv_engine.specs.Recordings.{Start, InScript, InSteps, Whole};
 ghost use Rattle.uv_engine.specs.Rerun.{CanCount, ReadsPart, IsReadingFault};
+ghost use Rattle.uv_engine.specs.Start.{FindsSkipped, IsFirstBad};
 ghost use Rattle.uv_engine.specs.Taking.{TakesNext, SpendsBudget, IsReadFault};
 
 use crate::input::{Input, Line};
@@ -14,7 +16,7 @@ use crate::script::{parse_front, read_front};
 use crate::source::Source;
 use std::alloc::Global;
 use uv_ids::Fault;
-use uv_script::{Script, line_count};
+use uv_script::{Lines, Script, is_skipped, line_count};
 
 /// An input, and how many lines were taken of it.
 #[derive(Drop)]
@@ -67,7 +69,7 @@ impl Numbered {
     pub(crate) fn read_version<R: Source>(&mut self, reader: &mut R) -> Result<(), Fault>
         requires end { R.Tells → EndIsSeen self.old.input (R.remaining reader.old) }
         requires few { CanCount self.old.taken self.old.input }
-        ensures read { R.Tells → ReadsPart (λ _. InScript blank) Start self.old.taken (left self.old.input (R.remaining reader.old))
+        ensures read { R.Tells → ReadsPart (λ _. InScript unread) Start self.old.taken (left self.old.input (R.remaining reader.old))
             result self.new.taken (left self.new.input (R.remaining reader.new)) }
         ensures few { OnOk result (self.new.taken + size self.new.input ≤ self.old.taken + size self.old.input) }
         ensures end { OnOk result (R.Tells → EndIsSeen self.new.input (R.remaining reader.new)) }
@@ -86,7 +88,7 @@ impl Numbered {
         }
     }
 
-    /// Reads the script, and the line `begin`.
+    /// Reads the script, in which each line says something, and the line `begin`.
     pub(crate) fn read_script<R: Source>(
         &mut self,
         alloc: Global,
@@ -94,7 +96,7 @@ impl Numbered {
     ) -> Result<Script, Fault>
         requires end { R.Tells → EndIsSeen self.old.input (R.remaining reader.old) }
         requires few { self.old.taken + size self.old.input < 2 ^ 62 }
-        ensures read { R.Tells → ReadsPart (λ (script : Program). InSteps script []) (InScript blank) self.old.taken
+        ensures read { R.Tells → ReadsPart (λ (script : Program). InSteps script []) (InScript unread) self.old.taken
             (left self.old.input (R.remaining reader.old)) result self.new.taken (left self.new.input (R.remaining reader.new)) }
         ensures few { OnOk result (CanCount self.new.taken self.new.input) }
         ensures end { OnOk result (R.Tells → EndIsSeen self.new.input (R.remaining reader.new)) }
@@ -105,13 +107,19 @@ impl Numbered {
     {
         let front = read_front(alloc, &mut self.input, reader)?;
         let lines = line_count(front.text.as_slice());
+        let skipped = first_skipped(front.text.as_slice());
         match parse_front(alloc, &front) {
             Ok(script) => {
+                if let Some(line) = skipped {
+                    return Err(Fault::Script {
+                        line: self.taken + line,
+                    });
+                }
                 self.taken += lines + 1;
                 Ok(script)
             }
             Err(Fault::Script { line }) => Err(Fault::Script {
-                line: self.taken + line,
+                line: self.taken + first_bad(line, skipped),
             }),
             Err(fault) => Err(fault),
         }
@@ -132,6 +140,31 @@ impl Numbered {
             return Ok(());
         };
         Err(self.bad())
+    }
+}
+
+/// The first line of a text that is empty or a comment, from 1.
+fn first_skipped(text: &[u8]) -> Option<usize>
+    ensures found { FindsSkipped (lines_of text.now) result }
+    ensures few { IfSome result (λ number. number ≤ length text.now) }
+{
+    let mut number = 0;
+    for line in Lines::of(text) {
+        number += 1;
+        if is_skipped(line) {
+            return Some(number);
+        }
+    }
+    None
+}
+
+/// The first one of a line outside the grammar of scripts and of one that says nothing.
+fn first_bad(line: usize, skipped: Option<usize>) -> usize
+    ensures { IsFirstBad line skipped result }
+{
+    match skipped {
+        Some(skipped) if skipped <= line => skipped,
+        _ => line,
     }
 }
 

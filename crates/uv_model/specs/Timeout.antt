@@ -15,7 +15,7 @@ use Rattle.uv_model.specs.State.{State}
 abbrev pub has_closing : State → Bool
 has_closing s = has_some s.closing.list || has_some s.closing.yet
 
--- the loop is alive: some handle is active and referenced, or closes (uv_loop_alive)
+-- the loop is alive: some handle is active and referenced, or closes, or some request has yet to call back (uv_loop_alive)
 abbrev pub is_alive : State → Bool
 is_alive s = list_any (λ (slot : Slot Content). content_keeps slot.content) s.arena.slots || has_closing s
 

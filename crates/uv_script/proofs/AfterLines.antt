@@ -1,8 +1,7 @@
 -- One more line, and all lines.
-use Rattle.std.proofs.Common.{◌≡◌, ◌≢◌, ◌⊎◌, inl, inr, ℕ, ◌+◌, ◌<◌, ◌≤◌, Bool, true, false, ◌==◌, cond, nat_lt, List, [], ◌∷◌, ◌++◌, length, map, Option, Some, None, Err, Contains, refl, ap, sym, subst, ◌∙◌, arith, append_assoc, length-append}
+use Rattle.std.proofs.Common.{◌≡◌, ◌≢◌, ◌⊎◌, inl, inr, ℕ, ◌+◌, ◌<◌, ◌≤◌, Bool, true, false, not, ◌&&◌, ◌==◌, cond, nat_lt, List, [], ◌∷◌, ◌++◌, length, map, Option, Some, None, Err, Contains, refl, ap, sym, subst, ◌∙◌, arith, append_assoc, append-nil, length-append}
 use Rattle.std.specs.List.{onto_first}
-use Rattle.std.specs.Prelude.{is_none}
-use Rattle.std.proofs.lemmas.Bool.{cases_Bool, cond_both, both_ways, and_parts, and_from, ltb-true, lt-ltb}
+use Rattle.std.proofs.lemmas.Bool.{cases_Bool, cond_both, and_parts, and_from, ltb-true, lt-ltb}
 use Rattle.std.proofs.lemmas.List.{map-append, length-map}
 use Rattle.std.proofs.lemmas.List.Quantifiers.{all_pairs_push}
 use Rattle.std.proofs.lemmas.List.Elements.{Contains-get_or}
@@ -10,17 +9,34 @@ use Rattle.std.proofs.lemmas.Option.{same_Some, cond_some, none-some, slice_get_
 use Rattle.uv_ids.specs.declared.fault.Fault.{Fault}
 use Rattle.uv_ids.specs.declared.fault.Fault.TheVariants as fault
 use Rattle.uv_ids.specs.declared.seen.Callback.TheVariants as callback
-use Rattle.uv_script.specs.Grammar.{Statement, Declares, InMain, InCallback, Sizes, HasWorkers, InThread, Says, declares, in_main, runs, closes_loop, in_callback, in_call, sizes, sizes_to, has_workers, in_thread, HasRoom, with_statement, Reads, skips, says, ReadsAll, none, one, blank, WasRead, IsBadLine, Parses}
+use Rattle.uv_script.specs.declared.settings.Settings.{Settings}
+use Rattle.uv_script.specs.Grammar.{Statement, Declares, InMain, InCallback, Sizes, HasWorkers, InThread, Says, declares, in_main, runs, closes_loop, in_callback, in_call, sizes, sizes_to, has_workers, in_thread, HasRoom, IsNew, with_statement, with_said, Draft, Reads, skips, says, ReadsAll, none, one, unread, IsBadLine, Parses}
 use Rattle.uv_script.specs.Lines.{lines_of, fields_of}
 use Rattle.uv_script.specs.Program.{Program, line_count}
-use Rattle.uv_script.specs.Reading.{statement_of, has_room, IsSound, IsSaid, after_line, ReadsLine}
+use Rattle.uv_script.specs.Reading.{statement_of, has_room, is_new, IsSound, IsSaid, after_line, ReadsLine}
 use Rattle.uv_script.specs.Checks.{is_line, is_skipped}
 use Rattle.uv_script.proofs.Agrees.{AreDistinct, bound, statement_sound, statement_complete}
 use Rattle.uv_script.proofs.Checks.{is_line_decides, is_skipped_decides}
 
-unsaid : {A : Type 0} (x : Option A) → is_none x ≡ true → x ≡ None
-unsaid None h = refl
-unsaid (Some a) h = absurd (both_ways false refl h)
+unsaid : (b : Bool) → not b ≡ true → b ≡ false
+unsaid false h = refl
+unsaid true h = absurd cc
+
+new_sound : (said : Settings) (s : Statement) → is_new said s ≡ true → IsNew said s
+new_sound said (Declares name) e = tt
+new_sound said (InMain op) e = tt
+new_sound said (InCallback kind v line) e = tt
+new_sound said (Sizes size) e = unsaid said.slots e
+new_sound said (HasWorkers n) e = unsaid said.workers e
+new_sound said (InThread line) e = tt
+
+new_complete : (said : Settings) (s : Statement) → IsNew said s → is_new said s ≡ true
+new_complete said (Declares name) h = refl
+new_complete said (InMain op) h = refl
+new_complete said (InCallback kind v line) h = refl
+new_complete said (Sizes size) h = ap not h
+new_complete said (HasWorkers n) h = ap not h
+new_complete said (InThread line) h = refl
 
 pub room_sound : (p : Program) (s : Statement) → has_room p s ≡ true → HasRoom p s
 room_sound p (Declares name) e =
@@ -28,8 +44,8 @@ room_sound p (Declares name) e =
     (ltb-true (line_count p) 65535 tests.0, ltb-true (length p.names) 4096 tests.1)
 room_sound p (InMain op) e = ltb-true (line_count p) 65535 e
 room_sound p (InCallback kind v line) e = ltb-true (line_count p) 65535 e
-room_sound p (Sizes size) e = unsaid p.size e
-room_sound p (HasWorkers n) e = unsaid p.workers e
+room_sound p (Sizes size) e = tt
+room_sound p (HasWorkers n) e = tt
 room_sound p (InThread line) e = ltb-true (line_count p) 65535 e
 
 room_complete : (p : Program) (s : Statement) → HasRoom p s → has_room p s ≡ true
@@ -37,8 +53,8 @@ room_complete p (Declares name) h = and_from (nat_lt (line_count p) 65535) (nat_
     (lt-ltb (length p.names) 4096 h.1)
 room_complete p (InMain op) h = lt-ltb (line_count p) 65535 h
 room_complete p (InCallback kind v line) h = lt-ltb (line_count p) 65535 h
-room_complete p (Sizes size) h = ap is_none h
-room_complete p (HasWorkers n) h = ap is_none h
+room_complete p (Sizes size) h = refl
+room_complete p (HasWorkers n) h = refl
 room_complete p (InThread line) h = lt-ltb (line_count p) 65535 h
 
 -- what a line says can be added
@@ -100,29 +116,37 @@ or_else : {A : Type 0} (b : Bool) (x z : Option A) (y : A) → cond b x z ≡ So
 or_else true x z y e = inl (refl, e)
 or_else false x z y e = inr (refl, e)
 
-pub after_sound : (p q : Program) (line : List ℕ) → after_line p line ≡ Some q → Reads p line q
+-- the script with one more statement
+abbrev pub with_one : Draft → Statement → Draft
+with_one d s = record { program = with_statement d.program s; said = with_said d.said s }
+
+pub after_sound : (d e : Draft) (line : List ℕ) → after_line d line ≡ Some e → Reads d line e
 unfolding after_line
-after_sound p q line e =
-    let is = chosen (is_line line) _ q e in
+after_sound d e line same =
+    let names = d.program.names in
+    let is = chosen (is_line line) _ e same in
     let rule = (is_line_decides line).0 is.0 in
-    elim (or_else (is_skipped line) (Some p) _ q is.1) [
-      | inl skip ↦ subst (Reads p line) (same_Some _ _ skip.1) (skips rule ((is_skipped_decides line).0 skip.0))
+    elim (or_else (is_skipped line) (Some d) _ e is.1) [
+      | inl skip ↦ subst (Reads d line) (same_Some _ _ skip.1) (skips rule ((is_skipped_decides line).0 skip.0))
       | inr said ↦
-          let s = bound _ (statement_of p.names (fields_of line)) q said.1 in
-          let room = cond_some (has_room p s.0) (with_statement p s.0) q s.2 in
-          subst (Reads p line) room.1 (says s.0 rule (statement_sound p.names (fields_of line) s.0 s.1) (room_sound p s.0 room.0))
+          let s = bound _ (statement_of names (fields_of line)) e said.1 in
+          let fits = cond_some (is_new d.said s.0 && has_room d.program s.0) (with_one d s.0) e s.2 in
+          let tests = and_parts (is_new d.said s.0) (has_room d.program s.0) fits.0 in
+          subst (Reads d line) fits.1
+          (says s.0 rule (statement_sound names (fields_of line) s.0 s.1) (new_sound d.said s.0 tests.0) (room_sound d.program s.0 tests.1))
     ]
 
-pub after_complete : (p q : Program) (line : List ℕ) → AreDistinct p.names → Reads p line q → after_line p line ≡ Some q
+pub after_complete : (d e : Draft) (line : List ℕ) → AreDistinct d.program.names → Reads d line e → after_line d line ≡ Some e
 unfolding after_line
-after_complete p q line distinct (skips is skipped) = rw ((is_line_decides line).1 is, (is_skipped_decides line).1 skipped) refl
-after_complete p q line distinct (says s is said room) =
+after_complete d e line distinct (skips is skipped) = rw ((is_line_decides line).1 is, (is_skipped_decides line).1 skipped) refl
+after_complete d e line distinct (says s is said new room) =
     rw (
       (is_line_decides line).1 is,
-      says_no_skip p.names line s said,
-      statement_complete p.names
+      says_no_skip d.program.names line s said,
+      statement_complete d.program.names
           (fields_of line) s distinct said,
-      room_complete p s room,
+      new_complete d.said s new,
+      room_complete d.program s room,
     ) refl
 
 -- the names of a script are distinct
@@ -135,42 +159,34 @@ distinct_push p (Sizes size) distinct sound = distinct
 distinct_push p (HasWorkers n) distinct sound = distinct
 distinct_push p (InThread line) distinct sound = distinct
 
-pub distinct_reads : (p q : Program) (line : List ℕ) → AreDistinct p.names → Reads p line q → AreDistinct q.names
-distinct_reads p q line distinct (skips is skipped) = distinct
-distinct_reads p q line distinct (says s is said room) = distinct_push p s distinct (says_sound p (fields_of line) s said)
+pub distinct_reads : (d e : Draft) (line : List ℕ) → AreDistinct d.program.names → Reads d line e → AreDistinct e.program.names
+distinct_reads d e line distinct (skips is skipped) = distinct
+distinct_reads d e line distinct (says s is said new room) =
+    distinct_push d.program s distinct (says_sound d.program (fields_of line) s said)
 
-pub distinct_all : (p q : Program) (lines : List (List ℕ)) → AreDistinct p.names → ReadsAll p lines q → AreDistinct q.names
-distinct_all p q [] distinct none = distinct
-distinct_all p q (line ∷ lines) distinct (one {q = r} first rest) = distinct_all r q lines (distinct_reads p r line distinct first) rest
+pub distinct_all : (d e : Draft) (lines : List (List ℕ)) → AreDistinct d.program.names → ReadsAll d lines e → AreDistinct e.program.names
+distinct_all d e [] distinct none = distinct
+distinct_all d e (line ∷ lines) distinct (one {e = f} first rest) = distinct_all f e lines (distinct_reads d f line distinct first) rest
 
 pub distinct_none : AreDistinct []
 distinct_none i j d a b = absurd (omega arith)
 
 -- one more line behind the others
-pub ReadsAll-push : (p q r : Program) (lines : List (List ℕ)) (line : List ℕ) → ReadsAll p lines q → Reads q line r →
-    ReadsAll p (lines ++ line ∷ []) r
-ReadsAll-push p q r [] line none last = one last none
-ReadsAll-push p q r (a ∷ lines) line (one {q = m} first rest) last = one first (ReadsAll-push m q r lines line rest last)
+pub ReadsAll-push : (d e f : Draft) (lines : List (List ℕ)) (line : List ℕ) → ReadsAll d lines e → Reads e line f →
+    ReadsAll d (lines ++ line ∷ []) f
+ReadsAll-push d e f [] line none last = one last none
+ReadsAll-push d e f (a ∷ lines) line (one {e = m} first rest) last = one first (ReadsAll-push m e f lines line rest last)
 
--- what some line says can be added, and the script is still one that was read
+-- what some line says can be added
 pub said_sound : (p : Program) (s : Statement) → IsSaid p s → IsSound p s
 said_sound p s said = says_sound p (fields_of said.line) s said.says
 
-pub read_more : (p : Program) (s : Statement) → WasRead p → IsSaid p s → HasRoom p s → WasRead (with_statement p s)
-read_more p s read said room = record {
-  lines = read.lines ++ said.line ∷ [];
-  read = ReadsAll-push blank p (with_statement p s) read.lines said.line read.read (says s said.is said.says room);
-}
-
-pub read_none : WasRead blank
-read_none = record { lines = []; read = none }
-
 -- a line that the reader refuses is outside the grammar
-pub refused_line : (p : Program) (before : List (List ℕ)) (line : List ℕ) → ReadsAll blank before p → after_line p line ≡ None → (q : Program) →
-    Reads p line q → ⊥
-refused_line p before line read e q is =
-    let wrong = after_complete p q line (distinct_all blank p before distinct_none read) is in
-    none-some q (sym e ∙ wrong)
+pub refused_line : (d : Draft) (before : List (List ℕ)) (line : List ℕ) → ReadsAll unread before d → after_line d line ≡ None → (e : Draft) →
+    Reads d line e → ⊥
+refused_line d before line read refused e is =
+    let wrong = after_complete d e line (distinct_all unread d before distinct_none read) is in
+    none-some e (sym refused ∙ wrong)
 
 -- a text has no more lines than bytes
 onto_length : (c : ℕ) (parts : List (List ℕ)) → length (onto_first c parts) ≤ length parts + 1
@@ -204,31 +220,38 @@ pub lines_step : {A : Type 0} (f : A → List ℕ) (lines : List (List ℕ)) (be
 lines_step f lines before x left after rest step =
     ap (λ l. l ++ after) (map-append f before (x ∷ [])) ∙ append_assoc (map f before) (f x ∷ []) after ∙ ap (λ l. map f before ++ l) (sym step) ∙ rest
 
-pub reads_step : {A : Type 0} (f : A → List ℕ) (p q : Program) (before : List A) (x : A) → ReadsAll blank (map f before) p →
-    after_line p (f x) ≡ Some q → ReadsAll blank (map f (before ++ x ∷ [])) q
-reads_step f p q before x read e =
-    subst (λ (l : List (List ℕ)). ReadsAll blank l q) (sym (map-append f before (x ∷ [])))
-    (ReadsAll-push blank p q (map f before) (f x) read (after_sound p q (f x) e))
+pub reads_step : {A : Type 0} (f : A → List ℕ) (d e : Draft) (before : List A) (x : A) → ReadsAll unread (map f before) d →
+    after_line d (f x) ≡ Some e → ReadsAll unread (map f (before ++ x ∷ [])) e
+reads_step f d e before x read is =
+    subst (λ (l : List (List ℕ)). ReadsAll unread l e) (sym (map-append f before (x ∷ [])))
+    (ReadsAll-push unread d e (map f before) (f x) read (after_sound d e (f x) is))
 
-pub bad_line : {A : Type 0} (f : A → List ℕ) (text : List ℕ) (number : ℕ) (p : Program) (before : List A) (x : A) (left after : List (List ℕ)) →
-    ReadsAll blank (map f before) p → map f before ++ left ≡ lines_of text → left ≡ f x ∷ after → number ≡ length before + 1 →
-    after_line p (f x) ≡ None → IsBadLine text number
-bad_line f text number p before x left after read rest step count e = record {
+-- no line is left
+pub all_read : {A : Type 0} (f : A → List ℕ) (text : List ℕ) (d : Draft) (before : List A) (left : List (List ℕ)) →
+    ReadsAll unread (map f before) d → map f before ++ left ≡ lines_of text → left ≡ [] → ReadsAll unread (lines_of text) d
+all_read f text d before left read rest e =
+    subst (λ (ls : List (List ℕ)). ReadsAll unread ls d)
+    (sym (append-nil (map f before)) ∙ ap (λ (ls : List (List ℕ)). map f before ++ ls) (sym e) ∙ rest) read
+
+pub bad_line : {A : Type 0} (f : A → List ℕ) (text : List ℕ) (number : ℕ) (d : Draft) (before : List A) (x : A) (left after : List (List ℕ)) →
+    ReadsAll unread (map f before) d → map f before ++ left ≡ lines_of text → left ≡ f x ∷ after → number ≡ length before + 1 →
+    after_line d (f x) ≡ None → IsBadLine text number
+bad_line f text number d before x left after read rest step count e = record {
   before = map f before;
   line = f x;
   after = after;
   lines_are = sym rest ∙ ap (λ l. map f before ++ l) step;
   counted = count ∙ ap (λ n. n + 1) (sym (length-map before f));
-  script = p;
+  draft = d;
   read = read;
-  refused = refused_line p (map f before) (f x) read e;
+  refused = refused_line d (map f before) (f x) read e;
 }
 
 -- the fault of a line is the text's
-pub line_fault : {A : Type 0} (f : A → List ℕ) (text : List ℕ) (number : ℕ) (p q : Program) (before : List A) (x : A) (left after : List (List ℕ))
-    (fault : Fault) → ReadsAll blank (map f before) p → map f before ++ left ≡ lines_of text → left ≡ f x ∷ after → number ≡ length before + 1 →
-    ReadsLine p (f x) number (Err fault) q → Parses text (Err fault)
-line_fault f text number p q before x left after (fault.Script bad) read rest step count h =
-    subst (IsBadLine text) (sym h.0) (bad_line f text number p before x left after read rest step count h.1)
-line_fault f text number p q before x left after fault.Memory read rest step count h = tt
-line_fault f text number p q before x left after _ read rest step count h = h
+pub line_fault : {A : Type 0} (f : A → List ℕ) (text : List ℕ) (number : ℕ) (d e : Draft) (before : List A) (x : A) (left after : List (List ℕ))
+    (fault : Fault) → ReadsAll unread (map f before) d → map f before ++ left ≡ lines_of text → left ≡ f x ∷ after → number ≡ length before + 1 →
+    ReadsLine d (f x) number (Err fault) e → Parses text (Err fault)
+line_fault f text number d e before x left after (fault.Script bad) read rest step count h =
+    subst (IsBadLine text) (sym h.0) (bad_line f text number d before x left after read rest step count h.1)
+line_fault f text number d e before x left after fault.Memory read rest step count h = tt
+line_fault f text number d e before x left after _ read rest step count h = h

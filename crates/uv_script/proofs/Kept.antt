@@ -4,23 +4,23 @@ use Rattle.std.proofs.lemmas.List.Elements.{Contains-get_or}
 use Rattle.std.proofs.lemmas.List.Sums.{sum_by_push, sum_by-set}
 use Rattle.std.proofs.lemmas.Option.{unwrap_or-slice_get}
 use Rattle.uv_script.specs.Grammar.{Statement, Declares, InMain, InCallback, Sizes, HasWorkers, InThread, HasRoom, with_statement, WasRead, IsReadScript, blank}
-use Rattle.uv_script.specs.Program.{Program, no_callbacks, callbacks_of, with_line, callback_count, line_count, IsThreadLine, IsWhole}
+use Rattle.uv_script.specs.Program.{Program, no_callbacks, callbacks_of, with_line, callback_count, line_count, with_workers, IsWorkerCount, IsThreadLine, IsWhole}
 use Rattle.uv_script.specs.Reading.{IsSound, IsSaid}
-use Rattle.uv_script.proofs.AfterLines.{says_sound, said_sound, read_more, read_none}
-use Rattle.uv_script.proofs.ReadBack.{workers_fit, size_fits}
-use Rattle.uv_script.proofs.Written.{AreWritten, count_more, script_written}
+use Rattle.uv_script.proofs.AfterLines.{says_sound, said_sound}
+use Rattle.uv_script.proofs.ReadBack.{was_read}
+use Rattle.uv_script.proofs.Written.{AreWritten, count_more, script_written, after_said, set_workers, written_none}
 
 -- a script that was read is whole
 pub whole : (p : Program) → WasRead p → IsWhole p
 whole p read =
-    let is = script_written p read.lines read.read in
+    let is = script_written p read.lines read.makes in
     let threads : All (IsThreadLine (length p.names)) p.threads = λ k d within.
     says_sound p _ _ (is.threads _ (Contains-get_or p.threads k d within)).says in
     record {
       callbacks = is.each;
       few = is.few;
-      slots = (size_fits p.size is.size).slots;
-      workers = workers_fit p.workers is.workers;
+      slots = is.size.slots;
+      workers = is.workers;
       threads = threads;
     }
 
@@ -52,8 +52,9 @@ more : (lines n : ℕ) (p q : Program) (s : Statement) → IsReadScript lines p 
     n ≡ lines + added s →
     IsReadScript n q
 more lines n p q s is said room same count =
-    let read = read_more p s is.read said room in
-    let counted = count_statement p s (script_written p is.read.lines is.read.read) (said_sound p s said) in
+    let written = script_written p is.read.lines is.read.makes in
+    let read = was_read (with_statement p s) (after_said p said.line s written said.is said.says room) in
+    let counted = count_statement p s written (said_sound p s said) in
     subst (IsReadScript n) same (record {
       counted = record { whole = whole (with_statement p s) read; counted = count ∙ ap (λ k. k + added s) is.counted.counted ∙ sym counted };
       read = read;
@@ -70,4 +71,13 @@ pub uncounted_more : (lines : ℕ) (p q : Program) (s : Statement) → added s �
 uncounted_more lines p q s counts is said room same = more lines lines p q s is said room same (omega (arith, counts))
 
 pub blank_read : IsReadScript 0 blank
-blank_read = record { counted = record { whole = whole blank read_none; counted = refl }; read = read_none }
+blank_read =
+    let read = was_read blank written_none in
+    record { counted = record { whole = whole blank read; counted = refl }; read = read }
+
+-- another number of workers
+pub workers_kept : (lines n : ℕ) (p : Program) → IsWorkerCount n → IsReadScript lines p → IsReadScript lines (with_workers n p)
+workers_kept lines n p fits is =
+    let written = script_written p is.read.lines is.read.makes in
+    let read = was_read (with_workers n p) (set_workers n p fits written) in
+    record { counted = record { whole = whole (with_workers n p) read; counted = is.counted.counted }; read = read }

@@ -14,4 +14,3 @@ pub mod Texts
 pub mod Written
 pub mod ReadBack
 pub mod Kept
-pub mod Workers

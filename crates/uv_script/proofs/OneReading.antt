@@ -2,57 +2,57 @@
 use Rattle.std.proofs.Common.{◌≡◌, inl, inr, ℕ, ◌+◌, ◌<◌, List, [], ◌∷◌, ◌++◌, length, refl, ap, sym, subst, ◌∙◌, arith}
 use Rattle.std.proofs.lemmas.Bool.{cases_order}
 use Rattle.std.proofs.lemmas.Option.{same_Some}
-use Rattle.uv_script.specs.Grammar.{Reads, ReadsAll, none, one, blank, IsScript, IsBadLine}
+use Rattle.uv_script.specs.Grammar.{Draft, Reads, ReadsAll, none, one, unread, IsScript, IsBadLine}
 use Rattle.uv_script.specs.Laws.{HasOneScript, HasNoBadLine, HasOneBadLine}
 use Rattle.uv_script.specs.Lines.{lines_of}
 use Rattle.uv_script.specs.Program.{Program}
 use Rattle.uv_script.proofs.Agrees.{AreDistinct}
 use Rattle.uv_script.proofs.AfterLines.{after_complete, distinct_reads, distinct_all, distinct_none}
 
-reads_one : (p q r : Program) (line : List ℕ) → AreDistinct p.names → Reads p line q → Reads p line r → q ≡ r
-reads_one p q r line distinct a b = same_Some q r (sym (after_complete p q line distinct a) ∙ after_complete p r line distinct b)
+reads_one : (d e f : Draft) (line : List ℕ) → AreDistinct d.program.names → Reads d line e → Reads d line f → e ≡ f
+reads_one d e f line distinct a b = same_Some e f (sym (after_complete d e line distinct a) ∙ after_complete d f line distinct b)
 
-all_one : (p q r : Program) (lines : List (List ℕ)) → AreDistinct p.names → ReadsAll p lines q → ReadsAll p lines r → q ≡ r
-all_one p q r [] distinct none none = refl
-all_one p q r (line ∷ lines) distinct (one {q = a} first rest) (one {q = b} first' rest') =
-    let same = reads_one p a b line distinct first first' in
-    all_one b q r lines (distinct_reads p b line distinct first') (subst (λ (m : Program). ReadsAll m lines q) same rest) rest'
+all_one : (d e f : Draft) (lines : List (List ℕ)) → AreDistinct d.program.names → ReadsAll d lines e → ReadsAll d lines f → e ≡ f
+all_one d e f [] distinct none none = refl
+all_one d e f (line ∷ lines) distinct (one {e = a} first rest) (one {e = b} first' rest') =
+    let same = reads_one d a b line distinct first first' in
+    all_one b e f lines (distinct_reads d b line distinct first') (subst (λ (m : Draft). ReadsAll m lines e) same rest) rest'
 
 -- the script after some of the lines
-record PartsAt (p : Program) (before after : List (List ℕ)) (q : Program) : Type 0 where
-  middle : Program
-  read : ReadsAll p before middle
-  left : ReadsAll middle after q
+record PartsAt (d : Draft) (before after : List (List ℕ)) (e : Draft) : Type 0 where
+  middle : Draft
+  read : ReadsAll d before middle
+  left : ReadsAll middle after e
 
-parts_at : (p q : Program) (before after : List (List ℕ)) → ReadsAll p (before ++ after) q → PartsAt p before after q
-parts_at p q [] after read = record { middle = p; read = none; left = read }
-parts_at p q (line ∷ before) after (one {q = m} first rest) =
-    let parts = parts_at m q before after rest in
+parts_at : (d e : Draft) (before after : List (List ℕ)) → ReadsAll d (before ++ after) e → PartsAt d before after e
+parts_at d e [] after read = record { middle = d; read = none; left = read }
+parts_at d e (line ∷ before) after (one {e = m} first rest) =
+    let parts = parts_at m e before after rest in
     record { middle = parts.middle; read = one first parts.read; left = parts.left }
 
-first_of_rest : (p q : Program) (line : List ℕ) (lines : List (List ℕ)) → ReadsAll p (line ∷ lines) q → (m : Program) × Reads p line m
-first_of_rest p q line lines (one {q = m} first rest) = (m, first)
+first_of_rest : (d e : Draft) (line : List ℕ) (lines : List (List ℕ)) → ReadsAll d (line ∷ lines) e → (m : Draft) × Reads d line m
+first_of_rest d e line lines (one {e = m} first rest) = (m, first)
 
 -- no script goes on past a line that is refused
-stops : (before after : List (List ℕ)) (line : List ℕ) (script q : Program) → ReadsAll blank before script →
-    ((r : Program) → Reads script line r → ⊥) → ReadsAll blank (before ++ line ∷ after) q → ⊥
-stops before after line script q read refused all =
-    let parts = parts_at blank q before (line ∷ after) all in
-    let same = all_one blank parts.middle script before distinct_none parts.read read in
-    let first = first_of_rest parts.middle q line after parts.left in
-    refused first.0 (subst (λ (m : Program). Reads m line first.0) same first.1)
+stops : (before after : List (List ℕ)) (line : List ℕ) (d e : Draft) → ReadsAll unread before d →
+    ((f : Draft) → Reads d line f → ⊥) → ReadsAll unread (before ++ line ∷ after) e → ⊥
+stops before after line d e read refused all =
+    let parts = parts_at unread e before (line ∷ after) all in
+    let same = all_one unread parts.middle d before distinct_none parts.read read in
+    let first = first_of_rest parts.middle e line after parts.left in
+    refused first.0 (subst (λ (m : Draft). Reads m line first.0) same first.1)
 
 -- the names of a script are distinct
 pub distinct_names : (text : List ℕ) (p : Program) → IsScript text p → AreDistinct p.names
-distinct_names text p is = distinct_all blank p (lines_of text) distinct_none is
+distinct_names text p is = distinct_all unread (record { program = p; said = is.said }) (lines_of text) distinct_none is.read
 
 pub one_script : (text : List ℕ) → HasOneScript text
-one_script text p q a b = all_one blank p q (lines_of text) distinct_none a b
+one_script text p q a b = ap (λ (d : Draft). d.program) (all_one unread _ _ (lines_of text) distinct_none a.read b.read)
 
 pub no_bad_line : (text : List ℕ) → HasNoBadLine text
 no_bad_line text p number script bad =
-    stops bad.before bad.after bad.line bad.script p bad.read bad.refused
-    (subst (λ (lines : List (List ℕ)). ReadsAll blank lines p) bad.lines_are script)
+    stops bad.before bad.after bad.line bad.draft (record { program = p; said = script.said }) bad.read bad.refused
+    (subst (λ (lines : List (List ℕ)). ReadsAll unread lines (record { program = p; said = script.said })) bad.lines_are script.read)
 
 -- of two cuts of a list the longer one has the other's element
 record GoesPast (before longer : List (List ℕ)) (line : List ℕ) : Type 0 where
@@ -73,8 +73,8 @@ goes_past (w ∷ xs) (z ∷ ys) us vs x y e less =
 not_past : (text : List ℕ) (m n : ℕ) (a : IsBadLine text m) (b : IsBadLine text n) → length a.before < length b.before → ⊥
 not_past text m n a b less =
     let past = goes_past a.before b.before a.after b.after a.line b.line (sym a.lines_are ∙ b.lines_are) less in
-    stops a.before past.between a.line a.script b.script a.read a.refused
-    (subst (λ (lines : List (List ℕ)). ReadsAll blank lines b.script) past.is b.read)
+    stops a.before past.between a.line a.draft b.draft a.read a.refused
+    (subst (λ (lines : List (List ℕ)). ReadsAll unread lines b.draft) past.is b.read)
 
 pub one_bad_line : (text : List ℕ) → HasOneBadLine text
 one_bad_line text m n a b =

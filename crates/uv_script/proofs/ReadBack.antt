@@ -1,5 +1,5 @@
 -- A script's text is read back.
-use Rattle.std.proofs.Common.{◌≡◌, ◌⊎◌, inl, inr, ℕ, zero, suc, ◌+◌, ◌<◌, ◌≤◌, ◌^◌, true, false, ◌&&◌, ◌==◌, nat_le, List, [], ◌∷◌, ◌++◌, length, map, get_or, Option, Some, None, Ok, Err, Result, slice_get, unwrap_or, Contains, All, refl, ap, sym, subst, ◌∙◌, arith, length-append, append-nil, append_assoc}
+use Rattle.std.proofs.Common.{◌≡◌, ◌⊎◌, inl, inr, ℕ, zero, suc, ◌+◌, ◌<◌, ◌≤◌, ◌^◌, true, false, ◌&&◌, ◌==◌, nat_le, List, [], ◌∷◌, ◌++◌, length, map, get_or, Ok, Err, Result, slice_get, unwrap_or, Contains, All, refl, ap, sym, subst, ◌∙◌, arith, length-append, append-nil, append_assoc}
 use Rattle.std.specs.Prelude.{codes, decimal, slice_set, sum_by}
 use Rattle.std.specs.List.{AllByRecursion, list_all}
 use Rattle.std.specs.Char.{is_ascii_digit}
@@ -22,12 +22,13 @@ use Rattle.uv_script.specs.declared.op.MainOp.{MainOp}
 use Rattle.uv_script.specs.declared.op.CallbackLine.{CallbackLine}
 use Rattle.uv_script.specs.declared.size.ArenaSize.{ArenaSize}
 use Rattle.uv_ids.specs.declared.thread_line.ThreadLine.{ThreadLine}
-use Rattle.uv_script.specs.Grammar.{Declares, InMain, InCallback, Sizes, HasWorkers, InThread, declares, sizes_to, has_workers, Reads, skips, says, ReadsAll, none, one, blank, WasRead, IsScript, Parses}
+use Rattle.uv_script.specs.Grammar.{Declares, InMain, InCallback, Sizes, HasWorkers, InThread, declares, sizes_to, has_workers, Draft, Reads, skips, says, ReadsAll, none, one, unread, WasRead, IsScript, Parses}
 use Rattle.uv_script.specs.Laws.{IsBack, IsReadBack}
 use Rattle.uv_script.specs.Lines.{lines_of, fields_of, IsLine}
-use Rattle.uv_script.specs.Program.{Program, Callbacks, no_callbacks, callbacks_of, lines_of as lines_in_callbacks, with_line, callback_count, line_count, arena_size, worker_count, DEFAULT_SIZE, DEFAULT_WORKERS, IsWorkerCount}
-use Rattle.uv_script.specs.Text.{workers_line, slots_line, var_line, main_line, callback_line, name_lines, callback_lines, thread_line, script_lines, lines_text, script_text, said_whole}
+use Rattle.uv_script.specs.Program.{Program, Callbacks, no_callbacks, callbacks_of, lines_of as lines_in_callbacks, with_line, callback_count, line_count, IsWorkerCount}
+use Rattle.uv_script.specs.Text.{workers_line, slots_line, var_line, main_line, callback_line, name_lines, callback_lines, thread_line, script_lines, lines_text, script_text}
 use Rattle.uv_script.specs.Words.{IsLetter, IsDigit, IsName, IsNumber}
+use Rattle.uv_script.proofs.AfterLines.{with_one}
 use Rattle.uv_script.proofs.Agrees.{AreDistinct}
 use Rattle.uv_script.proofs.Checks.{within}
 use Rattle.uv_script.proofs.Cuts.{fields-cut, fields-last, lines_append, AreNot}
@@ -43,9 +44,9 @@ contains_later : {A : Type 0} (x y : A) (xs : List A) → Contains xs y → Cont
 contains_later x y xs h = (suc h.0, omega (arith, h.1), h.2)
 
 -- lines behind others
-reads_on : (p q r : Program) (xs ys : List (List ℕ)) → ReadsAll p xs q → ReadsAll q ys r → ReadsAll p (xs ++ ys) r
-reads_on p q r [] ys none second = second
-reads_on p q r (x ∷ xs) ys (one {q = m} first rest) second = one first (reads_on m q r xs ys rest second)
+reads_on : (d e f : Draft) (xs ys : List (List ℕ)) → ReadsAll d xs e → ReadsAll e ys f → ReadsAll d (xs ++ ys) f
+reads_on d e f [] ys none second = second
+reads_on d e f (x ∷ xs) ys (one {e = m} first rest) second = one first (reads_on m e f xs ys rest second)
 
 -- numbers
 digits_within : (text : List ℕ) → all_ascii_digits text ≡ true → All (λ b. (48 ≤ b) × (b ≤ 57)) text
@@ -76,8 +77,8 @@ pub is_number : (n : ℕ) → n < 2 ^ 64 → IsNumber (decimal n) n
 is_number n h = record { is = refl; fits = h }
 
 -- the number of workers, and the size of the arena
-pub workers_read : (p : Program) (n : ℕ) → IsWorkerCount n → p.workers ≡ None → Reads p (workers_line n) (record p { workers = Some n })
-workers_read p n fits unsaid =
+workers_read : (d : Draft) (n : ℕ) → IsWorkerCount n → d.said.workers ≡ false → Reads d (workers_line n) (with_one d (HasWorkers n))
+workers_read d n fits unsaid =
     let small : n < 2 ^ 64 = omega (arith, fits.1) in
     let line : IsLine (workers_line n) = record {
       short = omega (arith, length-append (codes "workers ") (decimal n), decimal_short n (omega (arith, fits.1)));
@@ -85,10 +86,10 @@ workers_read p n fits unsaid =
     } in
     let fields : fields_of (workers_line n) ≡ codes "workers" ∷ decimal n ∷ [] = ap (λ r. codes "workers" ∷ r)
     (fields-last (decimal n) (decimal_unspaced n small)) in
-    says (HasWorkers n) line (has_workers (decimal n) n fields (is_number n small) fits) unsaid
+    says (HasWorkers n) line (has_workers (decimal n) n fields (is_number n small) fits) unsaid tt
 
-slots_read : (p : Program) (size : ArenaSize) → IsSize size → p.size ≡ None → Reads p (slots_line size) (record p { size = Some size })
-slots_read p size is unsaid =
+slots_read : (d : Draft) (size : ArenaSize) → IsSize size → d.said.slots ≡ false → Reads d (slots_line size) (with_one d (Sizes size))
+slots_read d size is unsaid =
     let n = size.slots in
     let g = size.last_generation in
     let small : n < 2 ^ 64 = omega (arith, is.slots.1) in
@@ -113,7 +114,7 @@ slots_read p size is unsaid =
     ∙ ap (λ r. decimal n ∷ r) (fields-last (decimal g) (decimal_unspaced g last_small)) in
     let fields : fields_of (slots_line size) ≡ codes "slots" ∷ decimal n ∷ decimal g ∷ [] = ap fields_of text ∙ ap (λ r. codes "slots" ∷ r) parts in
     says (Sizes size) (subst IsLine (sym text) line)
-    (sizes_to (decimal n) (decimal g) n g fields (is_number n small) is.slots (is_number g last_small) is.last) unsaid
+    (sizes_to (decimal n) (decimal g) n g fields (is_number n small) is.slots (is_number g last_small) is.last) unsaid tt
 
 -- no callbacks for each of these
 blanks : {A : Type 0} → List A → List Callbacks
@@ -137,8 +138,19 @@ blanks_same [] (y ∷ ys) e = absurd (omega arith)
 blanks_same (x ∷ xs) [] e = absurd (omega arith)
 blanks_same (x ∷ xs) (y ∷ ys) e = ap (λ cs. no_callbacks ∷ cs) (blanks_same xs ys (omega arith))
 
+-- a script whose settings were said
+abbrev pub settled : Program → Draft
+settled p = record { program = p; said = record { slots = true; workers = true } }
+
+-- lines behind them
+abbrev ReadsOn : Program → List (List ℕ) → Program → Type 0
+ReadsOn p lines q = ReadsAll (settled p) lines (settled q)
+
+lines_on : (p q r : Program) (xs ys : List (List ℕ)) → ReadsOn p xs q → ReadsOn q ys r → ReadsOn p (xs ++ ys) r
+lines_on p q r xs ys first second = reads_on (settled p) (settled q) (settled r) xs ys first second
+
 -- the script of these names alone
-abbrev declared : Option ArenaSize → Option ℕ → List (List ℕ) → Program
+abbrev declared : ArenaSize → ℕ → List (List ℕ) → Program
 declared size workers names = record { names = names; main = []; callbacks = blanks names; size = size; workers = workers; threads = [] }
 
 pub name_unspaced : (name : List ℕ) → IsName name → AreNot 32 name
@@ -160,55 +172,57 @@ fresh_name before after name distinct (k, inside, is) =
     distinct k (length before) name inside (omega arith)
     (get_or_append_left before (name ∷ after) name k inside ∙ is ∙ sym (get_or-append_seam before name after name))
 
-names_read : (size : Option ArenaSize) (workers : Option ℕ) (before names : List (List ℕ)) →
+names_read : (size : ArenaSize) (workers : ℕ) (before names : List (List ℕ)) →
     ((name : List ℕ) → Contains names name → IsName name × IsLine (var_line name)) → AreDistinct (before ++ names) →
     length before + length names ≤ 4096 →
-    ReadsAll (declared size workers before) (map var_line names) (declared size workers (before ++ names))
+    ReadsOn (declared size workers before) (map var_line names) (declared size workers (before ++ names))
 names_read size workers before [] each distinct few =
-    subst (λ (ns : List (List ℕ)). ReadsAll (declared size workers before) [] (declared size workers ns)) (sym (append-nil before)) none
+    subst (λ (ns : List (List ℕ)). ReadsOn (declared size workers before) [] (declared size workers ns)) (sym (append-nil before)) none
 names_read size workers before (name ∷ names) each distinct few =
     let p = declared size workers before in
     let here = each name (contains_first name names) in
     let none_counted = blanks_sum before in
-    let first : Reads p (var_line name) (record p { names = before ++ name ∷ []; callbacks = blanks before ++ no_callbacks ∷ [] }) =
+    let first : Reads (settled p) (var_line name) (settled (record p { names = before ++ name ∷ []; callbacks = blanks before ++ no_callbacks ∷ [] })) =
     says (Declares name) here.1
-    (declares name (ap (λ r. codes "var" ∷ r) (fields-last name (name_unspaced name here.0))) here.0 (fresh_name before names name distinct))
+    (declares name (ap (λ r. codes "var" ∷ r) (fields-last name (name_unspaced name here.0))) here.0 (fresh_name before names name distinct)) tt
     (omega (arith, none_counted, few), omega (arith, few)) in
-    let onto = subst (λ (cs : List Callbacks). Reads p (var_line name) (record p { names = before ++ name ∷ []; callbacks = cs }))
+    let onto = subst
+    (λ (cs : List Callbacks). Reads (settled p) (var_line name) (settled (record p { names = before ++ name ∷ []; callbacks = cs })))
     (sym (blanks_push before name)) first in
     let same = append_assoc before (name ∷ []) names in
     let rest = names_read size workers (before ++ name ∷ []) names (λ x h. each x (contains_later name x names h))
     (subst AreDistinct (sym same) distinct) (omega (arith, length-append before (name ∷ []), few)) in
-    subst (λ (ns : List (List ℕ)). ReadsAll p (map var_line (name ∷ names)) (declared size workers ns)) same (one onto rest)
+    subst (λ (ns : List (List ℕ)). ReadsOn p (map var_line (name ∷ names)) (declared size workers ns)) same (one onto rest)
 
 -- the main program
 main_read : (p : Program) (ops : List MainOp) → ((o : MainOp) → Contains ops o → IsWritten p.names (InMain o)) →
-    line_count p + length ops ≤ 65535 → ReadsAll p (map (main_line p.names) ops) (record p { main = p.main ++ ops })
-main_read p [] each few = subst (λ (m : List MainOp). ReadsAll p [] (record p { main = m })) (sym (append-nil p.main)) none
+    line_count p + length ops ≤ 65535 → ReadsOn p (map (main_line p.names) ops) (record p { main = p.main ++ ops })
+main_read p [] each few = subst (λ (m : List MainOp). ReadsOn p [] (record p { main = m })) (sym (append-nil p.main)) none
 main_read p (o ∷ ops) each few =
     let here = each o (contains_first o ops) in
-    let first : Reads p (main_line p.names o) (record p { main = p.main ++ o ∷ [] }) = says (InMain o) here.line here.says (omega (arith, few)) in
+    let first : Reads (settled p) (main_line p.names o) (settled (record p { main = p.main ++ o ∷ [] })) =
+    says (InMain o) here.line here.says tt (omega (arith, few)) in
     let rest = main_read (record p { main = p.main ++ o ∷ [] }) ops (λ x h. each x (contains_later o x ops h))
     (omega (arith, length-append p.main (o ∷ []), few)) in
-    subst (λ (m : List MainOp). ReadsAll p (map (main_line p.names) (o ∷ ops)) (record p { main = m })) (append_assoc p.main (o ∷ []) ops)
+    subst (λ (m : List MainOp). ReadsOn p (map (main_line p.names) (o ∷ ops)) (record p { main = m })) (append_assoc p.main (o ∷ []) ops)
     (one first rest)
 
 -- what threads send
 threads_read : (p : Program) (lines : List ThreadLine) → ((line : ThreadLine) → Contains lines line → IsWritten p.names (InThread line)) →
-    line_count p + length lines ≤ 65535 → ReadsAll p (map (thread_line p.names) lines) (record p { threads = p.threads ++ lines })
-threads_read p [] each few = subst (λ (ls : List ThreadLine). ReadsAll p [] (record p { threads = ls })) (sym (append-nil p.threads)) none
+    line_count p + length lines ≤ 65535 → ReadsOn p (map (thread_line p.names) lines) (record p { threads = p.threads ++ lines })
+threads_read p [] each few = subst (λ (ls : List ThreadLine). ReadsOn p [] (record p { threads = ls })) (sym (append-nil p.threads)) none
 threads_read p (line ∷ lines) each few =
     let here = each line (contains_first line lines) in
-    let first : Reads p (thread_line p.names line) (record p { threads = p.threads ++ line ∷ [] }) =
-    says (InThread line) here.line here.says (omega (arith, few)) in
+    let first : Reads (settled p) (thread_line p.names line) (settled (record p { threads = p.threads ++ line ∷ [] })) =
+    says (InThread line) here.line here.says tt (omega (arith, few)) in
     let rest = threads_read (record p { threads = p.threads ++ line ∷ [] }) lines (λ x h. each x (contains_later line x lines h))
     (omega (arith, length-append p.threads (line ∷ []), few)) in
-    subst (λ (ls : List ThreadLine). ReadsAll p (map (thread_line p.names) (line ∷ lines)) (record p { threads = ls }))
+    subst (λ (ls : List ThreadLine). ReadsOn p (map (thread_line p.names) (line ∷ lines)) (record p { threads = ls }))
     (append_assoc p.threads (line ∷ []) lines) (one first rest)
 
--- the lines of callbacks, in a script that says how large its arena is and how many workers it has, before any line of a thread
+-- the script with these lines of callbacks, before any line of a thread
 abbrev with_callbacks : Program → List Callbacks → Program
-with_callbacks p cs = record p { callbacks = cs; size = Some (arena_size p); workers = Some (worker_count p); threads = [] }
+with_callbacks p cs = record p { callbacks = cs; threads = [] }
 
 with_lines : Callback → Callbacks → List CallbackLine → Callbacks
 with_lines callback.Handle c lines = record c { handle = c.handle ++ lines }
@@ -243,25 +257,26 @@ module _ (p : Program) where
   lines_read : (kind : Callback) (done later : List Callbacks) (c : Callbacks) (lines : List CallbackLine) →
       ((line : CallbackLine) → Contains lines line → IsWritten p.names (InCallback kind (place done) line)) →
       line_count (with_callbacks p (done ++ c ∷ later)) + length lines ≤ 65535 →
-      ReadsAll (with_callbacks p (done ++ c ∷ later)) (map (callback_line p.names kind (place done)) lines)
+      ReadsOn (with_callbacks p (done ++ c ∷ later)) (map (callback_line p.names kind (place done)) lines)
       (with_callbacks p (done ++ with_lines kind c lines ∷ later))
   lines_read kind done later c [] each few =
-      subst (λ (x : Callbacks). ReadsAll (with_callbacks p (done ++ c ∷ later)) [] (with_callbacks p (done ++ x ∷ later)))
+      subst (λ (x : Callbacks). ReadsOn (with_callbacks p (done ++ c ∷ later)) [] (with_callbacks p (done ++ x ∷ later)))
       (sym (with_lines_none kind c)) none
   lines_read kind done later c (line ∷ lines) each few =
       let v = place done in
       let before = with_callbacks p (done ++ c ∷ later) in
       let here = each line (contains_first line lines) in
-      let first : Reads before (callback_line p.names kind v line)
-      (with_callbacks p (slice_set (done ++ c ∷ later) (length done) (with_line kind (callbacks_of before v) line))) =
-      says (InCallback kind v line) here.line here.says (omega (arith, few)) in
+      let first : Reads (settled before) (callback_line p.names kind v line)
+      (settled (with_callbacks p (slice_set (done ++ c ∷ later) (length done) (with_line kind (callbacks_of before v) line)))) =
+      says (InCallback kind v line) here.line here.says tt (omega (arith, few)) in
       let put : slice_set (done ++ c ∷ later) (length done) (with_line kind (callbacks_of before v) line) ≡ done ++ with_line kind c line ∷ later =
       ap (λ (x : Callbacks). slice_set (done ++ c ∷ later) (length done) (with_line kind x line)) (callbacks_at done later c)
       ∙ set-append_seam done c later (with_line kind c line) in
-      let onto = subst (λ (cs : List Callbacks). Reads before (callback_line p.names kind v line) (with_callbacks p cs)) put first in
+      let onto = subst (λ (cs : List Callbacks). Reads (settled before) (callback_line p.names kind v line)
+      (settled (with_callbacks p cs))) put first in
       let rest = lines_read kind done later (with_line kind c line) lines (λ x h. each x (contains_later line x lines h))
       (omega (arith, few, sum_seam done later c, sum_seam done later (with_line kind c line), count_more kind c line)) in
-      subst (λ (x : Callbacks). ReadsAll before (map (callback_line p.names kind v) (line ∷ lines)) (with_callbacks p (done ++ x ∷ later)))
+      subst (λ (x : Callbacks). ReadsOn before (map (callback_line p.names kind v) (line ∷ lines)) (with_callbacks p (done ++ x ∷ later)))
       (with_lines_one kind c line lines) (one onto rest)
 
   own_lines : Var → Callbacks → List (List ℕ)
@@ -273,7 +288,7 @@ module _ (p : Program) where
   name_read : (done later : List Callbacks) (c : Callbacks) →
       ((kind : Callback) (line : CallbackLine) → Contains (lines_in_callbacks kind c) line → IsWritten p.names (InCallback kind (place done) line)) →
       line_count (with_callbacks p (done ++ c ∷ later)) ≤ 65535 →
-      ReadsAll (with_callbacks p (done ++ no_callbacks ∷ later)) (own_lines (place done) c) (with_callbacks p (done ++ c ∷ later))
+      ReadsOn (with_callbacks p (done ++ no_callbacks ∷ later)) (own_lines (place done) c) (with_callbacks p (done ++ c ∷ later))
   unfolding with_lines own_lines
   name_read done later c each few =
       let v = place done in
@@ -286,13 +301,13 @@ module _ (p : Program) where
       let first = lines_read callback.Handle done later no_callbacks c.handle (each callback.Handle) (omega arith) in
       let second = lines_read callback.After done later c₁ c.after (each callback.After) (omega arith) in
       let third = lines_read callback.Close done later c₂ c.close (each callback.Close) (omega arith) in
-      reads_on (with_callbacks p (done ++ no_callbacks ∷ later)) (with_callbacks p (done ++ c₂ ∷ later)) (with_callbacks p (done ++ c ∷ later)) _ _
-      (reads_on (with_callbacks p (done ++ no_callbacks ∷ later)) (with_callbacks p (done ++ c₁ ∷ later)) (with_callbacks p (done ++ c₂ ∷ later)) _ _
+      lines_on (with_callbacks p (done ++ no_callbacks ∷ later)) (with_callbacks p (done ++ c₂ ∷ later)) (with_callbacks p (done ++ c ∷ later)) _ _
+      (lines_on (with_callbacks p (done ++ no_callbacks ∷ later)) (with_callbacks p (done ++ c₁ ∷ later)) (with_callbacks p (done ++ c₂ ∷ later)) _ _
       first second) third
 
   -- of every name
   callbacks_read : (done cs : List Callbacks) (names : List (List ℕ)) → p.callbacks ≡ done ++ cs → length names ≡ length cs → AreWritten p →
-      ReadsAll (with_callbacks p (done ++ blanks cs)) (callback_lines p (length done) names) (with_callbacks p (done ++ cs))
+      ReadsOn (with_callbacks p (done ++ blanks cs)) (callback_lines p (length done) names) (with_callbacks p (done ++ cs))
   unfolding blanks own_lines
   callbacks_read done [] [] e same is = none
   callbacks_read done [] (name ∷ names) e same is = absurd (omega arith)
@@ -309,97 +324,81 @@ module _ (p : Program) where
       let first = name_read done (blanks cs) c
       (λ kind line h. is.callbacks kind v line (subst (λ (x : Callbacks). Contains (lines_in_callbacks kind x) line) (sym own) h)) few in
       let further = callbacks_read (done ++ c ∷ []) cs names (e ∙ sym (append_assoc done (c ∷ []) cs)) (omega arith) is in
-      let rest : ReadsAll (with_callbacks p (done ++ c ∷ blanks cs)) (callback_lines p (length done + 1) names) (with_callbacks p (done ++ c ∷ cs)) =
-      subst (λ (l : List Callbacks). ReadsAll (with_callbacks p (done ++ c ∷ blanks cs)) (callback_lines p (length done + 1) names)
+      let rest : ReadsOn (with_callbacks p (done ++ c ∷ blanks cs)) (callback_lines p (length done + 1) names) (with_callbacks p (done ++ c ∷ cs)) =
+      subst (λ (l : List Callbacks). ReadsOn (with_callbacks p (done ++ c ∷ blanks cs)) (callback_lines p (length done + 1) names)
       (with_callbacks p l))
       (append_assoc done (c ∷ []) cs)
-      (subst (λ (l : List Callbacks). ReadsAll (with_callbacks p l) (callback_lines p (length done + 1) names) (with_callbacks p
+      (subst (λ (l : List Callbacks). ReadsOn (with_callbacks p l) (callback_lines p (length done + 1) names) (with_callbacks p
       ((done ++ c ∷ []) ++ cs)))
       (append_assoc done (c ∷ []) (blanks cs))
-      (subst (λ (n : ℕ). ReadsAll (with_callbacks p ((done ++ c ∷ []) ++ blanks cs)) (callback_lines p n names) (with_callbacks p
+      (subst (λ (n : ℕ). ReadsOn (with_callbacks p ((done ++ c ∷ []) ++ blanks cs)) (callback_lines p n names) (with_callbacks p
       ((done ++ c ∷ []) ++ cs)))
       next further)) in
-      reads_on (with_callbacks p (done ++ no_callbacks ∷ blanks cs)) (with_callbacks p (done ++ c ∷ blanks cs)) (with_callbacks p
+      lines_on (with_callbacks p (done ++ no_callbacks ∷ blanks cs)) (with_callbacks p (done ++ c ∷ blanks cs)) (with_callbacks p
       (done ++ c ∷ cs)) _ _
-      (subst (λ (l : List (List ℕ)). ReadsAll (with_callbacks p (done ++ no_callbacks ∷ blanks cs)) l (with_callbacks p (done ++ c ∷ blanks cs)))
+      (subst (λ (l : List (List ℕ)). ReadsOn (with_callbacks p (done ++ no_callbacks ∷ blanks cs)) l (with_callbacks p (done ++ c ∷ blanks cs)))
       (sym lines) first) rest
 
 -- a text of lines, cut into its lines
 line_unfed : (line : List ℕ) → IsLine line → AreNot 10 line
 line_unfed line is = λ k d inside. ne_eqb _ 10 (λ e. omega (arith, (is.printable k d inside).0, e))
 
-read_line : (p q : Program) (line : List ℕ) → Reads p line q → IsLine line
-read_line p q line (skips is skipped) = is
-read_line p q line (says s is said room) = is
+read_line : (d e : Draft) (line : List ℕ) → Reads d line e → IsLine line
+read_line d e line (skips is skipped) = is
+read_line d e line (says s is said new room) = is
 
-pub read_lines : (p q : Program) (lines : List (List ℕ)) → ReadsAll p lines q → AllByRecursion IsLine lines
-read_lines p q [] none = tt
-read_lines p q (line ∷ lines) (one {q = m} first rest) = (read_line p m line first, read_lines m q lines rest)
+pub read_lines : (d e : Draft) (lines : List (List ℕ)) → ReadsAll d lines e → AllByRecursion IsLine lines
+read_lines d e [] none = tt
+read_lines d e (line ∷ lines) (one {e = m} first rest) = (read_line d m line first, read_lines m e lines rest)
 
 pub lines_back : (lines : List (List ℕ)) → AllByRecursion IsLine lines → lines_of (lines_text lines) ≡ lines
 lines_back [] h = refl
 lines_back (line ∷ lines) h = lines_append line (lines_text lines) (line_unfed line h.0) ∙ ap (λ ls. line ∷ ls) (lines_back lines h.1)
 
-pub workers_fit : (said : Option ℕ) → ((n : ℕ) → said ≡ Some n → IsWorkerCount n) → IsWorkerCount (unwrap_or said DEFAULT_WORKERS)
-workers_fit (Some n) fits = fits n refl
-workers_fit None fits = (omega arith, omega arith)
-
-pub size_fits : (said : Option ArenaSize) → ((size : ArenaSize) → said ≡ Some size → IsSize size) → IsSize (unwrap_or said DEFAULT_SIZE)
-size_fits (Some size) fits = fits size refl
-size_fits None fits = record { slots = (omega arith, omega arith); last = omega arith }
-
-pub lines_read_back : (p : Program) → AreWritten p → ReadsAll blank (script_lines p) (said_whole p)
+pub lines_read_back : (p : Program) → AreWritten p → ReadsAll unread (script_lines p) (settled p)
 unfolding blanks
 lines_read_back p is =
-    let n = worker_count p in
-    let size = arena_size p in
-    let workers = workers_read blank n (workers_fit p.workers is.workers) refl in
-    let slots = slots_read (record blank { workers = Some n }) size (size_fits p.size is.size) refl in
-    let named = declared (Some size) (Some n) p.names in
+    let workers = workers_read unread p.workers is.workers refl in
+    let slots = slots_read (with_one unread (HasWorkers p.workers)) p.size is.size refl in
+    let first = declared p.size p.workers [] in
+    let named = declared p.size p.workers p.names in
     let few = is.few in
-    let names = names_read (Some size) (Some n) [] p.names is.names is.distinct (omega (arith, is.few_names)) in
+    let names = names_read p.size p.workers [] p.names is.names is.distinct (omega (arith, is.few_names)) in
     let main = main_read named p.main is.main (omega (arith, blanks_sum p.names)) in
     let all = with_callbacks p p.callbacks in
     let callbacks = subst
-    (λ (cs : List Callbacks). ReadsAll (with_callbacks p cs) (callback_lines p 0 p.names) all) (blanks_same p.callbacks p.names is.each)
+    (λ (cs : List Callbacks). ReadsOn (with_callbacks p cs) (callback_lines p 0 p.names) all) (blanks_same p.callbacks p.names is.each)
     (callbacks_read p [] p.callbacks p.names refl (sym is.each) is) in
     let threads = threads_read all p.threads is.threads (omega (arith, few)) in
-    let front = reads_on (declared (Some size) (Some n) []) named (with_callbacks p (blanks p.names)) _ _ names main in
-    let middle = reads_on (declared (Some size) (Some n) []) (with_callbacks p (blanks p.names)) all _ _ front callbacks in
-    let rest = reads_on (declared (Some size) (Some n) []) all (said_whole p) _ _ middle threads in
+    let front = lines_on first named (with_callbacks p (blanks p.names)) _ _ names main in
+    let middle = lines_on first (with_callbacks p (blanks p.names)) all _ _ front callbacks in
+    let rest = lines_on first all p _ _ middle threads in
     one workers (one slots rest)
 
-read_back : (p : Program) (lines : List (List ℕ)) → ReadsAll blank lines p → IsScript (script_text p) (said_whole p)
+pub text_makes : (p : Program) → AreWritten p → IsScript (script_text p) p
 unfolding script_text
-read_back p lines read =
-    let all = lines_read_back p (script_written p lines read) in
-    subst (λ (ls : List (List ℕ)). ReadsAll blank ls (said_whole p))
-    (sym (lines_back (script_lines p) (read_lines blank (said_whole p) (script_lines p) all))) all
+text_makes p is =
+    let all = lines_read_back p is in
+    record {
+      said = (settled p).said;
+      read = subst (λ (ls : List (List ℕ)). ReadsAll unread ls (settled p))
+          (sym (lines_back (script_lines p) (read_lines unread (settled p) (script_lines p) all))) all;
+    }
 
--- the lines of callbacks are those of the names and the callbacks alone
-lines_alike : (p : Program) (n : ℕ) (names : List (List ℕ)) → callback_lines p n names ≡ callback_lines (said_whole p) n names
-lines_alike p n [] = refl
-lines_alike p n (name ∷ names) = ap (λ lines. name_lines p (record { 0 = n }) ++ lines) (lines_alike p (n + 1) names)
-
-text_alike : (p : Program) → script_text p ≡ script_text (said_whole p)
-unfolding script_text
-text_alike p = ap (λ lines. lines_text (workers_line (worker_count p) ∷ slots_line (arena_size p) ∷
-    map var_line p.names ++ map (main_line p.names) p.main ++ lines ++ map (thread_line p.names) p.threads)) (lines_alike p 0 p.names)
+-- a script whose parts can be written was read from its own lines
+pub was_read : (p : Program) → AreWritten p → WasRead p
+was_read p is = record { lines = script_lines p; makes = record { said = (settled p).said; read = lines_read_back p is } }
 
 pub back : (p : Program) → WasRead p → IsReadBack p
 back p was =
-    let is = read_back p was.lines was.read in
-    record {
-      script = is;
-      alike = record { names = refl; main = refl; lines = λ kind v. refl; size = refl; workers = refl; threads = refl; text = text_alike p };
-      answer = answered is;
-    }
+    let is = text_makes p (script_written p was.lines was.makes) in
+    record { script = is; answer = answered is }
   where
-    answered : IsScript (script_text p) (said_whole p) → (answer : Result Program Fault) → Parses (script_text p) answer → IsBack p answer
-    answered is (Ok q) parses = one_script (script_text p) q (said_whole p) parses is
-    answered is (Err (fault.Script line)) parses = no_bad_line (script_text p) (said_whole p) line is parses
+    answered : IsScript (script_text p) p → (answer : Result Program Fault) → Parses (script_text p) answer → IsBack p answer
+    answered is (Ok q) parses = one_script (script_text p) q p parses is
+    answered is (Err (fault.Script line)) parses = no_bad_line (script_text p) p line is parses
     answered is (Err fault.Memory) parses = tt
     answered is (Err _) parses = parses
 
 pub back_of_text : (text : List ℕ) (p : Program) → IsScript text p → IsReadBack p
-back_of_text text p is = back p (record { lines = lines_of text; read = is })
+back_of_text text p is = back p (record { lines = lines_of text; makes = is })

@@ -1,20 +1,22 @@
 -- Every text is read in some way.
 use Rattle.std.proofs.Common.{◌≡◌, inl, inr, ℕ, ◌+◌, List, [], ◌∷◌, ◌++◌, length, Option, Some, None, refl, sym, ◌∙◌, subst, append_assoc, append-nil}
-use Rattle.uv_script.specs.Grammar.{ReadsAll, none, blank}
+use Rattle.uv_script.specs.Grammar.{Draft, ReadsAll, none, unread}
 use Rattle.uv_script.specs.Laws.{HasReading}
 use Rattle.uv_script.specs.Lines.{lines_of}
-use Rattle.uv_script.specs.Program.{Program}
 use Rattle.uv_script.specs.Reading.{after_line}
 use Rattle.uv_script.proofs.AfterLines.{after_sound, refused_line, ReadsAll-push}
 
 -- from the script of the lines before these on
-reading_from : (text : List ℕ) (p : Program) (before lines : List (List ℕ)) → lines_of text ≡ before ++ lines → ReadsAll blank before p →
+reading_from : (text : List ℕ) (d : Draft) (before lines : List (List ℕ)) → lines_of text ≡ before ++ lines → ReadsAll unread before d →
     HasReading text
-reading_from text p before [] e read = inl (p, subst (λ (ls : List (List ℕ)). ReadsAll blank ls p) (sym (append-nil before) ∙ sym e) read)
-reading_from text p before (line ∷ rest) e read = at (after_line p line) refl
+reading_from text d before [] e read = inl (
+  d.program,
+  record { said = d.said; read = subst (λ (ls : List (List ℕ)). ReadsAll unread ls d) (sym (append-nil before) ∙ sym e) read },
+)
+reading_from text d before (line ∷ rest) e read = at (after_line d line) refl
     (λ q r. reading_from text q (before ++ line ∷ []) rest (e ∙ sym (append_assoc before (line ∷ []) rest)) r) where
-      at : (o : Option Program) → after_line p line ≡ o → ((q : Program) → ReadsAll blank (before ++ line ∷ []) q → HasReading text) → HasReading text
-      at (Some q) f onward = onward q (ReadsAll-push blank p q before line read (after_sound p q line f))
+      at : (o : Option Draft) → after_line d line ≡ o → ((q : Draft) → ReadsAll unread (before ++ line ∷ []) q → HasReading text) → HasReading text
+      at (Some q) f onward = onward q (ReadsAll-push unread d q before line read (after_sound d q line f))
       at None f onward = inr (
         length before + 1,
         record {
@@ -23,11 +25,11 @@ reading_from text p before (line ∷ rest) e read = at (after_line p line) refl
           after = rest;
           lines_are = e;
           counted = refl;
-          script = p;
+          draft = d;
           read = read;
-          refused = refused_line p before line read f;
+          refused = refused_line d before line read f;
         },
       )
 
 pub some_reading : (text : List ℕ) → HasReading text
-some_reading text = reading_from text blank [] (lines_of text) refl none
+some_reading text = reading_from text unread [] (lines_of text) refl none

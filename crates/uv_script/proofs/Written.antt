@@ -1,11 +1,11 @@
 -- What every script's parts are: each was written in a line of its own.
-use Rattle.std.proofs.Common.{◌≡◌, ◌⊎◌, inl, inr, ℕ, zero, suc, ◌+◌, ◌<◌, ◌≤◌, ◌^◌, List, [], ◌∷◌, ◌++◌, length, get_or, Some, None, slice_get, unwrap_or, Contains, refl, ap, sym, subst, ◌∙◌, arith, length-append, length-set}
+use Rattle.std.proofs.Common.{◌≡◌, ◌⊎◌, inl, inr, ℕ, zero, suc, ◌+◌, ◌<◌, ◌≤◌, ◌^◌, List, [], ◌∷◌, ◌++◌, length, get_or, slice_get, unwrap_or, Contains, refl, ap, sym, subst, ◌∙◌, arith, length-append, length-set}
 use Rattle.std.specs.Prelude.{slice_set}
 use Rattle.std.proofs.lemmas.Bool.{cases_order}
 use Rattle.std.proofs.lemmas.List.{get_or-set_same, get_or-set_other}
 use Rattle.std.proofs.lemmas.List.Elements.{Contains-push_cases}
 use Rattle.std.proofs.lemmas.List.Sums.{sum_by_push, sum_by-set}
-use Rattle.std.proofs.lemmas.Option.{same_Some, unwrap_or-slice_get}
+use Rattle.std.proofs.lemmas.Option.{unwrap_or-slice_get}
 use Rattle.uv_ids.specs.declared.id.Var.{Var}
 use Rattle.uv_ids.specs.declared.seen.Callback.{Callback}
 use Rattle.uv_ids.specs.declared.seen.Callback.TheVariants as callback
@@ -13,7 +13,7 @@ use Rattle.uv_script.specs.declared.op.MainOp.{MainOp}
 use Rattle.uv_script.specs.declared.op.CallbackLine.{CallbackLine}
 use Rattle.uv_script.specs.declared.size.ArenaSize.{ArenaSize}
 use Rattle.uv_ids.specs.declared.thread_line.ThreadLine.{ThreadLine}
-use Rattle.uv_script.specs.Grammar.{Statement, Declares, InMain, InCallback, Sizes, HasWorkers, InThread, Says, declares, in_main, runs, closes_loop, in_callback, in_call, sizes, sizes_to, has_workers, in_thread, HasRoom, with_statement, Reads, skips, says, ReadsAll, none, one, blank}
+use Rattle.uv_script.specs.Grammar.{Statement, Declares, InMain, InCallback, Sizes, HasWorkers, InThread, Says, declares, in_main, runs, closes_loop, in_callback, in_call, sizes, sizes_to, has_workers, in_thread, HasRoom, with_statement, Draft, Reads, skips, says, ReadsAll, none, one, blank, unread, Makes}
 use Rattle.uv_script.specs.Lines.{fields_of, IsLine}
 use Rattle.uv_script.specs.Program.{Program, Callbacks, no_callbacks, callbacks_of, lines_of, with_line, lines_in, callback_count, line_count, IsSlotCount, IsWorkerCount}
 use Rattle.uv_script.specs.Reading.{IsSound}
@@ -41,8 +41,8 @@ pub record AreWritten (p : Program) : Type 0 where
       IsWritten p.names (InCallback kind v line)
   pub each : length p.callbacks ≡ length p.names
   pub few : line_count p ≤ 65535
-  pub size : (size : ArenaSize) → p.size ≡ Some size → IsSize size
-  pub workers : (n : ℕ) → p.workers ≡ Some n → IsWorkerCount n
+  pub size : IsSize p.size
+  pub workers : IsWorkerCount p.workers
   pub threads : (line : ThreadLine) → Contains p.threads line → IsWritten p.names (InThread line)
 
 written : (names : List (List ℕ)) (line : List ℕ) (s : Statement) → IsKept s → IsLine line → Says names (fields_of line) s → IsWritten names s
@@ -115,6 +115,21 @@ pub count_more : (kind : Callback) (c : Callbacks) (line : CallbackLine) → cal
 count_more callback.Handle c line = omega (arith, length-append c.handle (line ∷ []))
 count_more callback.After c line = omega (arith, length-append c.after (line ∷ []))
 count_more callback.Close c line = omega (arith, length-append c.close (line ∷ []))
+
+-- another number of workers, whatever line says it
+pub set_workers : (n : ℕ) (p : Program) → IsWorkerCount n → AreWritten p → AreWritten (record p { workers = n })
+set_workers n p fits is = record {
+  names = is.names;
+  distinct = is.distinct;
+  few_names = is.few_names;
+  main = is.main;
+  callbacks = is.callbacks;
+  each = is.each;
+  few = is.few;
+  size = is.size;
+  workers = fits;
+  threads = is.threads;
+}
 
 module _ (p : Program) (is : AreWritten p) where
   after_name : (name : List ℕ) → IsName name → (Contains p.names name → ⊥) → IsLine (var_line name) → HasRoom p (Declares name) →
@@ -237,35 +252,28 @@ module _ (p : Program) (is : AreWritten p) where
     callbacks = is.callbacks;
     each = is.each;
     few = is.few;
-    size = λ other e. subst IsSize (same_Some _ _ e) (record { slots = sound; last = last });
+    size = record { slots = sound; last = last };
     workers = is.workers;
     threads = is.threads;
   }
-  after_statement (HasWorkers n) sound last room new = record {
-    names = is.names;
-    distinct = is.distinct;
-    few_names = is.few_names;
-    main = is.main;
-    callbacks = is.callbacks;
-    each = is.each;
-    few = is.few;
-    size = is.size;
-    workers = λ other e. subst IsWorkerCount (same_Some _ _ e) sound;
-    threads = is.threads;
-  }
+  after_statement (HasWorkers n) sound last room new = set_workers n p sound is
   after_statement (InThread line) sound last room new = after_thread line (new tt) room
 
-after_one : (p q : Program) (line : List ℕ) → AreWritten p → Reads p line q → AreWritten q
-after_one p q line is (skips rule skipped) = is
-after_one p q line is (says s rule said room) =
+pub after_said : (p : Program) (line : List ℕ) (s : Statement) → AreWritten p → IsLine line → Says p.names (fields_of line) s → HasRoom p s →
+    AreWritten (with_statement p s)
+after_said p line s is rule said room =
     after_statement p is s (says_sound p (fields_of line) s said) (says_last p.names (fields_of line) s said) room
     (λ kept. written p.names line s kept rule said)
 
-after_all : (p q : Program) (lines : List (List ℕ)) → AreWritten p → ReadsAll p lines q → AreWritten q
-after_all p q [] is none = is
-after_all p q (line ∷ lines) is (one {q = m} first rest) = after_all m q lines (after_one p m line is first) rest
+after_one : (d e : Draft) (line : List ℕ) → AreWritten d.program → Reads d line e → AreWritten e.program
+after_one d e line is (skips rule skipped) = is
+after_one d e line is (says s rule said new room) = after_said d.program line s is rule said room
 
-written_none : AreWritten blank
+after_all : (d e : Draft) (lines : List (List ℕ)) → AreWritten d.program → ReadsAll d lines e → AreWritten e.program
+after_all d e [] is none = is
+after_all d e (line ∷ lines) is (one {e = m} first rest) = after_all m e lines (after_one d m line is first) rest
+
+pub written_none : AreWritten blank
 written_none = record {
   names = λ name h. absurd (none_there name h);
   distinct = distinct_none;
@@ -274,8 +282,8 @@ written_none = record {
   callbacks = λ kind v line h. absurd (nowhere kind line h);
   each = refl;
   few = omega arith;
-  size = λ size e. absurd (none_said e);
-  workers = λ n e. absurd (none_said e);
+  size = record { slots = (omega arith, omega arith); last = omega arith };
+  workers = (omega arith, omega arith);
   threads = λ line h. absurd (none_there line h);
 } where
   nowhere : (kind : Callback) (line : CallbackLine) → Contains (lines_of kind no_callbacks) line → ⊥
@@ -283,9 +291,6 @@ written_none = record {
   nowhere callback.After line h = none_there line h
   nowhere callback.Close line h = none_there line h
 
-  none_said : {A : Type 0} {x : A} → None ≡ Some x → ⊥
-  none_said e = cc
-
 -- so it is with every script
-pub script_written : (p : Program) (lines : List (List ℕ)) → ReadsAll blank lines p → AreWritten p
-script_written p lines read = after_all blank p lines written_none read
+pub script_written : (p : Program) (lines : List (List ℕ)) → Makes lines p → AreWritten p
+script_written p lines makes = after_all unread (record { program = p; said = makes.said }) lines written_none makes.read

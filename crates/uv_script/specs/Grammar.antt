@@ -1,5 +1,5 @@
 -- The grammar of scripts: which lines make which script.
-use Rattle.std.specs.Prelude.{◌≡◌, ◌≢◌, ℕ, ◌+◌, ◌<◌, ◌≤◌, ◌^◌, List, [], ◌∷◌, ◌++◌, length, Contains, Option, Some, None, Result, Ok, Err, slice_set, codes}
+use Rattle.std.specs.Prelude.{◌≡◌, ◌≢◌, ℕ, ◌+◌, ◌<◌, ◌≤◌, ◌^◌, true, false, List, [], ◌∷◌, ◌++◌, length, Contains, Option, Some, None, Result, Ok, Err, slice_set, codes}
 use Rattle.std.specs.List.{join_with_byte}
 use Rattle.uv_ids.specs.declared.id.Var.{Var}
 use Rattle.uv_ids.specs.declared.phase.Kind.{Kind}
@@ -15,10 +15,11 @@ use Rattle.uv_script.specs.declared.op.MainOp.{MainOp}
 use Rattle.uv_script.specs.declared.op.MainOp.TheVariants as main
 use Rattle.uv_script.specs.declared.op.CallbackLine.{CallbackLine}
 use Rattle.uv_script.specs.declared.size.ArenaSize.{ArenaSize}
+use Rattle.uv_script.specs.declared.settings.Settings.{Settings}
 use Rattle.uv_script.specs.declared.task.Task.{Task}
 use Rattle.uv_ids.specs.declared.thread_line.ThreadLine.{ThreadLine}
 use Rattle.uv_script.specs.Lines.{lines_of, fields_of, IsLine, IsSkipped}
-use Rattle.uv_script.specs.Program.{Program, no_callbacks, callbacks_of, with_line, line_count, IsSlotCount, LAST_GENERATION, IsWorkerCount, IsCounted}
+use Rattle.uv_script.specs.Program.{Program, no_callbacks, callbacks_of, with_line, line_count, IsSlotCount, LAST_GENERATION, IsWorkerCount, DEFAULT_SIZE, DEFAULT_WORKERS, IsCounted}
 use Rattle.uv_script.specs.Tasks.{text_of}
 use Rattle.uv_script.specs.Words.{IsName, IsNumber, IsDeclared}
 
@@ -108,42 +109,69 @@ pub data Says (names : List (List ℕ)) (fields : List (List ℕ)) : Statement �
   in_thread : (number : List ℕ) (k : ℕ) (name : List ℕ) (v : Var) → fields ≡ codes "thread" ∷ number ∷ codes "send" ∷ name ∷ [] →
       IsNumber number k → k < 64 → IsDeclared names name v → Says names fields (InThread (record { thread = k; name = v }))
 
--- there is room for one more line, and for one more name; and the arena's size and the number of workers are said once at most
+-- there is room for one more line, and for one more name; lines of settings don't count
 abbrev pub HasRoom : Program → Statement → Type 0
 HasRoom p (Declares name) = (line_count p < 65535) × (length p.names < 4096)
 HasRoom p (InMain op) = line_count p < 65535
 HasRoom p (InCallback kind v line) = line_count p < 65535
-HasRoom p (Sizes size) = p.size ≡ None
-HasRoom p (HasWorkers n) = p.workers ≡ None
+HasRoom p (Sizes size) = Unit {0}
+HasRoom p (HasWorkers n) = Unit {0}
 HasRoom p (InThread line) = line_count p < 65535
+
+-- a setting is said once at most
+abbrev pub IsNew : Settings → Statement → Type 0
+IsNew said (Sizes size) = said.slots ≡ false
+IsNew said (HasWorkers n) = said.workers ≡ false
+IsNew said _ = Unit {0}
 
 -- the script with what one more line says
 abbrev pub with_statement : Program → Statement → Program
 with_statement p (Declares name) = record p { names = p.names ++ name ∷ []; callbacks = p.callbacks ++ no_callbacks ∷ [] }
 with_statement p (InMain op) = record p { main = p.main ++ op ∷ [] }
 with_statement p (InCallback kind v line) = record p { callbacks = slice_set p.callbacks v.0 (with_line kind (callbacks_of p v) line) }
-with_statement p (Sizes size) = record p { size = Some size }
-with_statement p (HasWorkers n) = record p { workers = Some n }
+with_statement p (Sizes size) = record p { size = size }
+with_statement p (HasWorkers n) = record p { workers = n }
 with_statement p (InThread line) = record p { threads = p.threads ++ line ∷ [] }
 
+-- which settings are said with one more line
+abbrev pub with_said : Settings → Statement → Settings
+with_said said (Sizes size) = record said { slots = true }
+with_said said (HasWorkers n) = record said { workers = true }
+with_said said _ = said
+
+-- a script as far as it was read: what its lines make, and which settings they said
+pub record Draft : Type 0 where
+  pub program : Program
+  pub said : Settings
+
 -- the line takes the script before it to the script after it
-pub data Reads (p : Program) (line : List ℕ) : Program → Type 0 where
-  skips : IsLine line → IsSkipped line → Reads p line p
-  says : (s : Statement) → IsLine line → Says p.names (fields_of line) s → HasRoom p s → Reads p line (with_statement p s)
+pub data Reads (d : Draft) (line : List ℕ) : Draft → Type 0 where
+  skips : IsLine line → IsSkipped line → Reads d line d
+  says : (s : Statement) → IsLine line → Says d.program.names (fields_of line) s → IsNew d.said s → HasRoom d.program s →
+      Reads d line (record { program = with_statement d.program s; said = with_said d.said s })
 
 -- so do these lines, one after another
-pub data ReadsAll : Program → List (List ℕ) → Program → Type 0 where
-  none : {p : Program} → ReadsAll p [] p
-  one : {p q r : Program} {line : List ℕ} {lines : List (List ℕ)} → Reads p line q → ReadsAll q lines r → ReadsAll p (line ∷ lines) r
+pub data ReadsAll : Draft → List (List ℕ) → Draft → Type 0 where
+  none : {d : Draft} → ReadsAll d [] d
+  one : {d e f : Draft} {line : List ℕ} {lines : List (List ℕ)} → Reads d line e → ReadsAll e lines f → ReadsAll d (line ∷ lines) f
 
 -- the script of no line
 abbrev pub blank : Program
-blank = record { names = []; main = []; callbacks = []; size = None; workers = None; threads = [] }
+blank = record { names = []; main = []; callbacks = []; size = DEFAULT_SIZE; workers = DEFAULT_WORKERS; threads = [] }
+
+-- before the first line
+abbrev pub unread : Draft
+unread = record { program = blank; said = record { slots = false; workers = false } }
+
+-- these lines are the script
+pub record Makes (lines : List (List ℕ)) (p : Program) : Type 0 where
+  pub said : Settings
+  pub read : ReadsAll unread lines (record { program = p; said = said })
 
 -- the script was read from some lines
 pub record WasRead (p : Program) : Type 0 where
   pub lines : List (List ℕ)
-  pub read : ReadsAll blank lines p
+  pub makes : Makes lines p
 
 -- so many of its lines count
 pub record IsReadScript (lines : ℕ) (p : Program) : Type 0 where
@@ -152,7 +180,7 @@ pub record IsReadScript (lines : ℕ) (p : Program) : Type 0 where
 
 -- the script of a text
 abbrev pub IsScript : List ℕ → Program → Type 0
-IsScript text p = ReadsAll blank (lines_of text) p
+IsScript text p = Makes (lines_of text) p
 
 -- the text's first line outside the grammar, from 1: those before it are a script, and it takes that nowhere
 pub record IsBadLine (text : List ℕ) (number : ℕ) : Type 0 where
@@ -161,9 +189,9 @@ pub record IsBadLine (text : List ℕ) (number : ℕ) : Type 0 where
   pub after : List (List ℕ)
   pub lines_are : lines_of text ≡ before ++ line ∷ after
   pub counted : number ≡ length before + 1
-  pub script : Program
-  pub read : ReadsAll blank before script
-  pub refused : (q : Program) → Reads script line q → ⊥
+  pub draft : Draft
+  pub read : ReadsAll unread before draft
+  pub refused : (d : Draft) → Reads draft line d → ⊥
 
 -- what may be answered to a text: its script, or its first bad line; or want of memory
 abbrev pub Parses : List ℕ → Result Program Fault → Type 0

@@ -28,10 +28,10 @@ pub record Program : Type 0 where
   pub main : List MainOp
   -- for each name, the lines of its callbacks
   pub callbacks : List Callbacks
-  -- how large the arena is, if a line says it
-  pub size : Option ArenaSize
-  -- how many workers the thread pool has, if a line says it
-  pub workers : Option ℕ
+  -- how large the arena is
+  pub size : ArenaSize
+  -- how many workers the thread pool has
+  pub workers : ℕ
   -- the lines of the senders' threads, as they came
   pub threads : List ThreadLine
 
@@ -86,7 +86,7 @@ DEFAULT_SIZE = record { slots = 1024; last_generation = LAST_GENERATION }
 
 -- how large the script's arena is
 abbrev pub arena_size : Program → ArenaSize
-arena_size p = unwrap_or p.size DEFAULT_SIZE
+arena_size p = p.size
 
 -- an arena has 1 to 65535 slots (own)
 abbrev pub IsSlotCount : ℕ → Type 0
@@ -98,15 +98,15 @@ DEFAULT_WORKERS = 4
 
 -- how many workers the script's thread pool has
 abbrev pub worker_count : Program → ℕ
-worker_count p = unwrap_or p.workers DEFAULT_WORKERS
+worker_count p = p.workers
 
 -- a thread pool has 1 to 1024 workers, as in libuv
 abbrev pub IsWorkerCount : ℕ → Type 0
 IsWorkerCount n = (1 ≤ n) × (n ≤ 1024)
 
--- the script with this number of workers, whatever a line says
+-- the script with this number of workers
 abbrev pub with_workers : ℕ → Program → Program
-with_workers n p = record p { workers = Some n }
+with_workers n p = record p { workers = n }
 
 -- a line of a sender's thread, where there are so many names: threads have numbers below 64 (own), and the name is declared
 pub record IsThreadLine (names : ℕ) (line : ThreadLine) : Type 0 where

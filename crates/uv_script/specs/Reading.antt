@@ -1,5 +1,5 @@
 -- How the reader reads, as functions of lists. They serve private clauses; that they agree with the grammar is proved.
-use Rattle.std.specs.Prelude.{◌≡◌, ℕ, ◌&&◌, ◌==◌, ◌<◌, Bool, nat_le, nat_lt, List, [], ◌∷◌, length, Contains, Option, Some, None, Result, Ok, Err, option_and_then, option_map, is_none, codes, if◌then◌else◌}
+use Rattle.std.specs.Prelude.{◌≡◌, ℕ, ◌&&◌, ◌==◌, ◌<◌, Bool, true, not, nat_le, nat_lt, List, [], ◌∷◌, length, Contains, Option, Some, None, Result, Ok, Err, option_and_then, option_map, is_none, codes, if◌then◌else◌}
 use Rattle.std.specs.List.{position}
 use Rattle.std.specs.Str.{bytes_eq}
 use Rattle.uv_ids.specs.declared.id.Var.{Var}
@@ -14,7 +14,8 @@ use Rattle.uv_ids.specs.declared.fault.Fault.TheVariants as fault
 use Rattle.uv_script.specs.declared.op.Op.{Op}
 use Rattle.uv_script.specs.declared.op.Op.TheVariants as op
 use Rattle.uv_script.specs.declared.op.MainOp.TheVariants as main
-use Rattle.uv_script.specs.Grammar.{Statement, Declares, InMain, InCallback, Sizes, HasWorkers, InThread, Says, with_statement}
+use Rattle.uv_script.specs.declared.settings.Settings.{Settings}
+use Rattle.uv_script.specs.Grammar.{Statement, Declares, InMain, InCallback, Sizes, HasWorkers, InThread, Says, Draft, with_statement, with_said}
 use Rattle.uv_script.specs.Lines.{fields_of, rest_of, IsLine}
 use Rattle.uv_script.specs.Program.{Program, line_count, IsSlotCount, LAST_GENERATION, IsWorkerCount, IsThreadLine}
 use Rattle.uv_script.specs.Checks.{is_line, is_skipped, is_name, number_of}
@@ -288,14 +289,20 @@ statement_of names fields = do
       else if bytes_eq word.0 (codes "closed") then callback_of names callback.Close word.1
       else setting_of names word.0 word.1
 
--- whether there is room for one more line, for one more name, for the arena's size and for the number of workers
+-- whether there is room for one more line, and for one more name
 abbrev pub has_room : Program → Statement → Bool
 has_room p (Declares name) = nat_lt (line_count p) 65535 && nat_lt (length p.names) 4096
 has_room p (InMain op) = nat_lt (line_count p) 65535
 has_room p (InCallback kind v line) = nat_lt (line_count p) 65535
-has_room p (Sizes size) = is_none p.size
-has_room p (HasWorkers n) = is_none p.workers
+has_room p (Sizes size) = true
+has_room p (HasWorkers n) = true
 has_room p (InThread line) = nat_lt (line_count p) 65535
+
+-- whether a setting is said for the first time
+abbrev pub is_new : Settings → Statement → Bool
+is_new said (Sizes size) = not said.slots
+is_new said (HasWorkers n) = not said.workers
+is_new said _ = true
 
 -- what a statement needs beside room
 abbrev pub IsSound : Program → Statement → Type 0
@@ -313,14 +320,15 @@ pub record IsSaid (p : Program) (s : Statement) : Type 0 where
   pub says : Says p.names (fields_of line) s
 
 -- the script after one more line
-unfoldable pub after_line : Program → List ℕ → Option Program
-after_line p line = if is_line line then (if is_skipped line then Some p else (do
-  s ← statement_of p.names (fields_of line)
-  if has_room p s then Some (with_statement p s) else None)) else None
+unfoldable pub after_line : Draft → List ℕ → Option Draft
+after_line d line = if is_line line then (if is_skipped line then Some d else (do
+  s ← statement_of d.program.names (fields_of line)
+  if is_new d.said s && has_room d.program s then Some (record { program = with_statement d.program s; said = with_said d.said s }) else None))
+    else None
 
 -- what reading a line of this number answers
-abbrev pub ReadsLine : Program → List ℕ → ℕ → Result (Unit {0}) Fault → Program → Type 0
-ReadsLine p line number (Ok done) q = after_line p line ≡ Some q
-ReadsLine p line number (Err (fault.Script bad)) q = (bad ≡ number) × (after_line p line ≡ None)
-ReadsLine p line number (Err fault.Memory) q = Unit {0}
-ReadsLine p line number (Err _) q = ⊥
+abbrev pub ReadsLine : Draft → List ℕ → ℕ → Result (Unit {0}) Fault → Draft → Type 0
+ReadsLine d line number (Ok done) e = after_line d line ≡ Some e
+ReadsLine d line number (Err (fault.Script bad)) e = (bad ≡ number) × (after_line d line ≡ None)
+ReadsLine d line number (Err fault.Memory) e = Unit {0}
+ReadsLine d line number (Err _) e = ⊥

@@ -106,7 +106,3 @@ lines_text (line ∷ lines) = line ++ 10 ∷ lines_text lines
 -- the text of a script
 unfoldable pub script_text : Program → List ℕ
 script_text p = lines_text (script_lines p)
-
--- the script that says how large its arena is and how many workers it has, as its text does
-abbrev pub said_whole : Program → Program
-said_whole p = record p { size = Some (arena_size p); workers = Some (worker_count p) }

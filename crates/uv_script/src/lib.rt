@@ -6,6 +6,7 @@ mod names;
 mod op;
 mod parse;
 mod script;
+mod settings;
 mod size;
 mod statement;
 mod task;

@@ -7,6 +7,7 @@ ghost use Rattle.uv_script.specs.Reading.{ReadsLine};
 
 use crate::lines::{Lines, is_line, is_skipped};
 use crate::script::Script;
+use crate::settings::Settings;
 use crate::statement::statement_in;
 use std::alloc::Global;
 use uv_ids::Fault;
@@ -20,7 +21,7 @@ pub fn one_reading()
     ensures bad_line { (text : List ℕ) → HasOneBadLine text }
 {}
 
-/// The text of a script is read back as the same script, unless memory runs out.
+/// The text of a script is read back as this very script, unless memory runs out.
 pub fn text_read_back()
     ensures { (text : List ℕ) (p : Program) → IsScript text p → IsReadBack p }
 {}
@@ -33,10 +34,14 @@ impl Script {
         ensures { Parses text.now result }
     {
         let mut script = Script::blank(alloc);
+        let mut settings = Settings {
+            slots: false,
+            workers: false,
+        };
         let mut number = 0;
         for line in Lines::of(text) {
             number += 1;
-            match script.read_line(alloc, number, line) {
+            match script.read_line(alloc, &mut settings, number, line) {
                 Ok(()) => {}
                 Err(fault) => return Err(fault),
             }
@@ -44,9 +49,17 @@ impl Script {
         Ok(script)
     }
 
+    /// Reads one more line, where these settings were said.
     #[tactic(auto, unfolding(crate::specs::Reading::after_line))]
-    fn read_line(&mut self, alloc: Global, number: usize, line: &[u8]) -> Result<(), Fault>
-        ensures { ReadsLine self.old line.now number result self.new }
+    fn read_line(
+        &mut self,
+        alloc: Global,
+        settings: &mut Settings,
+        number: usize,
+        line: &[u8],
+    ) -> Result<(), Fault>
+        ensures { ReadsLine (record { program = self.old; said = settings.old }) line.now number result
+            (record { program = self.new; said = settings.new }) }
     {
         if !is_line(line) {
             return Err(Fault::Script { line: number });
@@ -57,9 +70,10 @@ impl Script {
         let Some(statement) = statement_in(self.names(), line) else {
             return Err(Fault::Script { line: number });
         };
-        if !self.has_room(&statement) {
+        if !settings.is_new(&statement) || !self.has_room(&statement) {
             return Err(Fault::Script { line: number });
         }
+        *settings = settings.with(&statement);
         match self.add(alloc, statement) {
             Ok(()) => Ok(()),
             Err(_) => Err(Fault::Memory),

@@ -1,5 +1,5 @@
 //! A script's parts.
-ghost use Rattle.std.specs.Prelude.{◌≡◌, slice_get, length, OnOk, Some, All};
+ghost use Rattle.std.specs.Prelude.{◌≡◌, slice_get, length, OnOk, All};
 ghost use Rattle.uv_script.specs.Grammar.{Declares, InMain, InCallback, InThread, Sizes, HasRoom, WasRead, with_statement, blank};
 ghost use Rattle.uv_script.specs.Reading.{has_room, IsSound, IsSaid};
 ghost use Rattle.uv_script.specs.Said.{said};
@@ -19,8 +19,8 @@ pub struct Script {
     names: Names,
     main: Vec<MainOp>,
     callbacks: Vec<Callbacks>,
-    size: Option<ArenaSize>,
-    workers: Option<u16>,
+    size: ArenaSize,
+    workers: u16,
     threads: Vec<ThreadLine>,
     /// How many lines count: all but `workers`, `slots`, empty ones and comments.
     lines: usize,
@@ -67,14 +67,14 @@ impl Script {
             names: Names::new(alloc),
             main: Vec::new(alloc),
             callbacks: Vec::new(alloc),
-            size: None,
-            workers: None,
+            size: ArenaSize::by_default(),
+            workers: DEFAULT_WORKERS,
             threads: Vec::new(alloc),
             lines: 0,
         }
     }
 
-    /// Whether there is room for one more line, for one more name, for the arena's size and for the number of workers.
+    /// Whether there is room for one more line, and for one more name.
     pub(crate) fn has_room(&self, statement: &Statement<'_>) -> bool
         ensures { result ≡ has_room self.now (said statement.now) }
     {
@@ -82,8 +82,8 @@ impl Script {
             Statement::Declares(_) => self.lines < MAX_LINES && self.names.len() < MAX_NAMES,
             Statement::InMain(_) => self.lines < MAX_LINES,
             Statement::InCallback(_, _, _) => self.lines < MAX_LINES,
-            Statement::Sizes(_) => self.size.is_none(),
-            Statement::HasWorkers(_) => self.workers.is_none(),
+            Statement::Sizes(_) => true,
+            Statement::HasWorkers(_) => true,
             Statement::InThread(_) => self.lines < MAX_LINES,
         }
     }
@@ -99,11 +99,11 @@ impl Script {
             Statement::InMain(op) => self.push_main(op),
             Statement::InCallback(kind, name, line) => self.push_callback(kind, name, line),
             Statement::Sizes(size) => {
-                self.size = Some(size);
+                self.size = size;
                 Ok(())
             }
             Statement::HasWorkers(workers) => {
-                self.workers = Some(workers);
+                self.workers = workers;
                 Ok(())
             }
             Statement::InThread(line) => self.push_thread(line),
@@ -160,12 +160,12 @@ impl Script {
         Ok(())
     }
 
-    /// Sets how many workers the thread pool has, whatever a line says.
+    /// Sets how many workers the thread pool has.
     pub fn set_workers(&mut self, workers: u16)
         requires within { IsWorkerCount workers }
         ensures { self.new ≡ with_workers workers self.old }
     {
-        self.workers = Some(workers);
+        self.workers = workers;
     }
 
     /// Where its memory comes from.
@@ -185,7 +185,7 @@ impl Script {
     pub fn arena_size(&self) -> ArenaSize
         ensures { result ≡ arena_size self.now }
     {
-        self.size.unwrap_or(ArenaSize::by_default())
+        self.size
     }
 
     /// How many workers the thread pool has: as the line `workers` says, else 4.
@@ -193,7 +193,7 @@ impl Script {
         ensures count { result ≡ worker_count self.now }
         ensures within { IsWorkerCount result }
     {
-        self.workers.unwrap_or(DEFAULT_WORKERS)
+        self.workers
     }
 
     /// The lines of the senders' threads, as they came.

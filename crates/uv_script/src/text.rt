@@ -244,7 +244,7 @@ impl Names {
 impl Script {
     /// The script as a text, which says how large the arena is and how many workers there are: the lines `workers` and
     /// `slots`, the names, the main program, for each name the lines of its callbacks, and last the lines of threads, as
-    /// they came. Such a text is read back as this script.
+    /// they came. Such a text is read back as this very script.
     pub fn text(&self) -> Result<Vec<u8>, Fault>
         ensures text { IfOk result (λ text. text.items ≡ script_text self.now) }
         ensures err { IfErr result (λ fault. fault ≡ Memory) }

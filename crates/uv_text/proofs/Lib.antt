@@ -6,4 +6,3 @@ pub mod StepLines
 pub mod Sizes
 pub mod Printed
 pub mod Played
-pub mod Alike

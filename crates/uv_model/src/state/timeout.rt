@@ -17,7 +17,7 @@ impl LoopState {
         self.closing.any()
     }
 
-    /// Whether the loop is alive: some handle is active and referenced, or closes (uv_loop_alive).
+    /// Whether the loop is alive: some handle is active and referenced, or closes, or some request has yet to call back (uv_loop_alive).
     pub(super) fn is_alive(&self) -> bool
         ensures { result ≡ is_alive self.now }
     {

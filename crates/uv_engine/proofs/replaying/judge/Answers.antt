@@ -1,6 +1,6 @@
 use Rattle.std.proofs.Common.{[]}
 use Rattle.std.proofs.lemmas.Result.{err_from_is_err_and}
-use Rattle.uv_script.specs.Grammar.{blank}
+use Rattle.uv_script.specs.Grammar.{unread}
 use Rattle.uv_engine.specs.Recordings.{Start, InScript, InCalls, Whole}
 use Rattle.uv_engine.proofs.Recordings.{reads_then}
 use Rattle.uv_engine.proofs.Replays.{fails_then, has_verdict}
@@ -10,14 +10,14 @@ pub returns-in_err-script-clause-verdict : goal.returns-in_err-script-clause-ver
 returns-in_err-script-clause-verdict g c = λ reads.
     let p = err_from_is_err_and c.from_residual-in_err-script.result c.from_residual-in_err-script.ensures.1 in
     let first = rw c.new.ensures.empty at (c.in_ok-read_version.ensures.read reads) in
-    rw (p.1, p.2) (fails_then Start (InScript blank) _ _ _ _ c.in_err-script.field-0.0 first (c.in_err-script.ensures.read reads))
+    rw (p.1, p.2) (fails_then Start (InScript unread) _ _ _ _ c.in_err-script.field-0.0 first (c.in_err-script.ensures.read reads))
 
 pub returns-in_err-read_steps-clause-verdict : goal.returns-in_err-read_steps-clause-verdict
 returns-in_err-read_steps-clause-verdict g c = λ reads.
     let p = err_from_is_err_and c.from_residual-in_err-read_steps.result c.from_residual-in_err-read_steps.ensures.1 in
     let first = rw c.new.ensures.empty at (c.in_ok-read_version.ensures.read reads) in
     let script = rw (← c.in_ok-begin.ensures.program) at (c.in_ok-script.ensures.read reads) in
-    let front = reads_then Start (InScript blank) _ _ _ _ _ _ _ first script in
+    let front = reads_then Start (InScript unread) _ _ _ _ _ _ _ first script in
     rw (p.1, p.2) (fails_then Start _ _ _ _ _ c.in_err-read_steps.field-0.0 front (c.in_err-read_steps.ensures.steps reads))
 
 pub returns-in_err-read_calls-clause-verdict : goal.returns-in_err-read_calls-clause-verdict
@@ -25,7 +25,7 @@ returns-in_err-read_calls-clause-verdict g c = λ reads.
     let p = err_from_is_err_and c.from_residual-in_err-read_calls.result c.from_residual-in_err-read_calls.ensures.1 in
     let first = rw c.new.ensures.empty at (c.in_ok-read_version.ensures.read reads) in
     let script = rw (← c.in_ok-begin.ensures.program) at (c.in_ok-script.ensures.read reads) in
-    let front = reads_then Start (InScript blank) _ _ _ _ _ _ _ first script in
+    let front = reads_then Start (InScript unread) _ _ _ _ _ _ _ first script in
     let steps = c.in_ok-read_steps.ensures.steps reads in
     let ran = reads_then Start _ (InCalls (g.M.Machine.program c.in_ok-begin.field-0) steps.steps []) _ _ _ _ _ _ front steps.reads in
     let calls = rw c.in_ok-read_steps.ensures.program at (c.in_err-read_calls.ensures.calls reads steps.steps) in
@@ -37,7 +37,7 @@ returns-in_err-expect_end-clause-verdict g c = λ reads.
     let program = g.M.Machine.program c.in_ok-begin.field-0 in
     let first = rw c.new.ensures.empty at (c.in_ok-read_version.ensures.read reads) in
     let script = rw (← c.in_ok-begin.ensures.program) at (c.in_ok-script.ensures.read reads) in
-    let front = reads_then Start (InScript blank) _ _ _ _ _ _ _ first script in
+    let front = reads_then Start (InScript unread) _ _ _ _ _ _ _ first script in
     let steps = c.in_ok-read_steps.ensures.steps reads in
     let ran = reads_then Start _ (InCalls program steps.steps []) _ _ _ _ _ _ front steps.reads in
     let calls = rw c.in_ok-read_steps.ensures.program at (c.in_ok-read_calls.ensures.calls reads steps.steps) in

@@ -1,14 +1,14 @@
 use Rattle.std.proofs.Common.{◌+◌, [], ◌∷◌, refl, ap, sym, ◌∙◌, subst, arith, length-append}
-use Rattle.uv_script.specs.Grammar.{ReadsAll, none, blank}
+use Rattle.uv_script.specs.Grammar.{Draft, ReadsAll, none, unread}
 use Rattle.uv_script.specs.Program.{Program}
-use Rattle.uv_script.proofs.AfterLines.{line_number, lines_step, reads_step, line_fault}
+use Rattle.uv_script.proofs.AfterLines.{line_number, lines_step, reads_step, all_read, line_fault}
 use Rattle.uv_script.proofs.script.Script.parse.Goals as goal
 
 pub loop-line-init : goal.loop-line-init
 loop-line-init c = record {
   can = tt;
   finite = tt;
-  read = subst (λ (p : Program). ReadsAll blank [] p) (sym c.blank-script.ensures) none;
+  read = subst (λ (p : Program). ReadsAll unread [] (record { program = p; said = unread.said })) (sym c.blank-script.ensures) none;
   counted = refl;
   rest = c.into_iter-line-iterator.ensures.into_iter_gives ∙ c.of-line-items.ensures;
 }
@@ -23,18 +23,31 @@ overflow_add-number c =
 pub loop-line-preserved : goal.loop-line-preserved
 loop-line-preserved c =
     let loop = c.loop-line in
+    let before : Draft = record { program = loop.script; said = loop.settings } in
+    let after : Draft = record { program = c.read_line.new.self; said = c.read_line.new.settings } in
     record {
       can = tt;
       finite = tt;
-      read = reads_step (λ line. line.now) loop.script c.read_line.new.self loop.yielded c.in-Some.line loop.invariant.read c.in-Ok.ensures;
+      read = reads_step (λ line. line.now) before after loop.yielded c.in-Some.line loop.invariant.read c.in-Ok.ensures;
       counted = ap (λ n. n + 1) loop.invariant.counted ∙ sym (length-append loop.yielded (c.in-Some.line ∷ []));
       rest = lines_step (λ line. line.now) _ loop.yielded c.in-Some.line loop.line-iterator c.next.new.self loop.invariant.rest
           c.in-Some.ensures.steps;
     }
 
+pub returns : goal.returns
+returns c =
+    let loop = c.loop-line in
+    let d : Draft = record { program = loop.script; said = loop.settings } in
+    record {
+      said = loop.settings;
+      read = all_read (λ line. line.now) c.args.text.now d loop.yielded _ loop.invariant.read loop.invariant.rest c.in-None.ensures.steps.0;
+    }
+
 pub returns-in-Err : goal.returns-in-Err
 returns-in-Err c =
     let loop = c.loop-line in
+    let before : Draft = record { program = loop.script; said = loop.settings } in
+    let after : Draft = record { program = c.read_line.new.self; said = c.read_line.new.settings } in
     line_fault (λ line. line.now) c.args.text.now
-    (loop.number + 1) loop.script c.read_line.new.self loop.yielded c.in-Some.line loop.line-iterator c.next.new.self c.in-Err.fault
+    (loop.number + 1) before after loop.yielded c.in-Some.line loop.line-iterator c.next.new.self c.in-Err.fault
     loop.invariant.read loop.invariant.rest c.in-Some.ensures.steps (ap (λ n. n + 1) loop.invariant.counted) c.in-Err.ensures

@@ -1,6 +1,6 @@
 use Rattle.std.proofs.Common.{subst, rules}
 use Rattle.uv_script.specs.Grammar.{IsReadScript}
-use Rattle.uv_script.proofs.Workers.{workers_kept}
+use Rattle.uv_script.proofs.Kept.{workers_kept}
 use Rattle.uv_script.proofs.script.Script.set_workers.Goals as goal
 
 pub invariant_of-self : goal.invariant_of-self
