@@ -4,7 +4,9 @@ use Rattle.std.proofs.lemmas.Bool.{cond_both, both_ways, eqb-true}
 use Rattle.std.proofs.lemmas.Option.{same_Some}
 use Rattle.uv_ids.specs.declared.id.Id.{Id}
 use Rattle.uv_ids.specs.declared.id.Var.{Var}
-use Rattle.uv_ids.specs.declared.code.Answer.{Answer}
+use Rattle.uv_ids.specs.declared.code.Code.{Code}
+use Rattle.uv_ids.specs.declared.code.Code.TheVariants as code
+use Rattle.uv_ids.specs.declared.code.Answer.TheVariants as answer
 use Rattle.uv_ids.specs.declared.fault.Why.{Why}
 use Rattle.uv_ids.specs.declared.event.Event.{Event}
 use Rattle.uv_ids.specs.declared.event.Event.TheVariants.{Loop, Take, Finish, Cancel, Send, Tick}
@@ -20,7 +22,9 @@ use Rattle.uv_ids.specs.declared.seen.Site.TheVariants as site
 use Rattle.uv_script.specs.declared.op.CallbackLine.{CallbackLine}
 use Rattle.uv_script.specs.declared.op.MainOp.{MainOp}
 use Rattle.uv_script.specs.declared.op.MainOp.TheVariants as main
-use Rattle.uv_script.specs.Program.{Program, arena_size, worker_count, lines_in, main_op}
+use Rattle.uv_script.specs.declared.op.Op.{Op}
+use Rattle.uv_script.specs.declared.op.Op.TheVariants as op
+use Rattle.uv_script.specs.Program.{Program, op_at, arena_size, worker_count, lines_in, main_op}
 use Rattle.uv_records.specs.declared.handle.HandleRecord.{HandleRecord}
 use Rattle.uv_records.specs.declared.lists.WatcherKind.{WatcherKind}
 use Rattle.uv_records.specs.declared.lists.WatcherKind.TheVariants as watcher
@@ -48,7 +52,7 @@ use Rattle.uv_model.specs.declared.place.Place.{Place}
 use Rattle.uv_model.specs.declared.place.Place.TheVariants.{Main, Running}
 use Rattle.uv_records.specs.Walks.{Walk, all_yet}
 use Rattle.uv_model.specs.Ids.{same_id, has_some}
-use Rattle.uv_order.specs.Active.{has_id, AreDistinct}
+use Rattle.uv_order.specs.Active.{has_id, AreDistinct, run_ids}
 use Rattle.uv_model.specs.Timeout.{is_alive, poll_timeout}
 use Rattle.uv_model.specs.State.{State, unbound, fresh, handle, live_handle, live_request, with_handle, with_request, front, front_request, watched, with_watched, refreshed}
 use Rattle.uv_model.specs.Timers.{started, restarted}
@@ -61,11 +65,12 @@ use Rattle.uv_model.proofs.Found.{found_both}
 use Rattle.uv_order.specs.Line.{Line}
 use Rattle.uv_order.specs.History.{line_of_step, history_from, history}
 use Rattle.uv_order.specs.Documented.{Told, nothing_told, told_by, Position, Between}
-use Rattle.uv_order.specs.Once.{SaysTrue, MayFollow, OnceFrom, Once}
+use Rattle.uv_order.specs.Once.{SaysTrue, CancelSays, OpSays, MayFollow, OnceFrom, Once}
+use Rattle.uv_order.proofs.OpCases.{names_at, IsRefusal, cancel_both}
 use Rattle.uv_order.proofs.IdLists.{Each, each_back, same, itself, turned, has_new_middle, distinct_back}
-use Rattle.uv_order.proofs.Holding.{same_handles, is_held, put_same, Fits, its_handle, Everyone}
+use Rattle.uv_order.proofs.Holding.{names_turned, same_handles, is_held, put_same, Fits, its_handle, Everyone}
 use Rattle.uv_order.proofs.Asked.{request_turns, freed_turns, FrontRequest, request_front, TakesFront, takes_front, RunsWork, runs_work}
-use Rattle.uv_order.proofs.Works.{AllAsk, IsOpen, has_middle, once_middle, run_ids, Takes, takes, LetsGo, lets_go, none_run}
+use Rattle.uv_order.proofs.Works.{AllAsk, IsOpen, has_middle, once_middle, Takes, takes, LetsGo, lets_go, none_run}
 use Rattle.uv_order.proofs.Working.{Working, StaysWorking, next_working, fresh_working}
 use Rattle.uv_order.proofs.Keeping.{has_number, Watches, Closes, Rests, Kept, members, not_free}
 use Rattle.uv_order.proofs.KeptSteps.{FrontOf, front_of, first_of, opened, next_kept, fresh_kept, StaysKept}
@@ -77,7 +82,7 @@ use Rattle.uv_order.proofs.Follows.{follows, rested_at, calm_at, stands_fresh}
 use Rattle.uv_order.proofs.Gone.{IsGone, gone_turned, gone_emptied, gone_now}
 use Rattle.uv_order.proofs.Worked.{Worked, IsIdle, worked_ended, worked_taken, worked_finished, worked_collected, not_called, says_true}
 use Rattle.uv_order.proofs.Known.{id_in, counted_ids, Known, not_closed, not_over, known_names, IsQuiet, known_told, known_quiet, known_gone}
-use Rattle.uv_order.proofs.OpsOnce.{KnownAt, changed, cancel_known, send_known, op_known}
+use Rattle.uv_order.proofs.OpsOnce.{KnownAt, on_list, changed, cancel_told, send_known, op_known}
 
 -- ---- steps
 
@@ -94,8 +99,8 @@ plain p past l t may q k = (may, known_quiet p past l t.arena t.names q.0 q.1 k)
 
 section_line : (p : Program) (word : Phase) → IsQuiet p (seen.Section word) × IsIdle p (seen.Section word)
 section_line p word = (
-  record { binding = λ v b. refl; closing = refl; closed = λ id. refl },
-  record { queued = λ id. refl; taken = λ id. refl; finished = λ id. refl; over = λ id. refl },
+  record { binding = λ v b. refl; made = λ i. refl; closing = refl; closed = λ id. refl },
+  record { queued = λ id. refl; taken = λ id. refl; finished = λ id. refl; over = λ id. refl; cancelled = λ id. refl },
 )
 
 begins_known : (p : Program) (past : List Seen) (s : State) (run : Run) (x : Stage) (word : Phase) → KnownAt p past s →
@@ -105,8 +110,8 @@ begins_known p past s run x word k = plain p past (seen.Section word) (step.at s
 ends_known : (p : Program) (past : List Seen) (s : State) (run : Run) → KnownAt p past s → Follows p past (step.ends s run)
 ends_known p past s run k = (
   tt,
-  known_quiet p past (seen.End (is_alive s)) s.arena s.names (record { binding = λ v b. refl; closing = refl; closed = λ id. refl })
-      (record { queued = λ i. refl; taken = λ i. refl; finished = λ i. refl; over = λ i. refl }) k,
+  known_quiet p past (seen.End (is_alive s)) s.arena s.names (record { binding = λ v b. refl; made = λ i. refl; closing = refl; closed = λ id. refl })
+      (record { queued = λ i. refl; taken = λ i. refl; finished = λ i. refl; over = λ i. refl; cancelled = λ i. refl }) k,
 )
 
 iteration_known : (p : Program) (past : List Seen) (s : State) (run : Run) → KnownAt p past s → Follows p past (step.new_iteration s run)
@@ -135,8 +140,9 @@ call_known : (p : Program) (past : List Seen) (s : State) (run : Run) (id : Id) 
     h.closing ≡ false → KnownAt p past s → Follows p past (call p s run id v)
 call_known p past s run id v h e stays k = (
   not_closed p past s.arena s.names id h e stays k,
-  known_quiet p past (seen.Call v id) s.arena _ (record { binding = λ u b. refl; closing = refl; closed = λ i. refl })
-      (record { queued = λ i. refl; taken = λ i. refl; finished = λ i. refl; over = λ i. refl }) (called_known p past s v _ refl k),
+  known_quiet p past (seen.Call v id) s.arena _ (record { binding = λ u b. refl; made = λ i. refl; closing = refl; closed = λ i. refl })
+      (record { queued = λ i. refl; taken = λ i. refl; finished = λ i. refl; over = λ i. refl; cancelled = λ i. refl })
+      (called_known p past s v _ refl k),
 )
 
 -- the front of the ready list is called
@@ -155,12 +161,12 @@ fire_known p past s run part kept k = found_both (front s s.ready) _ _ (Follows 
         cond_both (t.1.repeat == 0) u (started u t.0 t.1 t.1.repeat t.1.repeat) (λ (x : State). Follows p past (call p x r t.0 t.1.name))
         (λ z. call_known p past u r t.0 t.1.name t.1 f.holds stays k)
         (λ z. call_known p past (started u t.0 t.1 t.1.repeat t.1.repeat) r t.0 t.1.name _ (put_same s.arena.slots t.0 t.1 _ f.holds) stays
-        (changed p past u t _ f.holds refl k))
+        (changed p past u t _ f.holds refl refl k))
 
 timers_known : (p : Program) (past : List Seen) (s : State) (run : Run) (part : TimersOf) (timing : Timing) → Kept s → KnownAt p past s →
     Follows p past (step.timers p s run part timing)
 timers_known p past s run part Collecting kept k = found_both (first_due s s.timers) _ _ (Follows p past)
-    (λ t e. changed p past s t (records.stopped t.1) (first_of s s.timers t e).holds refl k) (λ e. fire_known p past s run part kept k)
+    (λ t e. changed p past s t (records.stopped t.1) (first_of s s.timers t e).holds refl refl k) (λ e. fire_known p past s run part kept k)
 timers_known p past s run part Firing kept k = fire_known p past s run part kept k
 
 -- ---- sections of watchers
@@ -174,8 +180,9 @@ begin_known p past s run watcher.Async k = begins_known p past (with_watched s w
 poll_known : (p : Program) (past : List Seen) (s : State) (run : Run) → KnownAt p past s → Follows p past (step.begin_poll s run)
 poll_known p past s run k = (
   tt,
-  known_quiet p past (seen.Poll (poll_timeout s run.mode)) s.arena s.names (record { binding = λ v b. refl; closing = refl; closed = λ id. refl })
-      (record { queued = λ i. refl; taken = λ i. refl; finished = λ i. refl; over = λ i. refl }) k,
+  known_quiet p past (seen.Poll (poll_timeout s run.mode)) s.arena s.names
+      (record { binding = λ v b. refl; made = λ i. refl; closing = refl; closed = λ id. refl })
+      (record { queued = λ i. refl; taken = λ i. refl; finished = λ i. refl; over = λ i. refl; cancelled = λ i. refl }) k,
 )
 
 after_known : (p : Program) (past : List Seen) (s : State) (run : Run) (q : WatcherKind) → KnownAt p past s → Follows p past (step.after_walk s run q)
@@ -223,7 +230,7 @@ async_known p past s run kept k = found_both (front s s.async.yet) _ _ (Follows 
     (λ t e. let f = front_of s s.async.yet t e in
     cond_both t.1.pending _ _ (Follows p past)
     (λ on. call_known p past (with_handle (front_moved s watcher.Async t.0) t.0 (records.woken t.1)) run t.0 t.1.name _
-    (put_same s.arena.slots t.0 t.1 _ f.holds) (watched_stays s watcher.Async t f kept) (changed p past s t (records.woken t.1) f.holds refl k))
+    (put_same s.arena.slots t.0 t.1 _ f.holds) (watched_stays s watcher.Async t f kept) (changed p past s t (records.woken t.1) f.holds refl refl k))
     (λ off. k))
     (λ e. after_known p past s run watcher.Async k)
 
@@ -314,8 +321,8 @@ collect_known p past s run kept work k = found_both (front_request s s.done.yet)
           known_names p (seen.After (digest_in t.1.outcome) t.1.name t.0 ∷ past) (freed last t.0 s.arena) _ s.names
               (counted_ids s.names t.1.name _ refl)
               (known_told p past (seen.After (digest_in t.1.outcome) t.1.name t.0) s.arena (freed last t.0 s.arena) s.names
-              (record { binding = λ u b. refl; closing = refl; closed = λ i. refl })
-              (same_handles s.arena.slots _ t.0 _ _ turns refl refl) gone
+              (record { binding = λ u b. refl; made = λ i. refl; closing = refl; closed = λ i. refl })
+              (same_handles s.arena.slots _ t.0 _ _ turns refl refl) (names_turned s.arena.slots _ t.0 _ _ turns (λ u g. cc g)) gone
               (worked_collected p past s.arena (freed last t.0 s.arena) s.waiting (run_ids s.running) (digest_in t.1.outcome) t.1.name t.0 t.1 turns
               (freed_gone s last t.0 (content.Request t.1) f.holds kept) gone k.worked) k),
         )
@@ -336,15 +343,63 @@ stage_known p past s run Check kept work k = walk_known p past s run watcher.Che
 stage_known p past s run Closing kept work k = close_front_known p past s run kept k
 stage_known p past s run (Timers part timing) kept work k = timers_known p past s run part timing kept k
 
--- the line of an op may stand anywhere
-op_line : (p : Program) (past : List Seen) (place : Site) (a : Answer) → MayFollow p past (seen.Op place a)
-op_line p past place a = tt
+-- a cancel answers the id of what it cancelled, or why it is refused
+refused_says : (p : Program) (past : List Seen) (v : Var) (c : Code) → IsRefusal c → CancelSays p past v (answer.Code c)
+refused_says p past v code.Ok no_success = absurd (no_success refl)
+refused_says p past v code.Einval no_success = tt
+refused_says p past v code.Ebusy no_success = tt
+refused_says p past v code.Ecanceled no_success = tt
+refused_says p past v code.Ebound no_success = tt
+refused_says p past v code.Efull no_success = tt
+refused_says p past v code.Estale no_success = tt
+refused_says p past v code.Ekind no_success = tt
+
+cancel_says : (p : Program) (past : List Seen) (s : State) (v : Var) → KnownAt p past s →
+    CancelSays p past v (ops.cancel s (live_request s v)).answer
+cancel_says p past s v k = cancel_both s v (λ (d : ops.Done). CancelSays p past v d.answer) (refused_says p past v)
+    (λ t live on. record {
+      names = k.binding v t.0 live.bound;
+      task = t.1.task;
+      queued = k.worked.queued t.0 t.1 (ap request_in live.holds);
+      waits = k.worked.waits t.0 (on_list s.waiting t.0 on);
+      once = k.worked.uncancelled t.0 (on_list s.waiting t.0 on);
+      first = not_called p past s.arena s.waiting (run_ids s.running) t.0 t.1 live.holds k.worked;
+    })
+
+op_says : (p : Program) (past : List Seen) (s : State) (o : Op) → KnownAt p past s → OpSays p past (Some o) (do_op s o).answer
+op_says p past s (op.Cancel v) k = cancel_says p past s v k
+op_says p past s (op.Init v q) k = tt
+op_says p past s (op.Queue v task) k = tt
+op_says p past s (op.Start v timeout repeat) k = tt
+op_says p past s (op.StartWatcher v) k = tt
+op_says p past s (op.Stop v) k = tt
+op_says p past s (op.Again v) k = tt
+op_says p past s (op.SetRepeat v n) k = tt
+op_says p past s (op.DueIn v) k = tt
+op_says p past s (op.Close v) k = tt
+op_says p past s (op.Ref v) k = tt
+op_says p past s (op.Unref v) k = tt
+op_says p past s (op.HasRef v) k = tt
+op_says p past s (op.IsActive v) k = tt
+op_says p past s (op.IsClosing v) k = tt
+op_says p past s (op.Send v) k = tt
+op_says p past s op.StopLoop k = tt
+op_says p past s op.UpdateTime k = tt
+op_says p past s op.Now k = tt
+op_says p past s op.IsAlive k = tt
+op_says p past s op.Timeout k = tt
+op_says p past s op.CloseLoop k = tt
+
+-- the line of an op that is done
+op_line : (p : Program) (past : List Seen) (s : State) (place : Site) (o : Op) → op_at p place ≡ Some o → KnownAt p past s →
+    MayFollow p past (seen.Op place (do_op s o).answer)
+op_line p past s place o e k = subst (λ (x : Option Op). OpSays p past x (do_op s o).answer) (sym e) (op_says p past s o k)
 
 body_known : (p : Program) (past : List Seen) (s : State) (run : Run) (body : Body) (l : Option CallbackLine) →
     slice_get (lines_in p body.callback body.name) body.next ≡ l → Kept s → KnownAt p past s → Follows p past (step.body_step p s run body l)
 body_known p past s run body None e kept k = k
 body_known p past s run body (Some line) e kept k = (
-  tt,
+  op_line p past s (site.In body.callback body.name body.next) line.op (ap (option_map (λ (x : CallbackLine). x.op)) e) k,
   op_known p past s line.op kept k (site.In body.callback body.name body.next) (ap (option_map (λ (x : CallbackLine). x.op)) e),
 )
 
@@ -356,9 +411,13 @@ main_known p past s i (Some (main.Run m)) e kept k = (
   cond_both (is_default m) (refreshed s) s (KnownAt p (seen.Run m ∷ past)) (λ d. begun) (λ d. begun),
 ) where
   begun : KnownAt p (seen.Run m ∷ past) s
-  begun = known_quiet p past (seen.Run m) s.arena s.names (record { binding = λ v b. refl; closing = refl; closed = λ id. refl })
-      (record { queued = λ i. refl; taken = λ i. refl; finished = λ i. refl; over = λ i. refl }) k
-main_known p past s i (Some (main.Op o)) e kept k = (tt, op_known p past s o kept k (site.Main i) (ap main_op e))
+  begun = known_quiet p past (seen.Run m) s.arena s.names (record { binding = λ v b. refl; made = λ i. refl; closing = refl; closed = λ id. refl })
+      (record { queued = λ i. refl; taken = λ i. refl; finished = λ i. refl; over = λ i. refl; cancelled = λ i. refl }) k
+main_known p past s i (Some (main.Op o)) e kept k = (
+  op_line p past s (site.Main i) o (ap main_op e) k,
+  op_known p past s o kept k (site.Main i)
+      (ap main_op e),
+)
 
 run_known : (p : Program) (past : List Seen) (s : State) (run : Run) (body : Option Body) → Kept s → Working s → KnownAt p past s →
     Follows p past (step.run_step p s run body)
@@ -390,9 +449,10 @@ take_known p past s n work k = at (next_work s (slice_get s.running n)) refl whe
       let opened : is_open t.1.outcome ≡ true =
       ap (λ (x : Request). is_open x.outcome) (same_Some _ _ (sym (ap request_in f.front.holds) ∙ asked.holds)) ∙ asked.fits in
       let r = takes s.running n t.0 f.idle in (
-        k.worked.waits t.0 waits,
-        known_told p past (seen.Take n t.1.name t.0) s.arena s.arena s.names (record { binding = λ u b. refl; closing = refl; closed = λ i. refl })
-            (λ i. refl) (λ i g. g)
+        (k.worked.waits t.0 waits, not_called p past s.arena s.waiting (run_ids s.running) t.0 t.1 f.front.holds k.worked),
+        known_told p past (seen.Take n t.1.name t.0) s.arena s.arena s.names
+            (record { binding = λ u b. refl; made = λ i. refl; closing = refl; closed = λ i. refl })
+            (λ i. refl) (λ i u g. g) (λ i g. g)
             (worked_taken p past s.arena s.waiting (run_ids s.running) (drop 1 s.waiting) (run_ids (slice_set s.running n (Some t.0))) n t.1.name t.0
             t.1 (ap request_in f.front.holds) opened waits
             (λ i e. fewer_wait t f i (ap (λ (ids : List Id). has_id ids i) (sym f.front.behind) ∙ e) all.distinct)
@@ -446,8 +506,9 @@ finish_known p past s n work k = at (work_of s (slice_get s.running n)) refl whe
       λ i h. gone_turned s.arena.slots s.arena.free t.0 (content.Request t.1) (Some (content.Request x)) i f.holds h in (
         was,
         known_told p past (seen.Finish n t.1.name t.0) s.arena (with_request s t.0 x).arena s.names
-            (record { binding = λ u b. refl; closing = refl; closed = λ i. refl })
-            (same_handles s.arena.slots _ t.0 _ _ (request_turns s.arena.slots t.0 t.1 x f.holds) refl refl) gone
+            (record { binding = λ u b. refl; made = λ i. refl; closing = refl; closed = λ i. refl })
+            (same_handles s.arena.slots _ t.0 _ _ (request_turns s.arena.slots t.0 t.1 x f.holds) refl refl)
+            (names_turned s.arena.slots _ t.0 _ _ (request_turns s.arena.slots t.0 t.1 x f.holds) (λ u h. h)) gone
             (worked_ended p (seen.Finish n t.1.name t.0 ∷ past) s.arena (with_request s t.0 x).arena s.waiting
             (run_ids (slice_set s.running n None)) t.0 t.1 x (request_turns s.arena.slots t.0 t.1 x f.holds) refl ends gone told) k,
       )
@@ -467,43 +528,48 @@ finish_known p past s n work k = at (work_of s (slice_get s.running n)) refl whe
   at (Err why) e = tt
   at (Ok t) e = done t (runs_work s n t e)
 
-next_known : (p : Program) (past : List Seen) (s : State) (e : Event) → Kept s → Working s → KnownAt p past s → Follows p past (next p s e)
+-- a cancel from outside
+cancel_outside : (p : Program) (past : List Seen) (s : State) (v : Var) → KnownAt p past s →
+    KnownAt p (seen.Cancel v (ops.cancel s (live_request s v)).answer ∷ past) (ops.cancel s (live_request s v)).state
+cancel_outside p past s v k = cancel_both s v (λ (d : ops.Done). KnownAt p (seen.Cancel v d.answer ∷ past) d.state)
+    (λ c no_success. known_quiet p past (seen.Cancel v (answer.Code c)) s.arena s.names
+    (record { binding = λ u b. refl; made = λ i. refl; closing = refl; closed = λ i. refl })
+    (record { queued = λ i. refl; taken = λ i. refl; finished = λ i. refl; over = λ i. refl; cancelled = λ i. refl }) k)
+    (λ t live on. cancel_told p past (seen.Cancel v (answer.Cancelled t.0)) s t
+    (record { queued = λ i. refl; taken = λ i. refl; finished = λ i. refl; over = λ i. refl; cancelled = λ i. refl })
+    (record { binding = λ u b. refl; made = λ i. refl; closing = refl; closed = λ i. refl }) live.holds on k)
+
+pub next_known : (p : Program) (past : List Seen) (s : State) (e : Event) → Kept s → Working s → KnownAt p past s → Follows p past (next p s e)
 unfolding next
 next_known p past s Loop kept work k = place_known p past s s.place kept work k
 next_known p past s (Take n) kept work k = take_known p past s n work k
 next_known p past s (Finish n) kept work k = finish_known p past s n work k
 next_known p past s (Cancel v) kept work k = cond_both (nat_lt v.0 (length s.names)) _ _ (Follows p past)
-    (λ h. plain p past (seen.Cancel v (ops.cancel s (live_request s v)).answer) (ops.cancel s (live_request s v)).state tt (
-      record { binding = λ u b. refl; closing = refl; closed = λ id. refl },
-      record {
-        queued = λ i. refl;
-        taken = λ i. refl;
-        finished = λ i. refl;
-        over = λ i. refl;
-      },
-    ) (cancel_known p past s v k)) (λ h. tt)
+    (λ h. (cancel_says p past s v k, cancel_outside p past s v k)) (λ h. tt)
 next_known p past s (Send v) kept work k = cond_both (nat_lt v.0 (length s.names)) _ _ (Follows p past)
     (λ h. plain p past (seen.Send v (ops.send s (live_handle s v)).code) (ops.send s (live_handle s v)).state tt (
-      record { binding = λ u b. refl; closing = refl; closed = λ id. refl },
+      record { binding = λ u b. refl; made = λ i. refl; closing = refl; closed = λ id. refl },
       record {
         queued = λ i. refl;
         taken = λ i. refl;
         finished = λ i. refl;
         over = λ i. refl;
+        cancelled = λ i. refl;
       },
     ) (send_known p past s v k)) (λ h. tt)
 next_known p past s (Tick ms) kept work k = cond_both (nat_le (s.clock + ms) 4611686018427387904) _ _ (Follows p past)
     (λ h. plain p past (seen.Tick ms) (record s { clock = s.clock + ms }) tt (
-      record { binding = λ u b. refl; closing = refl; closed = λ id. refl },
-      record { queued = λ i. refl; taken = λ i. refl; finished = λ i. refl; over = λ i. refl },
+      record { binding = λ u b. refl; made = λ i. refl; closing = refl; closed = λ id. refl },
+      record { queued = λ i. refl; taken = λ i. refl; finished = λ i. refl; over = λ i. refl; cancelled = λ i. refl },
     ) k)
     (λ h. tt)
 
 -- ---- all steps
 
-known_fresh : (p : Program) → KnownAt p [] (fresh p)
+pub known_fresh : (p : Program) → KnownAt p [] (fresh p)
 known_fresh p = record {
   binding = λ v id e. cc (unbound_id (length p.callbacks) v.0, e);
+  made = λ id v e. cc e;
   closing = λ id f. absurd (nothing f.handle f.holds);
   closed = λ id c. cc c;
   over = λ id c. cc c;
@@ -516,6 +582,8 @@ known_fresh p = record {
     waits = λ id e. cc e;
     runs_now = λ id e. absurd (nobody id (sym (ap (λ (ids : List Id). has_id ids id) (none_run (worker_count p))) ∙ e));
     ended = λ id r e. cc e;
+    cancelled = λ id e f. cc e;
+    uncancelled = λ id e. cc e;
   };
 } where
   nobody : (id : Id) → has_id [] id ≡ true → ⊥
@@ -538,7 +606,8 @@ one_more : (p : Program) (told : Told) (past : List Seen) (s : State) (at : Posi
     Follows p past n → ((told' : Told) (before : List Seen) (t : State) (to : Position) → Kept t → SentAt told'.sent t → Working t →
     Stands p told' t to → KnownAt p before t →
     OnceFrom p before (seens (history_from p t es))) → OnceFrom p past (seens (line_of_step s n ++ history_from p (state_of s n) es))
-one_more p told past s at (Moves t (Some l)) es kept j a i w x h f k g more = (g.0, more (told_by p told s l) (l ∷ past) t f.to j i x f.stands g.1)
+one_more p told past s at (Moves t (Some l)) es kept j a i w x h f k g more =
+    (g.0, more (told_by p told (names_at s) l) (l ∷ past) t f.to j i x f.stands g.1)
 one_more p told past s at (Moves t None) es kept j a i w x h f k g more = more told past t at j i x f.0 g
 one_more p told past s at (Refuses why) es kept j a i w x h f k g more = more told past s at kept a w h k
 

@@ -1,7 +1,8 @@
 -- A whole step goes on from where the state stands, and so does every list of them.
-use Rattle.std.proofs.Common.{◌≡◌, ℕ, ◌+◌, List, [], ◌∷◌, ◌++◌, Option, Some, None, Result, Ok, Err, drop, length, slice_get, slice_set, nat_le, nat_lt, refl, ap, sym, ◌∙◌, if◌then◌else◌}
+use Rattle.std.proofs.Common.{◌≡◌, ℕ, suc, ◌+◌, ◌||◌, List, [], ◌∷◌, ◌++◌, Bool, true, false, Option, Some, None, Result, Ok, Err, drop, length, slice_get, slice_set, nat_le, nat_lt, refl, ap, sym, ◌∙◌, if◌then◌else◌}
 use Rattle.std.specs.Prelude.{option_map}
-use Rattle.std.proofs.lemmas.Bool.{cond_both}
+use Rattle.std.specs.List.{list_any}
+use Rattle.std.proofs.lemmas.Bool.{cond_both, eq-eqb}
 use Rattle.uv_ids.specs.declared.id.Id.{Id}
 use Rattle.uv_ids.specs.declared.id.Var.{Var}
 use Rattle.uv_ids.specs.declared.event.Event.{Event}
@@ -21,11 +22,15 @@ use Rattle.uv_script.specs.declared.op.MainOp.TheVariants as main
 use Rattle.uv_script.specs.declared.op.CallbackLine.{CallbackLine}
 use Rattle.uv_script.specs.Program.{Program, lines_in, main_op}
 use Rattle.uv_records.specs.declared.handle.HandleRecord.{HandleRecord}
+use Rattle.uv_records.specs.declared.slot.Slot.{Slot}
 use Rattle.uv_records.specs.Slots.{held}
 use Rattle.uv_ids.specs.declared.fault.Why.{Why}
+use Rattle.uv_model.specs.declared.content.Content.{Content}
 use Rattle.uv_model.specs.declared.content.Content.TheVariants as content
+use Rattle.uv_model.specs.Content.{content_pends, handle_in}
 use Rattle.uv_model.specs.declared.request.Request.{Request}
-use Rattle.uv_model.specs.Ids.{without_id}
+use Rattle.uv_model.specs.Ids.{has_some, without_id}
+use Rattle.uv_model.specs.Timeout.{has_pending, has_passed}
 use Rattle.uv_model.specs.declared.place.Body.{Body}
 use Rattle.uv_model.specs.declared.place.Run.{Run}
 use Rattle.uv_model.specs.declared.place.Stage.{Stage}
@@ -42,34 +47,60 @@ use Rattle.uv_model.specs.Ops as ops
 use Rattle.uv_model.specs.Ops.{do_op}
 use Rattle.uv_model.specs.Next as step
 use Rattle.uv_model.specs.Next.{Next, Moves, Refuses, next, goes, is_default, call, calls, first_due, collected, front_moved, may_leave, body_from, next_work, work_of}
-use Rattle.uv_model.specs.After.{state_of}
-use Rattle.uv_order.specs.History.{line_of_step, history_from, history}
+use Rattle.uv_order.specs.Active.{has_id}
 use Rattle.uv_order.specs.Documented as doc
 use Rattle.uv_order.specs.Documented.{Told, nothing_told, told_of, told_by, Lasting, lasting, at_first, Section, Entry, In, word_of, part_after, part_of, Walk, Opens, IsOver, CallsNext, MayCall, is_called, callback_in, IsCallLine, Standing, Begun, Within, Polling, MayLeave, PollsFor, Position, Between, Running, Goes, GoesOn, cut, line, Documented, body_of, next_call, taken_off}
 use Rattle.uv_order.proofs.IdLists.{left_of, none_off, more_off}
 use Rattle.uv_order.proofs.Holding.{SameHandles, same_handles}
-use Rattle.uv_order.proofs.OpCases.{live_held, send_both, cancel_both}
+use Rattle.uv_order.proofs.OpCases.{names_at, live_held, send_both, cancel_both}
 use Rattle.uv_order.proofs.Keeping.{Kept}
-use Rattle.uv_order.proofs.KeptSteps.{StaysKept, next_kept, fresh_kept, IsRestedAt, IsRestedIn}
-use Rattle.uv_order.proofs.Working.{Working, StaysWorking, next_working, fresh_working, IsCalmIn, IsCalmAt}
+use Rattle.uv_order.proofs.KeptSteps.{IsRestedAt, IsRestedIn}
+use Rattle.uv_order.proofs.Working.{Working, IsCalmIn, IsCalmAt}
+use Rattle.uv_order.proofs.Lives.{lives_is}
 use Rattle.uv_order.proofs.Asked.{runs_work, request_turns}
 use Rattle.uv_order.proofs.Bodies.{IsBody, is_body}
 use Rattle.uv_order.proofs.OpEffects.{Effect, op_effect}
 use Rattle.uv_order.proofs.Counted.{Counted, counted_kept, counted_sent, counted_fresh}
-use Rattle.uv_order.proofs.Sends.{pends_in, SentAt, SentFollows, next_sent, sent_fresh, still_sent, pass_more, pends_more}
+use Rattle.uv_order.proofs.Sends.{pends_in, pends, SentAt, still_sent, pass_more, pends_more}
 use Rattle.uv_order.proofs.Standing.{bare, begun_with, are_ended, section_of, StandsIn, waiting, rest, Leaves, NobodyLeft, due_now, StandsAt, Stands, FollowsLine, Follows, idle_next, done_next, bare_over, async_moved, begun, pending, idle, prepare, polls, done, async, check, closing, collects, fires, between, running}
 use Rattle.uv_order.proofs.TimersFollow.{enter_follows, timers_left, left_timers, fire_follows, collect_follows}
 use Rattle.uv_order.proofs.WatchersFollow.{begin_follows, walk_follows, async_follows, done_follows, closing_follows}
 
 -- ---- a stage
 
+-- someone is pending, so someone was sent to
+more_or : (a b x y : Bool) → (x ≡ true → y ≡ true) → (a || (b || x)) ≡ true → (a || (b || y)) ≡ true
+more_or true b x y f h = refl
+more_or false true x y f h = refl
+more_or false false x y f h = f h
+
+pends_content : (c : Option Content) → content_pends c ≡ true → pends_in (handle_in c) ≡ true
+pends_content None e = cc e
+pends_content (Some (content.Handle h)) e = e
+pends_content (Some (content.Request r)) e = cc e
+
+found_pending : (slots : List (Slot Content)) → list_any (λ (slot : Slot Content). content_pends slot.content) slots ≡ true →
+    (id : Id) × (pends slots id ≡ true)
+found_pending [] e = cc e
+found_pending (x ∷ xs) e = at (content_pends x.content) refl (found_pending xs) e where
+  at : (b : Bool) → content_pends x.content ≡ b →
+      (list_any (λ (slot : Slot Content). content_pends slot.content) xs ≡ true → (id : Id) × (pends xs id ≡ true)) →
+      (b || list_any (λ (slot : Slot Content). content_pends slot.content) xs) ≡ true → (id : Id) × (pends (x ∷ xs) id ≡ true)
+  at true f more h = (record { slot = 0; generation = x.generation }, rw (eq-eqb x.generation x.generation refl) (pends_content x.content f))
+  at false f more h = let r = more h in (record { slot = suc r.0.slot; generation = r.0.generation }, r.1)
+
+some_sent : (ids : List Id) (id : Id) → has_id ids id ≡ true → has_some ids ≡ true
+some_sent [] id e = cc e
+some_sent (x ∷ xs) id e = refl
+
 -- the poll is left where it may be
-pub left_poll : (p : Program) (told : Told) (s : State) (run : Run) (deadline : Option ℕ) → Working s → Counted p s.names told →
+pub left_poll : (p : Program) (told : Told) (s : State) (run : Run) (deadline : Option ℕ) → SentAt told.sent s → Working s → Counted p s.names told →
     NobodyLeft (rest s.ready s) → Follows p told (Running run.mode run.line (Polling deadline)) s (step.poll s run deadline)
-left_poll p told s run deadline g c e = cond_both (may_leave s deadline) _ _ (Follows p told (Running run.mode run.line (Polling deadline)) s)
+left_poll p told s run deadline sent g c e = cond_both (may_leave s deadline) _ _ (Follows p told (Running run.mode run.line (Polling deadline)) s)
     (λ h. record {
       to = Running run.mode run.line (Within (In phase.Done) (begun_with s.done.list));
-      goes = doc.section (In phase.Done) h (done_next run.mode (goes s)) refl
+      goes = doc.section (In phase.Done) (more_or (has_passed s.clock deadline) (has_some s.done.list) (has_pending s) (has_some told.sent)
+          (λ on. let r = found_pending s.arena.slots on in some_sent told.sent r.0 (sent.are r.0 ∙ r.1)) h) (done_next run.mode (doc.goes_on s)) refl
           (record { list = (refl, are_ended s e.done g); off = refl; sent = refl; body = refl }) refl;
       stands = record {
         stands = running (done refl) (record {
@@ -90,7 +121,7 @@ pub stage_follows : (p : Program) (told : Told) (s : State) (run : Run) (x : Sta
     SentAt told.sent s → Working s → Counted p s.names told → StandsIn p None x at → Leaves (rest (waiting x s.ready (due_now s)) s) at →
     Follows p told (Running run.mode run.line at) s (step.stage_step p s
     run x)
-stage_follows p told s run stage.Entry at st k h g c begun l = enter_follows p told s run k c (record {
+stage_follows p told s run stage.Entry at st k h g c begun l = enter_follows p told s run (lives_is s g) k c (record {
   timers = l.timers;
   idle = l.idle;
   prepare = l.prepare;
@@ -109,9 +140,9 @@ stage_follows p told s run stage.Pending at st k h g c pending l =
       closing = l.closing;
       done = l.done;
     })
-stage_follows p told s run stage.Idle at st k h g c (idle b) l = walk_follows p told s run watcher.Idle _ tt st k h c l b
-stage_follows p told s run stage.Prepare at st k h g c (prepare b) l = walk_follows p told s run watcher.Prepare _ tt st k h c l b
-stage_follows p told s run (stage.Poll deadline) at st k h g c polls l = left_poll p told s run deadline g c (record {
+stage_follows p told s run stage.Idle at st k h g c (idle b) l = walk_follows p told s run watcher.Idle _ (lives_is s g) tt st k h c l b
+stage_follows p told s run stage.Prepare at st k h g c (prepare b) l = walk_follows p told s run watcher.Prepare _ (lives_is s g) tt st k h c l b
+stage_follows p told s run (stage.Poll deadline) at st k h g c polls l = left_poll p told s run deadline h g c (record {
   timers = l.timers;
   idle = l.idle;
   prepare = l.prepare;
@@ -121,11 +152,11 @@ stage_follows p told s run (stage.Poll deadline) at st k h g c polls l = left_po
   done = l.done;
 })
 stage_follows p told s run stage.Done at st k h g c (done b) l = done_follows p told s run _ st k h g c l b
-stage_follows p told s run stage.Async at st k h g c (async b) l = async_follows p told s run _ st k h c l b
-stage_follows p told s run stage.Check at st k h g c (check b) l = walk_follows p told s run watcher.Check _ tt st k h c l b
+stage_follows p told s run stage.Async at st k h g c (async b) l = async_follows p told s run _ (lives_is s g) st k h c l b
+stage_follows p told s run stage.Check at st k h g c (check b) l = walk_follows p told s run watcher.Check _ (lives_is s g) tt st k h c l b
 stage_follows p told s run stage.Closing at st k h g c (closing b) l = closing_follows p told s run _ st k c l b
-stage_follows p told s run (stage.Timers part Collecting) at st k h g c (collects b) l = collect_follows p told s run part _ k c l b
-stage_follows p told s run (stage.Timers part Firing) at st k h g c (fires b) l = fire_follows p told s run part _ k c l b
+stage_follows p told s run (stage.Timers part Collecting) at st k h g c (collects b) l = collect_follows p told s run part _ (lives_is s g) k c l b
+stage_follows p told s run (stage.Timers part Firing) at st k h g c (fires b) l = fire_follows p told s run part _ (lives_is s g) k c l b
 
 -- ---- a body
 
@@ -139,7 +170,7 @@ still_none now was taken e h = e ∙ ap (λ (is : List Id). left_of is taken) h
 
 -- the walk with the first op of the body done
 abbrev pub done_one : State → Op → Section → Walk → List Site → Walk
-done_one s o part w rest_of_body = record w { off = taken_off (word_of part) s o (do_op s o).answer ++ w.off; body = rest_of_body }
+done_one s o part w rest_of_body = record w { off = taken_off (word_of part) (names_at s) o (do_op s o).answer ++ w.off; body = rest_of_body }
 
 pub none_left : (s : State) (o : Op) → Kept s → NobodyLeft (rest s.ready s) → NobodyLeft (rest (do_op s o).state.ready (do_op s o).state)
 none_left s o k l =
@@ -216,7 +247,7 @@ async_left s told o w more k h l =
         behind = l.async.behind;
         all = l.async.all;
         left = more_left l.async.behind w.off _ s.async.yet _ f.async l.async.left;
-        passed = pass_more (taken_off phase.Async s o (do_op s o).answer) w.off w.sent l.async.gone l.async.passed;
+        passed = pass_more (taken_off phase.Async (names_at s) o (do_op s o).answer) w.off w.sent l.async.gone l.async.passed;
         still = still_sent s told o s.async.yet _ w.sent k h f.async l.async.still;
       };
       closing = f.closing ∙ l.closing;
@@ -224,7 +255,7 @@ async_left s told o w more k h l =
     }
 
 -- no op takes a handle off the closing list
-pub closing_takes_none : (s : State) (o : Op) (a : Answer) → taken_off phase.Closing s o a ≡ []
+pub closing_takes_none : (s : State) (o : Op) (a : Answer) → taken_off phase.Closing (names_at s) o a ≡ []
 closing_takes_none s o (answer.Code code.Ok) = refl
 closing_takes_none s o (answer.Code code.Einval) = refl
 closing_takes_none s o (answer.Code code.Ebusy) = refl
@@ -256,7 +287,7 @@ closing_left s o w more k l =
     }
 
 -- nor a request off the list of those that are done
-pub done_takes_none : (s : State) (o : Op) (a : Answer) → taken_off phase.Done s o a ≡ []
+pub done_takes_none : (s : State) (o : Op) (a : Answer) → taken_off phase.Done (names_at s) o a ≡ []
 done_takes_none s o (answer.Code code.Ok) = refl
 done_takes_none s o (answer.Code code.Einval) = refl
 done_takes_none s o (answer.Code code.Ebusy) = refl
@@ -619,30 +650,9 @@ pub rested_at : (p : Program) (s : State) (x : Place) (at : Position) → Stands
 rested_at p s (place.Main i) at h = tt
 rested_at p s (place.Running run) at (running h l) = rested_in p s run.body run.stage _ h l
 
-pub one_step : (p : Program) (told : Told) (s : State) (at : Position) (es : List Event) (n : Next) (was : Lasting) → lasting s ≡ was → Kept s →
-    StaysKept n → SentAt told.sent s → SentFollows p told s n → Working s → StaysWorking n → Stands p told s at → Follows p told at s n →
-    ((told' : Told) (t : State) (to : Position) (now : Lasting) → lasting t ≡ now → Kept t → SentAt told'.sent t → Working t → Stands p told' t to →
-    GoesOn p to told' now (history_from p t es)) → GoesOn p at told was (line_of_step s n ++ history_from p (state_of s n) es)
-one_step p told s at es (Moves t (Some what)) was l k j g i w x h f more =
-    line l f.goes (more (told_by p told s what) t f.to (lasting t) refl j i x f.stands)
-one_step p told s at es (Moves t None) was l k j g i w x h f more = more told t at was (f.1 ∙ l) j i x f.0
-one_step p told s at es (Refuses why) was l k j g i w x h f more = more told s at was l k g w h
-
-pub goes_on : (p : Program) (es : List Event) (told : Told) (s : State) (at : Position) (was : Lasting) → lasting s ≡ was → Kept s →
-    SentAt told.sent s → Working s → Stands p told s at → GoesOn p at told was (history_from p s es)
-goes_on p [] told s at was l k g w h = cut
-goes_on p (e ∷ es) told s at was l k g w h =
-    one_step p told s at es (next p s e) was l k (next_kept p s e (rested_at p s s.place at h.stands) k) g (next_sent p told s e k g) w
-    (next_working p s e (calm_at p s s.place at h.stands) k w) h (follows p told s at e k g w h) (goes_on p es)
-
 -- where every script begins
 pub stands_fresh : (p : Program) → Stands p nothing_told (fresh p) (Between 0)
 stands_fresh p = record {
   stands = between (record { timers = refl; idle = refl; prepare = refl; check = refl; async = refl; closing = refl; done = refl });
   counted = counted_fresh p;
 }
-
--- the lines of any events are in the documented order
-pub documented : (p : Program) (es : List Event) → Documented p (history p es)
-unfolding history
-documented p es = goes_on p es nothing_told (fresh p) (Between 0) at_first refl (fresh_kept p) (sent_fresh p) (fresh_working p) (stands_fresh p)

@@ -1,7 +1,9 @@
 -- What the slots hold, and the lists of ids of handles.
 use Rattle.std.proofs.Common.{◌≡◌, ◌⊎◌, inl, inr, ℕ, ◌<◌, List, ◌∷◌, ◌++◌, Bool, true, false, Option, Some, None, slice_set, refl, ap, sym, subst, ◌∙◌, arith}
+use Rattle.std.specs.Prelude.{option_map}
 use Rattle.std.proofs.lemmas.Option.{same_Some}
 use Rattle.uv_ids.specs.declared.id.Id.{Id}
+use Rattle.uv_ids.specs.declared.id.Var.{Var}
 use Rattle.uv_ids.specs.declared.due.Due.{Due}
 use Rattle.uv_ids.specs.declared.phase.Kind.TheVariants as kind
 use Rattle.uv_records.specs.declared.handle.HandleRecord.{HandleRecord}
@@ -32,6 +34,29 @@ abbrev pub put : List (Slot Content) → Id → HandleRecord → List (Slot Cont
 put slots id h = slice_set slots id.slot (slot_of id h)
 
 -- an id that stands for a handle stands for what its slot holds
+-- what is held is called so
+abbrev pub name_in : Content → Var
+name_in (content.Handle h) = h.name
+name_in (content.Request r) = r.name
+
+abbrev pub name_at : List (Slot Content) → Id → Option Var
+name_at slots id = option_map name_in (held slots id)
+
+-- nothing is held that wasn't, nor called otherwise
+abbrev pub NoNewNames : List (Slot Content) → List (Slot Content) → Type 0
+NoNewNames now was = (i : Id) (v : Var) → name_at now i ≡ Some v → name_at was i ≡ Some v
+
+-- one id turns, and what it stands for, if anything, is called as before
+pub names_turned : (slots more : List (Slot Content)) (id : Id) (was is : Option Content) → Turns slots more id was is →
+    ((v : Var) → option_map name_in is ≡ Some v → option_map name_in was ≡ Some v) → NoNewNames more slots
+names_turned slots more id was is t f i v e = at (same_id i id) refl where
+  at : (b : Bool) → same_id i id ≡ b → name_at slots i ≡ Some v
+  at true s =
+      let here = same i id s in
+      ap (name_at slots) here ∙ ap (option_map name_in) t.before
+      ∙ f v (sym (ap (option_map name_in) t.here) ∙ ap (name_at more) (sym here) ∙ e)
+  at false s = sym (ap (option_map name_in) (t.others i (other i id s))) ∙ e
+
 pub is_held : (slots : List (Slot Content)) (id : Id) (h : HandleRecord) → held_at slots id ≡ Some h → held slots id ≡ Some (content.Handle h)
 is_held slots id h e = as_handle (held slots id) h e
 
@@ -41,6 +66,11 @@ put_turns slots id h x e =
     let k = holds slots id (content.Handle h) (is_held slots id h e) in
     let t = set_turns slots id (Some (content.Handle x)) k.at in
     record { before = is_held slots id h e; here = t.here; others = t.others }
+
+-- the record of a handle changes, which is called as before
+pub put_names : (slots : List (Slot Content)) (id : Id) (h x : HandleRecord) → held_at slots id ≡ Some h → x.name ≡ h.name →
+    NoNewNames (put slots id x) slots
+put_names slots id h x e same_name = names_turned slots (put slots id x) id _ _ (put_turns slots id h x e) (λ v f. ap Some (sym same_name) ∙ f)
 
 pub put_same : (slots : List (Slot Content)) (id : Id) (h x : HandleRecord) → held_at slots id ≡ Some h → held_at (put slots id x) id ≡ Some x
 put_same slots id h x e = ap handle_in (put_turns slots id h x e).here

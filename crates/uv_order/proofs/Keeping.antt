@@ -50,9 +50,10 @@ pub record Watches (k : Kind) (h : HandleRecord) : Type 0 where
 abbrev pub Closes : HandleRecord → Type 0
 Closes h = h.closing ≡ true
 
--- one that closes is inactive
-abbrev pub IsSound : HandleRecord → Type 0
-IsSound h = h.closing ≡ true → h.active ≡ false
+-- one that closes is inactive, and an async one that doesn't is active
+pub record IsSound (h : HandleRecord) : Type 0 where
+  pub shut : h.closing ≡ true → h.active ≡ false
+  pub awake : h.kind ≡ kind.Async → h.closing ≡ false → h.active ≡ true
 
 abbrev pub AllSound : List (Slot Content) → Type 0
 AllSound slots = (id : Id) (h : HandleRecord) → held_at slots id ≡ Some h → IsSound h
@@ -215,7 +216,10 @@ pub put_kept : (s : State) (id : Id) (h x : HandleRecord) → handle s id ≡ So
     ≡ h.closing →
     Kept s → Kept (with_handle s id x)
 put_kept s id h x e a b c o k = record {
-  sound = sound_put s.arena.slots id h x e (λ shut. b ∙ k.sound id h e (sym o ∙ shut)) k.sound;
+  sound = sound_put s.arena.slots id h x e (record {
+    shut = λ shut. b ∙ (k.sound id h e).shut (sym o ∙ shut);
+    awake = λ q stays. b ∙ (k.sound id h e).awake (sym a ∙ q) (sym o ∙ stays);
+  }) k.sound;
   free = free_put s.arena.slots id h x s.arena.free e k.free;
   timers = times_put s.arena.slots s.next_start s.timers id h x e
       (λ key t. record { kind = a ∙ t.kind; active = b ∙ t.active; due = c ∙ t.due })
@@ -254,11 +258,11 @@ off_times s id h x e off k = at (is_timer h.kind && h.active) refl where
   at false inert = times_put s.arena.slots s.next_start s.timers id h x e
       (λ key a. absurd (unset key inert a)) (λ key a. absurd (on_off x a.active off)) k.timers
 
-pub stopped_kept : (s : State) (id : Id) (h : HandleRecord) → handle s id ≡ Some h → Kept s → Kept (stopped s id h)
-stopped_kept s id h e k =
+pub stopped_kept : (s : State) (id : Id) (h : HandleRecord) → handle s id ≡ Some h → Apart h.kind kind.Async → Kept s → Kept (stopped s id h)
+stopped_kept s id h e other k =
     let x = records.stopped h in
     record {
-      sound = sound_put s.arena.slots id h x e (λ shut. refl) k.sound;
+      sound = sound_put s.arena.slots id h x e (record { shut = λ shut. refl; awake = λ q stays. absurd (other q) }) k.sound;
       free = free_put s.arena.slots id h x s.arena.free e k.free;
       timers = off_times s id h x e refl k;
       ready = lists_without s.arena.slots Rests id h x s.ready e k.ready;
@@ -273,7 +277,7 @@ pub closed_kept : (s : State) (id : Id) (h : HandleRecord) → handle s id ≡ S
 closed_kept s id h e stays k =
     let x = records.closed h in
     record {
-      sound = sound_put s.arena.slots id h x e (λ shut. refl) k.sound;
+      sound = sound_put s.arena.slots id h x e (record { shut = λ shut. refl; awake = λ q stays. cc stays }) k.sound;
       free = free_put s.arena.slots id h x s.arena.free e k.free;
       timers = off_times s id h x e refl k;
       ready = lists_without s.arena.slots Rests id h x s.ready e k.ready;
@@ -290,7 +294,7 @@ pub started_kept : (s : State) (id : Id) (old h : HandleRecord) (timeout repeat 
 started_kept s id old h timeout repeat e t off was u stays away k =
     let x = begun_at (due_after s timeout) repeat h in
     record {
-      sound = sound_put s.arena.slots id old x e (λ shut. absurd (open_shut h shut stays)) k.sound;
+      sound = sound_put s.arena.slots id old x e (record { shut = λ shut. absurd (open_shut h shut stays); awake = λ q unshut. refl }) k.sound;
       free = free_put s.arena.slots id old x s.arena.free e k.free;
       timers = times_with s.arena.slots s.next_start (s.next_start + 1) s.timers (due_after s timeout) id old x e off
           (record { kind = u; active = refl; due = refl }) refl (omega arith) k.timers;
@@ -309,11 +313,12 @@ pub started_again_kept : (s : State) (id : Id) (h : HandleRecord) (timeout repea
     Kept (started (stopped s id h) id h timeout repeat)
 started_again_kept s id h timeout repeat e t stays k =
     started_kept (stopped s id h) id (records.stopped h) h timeout repeat (put_same s.arena.slots id h (records.stopped h) e) t refl stays t stays
-    (without_itself s.ready id) (stopped_kept s id h e k)
+    (without_itself s.ready id) (stopped_kept s id h e (λ q. cc (t, q)) k)
 
 pub restarted_again_kept : (s : State) (id : Id) (h : HandleRecord) → handle s id ≡ Some h → h.kind ≡ kind.Timer → h.closing ≡ false → Kept s → Kept
     (restarted (stopped s id h) id h)
-restarted_again_kept s id h e t stays k = cond_both (h.repeat == 0) _ _ Kept (λ z. stopped_kept s id h e k) (λ z. started_again_kept s id h h.repeat
+restarted_again_kept s id h e t stays k = cond_both (h.repeat == 0) _ _ Kept (λ z. stopped_kept s id h e (λ q. cc (t, q)) k)
+    (λ z. started_again_kept s id h h.repeat
     h.repeat e t stays k)
 
 -- the timers and the ready list where a watcher changes
@@ -344,7 +349,7 @@ StillSound s id x = AllSound (put s.arena.slots id x) × AreFree (put s.arena.sl
 
 pub activated_sound : (s : State) (id : Id) (h : HandleRecord) → handle s id ≡ Some h → h.closing ≡ false → Kept s → StillSound s id (activated h)
 activated_sound s id h e stays k = (
-  sound_put s.arena.slots id h (activated h) e (λ shut. absurd (open_shut h shut stays)) k.sound,
+  sound_put s.arena.slots id h (activated h) e (record { shut = λ shut. absurd (open_shut h shut stays); awake = λ q unshut. refl }) k.sound,
   free_put s.arena.slots id h (activated h) s.arena.free e k.free,
   everyone_put s.arena.slots Closes id h (activated h) (members s.closing) e (λ shut. shut) (λ shut. shut) k.closing,
 )
@@ -474,7 +479,11 @@ new_by s v q id w t async k =
     let x = inited v q in
     let more = (taken id (content.Handle x) s.arena).slots in
     record {
-      sound = sound_grown s.arena.slots more id x t.0 (λ shut. absurd (open_shut x shut refl)) k.sound;
+      sound = sound_grown s.arena.slots more id x t.0 (record {
+        shut = λ shut. absurd
+            (open_shut x shut refl);
+        awake = λ async unshut. ap is_async async;
+      }) k.sound;
       free = t.1;
       timers = times_grown s.arena.slots more s.next_start s.timers id x t.0 (new_unset v q) k.timers;
       ready = lists_grown s.arena.slots more Rests id x s.ready t.0 k.ready;

@@ -51,7 +51,7 @@ use Rattle.uv_model.proofs.Found.{found_both}
 use Rattle.uv_order.proofs.IdLists.{Each, each_push, distinct_push, member, has_new_middle}
 use Rattle.uv_order.proofs.Contents.{holds, emptied, get_set_same}
 use Rattle.uv_order.proofs.Holding.{is_held, put, same_handles, Fits, its_handle, Lists, lists_emptied, not_listed, Everyone, everyone_put, everyone_emptied, everyone_rest, fitted_emptied, IsSet, Times, times_rest, times_emptied, put_same}
-use Rattle.uv_order.proofs.OpCases.{as_watcher, live_held, refuses_none, refuses_timer, refuses_start, refuses_start_watcher, refuses_stop, refuses_again, refuses_close, start_passes, again_passes, start_watcher_passes, close_passes, on_handle_both, send_both, cancel_both, make_both}
+use Rattle.uv_order.proofs.OpCases.{as_watcher, live_held, refuses_none, refuses_timer, refuses_start, refuses_start_watcher, refuses_stop, refuses_again, refuses_close, start_passes, again_passes, start_watcher_passes, close_passes, stop_passes, on_handle_both, send_both, cancel_both, make_both}
 use Rattle.uv_order.proofs.Asked.{request_turns, freed_turns, FrontRequest, request_front, runs_work}
 use Rattle.uv_order.proofs.Keeping.{fills, agree_same, free_held, Rests, Watches, Closes, IsSound, AreFree, members, Agree, Kept, on_off, open_shut, others, off_list, sound_put, free_put, free_set, not_free, put_kept, stopped_kept, closed_kept, started_kept, started_again_kept, restarted_again_kept, watcher_started_kept, new_kept}
 
@@ -99,8 +99,8 @@ op_kept s (op.Start v timeout repeat) k = on_handle_both s v start_timer_refusal
     (λ t e is. let p = start_passes t.1 is in started_again_kept s t.0 t.1 timeout repeat (live_held s v t e) p.0 p.1 k)
 op_kept s (op.StartWatcher v) k = on_handle_both s v start_watcher_refusal _ KeptBy refuses_start_watcher (λ c no_success. k)
     (λ t e is. start_watcher_kept s t.0 t.1 (live_held s v t e) (start_watcher_passes t.1 is) k)
-op_kept s (op.Stop v) k = on_handle_both s v stop_refusal _ KeptBy refuses_stop (λ c no_success. k) (λ t e is. stopped_kept s t.0 t.1 (live_held s v
-    t e) k)
+op_kept s (op.Stop v) k = on_handle_both s v stop_refusal _ KeptBy refuses_stop (λ c no_success. k)
+    (λ t e is. stopped_kept s t.0 t.1 (live_held s v t e) (stop_passes t.1 is) k)
 op_kept s (op.Again v) k = on_handle_both s v again_refusal _ KeptBy refuses_again (λ c no_success. k)
     (λ t e is. let p = again_passes t.1 is in restarted_again_kept s t.0 t.1 (live_held s v t e) p.0 p.1 k)
 op_kept s (op.SetRepeat v n) k = on_handle_both s v timer_refusal _ KeptBy refuses_timer (λ c no_success. k)
@@ -210,7 +210,7 @@ fire_kept p s run part k = found_both (front s s.ready) _ _ StaysKept (λ t e. f
 pub opened : (h : HandleRecord) → h.active ≡ true → IsSound h → h.closing ≡ false
 opened h on sound = at h.closing refl where
   at : (b : Bool) → h.closing ≡ b → b ≡ false
-  at true shut = absurd (on_off h on (sound shut))
+  at true shut = absurd (on_off h on (sound.shut shut))
   at false stays = refl
 
 pub collected_kept : (s : State) (t : Id × HandleRecord) → FirstOf s s.timers t → Kept s → Kept (collected s t.0 t.1)
@@ -227,7 +227,7 @@ collected_kept s t f k =
       fits = record { kind = set.kind; inactive = refl; stays = stays };
     } in
     record {
-      sound = sound_put s.arena.slots t.0 t.1 x f.holds (λ shut. refl) k.sound;
+      sound = sound_put s.arena.slots t.0 t.1 x f.holds (record { shut = λ shut. refl; awake = λ q stays. cc (set.kind, q) }) k.sound;
       free = free_put s.arena.slots t.0 t.1 x s.arena.free f.holds k.free;
       timers = subst (Times (put s.arena.slots t.0 x) s.next_start) (sym f.behind) (times_rest s.arena.slots s.next_start (f.key, t.0) f.rest t.1 x
           f.holds refl times);
@@ -403,7 +403,7 @@ gone_kept s t rest n free e are f k =
     ++ ids)) are k.closing in
     let shut : t.1.closing ≡ true = its_handle s.arena.slots Closes t.0 t.1 e (member (Fits s.arena.slots Closes) (s.closing.list ++ t.0 ∷ rest)
     l.lists.each t.0 (has_new_middle s.closing.list rest t.0)) in
-    let off : t.1.active ≡ false = k.sound t.0 t.1 e shut in
+    let off : t.1.active ≡ false = (k.sound t.0 t.1 e).shut shut in
     record {
       sound = λ i y h. k.sound i y ((fitted_emptied s.arena.slots (λ x. x ≡ y) t.0 t.1 n e i (record {
         handle = y;

@@ -20,10 +20,10 @@ use Rattle.uv_model.specs.declared.content.Content.TheVariants as content
 use Rattle.uv_model.specs.declared.named.Named.{Named}
 use Rattle.uv_model.specs.Ids.{same_id}
 use Rattle.uv_model.specs.State.{unbound}
-use Rattle.uv_order.specs.Once.{answered, queues, binds, bound_by, bound, closes, closes_by, is_some_id, is_bound, was_closed, is_closed_line, has_closed_line}
+use Rattle.uv_order.specs.Once.{answered, queues, binds, bound_by, bound, closes, closes_by, is_some_id, is_bound, was_closed, is_closed_line, has_closed_line, makes, made_by, made_as, cancels, first_of}
 use Rattle.uv_order.proofs.IdLists.{same, other, itself}
 use Rattle.uv_order.proofs.Contents.{emptied, emptied_turns}
-use Rattle.uv_order.proofs.Holding.{held_at, is_held, put, put_same, put_other, emptied_same, emptied_other, Fits, fits_put, fits_same, SameHandles, Grown}
+use Rattle.uv_order.proofs.Holding.{name_at, NoNewNames, put_names, names_turned, held_at, is_held, put, put_same, put_other, emptied_same, emptied_other, Fits, fits_put, fits_same, SameHandles, Grown}
 use Rattle.uv_order.proofs.Counted.{set_there}
 use Rattle.uv_order.proofs.Keeping.{has_number, Closes, open_shut}
 use Rattle.uv_order.proofs.Gone.{IsGone, not_held, gone_put, gone_emptied, gone_now}
@@ -64,9 +64,11 @@ own_id (n ∷ names) (suc i) x id e = own_id names i x id e
 abbrev pub IsShut : Slots Content → Id → Type 0
 IsShut arena id = Fits arena.slots Closes id ⊎ IsGone arena.slots arena.free id
 
--- names are bound as the lines tell, and just the ids of which they tell a `close` close, or are gone; those with a `closed` line are gone
+-- what is held is called as the lines tell; names are bound as they tell, and just the ids of which they tell a `close` close, or are gone;
+-- those with a `closed` line are gone
 pub record Known (p : Program) (past : List Seen) (arena : Slots Content) (names : List Named) (waiting runs : List Id) : Type 0 where
   pub binding : (v : Var) (id : Id) → id_in names v ≡ Some id → bound p past v ≡ Some id
+  pub made : (id : Id) (v : Var) → name_at arena.slots id ≡ Some v → made_as p past id ≡ Some v
   pub closing : (id : Id) → Fits arena.slots Closes id → was_closed p past id ≡ true
   pub closed : (id : Id) → was_closed p past id ≡ true → IsShut arena id
   pub over : (id : Id) → has_closed_line past id ≡ true → IsGone arena.slots arena.free id
@@ -99,6 +101,7 @@ pub known_names : {waiting runs : List Id} (p : Program) (past : List Seen) (are
     Known p past arena now waiting runs
 known_names p past arena now was same k = record {
   binding = λ v id e. k.binding v id (sym (same v) ∙ e);
+  made = k.made;
   closing = k.closing;
   closed = k.closed;
   over = k.over;
@@ -108,10 +111,11 @@ known_names p past arena now was same k = record {
 -- a handle changes that closes as before
 pub known_put : {waiting runs : List Id} (p : Program) (past : List Seen) (arena : Slots Content) (names : List Named) (id : Id)
     (h x : HandleRecord) →
-    held_at arena.slots id ≡ Some h → x.closing ≡ h.closing → Known p past arena names waiting runs →
+    held_at arena.slots id ≡ Some h → x.closing ≡ h.closing → x.name ≡ h.name → Known p past arena names waiting runs →
     Known p past (record arena { slots = put arena.slots id x }) names waiting runs
-known_put p past arena names id h x e o k = record {
+known_put p past arena names id h x e o called k = record {
   binding = k.binding;
+  made = λ i v f. k.made i v (put_names arena.slots id h x e called i v f);
   closing = λ i f. closing i f (same_id i id) refl;
   closed = λ i c. shut i (k.closed i c);
   over = λ i c. gone_put arena.slots arena.free id h x i e (k.over i c);
@@ -142,15 +146,18 @@ none_is_none h e = cc e
 -- a line that tells nothing of names and closing
 pub record IsQuiet (p : Program) (l : Seen) : Type 0 where
   pub binding : (v : Var) (before : Option Id) → bound_by (answered p l) v before ≡ before
+  pub made : (id : Id) → made_by (answered p l) id ≡ None
   pub closing : closes_by (answered p l) ≡ None
   pub closed : (id : Id) → is_closed_line l id ≡ false
 
 -- so does a line that tells of requests
 pub known_told : {waiting runs few more : List Id} (p : Program) (past : List Seen) (l : Seen) (arena now : Slots Content) (names : List Named) →
-    IsQuiet p l → SameHandles now.slots arena.slots → ((i : Id) → IsGone arena.slots arena.free i → IsGone now.slots now.free i) →
+    IsQuiet p l → SameHandles now.slots arena.slots → NoNewNames now.slots arena.slots →
+    ((i : Id) → IsGone arena.slots arena.free i → IsGone now.slots now.free i) →
     Worked p (l ∷ past) now few more → Known p past arena names waiting runs → Known p (l ∷ past) now names few more
-known_told p past l arena now names q f gone w k = record {
+known_told p past l arena now names q f called gone w k = record {
   binding = λ v id e. q.binding v (bound p past v) ∙ k.binding v id e;
+  made = λ id v e. ap (λ (o : Option Var). first_of o (made_as p past id)) (q.made id) ∙ k.made id v (called id v e);
   closing = λ id c. same_closed id ∙ k.closing id (fits_same now.slots arena.slots Closes (λ j. sym (f j)) id c);
   closed = λ id c. later id (k.closed id (sym (same_closed id) ∙ c));
   over = λ id c. gone id (k.over id (sym (same_over id) ∙ c));
@@ -169,16 +176,17 @@ known_told p past l arena now names q f gone w k = record {
 pub known_quiet : {waiting runs : List Id} (p : Program) (past : List Seen) (l : Seen) (arena : Slots Content) (names : List Named) → IsQuiet p l →
     IsIdle p l → Known p past arena names waiting runs → Known p (l ∷ past) arena names waiting runs
 known_quiet p past l arena names q idle k =
-    known_told p past l arena arena names q (λ i. refl) (λ i g. g) (worked_idle p past l arena _ _ idle k.worked) k
+    known_told p past l arena arena names q (λ i. refl) (λ i v e. e) (λ i g. g) (worked_idle p past l arena _ _ idle k.worked) k
 
 -- an op that neither binds a name nor closes a handle
 pub record IsQuietOp (o : Op) (a : Answer) : Type 0 where
   pub binding : (v : Var) (before : Option Id) → binds o a v before ≡ before
+  pub made : (id : Id) → makes o a id ≡ None
   pub closing : closes o a ≡ None
 
--- nor queues a request
+-- nor queues a request, nor cancels one
 abbrev pub IsIdleOp : Op → Answer → Type 0
-IsIdleOp o a = (id : Id) → queues o a id ≡ None
+IsIdleOp o a = (id : Id) → (queues o a id ≡ None) × (cancels o a id ≡ false)
 
 pub is_answered : (p : Program) (place : Site) (o : Op) (a : Answer) → op_at p place ≡ Some o →
     answered p (seen.Op place a) ≡ Some (record { op = o; answer = a })
@@ -187,16 +195,18 @@ is_answered p place o a e = ap (option_map (λ (x : Op). record { op = x; answer
 pub quiet_op : (p : Program) (place : Site) (o : Op) (a : Answer) → op_at p place ≡ Some o → IsQuietOp o a → IsQuiet p (seen.Op place a)
 quiet_op p place o a e q = record {
   binding = λ v before. rw (is_answered p place o a e) (q.binding v before);
+  made = λ id. rw (is_answered p place o a e) (q.made id);
   closing = rw (is_answered p place o a e) q.closing;
   closed = λ id. refl;
 }
 
 pub idle_op : (p : Program) (place : Site) (o : Op) (a : Answer) → op_at p place ≡ Some o → IsIdleOp o a → IsIdle p (seen.Op place a)
 idle_op p place o a e q = record {
-  queued = λ id. rw (is_answered p place o a e) (q id);
+  queued = λ id. rw (is_answered p place o a e) (q id).0;
   taken = λ id. refl;
   finished = λ id. refl;
   over = λ id. refl;
+  cancelled = λ id. rw (is_answered p place o a e) (q id).1;
 }
 
 or_right : (a b : Bool) → b ≡ true → (a || b) ≡ true
@@ -215,16 +225,17 @@ either false b e = inr e
 pub known_close : {waiting runs : List Id} (p : Program) (past : List Seen) (place : Site) (v : Var) (arena : Slots Content) (names : List Named)
     (id : Id)
     (h x : HandleRecord) → op_at p place ≡ Some (op.Close v) → id_in names v ≡ Some id → held_at arena.slots id ≡ Some h → x.closing ≡ true →
-    Known p past arena names waiting runs →
+    x.name ≡ h.name → Known p past arena names waiting runs →
     Known p (seen.Op place (answer.Code code.Ok) ∷ past) (record arena { slots = put arena.slots id x }) names waiting runs
-known_close p past place v arena names id h x e is holds shut k = record {
+known_close p past place v arena names id h x e is holds shut called k = record {
   binding = λ u i f. rw said (k.binding u i f);
+  made = λ i u f. rw said (k.made i u (put_names arena.slots id h x holds called i u f));
   closing = λ i f. rw closed_now (closing i f (same_id i id) refl);
   closed = λ i c. closed i (either (is_some_id i (bound p past v)) (was_closed p past i) (sym (ap
       (λ (o : Option Var). is_bound p past i o || was_closed p past i) closed_now) ∙ c));
   over = λ i c. gone_put arena.slots arena.free id h x i holds (k.over i c);
   worked = worked_idle p past (seen.Op place (answer.Code code.Ok)) (record arena { slots = put arena.slots id x }) _ _
-      (idle_op p place (op.Close v) (answer.Code code.Ok) e (λ i. refl))
+      (idle_op p place (op.Close v) (answer.Code code.Ok) e (λ i. (refl, refl)))
       (worked_same p past arena (record arena { slots = put arena.slots id x }) _ _ (same_put arena.slots id h x holds)
       (λ i g. gone_put arena.slots arena.free id h x i holds g) k.worked);
 } where
@@ -262,11 +273,14 @@ known_close p past place v arena names id h x e is holds shut k = record {
 pub known_bound : {waiting runs few : List Id} (p : Program) (past : List Seen) (place : Site) (v : Var) (o : Op) (arena now : Slots Content)
     (names : List Named) (id : Id) (n : Named) → op_at p place ≡ Some o →
     ((u : Var) (before : Option Id) → binds o (answer.Id id) u before ≡ (if v.0 == u.0 then Some id else before)) →
+    ((i : Id) → makes o (answer.Id id) i ≡ (if same_id id i then Some v else None)) →
+    ((i : Id) (u : Var) → name_at now.slots i ≡ Some u → (if same_id id i then Some v else name_at arena.slots i) ≡ Some u) →
     closes o (answer.Id id) ≡ None → n.id ≡ Some id → SameHandles now.slots arena.slots →
     ((i : Id) → IsGone arena.slots arena.free i → IsGone now.slots now.free i) → Worked p (seen.Op place (answer.Id id) ∷ past) now few runs →
     Known p past arena names waiting runs → Known p (seen.Op place (answer.Id id) ∷ past) now (slice_set names v.0 n) few runs
-known_bound p past place v o arena now names id n e bind quiet is handles gone w k = record {
+known_bound p past place v o arena now names id n e bind make called quiet is handles gone w k = record {
   binding = λ u i f. rw said (bind u (bound p past u) ∙ binding u i (v.0 == u.0) refl f);
+  made = λ i u f. rw said (ap (λ (x : Option Var). first_of x (made_as p past i)) (make i) ∙ made i u (same_id id i) (called i u f));
   closing = λ i f. rw said (rw quiet (k.closing i (fits_same now.slots arena.slots Closes (λ j. sym (handles j)) i f)));
   closed = λ i c. later i (k.closed i (sym (ap (λ (x : Option Var). is_bound p past i x || was_closed p past i) nobody) ∙ c));
   over = λ i c. gone i (k.over i c);
@@ -282,6 +296,11 @@ known_bound p past place v o arena now names id n e bind quiet is handles gone w
   nobody : closes_by (answered p (seen.Op place (answer.Id id))) ≡ None
   nobody = ap closes_by said ∙ quiet
 
+  made : (i : Id) (u : Var) (b : Bool) → (if b then Some v else name_at arena.slots i) ≡ Some u →
+      first_of (if b then Some v else None) (made_as p past i) ≡ Some u
+  made i u true f = f
+  made i u false f = k.made i u f
+
   binding : (u : Var) (i : Id) (b : Bool) → (v.0 == u.0) ≡ b → id_in (slice_set names v.0 n) u ≡ Some i →
       (if v.0 == u.0 then Some id else bound p past u) ≡ Some i
   binding u i true f g =
@@ -295,10 +314,12 @@ known_bound p past place v o arena now names id n e bind quiet is handles gone w
 pub known_grown : {waiting runs : List Id} (p : Program) (past : List Seen) (arena more : Slots Content) (names : List Named) (id : Id)
     (x : HandleRecord) →
     Grown arena.slots more.slots id x → SameRequests more.slots arena.slots → x.closing ≡ false →
+    ((i : Id) (v : Var) → name_at more.slots i ≡ Some v → made_as p past i ≡ Some v) →
     ((i : Id) → IsGone arena.slots arena.free i → IsGone more.slots more.free i) →
     Known p past arena names waiting runs → Known p past more names waiting runs
-known_grown p past arena more names id x grown same_asked stays gone k = record {
+known_grown p past arena more names id x grown same_asked stays called gone k = record {
   binding = k.binding;
+  made = called;
   closing = λ i f. k.closing i (earlier i f (same_id i id) refl);
   closed = λ i c. later i (k.closed i c);
   over = λ i c. gone i (k.over i c);
@@ -318,10 +339,12 @@ known_grown p past arena more names id x grown same_asked stays gone k = record 
 
 -- no handle changes
 pub known_same : {waiting runs few more : List Id} (p : Program) (past : List Seen) (arena now : Slots Content) (names : List Named) →
-    SameHandles now.slots arena.slots → ((i : Id) → IsGone arena.slots arena.free i → IsGone now.slots now.free i) → Worked p past now few more →
+    SameHandles now.slots arena.slots → NoNewNames now.slots arena.slots →
+    ((i : Id) → IsGone arena.slots arena.free i → IsGone now.slots now.free i) → Worked p past now few more →
     Known p past arena names waiting runs → Known p past now names few more
-known_same p past arena now names f gone w k = record {
+known_same p past arena now names f called gone w k = record {
   binding = k.binding;
+  made = λ i v e. k.made i v (called i v e);
   closing = λ i c. k.closing i (fits_same now.slots arena.slots Closes (λ j. sym (f j)) i c);
   closed = λ i c. later i (k.closed i c);
   over = λ i c. gone i (k.over i c);
@@ -339,11 +362,13 @@ pub known_gone : {waiting runs : List Id} (p : Program) (past : List Seen) (v : 
     Known p (seen.Closed v id ∷ past) (record arena { slots = emptied arena.slots id n; free = more }) names waiting runs
 known_gone p past v arena more names id h n e l last others k = record {
   binding = k.binding;
+  made = λ i u f. k.made i u (names_turned arena.slots (emptied arena.slots id n) id _ _
+      (emptied_turns arena.slots id (content.Handle h) n (is_held arena.slots id h e)) (λ u g. cc g) i u f);
   closing = λ i f. k.closing i (earlier i f (same_id i id) refl);
   closed = λ i c. later i (same_id i id) refl (k.closed i c);
   over = λ i c. over i (either (same_id id i) (has_closed_line past i) c);
   worked = worked_idle p past (seen.Closed v id) (record arena { slots = emptied arena.slots id n; free = more }) _ _
-      (record { queued = λ i. refl; taken = λ i. refl; finished = λ i. refl; over = λ i. refl })
+      (record { queued = λ i. refl; taken = λ i. refl; finished = λ i. refl; over = λ i. refl; cancelled = λ i. refl })
       (worked_same p past arena (record arena { slots = emptied arena.slots id n; free = more }) _ _
       (same_requests arena.slots _ id _ _ (emptied_turns arena.slots id (content.Handle h) n (is_held arena.slots id h e)) refl refl) gone k.worked);
 } where

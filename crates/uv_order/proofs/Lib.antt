@@ -10,19 +10,23 @@ mod Keeping
 mod KeptSteps
 mod Quiet
 mod Working
+mod Lives
 mod Bodies
 mod OpEffects
 mod Counted
 mod Standing
 mod TimersFollow
 mod WatchersFollow
-pub mod Follows
+mod Follows
 mod Sends
 mod Gone
 mod Worked
 mod Known
 mod OpsOnce
 pub mod ClosesOnce
+pub mod Documents
+pub mod RefusedOnce
+pub mod RefusedOrder
 pub mod Pooling
 pub mod Taking
 pub mod Reaching

@@ -2,7 +2,7 @@
 use Rattle.std.proofs.Common.{◌≡◌, Bool, true, false, Option, Some, None, Result, Ok, Err, refl, ap, subst, ◌∙◌}
 use Rattle.std.specs.Prelude.{not, ◌||◌}
 use Rattle.std.specs.List.{list_any}
-use Rattle.std.proofs.lemmas.Bool.{or_parts, cond_both}
+use Rattle.std.proofs.lemmas.Bool.{or_parts, cond_both, both_ways}
 use Rattle.std.proofs.lemmas.Option.{same_Some}
 use Rattle.uv_ids.specs.declared.id.Id.{Id}
 use Rattle.uv_ids.specs.declared.id.Var.{Var}
@@ -26,6 +26,8 @@ use Rattle.uv_model.specs.Ids.{same_id}
 use Rattle.uv_model.specs.State.{State, handle, named, live, live_id, live_handle, live_request, as_handle, handle_at, as_request, request_at, with_id, with_handle}
 use Rattle.uv_model.specs.Ops as ops
 use Rattle.uv_model.proofs.Found.{found_both}
+use Rattle.uv_order.specs.Documented.{Names}
+use Rattle.uv_order.proofs.Holding.{name_at}
 
 -- ---- kinds
 
@@ -57,6 +59,10 @@ with_id_is id None t e = cc e
 with_id_is {X} id (Some x) t e =
     let is : (id, x) ≡ t = same_Some _ _ e in
     (ap (λ (w : Id × X). w.0) is, ap (λ (w : Id × X). Some w.1) is)
+
+-- what the names of a state are bound to, and what is held is called
+abbrev pub names_at : State → Names
+names_at s = record { bound = λ v. (named s v).id; made = name_at s.arena.slots }
 
 -- what a live name stands for is held, and the name is bound to it
 pub record IsLive (s : State) (v : Var) (id : Id) (c : Content) : Type 0 where
@@ -175,6 +181,12 @@ start_watcher_passes h e = invalid_passes h.closing (only_passes (is_watcher h.k
 
 pub close_passes : (h : HandleRecord) → close_refusal h ≡ None → h.closing ≡ false
 close_passes h e = invalid_passes h.closing e
+
+-- what an async handle isn't asked
+pub stop_passes : (h : HandleRecord) → stop_refusal h ≡ None → h.kind ≡ kind.Async → ⊥
+stop_passes h e q =
+    let parts = only_passes (not (is_async h.kind)) None e in
+    both_ways (not (is_async h.kind)) (ap (λ k. not (is_async k)) q) parts.0
 
 async_kind : (k : Kind) → is_async k ≡ true → k ≡ kind.Async
 async_kind kind.Timer e = cc e

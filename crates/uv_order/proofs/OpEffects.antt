@@ -28,12 +28,12 @@ use Rattle.uv_model.specs.Timers.{stopped, started}
 use Rattle.uv_model.specs.Ops as ops
 use Rattle.uv_model.specs.Ops.{do_op}
 use Rattle.uv_order.specs.Active.{has_id}
-use Rattle.uv_order.specs.Documented.{lasting, after_op, taken_off, ids_of, off_by}
+use Rattle.uv_order.specs.Documented.{Names, lasting, after_op, taken_off, ids_of, off_by}
 use Rattle.uv_order.proofs.IdLists.{left_of, none_off, one_off, without_absent, has_back}
 use Rattle.uv_order.proofs.Holding.{Everyone, not_listed}
 use Rattle.uv_order.proofs.Keeping.{Kept, Watches, members}
 use Rattle.uv_model.proofs.Found.{found_both}
-use Rattle.uv_order.proofs.OpCases.{live_held, live_bound, IsRefusal, refuses_none, refuses_timer, refuses_start, refuses_start_watcher, refuses_stop, refuses_again, refuses_close, start_passes, again_passes, on_handle_both, send_both, cancel_both, make_both}
+use Rattle.uv_order.proofs.OpCases.{names_at, live_held, live_bound, IsRefusal, refuses_none, refuses_timer, refuses_start, refuses_start_watcher, refuses_stop, refuses_again, refuses_close, start_passes, again_passes, on_handle_both, send_both, cancel_both, make_both}
 
 -- ---- counts of calls
 
@@ -68,17 +68,17 @@ bound_calls names i x e = record { long = set_long names i x; each = λ v. set_c
 pub record Effect (s : State) (o : Op) (d : ops.Done) : Type 0 where
   pub lasts : lasting d.state ≡ after_op o s
   pub calls : SameCalls d.state.names s.names
-  pub ready : d.state.ready ≡ left_of s.ready (taken_off phase.Timers s o d.answer)
-  pub idle : d.state.idle.yet ≡ left_of s.idle.yet (taken_off phase.Idle s o d.answer)
-  pub prepare : d.state.prepare.yet ≡ left_of s.prepare.yet (taken_off phase.Prepare s o d.answer)
-  pub check : d.state.check.yet ≡ left_of s.check.yet (taken_off phase.Check s o d.answer)
-  pub async : d.state.async.yet ≡ left_of s.async.yet (taken_off phase.Async s o d.answer)
+  pub ready : d.state.ready ≡ left_of s.ready (taken_off phase.Timers (names_at s) o d.answer)
+  pub idle : d.state.idle.yet ≡ left_of s.idle.yet (taken_off phase.Idle (names_at s) o d.answer)
+  pub prepare : d.state.prepare.yet ≡ left_of s.prepare.yet (taken_off phase.Prepare (names_at s) o d.answer)
+  pub check : d.state.check.yet ≡ left_of s.check.yet (taken_off phase.Check (names_at s) o d.answer)
+  pub async : d.state.async.yet ≡ left_of s.async.yet (taken_off phase.Async (names_at s) o d.answer)
   pub closing : d.state.closing.yet ≡ s.closing.yet
   pub done : d.state.done.yet ≡ s.done.yet
 
 -- the op takes nobody off
-abbrev TakesNone : State → Op → Answer → Type 0
-TakesNone s o a = (word : Phase) → taken_off word s o a ≡ []
+abbrev pub TakesNone : Names → Op → Answer → Type 0
+TakesNone names o a = (word : Phase) → taken_off word names o a ≡ []
 
 -- who stands on the lists that a section walks
 record SameLists (now was : State) : Type 0 where
@@ -94,7 +94,7 @@ same_lists : (s : State) → SameLists s s
 same_lists s = record { ready = refl; idle = refl; prepare = refl; check = refl; async = refl; closing = refl; done = refl }
 
 -- nobody is taken off, and the lists stay
-quiet : (s : State) (o : Op) (d : ops.Done) → TakesNone s o d.answer → lasting d.state ≡ after_op o s → SameCalls d.state.names s.names →
+quiet : (s : State) (o : Op) (d : ops.Done) → TakesNone (names_at s) o d.answer → lasting d.state ≡ after_op o s → SameCalls d.state.names s.names →
     SameLists d.state s → Effect s o d
 quiet s o d none lasts calls lists = record {
   lasts = lasts;
@@ -107,25 +107,25 @@ quiet s o d none lasts calls lists = record {
   closing = lists.closing;
   done = lists.done;
 } where
-  same : (word : Phase) (now was : List Id) → now ≡ was → now ≡ left_of was (taken_off word s o d.answer)
+  same : (word : Phase) (now was : List Id) → now ≡ was → now ≡ left_of was (taken_off word (names_at s) o d.answer)
   same word now was e = rw (none word) (e ∙ sym (none_off was))
 
-refusal_takes_none : (s : State) (o : Op) (c : Code) → IsRefusal c → TakesNone s o (answer.Code c)
-refusal_takes_none s o code.Ok no_success word = absurd (no_success refl)
-refusal_takes_none s o code.Einval no_success word = refl
-refusal_takes_none s o code.Ebusy no_success word = refl
-refusal_takes_none s o code.Ecanceled no_success word = refl
-refusal_takes_none s o code.Ebound no_success word = refl
-refusal_takes_none s o code.Efull no_success word = refl
-refusal_takes_none s o code.Estale no_success word = refl
-refusal_takes_none s o code.Ekind no_success word = refl
+pub refusal_takes_none : (names : Names) (o : Op) (c : Code) → IsRefusal c → TakesNone names o (answer.Code c)
+refusal_takes_none names o code.Ok no_success word = absurd (no_success refl)
+refusal_takes_none names o code.Einval no_success word = refl
+refusal_takes_none names o code.Ebusy no_success word = refl
+refusal_takes_none names o code.Ecanceled no_success word = refl
+refusal_takes_none names o code.Ebound no_success word = refl
+refusal_takes_none names o code.Efull no_success word = refl
+refusal_takes_none names o code.Estale no_success word = refl
+refusal_takes_none names o code.Ekind no_success word = refl
 
 -- an op that is refused, or that only answers
-says_effect : (s : State) (o : Op) (a : Answer) → TakesNone s o a → after_op o s ≡ lasting s → Effect s o (ops.says s a)
+says_effect : (s : State) (o : Op) (a : Answer) → TakesNone (names_at s) o a → after_op o s ≡ lasting s → Effect s o (ops.says s a)
 says_effect s o a none lasts = quiet s o (ops.says s a) none (sym lasts) (same_calls s.names) (same_lists s)
 
 refused_effect : (s : State) (o : Op) → after_op o s ≡ lasting s → (c : Code) → IsRefusal c → Effect s o (ops.refuses s c)
-refused_effect s o lasts c no_success = says_effect s o (answer.Code c) (refusal_takes_none s o c no_success) lasts
+refused_effect s o lasts c no_success = says_effect s o (answer.Code c) (refusal_takes_none (names_at s) o c no_success) lasts
 
 -- ---- stopping
 
@@ -133,11 +133,11 @@ left_one : (ids : List Id) (id : Id) → without_id ids id ≡ left_of ids (id �
 left_one ids id = sym (one_off ids [] id ∙ ap (λ (is : List Id). without_id is id) (none_off ids))
 
 -- the id of a live name
-pub one_taken : (s : State) (v : Var) (t : Id × HandleRecord) → live_handle s v ≡ Ok t → ids_of s (Some v) ≡ t.0 ∷ []
+pub one_taken : (s : State) (v : Var) (t : Id × HandleRecord) → live_handle s v ≡ Ok t → ids_of (names_at s) (Some v) ≡ t.0 ∷ []
 one_taken s v t e = rw (live_bound s v t e) refl
 
 taken_one : (s : State) (v : Var) (t : Id × HandleRecord) (ids : List Id) → live_handle s v ≡ Ok t →
-    without_id ids t.0 ≡ left_of ids (ids_of s (Some v))
+    without_id ids t.0 ≡ left_of ids (ids_of (names_at s) (Some v))
 taken_one s v t ids e = rw (one_taken s v t e) (left_one ids t.0)
 
 stop_effect : (s : State) (v : Var) (t : Id × HandleRecord) → live_handle s v ≡ Ok t → Effect s (op.Stop v) (ops.stop s t.0 t.1)
@@ -186,7 +186,7 @@ timer_effect : (s u : State) (o : Op) (v : Var) (t : Id × HandleRecord) → liv
 timer_effect s u o v t e is k off lasts same names lists = record {
   lasts = same ∙ sym lasts;
   calls = rw names (same_calls s.names);
-  ready = lists.ready ∙ taken_one s v t s.ready e ∙ ap (λ (x : Option Var). left_of s.ready (ids_of s x)) (sym (off phase.Timers));
+  ready = lists.ready ∙ taken_one s v t s.ready e ∙ ap (λ (x : Option Var). left_of s.ready (ids_of (names_at s) x)) (sym (off phase.Timers));
   idle = lists.idle ∙ not_yet s kind.Idle s.idle t.0 t.1 held_now (apart t.1 kind.Idle is (λ f. cc f)) k.idle ∙ none_by phase.Idle s.idle.yet refl;
   prepare = lists.prepare ∙ not_yet s kind.Prepare s.prepare t.0 t.1 held_now (apart t.1 kind.Prepare is (λ f. cc f)) k.prepare
       ∙ none_by phase.Prepare s.prepare.yet refl;
@@ -200,10 +200,11 @@ timer_effect s u o v t e is k off lasts same names lists = record {
   held_now : handle s t.0 ≡ Some t.1
   held_now = live_held s v t e
 
-  none_by : (word : Phase) (ids : List Id) → off_by word (op.Again v) ≡ None → left_of ids [] ≡ left_of ids (taken_off word s o (answer.Code code.Ok))
-  none_by word ids none = ap (λ (x : Option Var). left_of ids (ids_of s x)) (sym none ∙ sym (off word))
+  none_by : (word : Phase) (ids : List Id) → off_by word (op.Again v) ≡ None → left_of ids [] ≡ left_of ids
+      (taken_off word (names_at s) o (answer.Code code.Ok))
+  none_by word ids none = ap (λ (x : Option Var). left_of ids (ids_of (names_at s) x)) (sym none ∙ sym (off word))
 
-start_off : (v : Var) (timeout repeat : ℕ) (word : Phase) → off_by word (op.Start v timeout repeat) ≡ off_by word (op.Again v)
+pub start_off : (v : Var) (timeout repeat : ℕ) (word : Phase) → off_by word (op.Start v timeout repeat) ≡ off_by word (op.Again v)
 start_off v timeout repeat phase.Pending = refl
 start_off v timeout repeat phase.Idle = refl
 start_off v timeout repeat phase.Prepare = refl
@@ -251,26 +252,26 @@ again_effect s v t e is k =
 
 -- ---- the other ops
 
-none_taken : (s : State) (o : Op) (a : Answer) → ((word : Phase) → off_by word o ≡ None) → TakesNone s o a
-none_taken s o (answer.Code code.Ok) e word = ap (ids_of s) (e word)
-none_taken s o (answer.Code code.Einval) e word = refl
-none_taken s o (answer.Code code.Ebusy) e word = refl
-none_taken s o (answer.Code code.Ecanceled) e word = refl
-none_taken s o (answer.Code code.Ebound) e word = refl
-none_taken s o (answer.Code code.Efull) e word = refl
-none_taken s o (answer.Code code.Estale) e word = refl
-none_taken s o (answer.Code code.Ekind) e word = refl
-none_taken s o (answer.Id id) e word = refl
-none_taken s o (answer.Cancelled id) e word = refl
-none_taken s o (answer.Number n) e word = refl
-none_taken s o (answer.Flag b) e word = refl
-none_taken s o (answer.Timeout t) e word = refl
+pub none_taken : (names : Names) (o : Op) (a : Answer) → ((word : Phase) → off_by word o ≡ None) → TakesNone names o a
+none_taken names o (answer.Code code.Ok) e word = ap (ids_of names) (e word)
+none_taken names o (answer.Code code.Einval) e word = refl
+none_taken names o (answer.Code code.Ebusy) e word = refl
+none_taken names o (answer.Code code.Ecanceled) e word = refl
+none_taken names o (answer.Code code.Ebound) e word = refl
+none_taken names o (answer.Code code.Efull) e word = refl
+none_taken names o (answer.Code code.Estale) e word = refl
+none_taken names o (answer.Code code.Ekind) e word = refl
+none_taken names o (answer.Id id) e word = refl
+none_taken names o (answer.Cancelled id) e word = refl
+none_taken names o (answer.Number n) e word = refl
+none_taken names o (answer.Flag b) e word = refl
+none_taken names o (answer.Timeout t) e word = refl
 
 -- such an op takes nobody off in any section
-abbrev Harmless : Op → Type 0
+abbrev pub Harmless : Op → Type 0
 Harmless o = (word : Phase) → off_by word o ≡ None
 
-by_word : (o : Op) → off_by phase.Pending o ≡ None → off_by phase.Idle o ≡ None → off_by phase.Prepare o ≡ None → off_by phase.Done o ≡ None →
+pub by_word : (o : Op) → off_by phase.Pending o ≡ None → off_by phase.Idle o ≡ None → off_by phase.Prepare o ≡ None → off_by phase.Done o ≡ None →
     off_by phase.Async o ≡ None → off_by phase.Check o ≡ None → off_by phase.Closing o ≡ None → off_by phase.Timers o ≡ None → Harmless o
 by_word o a b c d e f g h phase.Pending = a
 by_word o a b c d e f g h phase.Idle = b
@@ -284,7 +285,7 @@ by_word o a b c d e f g h phase.Timers = h
 -- it leaves all of that as it was
 still : (s : State) (o : Op) (d : ops.Done) → Harmless o → lasting d.state ≡ after_op o s → SameCalls d.state.names s.names → SameLists d.state s →
     Effect s o d
-still s o d harmless = quiet s o d (none_taken s o d.answer harmless)
+still s o d harmless = quiet s o d (none_taken (names_at s) o d.answer harmless)
 
 new_effect : (s : State) (v : Var) (q : Kind) (id : Id) → Effect s (op.Init v q) (record { state = ops.with_new s v q id; answer = answer.Id id })
 new_effect s v kind.Timer id = still s (op.Init v kind.Timer) _ (by_word (op.Init v kind.Timer) refl refl refl refl refl refl refl refl) refl

@@ -54,14 +54,14 @@ use Rattle.uv_model.specs.declared.place.Timing.TheVariants.{Collecting, Firing}
 use Rattle.uv_model.specs.declared.place.Place.{Place}
 use Rattle.uv_model.specs.declared.place.Place.TheVariants.{Main, Running}
 use Rattle.uv_model.specs.Next.{Next, Moves, Refuses, next, first_due, goes, is_default, may_leave, next_work, work_of}
-use Rattle.uv_order.specs.Active.{has_id, AreDistinct}
+use Rattle.uv_order.specs.Active.{has_id, AreDistinct, run_ids}
 use Rattle.uv_order.specs.PoolEvents.{op_events, answered_events, outside_events, line_events, pool_events, was_finished, done_as, pool_of}
 use Rattle.uv_order.proofs.IdLists.{same, other, itself, turned, without_absent, distinct_front, has_new_middle}
 use Rattle.uv_order.proofs.Contents.{Turns}
-use Rattle.uv_order.proofs.OpCases.{cancel_both, make_both}
+use Rattle.uv_order.proofs.OpCases.{names_at, cancel_both, make_both}
 use Rattle.uv_order.proofs.Keeping.{Kept, fills}
 use Rattle.uv_order.proofs.Asked.{request_turns, freed_turns, FrontRequest, request_front, TakesFront, takes_front, RunsWork, runs_work}
-use Rattle.uv_order.proofs.Works.{asked_at, AllAsk, IsOpen, HasEnded, run_ids, once_middle, lets_go}
+use Rattle.uv_order.proofs.Works.{asked_at, AllAsk, IsOpen, HasEnded, once_middle, lets_go}
 use Rattle.uv_order.proofs.Quiet.{SameWork, IsOfHandles, op_same, send_same, KeepsWork, enter_same, begin_same, walk_same, async_same, close_same, timers_same}
 use Rattle.uv_order.proofs.Working.{Working, StaysWorking, next_working, fresh_working, IsCalm, IsCalmIn, IsCalmAt}
 use Rattle.uv_order.proofs.KeptSteps.{StaysKept, next_kept, fresh_kept}
@@ -470,7 +470,7 @@ one_pool : (p : Program) (told : Told) (s : State) (at : Position) (n : Next) (e
 one_pool p told s at (Moves t (Some l)) es kept j a i w x h f q more =
     events_more (Some (pool_of s)) (line_events p l) (pool_events p (seens (history_from p t es)))
     ∙ ap (λ (o : Option Pool). after_events o (pool_events p (seens (history_from p t es)))) q
-    ∙ more (told_by p told s l) t f.to j i x f.stands
+    ∙ more (told_by p told (names_at s) l) t f.to j i x f.stands
 one_pool p told s at (Moves t None) es kept j a i w x h f q more =
     ap (λ (o : Pool). after_events (Some o) (pool_events p (seens (history_from p t es)))) (sym q) ∙ more told t at j i x f.0
 one_pool p told s at (Refuses why) es kept j a i w x h f q more = more told s at kept a w h

@@ -1,8 +1,7 @@
 -- Each state that steps lead to is a reached one.
-use Rattle.std.proofs.Common.{◌≡◌, ◌++◌, List, [], ◌∷◌, Option, Some, None, true, false}
+use Rattle.std.proofs.Common.{List, [], ◌∷◌, Option, Some, None}
 use Rattle.uv_ids.specs.declared.id.Id.{Id}
 use Rattle.uv_ids.specs.declared.event.Event.{Event}
-use Rattle.uv_ids.specs.declared.seen.Seen.{Seen}
 use Rattle.uv_ids.specs.declared.phase.Kind.TheVariants as kind
 use Rattle.uv_script.specs.Program.{Program}
 use Rattle.uv_model.specs.declared.place.Body.{Body}
@@ -13,16 +12,16 @@ use Rattle.uv_model.specs.declared.place.Place.TheVariants as place
 use Rattle.uv_model.specs.State.{State, fresh}
 use Rattle.uv_model.specs.Next.{Next, Moves, Refuses, next}
 use Rattle.uv_model.specs.After.{after, goes_on, state_of}
-use Rattle.uv_order.specs.Active.{has_id}
 use Rattle.uv_order.specs.Documented.{Told, nothing_told, told_by, Position, Between}
 use Rattle.uv_order.specs.Reached.{IsReached, IsSetAside, AreSetAside, BeginsBehind, BeginsIn, BeginsAt}
+use Rattle.uv_order.proofs.OpCases.{names_at}
 use Rattle.uv_order.proofs.IdLists.{member}
 use Rattle.uv_order.proofs.Holding.{Fits, Lists}
 use Rattle.uv_order.proofs.Keeping.{Kept, Rests, members}
 use Rattle.uv_order.proofs.KeptSteps.{StaysKept, IsRested, IsRestedIn, IsRestedAt, next_kept, fresh_kept}
 use Rattle.uv_order.proofs.Sends.{SentAt, SentFollows, next_sent, sent_fresh}
 use Rattle.uv_order.proofs.Working.{Working, StaysWorking, IsCalm, IsCalmIn, IsCalmAt, next_working, fresh_working}
-use Rattle.uv_order.proofs.Standing.{Stands, Follows, are_timers, all_active, all_ended, all_closing}
+use Rattle.uv_order.proofs.Standing.{Stands, Follows, are_timers, all_active, all_ended, all_opened, all_closing}
 use Rattle.uv_order.proofs.Follows.{follows, rested_at, calm_at, stands_fresh}
 
 -- what every step keeps, with the lines that were told so far and where the state stands
@@ -37,7 +36,7 @@ record Holds (p : Program) (s : State) : Type 0 where
 one_more : (p : Program) (told : Told) (s : State) (at : Position) (n : Next) → Kept s → StaysKept n → SentAt told.sent s → SentFollows p told s n →
     Working s → StaysWorking n → Stands p told s at → Follows p told at s n → Holds p (state_of s n)
 one_more p told s at (Moves t (Some what)) k j g i w x h f =
-    record { told = told_by p told s what; at = f.to; kept = j; sent = i; working = x; stands = f.stands }
+    record { told = told_by p told (names_at s) what; at = f.to; kept = j; sent = i; working = x; stands = f.stands }
 one_more p told s at (Moves t None) k j g i w x h f = record { told = told; at = at; kept = j; sent = i; working = x; stands = f.0 }
 one_more p told s at (Refuses why) k j g i w x h f = record { told = told; at = at; kept = k; sent = g; working = w; stands = h }
 
@@ -97,7 +96,14 @@ is_reached p s k = record {
   closing = all_closing s (members s.closing) k.kept.closing;
   done = all_ended s (members s.done) k.working.ended;
   ready = set_aside s s.ready k.kept.ready;
-  shut = λ id h there. k.kept.sound id h there;
+  shut = λ id h there. (k.kept.sound id h there).shut;
+  opened = all_opened s k.working;
+  pending = λ id h there on. let sent = k.sent.each id h there on in record {
+    its = h;
+    holds = there;
+    kind = sent.0;
+    active = (k.kept.sound id h there).awake sent.0 sent.1;
+  };
 }
 
 pub reached : (p : Program) (es : List Event) → IsReached (after p es)

@@ -59,7 +59,7 @@ use Rattle.uv_order.specs.Documented.{Told, told_by, sent_by, sent_after, ids_of
 use Rattle.uv_order.proofs.IdLists.{Each, each_back, same, other, itself, turned, left_of, without_itself, without_absent, still_there, still_absent}
 use Rattle.uv_order.proofs.Contents.{emptied}
 use Rattle.uv_order.proofs.Holding.{SameHandles, same_handles, held_at, put, put_same, put_other, emptied_same, emptied_other, Fits, its_handle, Grown, Everyone}
-use Rattle.uv_order.proofs.OpCases.{live_held, IsRefusal, refuses_none, refuses_timer, refuses_start, refuses_start_watcher, refuses_stop, refuses_again, refuses_close, send_passes, on_handle_both, send_both, cancel_both, make_both}
+use Rattle.uv_order.proofs.OpCases.{names_at, live_held, IsRefusal, refuses_none, refuses_timer, refuses_start, refuses_start_watcher, refuses_stop, refuses_again, refuses_close, send_passes, on_handle_both, send_both, cancel_both, make_both}
 use Rattle.uv_order.proofs.Asked.{request_turns, freed_turns, request_front, runs_work}
 use Rattle.uv_order.proofs.OpEffects.{one_taken}
 use Rattle.uv_order.proofs.Keeping.{Watches, Closes, Rests, Kept, members, fills, takes, open_shut}
@@ -217,17 +217,17 @@ sent_gone sent slots id h n e shut k = record { are = λ i. are i (same_id i id)
 
 -- who was sent to after an op, by its line and by the handles
 abbrev pub SentBy : State → List Id → Op → ops.Done → Type 0
-SentBy s sent o d = SentAt (sent_by o d.answer s sent) d.state
+SentBy s sent o d = SentAt (sent_by o d.answer (names_at s) sent) d.state
 
 -- an op that sends to nobody, whatever it answers
 abbrev Harmless : State → List Id → Op → Type 0
-Harmless s sent o = (a : Answer) → sent_by o a s sent ≡ sent
+Harmless s sent o = (a : Answer) → sent_by o a (names_at s) sent ≡ sent
 
 by_harmless : (s : State) (sent : List Id) (o : Op) (d : ops.Done) → Harmless s sent o → SentAt sent d.state → SentBy s sent o d
 by_harmless s sent o d harmless k = subst (λ (ids : List Id). SentAt ids d.state) (sym (harmless d.answer)) k
 
 -- a refused op sends to nobody, and closes nobody
-refused_send : (s : State) (sent : List Id) (v : Var) (c : Code) → IsRefusal c → sent_by (op.Send v) (answer.Code c) s sent ≡ sent
+refused_send : (s : State) (sent : List Id) (v : Var) (c : Code) → IsRefusal c → sent_by (op.Send v) (answer.Code c) (names_at s) sent ≡ sent
 refused_send s sent v code.Ok no_success = absurd (no_success refl)
 refused_send s sent v code.Einval no_success = refl
 refused_send s sent v code.Ebusy no_success = refl
@@ -237,7 +237,7 @@ refused_send s sent v code.Efull no_success = refl
 refused_send s sent v code.Estale no_success = refl
 refused_send s sent v code.Ekind no_success = refl
 
-refused_close : (s : State) (sent : List Id) (v : Var) (c : Code) → IsRefusal c → sent_by (op.Close v) (answer.Code c) s sent ≡ sent
+refused_close : (s : State) (sent : List Id) (v : Var) (c : Code) → IsRefusal c → sent_by (op.Close v) (answer.Code c) (names_at s) sent ≡ sent
 refused_close s sent v code.Ok no_success = absurd (no_success refl)
 refused_close s sent v code.Einval no_success = refl
 refused_close s sent v code.Ebusy no_success = refl
@@ -324,8 +324,8 @@ close_sent s sent v k = on_handle_both s v close_refusal _ (SentBy s sent (op.Cl
 
 -- a send, as an op and from outside
 pub send_sent : (s : State) (sent : List Id) (v : Var) → SentAt sent s →
-    SentAt (sent_by (op.Send v) (answer.Code (ops.send s (live_handle s v)).code) s sent) (ops.send s (live_handle s v)).state
-send_sent s sent v k = send_both s v (λ (c : ops.Coded). SentAt (sent_by (op.Send v) (answer.Code c.code) s sent) c.state)
+    SentAt (sent_by (op.Send v) (answer.Code (ops.send s (live_handle s v)).code) (names_at s) sent) (ops.send s (live_handle s v)).state
+send_sent s sent v k = send_both s v (λ (c : ops.Coded). SentAt (sent_by (op.Send v) (answer.Code c.code) (names_at s) sent) c.state)
     (λ c no_success. subst (λ (ids : List Id). SentAt ids s) (sym (refused_send s sent v c no_success)) k)
     (λ t e is. let p = send_passes t.1 is in
     subst (λ (ids : List Id). Sent (ids ++ sent) (put s.arena.slots t.0 (records.sent t.1))) (sym (one_taken s v t e))
@@ -366,7 +366,7 @@ op_sent s sent op.CloseLoop kept k = cond_both (ops.is_in_use s) _ _ (SentBy s s
 
 -- who was sent to after a step, by the lines so far and by the handles
 abbrev pub SentFollows : Program → Told → State → Next → Type 0
-SentFollows p told s (Moves t (Some l)) = SentAt (told_by p told s l).sent t
+SentFollows p told s (Moves t (Some l)) = SentAt (told_by p told (names_at s) l).sent t
 SentFollows p told s (Moves t None) = SentAt told.sent t
 SentFollows p told s (Refuses why) = Unit {0}
 
@@ -479,8 +479,8 @@ stage_sent p told s run (Timers part timing) kept k = timers_sent p told s run p
 
 -- an op of a place, by its line
 placed_sent : (p : Program) (s : State) (sent : List Id) (o : Op) (at : Option Op) → at ≡ Some o → Kept s → SentAt sent s →
-    SentAt (sent_after at (do_op s o).answer s sent) (do_op s o).state
-placed_sent p s sent o at e kept k = subst (λ (x : Option Op). SentAt (sent_after x (do_op s o).answer s sent) (do_op s o).state) (sym e)
+    SentAt (sent_after at (do_op s o).answer (names_at s) sent) (do_op s o).state
+placed_sent p s sent o at e kept k = subst (λ (x : Option Op). SentAt (sent_after x (do_op s o).answer (names_at s) sent) (do_op s o).state) (sym e)
     (op_sent s sent o kept k)
 
 body_sent : (p : Program) (told : Told) (s : State) (run : Run) (body : Body) (l : Option CallbackLine) →
@@ -535,8 +535,9 @@ either_right true b e = refl
 either_right false b e = e
 
 -- what an op doesn't take off stays sent to, if it is held
-pub stays_sent : (s : State) (sent : List Id) (o : Op) (id : Id) → Kept s → has_id (taken_off phase.Async s o (do_op s o).answer) id ≡ false →
-    pends s.arena.slots id ≡ true → has_id sent id ≡ true → has_id (sent_by o (do_op s o).answer s sent) id ≡ true
+pub stays_sent : (s : State) (sent : List Id) (o : Op) (id : Id) → Kept s → has_id
+    (taken_off phase.Async (names_at s) o (do_op s o).answer) id ≡ false →
+    pends s.arena.slots id ≡ true → has_id sent id ≡ true → has_id (sent_by o (do_op s o).answer (names_at s) sent) id ≡ true
 stays_sent s sent (op.Init v q) id kept d on e = at (live s v) where
   new : (i : Id) → next_free s.arena ≡ Some i → same_id id i ≡ false
   new i f = by (same_id id i) refl where
@@ -546,23 +547,24 @@ stays_sent s sent (op.Init v q) id kept d on e = at (live s v) where
         absurd (both_ways (pends s.arena.slots id) (ap (pends s.arena.slots) (same id i g) ∙ ap pends_in grown.new) on)
     by false g = refl
 
-  at : (t : Option (Id × Content)) → has_id (sent_by (op.Init v q) (ops.make s t (ops.with_new s v q)).answer s sent) id ≡ true
-  at t = make_both s t (ops.with_new s v q) (λ (x : ops.Done). has_id (sent_by (op.Init v q) x.answer s sent) id ≡ true)
+  at : (t : Option (Id × Content)) → has_id (sent_by (op.Init v q) (ops.make s t (ops.with_new s v q)).answer (names_at s) sent) id ≡ true
+  at t = make_both s t (ops.with_new s v q) (λ (x : ops.Done). has_id (sent_by (op.Init v q) x.answer (names_at s) sent) id ≡ true)
       (λ c no_success. e) (λ i f. still_there sent i id (new i f) e)
 stays_sent s sent (op.Close v) id kept d on e =
     on_handle_both s v close_refusal (ops.close s)
-    (λ (x : ops.Done). has_id (taken_off phase.Async s (op.Close v) x.answer) id ≡ false → has_id (sent_by (op.Close v) x.answer s sent) id ≡ true)
+    (λ (x : ops.Done). has_id (taken_off phase.Async (names_at s) (op.Close v) x.answer) id ≡ false → has_id
+    (sent_by (op.Close v) x.answer (names_at s) sent) id ≡ true)
     refuses_close
     (λ c no_success f. subst (λ (ids : List Id). has_id ids id ≡ true) (sym (refused_close s sent v c no_success)) e)
     (λ t f is g. closed t (one_taken s v t f) g) d
   where
-    closed : (t : Id × HandleRecord) → ids_of s (Some v) ≡ t.0 ∷ [] → has_id (ids_of s (Some v)) id ≡ false →
-        has_id (without_ids sent (ids_of s (Some v))) id ≡ true
+    closed : (t : Id × HandleRecord) → ids_of (names_at s) (Some v) ≡ t.0 ∷ [] → has_id (ids_of (names_at s) (Some v)) id ≡ false →
+        has_id (without_ids sent (ids_of (names_at s) (Some v))) id ≡ true
     closed t f g =
         let away : same_id t.0 id ≡ false = (or_parts (same_id t.0 id) false (sym (ap (λ (ids : List Id). has_id ids id) f) ∙ g)).0 in
         subst (λ (ids : List Id). has_id (without_ids sent ids) id ≡ true) (sym f) (still_there sent t.0 id (turned id t.0 ∙ away) e)
 stays_sent s sent (op.Send v) id kept d on e = send_both s v
-    (λ (c : ops.Coded). has_id (sent_by (op.Send v) (answer.Code c.code) s sent) id ≡ true)
+    (λ (c : ops.Coded). has_id (sent_by (op.Send v) (answer.Code c.code) (names_at s) sent) id ≡ true)
     (λ c no_success. subst (λ (ids : List Id). has_id ids id ≡ true) (sym (refused_send s sent v c no_success)) e)
     (λ t f is. subst (λ (ids : List Id). has_id (ids ++ sent) id ≡ true) (sym (one_taken s v t f)) (either_right (same_id t.0 id) (has_id sent id) e))
 stays_sent s sent (op.Queue v task) id kept d on e = e
@@ -600,11 +602,11 @@ has_left (x ∷ ids) off id e = at (has_id off x) refl e (has_left ids off id) w
 
 -- an op leaves whoever is left and was sent to before
 pub still_sent : (s : State) (told : Told) (o : Op) (ids now : List Id) (sent : List Id) → Kept s → SentAt told.sent s →
-    now ≡ left_of ids (taken_off phase.Async s o (do_op s o).answer) →
+    now ≡ left_of ids (taken_off phase.Async (names_at s) o (do_op s o).answer) →
     ((id : Id) → has_id ids id ≡ true → has_id sent id ≡ true → pends s.arena.slots id ≡ true) → (id : Id) → has_id now id ≡ true →
     has_id sent id ≡ true → pends (do_op s o).state.arena.slots id ≡ true
 still_sent s told o ids now sent kept k e still id on was =
-    let parts = has_left ids (taken_off phase.Async s o (do_op s o).answer) id (sym (ap (λ (x : List Id). has_id x id) e) ∙ on) in
+    let parts = has_left ids (taken_off phase.Async (names_at s) o (do_op s o).answer) id (sym (ap (λ (x : List Id). has_id x id) e) ∙ on) in
     let pending = still id parts.0 was in
     sym ((op_sent s told.sent o kept k).are id) ∙ stays_sent s told.sent o id kept parts.1 pending (k.are id ∙ pending)
 

@@ -24,14 +24,15 @@ use Rattle.uv_model.specs.declared.content.Content.{Content}
 use Rattle.uv_model.specs.State.{State}
 use Rattle.uv_model.specs.Next.{Next, Moves, Refuses, goes, is_default}
 use Rattle.uv_order.specs.Line.{Line}
-use Rattle.uv_order.specs.Active.{has_id, IsTimer, AreTimers, AreDistinct, IsActive, AreActive, IsClosing, AreClosing, IsEnded, AreEnded}
+use Rattle.uv_order.specs.Active.{has_id, IsTimer, AreTimers, AreDistinct, IsActive, AreActive, IsClosing, AreClosing, IsEnded, AreEnded, IsOpened, AreOpened, run_ids}
 use Rattle.uv_order.specs.Documented as doc
 use Rattle.uv_order.specs.Documented.{Told, nothing_told, told_of, told_by, AllOffOrUnsent, Lasting, lasting, at_first, Section, Entry, In, word_of, part_after, part_of, Walk, Opens, IsOver, CallsNext, MayCall, is_called, callback_in, IsCallLine, Standing, Begun, Within, Polling, MayLeave, PollsFor, Position, Between, Running, Goes, GoesOn, cut, line, Documented, body_of, next_call, taken_off}
+use Rattle.uv_order.proofs.OpCases.{names_at}
 use Rattle.uv_order.proofs.IdLists.{left_of, member}
 use Rattle.uv_order.proofs.TimerKeys.{due_ids, distinct_due}
 use Rattle.uv_order.proofs.Holding.{Fits, its_handle, Everyone, IsSet, Times}
 use Rattle.uv_order.proofs.Keeping.{Kept, Watches, Closes, members}
-use Rattle.uv_order.proofs.Works.{Asks, AllAsk, HasEnded}
+use Rattle.uv_order.proofs.Works.{Asks, AllAsk, IsOpen, HasEnded}
 use Rattle.uv_order.proofs.Working.{Working}
 use Rattle.uv_order.proofs.Bodies.{IsBody}
 use Rattle.uv_order.proofs.Counted.{Counted}
@@ -193,8 +194,8 @@ pub record Stands (p : Program) (told : Told) (s : State) (at : Position) : Type
 
 pub record FollowsLine (p : Program) (told : Told) (from : Position) (s : State) (what : Seen) (t : State) : Type 0 where
   pub to : Position
-  pub goes : Goes p told from (record { before = s; seen = what; after = t }) to
-  pub stands : Stands p (told_by p told s what) t to
+  pub goes : Goes p told (names_at s) from (record { before = s; seen = what; after = t }) to
+  pub stands : Stands p (told_by p told (names_at s) what) t to
 
 abbrev pub Follows : Program → Told → Position → State → Next → Type 0
 Follows p told at s (Moves t (Some what)) = FollowsLine p told at s what t
@@ -351,6 +352,16 @@ all_ended s ids all = record {
 
   asks : (id : Id) → IsEnded s id → Asks s.arena.slots HasEnded id
   asks id a = record { request = a.its; holds = a.holds; fits = a.ended }
+
+-- those that wait, and those that workers run, are the open requests
+pub all_opened : (s : State) → Working s → AreOpened s (s.waiting ++ run_ids s.running)
+all_opened s k = record {
+  each = λ id h. opened id (k.open_ones.each id h);
+  all = λ id a. k.open_ones.all id (record { request = a.its; holds = a.holds; fits = a.opened });
+  distinct = k.open_ones.distinct;
+} where
+  opened : (id : Id) → Asks s.arena.slots IsOpen id → IsOpened s id
+  opened id a = record { its = a.request; holds = a.holds; opened = a.fits }
 
 pub are_ended : (s : State) → s.done.yet ≡ [] → Working s → AreEnded s s.done.list
 are_ended s e k = subst (AreEnded s) (list_alone s.done e) (all_ended s (members s.done) k.ended)

@@ -15,12 +15,13 @@ use Rattle.uv_model.specs.State.{State, fresh, request, with_id, front_request}
 use Rattle.uv_model.specs.Next as step
 use Rattle.uv_model.specs.Next.{Next, Moves, Refuses, next, next_work, work_of}
 use Rattle.uv_model.specs.After.{after, goes_on, state_of, lines}
-use Rattle.uv_order.specs.Active.{has_id}
+use Rattle.uv_order.specs.Active.{has_id, run_ids}
 use Rattle.uv_order.specs.Documented.{Told, nothing_told, told_by, Position, Between}
 use Rattle.uv_order.specs.PoolEvents.{pool_events, pool_of}
 use Rattle.uv_order.specs.Taking.{IsTakenAs}
+use Rattle.uv_order.proofs.OpCases.{names_at}
 use Rattle.uv_order.proofs.IdLists.{same, itself, has_new_middle}
-use Rattle.uv_order.proofs.Works.{run_ids, LetsGo, lets_go}
+use Rattle.uv_order.proofs.Works.{LetsGo, lets_go}
 use Rattle.uv_order.proofs.Keeping.{Kept}
 use Rattle.uv_order.proofs.KeptSteps.{StaysKept, next_kept, fresh_kept}
 use Rattle.uv_order.proofs.Working.{Working, StaysWorking, next_working, fresh_working}
@@ -36,7 +37,7 @@ one_works : (p : Program) (told : Told) (s : State) (at : Position) (n : Next) (
     SentFollows p told s n → Working s → StaysWorking n → Stands p told s at → order.Follows p told at s n →
     ((told' : Told) (t : State) (to : Position) → Kept t → SentAt told'.sent t → Working t → Stands p told' t to → Working (goes_on p t es)) →
     Working (goes_on p (state_of s n) es)
-one_works p told s at (Moves t (Some l)) es kept j a i w x h f more = more (told_by p told s l) t f.to j i x f.stands
+one_works p told s at (Moves t (Some l)) es kept j a i w x h f more = more (told_by p told (names_at s) l) t f.to j i x f.stands
 one_works p told s at (Moves t None) es kept j a i w x h f more = more told t at j i x f.0
 one_works p told s at (Refuses why) es kept j a i w x h f more = more told s at kept a w h
 

@@ -6,6 +6,7 @@ use Rattle.uv_ids.specs.declared.id.Id.{Id}
 use Rattle.uv_ids.specs.declared.id.Var.{Var}
 use Rattle.uv_ids.specs.declared.due.Due.{Due}
 use Rattle.uv_ids.specs.declared.phase.Phase.TheVariants as phase
+use Rattle.uv_ids.specs.declared.seen.Seen.TheVariants as seen
 use Rattle.uv_ids.specs.declared.seen.Callback.{Callback}
 use Rattle.uv_ids.specs.declared.seen.Callback.TheVariants as callback
 use Rattle.uv_script.specs.Program.{Program}
@@ -19,30 +20,35 @@ use Rattle.uv_model.specs.declared.place.Timing.TheVariants.{Collecting, Firing}
 use Rattle.uv_model.specs.declared.place.Place.TheVariants as place
 use Rattle.uv_model.specs.State.{State, handle, with_id, front, named, with_named, counted, count_of}
 use Rattle.uv_model.specs.Timers.{started, restarted}
+use Rattle.uv_model.specs.Timeout.{is_alive}
 use Rattle.uv_model.specs.Next as step
 use Rattle.uv_model.specs.Next.{Next, Moves, Refuses, next, goes, is_default, call, calls, first_due, collected, front_moved, may_leave, body_from}
+use Rattle.uv_order.specs.Alive.{lives}
 use Rattle.uv_order.specs.Active.{AreDue, has_id}
 use Rattle.uv_order.specs.Documented as doc
-use Rattle.uv_order.specs.Documented.{Told, nothing_told, told_of, told_by, Lasting, lasting, at_first, Section, Entry, In, word_of, part_after, part_of, Walk, Opens, IsOver, CallsNext, MayCall, is_called, callback_in, IsCallLine, Standing, Begun, Within, Polling, MayLeave, PollsFor, Position, Between, Running, Goes, GoesOn, cut, line, Documented, body_of, next_call, taken_off, name_in, IsOf}
+use Rattle.uv_order.specs.Documented.{Told, nothing_told, told_of, told_by, Lasting, lasting, at_first, Section, Entry, In, word_of, part_after, part_of, Walk, Opens, IsOver, CallsNext, MayCall, is_called, callback_in, IsCallLine, Standing, Begun, Within, Polling, MayLeave, PollsFor, Position, Between, Running, Goes, GoesOn, cut, line, Documented, body_of, next_call, taken_off}
 use Rattle.uv_model.proofs.Found.{found_both}
 use Rattle.uv_order.proofs.IdLists.{left_of, none_off, all_off, first_left}
 use Rattle.uv_order.proofs.TimerKeys.{due_ids, none_due}
-use Rattle.uv_order.proofs.Holding.{is_held, Fits, IsSet, Times}
+use Rattle.uv_order.proofs.Holding.{is_held, name_in, name_at, Fits, IsSet, Times}
 use Rattle.uv_order.proofs.Keeping.{Kept, Rests}
 use Rattle.uv_order.proofs.KeptSteps.{FrontOf, front_of, no_front, FirstOf, first_of}
 use Rattle.uv_order.proofs.Bodies.{IsBody}
+use Rattle.uv_order.proofs.Lives.{goes_is}
 use Rattle.uv_order.proofs.Counted.{Counted, counted_call, told_call, next_body}
 use Rattle.uv_order.proofs.Standing.{bare, begun_with, section_of, Rest, rest, Leaves, NobodyLeft, due_now, Follows, start_default, start_other, start_end, entry_next, entry_end, timers_next, timers_end, are_timers, due_distinct, opens_bare, pending, collects, fires, between, running}
 
 -- ---- the timers of the entry, and the end of timers
 
-pub enter_follows : (p : Program) (told : Told) (s : State) (run : Run) → Kept s → Counted p s.names told → NobodyLeft (rest s.ready s) →
+pub enter_follows : (p : Program) (told : Told) (s : State) (run : Run) → lives s ≡ is_alive s → Kept s → Counted p s.names told → NobodyLeft
+    (rest s.ready s) →
     Follows p told (Running run.mode run.line Begun) s (step.enter s run)
-enter_follows p told s run k c e = cond_both (goes s) _ _ (Follows p told (Running run.mode run.line Begun) s)
+enter_follows p told s run alive k c e = cond_both (goes s) _ _ (Follows p told (Running run.mode run.line Begun) s)
     (λ g. cond_both (is_default run.mode) _ _ (Follows p told (Running run.mode run.line Begun) s)
     (λ d. record {
       to = Running run.mode run.line (Within Entry (begun_with (due_now s)));
-      goes = doc.section Entry tt (start_default run.mode (goes s) g d) refl (record { list = due_list; off = refl; sent = refl; body = refl }) refl;
+      goes = doc.section Entry tt (start_default run.mode (doc.goes_on s) (goes_is s alive ∙ g) d) refl
+          (record { list = due_list; off = refl; sent = refl; body = refl }) refl;
       stands = record {
         stands = running (collects refl) (record {
           timers = ap (λ (ids : List Id). ids ++ due_now s) e.timers ∙ sym (none_off
@@ -59,7 +65,8 @@ enter_follows p told s run k c e = cond_both (goes s) _ _ (Follows p told (Runni
     })
     (λ d. record {
       to = Running run.mode run.line (Within (In phase.Pending) bare);
-      goes = doc.section (In phase.Pending) tt (start_other run.mode (goes s) g d) refl (opens_bare phase.Pending told _ refl refl) refl;
+      goes = doc.section (In phase.Pending) tt (start_other run.mode (doc.goes_on s) (goes_is s alive ∙ g) d) refl
+          (opens_bare phase.Pending told _ refl refl) refl;
       stands = record {
         stands = running pending (record {
           timers = e.timers;
@@ -75,7 +82,7 @@ enter_follows p told s run k c e = cond_both (goes s) _ _ (Follows p told (Runni
     }))
     (λ g. record {
       to = Between (run.line + 1);
-      goes = doc.ends tt (start_end run.mode (goes s) g) refl refl;
+      goes = doc.ends tt (start_end run.mode (doc.goes_on s) (goes_is s alive ∙ g)) (ap seen.End (sym alive)) refl;
       stands = record {
         stands = between (record {
           timers = e.timers;
@@ -94,7 +101,8 @@ enter_follows p told s run k c e = cond_both (goes s) _ _ (Follows p told (Runni
     due_list = record { timers = s.timers; are = are_timers _ s.timers s.next_start k.timers; due = refl; distinct = due_distinct s s.time k }
 
 pub goes_iteration : (p : Program) (told : Told) (s : State) (run : Run) (part : TimersOf) (w : Walk) →
-    part_after run.mode (goes s) (doc.Of (section_of part)) ≡ doc.Of (In phase.Pending) → IsOver (word_of (section_of part)) w → Counted p s.names
+    part_after run.mode (doc.goes_on s) (doc.Of (section_of part)) ≡ doc.Of (In phase.Pending) → IsOver (word_of (section_of part)) w →
+    Counted p s.names
     told →
     NobodyLeft (rest s.ready s) → Follows p told (Running run.mode run.line (Within (section_of part) w)) s (step.new_iteration s run)
 goes_iteration p told s run part w d over c e = record {
@@ -114,13 +122,14 @@ goes_iteration p told s run part w d over c e = record {
   };
 }
 
-pub goes_end : (p : Program) (told : Told) (s : State) (run : Run) (part : TimersOf) (w : Walk) → part_after run.mode (goes s) (doc.Of (section_of
+pub goes_end : (p : Program) (told : Told) (s : State) (run : Run) (part : TimersOf) (w : Walk) → lives s ≡ is_alive s → part_after run.mode
+    (doc.goes_on s) (doc.Of (section_of
     part)) ≡ doc.End →
     IsOver (word_of (section_of part)) w → Counted p s.names told → NobodyLeft (rest s.ready s) →
     Follows p told (Running run.mode run.line (Within (section_of part) w)) s (step.ends s run)
-goes_end p told s run part w d over c e = record {
+goes_end p told s run part w alive d over c e = record {
   to = Between (run.line + 1);
-  goes = doc.ends over d refl refl;
+  goes = doc.ends over d (ap seen.End (sym alive)) refl;
   stands = record {
     stands = between (record {
       timers = e.timers;
@@ -135,21 +144,24 @@ goes_end p told s run part w d over c e = record {
   };
 }
 
-pub leave_follows : (p : Program) (told : Told) (s : State) (run : Run) (part : TimersOf) (w : Walk) → IsOver (word_of (section_of part)) w →
+pub leave_follows : (p : Program) (told : Told) (s : State) (run : Run) (part : TimersOf) (w : Walk) → lives s ≡ is_alive s → IsOver
+    (word_of (section_of part)) w →
     Counted p
     s.names told →
     NobodyLeft (rest s.ready s) → Follows p told (Running run.mode run.line (Within (section_of part) w)) s (step.leave_timers s run part)
-leave_follows p told s run timers_of.Entry w over c e = cond_both (goes s) _ _ (Follows p told (Running run.mode run.line (Within Entry w)) s)
-    (λ g. goes_iteration p told s run timers_of.Entry w (entry_next run.mode (goes s) g) over c e)
-    (λ g. goes_end p told s run timers_of.Entry w (entry_end run.mode (goes s) g) over c e)
-leave_follows p told s run timers_of.Iteration w over c e =
+leave_follows p told s run timers_of.Entry w alive over c e = cond_both (goes s) _ _ (Follows p told (Running run.mode run.line (Within Entry w)) s)
+    (λ g. goes_iteration p told s run timers_of.Entry w (entry_next run.mode (doc.goes_on s) (goes_is s alive ∙ g)) over c e)
+    (λ g. goes_end p told s run timers_of.Entry w alive (entry_end run.mode (doc.goes_on s) (goes_is s alive ∙ g)) over c e)
+leave_follows p told s run timers_of.Iteration w alive over c e =
     cond_both (is_default run.mode && goes s) _ _ (Follows p told (Running run.mode run.line (Within (In phase.Timers) w)) s)
-    (λ g. goes_iteration p told s run timers_of.Iteration w (timers_next run.mode (goes s) g) over c e)
-    (λ g. goes_end p told s run timers_of.Iteration w (timers_end run.mode (goes s) g) over c e)
+    (λ g. goes_iteration p told s run timers_of.Iteration w (timers_next run.mode (doc.goes_on s)
+    (ap (λ (b : Bool). is_default run.mode && b) (goes_is s alive) ∙ g)) over c e)
+    (λ g. goes_end p told s run timers_of.Iteration w alive (timers_end run.mode (doc.goes_on s)
+    (ap (λ (b : Bool). is_default run.mode && b) (goes_is s alive) ∙ g)) over c e)
 
 -- ---- callbacks
 
-pub named_of : (s : State) (t : Id × HandleRecord) → handle s t.0 ≡ Some t.1 → IsOf s t.0 t.1.name
+pub named_of : (s : State) (t : Id × HandleRecord) → handle s t.0 ≡ Some t.1 → name_at s.arena.slots t.0 ≡ Some t.1.name
 named_of s t e = ap (option_map name_in) (is_held s.arena.slots t.0 t.1 e)
 
 -- the walk with the first that is left called
@@ -300,15 +312,16 @@ call_timer p told s u run part w t more h names lasts o ready b c =
       };
     }
 
-pub fire_follows : (p : Program) (told : Told) (s : State) (run : Run) (part : TimersOf) (w : Walk) → Kept s → Counted p s.names told →
+pub fire_follows : (p : Program) (told : Told) (s : State) (run : Run) (part : TimersOf) (w : Walk) → lives s ≡ is_alive s → Kept s →
+    Counted p s.names told →
     Leaves (rest s.ready s) (Within (section_of part) w) → w.body ≡ [] → Follows p told (Running run.mode run.line (Within (section_of part) w)) s
     (step.fire p s run part)
-fire_follows p told s run part w k c l b =
+fire_follows p told s run part w alive k c l b =
     let o = left_timers part (rest s.ready s) w l in
     found_both (front s s.ready) _ _ (Follows p told (Running run.mode run.line (Within (section_of part) w)) s)
     (λ t e. fired o t (front_of s s.ready t e))
     (λ e. let none : s.ready ≡ [] = no_front s Rests s.ready k.ready.each e in
-    leave_follows p told s run part w (timers_over part w b (all_off w.ahead w.off (sym o.ready ∙ none))) c
+    leave_follows p told s run part w alive (timers_over part w b (all_off w.ahead w.off (sym o.ready ∙ none))) c
     (record { timers = none; idle = o.idle; prepare = o.prepare; check = o.check; async = o.async; closing = o.closing; done = o.done }))
   where
     fired : OnlyReady (rest s.ready s) w → (t : Id × HandleRecord) → FrontOf s s.ready t →
@@ -361,14 +374,15 @@ late_due s (t ∷ ts) drawn k e = at (nat_le t.0.at s.time) refl e where
   at true due f = cc (ap (with_id t.1) (sym is_held.holds) ∙ f)
   at false late f = none_due s.time t ts k.sorted late
 
-pub collect_follows : (p : Program) (told : Told) (s : State) (run : Run) (part : TimersOf) (w : Walk) → Kept s → Counted p s.names told →
+pub collect_follows : (p : Program) (told : Told) (s : State) (run : Run) (part : TimersOf) (w : Walk) → lives s ≡ is_alive s → Kept s →
+    Counted p s.names told →
     Leaves (rest (s.ready ++ due_now s) s) (Within (section_of part) w) → w.body ≡ [] →
     Follows p told (Running run.mode run.line (Within (section_of part) w)) s (step.collect p s run part)
-collect_follows p told s run part w k c l b =
+collect_follows p told s run part w alive k c l b =
     let o = left_timers part (rest (s.ready ++ due_now s) s) w l in
     found_both (first_due s s.timers) _ _ (Follows p told (Running run.mode run.line (Within (section_of part) w)) s)
     (λ t e. moved o t (first_of s s.timers t e))
-    (λ e. fire_follows p told s run part w k c (timers_left part (rest s.ready s) w (record {
+    (λ e. fire_follows p told s run part w alive k c (timers_left part (rest s.ready s) w (record {
       ready = sym (append-nil s.ready) ∙ ap (λ (ids : List Id). s.ready ++ ids) (sym (late_due s s.timers s.next_start k.timers e)) ∙ o.ready;
       idle = o.idle;
       prepare = o.prepare;

@@ -26,22 +26,24 @@ use Rattle.uv_model.specs.declared.request.Request.{Request}
 use Rattle.uv_model.specs.Content.{request_in, digest_in}
 use Rattle.uv_model.specs.Ids.{same_id}
 use Rattle.uv_model.specs.State.{State, with_handle, front, front_request, watched, refreshed}
-use Rattle.uv_model.specs.Timeout.{poll_timeout, deadline_of}
+use Rattle.uv_model.specs.Timeout.{is_alive, poll_timeout, deadline_of}
 use Rattle.uv_model.specs.Next as step
 use Rattle.uv_model.specs.Next.{Next, Moves, Refuses, next, goes, is_default, call, calls, first_due, collected, front_moved, may_leave, body_from}
 use Rattle.uv_order.specs.Active.{has_id, AreDistinct, AreDue}
+use Rattle.uv_order.specs.Alive.{lives}
 use Rattle.uv_order.specs.Documented as doc
-use Rattle.uv_order.specs.Documented.{Told, nothing_told, told_of, told_by, AllOff, AllOffOrUnsent, Lasting, lasting, at_first, Section, Entry, In, word_of, part_after, part_of, Walk, Opens, IsOver, CallsNext, MayCall, is_called, callback_in, IsCallLine, Standing, Begun, Within, Polling, MayLeave, PollsFor, Position, Between, Running, Goes, GoesOn, cut, line, Documented, body_of, next_call, taken_off, name_in}
+use Rattle.uv_order.specs.Documented.{Told, nothing_told, told_of, told_by, AllOff, AllOffOrUnsent, Lasting, lasting, at_first, Section, Entry, In, word_of, part_after, part_of, Walk, Opens, IsOver, CallsNext, MayCall, is_called, callback_in, IsCallLine, Standing, Begun, Within, Polling, MayLeave, PollsFor, Position, Between, Running, Goes, GoesOn, cut, line, Documented, body_of, next_call, taken_off}
 use Rattle.uv_model.proofs.Found.{found_both}
 use Rattle.uv_order.proofs.IdLists.{left_of, none_off, all_off, each_back, distinct_back, same, itself}
 use Rattle.uv_order.proofs.TimerKeys.{due_ids}
-use Rattle.uv_order.proofs.Holding.{SameHandles, same_handles, Fits, Everyone}
+use Rattle.uv_order.proofs.Holding.{name_in, SameHandles, same_handles, Fits, Everyone}
 use Rattle.uv_order.proofs.Asked.{freed_turns, FrontRequest, request_front}
 use Rattle.uv_order.proofs.Works.{HasEnded}
 use Rattle.uv_order.proofs.Working.{Working, no_request}
 use Rattle.uv_order.proofs.OpCases.{kind_as}
 use Rattle.uv_order.proofs.Keeping.{Kept, Watches, Closes, members}
 use Rattle.uv_order.proofs.KeptSteps.{FrontOf, front_of, no_front}
+use Rattle.uv_order.proofs.Lives.{may_wait_is}
 use Rattle.uv_order.proofs.Counted.{Counted}
 use Rattle.uv_order.proofs.Sends.{pends, pends_in, pends_there, SentAt, either_right, pass_both, pass_off}
 use Rattle.uv_order.proofs.Standing.{begun_with, async_with, rest, Leaves, NobodyLeft, Follows, IsNext, async_next, async_moved, prepare_next, poll_next, check_next, closing_next, timers_after, are_timers, due_distinct, are_active, are_closing, idle, prepare, polls, done, async, check, closing, collects, running}
@@ -66,14 +68,14 @@ opens_watched told s t watcher.Check k e = record { list = (refl, are_active s k
 opens_watched told s t watcher.Async k e = record { list = (refl, are_active s kind.Async s.async e k.async); off = refl; sent = refl; body = refl }
 
 -- such a section begins behind a part that may be left
-pub begin_follows : (p : Program) (told : Told) (s : State) (run : Run) (q : WatcherKind) (at : Standing) → MayLeave s at →
+pub begin_follows : (p : Program) (told : Told) (s : State) (run : Run) (q : WatcherKind) (at : Standing) → MayLeave s told at →
     IsNext (part_of at) (doc.Of
     (In (phase_of q))) →
     Kept s → SentAt told.sent s → Counted p s.names told → NobodyLeft (rest s.ready s) →
     Follows p told (Running run.mode run.line at) s (step.begin_walk s run q)
 begin_follows p told s run watcher.Idle at over next k h c e = record {
   to = Running run.mode run.line (Within (In phase.Idle) (begun_with s.idle.list));
-  goes = doc.section (In phase.Idle) over (next run.mode (goes s)) refl (opens_watched told s _ watcher.Idle k e.idle) refl;
+  goes = doc.section (In phase.Idle) over (next run.mode (doc.goes_on s)) refl (opens_watched told s _ watcher.Idle k e.idle) refl;
   stands = record {
     stands = running (idle refl) (record {
       timers = e.timers;
@@ -89,7 +91,7 @@ begin_follows p told s run watcher.Idle at over next k h c e = record {
 }
 begin_follows p told s run watcher.Prepare at over next k h c e = record {
   to = Running run.mode run.line (Within (In phase.Prepare) (begun_with s.prepare.list));
-  goes = doc.section (In phase.Prepare) over (next run.mode (goes s)) refl (opens_watched told s _ watcher.Prepare k e.prepare) refl;
+  goes = doc.section (In phase.Prepare) over (next run.mode (doc.goes_on s)) refl (opens_watched told s _ watcher.Prepare k e.prepare) refl;
   stands = record {
     stands = running (prepare refl) (record {
       timers = e.timers;
@@ -105,7 +107,7 @@ begin_follows p told s run watcher.Prepare at over next k h c e = record {
 }
 begin_follows p told s run watcher.Check at over next k h c e = record {
   to = Running run.mode run.line (Within (In phase.Check) (begun_with s.check.list));
-  goes = doc.section (In phase.Check) over (next run.mode (goes s)) refl (opens_watched told s _ watcher.Check k e.check) refl;
+  goes = doc.section (In phase.Check) over (next run.mode (doc.goes_on s)) refl (opens_watched told s _ watcher.Check k e.check) refl;
   stands = record {
     stands = running (check refl) (record {
       timers = e.timers;
@@ -121,7 +123,7 @@ begin_follows p told s run watcher.Check at over next k h c e = record {
 }
 begin_follows p told s run watcher.Async at over next k h c e = record {
   to = Running run.mode run.line (Within (In phase.Async) (async_with told s.async.list));
-  goes = doc.section (In phase.Async) over (next run.mode (goes s)) refl (opens_watched told s _ watcher.Async k e.async) refl;
+  goes = doc.section (In phase.Async) over (next run.mode (doc.goes_on s)) refl (opens_watched told s _ watcher.Async k e.async) refl;
   stands = record {
     stands = running (async refl) (record {
       timers = e.timers;
@@ -144,13 +146,14 @@ begin_follows p told s run watcher.Async at over next k h c e = record {
 }
 
 -- the poll begins
-pub poll_follows : (p : Program) (told : Told) (s : State) (run : Run) (w : Walk) → IsOver phase.Prepare w → Kept s → Counted p s.names told →
+pub poll_follows : (p : Program) (told : Told) (s : State) (run : Run) (w : Walk) → lives s ≡ is_alive s → IsOver phase.Prepare w → Kept s →
+    Counted p s.names told →
     NobodyLeft (rest s.ready s) →
     Follows p told (Running run.mode run.line (Within (In phase.Prepare) w)) s (step.begin_poll s run)
-poll_follows p told s run w over k c e = record {
+poll_follows p told s run w alive over k c e = record {
   to = Running run.mode run.line (Polling (deadline_of s (poll_timeout s run.mode)));
-  goes = doc.poll (poll_timeout s run.mode) over (poll_next run.mode (goes s))
-      (record { timers = s.timers; are = are_timers s s.timers s.next_start k.timers; is = refl }) refl refl;
+  goes = doc.poll (poll_timeout s run.mode) over (poll_next run.mode (doc.goes_on s))
+      (record { timers = s.timers; are = are_timers s s.timers s.next_start k.timers; is = may_wait_is s s.timers run.mode alive }) refl refl;
   stands = record {
     stands = running polls (record {
       timers = e.timers;
@@ -171,7 +174,7 @@ pub closing_begins : (p : Program) (told : Told) (s : State) (run : Run) (w : Wa
     Follows p told (Running run.mode run.line (Within (In phase.Check) w)) s (step.begin_closing s run)
 closing_begins p told s run w over k c e = record {
   to = Running run.mode run.line (Within (In phase.Closing) (begun_with s.closing.list));
-  goes = doc.section (In phase.Closing) over (closing_next run.mode (goes s)) refl
+  goes = doc.section (In phase.Closing) over (closing_next run.mode (doc.goes_on s)) refl
       (record { list = (refl, are_closing s e.closing k); off = refl; sent = refl; body = refl }) refl;
   stands = record {
     stands = running (closing refl) (record {
@@ -187,14 +190,16 @@ closing_begins p told s run w over k c e = record {
   };
 }
 
-pub after_follows : (p : Program) (told : Told) (s : State) (run : Run) (q : WatcherKind) (w : Walk) → IsOver (phase_of q) w → Kept s →
+pub after_follows : (p : Program) (told : Told) (s : State) (run : Run) (q : WatcherKind) (w : Walk) → lives s ≡ is_alive s → IsOver (phase_of q) w →
+    Kept s →
     SentAt told.sent s → Counted p s.names told →
     NobodyLeft (rest s.ready s) → Follows p told (Running run.mode run.line (Within (In (phase_of q)) w)) s (step.after_walk s run q)
-after_follows p told s run watcher.Idle w over k h c e =
+after_follows p told s run watcher.Idle w alive over k h c e =
     begin_follows p told s run watcher.Prepare (Within (In phase.Idle) w) over prepare_next k h c e
-after_follows p told s run watcher.Prepare w over k h c e = poll_follows p told s run w over k c e
-after_follows p told s run watcher.Check w over k h c e = closing_begins p told s run w over k c e
-after_follows p told s run watcher.Async w over k h c e = begin_follows p told s run watcher.Check (Within (In phase.Async) w) over check_next k h c e
+after_follows p told s run watcher.Prepare w alive over k h c e = poll_follows p told s run w alive over k c e
+after_follows p told s run watcher.Check w alive over k h c e = closing_begins p told s run w over k c e
+after_follows p told s run watcher.Async w alive over k h c e = begin_follows p told s run watcher.Check
+    (Within (In phase.Async) w) over check_next k h c e
 
 -- an idle, prepare or check handle
 abbrev pub IsPlain : WatcherKind → Type 0
@@ -348,17 +353,18 @@ everyone s watcher.Prepare k = k.prepare
 everyone s watcher.Check k = k.check
 everyone s watcher.Async k = k.async
 
-pub walk_follows : (p : Program) (told : Told) (s : State) (run : Run) (q : WatcherKind) (w : Walk) → IsPlain q →
+pub walk_follows : (p : Program) (told : Told) (s : State) (run : Run) (q : WatcherKind) (w : Walk) → lives s ≡ is_alive s → IsPlain q →
     run.stage ≡ step.stage_of q → Kept s →
     SentAt told.sent s → Counted p s.names told →
     Leaves (rest s.ready s) (Within (In (phase_of q)) w) → w.body ≡ [] → Follows p told (Running run.mode run.line (Within (In (phase_of q)) w)) s
     (step.walk p s run q)
-walk_follows p told s run q w d st k h c l b = found_both (front s (watched s q).yet) _ _ (Follows p told (Running run.mode run.line (Within (In
+walk_follows p told s run q w alive d st k h c l b = found_both (front s (watched s q).yet) _ _ (Follows p told (Running run.mode run.line (Within (In
     (phase_of q)) w)) s)
     (λ t e. call_watcher p told s run q w t d st (front_of s (watched s q).yet t e) l b c)
     (λ e. let each = each_back (Fits s.arena.slots (Watches (kind_as q))) (watched s q).list (watched s q).yet (everyone s q k).lists.each in
     let none : (watched s q).yet ≡ [] = no_front s (Watches (kind_as q)) (watched s q).yet each e in
-    after_follows p told s run q w (plain_over q w d b (all_off w.ahead w.off (sym (own_list s q w d l) ∙ none))) k h c (none_own s q w d none l))
+    after_follows p told s run q w alive (plain_over q w d b (all_off w.ahead w.off (sym (own_list s q w d l) ∙ none))) k h c
+    (none_own s q w d none l))
 
 -- ---- the front of those yet to run, and who is behind it
 
@@ -388,11 +394,13 @@ not_sent slots w t off is still on = at (has_id w.sent t.0) refl where
   at false e = rw on refl
 
 -- an async handle is called, or passed by without a line
-pub async_follows : (p : Program) (told : Told) (s : State) (run : Run) (w : Walk) → run.stage ≡ stage.Async → Kept s → SentAt told.sent s →
+pub async_follows : (p : Program) (told : Told) (s : State) (run : Run) (w : Walk) → lives s ≡ is_alive s → run.stage ≡ stage.Async → Kept s →
+    SentAt told.sent s →
     Counted p s.names told →
     Leaves (rest s.ready s) (Within (In phase.Async) w) → w.body ≡ [] → Follows p told (Running run.mode run.line (Within (In phase.Async) w)) s
     (step.walk_async p s run)
-async_follows p told s run w st k h c l b = found_both (front s s.async.yet) _ _ (Follows p told (Running run.mode run.line (Within (In phase.Async)
+async_follows p told s run w alive st k h c l b = found_both (front s s.async.yet) _ _
+    (Follows p told (Running run.mode run.line (Within (In phase.Async)
     w)) s)
     (λ t e. at t (front_of s s.async.yet t e))
     (λ e. let each = each_back (Fits s.arena.slots (Watches kind.Async)) s.async.list s.async.yet k.async.lists.each in
@@ -400,7 +408,7 @@ async_follows p told s run w st k h c l b = found_both (front s s.async.yet) _ _
     let a = l.async in
     let off : AllOff w.off a.behind = all_off a.behind w.off (sym a.left ∙ none) in
     let passes = pass_both w.off w.sent a.gone a.behind a.passed (pass_off w.off w.sent a.behind off) in
-    after_follows p told s run watcher.Async w (record {
+    after_follows p told s run watcher.Async w alive (record {
       done = b;
       may_pass = subst (AllOffOrUnsent w.off w.sent) (sym a.all) passes;
     }) k h c (record {
@@ -556,7 +564,7 @@ pub timers_begin : (p : Program) (told : Told) (s : State) (run : Run) (w : Walk
     Follows p told (Running run.mode run.line (Within (In phase.Closing) w)) s (step.begin_timers s run)
 timers_begin p told s run w over k c e = record {
   to = Running run.mode run.line (Within (In phase.Timers) (begun_with (due_ids s.clock s.timers)));
-  goes = doc.section (In phase.Timers) over (timers_after run.mode (goes s)) refl (record {
+  goes = doc.section (In phase.Timers) over (timers_after run.mode (doc.goes_on s)) refl (record {
     list = due_list;
     off = refl;
     sent = refl;

@@ -22,7 +22,7 @@ use Rattle.uv_model.specs.declared.request.Request.{Request}
 use Rattle.uv_model.specs.Content.{request_in, queued, digest_in}
 use Rattle.uv_model.specs.Ids.{same_id}
 use Rattle.uv_order.specs.Active.{has_id}
-use Rattle.uv_order.specs.Once.{Answered, answered, queued_by, first_task, queued_task, is_take_line, has_take_line, is_finish_line, has_finish_line, is_after_line, has_after_line, SaysTrue}
+use Rattle.uv_order.specs.Once.{Answered, answered, queued_by, cancelled_by, first_of, queued_task, is_take_line, has_take_line, is_cancel_line, has_cancel_line, is_finish_line, has_finish_line, is_after_line, has_after_line, SaysTrue}
 use Rattle.uv_order.proofs.IdLists.{same, other, itself, turned}
 use Rattle.uv_order.proofs.Contents.{Turns}
 use Rattle.uv_order.proofs.Works.{asked_at, SameRequests}
@@ -41,9 +41,9 @@ pub record IsAsked (arena : Slots Content) (id : Id) : Type 0 where
   pub request : Request
   pub holds : asked_at arena.slots id ≡ Some request
 
--- the requests that are held were queued as the lines tell; those that wait have no `out take` line, and those that are run one, but no
--- `out finish` line; what ended did so as the lines tell. An id of which the lines tell anything was queued, and is held or gone; it is gone
--- once it has its `after` line
+-- the requests that are held were queued as the lines tell; those that wait have no `out take` line, and no cancel of them was accepted;
+-- those that are run have one, but no `out finish` line; what ended did so as the lines tell. An id of which the lines tell anything was
+-- queued, and is held or gone; it is gone once it has its `after` line
 pub record Worked (p : Program) (past : List Seen) (arena : Slots Content) (waiting runs : List Id) : Type 0 where
   pub queued : (id : Id) (r : Request) → asked_at arena.slots id ≡ Some r → queued_task p past id ≡ Some r.task
   pub known : (id : Id) (task : Task) → queued_task p past id ≡ Some task → IsAsked arena id ⊎ IsGone arena.slots arena.free id
@@ -53,6 +53,8 @@ pub record Worked (p : Program) (past : List Seen) (arena : Slots Content) (wait
   pub waits : (id : Id) → has_id waiting id ≡ true → has_take_line past id ≡ false
   pub runs_now : (id : Id) → has_id runs id ≡ true → (has_take_line past id ≡ true) × (has_finish_line past id ≡ false)
   pub ended : (id : Id) (r : Request) → asked_at arena.slots id ≡ Some r → EndsTrue past id r.task r.outcome
+  pub cancelled : (id : Id) → has_cancel_line p past id ≡ true → queued_task p past id ≡ None → ⊥
+  pub uncancelled : (id : Id) → has_id waiting id ≡ true → has_cancel_line p past id ≡ false
 
 none_is_none : {X : Type 0} (x : X) → ◌≡◌ {A = Option X} None (Some x) → ⊥
 none_is_none x e = cc e
@@ -71,16 +73,26 @@ not_called p past arena waiting runs id r e k = at (has_after_line past id) refl
 
 -- ---- lines
 
--- a line that tells nothing of requests
-pub record IsIdle (p : Program) (l : Seen) : Type 0 where
+either : (a b : Bool) → (a || b) ≡ true → (a ≡ true) ⊎ (b ≡ true)
+either true b e = inl refl
+either false b e = inr e
+
+-- a line that tells nothing of requests, but of the cancel of those that this says
+pub record Tells (p : Program) (l : Seen) (told : Id → Bool) : Type 0 where
   pub queued : (id : Id) → queued_by (answered p l) id ≡ None
   pub taken : (id : Id) → is_take_line l id ≡ false
   pub finished : (id : Id) → is_finish_line l id ≡ false
   pub over : (id : Id) → is_after_line l id ≡ false
+  pub cancelled : (id : Id) → is_cancel_line p l id ≡ told id
 
-pub worked_idle : (p : Program) (past : List Seen) (l : Seen) (arena : Slots Content) (waiting runs : List Id) → IsIdle p l →
+abbrev pub IsIdle : Program → Seen → Type 0
+IsIdle p l = Tells p l (λ id. false)
+
+-- they were queued, and wait no more
+pub worked_told : (p : Program) (past : List Seen) (l : Seen) (arena : Slots Content) (waiting runs : List Id) (told : Id → Bool) →
+    Tells p l told → ((i : Id) → told i ≡ true → queued_task p past i ≡ None → ⊥) → ((i : Id) → has_id waiting i ≡ true → told i ≡ false) →
     Worked p past arena waiting runs → Worked p (l ∷ past) arena waiting runs
-worked_idle p past l arena waiting runs q k = record {
+worked_told p past l arena waiting runs told q were away k = record {
   queued = λ id r e. same_task id ∙ k.queued id r e;
   known = λ id task e. k.known id task (sym (same_task id) ∙ e);
   over = λ id e. k.over id (sym (same_over id) ∙ e);
@@ -89,7 +101,16 @@ worked_idle p past l arena waiting runs q k = record {
   waits = λ id e. same_take id ∙ k.waits id e;
   runs_now = λ id e. let r = k.runs_now id e in (same_take id ∙ r.0, same_finish id ∙ r.1);
   ended = λ id r e. ends id r.task r.outcome (k.ended id r e);
+  cancelled = λ id e f. cancelled id (either (told id) (has_cancel_line p past id) (sym (or_cancel id) ∙ e)) (sym (same_task id) ∙ f);
+  uncancelled = λ id e. or_cancel id ∙ rw (away id e, k.uncancelled id e) refl;
 } where
+  or_cancel : (id : Id) → has_cancel_line p (l ∷ past) id ≡ (told id || has_cancel_line p past id)
+  or_cancel id = ap (λ (b : Bool). b || has_cancel_line p past id) (q.cancelled id)
+
+  cancelled : (id : Id) → (told id ≡ true) ⊎ (has_cancel_line p past id ≡ true) → queued_task p past id ≡ None → ⊥
+  cancelled id (inl e) f = were id e f
+  cancelled id (inr e) f = k.cancelled id e f
+
   same_task : (id : Id) → queued_task p (l ∷ past) id ≡ queued_task p past id
   same_task id = rw (q.queued id) refl
 
@@ -107,6 +128,10 @@ worked_idle p past l arena waiting runs q k = record {
   ends id task (Finished digest) e = (same_take id ∙ e.0, same_finish id ∙ e.1, e.2)
   ends id task Cancelled e = same_take id ∙ e
 
+pub worked_idle : (p : Program) (past : List Seen) (l : Seen) (arena : Slots Content) (waiting runs : List Id) → IsIdle p l →
+    Worked p past arena waiting runs → Worked p (l ∷ past) arena waiting runs
+worked_idle p past l arena waiting runs q k = worked_told p past l arena waiting runs (λ id. false) q (λ i e. cc e) (λ i e. refl) k
+
 -- ---- changes without a line
 
 -- no request changes
@@ -122,6 +147,8 @@ worked_same p past arena more waiting runs f gone k = record {
   waits = k.waits;
   runs_now = k.runs_now;
   ended = λ id r e. k.ended id r (sym (f id) ∙ e);
+  cancelled = k.cancelled;
+  uncancelled = k.uncancelled;
 } where
   later : (id : Id) → IsAsked arena id ⊎ IsGone arena.slots arena.free id → IsAsked more id ⊎ IsGone more.slots more.free id
   later id (inl a) = inl (record { request = a.request; holds = f id ∙ a.holds })
@@ -140,6 +167,8 @@ worked_fewer p past arena waiting runs few_waiting few_runs f g k = record {
   waits = λ i e. k.waits i (f i e);
   runs_now = λ i e. k.runs_now i (g i e);
   ended = k.ended;
+  cancelled = k.cancelled;
+  uncancelled = λ i e. k.uncancelled i (f i e);
 }
 
 -- a request ends, as the lines tell
@@ -156,6 +185,8 @@ worked_ended p past arena more waiting runs id r x t same_task ends gone k = rec
   waits = k.waits;
   runs_now = k.runs_now;
   ended = λ i y e. ended_now i y e (same_id i id) refl;
+  cancelled = k.cancelled;
+  uncancelled = k.uncancelled;
 } where
   its : (i : Id) (y : Request) → asked_at more.slots i ≡ Some y → same_id i id ≡ true → x ≡ y
   its i y e s = same_Some _ _ (sym (ap request_in t.here) ∙ ap (asked_at more.slots) (sym (same i id s)) ∙ e)
@@ -180,10 +211,6 @@ worked_ended p past arena more waiting runs id r x t same_task ends gone k = rec
 
 -- ---- the lines of requests
 
-either : (a b : Bool) → (a || b) ≡ true → (a ≡ true) ⊎ (b ≡ true)
-either true b e = inl refl
-either false b e = inr e
-
 -- a worker takes a request that waits
 pub worked_taken : (p : Program) (past : List Seen) (arena : Slots Content) (waiting runs rest more : List Id) (n : ℕ) (v : Var) (id : Id)
     (r : Request) → asked_at arena.slots id ≡ Some r → is_open r.outcome ≡ true → has_id waiting id ≡ true →
@@ -199,6 +226,8 @@ worked_taken p past arena waiting runs rest more n v id r holds opened waits few
   waits = λ i e. let w = fewer i e in rw (w.1, k.waits i w.0) refl;
   runs_now = λ i e. runs_now i (most i e);
   ended = λ i y e. ends i y e y.outcome refl (k.ended i y e);
+  cancelled = k.cancelled;
+  uncancelled = λ i e. k.uncancelled i (fewer i e).0;
 } where
   either_true : (b : Bool) → (b || true) ≡ true
   either_true true = refl
@@ -244,6 +273,8 @@ worked_finished p past arena waiting runs few n v id on fewer k = record {
   waits = k.waits;
   runs_now = λ i e. let f = fewer i e in let was = k.runs_now i f.0 in (was.0, rw (f.1, was.1) refl);
   ended = λ i y e. ends i y.task y.outcome (k.ended i y e);
+  cancelled = k.cancelled;
+  uncancelled = k.uncancelled;
 } where
   finished : (i : Id) → (same_id id i ≡ true) ⊎ (has_finish_line past i ≡ true) → has_take_line past i ≡ true
   finished i (inl s) = ap (has_take_line past) (sym (same id i s)) ∙ (k.runs_now id on).0
@@ -273,10 +304,16 @@ worked_queued p past place v task arena more waiting runs listed id e t fresh mo
   waits = λ i h. waits i (most i h);
   runs_now = k.runs_now;
   ended = λ i y h. ended_now i y h (same_id i id) refl;
+  cancelled = λ i h f. k.cancelled i (sym (no_cancel i) ∙ h) (still_none i (sym (asked i) ∙ f));
+  uncancelled = λ i h. no_cancel i ∙ uncancelled i (most i h);
 } where
-  asked : (i : Id) → queued_task p (seen.Op place (answer.Id id) ∷ past) i ≡ first_task (if same_id id i then Some task else None)
+  no_cancel : (i : Id) → has_cancel_line p (seen.Op place (answer.Id id) ∷ past) i ≡ has_cancel_line p past i
+  no_cancel i = ap (λ (o : Option Answered). cancelled_by o i || has_cancel_line p past i)
+      (ap (option_map (λ (o : Op). record { op = o; answer = answer.Id id })) e)
+
+  asked : (i : Id) → queued_task p (seen.Op place (answer.Id id) ∷ past) i ≡ first_of (if same_id id i then Some task else None)
       (queued_task p past i)
-  asked i = ap (λ (o : Option Answered). first_task (queued_by o i) (queued_task p past i))
+  asked i = ap (λ (o : Option Answered). first_of (queued_by o i) (queued_task p past i))
       (ap (option_map (λ (o : Op). record { op = o; answer = answer.Id id })) e)
 
   never : (b : Option Task) → queued_task p past id ≡ b → b ≡ None
@@ -290,9 +327,9 @@ worked_queued p past place v task arena more waiting runs listed id e t fresh mo
   untaken true h = absurd (k.taken id h (never (queued_task p past id) refl))
   untaken false h = refl
 
-  still_none : (i : Id) → first_task (if same_id id i then Some task else None) (queued_task p past i) ≡ None → queued_task p past i ≡ None
+  still_none : (i : Id) → first_of (if same_id id i then Some task else None) (queued_task p past i) ≡ None → queued_task p past i ≡ None
   still_none i f = at (same_id id i) f where
-    at : (b : Bool) → first_task (if b then Some task else None) (queued_task p past i) ≡ None → queued_task p past i ≡ None
+    at : (b : Bool) → first_of (if b then Some task else None) (queued_task p past i) ≡ None → queued_task p past i ≡ None
     at true g = cc g
     at false g = g
 
@@ -300,18 +337,26 @@ worked_queued p past place v task arena more waiting runs listed id e t fresh mo
   its i y h s = same_Some _ _ (sym (ap request_in t.here) ∙ ap (asked_at more.slots) (sym (same i id s)) ∙ h)
 
   queued_now : (i : Id) (y : Request) → asked_at more.slots i ≡ Some y → (b : Bool) → same_id i id ≡ b →
-      first_task (if same_id id i then Some task else None) (queued_task p past i) ≡ Some y.task
+      first_of (if same_id id i then Some task else None) (queued_task p past i) ≡ Some y.task
   queued_now i y h true s = rw (turned id i, s) (ap (λ (z : Request). Some z.task) (its i y h s))
   queued_now i y h false s = rw (turned id i, s) (k.queued i y (sym (ap request_in (t.others i (other i id s))) ∙ h))
 
-  known_now : (i : Id) (x : Task) → first_task (if same_id id i then Some task else None) (queued_task p past i) ≡ Some x → (b : Bool) →
+  known_now : (i : Id) (x : Task) → first_of (if same_id id i then Some task else None) (queued_task p past i) ≡ Some x → (b : Bool) →
       same_id id i ≡ b → IsAsked more i ⊎ IsGone more.slots more.free i
   known_now i x h true s =
       inl (record { request = queued v task; holds = ap (asked_at more.slots) (sym (same id i s)) ∙ ap request_in t.here })
-  known_now i x h false s = at (k.known i x (sym (ap (λ (b : Bool). first_task (if b then Some task else None) (queued_task p past i)) s) ∙ h)) where
+  known_now i x h false s = at (k.known i x (sym (ap (λ (b : Bool). first_of (if b then Some task else None) (queued_task p past i)) s) ∙ h)) where
     at : IsAsked arena i ⊎ IsGone arena.slots arena.free i → IsAsked more i ⊎ IsGone more.slots more.free i
     at (inl a) = inl (record { request = a.request; holds = ap request_in (t.others i (other i id (turned i id ∙ s))) ∙ a.holds })
     at (inr g) = inr (gone i g)
+
+  unasked : (b : Bool) → has_cancel_line p past id ≡ b → b ≡ false
+  unasked true h = absurd (k.cancelled id h (never (queued_task p past id) refl))
+  unasked false h = refl
+
+  uncancelled : (i : Id) → (id ≡ i) ⊎ (has_id waiting i ≡ true) → has_cancel_line p past i ≡ false
+  uncancelled i (inl is) = ap (has_cancel_line p past) (sym is) ∙ unasked (has_cancel_line p past id) refl
+  uncancelled i (inr h) = k.uncancelled i h
 
   waits : (i : Id) → (id ≡ i) ⊎ (has_id waiting i ≡ true) → has_take_line past i ≡ false
   waits i (inl is) = ap (has_take_line past) (sym is) ∙ untaken (has_take_line past id) refl
@@ -340,6 +385,8 @@ worked_collected p past arena more waiting runs digest v id r t now gone k = rec
   waits = k.waits;
   runs_now = k.runs_now;
   ended = λ i y e. lines i y.task y.outcome (k.ended i y (earlier i y e));
+  cancelled = k.cancelled;
+  uncancelled = k.uncancelled;
 } where
   earlier : (i : Id) (y : Request) → asked_at more.slots i ≡ Some y → asked_at arena.slots i ≡ Some y
   earlier i y e = at (same_id i id) refl where

@@ -15,7 +15,7 @@ use Rattle.uv_model.specs.declared.content.Content.TheVariants as content
 use Rattle.uv_model.specs.declared.request.Request.{Request}
 use Rattle.uv_model.specs.Content.{request_in}
 use Rattle.uv_model.specs.Ids.{same_id, without_id}
-use Rattle.uv_order.specs.Active.{has_id, AreDistinct}
+use Rattle.uv_order.specs.Active.{has_id, AreDistinct, run_ids}
 use Rattle.uv_order.proofs.IdLists.{same, other, itself, turned, has_new_middle, distinct_middle, distinct_but, without_absent}
 use Rattle.uv_order.proofs.Contents.{Turns}
 use Rattle.uv_order.proofs.Holding.{held_at, put, put_turns}
@@ -182,12 +182,6 @@ without_middle (x ∷ xs) ys id d = rw (apart (same_id x id) refl) (ap (λ (is :
   apart true s = absurd (both_ways (has_id (xs ++ id ∷ ys) x) d.0 (ap (has_id (xs ++ id ∷ ys)) (same x id s) ∙ has_new_middle xs ys id))
 
 -- ---- the workers
-
--- the requests that workers run
-abbrev pub run_ids : List (Option Id) → List Id
-run_ids [] = []
-run_ids (None ∷ running) = run_ids running
-run_ids (Some id ∷ running) = id ∷ run_ids running
 
 -- a worker that runs nothing takes a request
 pub record Takes (running : List (Option Id)) (k : ℕ) (id : Id) : Type 0 where

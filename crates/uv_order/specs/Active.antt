@@ -1,5 +1,5 @@
 -- Which handles are active, as the handles say: the timers in their order, those of them that are due, and the watchers of a kind.
-use Rattle.std.specs.Prelude.{◌≡◌, ◌⊎◌, ◌||◌, Bool, true, false, List, [], ◌∷◌, Some, filter, map, nat_le}
+use Rattle.std.specs.Prelude.{◌≡◌, ◌⊎◌, ◌||◌, Bool, true, false, List, [], ◌∷◌, Option, Some, None, filter, map, nat_le}
 use Rattle.std.specs.declared.cmp.Ordering.TheVariants.{Less}
 use Rattle.uv_ids.specs.Due.{due_cmp}
 use Rattle.uv_ids.specs.declared.id.Id.{Id}
@@ -64,6 +64,24 @@ pub record IsEnded (s : State) (id : Id) : Type 0 where
 pub record AreEnded (s : State) (ids : List Id) : Type 0 where
   pub each : (id : Id) → has_id ids id ≡ true → IsEnded s id
   pub all : (id : Id) → IsEnded s id → has_id ids id ≡ true
+  pub distinct : AreDistinct ids
+
+-- the requests that workers run
+abbrev pub run_ids : List (Option Id) → List Id
+run_ids [] = []
+run_ids (None ∷ running) = run_ids running
+run_ids (Some id ∷ running) = id ∷ run_ids running
+
+-- the id is that of a request that waits for a worker, or that one runs
+pub record IsOpened (s : State) (id : Id) : Type 0 where
+  pub its : Request
+  pub holds : request s id ≡ Some its
+  pub opened : is_open its.outcome ≡ true
+
+-- these are all of them and no others, and none twice
+pub record AreOpened (s : State) (ids : List Id) : Type 0 where
+  pub each : (id : Id) → has_id ids id ≡ true → IsOpened s id
+  pub all : (id : Id) → IsOpened s id → has_id ids id ≡ true
   pub distinct : AreDistinct ids
 
 -- ---- timers

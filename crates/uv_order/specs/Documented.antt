@@ -26,15 +26,14 @@ use Rattle.uv_script.specs.declared.op.Op.TheVariants as op
 use Rattle.uv_script.specs.declared.op.MainOp.TheVariants as main
 use Rattle.uv_script.specs.declared.op.CallbackLine.{CallbackLine}
 use Rattle.uv_script.specs.Program.{Program, lines_in, is_for, op_at}
-use Rattle.uv_records.specs.Slots.{held}
-use Rattle.uv_model.specs.declared.content.Content.{Content}
-use Rattle.uv_model.specs.declared.content.Content.TheVariants as content
 use Rattle.uv_model.specs.declared.request.Request.{Request}
 use Rattle.uv_model.specs.Content.{digest_in}
 use Rattle.uv_model.specs.Ids.{has_some, without_id}
-use Rattle.uv_model.specs.State.{State, request, named}
-use Rattle.uv_model.specs.Timeout.{is_alive, has_pending, poll_timeout_by, deadline_of, has_passed}
+use Rattle.uv_model.specs.State.{State, request}
+use Rattle.uv_model.specs.Timeout.{deadline_of, has_passed}
 use Rattle.uv_order.specs.Line.{Line}
+use Rattle.uv_order.specs.Once.{bound, made_as}
+use Rattle.uv_order.specs.Alive.{lives, may_wait}
 use Rattle.uv_order.specs.Active.{has_id, AreActive, AreClosing, AreEnded, AreTimers, AreDue}
 
 -- ---- what lasts from line to line
@@ -91,10 +90,21 @@ after_tick ms s = record (lasting s) { clock = s.clock + ms }
 
 -- ---- names
 
+-- what the lines say of names
+pub record Names : Type 0 where
+  -- the id that a name is bound to
+  pub bound : Var → Option Id
+  -- the name under which an id was made
+  pub made : Id → Option Var
+
+-- as these lines say, the last one first
+abbrev pub names_by : Program → List Seen → Names
+names_by p past = record { bound = bound p past; made = made_as p past }
+
 -- the id that a name is bound to
-abbrev pub ids_of : State → Option Var → List Id
-ids_of s None = []
-ids_of s (Some v) = ids_or_none (named s v).id where
+abbrev pub ids_of : Names → Option Var → List Id
+ids_of names None = []
+ids_of names (Some v) = ids_or_none (names.bound v) where
   ids_or_none : Option Id → List Id
   ids_or_none None = []
   ids_or_none (Some id) = id ∷ []
@@ -136,34 +146,31 @@ without_ids ids (gone ∷ more) = without_id (without_ids ids more) gone
 
 -- who is sent to after an op: one more by an accepted `send` (uv_async_send), and one less by an accepted `close`; nobody has sent to a
 -- handle that is made
-abbrev pub sent_by : Op → Answer → State → List Id → List Id
-sent_by (op.Send v) (Says Success) s sent = ids_of s (Some v) ++ sent
-sent_by (op.Close v) (Says Success) s sent = without_ids sent (ids_of s (Some v))
-sent_by (op.Init v kind) (Made id) s sent = without_id sent id
-sent_by o a s sent = sent
+abbrev pub sent_by : Op → Answer → Names → List Id → List Id
+sent_by (op.Send v) (Says Success) names sent = ids_of names (Some v) ++ sent
+sent_by (op.Close v) (Says Success) names sent = without_ids sent (ids_of names (Some v))
+sent_by (op.Init v kind) (Made id) names sent = without_id sent id
+sent_by o a names sent = sent
 
-abbrev pub sent_after : Option Op → Answer → State → List Id → List Id
-sent_after None a s sent = sent
-sent_after (Some o) a s sent = sent_by o a s sent
+abbrev pub sent_after : Option Op → Answer → Names → List Id → List Id
+sent_after None a names sent = sent
+sent_after (Some o) a names sent = sent_by o a names sent
 
 -- with one line more: a call is one more of its name, and takes in what was sent
-abbrev pub told_by : Program → Told → State → Seen → Told
-told_by p told s (seen.Call v id) = record told { called = v ∷ told.called; sent = without_id told.sent id }
-told_by p told s (seen.After digest v id) = record told { after = v ∷ told.after }
-told_by p told s (seen.Closed v id) = record told { closed = v ∷ told.closed }
-told_by p told s (seen.Op place a) = record told { sent = sent_after (op_at p place) a s told.sent }
-told_by p told s (seen.Send v code) = record told { sent = sent_by (op.Send v) (Says code) s told.sent }
-told_by p told s (seen.Run m) = told
-told_by p told s (seen.Section word) = told
-told_by p told s (seen.Poll timeout) = told
-told_by p told s (seen.End alive) = told
-told_by p told s (seen.Take k v id) = told
-told_by p told s (seen.Finish k v id) = told
-told_by p told s (seen.Cancel v a) = told
-told_by p told s (seen.Tick ms) = told
-
-abbrev pub told_with : Program → Told → Line → Told
-told_with p told l = told_by p told l.before l.seen
+abbrev pub told_by : Program → Told → Names → Seen → Told
+told_by p told names (seen.Call v id) = record told { called = v ∷ told.called; sent = without_id told.sent id }
+told_by p told names (seen.After digest v id) = record told { after = v ∷ told.after }
+told_by p told names (seen.Closed v id) = record told { closed = v ∷ told.closed }
+told_by p told names (seen.Op place a) = record told { sent = sent_after (op_at p place) a names told.sent }
+told_by p told names (seen.Send v code) = record told { sent = sent_by (op.Send v) (Says code) names told.sent }
+told_by p told names (seen.Run m) = told
+told_by p told names (seen.Section word) = told
+told_by p told names (seen.Poll timeout) = told
+told_by p told names (seen.End alive) = told
+told_by p told names (seen.Take k v id) = told
+told_by p told names (seen.Finish k v id) = told
+told_by p told names (seen.Cancel v a) = told
+told_by p told names (seen.Tick ms) = told
 
 -- ---- bodies
 
@@ -226,7 +233,7 @@ part_after m go End = End
 
 -- the loop goes on: it is alive, and the stop flag is clear
 abbrev pub goes_on : State → Bool
-goes_on s = is_alive s && not s.stop_flag
+goes_on s = lives s && not s.stop_flag
 
 -- what the line of a section sets: the timers of the entry nothing, and each section of an iteration what its word says
 abbrev pub after_section : Section → State → Lasting
@@ -259,9 +266,9 @@ off_by phase.Timers (op.Start v timeout repeat) = Some v
 off_by phase.Timers (op.Again v) = Some v
 off_by word o = None
 
-abbrev pub taken_off : Phase → State → Op → Answer → List Id
-taken_off word s o (Says Success) = ids_of s (off_by word o)
-taken_off word s o a = []
+abbrev pub taken_off : Phase → Names → Op → Answer → List Id
+taken_off word names o (Says Success) = ids_of names (off_by word o)
+taken_off word names o a = []
 
 -- how far a section is
 pub record Walk : Type 0 where
@@ -323,15 +330,6 @@ pub record IsOver (word : Phase) (w : Walk) : Type 0 where
   pub done : w.body ≡ []
   pub may_pass : MayPass word w w.ahead
 
--- the name of what a slot holds
-abbrev pub name_in : Content → Var
-name_in (content.Handle h) = h.name
-name_in (content.Request r) = r.name
-
--- the id is that of a handle or a request of this name
-abbrev pub IsOf : State → Id → Var → Type 0
-IsOf s id v = option_map name_in (held s.arena.slots id) ≡ Some v
-
 -- ---- runs
 
 -- where a run stands
@@ -350,16 +348,16 @@ part_of (Polling deadline) = Poll
 
 -- it may go on to its next part: a section that is over, and a poll whose deadline the clock has reached, or that a request ends which is
 -- done, or an async handle
-abbrev pub MayLeave : State → Standing → Type 0
-MayLeave s Begun = Unit {0}
-MayLeave s (Within part w) = IsOver (word_of part) w
-MayLeave s (Polling deadline) = (has_passed s.clock deadline || (has_some s.done.list || has_pending s)) ≡ true
+abbrev pub MayLeave : State → Told → Standing → Type 0
+MayLeave s told Begun = Unit {0}
+MayLeave s told (Within part w) = IsOver (word_of part) w
+MayLeave s told (Polling deadline) = (has_passed s.clock deadline || (has_some s.done.list || has_some told.sent)) ≡ true
 
 -- the poll may wait so long, by the active timers as the handles say
 pub record PollsFor (s : State) (m : Mode) (timeout : Option ℕ) : Type 0 where
   pub timers : List (Due × Id)
   pub are : AreTimers s timers
-  pub is : timeout ≡ poll_timeout_by s timers m
+  pub is : timeout ≡ may_wait s timers m
 
 -- the callbacks of a section, and their lines
 abbrev pub callback_in : Phase → Callback
@@ -380,51 +378,51 @@ pub data Position : Type 0 where
   -- in a run, which began at this line
   Running : Mode → ℕ → Standing → Position
 
--- a line takes the trace from where it stands to where it stands then; so much was told before it
-pub data Goes (p : Program) (told : Told) : Position → Line → Position → Type 0 where
+-- a line takes the trace from where it stands to where it stands then; so much was told before it, and so were names bound
+pub data Goes (p : Program) (told : Told) (names : Names) : Position → Line → Position → Type 0 where
   -- an op of the main program
   main_line : {l : Line} {i : ℕ} (o : Op) (a : Answer)
       → op_at p (site.Main i) ≡ Some o
       → l.seen ≡ seen.Op (site.Main i) a
       → lasting l.after ≡ after_op o l.before
-      → Goes p told (Between i) l (Between (i + 1))
+      → Goes p told names (Between i) l (Between (i + 1))
   -- a run of the main program begins
   run : {l : Line} {i : ℕ} (m : Mode)
       → slice_get p.main i ≡ Some (main.Run m)
       → l.seen ≡ seen.Run m
       → lasting l.after ≡ after_run m l.before
-      → Goes p told (Between i) l (Running m i Begun)
+      → Goes p told names (Between i) l (Running m i Begun)
   -- the next section begins
   section : {l : Line} {m : Mode} {i : ℕ} {at : Standing} {w : Walk} (next : Section)
-      → MayLeave l.before at
+      → MayLeave l.before told at
       → part_after m (goes_on l.before) (part_of at) ≡ Of next
       → l.seen ≡ seen.Section (word_of next)
       → Opens (word_of next) told l w
       → lasting l.after ≡ after_section next l.before
-      → Goes p told (Running m i at) l (Running m i (Within next w))
+      → Goes p told names (Running m i at) l (Running m i (Within next w))
   -- the poll begins, with the timeout that the loop has then
   poll : {l : Line} {m : Mode} {i : ℕ} {at : Standing} (timeout : Option ℕ)
-      → MayLeave l.before at
+      → MayLeave l.before told at
       → part_after m (goes_on l.before) (part_of at) ≡ Poll
       → PollsFor l.before m timeout
       → l.seen ≡ seen.Poll timeout
       → lasting l.after ≡ lasting l.before
-      → Goes p told (Running m i at) l (Running m i (Polling (deadline_of l.before timeout)))
+      → Goes p told names (Running m i at) l (Running m i (Polling (deadline_of l.before timeout)))
   -- the run ends, and says whether the loop is alive
   ends : {l : Line} {m : Mode} {i : ℕ} {at : Standing}
-      → MayLeave l.before at
+      → MayLeave l.before told at
       → part_after m (goes_on l.before) (part_of at) ≡ End
-      → l.seen ≡ seen.End (is_alive l.before)
+      → l.seen ≡ seen.End (lives l.before)
       → lasting l.after ≡ after_end l.before
-      → Goes p told (Running m i at) l (Between (i + 1))
+      → Goes p told names (Running m i at) l (Between (i + 1))
   -- a callback of the section begins
   call : {l : Line} {m : Mode} {i : ℕ} {part : Section} {w : Walk} (kind : Callback) (v : Var) (id : Id) (behind : List Id)
       → callback_in (word_of part) ≡ kind
       → CallsNext (word_of part) told w id behind
-      → IsOf l.before id v
+      → names.made id ≡ Some v
       → IsCallLine l.before kind v id l.seen
       → lasting l.after ≡ lasting l.before
-      → Goes p told (Running m i (Within part w)) l (Running m i (Within part (record w {
+      → Goes p told names (Running m i (Within part w)) l (Running m i (Within part (record w {
         ahead = behind;
         body = body_of p kind v (next_call told kind v);
       })))
@@ -434,40 +432,40 @@ pub data Goes (p : Program) (told : Told) : Position → Line → Position → T
       → op_at p place ≡ Some o
       → l.seen ≡ seen.Op place a
       → lasting l.after ≡ after_op o l.before
-      → Goes p told (Running m i (Within part w)) l
-      (Running m i (Within part (record w { off = taken_off (word_of part) l.before o a ++ w.off; body = rest })))
+      → Goes p told names (Running m i (Within part w)) l
+      (Running m i (Within part (record w { off = taken_off (word_of part) names o a ++ w.off; body = rest })))
   -- steps from outside stand anywhere
   sent : {l : Line} {at : Position} (v : Var) (code : Code)
       → l.seen ≡ seen.Send v code
       → lasting l.after ≡ lasting l.before
-      → Goes p told at l at
+      → Goes p told names at l at
   taken : {l : Line} {at : Position} (k : ℕ) (v : Var) (id : Id)
       → l.seen ≡ seen.Take k v id
       → lasting l.after ≡ lasting l.before
-      → Goes p told at l at
+      → Goes p told names at l at
   finished : {l : Line} {at : Position} (k : ℕ) (v : Var) (id : Id)
       → l.seen ≡ seen.Finish k v id
       → lasting l.after ≡ lasting l.before
-      → Goes p told at l at
+      → Goes p told names at l at
   cancelled : {l : Line} {at : Position} (v : Var) (a : Answer)
       → l.seen ≡ seen.Cancel v a
       → lasting l.after ≡ lasting l.before
-      → Goes p told at l at
+      → Goes p told names at l at
   outside : {l : Line} {at : Position} (ms : ℕ)
       → l.seen ≡ seen.Tick ms
       → lasting l.after ≡ after_tick ms l.before
-      → Goes p told at l at
+      → Goes p told names at l at
 
--- the lines go on from where a trace stands
-pub data GoesOn (p : Program) : Position → Told → Lasting → List Line → Type 0 where
+-- the lines go on from where a trace stands, behind these lines, the last one first
+pub data GoesOn (p : Program) : Position → Told → List Seen → Lasting → List Line → Type 0 where
   -- it may be cut behind any line
-  cut : {at : Position} {told : Told} {was : Lasting} → GoesOn p at told was []
-  line : {at to : Position} {told : Told} {was : Lasting} {l : Line} {ls : List Line}
+  cut : {at : Position} {told : Told} {past : List Seen} {was : Lasting} → GoesOn p at told past was []
+  line : {at to : Position} {told : Told} {past : List Seen} {was : Lasting} {l : Line} {ls : List Line}
       → lasting l.before ≡ was
-      → Goes p told at l to
-      → GoesOn p to (told_with p told l) (lasting l.after) ls
-      → GoesOn p at told was (l ∷ ls)
+      → Goes p told (names_by p past) at l to
+      → GoesOn p to (told_by p told (names_by p past) l.seen) (l.seen ∷ past) (lasting l.after) ls
+      → GoesOn p at told past was (l ∷ ls)
 
 -- the lines of a trace are in the documented order
 abbrev pub Documented : Program → List Line → Type 0
-Documented p ls = GoesOn p (Between 0) nothing_told at_first ls
+Documented p ls = GoesOn p (Between 0) nothing_told [] at_first ls

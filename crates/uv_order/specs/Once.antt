@@ -28,6 +28,11 @@ abbrev pub answered : Program → Seen → Option Answered
 answered p (seen.Op place a) = option_map (λ (o : Op). record { op = o; answer = a }) (op_at p place)
 answered p l = None
 
+-- what the last line says, else what those before it do
+abbrev pub first_of : {X : Type 0} → Option X → Option X → Option X
+first_of (Some x) before = Some x
+first_of None before = before
+
 -- ---- names
 
 -- the id that a name is bound to: that which its last `init` or `queue` answered. Lines stand with the last one first
@@ -43,6 +48,20 @@ bound_by (Some x) v before = binds x.op x.answer v before
 abbrev pub bound : Program → List Seen → Var → Option Id
 bound p [] v = None
 bound p (l ∷ past) v = bound_by (answered p l) v (bound p past v)
+
+-- the name under which an id was made: that of the `init` or `queue` that it answers
+abbrev pub makes : Op → Answer → Id → Option Var
+makes (op.Init v kind) (answer.Id i) id = if same_id i id then Some v else None
+makes (op.Queue v task) (answer.Id i) id = if same_id i id then Some v else None
+makes o a id = None
+
+abbrev pub made_by : Option Answered → Id → Option Var
+made_by None id = None
+made_by (Some x) id = makes x.op x.answer id
+
+abbrev pub made_as : Program → List Seen → Id → Option Var
+made_as p [] id = None
+made_as p (l ∷ past) id = first_of (made_by (answered p l) id) (made_as p past id)
 
 -- ---- what was closed
 
@@ -88,14 +107,10 @@ abbrev pub queued_by : Option Answered → Id → Option Task
 queued_by None id = None
 queued_by (Some x) id = queues x.op x.answer id
 
-abbrev pub first_task : Option Task → Option Task → Option Task
-first_task (Some task) before = Some task
-first_task None before = before
-
 -- what was queued under an id
 abbrev pub queued_task : Program → List Seen → Id → Option Task
 queued_task p [] id = None
-queued_task p (l ∷ past) id = first_task (queued_by (answered p l) id) (queued_task p past id)
+queued_task p (l ∷ past) id = first_of (queued_by (answered p l) id) (queued_task p past id)
 
 -- a worker took the request
 abbrev pub is_take_line : Seen → Id → Bool
@@ -138,15 +153,57 @@ pub record CallsBack (p : Program) (past : List Seen) (digest : Option (List ℕ
   pub first : has_after_line past id ≡ false
   pub says : SaysTrue past id task digest
 
+-- ---- cancels
+
+-- a cancel of the request was accepted, by an op or from outside: its answer is the request's id
+abbrev pub cancels : Op → Answer → Id → Bool
+cancels (op.Cancel v) (answer.Cancelled i) id = same_id i id
+cancels o a id = false
+
+abbrev pub cancelled_by : Option Answered → Id → Bool
+cancelled_by None id = false
+cancelled_by (Some x) id = cancels x.op x.answer id
+
+abbrev pub is_cancel_line : Program → Seen → Id → Bool
+is_cancel_line p (seen.Cancel v a) id = cancels (op.Cancel v) a id
+is_cancel_line p l id = cancelled_by (answered p l) id
+
+abbrev pub has_cancel_line : Program → List Seen → Id → Bool
+has_cancel_line p [] id = false
+has_cancel_line p (l ∷ past) id = is_cancel_line p l id || has_cancel_line p past id
+
+-- a cancel is accepted: of the request that its name is bound to, which was queued, which no worker took, which wasn't cancelled before, and
+-- which has had no after callback
+pub record Cancels (p : Program) (past : List Seen) (v : Var) (id : Id) : Type 0 where
+  pub names : bound p past v ≡ Some id
+  pub task : Task
+  pub queued : queued_task p past id ≡ Some task
+  pub waits : has_take_line past id ≡ false
+  pub once : has_cancel_line p past id ≡ false
+  pub first : has_after_line past id ≡ false
+
+-- so a cancel answers the id of what it cancelled, or why it is refused, and nothing else: no bare ok
+abbrev pub CancelSays : Program → List Seen → Var → Answer → Type 0
+CancelSays p past v (answer.Cancelled id) = Cancels p past v id
+CancelSays p past v (answer.Code Success) = ⊥
+CancelSays p past v (answer.Code c) = Unit {0}
+CancelSays p past v a = ⊥
+
+abbrev pub OpSays : Program → List Seen → Option Op → Answer → Type 0
+OpSays p past (Some (op.Cancel v)) a = CancelSays p past v a
+OpSays p past o a = Unit {0}
+
 -- ---- the lines
 
 -- a line may follow these: one worker takes a request once, and finishes it once after that
 abbrev pub MayFollow : Program → List Seen → Seen → Type 0
 MayFollow p past (seen.Call v id) = was_closed p past id ≡ false
 MayFollow p past (seen.Closed v id) = (was_closed p past id ≡ true) × (has_closed_line past id ≡ false)
-MayFollow p past (seen.Take k v id) = has_take_line past id ≡ false
+MayFollow p past (seen.Take k v id) = (has_take_line past id ≡ false) × (has_after_line past id ≡ false)
 MayFollow p past (seen.Finish k v id) = (has_take_line past id ≡ true) × (has_finish_line past id ≡ false)
 MayFollow p past (seen.After digest v id) = CallsBack p past digest id
+MayFollow p past (seen.Op place a) = OpSays p past (op_at p place) a
+MayFollow p past (seen.Cancel v a) = CancelSays p past v a
 MayFollow p past l = Unit {0}
 
 -- each of these may follow those before it

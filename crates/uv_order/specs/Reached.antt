@@ -10,7 +10,7 @@ use Rattle.uv_model.specs.declared.place.Stage.TheVariants.{Pending, Idle, Poll,
 use Rattle.uv_model.specs.declared.place.Place.{Place}
 use Rattle.uv_model.specs.declared.place.Place.TheVariants.{Main, Running}
 use Rattle.uv_model.specs.State.{State, handle}
-use Rattle.uv_order.specs.Active.{has_id, AreDistinct, AreActive, AreClosing, AreEnded, AreTimers, Has}
+use Rattle.uv_order.specs.Active.{has_id, AreDistinct, AreActive, AreClosing, AreEnded, AreOpened, IsActive, run_ids, AreTimers, Has}
 
 -- where the section behind a stage may begin with the next step, none of its list is yet to run
 abbrev pub BeginsBehind : Stage → State → Type 0
@@ -60,3 +60,7 @@ pub record IsReached (s : State) : Type 0 where
   pub ready : AreSetAside s s.ready
   -- a handle that closes isn't active
   pub shut : (id : Id) (h : HandleRecord) → handle s id ≡ Some h → h.closing ≡ true → h.active ≡ false
+  -- the open requests are those that wait and those that workers run
+  pub opened : AreOpened s (s.waiting ++ run_ids s.running)
+  -- a handle that was sent to, and not called since, is an active async one
+  pub pending : (id : Id) (h : HandleRecord) → handle s id ≡ Some h → h.pending ≡ true → IsActive s kind.Async id

@@ -6,8 +6,10 @@ mod once;
 mod phase_order;
 mod pool;
 mod reached;
+mod refused;
 
 pub use once::closes_once;
 pub use phase_order::documented_order;
 pub use pool::pool_follows;
 pub use reached::lists_agree;
+pub use refused::orders_refuse;

@@ -7,7 +7,7 @@ ghost use Rattle.uv_order.specs.Documented.{Documented};
 
 /// For every script and every list of steps, the lines that the steps append are in the documented order. It does nothing, and
 /// is called for its clause.
-#[tactic(auto, using(crate::proofs::Follows::documented))]
+#[tactic(auto, using(crate::proofs::Documents::documented))]
 pub fn documented_order()
     ensures { (p : Program) (es : List Event) → Documented p (history p es) }
 {}

@@ -11,7 +11,7 @@ use Rattle.uv_model.specs.After.{seen_by, lines}
 use Rattle.uv_model.proofs.Runs.{length-seen_by}
 use Rattle.uv_order.proofs.Histories.{lines-history}
 use Rattle.uv_order.specs.Once.{Once}
-use Rattle.uv_order.proofs.Follows.{documented}
+use Rattle.uv_order.proofs.Documents.{documented}
 use Rattle.uv_order.proofs.ClosesOnce.{once}
 use Rattle.uv_session.specs.Shown.{Shown, IsDocumented}
 

@@ -1,0 +1,179 @@
+-- Whether the loop is alive by its lists is whether it is by what its slots hold.
+use Rattle.std.proofs.Common.{◌≡◌, ℕ, zero, suc, ◌==◌, ◌&&◌, ◌||◌, List, [], ◌∷◌, ◌++◌, Bool, true, false, Option, Some, None, refl, ap, sym, ◌∙◌, if◌then◌else◌}
+use Rattle.std.specs.Prelude.{not}
+use Rattle.std.specs.List.{list_any}
+use Rattle.std.proofs.lemmas.Bool.{eq-eqb}
+use Rattle.uv_ids.specs.declared.id.Id.{Id}
+use Rattle.uv_ids.specs.declared.due.Due.{Due}
+use Rattle.uv_ids.specs.declared.phase.Mode.{Mode}
+use Rattle.uv_ids.specs.declared.phase.Mode.TheVariants.{Default, Once, Nowait}
+use Rattle.uv_records.specs.Handles.{keeps_alive}
+use Rattle.uv_records.specs.declared.slot.Slot.{Slot}
+use Rattle.uv_records.specs.Slots.{held_in}
+use Rattle.uv_work.specs.Requests.{is_open}
+use Rattle.uv_model.specs.declared.content.Content.{Content}
+use Rattle.uv_model.specs.declared.content.Content.TheVariants as content
+use Rattle.uv_model.specs.declared.request.Request.{Request}
+use Rattle.uv_model.specs.Content.{content_keeps, request_in}
+use Rattle.uv_model.specs.Ids.{has_some}
+use Rattle.uv_model.specs.State.{State}
+use Rattle.uv_model.specs.Timeout.{is_alive, poll_timeout_by, until_first}
+use Rattle.uv_model.specs.Next.{goes}
+use Rattle.uv_order.specs.Active.{has_id}
+use Rattle.uv_order.specs.Alive.{is_kept_by, has_handle, has_run, has_request, closes_some, lives, until_due, waits, may_wait}
+use Rattle.uv_order.proofs.IdLists.{itself}
+use Rattle.uv_order.specs.Active.{run_ids}
+use Rattle.uv_order.proofs.Works.{asked_at, AllAsk, IsOpen, HasEnded}
+use Rattle.uv_order.proofs.Working.{Working}
+
+-- ---- words
+
+either_way : (a b : Bool) → (a ≡ true → b ≡ true) → (b ≡ true → a ≡ true) → a ≡ b
+either_way true b f g = sym (f refl)
+either_way false true f g = g refl
+either_way false false f g = refl
+
+or_true : (a : Bool) → (a || true) ≡ true
+or_true true = refl
+or_true false = refl
+
+or_assoc : (a b c : Bool) → ((a || b) || c) ≡ (a || (b || c))
+or_assoc true b c = refl
+or_assoc false b c = refl
+
+-- ---- what a slot holds is a handle or a request
+
+abbrev is_asked : Option Content → Bool
+is_asked None = false
+is_asked (Some (content.Handle h)) = false
+is_asked (Some (content.Request r)) = true
+
+abbrev any_asked : List (Slot Content) → Bool
+any_asked slots = list_any (λ (slot : Slot Content). is_asked slot.content) slots
+
+one_split : (c : Option Content) (x a b : Bool) → x ≡ (a || b) → (content_keeps c || x) ≡ ((is_kept_by c || a) || (is_asked c || b))
+one_split None x a b e = e
+one_split (Some (content.Handle h)) x a b e =
+    ap (λ (y : Bool). keeps_alive h || y) e ∙ sym (or_assoc (keeps_alive h) a b)
+one_split (Some (content.Request r)) x a b e = sym (or_true a)
+
+split : (slots : List (Slot Content)) → list_any (λ (slot : Slot Content). content_keeps slot.content) slots
+    ≡ (list_any (λ (slot : Slot Content). is_kept_by slot.content) slots || any_asked slots)
+split [] = refl
+split (x ∷ xs) = one_split x.content _ _ _ (split xs)
+
+-- ---- the requests that slots hold
+
+record Found (slots : List (Slot Content)) : Type 0 where
+  id : Id
+  request : Request
+  holds : asked_at slots id ≡ Some request
+
+found_here : (x : Slot Content) (xs : List (Slot Content)) (c : Option Content) → x.content ≡ c → is_asked c ≡ true → Found (x ∷ xs)
+found_here x xs None e f = absurd (cc f)
+found_here x xs (Some (content.Handle h)) e f = absurd (cc f)
+found_here x xs (Some (content.Request r)) e f = record {
+  id = record { slot = 0; generation = x.generation };
+  request = r;
+  holds = rw (eq-eqb x.generation x.generation refl) (ap request_in e);
+}
+
+found : (slots : List (Slot Content)) → any_asked slots ≡ true → Found slots
+found [] e = cc e
+found (x ∷ xs) e = at (is_asked x.content) refl (found xs) e where
+  at : (b : Bool) → is_asked x.content ≡ b → (any_asked xs ≡ true → Found xs) → (b || any_asked xs) ≡ true → Found (x ∷ xs)
+  at true f more h = found_here x xs x.content refl f
+  at false f more h =
+      let r = more h in
+      record { id = record { slot = suc r.id.slot; generation = r.id.generation }; request = r.request; holds = r.holds }
+
+asked_content : (c : Option Content) (r : Request) → request_in c ≡ Some r → is_asked c ≡ true
+asked_content None r e = cc e
+asked_content (Some (content.Handle h)) r e = cc e
+asked_content (Some (content.Request x)) r e = refl
+
+asked_slot : (x : Slot Content) (id : Id) (r : Request) → request_in (held_in id x) ≡ Some r → is_asked x.content ≡ true
+asked_slot x id r e = at (x.generation == id.generation) e where
+  at : (b : Bool) → request_in (if b then x.content else None) ≡ Some r → is_asked x.content ≡ true
+  at true f = asked_content x.content r f
+  at false f = cc f
+
+is_any : (slots : List (Slot Content)) (n g : ℕ) (r : Request) → asked_at slots (record { slot = n; generation = g }) ≡ Some r →
+    any_asked slots ≡ true
+is_any [] n g r e = cc e
+is_any (x ∷ xs) zero g r e = rw (asked_slot x (record { slot = zero; generation = g }) r e) refl
+is_any (x ∷ xs) (suc n) g r e = rw (is_any xs n g r e) (or_true (is_asked x.content))
+
+-- ---- lists with members
+
+some_of : (ids : List Id) (id : Id) → has_id ids id ≡ true → has_some ids ≡ true
+some_of [] id e = cc e
+some_of (x ∷ xs) id e = refl
+
+record First (ids : List Id) : Type 0 where
+  id : Id
+  on : has_id ids id ≡ true
+
+first : (ids : List Id) → has_some ids ≡ true → First ids
+first [] e = cc e
+first (x ∷ xs) e = record { id = x; on = rw (itself x x refl) refl }
+
+some_both : (xs ys : List Id) → has_some (xs ++ ys) ≡ (has_some xs || has_some ys)
+some_both [] ys = refl
+some_both (x ∷ xs) ys = refl
+
+some_runs : (running : List (Option Id)) → has_some (run_ids running) ≡ has_run running
+some_runs [] = refl
+some_runs (None ∷ running) = some_runs running
+some_runs (Some id ∷ running) = refl
+
+or_left : (a b : Bool) → a ≡ true → (a || b) ≡ true
+or_left a b e = rw e refl
+
+or_right : (a b : Bool) → b ≡ true → (a || b) ≡ true
+or_right a b e = rw e (or_true a)
+
+-- those of both lists are all requests that are held
+listed : (slots : List (Slot Content)) (open_ones ended : List Id) → AllAsk slots IsOpen open_ones → AllAsk slots HasEnded ended →
+    (has_some open_ones || has_some ended) ≡ any_asked slots
+listed slots open_ones ended j k = either_way _ _ (held (has_some open_ones) refl) (λ e. on (found slots e)) where
+  held : (b : Bool) → has_some open_ones ≡ b → (b || has_some ended) ≡ true → any_asked slots ≡ true
+  held true f e = let m = first open_ones f in let a = j.each m.id m.on in is_any slots m.id.slot m.id.generation a.request a.holds
+  held false f e = let m = first ended e in let a = k.each m.id m.on in is_any slots m.id.slot m.id.generation a.request a.holds
+
+  on : Found slots → (has_some open_ones || has_some ended) ≡ true
+  on r = by (is_open r.request.outcome) refl where
+    by : (b : Bool) → is_open r.request.outcome ≡ b → (has_some open_ones || has_some ended) ≡ true
+    by true f = or_left _ _ (some_of open_ones r.id (j.all r.id (record { request = r.request; holds = r.holds; fits = f })))
+    by false f = or_right _ _ (some_of ended r.id (k.all r.id (record { request = r.request; holds = r.holds; fits = f })))
+
+-- ---- the loop
+
+pub lives_is : (s : State) → Working s → lives s ≡ is_alive s
+lives_is s w =
+    let lists : has_request s ≡ any_asked s.arena.slots =
+    ap (λ (b : Bool). (has_some s.waiting || b) || (has_some s.done.list || has_some s.done.yet)) (sym (some_runs s.running))
+    ∙ ap (λ (b : Bool). b || (has_some s.done.list || has_some s.done.yet)) (sym (some_both s.waiting (run_ids s.running)))
+    ∙ ap (λ (b : Bool). has_some (s.waiting ++ run_ids s.running) || b) (sym (some_both s.done.list s.done.yet))
+    ∙ listed s.arena.slots _ _ w.open_ones w.ended in
+    ap (λ (b : Bool). has_handle s || (b || closes_some s)) lists ∙ sym (or_assoc (has_handle s) (any_asked s.arena.slots) (closes_some s))
+    ∙ ap (λ (b : Bool). b || closes_some s) (sym (split s.arena.slots))
+
+pub goes_is : (s : State) → lives s ≡ is_alive s → (lives s && not s.stop_flag) ≡ goes s
+goes_is s e = ap (λ (b : Bool). b && not s.stop_flag) e
+
+until_is : (time : ℕ) (timers : List (Due × Id)) → until_first time timers ≡ until_due time timers
+until_is time [] = refl
+until_is time (t ∷ ts) = refl
+
+waits_is : (s : State) (timers : List (Due × Id)) → lives s ≡ is_alive s → poll_timeout_by s timers Default ≡ waits s timers
+waits_is s timers e =
+    ap (λ (n : Option ℕ). if s.stop_flag then Some 0 else (if not (is_alive s) then Some 0 else (if has_some s.idle.list || has_some s.idle.yet
+    then Some 0 else (if closes_some s then Some 0 else n)))) (until_is s.time timers)
+    ∙ ap (λ (b : Bool). if s.stop_flag then Some 0 else (if not b then Some 0 else (if has_some s.idle.list || has_some s.idle.yet
+    then Some 0 else (if closes_some s then Some 0 else until_due s.time timers)))) (sym e)
+
+pub may_wait_is : (s : State) (timers : List (Due × Id)) (m : Mode) → lives s ≡ is_alive s → poll_timeout_by s timers m ≡ may_wait s timers m
+may_wait_is s timers Default e = waits_is s timers e
+may_wait_is s timers Once e = ap (λ (n : Option ℕ). if s.idled then Some 0 else n) (waits_is s timers e)
+may_wait_is s timers Nowait e = refl

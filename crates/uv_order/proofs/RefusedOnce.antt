@@ -1,0 +1,126 @@
+-- What once refuses.
+use Rattle.std.proofs.Common.{◌≡◌, ◌||◌, List, [], ◌∷◌, ◌++◌, Bool, true, false, Option, Some, None, option_map, refl, ap, sym, subst, ◌∙◌}
+use Rattle.std.proofs.lemmas.Bool.{both_ways}
+use Rattle.uv_ids.specs.declared.id.Id.{Id}
+use Rattle.uv_ids.specs.declared.id.Var.{Var}
+use Rattle.uv_ids.specs.declared.code.Answer.{Answer}
+use Rattle.uv_ids.specs.declared.code.Code.TheVariants.{Ok as Success}
+use Rattle.uv_ids.specs.declared.code.Answer.TheVariants as answer
+use Rattle.uv_ids.specs.declared.seen.Seen.{Seen}
+use Rattle.uv_ids.specs.declared.seen.Seen.TheVariants as seen
+use Rattle.uv_script.specs.declared.op.Op.{Op}
+use Rattle.uv_script.specs.declared.op.Op.TheVariants as op
+use Rattle.uv_script.specs.Program.{Program, op_at}
+use Rattle.uv_order.specs.Once.{cancels, cancelled_by, is_cancel_line, has_cancel_line, CancelSays, is_take_line, has_take_line, is_after_line, has_after_line, OpSays, MayFollow, OnceFrom}
+use Rattle.uv_order.specs.Refused.{RefusedOnce}
+use Rattle.uv_order.proofs.IdLists.{same}
+
+-- these lines, the last one first
+turned : List Seen → List Seen → List Seen
+turned past [] = past
+turned past (l ∷ ls) = turned (l ∷ past) ls
+
+-- a line may follow those before it
+follows : (p : Program) (before ls : List Seen) (past : List Seen) (l : Seen) → OnceFrom p past (before ++ l ∷ ls) → MayFollow p
+    (turned past before) l
+unfolding turned
+follows p [] ls past l h = h.0
+follows p (x ∷ before) ls past l h = follows p before ls (x ∷ past) l h.1
+
+-- a take among these lines, or those before them, is one among all
+or_swap : (a b c : Bool) → ((a || b) || c) ≡ true → (b || (a || c)) ≡ true
+or_swap true true c e = refl
+or_swap true false c e = refl
+or_swap false true c e = refl
+or_swap false false c e = e
+
+taken : (past before : List Seen) (id : Id) → (has_take_line before id || has_take_line past id) ≡ true → has_take_line (turned past before) id ≡ true
+unfolding turned
+taken past [] id e = e
+taken past (x ∷ before) id e =
+    taken (x ∷ past) before id (or_swap (is_take_line x id) (has_take_line before id) (has_take_line past id) e)
+
+called : (past before : List Seen) (id : Id) → (has_after_line before id || has_after_line past id) ≡ true → has_after_line
+    (turned past before) id ≡ true
+unfolding turned
+called past [] id e = e
+called past (x ∷ before) id e =
+    called (x ∷ past) before id (or_swap (is_after_line x id) (has_after_line before id) (has_after_line past id) e)
+
+cancelled : (p : Program) (past before : List Seen) (id : Id) → (has_cancel_line p before id || has_cancel_line p past id) ≡ true →
+    has_cancel_line p (turned past before) id ≡ true
+unfolding turned
+cancelled p past [] id e = e
+cancelled p past (x ∷ before) id e =
+    cancelled p (x ∷ past) before id (or_swap (is_cancel_line p x id) (has_cancel_line p before id) (has_cancel_line p past id) e)
+
+-- a cancel that is accepted is the first one of its request
+says_first : (p : Program) (past : List Seen) (v : Var) (a : Answer) (id : Id) → CancelSays p past v a → cancels (op.Cancel v) a id ≡ true →
+    has_cancel_line p past id ≡ false
+says_first p past v (answer.Cancelled i) id h e = ap (has_cancel_line p past) (sym (same i id e)) ∙ h.once
+says_first p past v (answer.Code c) id h e = cc e
+says_first p past v (answer.Id i) id h e = cc e
+says_first p past v (answer.Number n) id h e = cc e
+says_first p past v (answer.Flag b) id h e = cc e
+says_first p past v (answer.Timeout t) id h e = cc e
+
+op_first : (p : Program) (past : List Seen) (o : Option Op) (a : Answer) (id : Id) → OpSays p past o a →
+    cancelled_by (option_map (λ (x : Op). record { op = x; answer = a }) o) id ≡ true → has_cancel_line p past id ≡ false
+op_first p past None a id h e = cc e
+op_first p past (Some (op.Cancel v)) a id h e = says_first p past v a id h e
+op_first p past (Some (op.Init v q)) a id h e = cc e
+op_first p past (Some (op.Queue v task)) a id h e = cc e
+op_first p past (Some (op.Start v timeout repeat)) a id h e = cc e
+op_first p past (Some (op.StartWatcher v)) a id h e = cc e
+op_first p past (Some (op.Stop v)) a id h e = cc e
+op_first p past (Some (op.Again v)) a id h e = cc e
+op_first p past (Some (op.SetRepeat v n)) a id h e = cc e
+op_first p past (Some (op.DueIn v)) a id h e = cc e
+op_first p past (Some (op.Close v)) a id h e = cc e
+op_first p past (Some (op.Ref v)) a id h e = cc e
+op_first p past (Some (op.Unref v)) a id h e = cc e
+op_first p past (Some (op.HasRef v)) a id h e = cc e
+op_first p past (Some (op.IsActive v)) a id h e = cc e
+op_first p past (Some (op.IsClosing v)) a id h e = cc e
+op_first p past (Some (op.Send v)) a id h e = cc e
+op_first p past (Some op.StopLoop) a id h e = cc e
+op_first p past (Some op.UpdateTime) a id h e = cc e
+op_first p past (Some op.Now) a id h e = cc e
+op_first p past (Some op.IsAlive) a id h e = cc e
+op_first p past (Some op.Timeout) a id h e = cc e
+op_first p past (Some op.CloseLoop) a id h e = cc e
+
+line_first : (p : Program) (past : List Seen) (l : Seen) (id : Id) → MayFollow p past l → is_cancel_line p l id ≡ true →
+    has_cancel_line p past id ≡ false
+line_first p past (seen.Cancel v a) id h e = says_first p past v a id h e
+line_first p past (seen.Op place a) id h e = op_first p past (op_at p place) a id h e
+line_first p past (seen.Call v i) id h e = cc e
+line_first p past (seen.After digest v i) id h e = cc e
+line_first p past (seen.Closed v i) id h e = cc e
+line_first p past (seen.Run m) id h e = cc e
+line_first p past (seen.Section word) id h e = cc e
+line_first p past (seen.Poll timeout) id h e = cc e
+line_first p past (seen.End alive) id h e = cc e
+line_first p past (seen.Take n v i) id h e = cc e
+line_first p past (seen.Finish n v i) id h e = cc e
+line_first p past (seen.Send v code) id h e = cc e
+line_first p past (seen.Tick ms) id h e = cc e
+
+or_false : (a : Bool) → a ≡ true → (a || false) ≡ true
+or_false a e = rw e refl
+
+pub refused : (p : Program) (before more : List Seen) → RefusedOnce p before more
+refused p before more = record {
+  lost_result = λ v id e h. both_ways (has_take_line (turned [] before) id) (follows p before more [] (seen.After None v id) h).says
+      (taken [] before id (or_false _ e));
+  late_take = λ k v id e h. both_ways (has_after_line (turned [] before) id) (follows p before more [] (seen.Take k v id) h).1
+      (called [] before id (or_false _ e));
+  bare_ok = λ v h. follows p before more [] (seen.Cancel v (answer.Code Success)) h;
+  bare_ok_op = λ v place e h.
+      subst (λ (o : Option Op). OpSays p (turned [] before) o (answer.Code Success)) e
+      (follows p before more [] (seen.Op place (answer.Code Success)) h);
+  second_cancel = λ l id e f h. both_ways (has_cancel_line p (turned [] before) id)
+      (line_first p (turned [] before) l id (follows p before more [] l h) e) (cancelled p [] before id (or_false _ f));
+  late_cancel = λ v id e h. both_ways (has_take_line (turned [] before) id) (follows p before more [] (seen.Cancel v (answer.Cancelled id)) h).waits
+      (taken [] before id (or_false _ e));
+}
