@@ -125,7 +125,9 @@ fn fill<R: Abort>(rt: &R, slots: &mut Slots<u64>) {
 
 /// The first slot is freed and taken again, and both are taken back.
 fn reuse<R: Abort>(rt: &R, slots: &mut Slots<u64>) {
-    assert!(rt; !slots.on_list(FIRST));
+    assert!(rt;
+        !slots.on_list(FIRST) && slots.next(FIRST).is_none() && slots.prev(FIRST).is_none()
+    );
     assert!(rt; there_and_back(slots, FIRST, 73) == Some((70, AGAIN)));
     assert!(rt; slots.get(FIRST) == Some(70) && slots.get(AGAIN).is_none());
     assert!(rt; slots.first_free().is_none() && slots.last_free().is_none());
@@ -144,6 +146,7 @@ fn takes_a_reused_slot_back(rt: HostRuntime) -> Result<(), Fail> {
 fn read<R: Abort>(rt: &R, slots: &mut Slots<u64>) {
     assert!(rt; has_members(slots, ListName::Idle, &[2, 0, 1, 3]));
     assert!(rt; has_turned(slots, ListName::Idle, &[3, 1, 0, 2]));
+    assert!(rt; slots.next(AGAIN).is_none() && slots.prev(AGAIN).is_none());
     unlink_and_back(slots, live(0));
     assert!(rt; has_members(slots, ListName::Idle, &[2, 0, 1, 3]));
 }

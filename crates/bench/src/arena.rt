@@ -156,11 +156,7 @@ fn listed(slots: &Slots<Content>, ids: &mut [Id]) {
     for place in ids.iter_mut() {
         if let Some(id) = next {
             *place = id;
-            next = if slots.on_list(id) {
-                slots.next(id)
-            } else {
-                None
-            };
+            next = slots.next(id);
         }
     }
 }

@@ -2,7 +2,7 @@
 ghost use Rattle.std.specs.Prelude.{◌≡◌, Option, Some, None, IfOk, IfErr, true};
 ghost use Rattle.uv_records.specs.Slots.{next_free};
 ghost use Rattle.uv_arena.specs.Image.{plain_slots, on_list};
-ghost use Rattle.uv_work.specs.Requests.{is_open, cancel_refusal};
+ghost use Rattle.uv_work.specs.Requests.{is_open, reopened, cancel_refusal};
 ghost use Rattle.uv_work.specs.Pool.{waits};
 ghost use Rattle.uv_requests.specs.Working.{working, found, request_in, pool_of, IsWork};
 ghost use Rattle.uv_requests.specs.Undo.{queue_undone, cancel_undone, CanUndoQueue, CanUndoCancel};
@@ -17,21 +17,20 @@ use uv_records::ListName;
 use uv_work::RequestRecord;
 
 impl Requests {
-    /// Puts an open request in a slot, behind those that wait (uv_queue_work).
+    /// Puts a request in a slot, open, behind those that wait (uv_queue_work).
     pub fn queue<T: HoldsWork>(
         &mut self,
         slots: &mut Slots<T>,
         request: RequestRecord,
     ) -> Result<(Id, QueueUndo), Full>
-        requires work { IsWork T.held_request (working slots.old self.old) }
-        requires opened { is_open request.outcome ≡ true }
+        requires { IsWork T.held_request (working slots.old self.old) }
         ensures ok { IfOk result (λ r. IsQueued T.held_request T.of_request
-            (working slots.old self.old) (working slots.new self.new) request r.0 r.1) }
+            (working slots.old self.old) (working slots.new self.new) (reopened request) r.0 r.1) }
         ensures full { IfErr result (λ _. (next_free (plain_slots slots.old) ≡ None)
             × (working slots.new self.new ≡ working slots.old self.old)) }
     {
         let count = self.open_requests();
-        match slots.insert(T::of(request)) {
+        match slots.insert(T::of(request.reopened())) {
             Err(full) => Err(full),
             Ok((id, inserted)) => {
                 slots.push_back(ListName::Waiting, id);

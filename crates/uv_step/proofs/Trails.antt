@@ -1,10 +1,10 @@
 -- One step more, and one step less.
-use Rattle.std.proofs.Common.{◌≡◌, ℕ, List, [], ◌∷◌, ◌++◌, refl, sym, ap, ◌∙◌, subst}
+use Rattle.std.proofs.Common.{◌≡◌, ℕ, suc, List, [], ◌∷◌, ◌++◌, length, refl, sym, ap, ◌∙◌, subst, append_assoc, append-nil}
 use Rattle.uv_step.specs.declared.record.Record.{Record}
 use Rattle.uv_step.specs.Image.{Image}
 use Rattle.uv_step.specs.Parts.{unwind}
 use Rattle.uv_step.specs.Undo.{CanUnwind}
-use Rattle.uv_step.specs.Trail.{unwound, CanGoBack, AreSteps}
+use Rattle.uv_step.specs.Trail.{Walk, unwound, CanGoBack, AreSteps, AddEach, AddsAll}
 
 module _ {P : Type 0} where
   pub unwound-push : (rs : List (Record P)) (r : Record P) (i : Image P) → unwound (rs ++ r ∷ []) i ≡ unwound rs (unwind r i)
@@ -20,3 +20,21 @@ module _ {P : Type 0} where
   steps_back room i k (r ∷ rs) s =
       let rest = steps_back room s.0 k rs s.3 in
       (ap (unwind r) rest.0 ∙ s.1, (subst (CanUnwind room r) (sym rest.0) s.2, rest.1))
+
+  -- steps one after another, from any length on
+  pub adds_all : (old new : Walk P) (ws : List (Walk P)) → AddEach old ws new → AddsAll old new (length ws)
+  adds_all old new [] same = record {
+    added = [];
+    count = refl;
+    records = ap (λ (w : Walk P). w.records) same ∙ sym (append-nil old.records);
+    back = ap (λ (w : Walk P). w.image) same;
+  }
+  adds_all old new (w ∷ ws) a =
+      let rest = adds_all w new ws a.1 in
+      record {
+        added = a.0.added ∷ rest.added;
+        count = ap suc rest.count;
+        records = rest.records ∙ ap (λ (rs : List (Record P)). rs ++ rest.added) a.0.records
+            ∙ append_assoc old.records (a.0.added ∷ []) rest.added;
+        back = ap (unwind a.0.added) rest.back ∙ a.0.back;
+      }

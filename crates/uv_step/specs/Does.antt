@@ -73,7 +73,7 @@ pub record IsShut (room : ℕ) (old new : Timed Content) (d : Id) (u : CollectUn
   pub changed : IsRescheduled handle_in Handle room old (with_arena mid new) d (becoming from (closed from) None) u.timer
   pub listed : IsPushed mid new.handles.arena Closing d (d.slot ∷ arena.members mid Closing)
 
--- a watcher is started: one that is active stays as it is
+-- a watcher is started: one that is active, or on a list, stays as it is
 abbrev pub StartsBy : Counted Content → Counted Content → Id → Change → Type 0
 StartsBy old new d change.Nothing = IsActive handle_in Handle old new d
 StartsBy old new d (change.Enlisted u) = IsStarted handle_in Handle old new d u

@@ -1,5 +1,5 @@
 -- Steps in a row, and taking all of them back.
-use Rattle.std.specs.Prelude.{◌≡◌, ℕ, List, [], ◌∷◌, ◌++◌}
+use Rattle.std.specs.Prelude.{◌≡◌, ℕ, List, [], ◌∷◌, ◌++◌, length}
 use Rattle.uv_step.specs.declared.record.Record.{Record}
 use Rattle.uv_step.specs.Image.{Image}
 use Rattle.uv_step.specs.Parts.{unwind}
@@ -31,6 +31,19 @@ module _ {P : Type 0} where
     pub added : Record P
     pub records : new.records ≡ old.records ++ added ∷ []
     pub back : unwind added new.image ≡ old.image
+
+  -- steps one after another, each from the memory that the last one left
+  abbrev pub AddEach : Walk P → List (Walk P) → Walk P → Type 0
+  AddEach old [] new = new ≡ old
+  AddEach old (w ∷ ws) new = AddsOne old w × AddEach w ws new
+
+  -- what so many steps added: their records stand behind the older ones, and all of them unwound, the last one first, give back the very
+  -- image from before the first of these steps
+  pub record AddsAll (old new : Walk P) (steps : ℕ) : Type 0 where
+    pub added : List (Record P)
+    pub count : length added ≡ steps
+    pub records : new.records ≡ old.records ++ added
+    pub back : unwound added new.image ≡ old.image
 
   -- the last step is taken back
   pub record DropsOne (old new : Walk P) : Type 0 where

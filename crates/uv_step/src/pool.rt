@@ -1,9 +1,9 @@
 //! Requests are queued, taken, finished, cancelled, and called back.
-ghost use Rattle.std.specs.Prelude.{◌≡◌, Option, Some, None, IfOk, IfErr, IfSome, IfNone, [], true};
+ghost use Rattle.std.specs.Prelude.{◌≡◌, Option, Some, None, IfOk, IfErr, IfSome, IfNone, []};
 ghost use Rattle.uv_records.specs.declared.lists.ListName.TheVariants.{DoneYet};
 ghost use Rattle.uv_records.specs.Slots.{next_free};
 ghost use Rattle.uv_arena.specs.Image.{plain_slots, members};
-ghost use Rattle.uv_work.specs.Requests.{is_open, cancel_refusal};
+ghost use Rattle.uv_work.specs.Requests.{reopened, cancel_refusal};
 ghost use Rattle.uv_work.specs.Pool.{waits};
 ghost use Rattle.uv_requests.specs.Working.{found, pool_of};
 ghost use Rattle.uv_requests.specs.Calls.{IsQueued, IsTaken, IsFinished, IsCancelled, IsBegun, IsCollected, RefusesTake, RefusesFinish};
@@ -22,13 +22,12 @@ use uv_ids::{Code, Id, Why};
 use uv_work::{RequestRecord, WorkResult};
 
 impl<P: Copy> Memory<P> {
-    /// Puts an open request in a slot, behind those that wait (uv_queue_work).
+    /// Puts a request in a slot, open, behind those that wait (uv_queue_work).
     pub fn queue(&mut self, request: RequestRecord) -> Result<Id, Full>
-        requires fit { IsFit (held self.old).image }
-        requires opened { is_open request.outcome ≡ true }
+        requires { IsFit (held self.old).image }
         ensures recorded { IfOk result (λ _. Recorded self.new.step_record (held self.old) (held self.new)) }
         ensures does { IfOk result (λ id. By queued (λ u. IsQueued request_in asked
-            (working_of (held self.old).image) (working_of (held self.new).image) request id u) self.new.step_record.change) }
+            (working_of (held self.old).image) (working_of (held self.new).image) (reopened request) id u) self.new.step_record.change) }
         ensures full { IfErr result (λ _. (next_free (plain_slots (held self.old).image.arena) ≡ None) × Untouched self.old self.new) }
     {
         self.slots.is_sound();

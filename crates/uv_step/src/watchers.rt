@@ -1,13 +1,12 @@
 //! Watchers are started and stopped, and called in their sections.
-ghost use Rattle.std.specs.Prelude.{◌≡◌, Option, Some, None, IfOk, IfErr, IfSome, IfNone, [], false};
+ghost use Rattle.std.specs.Prelude.{◌≡◌, Option, Some, None, IfOk, IfErr, IfSome, IfNone, []};
 ghost use Rattle.uv_records.specs.declared.handle.HandleRecord.{HandleRecord};
 ghost use Rattle.uv_records.specs.declared.lists.ListName.TheVariants.{Closing, ClosingYet};
-ghost use Rattle.uv_records.specs.Handles.{is_timer};
 ghost use Rattle.uv_records.specs.Lists.{yet_of};
 ghost use Rattle.uv_records.specs.Refusals.{refusal, start_watcher_refusal, stop_refusal};
-ghost use Rattle.uv_arena.specs.Image.{members, on_list};
+ghost use Rattle.uv_arena.specs.Image.{members};
 ghost use Rattle.uv_arena.specs.Calls.{IsSpliced};
-ghost use Rattle.uv_handle.specs.Counted.{found, record_at};
+ghost use Rattle.uv_handle.specs.Counted.{found};
 ghost use Rattle.uv_handle.specs.Changes.{IsTaken};
 ghost use Rattle.uv_watch.specs.Watch.{IsStopped, IsBegun, IsMovedOn};
 ghost use Rattle.uv_step.specs.declared.content.Content.{Content};
@@ -26,11 +25,9 @@ use uv_ids::{Code, Id};
 use uv_records::{ListName, WatcherKind};
 
 impl<P: Copy> Memory<P> {
-    /// Starts an idle, prepare or check handle (uv_idle_start and the like). One that is active stays as it is.
+    /// Starts an idle, prepare or check handle (uv_idle_start and the like). One that is active, or on a list, stays as it is.
     pub fn start_watcher(&mut self, id: Id) -> Result<(), Code>
-        requires fit { IsFit (held self.old).image }
-        requires loose { (h : HandleRecord) → record_at handle_in (held self.old).image.arena id ≡ Some h → start_watcher_refusal h ≡ None
-            → h.active ≡ false → on_list (held self.old).image.arena id ≡ false }
+        requires { IsFit (held self.old).image }
         ensures recorded { IfOk result (λ _. Recorded self.new.step_record (held self.old) (held self.new)) }
         ensures does { IfOk result (λ _. StartsBy
             (counted_of (held self.old).image) (counted_of (held self.new).image) id self.new.step_record.change) }
@@ -52,8 +49,7 @@ impl<P: Copy> Memory<P> {
 
     /// Stops an idle, prepare or check handle (uv_idle_stop and the like).
     pub fn stop_watcher(&mut self, id: Id) -> Result<(), Code>
-        requires fit { IsFit (held self.old).image }
-        requires no_timer { (h : HandleRecord) → record_at handle_in (held self.old).image.arena id ≡ Some h → is_timer h.kind ≡ false }
+        requires { IsFit (held self.old).image }
         ensures recorded { IfOk result (λ _. Recorded self.new.step_record (held self.old) (held self.new)) }
         ensures does { IfOk result (λ _. By delisted (λ u. (h : HandleRecord) × (stop_refusal h ≡ None) × IsStopped handle_in handle
             (counted_of (held self.old).image) (counted_of (held self.new).image) id h u) self.new.step_record.change) }

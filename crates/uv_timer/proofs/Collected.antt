@@ -29,6 +29,7 @@ module _ {X : Type 0} (read : X → Option HandleRecord) (make : HandleRecord �
     contents = λ e ne. p.slots.contents e ∙ r.handles.contents e ne;
     kept = λ e ne. p.kept e ne ∙ r.handles.kept e ne;
     counts = r.handles.counts ∙ sym (same_count read make k j p.slots);
+    heap = r.heap;
     timers = r.timers;
     times = r.times;
     undone = ap (λ z. timer_undone read make u (with_arena z (timed j m b t))) p.undone ∙ r.undone;

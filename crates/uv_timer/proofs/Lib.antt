@@ -1,3 +1,4 @@
 mod Collected
+mod Firsts
 mod Order
 mod Repeating

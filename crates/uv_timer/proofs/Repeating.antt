@@ -1,5 +1,6 @@
 -- Whether it repeats or not, it is the timer that it was.
-use Rattle.std.proofs.Common.{◌≡◌, Bool, true, false, ◌==◌, Option, None, Some, IfSome, refl, if◌then◌else◌}
+use Rattle.std.proofs.Common.{◌≡◌, ◌≢◌, Bool, true, false, ◌==◌, None, IfSome, refl, sym, ◌∙◌, if◌then◌else◌}
+use Rattle.std.proofs.lemmas.Bool.{eq-eqb, false≢true}
 use Rattle.uv_records.specs.declared.handle.HandleRecord.{HandleRecord}
 use Rattle.uv_records.specs.Handles.{stopped}
 use Rattle.uv_timer.specs.declared.change.Times.{Times}
@@ -17,7 +18,15 @@ again_from t h = at (h.repeat == 0) where
   at true = refl
   at false = refl
 
--- what holds anyway holds where it is due
-pub whether_due : {A : Type 0} {P : Type 0} (due : Option A) → P → IfSome due (λ _. P)
-whether_due None p = tt
-whether_due (Some at) p = p
+-- what holds where it repeats holds where it is due
+pub firing_due : {P : Type 0} (t : Times) (h : HandleRecord) → (h.repeat ≢ 0 → P) → IfSome (firing t h).due (λ _. P)
+firing_due {P = P} t h p = at (h.repeat == 0) refl where
+  at : (x : Bool) → (h.repeat == 0) ≡ x → IfSome (if x then becoming h h None else starting t h h.repeat h.repeat).due (λ _. P)
+  at true e = tt
+  at false e = p (λ none. false≢true (sym e ∙ eq-eqb h.repeat 0 none))
+
+pub again_due : {P : Type 0} (t : Times) (h : HandleRecord) → (h.repeat ≢ 0 → P) → IfSome (starting_again t h).due (λ _. P)
+again_due {P = P} t h p = at (h.repeat == 0) refl where
+  at : (x : Bool) → (h.repeat == 0) ≡ x → IfSome (if x then becoming h (stopped h) None else starting t h h.repeat h.repeat).due (λ _. P)
+  at true e = tt
+  at false e = p (λ none. false≢true (sym e ∙ eq-eqb h.repeat 0 none))

@@ -8,11 +8,12 @@ use Rattle.uv_heap.specs.Order.{IsInOrder}
 use Rattle.uv_timer.specs.declared.change.Times.{Times}
 use Rattle.uv_timer.specs.declared.undo.SetUndo.{SetUndo}
 use Rattle.uv_timer.specs.Timed.{unset, CanUnset, undrawn, put_back, CanPutBack}
-use Rattle.uv_timer.specs.Timers.{cleared, with_due, drawn}
+use Rattle.uv_timer.specs.Timers.{off_heap, on_heap, cleared, with_due, drawn}
 
 -- the heap has no timer of the slot any more
 pub record IsUnhooked (slot : ℕ) (old new : Heap) (u : Option RemoveUndo) : Type 0 where
   pub absent : place_in new.array slot ≡ None
+  pub array : new.array ≡ off_heap slot old.array
   pub timers : (ts : List Entry) → IsInOrder old.array ts → IsInOrder new.array (cleared slot ts)
   pub room : new.room ≡ old.room
   pub undone : put_back u new.array ≡ old.array
@@ -20,6 +21,7 @@ pub record IsUnhooked (slot : ℕ) (old new : Heap) (u : Option RemoveUndo) : Ty
 
 -- the timer of the slot is on the heap and has drawn a start number, if it is due at some time
 pub record IsHooked (slot : ℕ) (due : Option Due) (old new : Heap) (before after : Times) (u : Option SetUndo) : Type 0 where
+  pub array : new.array ≡ on_heap due slot old.array
   pub timers : (ts : List Entry) → IsInOrder old.array ts → IsInOrder new.array (with_due due slot ts)
   pub times : after ≡ drawn due before
   pub room : new.room ≡ old.room

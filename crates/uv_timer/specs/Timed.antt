@@ -1,5 +1,5 @@
 -- All that the calls of timers change; what takes them back, and when that may be asked: where all is as the call left it.
-use Rattle.std.specs.Prelude.{ℕ, List, Option, Some, None}
+use Rattle.std.specs.Prelude.{ℕ, ◌<◌, ◌^◌, ◌-◌, List, Option, Some, None}
 use Rattle.uv_records.specs.declared.handle.HandleRecord.{HandleRecord}
 use Rattle.uv_arena.specs.Image.{Image}
 use Rattle.uv_arena.specs.Undo.{push_undone, CanUndoPush}
@@ -42,6 +42,11 @@ put_back (Some u) es = heap.removal_undone es u
 abbrev pub CanPutBack : ℕ → Option RemoveUndo → List Entry → Type 0
 CanPutBack room None es = Unit {0}
 CanPutBack room (Some u) es = heap.CanUndoRemove (record { array = es; room = room }) u
+
+-- a timer of this slot can be set: there is room for it on the heap, and a number for its start
+pub record CanSet (slot : ℕ) (heap : Heap) (times : Times) : Type 0 where
+  pub room : slot < heap.room
+  pub start : times.next_start < 2 ^ 64 - 1
 
 module _ {X : Type 0} where
   abbrev pub timed : Image X → ℕ → Heap → Times → Timed X

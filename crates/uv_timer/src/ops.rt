@@ -1,12 +1,12 @@
 //! The ops on timers.
-ghost use Rattle.std.specs.Prelude.{◌≡◌, ◌<◌, ◌^◌, ◌-◌, Option, Some, None, IfOk, IfErr};
+ghost use Rattle.std.specs.Prelude.{◌≡◌, ◌≢◌, Option, Some, None, IfOk, IfErr};
 ghost use Rattle.uv_records.specs.declared.handle.HandleRecord.{HandleRecord};
 ghost use Rattle.uv_records.specs.Dues.{due_in};
 ghost use Rattle.uv_records.specs.Handles.{repeating};
 ghost use Rattle.uv_records.specs.Refusals.{refusal, timer_refusal, start_timer_refusal, stop_refusal, again_refusal};
 ghost use Rattle.uv_handle.specs.Counted.{counted, record_at, found, IsCounted, record_undone, CanUndoRecord};
 ghost use Rattle.uv_handle.specs.Changes.{Did, Refused as RefusedRecord};
-ghost use Rattle.uv_timer.specs.Timed.{timed};
+ghost use Rattle.uv_timer.specs.Timed.{timed, CanSet};
 ghost use Rattle.uv_timer.specs.Timers.{Refused, IsStarted, IsStopped, IsStartedAgain, IsDueIn};
 
 use crate::change::{Change, Times};
@@ -18,7 +18,7 @@ use uv_heap::TimerHeap;
 use uv_ids::{Code, Id};
 
 /// Starts a timer: it is due this timeout from now, and has this repeat, both in ms (uv_timer_start). One that is active or ready
-/// is taken off the heap or the ready list first.
+/// is taken off the heap or the ready list first. Where it isn't refused, the room on the heap has to be reserved before.
 pub fn start<T: HoldsHandle>(
     handles: &mut Handles,
     slots: &mut Slots<T>,
@@ -29,8 +29,8 @@ pub fn start<T: HoldsHandle>(
     repeat: u64,
 ) -> Result<TimerUndo, Code>
     requires counts { IsCounted T.held_record (counted slots.old handles.old) }
-    requires room { id.slot < heap.old.room }
-    requires starts { times.old.next_start < 2 ^ 64 - 1 }
+    requires set { (h : HandleRecord) → record_at T.held_record slots.old id ≡ Some h → start_timer_refusal h ≡ None
+        → CanSet id.slot heap.old times.old }
     ensures ok { IfOk result (λ u. IsStarted T.held_record T.of_record heap.new.room
         (timed slots.old handles.old heap.old times.old) (timed slots.new handles.new heap.new times.new) id timeout repeat u) }
     ensures err { IfErr result (λ code. Refused T.held_record start_timer_refusal
@@ -73,7 +73,8 @@ pub fn stop<T: HoldsHandle>(
     }
 }
 
-/// Stops a timer that was ever started, and starts it again with its repeat as timeout, if it repeats (uv_timer_again).
+/// Stops a timer that was ever started, and starts it again with its repeat as timeout, if it repeats (uv_timer_again). Where it
+/// does, the room on the heap has to be reserved before.
 pub fn again<T: HoldsHandle>(
     handles: &mut Handles,
     slots: &mut Slots<T>,
@@ -82,8 +83,8 @@ pub fn again<T: HoldsHandle>(
     id: Id,
 ) -> Result<TimerUndo, Code>
     requires counts { IsCounted T.held_record (counted slots.old handles.old) }
-    requires room { id.slot < heap.old.room }
-    requires starts { times.old.next_start < 2 ^ 64 - 1 }
+    requires set { (h : HandleRecord) → record_at T.held_record slots.old id ≡ Some h → again_refusal h ≡ None → h.repeat ≢ 0
+        → CanSet id.slot heap.old times.old }
     ensures ok { IfOk result (λ u. IsStartedAgain T.held_record T.of_record heap.new.room
         (timed slots.old handles.old heap.old times.old) (timed slots.new handles.new heap.new times.new) id u) }
     ensures err { IfErr result (λ code. Refused T.held_record again_refusal

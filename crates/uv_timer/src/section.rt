@@ -1,13 +1,14 @@
 //! The timers section: all that are due are collected, and then the ready ones are called one after another.
-ghost use Rattle.std.specs.Prelude.{◌≡◌, ◌<◌, ◌^◌, ◌-◌, Some, None, IfSome, IfNone};
+ghost use Rattle.std.specs.Prelude.{◌≡◌, ◌≢◌, Some, None, IfSome, IfNone, option_map};
 ghost use Rattle.uv_ids.specs.declared.id.Id.{Id};
+ghost use Rattle.uv_records.specs.declared.handle.HandleRecord.{HandleRecord};
 ghost use Rattle.uv_records.specs.declared.lists.ListName.TheVariants.{Ready};
 ghost use Rattle.uv_records.specs.Slots.{id_of};
 ghost use Rattle.uv_arena.specs.Calls.{IsFirst};
 ghost use Rattle.uv_arena.specs.Image.{slot_at};
 ghost use Rattle.uv_handle.specs.Counted.{counted, record_at, IsCounted};
-ghost use Rattle.uv_timer.specs.Timed.{timed, collect_undone, CanUndoCollect};
-ghost use Rattle.uv_timer.specs.Timers.{IsDue, NoneIsDue, NoneIsReady, IsCollected, IsFired};
+ghost use Rattle.uv_timer.specs.Timed.{timed, CanSet, collect_undone, CanUndoCollect};
+ghost use Rattle.uv_timer.specs.Timers.{first_due, first_ready, IsDue, NoneIsDue, NoneIsReady, IsCollected, IsFired};
 
 use crate::change::{Change, Times};
 use crate::rescheduling::{reschedule, undo_reschedule};
@@ -26,6 +27,7 @@ pub fn collect_one<T: HoldsHandle>(
     times: &mut Times,
 ) -> Option<(Id, CollectUndo)>
     requires { IsCounted T.held_record (counted slots.old handles.old) }
+    ensures which { option_map (λ r. r.0) result ≡ first_due T.held_record slots.old heap.old.array times.old.time }
     ensures none { IfNone result (NoneIsDue T.held_record slots.old heap.old.array times.old.time
         × (timed slots.new handles.new heap.new times.new ≡ timed slots.old handles.old heap.old times.old)) }
     ensures some { IfSome result (λ r. IsCollected T.held_record T.of_record heap.new.room
@@ -44,6 +46,7 @@ fn first_due<T: HoldsHandle>(
     heap: &TimerHeap,
     time: u64,
 ) -> Option<(Id, HandleRecord)>
+    ensures which { option_map (λ r. r.0) result ≡ first_due T.held_record slots.now heap.now.array time }
     ensures none { IfNone result (NoneIsDue T.held_record slots.now heap.now.array time) }
     ensures some { IfSome result (λ r. IsDue T.held_record slots.now heap.now.array time r.0 r.1) }
 {
@@ -112,7 +115,7 @@ pub fn undo_collect_one<T: HoldsHandle>(
 }
 
 /// Takes the front of the ready list off it, and sets it again from now if it repeats: its id, whose callback is to be called. None,
-/// and nothing changed, where none is ready.
+/// and nothing changed, where none is ready. For one that repeats, the room on the heap has to be reserved before.
 pub fn fire_one<T: HoldsHandle>(
     handles: &mut Handles,
     slots: &mut Slots<T>,
@@ -120,8 +123,9 @@ pub fn fire_one<T: HoldsHandle>(
     times: &mut Times,
 ) -> Option<(Id, TimerUndo)>
     requires counts { IsCounted T.held_record (counted slots.old handles.old) }
-    requires room { (d : Id) → IsFirst slots.old Ready d → d.slot < heap.old.room }
-    requires starts { times.old.next_start < 2 ^ 64 - 1 }
+    requires set { (d : Id) (h : HandleRecord) → IsFirst slots.old Ready d → record_at T.held_record slots.old d ≡ Some h → h.repeat ≢ 0
+        → CanSet d.slot heap.old times.old }
+    ensures which { option_map (λ r. r.0) result ≡ first_ready T.held_record slots.old }
     ensures none { IfNone result (NoneIsReady T.held_record slots.old
         × (timed slots.new handles.new heap.new times.new ≡ timed slots.old handles.old heap.old times.old)) }
     ensures some { IfSome result (λ r. IsFired T.held_record T.of_record heap.new.room

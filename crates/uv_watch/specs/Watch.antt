@@ -1,5 +1,5 @@
 -- What holds after each call that changes a watcher.
-use Rattle.std.specs.Prelude.{◌≡◌, ◌≢◌, ℕ, Bool, true, false, not, Option, Some, None, option_map, if◌then◌else◌}
+use Rattle.std.specs.Prelude.{◌≡◌, ◌≢◌, ℕ, ◌⊎◌, Bool, true, false, not, Option, Some, None, option_map, if◌then◌else◌}
 use Rattle.uv_ids.specs.declared.id.Id.{Id}
 use Rattle.uv_records.specs.declared.handle.HandleRecord.{HandleRecord}
 use Rattle.uv_records.specs.declared.lists.ListName.{ListName}
@@ -59,12 +59,12 @@ module _ {X : Type 0} (read : X → Option HandleRecord) (make : HandleRecord �
     pub inactive : from.active ≡ false
     pub enlisted : IsEnlisted read make old new d from (activated from) (list_of kind) u
 
-  -- a watcher that is active already stays as it is
+  -- a watcher that is active already, or on a list, stays as it is
   pub record IsActive (old new : Counted X) (d : Id) : Type 0 where
     pub from : HandleRecord
     pub there : record_at read old.arena d ≡ Some from
     pub allowed : start_watcher_refusal from ≡ None
-    pub active : from.active ≡ true
+    pub active : (from.active ≡ true) ⊎ (on_list old.arena d ≡ true)
     pub same : new ≡ old
 
   abbrev pub Starts : Counted X → Counted X → Id → Option ListUndo → Type 0

@@ -1,7 +1,7 @@
 //! Starting and stopping watchers, and sends.
 ghost use Rattle.std.specs.Prelude.{◌≡◌, ℕ, Option, Some, None, IfOk, IfErr, false};
 ghost use Rattle.uv_records.specs.declared.handle.HandleRecord.{HandleRecord};
-ghost use Rattle.uv_records.specs.Handles.{sent, is_timer};
+ghost use Rattle.uv_records.specs.Handles.{sent};
 ghost use Rattle.uv_records.specs.Refusals.{refusal, start_watcher_refusal, stop_refusal, send_refusal};
 ghost use Rattle.uv_arena.specs.Image.{on_list};
 ghost use Rattle.uv_handle.specs.Counted.{counted, record_at, found, IsCounted, record_undone, enlist_undone, delist_undone, CanUndoRecord, CanUndoEnlist, CanUndoDelist};
@@ -13,16 +13,14 @@ use uv_handle::{DelistUndo, HandleRecord, Handles, HoldsHandle, ListUndo, Record
 use uv_ids::{Code, Id};
 use uv_records::WatcherKind;
 
-/// Starts an idle, prepare or check handle: it goes to the front of its list. One that is active stays as it is, and the token
-/// is None (uv_idle_start and the like).
+/// Starts an idle, prepare or check handle: it goes to the front of its list. One that is active, or on a list, stays as it is, and
+/// the token is None (uv_idle_start and the like).
 pub fn start<T: HoldsHandle>(
     handles: &mut Handles,
     slots: &mut Slots<T>,
     id: Id,
 ) -> Result<Option<ListUndo>, Code>
-    requires counts { IsCounted T.held_record (counted slots.old handles.old) }
-    requires loose { (h : HandleRecord) → record_at T.held_record slots.old id ≡ Some h → start_watcher_refusal h ≡ None → h.active ≡ false
-        → on_list slots.old id ≡ false }
+    requires { IsCounted T.held_record (counted slots.old handles.old) }
     ensures ok { IfOk result (λ o. Starts T.held_record T.of_record (counted slots.old handles.old) (counted slots.new handles.new) id o) }
     ensures err { IfErr result (λ code. Refused T.held_record T.of_record start_watcher_refusal
         (counted slots.old handles.old) (counted slots.new handles.new) id code) }
@@ -32,7 +30,7 @@ pub fn start<T: HoldsHandle>(
         Ok(handle) => match handle.start_watcher_refusal() {
             Some(code) => Err(code),
             None => {
-                if handle.active {
+                if handle.active || slots.on_list(id) {
                     Ok(None)
                 } else {
                     Ok(Some(enlist(handles, slots, id, handle)))
@@ -75,8 +73,7 @@ pub fn stop<T: HoldsHandle>(
     slots: &mut Slots<T>,
     id: Id,
 ) -> Result<DelistUndo, Code>
-    requires counts { IsCounted T.held_record (counted slots.old handles.old) }
-    requires no_timer { (h : HandleRecord) → record_at T.held_record slots.old id ≡ Some h → is_timer h.kind ≡ false }
+    requires { IsCounted T.held_record (counted slots.old handles.old) }
     ensures ok { IfOk result (λ u. (h : HandleRecord) × (stop_refusal h ≡ None) × IsStopped T.held_record T.of_record
         (counted slots.old handles.old) (counted slots.new handles.new) id h u) }
     ensures err { IfErr result (λ code. Refused T.held_record T.of_record stop_refusal

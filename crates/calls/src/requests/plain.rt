@@ -184,22 +184,13 @@ fn holds(members: &[(Id, Outcome)], id: Id) -> bool {
     false
 }
 
-/// The one after an id on its list.
-fn after(slots: &Slots<Held>, id: Id) -> Option<Id> {
-    if slots.on_list(id) {
-        slots.next(id)
-    } else {
-        None
-    }
-}
-
 fn are_waiting(slots: &Slots<Held>, ids: &[Id]) -> bool {
     let mut next = slots.first(ListName::Waiting);
     for id in ids {
         if next != Some(*id) {
             return false;
         }
-        next = after(slots, *id);
+        next = slots.next(*id);
     }
     next.is_none()
 }
@@ -214,7 +205,7 @@ fn are_done(slots: &Slots<Held>, list: ListName, members: &[(Id, Outcome)]) -> b
         if !same || next != Some(*id) {
             return false;
         }
-        next = after(slots, *id);
+        next = slots.next(*id);
     }
     next.is_none()
 }

@@ -66,30 +66,28 @@ impl<T: Copy> Slots<T> {
         }
     }
 
-    /// The one after an id on its list.
+    /// The one after an id on its list. None at the list's end, and for an id that is on no list or that nothing is held under.
     pub fn next(&self, id: Id) -> Option<Id>
-        requires { on_list self.now id ≡ true }
-        ensures next { (l : ListName) (us : List ℕ) (vs : List ℕ) → members self.now l ≡ us ++ id.slot ∷ vs → slot_of result ≡ first vs None }
+        ensures off { on_list self.now id ≡ false → result ≡ None }
+        ensures next { on_list self.now id ≡ true
+            → (l : ListName) (us : List ℕ) (vs : List ℕ) → members self.now l ≡ us ++ id.slot ∷ vs → slot_of result ≡ first vs None }
         ensures listed { IfSome result (λ d. IsListed self.now d) }
     {
         self.is_sound();
-        match self.links(id.slot).next {
-            Some(slot) => Some(self.id_at(slot)),
-            None => None,
-        }
+        let slot = self.links_on_list(id)?.next?;
+        Some(self.id_at(slot))
     }
 
-    /// The one before an id on its list.
+    /// The one before an id on its list. None at the list's front, and for an id that is on no list or that nothing is held under.
     pub fn prev(&self, id: Id) -> Option<Id>
-        requires { on_list self.now id ≡ true }
-        ensures prev { (l : ListName) (us : List ℕ) (vs : List ℕ) → members self.now l ≡ us ++ id.slot ∷ vs → slot_of result ≡ last None us }
+        ensures off { on_list self.now id ≡ false → result ≡ None }
+        ensures prev { on_list self.now id ≡ true
+            → (l : ListName) (us : List ℕ) (vs : List ℕ) → members self.now l ≡ us ++ id.slot ∷ vs → slot_of result ≡ last None us }
         ensures listed { IfSome result (λ d. IsListed self.now d) }
     {
         self.is_sound();
-        match self.links(id.slot).prev {
-            Some(slot) => Some(self.id_at(slot)),
-            None => None,
-        }
+        let slot = self.links_on_list(id)?.prev?;
+        Some(self.id_at(slot))
     }
 
     /// Whether something is held under an id, and is on a list.
@@ -105,7 +103,18 @@ impl<T: Copy> Slots<T> {
     fn is_linked(&self, id: Id) -> bool
         ensures { result ≡ on_list self.now id }
     {
-        self.get(id).is_some() && self.links_or_loose(id.slot).list.is_some()
+        self.links_on_list(id).is_some()
+    }
+
+    /// The links of an id. None where it is on no list, or nothing is held under it.
+    fn links_on_list(&self, id: Id) -> Option<Links>
+        ensures none { IfNone result (on_list self.now id ≡ false) }
+        ensures some { IfSome result (λ links. (on_list self.now id ≡ true) × (links ≡ links_at self.now.memory id.slot)) }
+    {
+        let _content = self.get(id)?;
+        let links = self.links_or_loose(id.slot);
+        let _list = links.list?;
+        Some(links)
     }
 
     fn links_or_loose(&self, slot: u32) -> Links

@@ -1,31 +1,29 @@
 use Rattle.std.proofs.Common.{Some, sym, ap, ◌∙◌, subst}
 use Rattle.uv_ids.specs.declared.id.Id.{Id}
 use Rattle.uv_arena.specs.declared.links.Links.{Links}
-use Rattle.uv_arena.specs.Calls.{IsListed}
+use Rattle.uv_arena.specs.Calls.{IsListed, slot_of}
 use Rattle.uv_arena.proofs.Readings.{neighbours}
 use Rattle.uv_arena.proofs.arena.Slots.next.Goals as goal
 
-pub links-requires : goal.links-requires
-links-requires g c = (neighbours c.args.self.now c.is_sound.ensures c.args.id c.requires).slot
+pub returns-in_err-slot-clause-next : goal.returns-in_err-slot-clause-next
+returns-in_err-slot-clause-next g c = λ on l us vs is.
+    ap slot_of c.from_residual-in_err-slot.ensures ∙ sym c.in_err-slot.was
+    ∙ ap (λ (q : Links). q.next) c.in_ok-links_on_list.ensures.some.1
+    ∙ (neighbours c.args.self.now c.is_sound.ensures c.args.id on).after l us vs is
 
 pub id_at-requires : goal.id_at-requires
 id_at-requires g c =
-    ((neighbours c.args.self.now c.is_sound.ensures c.args.id c.requires).next c.in-Some.slot (ap (λ (l : Links). l.next) (sym c.links.ensures)
-    ∙ c.in-Some.is)).slot
+    ((neighbours c.args.self.now c.is_sound.ensures c.args.id c.in_ok-links_on_list.ensures.some.0).next c.in_ok-slot.slot
+    (ap (λ (q : Links). q.next) (sym c.in_ok-links_on_list.ensures.some.1) ∙ c.in_ok-slot.was)).slot
 
-pub returns-in-Some-clause-next : goal.returns-in-Some-clause-next
-returns-in-Some-clause-next g c = λ l us vs is.
-    ap (λ (d : Id). Some d.slot) c.id_at.ensures ∙ sym c.in-Some.is ∙ ap (λ (q : Links). q.next) c.links.ensures
-    ∙ (neighbours c.args.self.now c.is_sound.ensures c.args.id c.requires).after l us vs is
+pub returns-clause-next : goal.returns-clause-next
+returns-clause-next g c = λ on l us vs is.
+    ap (λ (d : Id). Some d.slot) c.id_at.ensures ∙ sym c.in_ok-slot.was ∙ ap (λ (q : Links). q.next) c.in_ok-links_on_list.ensures.some.1
+    ∙ (neighbours c.args.self.now c.is_sound.ensures c.args.id on).after l us vs is
 
-pub returns-in-Some-clause-listed : goal.returns-in-Some-clause-listed
-returns-in-Some-clause-listed g c =
+pub returns-clause-listed : goal.returns-clause-listed
+returns-clause-listed g c =
     let v = c.args.self.now in
     subst (IsListed v) (sym c.id_at.ensures)
-    ((neighbours v c.is_sound.ensures c.args.id c.requires).next c.in-Some.slot (ap (λ (l : Links). l.next) (sym c.links.ensures)
-    ∙ c.in-Some.is)).listed
-
-pub returns-in-None-clause-next : goal.returns-in-None-clause-next
-returns-in-None-clause-next g c = λ l us vs is.
-    sym c.in-None.is ∙ ap (λ (q : Links). q.next) c.links.ensures
-    ∙ (neighbours c.args.self.now c.is_sound.ensures c.args.id c.requires).after l us vs is
+    ((neighbours v c.is_sound.ensures c.args.id c.in_ok-links_on_list.ensures.some.0).next c.in_ok-slot.slot
+    (ap (λ (q : Links). q.next) (sym c.in_ok-links_on_list.ensures.some.1) ∙ c.in_ok-slot.was)).listed

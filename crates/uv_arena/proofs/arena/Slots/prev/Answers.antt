@@ -1,31 +1,29 @@
 use Rattle.std.proofs.Common.{Some, sym, ap, ◌∙◌, subst}
 use Rattle.uv_ids.specs.declared.id.Id.{Id}
 use Rattle.uv_arena.specs.declared.links.Links.{Links}
-use Rattle.uv_arena.specs.Calls.{IsListed}
+use Rattle.uv_arena.specs.Calls.{IsListed, slot_of}
 use Rattle.uv_arena.proofs.Readings.{neighbours}
 use Rattle.uv_arena.proofs.arena.Slots.prev.Goals as goal
 
-pub links-requires : goal.links-requires
-links-requires g c = (neighbours c.args.self.now c.is_sound.ensures c.args.id c.requires).slot
+pub returns-in_err-slot-clause-prev : goal.returns-in_err-slot-clause-prev
+returns-in_err-slot-clause-prev g c = λ on l us vs is.
+    ap slot_of c.from_residual-in_err-slot.ensures ∙ sym c.in_err-slot.was
+    ∙ ap (λ (q : Links). q.prev) c.in_ok-links_on_list.ensures.some.1
+    ∙ (neighbours c.args.self.now c.is_sound.ensures c.args.id on).before l us vs is
 
 pub id_at-requires : goal.id_at-requires
 id_at-requires g c =
-    ((neighbours c.args.self.now c.is_sound.ensures c.args.id c.requires).prev c.in-Some.slot (ap (λ (l : Links). l.prev) (sym c.links.ensures)
-    ∙ c.in-Some.is)).slot
+    ((neighbours c.args.self.now c.is_sound.ensures c.args.id c.in_ok-links_on_list.ensures.some.0).prev c.in_ok-slot.slot
+    (ap (λ (q : Links). q.prev) (sym c.in_ok-links_on_list.ensures.some.1) ∙ c.in_ok-slot.was)).slot
 
-pub returns-in-Some-clause-prev : goal.returns-in-Some-clause-prev
-returns-in-Some-clause-prev g c = λ l us vs is.
-    ap (λ (d : Id). Some d.slot) c.id_at.ensures ∙ sym c.in-Some.is ∙ ap (λ (q : Links). q.prev) c.links.ensures
-    ∙ (neighbours c.args.self.now c.is_sound.ensures c.args.id c.requires).before l us vs is
+pub returns-clause-prev : goal.returns-clause-prev
+returns-clause-prev g c = λ on l us vs is.
+    ap (λ (d : Id). Some d.slot) c.id_at.ensures ∙ sym c.in_ok-slot.was ∙ ap (λ (q : Links). q.prev) c.in_ok-links_on_list.ensures.some.1
+    ∙ (neighbours c.args.self.now c.is_sound.ensures c.args.id on).before l us vs is
 
-pub returns-in-Some-clause-listed : goal.returns-in-Some-clause-listed
-returns-in-Some-clause-listed g c =
+pub returns-clause-listed : goal.returns-clause-listed
+returns-clause-listed g c =
     let v = c.args.self.now in
     subst (IsListed v) (sym c.id_at.ensures)
-    ((neighbours v c.is_sound.ensures c.args.id c.requires).prev c.in-Some.slot (ap (λ (l : Links). l.prev) (sym c.links.ensures)
-    ∙ c.in-Some.is)).listed
-
-pub returns-in-None-clause-prev : goal.returns-in-None-clause-prev
-returns-in-None-clause-prev g c = λ l us vs is.
-    sym c.in-None.is ∙ ap (λ (q : Links). q.prev) c.links.ensures
-    ∙ (neighbours c.args.self.now c.is_sound.ensures c.args.id c.requires).before l us vs is
+    ((neighbours v c.is_sound.ensures c.args.id c.in_ok-links_on_list.ensures.some.0).prev c.in_ok-slot.slot
+    (ap (λ (q : Links). q.prev) (sym c.in_ok-links_on_list.ensures.some.1) ∙ c.in_ok-slot.was)).listed

@@ -1,5 +1,6 @@
-use Rattle.std.proofs.Common.{◌+◌, sym, subst, arith}
+use Rattle.std.proofs.Common.{◌+◌, refl, sym, ap, ◌∙◌, subst, arith}
 use Rattle.uv_arena.specs.Calls.{IsInserted}
+use Rattle.uv_work.specs.Requests.{reopened}
 use Rattle.uv_requests.specs.Working.{working}
 use Rattle.uv_requests.specs.Undo.{with_count}
 use Rattle.uv_requests.specs.Calls.{IsQueued}
@@ -10,17 +11,17 @@ pub overflow_add-count : goal.overflow_add-count
 overflow_add-count g c =
     let H = g.T.HoldsWork in let K = g.met.T.HoldsWork in let i = c.args.slots.now in let k = c.insert.new.self in let j = c.push_back.new.self in
     let d = c.in-Ok.id in let u = c.in-Ok.inserted in
-    let put = subst (λ x. IsInserted i k x d u) c.of.ensures c.in-Ok.ensures.ok in
-    let fits = queue_fits H.held_request H.of_request K.gives_back i k j d c.args.request u c.args.self.now c.requires.work c.requires.opened put
+    let put = subst (λ x. IsInserted i k x d u) (c.of.ensures ∙ ap H.of_request c.reopened.ensures) c.in-Ok.ensures.ok in
+    let fits = queue_fits H.held_request H.of_request K.gives_back i k j d (reopened c.args.request) u c.args.self.now c.requires refl put
     c.push_back.ensures.pushed c.is_sound.ensures in
     omega (arith, fits, c.open_requests-count.ensures)
 
 pub returns-in-Ok-clause-ok : goal.returns-in-Ok-clause-ok
 returns-in-Ok-clause-ok g c =
     let H = g.T.HoldsWork in let K = g.met.T.HoldsWork in let i = c.args.slots.now in let k = c.insert.new.self in let j = c.push_back.new.self in
-    let d = c.in-Ok.id in let u = c.in-Ok.inserted in let r = c.args.self.now in let q = c.args.request in
-    let put = subst (λ x. IsInserted i k x d u) c.of.ensures c.in-Ok.ensures.ok in
-    let done = queue_done H.held_request H.of_request K.gives_back i k j d q u r c.requires.work c.requires.opened put
+    let d = c.in-Ok.id in let u = c.in-Ok.inserted in let r = c.args.self.now in let q = reopened c.args.request in
+    let put = subst (λ x. IsInserted i k x d u) (c.of.ensures ∙ ap H.of_request c.reopened.ensures) c.in-Ok.ensures.ok in
+    let done = queue_done H.held_request H.of_request K.gives_back i k j d q u r c.requires refl put
     c.push_back.ensures.pushed in
     let count = sym c.open_requests-count.ensures in
     subst (λ z. IsQueued H.held_request H.of_request (working i r) (working j z) q d (record { inserted = u; count = c.open_requests-count.result }))
