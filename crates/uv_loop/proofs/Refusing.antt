@@ -1,5 +1,5 @@
 -- What a step of the loop does, by where the memory stands.
-use Rattle.std.proofs.Common.{◌≡◌, ℕ, slice_get, Option, Some, None, Result, Ok, Err, sym, ap, ◌∙◌}
+use Rattle.std.proofs.Common.{◌≡◌, ℕ, slice_get, Option, Some, None, IfNone, sym, ap, ◌∙◌}
 use Rattle.uv_ids.specs.declared.seen.Seen.{Seen}
 use Rattle.uv_ids.specs.declared.fault.Why.{Why}
 use Rattle.uv_ids.specs.declared.event.Event.TheVariants.{Loop}
@@ -12,7 +12,9 @@ use Rattle.uv_model.specs.Next.{Next, Moves, Refuses, next, loop_step, main_step
 use Rattle.uv_model.specs.After.{refusal_of, IsMove}
 use Rattle.uv_step.specs.declared.record.Record.{Record}
 use Rattle.uv_step.specs.Image.{Image, Held}
+use Rattle.uv_stands.specs.Doing.{OfEach}
 use Rattle.uv_stands.specs.Stands.{StandsFor}
+use Rattle.uv_loop.specs.Acting.{MayAt, Refusal}
 use Rattle.uv_loop.specs.Turning.{Turns}
 
 module _ (p : Program) (i : Image Place) (s : State) (h : StandsFor i s) where
@@ -25,10 +27,9 @@ module _ (p : Program) (i : Image Place) (s : State) (h : StandsFor i s) where
   run_there run is = ap (loop_step p s) (sym h.place ∙ is)
 
 -- a step that does the same to each state answers the same
-pub turns_by : (f g : State → Next) (r : Record Place) (h k : Held Place) (line : Result (Option Seen) Why)
+pub turns_by : (f g : State → Next) (r : Record Place) (h k : Held Place) (line : Option Seen)
     → ((s : State) → StandsFor h.image s → g s ≡ f s) → Turns f r h k line → Turns g r h k line
-turns_by f g r h k (Ok line) same t = (t.0, λ s stands reached. let q = t.1 s stands reached in (q.0, same s stands ∙ q.1, q.2))
-turns_by f g r h k (Err why) same t = (t.0, λ s stands reached. same s stands ∙ t.1 s stands reached)
+turns_by f g r h k line same t = (t.0, λ s stands reached. let q = t.1 s stands reached in (q.0, same s stands ∙ q.1, q.2))
 
 -- a step is refused so, or taken, by why it is refused
 pub refuses_by : (n : Next) (why : Why) → refusal_of n ≡ Some why → n ≡ Refuses why
@@ -38,3 +39,9 @@ refuses_by (Refuses w) why e = let same : w ≡ why = cc e in ap (λ x. Refuses 
 pub moves_by : (n : Next) → refusal_of n ≡ None → IsMove n
 moves_by (Moves t line) e = tt
 moves_by (Refuses w) e = cc
+
+-- the loop's own step
+pub loop_refused : (p : Program) (i : Image Place) (o : Option Why) → OfEach i (λ s. refusal_of (next p s Loop) ≡ o)
+    → IfNone o (MayAt p i.place i) → Refusal p Loop i o
+loop_refused p i None f may = (may, λ s h r. moves_by (next p s Loop) (f s h r))
+loop_refused p i (Some why) f may = λ s h r. refuses_by (next p s Loop) why (f s h r)

@@ -3,3 +3,4 @@ pub mod Turning
 pub mod Course
 pub mod Taken
 pub mod Pooling
+pub mod Acting

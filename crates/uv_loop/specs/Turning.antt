@@ -1,22 +1,20 @@
--- What a step of the loop may answer.
-use Rattle.std.specs.Prelude.{◌≡◌, Option, Result, Ok, Err}
+-- What a step of the loop does.
+use Rattle.std.specs.Prelude.{◌≡◌, Option}
 use Rattle.uv_ids.specs.declared.code.Answer.{Answer}
 use Rattle.uv_ids.specs.declared.seen.Seen.{Seen}
 use Rattle.uv_script.specs.declared.op.Op.{Op}
-use Rattle.uv_ids.specs.declared.fault.Why.{Why}
 use Rattle.uv_model.specs.declared.place.Place.{Place}
 use Rattle.uv_model.specs.State.{State}
-use Rattle.uv_model.specs.Next.{Next, Refuses}
+use Rattle.uv_model.specs.Next.{Next}
 use Rattle.uv_model.specs.Ops.{do_op}
 use Rattle.uv_step.specs.declared.record.Record.{Record}
 use Rattle.uv_step.specs.Image.{Image, Held}
 use Rattle.uv_stands.specs.Stands.{StandsFor}
 use Rattle.uv_stands.specs.Doing.{Returns, OfEach, Goes}
 
--- its line, if it has one, where each state goes on so, and this takes it back; or why it is refused, and nothing changes
-abbrev pub Turns : (State → Next) → Record Place → Held Place → Held Place → Result (Option Seen) Why → Type 0
-Turns f r h k (Ok line) = Returns r h k × Goes f h.image k.image line
-Turns f r h k (Err why) = (k ≡ h) × OfEach h.image (λ s. f s ≡ Refuses why)
+-- its line, if it has one, where each state goes on so, and this takes it back
+abbrev pub Turns : (State → Next) → Record Place → Held Place → Held Place → Option Seen → Type 0
+Turns f r h k line = Returns r h k × Goes f h.image k.image line
 
 -- an op with its answer, after which the loop is at this place
 abbrev pub PerformsAt : Op → Place → Image Place → Image Place → Answer → Type 0

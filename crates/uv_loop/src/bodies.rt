@@ -1,5 +1,5 @@
 //! The ops of bodies and of the main program.
-ghost use Rattle.std.specs.Prelude.{◌≡◌, ◌<◌, ◌^◌, Ok as done, None, Some, IfSome, slice_get};
+ghost use Rattle.std.specs.Prelude.{◌≡◌, ◌<◌, ◌^◌, None, Some, IfSome, is_some, true, slice_get};
 ghost use Rattle.uv_script.specs.Program.{Program, lines_in};
 ghost use Rattle.uv_model.specs.declared.place.Body.{Body};
 ghost use Rattle.uv_model.specs.Next.{body_step, main_step};
@@ -8,7 +8,7 @@ ghost use Rattle.uv_stands.specs.Doing.{Returns};
 ghost use Rattle.uv_stands.specs.Ready.{IsReady};
 ghost use Rattle.uv_loop.specs.Turning.{Turns, PerformsAt};
 
-use uv_ids::{Answer, Seen, Site, Why};
+use uv_ids::{Answer, Seen, Site};
 use uv_model::{Body, Place, Run, body_from};
 use uv_ops::perform;
 use uv_script::{CallbackLine, MainOp, Op, Script};
@@ -30,7 +30,7 @@ fn perform_at(memory: &mut Memory<Place>, op: Op, place: Place) -> Answer
 fn leave_body(memory: &mut Memory<Place>, run: Run)
     requires ready { IsReady (held memory.old) }
     ensures turns { (p : Program) → (body : Body) → Turns (λ s. body_step p s run body None)
-        memory.new.step_record (held memory.old) (held memory.new) (done None) }
+        memory.new.step_record (held memory.old) (held memory.new) None }
 {
     memory.step_record = memory.pass();
     let place = Place::Running(Run { body: None, ..run });
@@ -56,7 +56,7 @@ pub(crate) fn in_body(
     requires ready { IsReady (held memory.old) }
     ensures turns { Turns
         (λ s. body_step script.now s run body (slice_get (lines_in script.now body.callback body.name) body.next))
-        memory.new.step_record (held memory.old) (held memory.new) (done result) }
+        memory.new.step_record (held memory.old) (held memory.new) result }
 {
     match line_of(script, body) {
         None => {
@@ -73,25 +73,19 @@ pub(crate) fn in_body(
     }
 }
 
-/// The main program does its next line; past its end the step is refused.
-pub(crate) fn in_main(
-    memory: &mut Memory<Place>,
-    script: &Script,
-    line: usize,
-) -> Result<Option<Seen>, Why>
+/// The main program does its next line.
+pub(crate) fn in_main(memory: &mut Memory<Place>, script: &Script, line: usize) -> Option<Seen>
     requires ready { IsReady (held memory.old) }
     requires line { line < 2 ^ 63 }
+    requires may { is_some (slice_get script.now.main line) ≡ true }
     ensures turns { Turns (λ s. main_step s line (slice_get script.now.main line)) memory.new.step_record (held memory.old) (held memory.new) result }
 {
     match script.main_op(line) {
-        None => Err(Why::Ended),
-        Some(MainOp::Run(mode)) => {
-            let seen = begin_run(memory, line, mode);
-            Ok(Some(seen))
-        }
+        None => unreachable!(),
+        Some(MainOp::Run(mode)) => Some(begin_run(memory, line, mode)),
         Some(MainOp::Op(op)) => {
             let answer = perform_at(memory, op, Place::Main(line + 1));
-            Ok(Some(Seen::Op(Site::Main(line), answer)))
+            Some(Seen::Op(Site::Main(line), answer))
         }
     }
 }

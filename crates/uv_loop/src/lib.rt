@@ -1,11 +1,13 @@
 //! The loop over one memory: a machine whose every step has a record that takes it back.
 #![tactic(auto)]
 
+mod acting;
 mod arena_loop;
 mod bodies;
 mod looping;
 mod machine;
 mod pooling;
+mod refusals;
 mod sending;
 mod staging;
 mod steps;

@@ -1,11 +1,22 @@
 //! The loop over one memory is a machine.
-ghost use Rattle.std.specs.Prelude.{◌≡◌, IfOk};
+ghost use Rattle.std.specs.Prelude.{◌≡◌, [], IfOk, IfErr, IfSome, IsOk, Some};
+ghost use Rattle.uv_ids.specs.declared.fault.Fault.TheVariants.{Memory};
+ghost use Rattle.uv_model.specs.After.{Answers, GoesBack, after, STEPS};
+ghost use Rattle.uv_model.specs.Handing.{AnswersResult};
+ghost use Rattle.uv_model.specs.Layout.{LiesFor};
+ghost use Rattle.uv_model.specs.declared.layout.Layout as layout;
+ghost use Rattle.uv_layout.specs.Laid.{ShowsAll};
+ghost use Rattle.uv_loop.specs.Course.{Adds, Drops, first_image};
 
-use crate::arena_loop::ArenaLoop;
+use crate::acting::act;
+use crate::arena_loop::{ArenaLoop, fresh_memory};
+use crate::pooling::finish_work;
+use crate::refusals::refusal;
+use crate::steps::Steps;
 use std::alloc::Global;
-use uv_ids::{Event, Fault, Id, Seen, Var};
-use uv_layout::{free_slots, listed_ids, run_at, shown, shown_name, shown_slot};
-use uv_model::{Content, Layout, Machine, Named, Numbers, Outcome, Place, runner_of};
+use uv_ids::{Event, Fault, Id, Seen, Var, Why};
+use uv_layout::{free_slots, layout_of, listed_ids, run_at, shown, shown_name, shown_slot};
+use uv_model::{Content, Layout, Machine, Named, Numbers, Outcome, Place, STEPS, runner_of};
 use uv_records::{ListName, Slot};
 use uv_script::Script;
 use uv_timing::timer_ids;
@@ -16,40 +27,110 @@ impl Machine for ArenaLoop {
 
     ghost standing = { λ machine. machine.standing };
 
-    fn begin(alloc: Global, script: Script) -> Result<Self, Fault> {
-        ArenaLoop::begin(alloc, script)
+    fn begin(alloc: Global, script: Script) -> Result<Self, Fault>
+        ensures program { IfOk result (λ begun. begun.program ≡ script) }
+        ensures standing { IfOk result (λ begun. begun.standing ≡ []) }
+        ensures walk { IfOk result (λ begun. begun.walk ≡ record { image = first_image script; records = [] }) }
+        ensures err { IfErr result (λ fault. fault ≡ Memory) }
+    {
+        let Ok(memory) = fresh_memory(alloc, &script) else {
+            return Err(Fault::Memory);
+        };
+        memory.slots.is_sound();
+        Ok(ArenaLoop {
+            alloc,
+            script,
+            memory,
+            steps: Steps::new(alloc),
+        })
     }
 
-    fn step(&mut self, event: Event) -> Result<Outcome, Fault> {
-        ArenaLoop::step(self, event)
+    /// An accepted step adds its record, by which `back` takes it back.
+    fn step(&mut self, event: Event) -> Result<Outcome, Fault>
+        ensures program { self.new.program ≡ self.old.program }
+        ensures answer { Answers STEPS self.old.program self.old.standing event result self.new.standing }
+        ensures records { Adds result self.old self.new }
+    {
+        if self.steps.seen.len() >= STEPS {
+            return Err(Fault::StepsFull);
+        }
+        match refusal(&self.memory, &self.script, event) {
+            Some(why) => return Err(Fault::Refused(why)),
+            None => {}
+        }
+        if self.steps.reserve().is_err() {
+            return Err(Fault::Memory);
+        }
+        let seen = act(&mut self.memory, &self.script, event);
+        self.steps.push(seen, self.memory.step_record);
+        Ok(Outcome { seen })
     }
 
-    fn finish_with(&mut self, worker: u16, work: WorkResult) -> Result<Outcome, Fault> {
-        ArenaLoop::finish_with(self, worker, work)
+    /// An accepted finish adds its record as well.
+    fn finish_with(&mut self, worker: u16, work: WorkResult) -> Result<Outcome, Fault>
+        ensures program { self.new.program ≡ self.old.program }
+        ensures answer { AnswersResult STEPS self.old.program self.old.standing worker work.job result self.new.standing }
+        ensures records { Adds result self.old self.new }
+    {
+        if self.steps.seen.len() >= STEPS {
+            return Err(Fault::StepsFull);
+        }
+        let (id, request) = match self.memory.requests.work_of(&self.memory.slots, worker) {
+            Err(why) => return Err(Fault::Refused(why)),
+            Ok(asked) => asked,
+        };
+        if !request.job(id).is(work.job()) {
+            return Err(Fault::Refused(Why::NoWork));
+        }
+        if self.steps.reserve().is_err() {
+            return Err(Fault::Memory);
+        }
+        let line = finish_work(&mut self.memory, worker, id, request, work);
+        let seen = Some(line);
+        self.steps.push(seen, self.memory.step_record);
+        Ok(Outcome { seen })
     }
 
-    fn back(&mut self) -> Result<bool, Fault> {
-        Ok(ArenaLoop::back(self))
+    /// It takes no memory and can't fail.
+    fn back(&mut self) -> Result<bool, Fault>
+        ensures program { self.new.program ≡ self.old.program }
+        ensures answer { GoesBack self.old.standing result self.new.standing }
+        ensures ok { IsOk result }
+        ensures drops { IfOk result (λ was. Drops was self.old self.new) }
+    {
+        let Some(step_record) = self.steps.pop() else {
+            return Ok(false);
+        };
+        self.memory.unwind(step_record);
+        Ok(true)
     }
 
+    #[tactic(auto, using(uv_model::proofs::Runs::runs))]
     fn len(&self) -> usize {
-        ArenaLoop::len(self)
+        self.steps.seen.len()
     }
 
+    #[tactic(auto, using(uv_model::proofs::Runs::runs, uv_model::proofs::Runs::seen_at))]
     fn seen(&self, step: usize) -> Option<Seen> {
-        ArenaLoop::seen(self, step)
+        self.steps.seen[step - 1]
     }
 
     fn script(&self) -> &Script {
-        ArenaLoop::script(self)
+        &self.script
     }
 
     fn place(&self) -> Place {
-        ArenaLoop::place(self)
+        self.memory.place
     }
 
     fn numbers(&self) -> Numbers {
-        ArenaLoop::numbers(self)
+        Numbers {
+            time: self.memory.times.time,
+            clock: self.memory.clock,
+            next_start: self.memory.times.next_start,
+            stop_flag: self.memory.stop_flag,
+            idled: self.memory.idled,
+        }
     }
 
     fn named(&self, name: Var) -> Named {
@@ -103,9 +184,16 @@ impl Machine for ArenaLoop {
         Ok(ids)
     }
 
-    fn layout(&self) -> Result<Option<Layout>, Fault> {
+    /// There is one, which shows all that the memory has.
+    fn layout(&self) -> Result<Option<Layout>, Fault>
+        ensures layout { IfOk result (λ laid. IfSome laid (λ layout. LiesFor layout (after self.now.program self.now.standing))) }
+        ensures shows { IfOk result (λ laid. (l : layout.Layout) × (laid ≡ Some l) × ShowsAll l self.now.walk.image) }
+        ensures err { IfErr result (λ fault. fault ≡ Memory) }
+    {
         self.stands();
-        let layout = ArenaLoop::layout(self)?;
+        let Ok(layout) = layout_of(&self.memory, self.alloc) else {
+            return Err(Fault::Memory);
+        };
         Ok(Some(layout))
     }
 }

@@ -1,5 +1,6 @@
 -- A watcher is started.
-use Rattle.std.proofs.Common.{◌≡◌, ◌≢◌, ℕ, ◌∷◌, map, if◌then◌else◌, Some, Ok, refl, sym, ap, ◌∙◌, subst}
+use Rattle.std.proofs.Common.{◌≡◌, ◌≢◌, ℕ, true, false, inl, inr, ◌∷◌, map, if◌then◌else◌, Some, None, Ok, refl, sym, ap, ◌∙◌, subst}
+use Rattle.std.proofs.lemmas.Bool.{cases_Bool, false≢true}
 use Rattle.uv_ids.specs.declared.id.Id.{Id}
 use Rattle.uv_ids.specs.declared.id.Var.{Var}
 use Rattle.uv_ids.specs.declared.code.Code.TheVariants as code
@@ -14,7 +15,7 @@ use Rattle.uv_records.specs.Lists.{list_of, watcher_kind}
 use Rattle.uv_records.specs.Refusals.{start_watcher_refusal}
 use Rattle.uv_records.specs.Walks.{with_first}
 use Rattle.uv_arena.specs.Image as arena
-use Rattle.uv_arena.specs.Image.{IsSound}
+use Rattle.uv_arena.specs.Image.{on_list, IsSound}
 use Rattle.uv_handle.specs.declared.undo.ListUndo.{ListUndo}
 use Rattle.uv_handle.specs.Counted.{counted, record_at}
 use Rattle.uv_handle.specs.Changes.{IsEnlisted}
@@ -119,18 +120,30 @@ module _ (i : Image Place) (s : State) (h : StandsFor i s) (k : arena.Image Cont
 -- ---- what the op does
 
 module _ (r : Record Place) (h w : Held Place) (recorded : Recorded r h w) (sound : IsSound w.image.arena) (v : Var) (d : Id) (from : HandleRecord)
-    (is : Names h.image v (Ok (d, from))) (there : record_at handle_in h.image.arena d ≡ Some from) where
+    (is : Names h.image v (Ok (d, from))) (there : record_at handle_in h.image.arena d ≡ Some from)
+    (loose : start_watcher_refusal from ≡ None → from.active ≡ false → on_list h.image.arena d ≡ false) where
   abbrev pub Starts : Type 0
   Starts = Does (λ s. on_handle s (live_handle s v) start_watcher_refusal (start_watcher s)) h.image w.image (answer.Code code.Ok)
 
-  -- it was active
+  -- it was active: one that isn't is on no list
+  was_active : IsActive handle_in Handle (counted_of h.image) (counted_of w.image) d → from.active ≡ true
+  was_active a =
+      let one : a.from ≡ from = cc (a.there, there) in
+      elim a.active [
+        | inl e ↦ ap (λ (q : HandleRecord). q.active) (sym one) ∙ e
+        | inr on ↦ elim (cases_Bool from.active) [
+          | inl e ↦ e
+          | inr e ↦ absurd (false≢true (sym (loose (ap start_watcher_refusal (sym one) ∙ a.allowed) e) ∙ on))
+        ]
+      ]
+
   stays_active : r.change ≡ change.Nothing → IsActive handle_in Handle (counted_of h.image) (counted_of w.image) d → Starts
   stays_active nothing a s stands reached =
       let one : a.from ≡ from = cc (a.there, there) in (
         s,
         allowed_on s v start_watcher_refusal (start_watcher s) d from (is s stands) (ap start_watcher_refusal (sym one) ∙ a.allowed)
             ∙ ap (λ b. succeeds (if b then s else found_or (watcher_kind from.kind) (λ kind. watcher_started s kind d from) s))
-            (ap (λ (q : HandleRecord). q.active) (sym one) ∙ a.active),
+            (was_active a),
         subst (λ q. StandsFor q s) (sym (nothing_frame r h w recorded nothing)) stands,
       )
 

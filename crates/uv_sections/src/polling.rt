@@ -1,18 +1,15 @@
-//! The poll begins, and is left.
-ghost use Rattle.std.specs.Prelude.{◌≡◌, ◌<◌, ◌≤◌, ◌^◌, Some, None, IfOk, IfErr, IfSome, []};
-ghost use Rattle.uv_records.specs.declared.lists.ListName.TheVariants.{DoneYet};
-ghost use Rattle.uv_arena.specs.Image.{members};
+//! The poll begins.
+ghost use Rattle.std.specs.Prelude.{◌≡◌, ◌<◌, ◌≤◌, ◌^◌, Some, IfSome};
 ghost use Rattle.uv_model.specs.Timeout.{deadline_of, LONGEST_POLL};
-ghost use Rattle.uv_model.specs.Next.{begin_poll, poll, Refuses};
+ghost use Rattle.uv_model.specs.Next.{begin_poll};
 ghost use Rattle.uv_step.specs.Image.{held};
 ghost use Rattle.uv_stands.specs.Doing.{OfEach, Returns, Goes};
 ghost use Rattle.uv_stands.specs.Ready.{IsReady};
 
-use crate::beginning::begin_done;
 use crate::standing::stand_in;
-use uv_ids::{Seen, Why};
+use uv_ids::Seen;
 use uv_model::{Place, Run, Stage};
-use uv_stands::{may_leave, poll_timeout};
+use uv_stands::poll_timeout;
 use uv_step::Memory;
 
 /// When the poll is over, at the latest, in ms; none is never.
@@ -38,20 +35,4 @@ pub fn begin_poll(memory: &mut Memory<Place>, run: Run) -> Seen
     memory.step_record = memory.pass();
     stand_in(memory, run, Stage::Poll(deadline));
     Seen::Poll(timeout)
-}
-
-/// Goes on in the poll: leaves it, or refuses the step.
-pub fn poll(memory: &mut Memory<Place>, run: Run, deadline: Option<u64>) -> Result<Seen, Why>
-    requires ready { IsReady (held memory.old) }
-    requires empty { members (held memory.old).image.arena DoneYet ≡ [] }
-    ensures returns { IfOk result (λ _. Returns memory.new.step_record (held memory.old) (held memory.new)) }
-    ensures goes { IfOk result (λ line. Goes (λ s. poll s run deadline)
-        (held memory.old).image (held memory.new).image (Some line)) }
-    ensures same { IfErr result (λ _. held memory.new ≡ held memory.old) }
-    ensures refuses { IfErr result (λ why. OfEach (held memory.old).image (λ s. poll s run deadline ≡ Refuses why)) }
-{
-    if may_leave(memory, deadline) {
-        return Ok(begin_done(memory, run));
-    }
-    Err(Why::Blocked)
 }

@@ -5,6 +5,9 @@ pub mod Values
 pub mod Pools
 pub mod Naming
 pub mod Slots
+pub mod Walked
+pub mod Living
+pub mod Waking
 pub mod First
 pub mod Onto
 pub mod Without

@@ -1,5 +1,5 @@
 -- All slots in turn, in the memory and in the state.
-use Rattle.std.proofs.Common.{◌≡◌, ℕ, zero, suc, ◌+◌, ◌<◌, ◌||◌, Bool, true, false, List, [], ◌∷◌, map, drop, length, slice_get, Option, Some, None, option_map, refl, sym, ap, ◌∙◌, arith}
+use Rattle.std.proofs.Common.{◌≡◌, ℕ, zero, suc, ◌+◌, ◌<◌, ◌||◌, Bool, true, false, List, [], ◌∷◌, map, drop, length, slice_get, Option, Some, None, is_some, option_map, refl, sym, ap, ◌∙◌, arith}
 use Rattle.std.specs.List.{list_any}
 use Rattle.uv_records.specs.declared.slot.Slot.{Slot}
 use Rattle.uv_arena.specs.declared.links.Cell.{Cell}
@@ -8,16 +8,13 @@ use Rattle.uv_arena.specs.Image.{held_slots, slot_at, slot_in}
 use Rattle.uv_step.specs.declared.content.Content.{Content}
 use Rattle.uv_records.specs.Slots as plain
 use Rattle.uv_model.specs.declared.content.Content as content
-use Rattle.uv_model.specs.declared.content.Content.TheVariants as holds
 use Rattle.uv_model.specs.declared.place.Place.{Place}
-use Rattle.uv_model.specs.Content.{content_keeps, content_pends, is_used}
+use Rattle.uv_model.specs.Content.{is_used}
+use Rattle.uv_model.specs.Ops.{is_in_use}
 use Rattle.uv_model.specs.State.{State}
 use Rattle.uv_step.specs.Image.{Image}
 use Rattle.uv_stands.specs.Contents.{content_of, slot_of}
 use Rattle.uv_stands.specs.Stands.{StandsFor}
-use Rattle.uv_stands.specs.declared.questions.Question.{Question}
-use Rattle.uv_stands.specs.declared.questions.Question.TheVariants.{KeepsAlive, Pends, IsUsed}
-use Rattle.uv_stands.specs.Questions.{says}
 
 any_drop : {X Y : Type 0} (f : X → Y) (none : Y) (P : Y → Bool) (g : Option X → Y) → ((x : X) → g (Some x) ≡ f x) → (xs : List X) (k : ℕ)
     → k < length xs → list_any P (drop k (map f xs)) ≡ (P (g (slice_get xs k)) || list_any P (drop (suc k) (map f xs)))
@@ -26,57 +23,42 @@ any_drop f none P g h (x ∷ xs) zero l = ap (λ y. P y || list_any P (map f xs)
 any_drop f none P g h (x ∷ xs) (suc k) l = any_drop f none P g h xs k (omega (arith, l))
 
 -- the slots from this one on: this one says yes, or one behind it does
-pub any-slot : (q : Question) (m : Memory Content) (k : ℕ) → k < length m.row.items
-    → list_any (λ (slot : Slot Content). says q slot.content) (drop k (held_slots m))
-    ≡ (says q (slot_at m k).content || list_any (λ (slot : Slot Content). says q slot.content) (drop (k + 1) (held_slots m)))
-any-slot q m k l =
+pub any-slot : (m : Memory Content) (k : ℕ) → k < length m.row.items
+    → list_any (λ (slot : Slot Content). is_some slot.content) (drop k (held_slots m))
+    ≡ (is_some (slot_at m k).content || list_any (λ (slot : Slot Content). is_some slot.content) (drop (k + 1) (held_slots m)))
+any-slot m k l =
     let one : k + 1 ≡ suc k = omega arith in
-    any_drop (λ (c : Cell Content). c.slot) (slot_in None) (λ (slot : Slot Content). says q slot.content) slot_in (λ c. refl) m.row.items k l
-    ∙ ap (λ n. says q (slot_at m k).content || list_any (λ (slot : Slot Content). says q slot.content) (drop n (held_slots m))) (sym one)
+    any_drop (λ (c : Cell Content). c.slot) (slot_in None) (λ (slot : Slot Content). is_some slot.content) slot_in (λ c. refl) m.row.items k l
+    ∙ ap (λ n. is_some (slot_at m k).content || list_any (λ (slot : Slot Content). is_some slot.content) (drop n (held_slots m))) (sym one)
 
-module _ (q : Question) (m : Memory Content) (k : ℕ) (within : k < length m.row.items)
-    (here : list_any (λ (slot : Slot Content). says q slot.content) (drop k (held_slots m))
-    ≡ list_any (λ (slot : Slot Content). says q slot.content) (held_slots m)) where
+module _ (m : Memory Content) (k : ℕ) (within : k < length m.row.items)
+    (here : list_any (λ (slot : Slot Content). is_some slot.content) (drop k (held_slots m))
+    ≡ list_any (λ (slot : Slot Content). is_some slot.content) (held_slots m)) where
   abbrev rest : Bool
-  rest = list_any (λ (slot : Slot Content). says q slot.content) (drop (k + 1) (held_slots m))
+  rest = list_any (λ (slot : Slot Content). is_some slot.content) (drop (k + 1) (held_slots m))
 
   -- this one says yes
-  pub any_here : true ≡ says q (slot_at m k).content → true ≡ list_any (λ (slot : Slot Content). says q slot.content) (held_slots m)
-  any_here is = ap (λ z. z || rest) is ∙ sym (any-slot q m k within) ∙ here
+  pub any_here : true ≡ is_some (slot_at m k).content → true ≡ list_any (λ (slot : Slot Content). is_some slot.content) (held_slots m)
+  any_here is = ap (λ z. z || rest) is ∙ sym (any-slot m k within) ∙ here
 
   -- it says no
-  pub any_behind : false ≡ says q (slot_at m k).content
-      → list_any (λ (slot : Slot Content). says q slot.content) (drop (k + 1) (held_slots m))
-      ≡ list_any (λ (slot : Slot Content). says q slot.content) (held_slots m)
-  any_behind is = ap (λ z. z || rest) is ∙ sym (any-slot q m k within) ∙ here
+  pub any_behind : false ≡ is_some (slot_at m k).content
+      → list_any (λ (slot : Slot Content). is_some slot.content) (drop (k + 1) (held_slots m))
+      ≡ list_any (λ (slot : Slot Content). is_some slot.content) (held_slots m)
+  any_behind is = ap (λ z. z || rest) is ∙ sym (any-slot m k within) ∙ here
 
 -- ---- what the state says
 
-answer_as : (q : Question) (f : Option content.Content → Bool) → ((o : Option content.Content) → says q (option_map content_of o) ≡ f o)
-    → (ss : List (Slot content.Content))
-    → list_any (λ (slot : Slot Content). says q slot.content) (map slot_of ss) ≡ list_any (λ (slot : Slot content.Content). f slot.content) ss
-answer_as q f h [] = refl
-answer_as q f h (s ∷ ss) = let here = h s.content in let rest = answer_as q f h ss in λ l. here l || rest l
-
-pub answer_there : (i : Image Place) (s : State) (q : Question) (f : Option content.Content → Bool) (b : Bool) → StandsFor i s
-    → ((o : Option content.Content) → says q (option_map content_of o) ≡ f o)
-    → b ≡ list_any (λ (slot : Slot Content). says q slot.content) (held_slots i.arena.memory)
-    → list_any (λ (slot : Slot content.Content). f slot.content) s.arena.slots ≡ b
-answer_there i s q f b h agrees is =
-    sym (is ∙ ap (λ (z : plain.Slots Content). list_any (λ (slot : Slot Content). says q slot.content) z.slots) h.slots
-    ∙ answer_as q f agrees s.arena.slots)
-
-pub alive_as : (o : Option content.Content) → says KeepsAlive (option_map content_of o) ≡ content_keeps o
-alive_as None = refl
-alive_as (Some (holds.Handle h)) = refl
-alive_as (Some (holds.Request r)) = refl
-
-pub pends_as : (o : Option content.Content) → says Pends (option_map content_of o) ≡ content_pends o
-pends_as None = refl
-pends_as (Some (holds.Handle h)) = refl
-pends_as (Some (holds.Request r)) = refl
-
-pub used_as : (o : Option content.Content) → says IsUsed (option_map content_of o) ≡ is_used o
+used_as : (o : Option content.Content) → is_some (option_map content_of o) ≡ is_used o
 used_as None = refl
-used_as (Some (holds.Handle h)) = refl
-used_as (Some (holds.Request r)) = refl
+used_as (Some c) = refl
+
+slots_as : (ss : List (Slot content.Content))
+    → list_any (λ (slot : Slot Content). is_some slot.content) (map slot_of ss) ≡ list_any (λ (slot : Slot content.Content). is_used slot.content) ss
+slots_as [] = refl
+slots_as (s ∷ ss) = let here = used_as s.content in let rest = slots_as ss in λ l. here l || rest l
+
+pub used_there : (i : Image Place) (s : State) (b : Bool) → StandsFor i s
+    → b ≡ list_any (λ (slot : Slot Content). is_some slot.content) (held_slots i.arena.memory) → is_in_use s ≡ b
+used_there i s b h is =
+    sym (is ∙ ap (λ (z : plain.Slots Content). list_any (λ (slot : Slot Content). is_some slot.content) z.slots) h.slots ∙ slots_as s.arena.slots)

@@ -1,5 +1,5 @@
 pub mod Contents
 pub mod Stands
-pub mod Questions
+pub mod Pending
 pub mod Ready
 pub mod Doing

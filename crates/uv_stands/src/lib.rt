@@ -2,8 +2,9 @@
 #![tactic(auto)]
 
 mod names;
+mod pending;
 mod queries;
-mod questions;
+mod used;
 
 pub use names::{bind_name, bound_id, call_name, is_live, live_handle};
 pub use queries::{

@@ -8,7 +8,8 @@ ghost use Rattle.uv_model.specs.Next.{may_leave};
 ghost use Rattle.uv_step.specs.Image.{held};
 ghost use Rattle.uv_stands.specs.Doing.{OfEach};
 
-use crate::questions::{Question, any_slot};
+use crate::pending::any_pending;
+use crate::used::any_used;
 use uv_ids::Mode;
 use uv_model::Place;
 use uv_records::ListName;
@@ -42,7 +43,10 @@ fn has_idle(memory: &Memory<Place>) -> bool
 pub fn is_alive(memory: &Memory<Place>) -> bool
     ensures { OfEach (held memory.now).image (λ s. is_alive s ≡ result) }
 {
-    if any_slot(memory, Question::KeepsAlive) {
+    if memory.handles.active_referenced() > 0 {
+        return true;
+    }
+    if memory.requests.open_requests() > 0 {
         return true;
     }
     has_closing(memory)
@@ -52,7 +56,7 @@ pub fn is_alive(memory: &Memory<Place>) -> bool
 pub fn has_pending(memory: &Memory<Place>) -> bool
     ensures { OfEach (held memory.now).image (λ s. has_pending s ≡ result) }
 {
-    any_slot(memory, Question::Pends)
+    any_pending(memory, ListName::Async) || any_pending(memory, ListName::AsyncYet)
 }
 
 /// Whether the poll may be left: its deadline has passed, a request is done, or an async handle was sent to.
@@ -73,7 +77,7 @@ fn has_passed(clock: u64, deadline: Option<u64>) -> bool
 pub fn is_in_use(memory: &Memory<Place>) -> bool
     ensures { OfEach (held memory.now).image (λ s. is_in_use s ≡ result) }
 {
-    any_slot(memory, Question::IsUsed)
+    any_used(memory)
 }
 
 /// In how many ms the first timer is due; none is infinite.

@@ -20,4 +20,5 @@ returns-in-Err-start_watcher-clause-performs c =
 pub returns-in-Ok-start_watcher-clause-performs : goal.returns-in-Ok-start_watcher-clause-performs
 returns-in-Ok-start_watcher-clause-performs c =
     starts c.start_watcher.new.self.step_record (held c.args.memory.now) (held c.start_watcher.new.self) c.in-Ok-start_watcher.ensures.recorded
-    c.is_sound.ensures c.args.name _ _ c.in-Ok.ensures.is c.in-Ok.ensures.found c.in-Ok-start_watcher.ensures.does
+    c.is_sound.ensures c.args.name _ _ c.in-Ok.ensures.is c.in-Ok.ensures.found
+    (c.requires.loose _ _ c.in-Ok.ensures.found) c.in-Ok-start_watcher.ensures.does

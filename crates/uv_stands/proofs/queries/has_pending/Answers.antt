@@ -1,8 +1,14 @@
-use Rattle.uv_model.specs.Content.{content_pends}
+use Rattle.std.proofs.Common.{◌||◌, sym, ap, ◌∙◌}
 use Rattle.uv_step.specs.Image.{image_of}
-use Rattle.uv_stands.specs.declared.questions.Question.TheVariants.{Pends}
-use Rattle.uv_stands.proofs.Slots.{answer_there, pends_as}
+use Rattle.uv_stands.specs.Pending.{pends_at}
+use Rattle.uv_stands.proofs.Waking.{pending_first, pending_second}
 use Rattle.uv_stands.proofs.queries.has_pending.Goals as goal
 
-pub returns : goal.returns
-returns c s h r = answer_there (image_of c.args.memory.now) s Pends content_pends c.any_slot.result h pends_as c.any_slot.ensures
+pub returns-then-any_pending : goal.returns-then-any_pending
+returns-then-any_pending c s h r =
+    pending_first (image_of c.args.memory.now) s h r c.any_pending.result c.any_pending.ensures c.if-any_pending.true
+
+pub returns-else-any_pending : goal.returns-else-any_pending
+returns-else-any_pending c s h r =
+    pending_second (image_of c.args.memory.now) s h r c.any_pending.result c.any_pending-else-any_pending.result
+    c.any_pending.ensures c.any_pending-else-any_pending.ensures c.if-any_pending.false

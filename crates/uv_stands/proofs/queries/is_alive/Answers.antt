@@ -1,16 +1,18 @@
-use Rattle.std.proofs.Common.{◌||◌, ap, ◌∙◌}
-use Rattle.uv_model.specs.Content.{content_keeps}
-use Rattle.uv_model.specs.Timeout.{has_closing}
+use Rattle.std.proofs.Common.{◌<◌, ◌≤◌, ◌∙◌, arith}
 use Rattle.uv_step.specs.Image.{image_of}
-use Rattle.uv_stands.specs.declared.questions.Question.TheVariants.{KeepsAlive}
-use Rattle.uv_stands.proofs.Slots.{answer_there, alive_as}
+use Rattle.uv_stands.proofs.Living.{alive_handles, alive_requests, alive_closing}
 use Rattle.uv_stands.proofs.queries.is_alive.Goals as goal
 
-pub returns-then-any_slot : goal.returns-then-any_slot
-returns-then-any_slot c s h r =
-    ap (λ b. b || has_closing s) (answer_there (image_of c.args.memory.now) s KeepsAlive content_keeps _ h alive_as c.if-any_slot.ensures)
+pub returns-then-active_referenced-gt0 : goal.returns-then-active_referenced-gt0
+returns-then-active_referenced-gt0 c s h r =
+    alive_handles (image_of c.args.memory.now) s h r (omega (arith, c.if-active_referenced-gt0.true, c.active_referenced.ensures))
+
+pub returns-then-open_requests-gt0 : goal.returns-then-open_requests-gt0
+returns-then-open_requests-gt0 c s h r =
+    alive_requests (image_of c.args.memory.now) s h r (omega (arith, c.if-open_requests-gt0.true, c.open_requests.ensures))
 
 pub returns : goal.returns
 returns c s h r =
-    ap (λ b. b || has_closing s) (answer_there (image_of c.args.memory.now) s KeepsAlive content_keeps _ h alive_as c.if-any_slot.ensures)
+    alive_closing (image_of c.args.memory.now) s h r (omega (arith, c.if-active_referenced-gt0.false, c.active_referenced.ensures))
+    (omega (arith, c.if-open_requests-gt0.false, c.open_requests.ensures))
     ∙ c.has_closing.ensures s h r

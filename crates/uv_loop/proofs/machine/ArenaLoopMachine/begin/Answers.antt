@@ -1,0 +1,15 @@
+use Rattle.std.proofs.Common.{ap, subst}
+use Rattle.uv_arena.specs.Image.{IsSound}
+use Rattle.uv_step.specs.Image.{held}
+use Rattle.uv_loop.proofs.Courses.{course_new}
+use Rattle.uv_loop.proofs.Simulation.{fresh_stands}
+use Rattle.uv_loop.specs.Taken.{events_of}
+use Rattle.uv_loop.proofs.Told.{events_same}
+use Rattle.uv_loop.proofs.machine.ArenaLoopMachine.begin.Goals as goal
+
+pub invariant_of-result : goal.invariant_of-result
+invariant_of-result c =
+    let is = c.in-Ok.ensures.image in
+    course_new c.args.script (events_of c.new.result.seen.items) c.new.result.seen.items c.new.result.records.items (held c.in-Ok.memory)
+    (events_same c.new.ensures.seen) c.new.ensures.seen c.new.ensures.records c.in-Ok.ensures.fit c.in-Ok.ensures.room
+    is (fresh_stands c.args.script (subst (λ i. IsSound i) (ap (λ i. i.arena) is) c.is_sound.ensures))

@@ -1,0 +1,89 @@
+//! What an event does that nothing refuses.
+ghost use Rattle.std.specs.Prelude.{◌≡◌, ◌+◌, ◌≤◌, Some};
+ghost use Rattle.uv_ids.specs.declared.id.Id.{Id};
+ghost use Rattle.uv_ids.specs.declared.event.Event.TheVariants.{Take, Finish, Tick};
+ghost use Rattle.uv_model.specs.Next.{LATEST};
+ghost use Rattle.uv_script.specs.Program.{Program, arena_size};
+ghost use Rattle.uv_work.specs.Requests.{Request};
+ghost use Rattle.uv_step.specs.Fit.{IsFit};
+ghost use Rattle.uv_step.specs.Image.{held};
+ghost use Rattle.uv_stands.specs.Doing.{Returns};
+ghost use Rattle.uv_stands.specs.Ready.{IsReady};
+ghost use Rattle.uv_loop.specs.Acting.{MayAct};
+ghost use Rattle.uv_loop.specs.Begins.{IsClear};
+ghost use Rattle.uv_loop.specs.Course.{Leads};
+ghost use Rattle.uv_loop.specs.Pooling.{MayTake, MayFinish};
+
+use crate::looping::turn;
+use crate::pooling::{cancel_named, finish_work, take_work};
+use crate::sending::send_to;
+use uv_ids::{Event, Seen};
+use uv_model::Place;
+use uv_script::Script;
+use uv_step::Memory;
+use uv_work::WorkResult;
+
+/// Does what an event asks for, which nothing refuses: what that appends.
+pub(crate) fn act(memory: &mut Memory<Place>, script: &Script, event: Event) -> Option<Seen>
+    requires ready { IsReady (held memory.old) }
+    requires last { (held memory.old).image.arena.last ≡ (arena_size script.now).last_generation }
+    requires clear { IsClear (held memory.old).image }
+    requires may { MayAct script.now event (held memory.old).image }
+    ensures returns { Returns memory.new.step_record (held memory.old) (held memory.new) }
+    ensures leads { Leads script.now (held memory.old).image (held memory.new).image event result }
+{
+    match event {
+        Event::Loop => turn(memory, script),
+        Event::Take(worker) => Some(take_next(memory, worker)),
+        Event::Finish(worker) => Some(finish_own(memory, worker)),
+        Event::Cancel(name) => {
+            let answer = cancel_named(memory, name);
+            Some(Seen::Cancel(name, answer))
+        }
+        Event::Send(name) => {
+            let code = send_to(memory, name);
+            Some(Seen::Send(name, code))
+        }
+        Event::Tick(ms) => Some(go_on(memory, ms)),
+    }
+}
+
+/// The clock goes on by so many ms.
+fn go_on(memory: &mut Memory<Place>, ms: u64) -> Seen
+    requires fit { IsFit (held memory.old).image }
+    requires may { (held memory.old).image.clock + ms ≤ LATEST }
+    ensures returns { Returns memory.new.step_record (held memory.old) (held memory.new) }
+    ensures leads { (p : Program) → Leads p (held memory.old).image (held memory.new).image (Tick ms) (Some result) }
+{
+    memory.tick(ms);
+    Seen::Tick(ms)
+}
+
+/// A worker takes the request that waits longest.
+fn take_next(memory: &mut Memory<Place>, worker: u16) -> Seen
+    requires fit { IsFit (held memory.old).image }
+    requires may { (d : Id) × (r : Request) × MayTake (held memory.old).image worker d r }
+    ensures returns { Returns memory.new.step_record (held memory.old) (held memory.new) }
+    ensures leads { (p : Program) → Leads p (held memory.old).image (held memory.new).image (Take worker) (Some result) }
+{
+    match memory.requests.next_work(&memory.slots, worker) {
+        Err(_) => unreachable!(),
+        Ok((id, request)) => take_work(memory, worker, id, request),
+    }
+}
+
+/// A worker finishes the request that it runs: its job is done here.
+fn finish_own(memory: &mut Memory<Place>, worker: u16) -> Seen
+    requires fit { IsFit (held memory.old).image }
+    requires may { (d : Id) × (r : Request) × MayFinish (held memory.old).image worker d r }
+    ensures returns { Returns memory.new.step_record (held memory.old) (held memory.new) }
+    ensures leads { (p : Program) → Leads p (held memory.old).image (held memory.new).image (Finish worker) (Some result) }
+{
+    match memory.requests.work_of(&memory.slots, worker) {
+        Err(_) => unreachable!(),
+        Ok((id, request)) => {
+            let work = WorkResult::compute(request.job(id));
+            finish_work(memory, worker, id, request, work)
+        }
+    }
+}

@@ -1,0 +1,226 @@
+-- What keeps the loop alive is counted: the active referenced handles, and the open requests.
+use Rattle.std.proofs.Common.{◌≡◌, ◌⊎◌, inl, inr, ℕ, zero, suc, ◌+◌, ◌||◌, Bool, true, false, if◌then◌else◌, List, [], ◌∷◌, ◌++◌, length, length-append, ◌<◌, ◌≤◌, slice_get, Option, Some, None, option_and_then, eq-eqb, refl, sym, ap, ◌∙◌, arith}
+use Rattle.std.specs.List.{list_any}
+use Rattle.std.proofs.lemmas.Bool.{both_ways}
+use Rattle.uv_ids.specs.declared.id.Id.{Id}
+use Rattle.uv_records.specs.declared.slot.Slot.{Slot}
+use Rattle.uv_records.specs.Count as counts
+use Rattle.uv_records.specs.Count.{active_count, one_if}
+use Rattle.uv_records.specs.Handles.{keeps_alive}
+use Rattle.uv_records.specs.Slots as plain
+use Rattle.uv_work.specs.Pool.{busy}
+use Rattle.uv_work.specs.Requests.{is_open}
+use Rattle.uv_work.proofs.Replays.{same_itself}
+use Rattle.uv_model.specs.declared.content.Content.{Content}
+use Rattle.uv_model.specs.declared.content.Content.TheVariants.{Handle, Request as Asked}
+use Rattle.uv_model.specs.declared.place.Place.{Place}
+use Rattle.uv_model.specs.declared.request.Request.{Request}
+use Rattle.uv_model.specs.Content.{content_keeps, handle_of, request_in}
+use Rattle.uv_model.specs.Layout.{open_requests}
+use Rattle.uv_model.specs.State.{State, request}
+use Rattle.uv_model.specs.Timeout.{is_alive, has_closing}
+use Rattle.uv_order.specs.Active.{has_id, run_ids}
+use Rattle.uv_order.specs.Reached.{IsReached}
+use Rattle.uv_step.specs.Image.{Image}
+use Rattle.uv_stands.specs.Stands.{StandsFor}
+
+-- ---- slots by what they hold
+
+-- a slot holds something of which this is true
+pub record Somewhere (P : Option Content → Bool) (ss : List (Slot Content)) : Type 0 where
+  pub id : Id
+  pub content : Option Content
+  pub held : plain.held ss id ≡ content
+  pub fits : P content ≡ true
+
+own : (s : Slot Content) (n : ℕ) → plain.held_in (record { slot = n; generation = s.generation }) s ≡ s.content
+own s n = ap (λ (b : Bool). if b then s.content else None) (eq-eqb s.generation s.generation refl)
+
+behind : (P : Option Content → Bool) (s : Slot Content) (ss : List (Slot Content)) → Somewhere P ss → Somewhere P (s ∷ ss)
+behind P s ss w = record {
+  id = record { slot = suc w.id.slot; generation = w.id.generation };
+  content = w.content;
+  held = w.held;
+  fits = w.fits;
+}
+
+pub somewhere : (P : Option Content → Bool) (ss : List (Slot Content)) → list_any (λ (s : Slot Content). P s.content) ss ≡ true → Somewhere P ss
+somewhere P [] e = cc e
+somewhere P (s ∷ ss) e = at (P s.content) refl e (somewhere P ss) where
+  at : (b : Bool) → P s.content ≡ b → (b || list_any (λ (s : Slot Content). P s.content) ss) ≡ true
+      → (list_any (λ (s : Slot Content). P s.content) ss ≡ true → Somewhere P ss) → Somewhere P (s ∷ ss)
+  at true f e rest = record { id = record { slot = 0; generation = s.generation }; content = s.content; held = own s 0; fits = f }
+  at false f e rest = behind P s ss (rest e)
+
+then_some : (b : Bool) (o : Option Content) (c : Content) → (if b then o else None) ≡ Some c → o ≡ Some c
+then_some true o c e = e
+then_some false o c e = cc e
+
+pub or_true : (b c : Bool) → c ≡ true → (b || c) ≡ true
+or_true true c e = refl
+or_true false c e = e
+
+any_at : (P : Option Content → Bool) (ss : List (Slot Content)) (n : ℕ) (d : Id) (c : Content)
+    → option_and_then (plain.held_in d) (slice_get ss n) ≡ Some c → P (Some c) ≡ true → list_any (λ (s : Slot Content). P s.content) ss ≡ true
+any_at P [] n d c e f = cc e
+any_at P (s ∷ ss) zero d c e f =
+    ap (λ b. b || list_any (λ (s : Slot Content). P s.content) ss) (ap P (then_some _ s.content c e) ∙ f)
+any_at P (s ∷ ss) (suc n) d c e f = or_true (P s.content) _ (any_at P ss n d c e f)
+
+-- what is held under an id is in some slot
+pub any_held : (P : Option Content → Bool) (ss : List (Slot Content)) (d : Id) (c : Content) → plain.held ss d ≡ Some c → P (Some c) ≡ true
+    → list_any (λ (s : Slot Content). P s.content) ss ≡ true
+any_held P ss d c e f = any_at P ss d.slot d c e f
+
+-- ---- numbers
+
+abbrev pub positive : ℕ → Bool
+positive zero = false
+positive (suc n) = true
+
+more_positive : (n m : ℕ) → n ≡ suc m → positive n ≡ true
+more_positive n m e = ap positive e
+
+pub is_positive : (n : ℕ) → 0 < n → positive n ≡ true
+is_positive zero lt = absurd (omega (arith, lt))
+is_positive (suc n) lt = refl
+
+pub not_positive : (n : ℕ) → n ≤ 0 → positive n ≡ false
+not_positive zero le = refl
+not_positive (suc n) le = absurd (omega (arith, le))
+
+-- ---- handles and requests apart
+
+abbrev is_asked : Option Content → Bool
+is_asked None = false
+is_asked (Some (Handle h)) = false
+is_asked (Some (Asked r)) = true
+
+abbrev any_asked : List (Slot Content) → Bool
+any_asked ss = list_any (λ (s : Slot Content). is_asked s.content) ss
+
+abbrev keeping : List (Slot Content) → Bool
+keeping ss = list_any (λ (s : Slot Content). content_keeps s.content) ss
+
+of_handle : (b : Bool) (n : ℕ) (a : Bool) → (b || (positive n || a)) ≡ (positive (one_if b + n) || (false || a))
+of_handle true n a = let one : 1 + n ≡ suc n = omega arith in ap (λ z. z || a) (sym (more_positive (1 + n) n one))
+of_handle false n a = let none : n ≡ 0 + n = omega arith in ap (λ z. positive z || a) none
+
+or_on : (b : Bool) → true ≡ (b || true)
+or_on true = refl
+or_on false = refl
+
+one_slot : (o : Option Content) (n : ℕ) (a : Bool)
+    → (content_keeps o || (positive n || a)) ≡ (positive (one_if (counts.content_keeps handle_of o) + n) || (is_asked o || a))
+one_slot None n a = let none : n ≡ 0 + n = omega arith in ap (λ z. positive z || a) none
+one_slot (Some (Handle h)) n a = of_handle (keeps_alive h) n a
+one_slot (Some (Asked r)) n a = let none : n ≡ 0 + n = omega arith in or_on (positive n) ∙ ap (λ z. positive z || true) none
+
+keeps_apart : (ss : List (Slot Content)) → keeping ss ≡ (positive (active_count handle_of ss) || any_asked ss)
+keeps_apart [] = refl
+keeps_apart (s ∷ ss) =
+    ap (λ b. content_keeps s.content || b) (keeps_apart ss) ∙ one_slot s.content (active_count handle_of ss) (any_asked ss)
+
+-- ---- requests by their lists
+
+length_runs : (rs : List (Option Id)) → length (run_ids rs) ≡ busy rs
+length_runs [] = refl
+length_runs (None ∷ rs) = length_runs rs
+length_runs (Some d ∷ rs) = let rest = length_runs rs in omega (arith, rest)
+
+-- who is on a list makes it longer than none, and a longer one has its first
+not_on : (xs : List Id) (d : Id) → length xs ≡ 0 → has_id xs d ≡ true → ⊥
+not_on [] d z e = cc e
+not_on (x ∷ xs) d z e = cc z
+
+none_on : (xs : List Id) → ((d : Id) → has_id xs d ≡ true → ⊥) → length xs ≡ 0
+none_on [] f = refl
+none_on (x ∷ xs) f = absurd (f x (ap (λ b. b || has_id xs x) (same_itself x)))
+
+counts_as : (b : Bool) (n : ℕ) → (b ≡ true → n ≡ 0 → ⊥) → (b ≡ false → n ≡ 0) → b ≡ positive n
+counts_as true zero f g = absurd (f refl refl)
+counts_as true (suc n) f g = refl
+counts_as false zero f g = refl
+counts_as false (suc n) f g = let z = g refl in cc z
+
+module _ (s : State) (r : IsReached s) where
+  abbrev opened : List Id
+  opened = s.waiting ++ run_ids s.running
+
+  abbrev ended : List Id
+  ended = s.done.list ++ s.done.yet
+
+  all_lengths : open_requests s ≡ length opened + length ended
+  all_lengths =
+      let a = length-append s.waiting (run_ids s.running) in
+      let b = length_runs s.running in
+      let c = length-append s.done.list s.done.yet in
+      omega (arith, a, b, c)
+
+  -- a request that is held is on one of the lists
+  listed : (w : Somewhere is_asked s.arena.slots) → (has_id opened w.id ≡ true) ⊎ (has_id ended w.id ≡ true)
+  listed w = at w.content w.held w.fits where
+    by : (x : Request) (b : Bool) → request s w.id ≡ Some x → is_open x.outcome ≡ b
+        → (has_id opened w.id ≡ true) ⊎ (has_id ended w.id ≡ true)
+    by x true e is = inl (r.opened.all w.id (record { its = x; holds = e; opened = is }))
+    by x false e is = inr (r.done.all w.id (record { its = x; holds = e; ended = is }))
+
+    at : (o : Option Content) → plain.held s.arena.slots w.id ≡ o → is_asked o ≡ true
+        → (has_id opened w.id ≡ true) ⊎ (has_id ended w.id ≡ true)
+    at None e f = cc f
+    at (Some (Handle h)) e f = cc f
+    at (Some (Asked x)) e f = by x (is_open x.outcome) (ap request_in e) refl
+
+  -- who is on one of the lists is held
+  asked_there : (d : Id) (x : Request) → request s d ≡ Some x → any_asked s.arena.slots ≡ true
+  asked_there d x e = at (plain.held s.arena.slots d) refl e where
+    at : (o : Option Content) → plain.held s.arena.slots d ≡ o → request_in o ≡ Some x → any_asked s.arena.slots ≡ true
+    at None e f = cc f
+    at (Some (Handle h)) e f = cc f
+    at (Some (Asked y)) e f = any_held is_asked s.arena.slots d (Asked y) e refl
+
+  asked_counts : any_asked s.arena.slots ≡ positive (open_requests s)
+  asked_counts = counts_as (any_asked s.arena.slots) (open_requests s) some none where
+    some : any_asked s.arena.slots ≡ true → open_requests s ≡ 0 → ⊥
+    some e z =
+        let sum = all_lengths in
+        let w = somewhere is_asked s.arena.slots e in
+        elim (listed w) [
+          | inl on ↦ not_on opened w.id (omega (arith, sum, z)) on
+          | inr on ↦ not_on ended w.id (omega (arith, sum, z)) on
+        ]
+
+    none : any_asked s.arena.slots ≡ false → open_requests s ≡ 0
+    none e =
+        let sum = all_lengths in
+        let a = none_on opened (λ d on. let k = r.opened.each d on in both_ways (any_asked s.arena.slots) e (asked_there d k.its k.holds)) in
+        let b = none_on ended (λ d on. let k = r.done.each d on in both_ways (any_asked s.arena.slots) e (asked_there d k.its k.holds)) in
+        omega (arith, sum, a, b)
+
+or_in : (a b c : Bool) → ((a || b) || c) ≡ (a || (b || c))
+or_in true b c = refl
+or_in false b c = refl
+
+-- the loop is alive just where the counts or the closing handles say so
+pub alive_counts : (i : Image Place) (s : State) → StandsFor i s → IsReached s
+    → is_alive s ≡ (positive i.active || (positive i.running.count || has_closing s))
+alive_counts i s h r =
+    ap (λ b. b || has_closing s) (keeps_apart s.arena.slots ∙ ap (λ b. positive (active_count handle_of s.arena.slots) || b) (asked_counts s r))
+    ∙ or_in (positive (active_count handle_of s.arena.slots)) (positive (open_requests s)) (has_closing s)
+    ∙ ap (λ n. positive n || (positive (open_requests s) || has_closing s)) (sym h.active)
+    ∙ ap (λ n. positive i.active || (positive n || has_closing s)) (sym h.opened)
+
+module _ (i : Image Place) (s : State) (h : StandsFor i s) (r : IsReached s) where
+  pub alive_handles : 0 < i.active → is_alive s ≡ true
+  alive_handles lt =
+      alive_counts i s h r ∙ ap (λ b. b || (positive i.running.count || has_closing s)) (is_positive i.active lt)
+
+  pub alive_requests : 0 < i.running.count → is_alive s ≡ true
+  alive_requests lt =
+      alive_counts i s h r
+      ∙ or_true (positive i.active) _ (ap (λ b. b || has_closing s) (is_positive i.running.count lt))
+
+  pub alive_closing : i.active ≤ 0 → i.running.count ≤ 0 → is_alive s ≡ has_closing s
+  alive_closing a b =
+      let x = not_positive i.active a in
+      let y = not_positive i.running.count b in alive_counts i s h r ∙ (λ l. x l || (y l || has_closing s))
