@@ -114,6 +114,100 @@ fn a_run_settles_once_all_was_applied(rt: HostRuntime) -> Result<(), Fault> {
     Ok(())
 }
 
+/// A call of a book.
+#[derive(Clone, Copy)]
+enum Entry {
+    Submit(u32),
+    Cancel(u32),
+    Take(u16),
+    Finish(u16, u32),
+}
+
+/// Makes a call of a book, which is accepted.
+fn enter<L: Ledger, R: Abort>(rt: &R, book: &mut PoolBook<L>, entry: Entry) -> Result<(), Fault> {
+    book.reserve()?;
+    match entry {
+        Entry::Submit(slot) => book.submit(job(rt, id(slot), b"")),
+        Entry::Cancel(slot) => book.cancel(id(slot)).map(|_| ()),
+        Entry::Take(k) => book.take(k).map(|_| ()),
+        Entry::Finish(k, slot) => {
+            let result = WorkResult::compute(job(rt, id(slot), b""));
+            book.finish(k, result).map_err(|refused| refused.0)
+        }
+    }
+}
+
+/// What the session of one queued request answers to these entries of a book, twice, and how many steps of workers stand then.
+fn followed<F: Follower, L: Ledger, R: Abort>(
+    rt: &R,
+    alloc: Global,
+    blank: Blank,
+    session: &mut F,
+    entries: &[Entry],
+) -> Result<(Result<usize, Fault>, Result<usize, Fault>, usize), Fault>
+    requires name { blank.name ≡ L.name }
+    requires parts { blank.parts ≡ L.parts }
+    requires more { 2 < blank.parts }
+{
+    let mut book = PoolBook::<L>::new(alloc, blank, 2)?;
+    for entry in entries {
+        enter(rt, &mut book, *entry)?;
+    }
+    let first = follow(session, &book);
+    let again = follow(session, &book);
+    Ok((first, again, session.steps().len()))
+}
+
+/// The session of one request, which the loop's first step queued, beside a book with these entries.
+fn beside<M: Machine, R: Abort>(
+    rt: &R,
+    alloc: Global,
+    entries: &[Entry],
+) -> Result<(Result<usize, Fault>, Result<usize, Fault>, usize), Fault> {
+    let session = begun::<M>(alloc, b"workers 2\nvar p\nmain queue p 1\n")?;
+    let mut live = LiveSession::new(alloc, session, Vec::new(alloc));
+    live.step()?;
+    followed::<_, Brand, _>(rt, alloc, Blank::new(3), &mut live, entries)
+}
+
+/// Whether a session that follows such a book is torn at this place, the second time too, with so many steps.
+fn is_torn<R: Abort>(
+    rt: &R,
+    alloc: Global,
+    entries: &[Entry],
+    at: usize,
+    steps: usize,
+) -> Result<bool, Fault> {
+    let (first, again, stand) = beside::<PlainLoop, _>(rt, alloc, entries)?;
+    Ok(first == Err(Fault::Torn { at }) && again == Err(Fault::Torn { at }) && stand == steps)
+}
+
+#[test]
+fn a_log_that_is_not_the_sessions_is_torn(rt: HostRuntime) -> Result<(), Fault> {
+    let alloc = rt.alloc();
+    assert!(&rt; is_torn(&rt, alloc, &[], 1, 1)?);
+    assert!(&rt; is_torn(&rt, alloc, &[Entry::Submit(1)], 1, 1)?);
+    assert!(&rt; is_torn(&rt, alloc, &[Entry::Submit(0), Entry::Cancel(0)], 2, 1)?);
+    assert!(&rt;
+        is_torn(
+            &rt,
+            alloc,
+            &[Entry::Submit(0), Entry::Take(0), Entry::Submit(1)],
+            3,
+            2
+        )?
+    );
+    Ok(())
+}
+
+#[test]
+fn a_log_is_followed_once(rt: HostRuntime) -> Result<(), Fault> {
+    let entries = [Entry::Submit(0), Entry::Take(1), Entry::Finish(1, 0)];
+    let followed = beside::<PlainLoop, _>(&rt, rt.alloc(), &entries)?;
+    assert!(&rt; followed == (Ok(2), Ok(0), 3));
+    Ok(())
+}
+
 #[test]
 fn a_jump_clock_jumps(rt: HostRuntime) {
     let mut clock = JumpClock::new(3);

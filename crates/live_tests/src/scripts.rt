@@ -6,11 +6,11 @@ use std::process::Abort;
 use std::sync::Wait;
 use std::thread::Threads;
 use std::time::Clock;
-use uv_ids::{Event, Fault, Id, Seen, Var};
+use uv_ids::{Code, Event, Fault, Id, Seen, Var};
 use uv_live::JumpClock;
-use uv_model::{Machine, PlainLoop};
+use uv_model::{Machine, PlainLoop, STEPS};
 use uv_pool::Gate;
-use uv_run::live;
+use uv_run::live_within;
 use uv_script::{Script, push_number};
 use uv_session::Session;
 
@@ -73,15 +73,17 @@ fn told<M: Machine>(alloc: Global, session: &Session<M>) -> Result<Story, Fault>
     })
 }
 
-/// Runs a script on real threads, over a machine.
+/// Runs a script on real threads, over a machine, for so many steps at most.
 fn ran_over<M: Machine, G: Gate + Sync, R: Threads + Wait + Sync>(
     rt: &R,
     alloc: Global,
+    limit: usize,
     text: &[u8],
     gate: &G,
 ) -> Result<Story, Fault> {
     let script = Script::parse(alloc, text)?;
-    let session = live::<M, _, _, _>(rt, alloc, script, &mut JumpClock::new(0), gate)?;
+    let mut clock = JumpClock::new(0);
+    let session = live_within::<M, _, _, _>(rt, alloc, limit, script, &mut clock, gate)?;
     told(alloc, &session)
 }
 
@@ -92,7 +94,7 @@ fn ran<G: Gate + Sync, R: Threads + Wait + Sync>(
     text: &[u8],
     gate: &G,
 ) -> Result<Story, Fault> {
-    ran_over::<PlainLoop, _, _>(rt, alloc, text, gate)
+    ran_over::<PlainLoop, _, _>(rt, alloc, STEPS, text, gate)
 }
 
 /// Whether the callbacks of a run are these, in this order.
@@ -269,5 +271,68 @@ fn a_run_that_nobody_wakes_is_stalled(rt: HostRuntime) -> Result<(), Fault> {
         b"workers 2\nvar a\nvar w\nmain init a async\nmain queue w 1\nmain queue w 1\nmain run default\n";
     let answer = ran(&rt, rt.alloc(), text, &Quiet);
     assert!(&rt; matches!(answer, Err(Fault::Stalled)));
+    Ok(())
+}
+
+/// Whether a run has one send, with one of these answers.
+fn is_sent_once(trace: &[Seen], codes: &[Code]) -> bool {
+    let mut sends: u32 = 0;
+    for seen in trace {
+        if let Seen::Send(_, code) = *seen {
+            sends = sends.wrapping_add(if codes.contains(&code) { 1 } else { 2 });
+        }
+    }
+    sends == 1
+}
+
+/// Whether each of 100 runs of a script has these callbacks, and one send with one of these answers.
+fn runs_alike<R: Threads + Wait + Sync>(
+    rt: &R,
+    alloc: Global,
+    text: &[u8],
+    wanted: &[Seen],
+    codes: &[Code],
+) -> Result<bool, Fault> {
+    for _ in 0..100 {
+        let story = ran(rt, alloc, text, &Quiet)?;
+        if !are_called(&story.trace, wanted) || !is_sent_once(&story.trace, codes) {
+            return Ok(false);
+        }
+    }
+    Ok(true)
+}
+
+#[test]
+fn a_send_to_a_handle_that_closes_calls_nobody(rt: HostRuntime) -> Result<(), Fault> {
+    let text =
+        b"var a\nvar t\nmain init a async\nmain close a\nmain init t timer\nmain start t 50 0\n\
+        main run default\nthread 0 send a\n";
+    let wanted = [Seen::Closed(Var(0), id(0)), Seen::Call(Var(1), id(1))];
+    assert!(&rt;
+        runs_alike(
+            &rt,
+            rt.alloc(),
+            text,
+            &wanted,
+            &[Code::Einval, Code::Estale]
+        )?
+    );
+    Ok(())
+}
+
+#[test]
+fn two_sends_of_a_thread_are_one_or_too_late(rt: HostRuntime) -> Result<(), Fault> {
+    let text =
+        b"workers 1\nvar a\nmain init a async\nmain run default\non a close a\nthread 0 send a\nthread 0 send a\n";
+    let wanted = [Seen::Call(Var(0), id(0)), Seen::Closed(Var(0), id(0))];
+    assert!(&rt; runs_alike(&rt, rt.alloc(), text, &wanted, &[Code::Ok])?);
+    Ok(())
+}
+
+#[test]
+fn a_run_of_too_many_steps_is_ended(rt: HostRuntime) -> Result<(), Fault> {
+    let text = b"var i\nmain init i idle\nmain start i\nmain run default\n";
+    let answer = ran_over::<PlainLoop, _, _>(&rt, rt.alloc(), 1000, text, &Quiet);
+    assert!(&rt; matches!(answer, Err(Fault::StepsFull)));
     Ok(())
 }

@@ -1,12 +1,15 @@
 -- One place further along a log.
-use Rattle.std.proofs.Common.{◌≡◌, ◌∙◌, ◌<◌, ◌≤◌, ⊎_elim, ℕ, ◌+◌, List, [], ◌∷◌, ◌++◌, Option, Some, take, drop, map, length, get_or, slice_get, sym, ap, subst, arith, append_assoc}
+use Rattle.std.proofs.Common.{◌≡◌, ◌∙◌, ◌<◌, ◌≤◌, ⊎_elim, ℕ, ◌+◌, List, [], ◌∷◌, ◌++◌, Option, Some, Err, take, drop, map, length, get_or, slice_get, sym, ap, subst, arith, append_assoc}
 use Rattle.std.proofs.lemmas.Bool.{cases_lt}
 use Rattle.std.proofs.lemmas.List.{take_more, length-take-le, drop_all, drop-append-le, map-append, append-nil}
 use Rattle.uv_ids.specs.declared.event.Event.{Event}
 use Rattle.uv_work.specs.Pool.{IsLegal}
 use Rattle.uv_work.specs.declared.event.PoolEvent.{PoolEvent}
 use Rattle.uv_live.specs.Course.{Course, step_of, stepped, taken}
-use Rattle.uv_live.specs.Following.{IsWorkers, MayTake}
+use Rattle.uv_ids.specs.declared.fault.Fault.{Fault}
+use Rattle.uv_ids.specs.declared.fault.Why.{Why}
+use Rattle.uv_ids.specs.declared.fault.Fault.TheVariants as fault
+use Rattle.uv_live.specs.Following.{Applies, IsWorkers, MayTake, Syncs}
 use Rattle.uv_live.proofs.Legal.{legal_take}
 
 -- the next entry may follow the session's events
@@ -74,3 +77,19 @@ more_taken log s t u n d low within before more =
     more ∙ (ap (stepped (step_of (get_or log n d)) (get_or log n d ∷ [])) before
     ∙ same_course (stepped (step_of (get_or log n d)) (get_or log n d ∷ []) (taken n log s)) (taken (n + 1) log s)
     (steps_more log (length s.events) n d s.steps low within) (sym (take_more log n d within)))
+
+-- the entries before place n were applied
+pub record AreApplied (n : ℕ) (log : List PoolEvent) (s t : Course) : Type 0 where
+  pub may : MayTake n log s.events
+  pub course : t ≡ taken n log s
+
+-- the entry was not applied, for want of memory or of a step
+pub some_applied : (e : PoolEvent) (log : List PoolEvent) (s t u : Course) (n : ℕ) (f : Fault) → AreApplied n log s t → Applies e t (Err f) u
+    → Syncs log s (Err f) u
+some_applied e log s t u n fault.Memory h a = (n, h.may, a ∙ h.course)
+some_applied e log s t u n fault.StepsFull h a = (n, h.may, a ∙ h.course)
+some_applied e log s t u n f h a = absurd a
+
+-- an entry that may follow isn't refused
+pub never_refused : (e : PoolEvent) (s t : Course) (f : Fault) (w : Why) → f ≡ fault.Refused w → Applies e s (Err f) t → ⊥
+never_refused e s t f w is a = let P : Fault → Type 0 = λ x. Applies e s (Err x) t in subst P is a

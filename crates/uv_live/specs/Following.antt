@@ -8,6 +8,7 @@ use Rattle.uv_ids.specs.declared.fault.Why.{Why}
 use Rattle.uv_ids.specs.declared.fault.Why.TheVariants as why
 use Rattle.uv_work.specs.declared.event.PoolEvent.{PoolEvent}
 use Rattle.uv_work.specs.declared.event.PoolEvent.TheVariants as event
+use Rattle.uv_pool.specs.Contents.{Contents}
 use Rattle.uv_live.specs.Course.{Course, stepped, step_of, taken}
 
 -- the answer of a test
@@ -65,3 +66,12 @@ Syncs log s (Err (fault.Torn at)) t = TearsAt at log s t
 Syncs log s (Err fault.Memory) t = TakesSome log s t
 Syncs log s (Err fault.StepsFull) t = TakesSome log s t
 Syncs log s (Err _) t = ⊥
+
+-- a session of so many workers and with these events follows the book
+abbrev pub Follows : ℕ → List PoolEvent → Contents → Type 0
+Follows workers events c = (workers ≡ length c.running) × PartsAt events c.log None
+
+-- no refusal of a step
+abbrev pub IsNoRefusal : Fault → Type 0
+IsNoRefusal (fault.Refused w) = ⊥
+IsNoRefusal _ = Unit {0}

@@ -61,6 +61,7 @@ AllSendsFit steps plan counts = (v : ℕ) → v < plan.names → SendsFit steps 
 
 pub record IsSettled {S : Type 0} (plan : Plan S) (s : Course) (book : Standing) (shifts : List Worked) (counts : List ℕ) : Type 0 where
   pub closed : book.rest.closed ≡ true
+  pub workers : length book.hold.contents.running ≡ plan.workers
   pub whole : s.events ≡ book.hold.contents.log
   pub crew : length shifts ≡ length book.hold.contents.running
   pub each : AreShifts book.hold.contents.log shifts

@@ -101,16 +101,16 @@ pub trait Follower {
 
     /// A worker takes the request that waits longest (`Event::Take`).
     fn take(&mut self, k: u16, id: Id) -> Result<(), Fault>
-        requires { IsLegal (plan self.old).workers ((course self.old).events ++ event.Take k id ∷ []) }
         ensures plan { plan self.new ≡ plan self.old }
-        ensures answer { Applies (event.Take k id) (course self.old) result (course self.new) }
+        ensures answer { IsLegal (plan self.old).workers ((course self.old).events ++ event.Take k id ∷ [])
+            → Applies (event.Take k id) (course self.old) result (course self.new) }
         ensures ended { StaysEnded (refusal self.old) (refusal self.new) };
 
     /// A worker finishes its request (`Event::Finish`), with that result where it is of the very job that the worker runs. Without
     /// one the session does the job.
     fn finish(&mut self, k: u16, id: Id, work: Option<WorkResult>) -> Result<(), Fault>
-        requires { IsLegal (plan self.old).workers ((course self.old).events ++ event.Finish k id ∷ []) }
         ensures plan { plan self.new ≡ plan self.old }
-        ensures answer { Applies (event.Finish k id) (course self.old) result (course self.new) }
+        ensures answer { IsLegal (plan self.old).workers ((course self.old).events ++ event.Finish k id ∷ [])
+            → Applies (event.Finish k id) (course self.old) result (course self.new) }
         ensures ended { StaysEnded (refusal self.old) (refusal self.new) };
 }

@@ -1,7 +1,7 @@
 //! How a session follows a book.
-ghost use Rattle.std.specs.Prelude.{◌≡◌, ◌++◌, ◌∷◌, [], Some, length};
+ghost use Rattle.std.specs.Prelude.{◌≡◌, ◌++◌, ◌∷◌, [], Some, IfErr, length};
 ghost use Rattle.uv_work.specs.Pool.{IsLegal};
-ghost use Rattle.uv_live.specs.Following.{Applies, Decides, IsWorkers, PartsAt, StaysEnded, Syncs};
+ghost use Rattle.uv_live.specs.Following.{Applies, Decides, Follows, IsNoRefusal, IsWorkers, PartsAt, StaysEnded, Syncs};
 
 use crate::follower::Follower;
 use std::sync::ledger::Ledger;
@@ -49,9 +49,9 @@ fn apply<F: Follower, L: Ledger>(
     event: PoolEvent,
 ) -> Result<(), Fault>
     requires theirs { IsWorkers (Some event) }
-    requires legal { IsLegal (F.plan session.old).workers ((F.course session.old).events ++ event ∷ []) }
     ensures plan { F.plan session.new ≡ F.plan session.old }
-    ensures answer { Applies event (F.course session.old) result (F.course session.new) }
+    ensures answer { IsLegal (F.plan session.old).workers ((F.course session.old).events ++ event ∷ [])
+        → Applies event (F.course session.old) result (F.course session.new) }
     ensures ended { StaysEnded (F.refusal session.old) (F.refusal session.new) }
 {
     match event {
@@ -59,6 +59,37 @@ fn apply<F: Follower, L: Ledger>(
         PoolEvent::Finish(k, id) => session.finish(k, id, book.result(id)),
         _ => unreachable!(),
     }
+}
+
+/// Applies what the log has past so many entries as the session has events, and answers how many there were. Where the log begins with
+/// these events, as one that they were compared with does, it is `sync`; it doesn't compare them.
+pub(crate) fn sync_rest<F: Follower, L: Ledger>(
+    session: &mut F,
+    book: &PoolBook<L>,
+) -> Result<usize, Fault>
+    ensures plan { F.plan session.new ≡ F.plan session.old }
+    ensures synced { Follows (F.plan session.old).workers (F.course session.old).events book.now.hold.contents
+        → Syncs book.now.hold.contents.log (F.course session.old) result (F.course session.new) }
+    ensures faults { IfErr result IsNoRefusal }
+    ensures ended { StaysEnded (F.refusal session.old) (F.refusal session.new) }
+{
+    let log = book.log();
+    let start = session.pool_events().len();
+    if log.len() < start {
+        return Err(Fault::Torn { at: log.len() + 1 });
+    }
+    'rest: for n in start..log.len() {
+        let event = log[n];
+        if !is_workers(event) {
+            return Err(Fault::Torn { at: n + 1 });
+        }
+        match apply(session, book, event) {
+            Ok(()) => {}
+            Err(Fault::Refused(_)) => return Err(Fault::Torn { at: n + 1 }),
+            Err(fault) => return Err(fault),
+        }
+    }
+    Ok(log.len() - start)
 }
 
 /// Applies the rest of the book's log to the session, each entry as the same event, and answers how many there were.
@@ -71,20 +102,8 @@ pub fn sync<F: Follower, L: Ledger>(session: &mut F, book: &PoolBook<L>) -> Resu
     ensures synced { Syncs book.now.hold.contents.log (F.course session.old) result (F.course session.new) }
     ensures ended { StaysEnded (F.refusal session.old) (F.refusal session.new) }
 {
-    let log = book.log();
-    if let Some(n) = first_apart(session.pool_events(), log) {
+    if let Some(n) = first_apart(session.pool_events(), book.log()) {
         return Err(Fault::Torn { at: n + 1 });
     }
-    let start = session.pool_events().len();
-    'rest: for n in start..log.len() {
-        let event = log[n];
-        if !is_workers(event) {
-            return Err(Fault::Torn { at: n + 1 });
-        }
-        match apply(session, book, event) {
-            Ok(()) => {}
-            Err(fault) => return Err(fault),
-        }
-    }
-    Ok(log.len() - start)
+    sync_rest(session, book)
 }

@@ -3,7 +3,6 @@ ghost use Rattle.std.specs.Prelude.{◌≡◌, ◌<◌, Some, Ok, true, IfOk, If
 ghost use Rattle.uv_ids.specs.declared.fault.Why.TheVariants as why;
 ghost use Rattle.uv_wake.specs.Seats.{names_of};
 ghost use Rattle.uv_live.specs.Course.{AreNamed};
-ghost use Rattle.uv_live.specs.Turning.{Refuses};
 ghost use Rattle.uv_live.specs.Running.{HaltsAt, RunSettles};
 
 use crate::clock::Clock;
@@ -13,7 +12,7 @@ use crate::crew::{
 use crate::follower::{Did, Follower};
 use crate::following::sync;
 use crate::settling::settle;
-use crate::turning::turn;
+use crate::turning::turn_rest;
 use std::alloc::Global;
 use std::marker::Brand;
 use std::sync::Wait;
@@ -62,17 +61,6 @@ fn absorb_all<S: Follower>(session: &mut S, board: &Board, seat: &mut LoopSeat) 
         }
     }
     Ok(())
-}
-
-/// A turn on a book that comes from under its lock, where nothing is known of it.
-fn take_turn<S: Follower, L: Ledger>(session: &mut S, book: &mut PoolBook<L>) -> Result<Did, Fault>
-    ensures plan { S.plan session.new ≡ S.plan session.old }
-    ensures refused { Refuses result (S.refusal session.new) }
-{
-    if book.workers() != session.worker_count() {
-        return Err(Fault::Torn { at: 0 });
-    }
-    turn(session, book)
 }
 
 /// Lets the clock go on up to the poll's deadline. `Stalled` where there is none, or where the clock doesn't go on.
@@ -150,7 +138,7 @@ fn run<S: Follower, L: Ledger, C: Clock, R: Threads + Wait>(
                 Err(fault) => return Err(fault),
             }
         }
-        let answer = take_turn(session, &mut book.lock(rt));
+        let answer = turn_rest(session, &mut book.lock(rt));
         match answer {
             Ok(Did::Queued(_)) => book.wake(),
             Ok(_) => {}

@@ -175,6 +175,9 @@ fn do_agree<F: Follower, L: Ledger>(
     if !book.closed() {
         return false;
     }
+    if book.workers() != session.worker_count() {
+        return false;
+    }
     if shifts.len() != book.workers() as usize {
         return false;
     }

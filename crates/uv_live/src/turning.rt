@@ -3,10 +3,11 @@ ghost use Rattle.std.specs.Prelude.{◌≡◌, ◌<◌, ◌++◌, ◌∷◌, [],
 ghost use Rattle.uv_work.specs.Pool.{IsLegal};
 ghost use Rattle.uv_work.specs.declared.event.PoolEvent.TheVariants as event;
 ghost use Rattle.uv_live.specs.Course.{events_of};
+ghost use Rattle.uv_live.specs.Following.{Follows};
 ghost use Rattle.uv_live.specs.Turning.{Turns, Refuses};
 
 use crate::follower::{Did, Follower};
-use crate::following::sync;
+use crate::following::{first_apart, sync_rest};
 use std::sync::ledger::Ledger;
 use uv_ids::{Fault, Id};
 use uv_pool::PoolBook;
@@ -15,8 +16,9 @@ use uv_work::Job;
 fn enter_queue<L: Ledger>(book: &mut PoolBook<L>, job: Job)
     requires room { book.old.hold.room ≡ true }
     requires less { length book.old.hold.contents.log < 16777216 }
-    requires legal { IsLegal (length book.old.hold.contents.running) (book.old.hold.contents.log ++ event.Queue job.req ∷ []) }
-    ensures { book.new.hold.contents.log ≡ book.old.hold.contents.log ++ event.Queue job.req ∷ [] }
+    ensures log { IsLegal (length book.old.hold.contents.running) (book.old.hold.contents.log ++ event.Queue job.req ∷ [])
+        → book.new.hold.contents.log ≡ book.old.hold.contents.log ++ event.Queue job.req ∷ [] }
+    ensures rest { book.new.rest ≡ book.old.rest }
 {
     book.is_sound();
     let _ = book.submit(job);
@@ -25,8 +27,9 @@ fn enter_queue<L: Ledger>(book: &mut PoolBook<L>, job: Job)
 fn enter_cancel<L: Ledger>(book: &mut PoolBook<L>, id: Id)
     requires room { book.old.hold.room ≡ true }
     requires less { length book.old.hold.contents.log < 16777216 }
-    requires legal { IsLegal (length book.old.hold.contents.running) (book.old.hold.contents.log ++ event.Cancel id ∷ []) }
-    ensures { book.new.hold.contents.log ≡ book.old.hold.contents.log ++ event.Cancel id ∷ [] }
+    ensures log { IsLegal (length book.old.hold.contents.running) (book.old.hold.contents.log ++ event.Cancel id ∷ [])
+        → book.new.hold.contents.log ≡ book.old.hold.contents.log ++ event.Cancel id ∷ [] }
+    ensures rest { book.new.rest ≡ book.old.rest }
 {
     book.is_sound();
     let _ = book.cancel(id);
@@ -35,8 +38,9 @@ fn enter_cancel<L: Ledger>(book: &mut PoolBook<L>, id: Id)
 fn enter_collect<L: Ledger>(book: &mut PoolBook<L>, id: Id)
     requires room { book.old.hold.room ≡ true }
     requires less { length book.old.hold.contents.log < 16777216 }
-    requires legal { IsLegal (length book.old.hold.contents.running) (book.old.hold.contents.log ++ event.Collect id ∷ []) }
-    ensures { book.new.hold.contents.log ≡ book.old.hold.contents.log ++ event.Collect id ∷ [] }
+    ensures log { IsLegal (length book.old.hold.contents.running) (book.old.hold.contents.log ++ event.Collect id ∷ [])
+        → book.new.hold.contents.log ≡ book.old.hold.contents.log ++ event.Collect id ∷ [] }
+    ensures rest { book.new.rest ≡ book.old.rest }
 {
     book.is_sound();
     let _ = book.collect();
@@ -46,8 +50,9 @@ fn enter_collect<L: Ledger>(book: &mut PoolBook<L>, id: Id)
 fn enter<L: Ledger>(book: &mut PoolBook<L>, did: Did)
     requires room { book.old.hold.room ≡ true }
     requires less { length book.old.hold.contents.log < 16777216 }
-    requires legal { IsLegal (length book.old.hold.contents.running) (book.old.hold.contents.log ++ events_of did) }
-    ensures { book.new.hold.contents.log ≡ book.old.hold.contents.log ++ events_of did }
+    ensures log { IsLegal (length book.old.hold.contents.running) (book.old.hold.contents.log ++ events_of did)
+        → book.new.hold.contents.log ≡ book.old.hold.contents.log ++ events_of did }
+    ensures rest { book.new.rest ≡ book.old.rest }
 {
     match did {
         Did::Nothing => {}
@@ -55,6 +60,27 @@ fn enter<L: Ledger>(book: &mut PoolBook<L>, did: Did)
         Did::Cancelled(id) => enter_cancel(book, id),
         Did::Collected(id) => enter_collect(book, id),
     }
+}
+
+/// `turn` on a session and a book that were compared before, as `sync_rest` is `sync`.
+pub(crate) fn turn_rest<F: Follower, L: Ledger>(
+    session: &mut F,
+    book: &mut PoolBook<L>,
+) -> Result<Did, Fault>
+    ensures plan { F.plan session.new ≡ F.plan session.old }
+    ensures turned { Follows (F.plan session.old).workers (F.course session.old).events book.old.hold.contents
+        → Turns book.old.hold.contents.log (F.course session.old) result book.new.hold.contents.log (F.course session.new) }
+    ensures rest { book.new.rest ≡ book.old.rest }
+    ensures refused { Refuses result (F.refusal session.new) }
+{
+    book.is_sound();
+    sync_rest(session, book)?;
+    book.reserve()?;
+    let did = session.step()?;
+    let answer = did;
+    let _ = session.pool_events();
+    enter(book, did);
+    Ok(answer)
 }
 
 /// Applies the rest of the book's log to the session, does one step of the loop, and enters in the book what that did.
@@ -65,24 +91,11 @@ pub fn turn<F: Follower, L: Ledger>(session: &mut F, book: &mut PoolBook<L>) -> 
     requires { (F.plan session.old).workers ≡ length book.old.hold.contents.running }
     ensures plan { F.plan session.new ≡ F.plan session.old }
     ensures turned { Turns book.old.hold.contents.log (F.course session.old) result book.new.hold.contents.log (F.course session.new) }
+    ensures rest { book.new.rest ≡ book.old.rest }
     ensures refused { Refuses result (F.refusal session.new) }
 {
-    book.is_sound();
-    match sync(session, book) {
-        Ok(_) => {}
-        Err(fault) => return Err(fault),
+    if let Some(n) = first_apart(session.pool_events(), book.log()) {
+        return Err(Fault::Torn { at: n + 1 });
     }
-    match book.reserve() {
-        Ok(()) => {}
-        Err(fault) => return Err(fault),
-    }
-    match session.step() {
-        Ok(did) => {
-            let answer = did;
-            let _ = session.pool_events();
-            enter(book, did);
-            Ok(answer)
-        }
-        Err(fault) => Err(fault),
-    }
+    turn_rest(session, book)
 }

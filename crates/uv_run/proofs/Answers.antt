@@ -185,6 +185,13 @@ pub finish_taken : (s : Shown) (k : ℕ) (id : Id) → IsLegal (worker_count s.p
 unfolding events_by
 finish_taken s k id h = finish_is_taken s.program s.standing k id h
 
+-- and the list of events with that of its line at its end
+pub line_events : (s t : Shown) (e : Event) (o : Outcome) (p : Program) (was is : List PoolEvent) → p ≡ t.program → TakesEvent s e (Ok o) t →
+    was ≡ events_by s.program s.standing → is ≡ was ++ events_in p o.seen → is ≡ events_by t.program t.standing
+line_events s t e o p was is q h f g =
+    g ∙ (ap₂ (λ (xs : List PoolEvent) (x : Program). xs ++ events_in x o.seen) f (q ∙ h.same_program)
+    ∙ (sym (events_more s.program s.standing e _ o.seen h.answer.2) ∙ sym (ap₂ events_by h.same_program h.answer.1)))
+
 pub ruleset answers = (
   fault_keeps,
   worker_ok,

@@ -1,5 +1,5 @@
 -- A session as a live run follows it.
-use Rattle.std.specs.Prelude.{◌≡◌, Bool, List, Option, length}
+use Rattle.std.specs.Prelude.{◌≡◌, ℕ, Bool, List, Option, length}
 use Rattle.uv_ids.specs.declared.fault.Why.{Why}
 use Rattle.uv_script.specs.Program.{Program, worker_count}
 use Rattle.uv_work.specs.declared.event.PoolEvent.{PoolEvent}
@@ -16,6 +16,20 @@ pub record Bound : Type 0 where
 -- what a script, with these `thread` lines, says of a run
 abbrev pub plan_of : Program → List ThreadLine → Plan Program
 plan_of p lines = record { script = p; workers = worker_count p; names = length p.names; lines = lines }
+
+-- what a session runs: its script, and how many steps it may take
+pub record Asked : Type 0 where
+  pub program : Program
+  pub limit : ℕ
+
+-- the same of such a session
+abbrev pub plan_within : Shown → List ThreadLine → Plan Asked
+plan_within s lines = record {
+  script = record { program = s.program; limit = s.limit };
+  workers = worker_count s.program;
+  names = length s.program.names;
+  lines = lines;
+}
 
 -- the steps that stand, with the pool's events that they are
 abbrev pub course_of : Shown → Course

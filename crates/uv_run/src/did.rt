@@ -54,6 +54,20 @@ pub(crate) fn did(script: &Script, seen: Option<Seen>) -> Did
     }
 }
 
+/// The pool's event of a line.
+pub(crate) fn event_of_line(script: &Script, seen: Option<Seen>) -> Option<PoolEvent>
+    ensures { option_to_list result ≡ events_in script.now seen }
+{
+    match seen {
+        Some(Seen::Take(k, _, id)) => Some(PoolEvent::Take(k, id)),
+        Some(Seen::Finish(k, _, id)) => Some(PoolEvent::Finish(k, id)),
+        Some(Seen::Cancel(_, Answer::Cancelled(id))) => Some(PoolEvent::Cancel(id)),
+        Some(Seen::Op(site, answer)) => event_of(did_at(script, site, answer)),
+        Some(Seen::After(_, _, id)) => Some(PoolEvent::Collect(id)),
+        _ => None,
+    }
+}
+
 /// The pool's event of it.
 pub(crate) fn event_of(did: Did) -> Option<PoolEvent>
     ensures { option_to_list result ≡ events_of did }

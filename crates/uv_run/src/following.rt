@@ -8,12 +8,14 @@ ghost use Rattle.uv_live.specs.Course.{events_of};
 ghost use Rattle.uv_live.specs.Following.{Adds, Applies, StaysEnded};
 ghost use Rattle.uv_live.specs.Turning.{Steps};
 ghost use Rattle.uv_run.specs.Events as spec;
+ghost use Rattle.uv_run.specs.Events.{events_in};
 ghost use Rattle.uv_run.specs.Bound.{course_of, refusal_in, polls_in};
 
-use crate::did::{did, event_of};
-use uv_ids::{Event, Fault, Id, Var};
+use crate::did::{did, event_of, event_of_line};
+use uv_ids::{Event, Fault, Id, Seen, Var};
 use uv_live::Did;
 use uv_model::{Machine, Outcome, Place, Stage};
+use uv_script::Script;
 use uv_session::Session;
 use uv_work::{PoolEvent, WorkResult};
 
@@ -37,6 +39,16 @@ fn push_event(events: &mut Vec<PoolEvent>, did: Did)
     }
 }
 
+/// Puts the pool's event of a line at the end of the list.
+fn push_line(events: &mut Vec<PoolEvent>, script: &Script, seen: Option<Seen>)
+    requires room { vec_len events.old < vec_capacity events.old }
+    ensures { events.new.items ≡ events.old.items ++ events_in script.now seen }
+{
+    if let Some(event) = event_of_line(script, seen) {
+        events.push_reserved(event);
+    }
+}
+
 /// The next step of the loop.
 #[tactic(auto, using(crate::proofs::Answers::answers))]
 pub(crate) fn step<M: Machine>(
@@ -45,6 +57,7 @@ pub(crate) fn step<M: Machine>(
 ) -> Result<Did, Fault>
     requires { events.old.items ≡ (course_of session.old).events }
     ensures program { session.new.program ≡ session.old.program }
+    ensures limit { session.new.limit ≡ session.old.limit }
     ensures events { events.new.items ≡ (course_of session.new).events }
     ensures answer { Steps (refusal_in session.old) (course_of session.old) result (course_of session.new) }
     ensures same { OnErr result (refusal_in session.new ≡ refusal_in session.old) }
@@ -67,6 +80,7 @@ pub(crate) fn step<M: Machine>(
 #[tactic(auto, using(crate::proofs::Answers::answers))]
 pub(crate) fn send<M: Machine>(session: &mut Session<M>, name: Var) -> Result<(), Fault>
     ensures program { session.new.program ≡ session.old.program }
+    ensures limit { session.new.limit ≡ session.old.limit }
     ensures events { (course_of session.new).events ≡ (course_of session.old).events }
     ensures answer { Adds (step.Send name) (course_of session.old) result (course_of session.new) }
     ensures polling { polls_in session.new ≡ polls_in session.old }
@@ -81,6 +95,7 @@ pub(crate) fn send<M: Machine>(session: &mut Session<M>, name: Var) -> Result<()
 #[tactic(auto, using(crate::proofs::Answers::answers))]
 pub(crate) fn tick<M: Machine>(session: &mut Session<M>, span: u64) -> Result<(), Fault>
     ensures program { session.new.program ≡ session.old.program }
+    ensures limit { session.new.limit ≡ session.old.limit }
     ensures events { (course_of session.new).events ≡ (course_of session.old).events }
     ensures answer { Adds (step.Tick span) (course_of session.old) result (course_of session.new) }
 {
@@ -99,18 +114,19 @@ pub(crate) fn take<M: Machine>(
     id: Id,
 ) -> Result<(), Fault>
     requires events { events.old.items ≡ (course_of session.old).events }
-    requires taken { IsTakenAs session.old.program session.old.standing (step.Take k) (event.Take k id) }
     ensures program { session.new.program ≡ session.old.program }
+    ensures limit { session.new.limit ≡ session.old.limit }
     ensures events { events.new.items ≡ (course_of session.new).events }
-    ensures answer { Applies (event.Take k id) (course_of session.old) result (course_of session.new) }
+    ensures answer { IsTakenAs session.old.program session.old.standing (step.Take k) (event.Take k id)
+        → Applies (event.Take k id) (course_of session.old) result (course_of session.new) }
     ensures ended { StaysEnded (refusal_in session.old) (refusal_in session.new) }
 {
     if events.reserve(1).is_err() {
         return Err(Fault::Memory);
     }
     match session.do_event(Event::Take(k)) {
-        Ok(_) => {
-            events.push_reserved(PoolEvent::Take(k, id));
+        Ok(outcome) => {
+            push_line(events, session.machine().script(), outcome.seen);
             Ok(())
         }
         Err(fault) => Err(fault),
@@ -146,18 +162,19 @@ pub(crate) fn finish<M: Machine>(
     work: Option<WorkResult>,
 ) -> Result<(), Fault>
     requires events { events.old.items ≡ (course_of session.old).events }
-    requires taken { IsTakenAs session.old.program session.old.standing (step.Finish k) (event.Finish k id) }
     ensures program { session.new.program ≡ session.old.program }
+    ensures limit { session.new.limit ≡ session.old.limit }
     ensures events { events.new.items ≡ (course_of session.new).events }
-    ensures answer { Applies (event.Finish k id) (course_of session.old) result (course_of session.new) }
+    ensures answer { IsTakenAs session.old.program session.old.standing (step.Finish k) (event.Finish k id)
+        → Applies (event.Finish k id) (course_of session.old) result (course_of session.new) }
     ensures ended { StaysEnded (refusal_in session.old) (refusal_in session.new) }
 {
     if events.reserve(1).is_err() {
         return Err(Fault::Memory);
     }
     match hand_in(session, k, work) {
-        Ok(_) => {
-            events.push_reserved(PoolEvent::Finish(k, id));
+        Ok(outcome) => {
+            push_line(events, session.machine().script(), outcome.seen);
             Ok(())
         }
         Err(fault) => Err(fault),

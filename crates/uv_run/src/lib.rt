@@ -6,5 +6,5 @@ mod following;
 mod running;
 mod session;
 
-pub use running::live;
+pub use running::{live, live_within};
 pub use session::LiveSession;

@@ -1,6 +1,7 @@
 //! A live run of a script.
-ghost use Rattle.std.specs.Prelude.{◌≡◌, IfOk, Some};
+ghost use Rattle.std.specs.Prelude.{◌≡◌, IfOk, Some, min};
 ghost use Rattle.uv_ids.specs.declared.fault.Why.TheVariants.{Ended};
+ghost use Rattle.uv_model.specs.After.{STEPS};
 ghost use Rattle.uv_live.specs.Running.{RunSettles};
 ghost use Rattle.uv_run.specs.Bound.{plan_of, course_of, refusal_in};
 
@@ -16,15 +17,18 @@ use uv_script::Script;
 use uv_session::Session;
 
 /// Runs a script to its end with a thread for each worker and for each sender of its `thread` lines, and answers the session that is
-/// what they did. The workers and the faults are as `live` of uv_live says.
-pub fn live<M: Machine, C: Clock, G: Gate + Sync, R: Threads + Wait + Sync>(
+/// what they did. The session takes so many steps at most, and 16,777,216 in any case: `StepsFull` where the run would take more. The
+/// workers and the other faults are as `live` of uv_live says.
+pub fn live_within<M: Machine, C: Clock, G: Gate + Sync, R: Threads + Wait + Sync>(
     rt: &R,
     alloc: Global,
+    limit: usize,
     script: Script,
     clock: &mut C,
     gate: &G,
 ) -> Result<Session<M>, Fault>
     ensures program { IfOk result (λ s. s.program ≡ script) }
+    ensures limit { IfOk result (λ s. s.limit ≡ min limit STEPS) }
     ensures end { IfOk result (λ s. refusal_in s ≡ Some Ended) }
     ensures settled { IfOk result (λ s. RunSettles (plan_of script script.threads) (course_of s)) }
 {
@@ -36,9 +40,25 @@ pub fn live<M: Machine, C: Clock, G: Gate + Sync, R: Threads + Wait + Sync>(
         Ok(machine) => machine,
         Err(fault) => return Err(fault),
     };
-    let session = LiveSession::new(alloc, Session::new(alloc, machine, STEPS), lines);
+    let session = LiveSession::new(alloc, Session::new(alloc, machine, limit), lines);
     match uv_live::live(rt, alloc, session, clock, gate) {
         Ok(session) => Ok(session.into_session()),
         Err(fault) => Err(fault),
     }
+}
+
+/// `live_within` with the most steps that a session may take.
+pub fn live<M: Machine, C: Clock, G: Gate + Sync, R: Threads + Wait + Sync>(
+    rt: &R,
+    alloc: Global,
+    script: Script,
+    clock: &mut C,
+    gate: &G,
+) -> Result<Session<M>, Fault>
+    ensures program { IfOk result (λ s. s.program ≡ script) }
+    ensures limit { IfOk result (λ s. s.limit ≡ STEPS) }
+    ensures end { IfOk result (λ s. refusal_in s ≡ Some Ended) }
+    ensures settled { IfOk result (λ s. RunSettles (plan_of script script.threads) (course_of s)) }
+{
+    live_within(rt, alloc, STEPS, script, clock, gate)
 }

@@ -79,12 +79,11 @@ fn is_open(events: &[PoolEvent]) -> bool {
 
 #[tactic(auto, using(crate::proofs::Answers::legal))]
 impl<M: Machine> Follower for LiveSession<M> {
-    ghost use Rattle.uv_script.specs.Program.{Program};
-    ghost use Rattle.uv_run.specs.Bound.{plan_of, course_of, refusal_in, polls_in};
+    ghost use Rattle.uv_run.specs.Bound.{Asked, plan_within, course_of, refusal_in, polls_in};
 
-    ghost Script = { Program };
+    ghost Script = { Asked };
 
-    ghost plan = { λ s. plan_of s.session.program s.lines };
+    ghost plan = { λ s. plan_within s.session s.lines };
 
     ghost course = { λ s. course_of s.session };
 

@@ -1,0 +1,28 @@
+-- What a run is settled by doesn't depend on how many steps its session may take.
+use Rattle.std.proofs.Common.{◌≡◌, subst}
+use Rattle.uv_script.specs.Program.{Program}
+use Rattle.uv_live.specs.Course.{Plan, Course}
+use Rattle.uv_live.specs.Running.{RunSettles}
+use Rattle.uv_live.specs.Settling.{IsSettled}
+use Rattle.uv_run.specs.Bound.{Asked}
+
+-- what the script alone says of the run
+abbrev pub of_script : Plan Asked → Plan Program
+of_script plan = record { script = plan.script.program; workers = plan.workers; names = plan.names; lines = plan.lines }
+
+pub settled_by : (plan : Plan Asked) (q : Plan Program) (s : Course) → of_script plan ≡ q → RunSettles plan s → RunSettles q s
+settled_by plan q s e h = subst (λ (x : Plan Program). RunSettles x s) e (
+  h.0,
+  h.1,
+  h.2,
+  record {
+    closed = h.3.closed;
+    workers = h.3.workers;
+    whole = h.3.whole;
+    crew = h.3.crew;
+    each = h.3.each;
+    finishes = h.3.finishes;
+    sends = h.3.sends;
+    cancels = h.3.cancels;
+  },
+)

@@ -1,0 +1,10 @@
+use Rattle.std.proofs.Common.{List, ◌∙◌}
+use Rattle.uv_work.specs.declared.event.PoolEvent.{PoolEvent}
+use Rattle.uv_run.proofs.Answers.{line_events}
+use Rattle.uv_run.proofs.following.take.Goals as goal
+
+-- the list has the event of its line
+pub returns-in-Ok-clause-events : goal.returns-in-Ok-clause-events
+returns-in-Ok-clause-events g c =
+    line_events c.args.session.now c.do_event.new.self _ c.in-Ok.outcome _ c.reserve.new.self.items _ (c.script.ensures ∙ c.machine.ensures.program)
+    c.in-Ok.ensures (◌∙◌ {A = List PoolEvent} c.reserve.ensures.items c.requires.events) c.push_line.ensures
