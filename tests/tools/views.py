@@ -1,0 +1,122 @@
+"""What the page of uvt-view is given, set beside the program's own states; and what stands on the pages about the tools."""
+
+from __future__ import annotations
+
+import json
+import os
+import re
+import subprocess
+import sys
+import tempfile
+from pathlib import Path
+
+ROOT = Path(__file__).resolve().parent.parent.parent
+sys.path.insert(0, str(ROOT / "tools"))
+
+from conversation import Conversation, read_input  # noqa: E402
+from walk import longest_way  # noqa: E402
+
+EXAMPLES = ROOT / "crates" / "examples" / "data"
+VIEW = str(ROOT / "tools" / "uvt-view")
+SECONDS = 60
+# A page's blocks of text, each with what stands in it.
+BLOCK = re.compile(r"^```text\n(.*?)^```$", re.MULTILINE | re.DOTALL)
+
+
+def viewed(words: list[str]) -> subprocess.CompletedProcess[str]:
+    return subprocess.run([VIEW, *words], capture_output=True, text=True, timeout=SECONDS, env=os.environ)
+
+
+def text_at(run: dict, table: dict[int, int], length: int) -> list[str]:
+    """The text of the state that the changes up to this length make: as the page does it."""
+    for key, text in zip(run["changes"][length][::2], run["changes"][length][1::2]):
+        table[key] = text
+    head = 2 + len(run["names"])
+    keys = [*range(head), *range(run["base"], max(table) + 1), *range(head, run["base"])]
+    return [(f"steps {length} " if key == 0 else "") + run["texts"][table[key]] for key in keys]
+
+
+def try_page(check, name: str) -> None:
+    """The states of the page at each length, its lines, and that it is one file."""
+    page = viewed([str(EXAMPLES / name)]).stdout
+    found = re.search(r"^const run = (.*);$", page, re.MULTILINE)
+    check(f"the page of {name} has its values", found is not None, page[:200])
+    if found is None:
+        return
+    run = json.loads(found[1])
+    script, commands = read_input(EXAMPLES / name)
+    table: dict[int, int] = {}
+    wrong = []
+    with Conversation(script) as talk:
+        steps = longest_way(script, commands)
+        for length in range(len(steps) + 1):
+            if length:
+                talk.ask(steps[length - 1])
+            if text_at(run, table, length) != talk.ask("state"):
+                wrong.append(length)
+        lines = [run["texts"][it] for it in run["said"] if run["texts"][it]]
+        check(f"the page of {name}, its lines", lines == talk.trace(), lines)
+    check(f"the page of {name}, its states", not wrong, wrong)
+    check(f"the page of {name} asks for nothing else", not re.search(r"https?://|<link|<img|src=", page), "")
+
+
+def try_view(check) -> None:
+    for name in ("late-timer.uvt", "never-called.uvt", "stale-name.uvt", "sent-session.rec"):
+        try_page(check, name)
+    run = json.loads(re.search(r"^const run = (.*);$", viewed([str(EXAMPLES / "late-timer.uvt")]).stdout, re.MULTILINE)[1])
+    # `ping` was due at 12 and `beat` at 15, and both were called at 50
+    check("the late calls", run["late"] == [[33, "ping", 38], [34, "beat", 35]], run["late"])
+    lane = next(it for it in run["lanes"] if it["name"] == "beat")
+    wanted = [[0, "nothing"], [3, "inactive"], [6, "active"], [21, "due"], [32, "ready"], [34, "callback"], [35, "inactive"]]
+    check("the lane of a timer", lane["parts"] == wanted, lane["parts"])
+    made = viewed(["--trace-event", str(EXAMPLES / "late-timer.uvt")])
+    events = json.loads(made.stdout)["traceEvents"]
+    # the callback of beat begins at step 34, and takes one step; the clock is at 50 ms
+    called = [it for it in events if it["name"] == "callback" and it["args"]["step"] == 34]
+    check("trace events", len(called) == 1 and (called[0]["ts"], called[0]["dur"]) == (50034, 1), called)
+    ended = viewed([str(EXAMPLES / "nowhere.uvt")])
+    check("the page of no file", ended.returncode == 1 and "No such file" in ended.stderr and "Traceback" not in ended.stderr, ended.stderr)
+
+
+# ---- the pages
+
+
+def calls_of(page: Path) -> list[tuple[str, str | None]]:
+    """The calls of the tools that a page shows, each with the block behind it, unless that is a call too or the call writes to a file."""
+    blocks = BLOCK.findall(page.read_text())
+    found = []
+    for block, behind in zip(blocks, [*blocks[1:], ""]):
+        if re.match(r"(printf .* \| )?tools/uvt-\S+ ", block) and block.count("\n") == 1:
+            is_call = re.match(r"(printf|tools/uvt-|\./uvt )", behind)
+            found.append((block.strip(), None if is_call or " > " in block or not behind else behind))
+    return found
+
+
+def is_shown(shown: str, output: str) -> bool:
+    """Whether the parts, with lines `..` between them, stand in the output one behind the other; all of it where there is no `..`."""
+    if "\n..\n" not in "\n" + shown:
+        return shown == output
+    at = 0
+    for part in filter(None, (it.strip("\n") for it in ("\n" + shown).split("\n..\n"))):
+        at = ("\n" + output).find("\n" + part + "\n", at)
+        if at < 0:
+            return False
+    return True
+
+
+def try_pages(check) -> None:
+    for page in (ROOT / "README.md", ROOT / "docs" / "TOOLS.md"):
+        calls = calls_of(page)
+        check(f"{page.name} shows the tools", bool(calls))
+        for call, shown in calls:
+            with tempfile.TemporaryDirectory() as folder:
+                for name in ("tools", "examples"):
+                    (Path(folder) / name).symlink_to(ROOT / name)
+                ended = subprocess.run(["sh", "-c", call], cwd=folder, capture_output=True, text=True, timeout=SECONDS, env=os.environ)
+            holds = ended.returncode == 0 and not ended.stderr and (shown is None or is_shown(shown, ended.stdout))
+            check(f"{page.name}: {call}", holds, ended.stdout + ended.stderr)
+
+
+def try_views(tries) -> None:
+    try_view(tries.check)
+    try_pages(tries.check)

@@ -1,0 +1,202 @@
+"""What `why` has to say of the examples, and that it says the same as a slow check of random recordings."""
+
+from __future__ import annotations
+
+import os
+import random
+import subprocess
+import sys
+from pathlib import Path
+
+ROOT = Path(__file__).resolve().parent.parent.parent
+sys.path.insert(0, str(ROOT / "tools"))
+sys.path.insert(0, str(ROOT / "tests" / "machines"))
+
+import sessions  # noqa: E402
+from conversation import Script, read_text  # noqa: E402
+from slow_why import Seen, SlowWhy  # noqa: E402
+from waits import Wait  # noqa: E402
+from walk import Walk, longest_way  # noqa: E402
+from why import Why, why  # noqa: E402
+
+EXAMPLES = ROOT / "crates" / "examples" / "data"
+WHY = str(ROOT / "tools" / "uvt-why")
+SECONDS = 60
+
+# Of each example a name, up to which of its commands it is run (`None`: the longest of its ways), and what the answer has to
+# contain: by hand, from the question at the example's head and the comments and steps below it.
+WANTED: list[tuple[str, str, str | None, list[str]]] = [
+    ("late-timer.uvt", "beat", None, ["late by 35 ms: the callback of save took 40 ms, from step 20 to 21",
+                                      "due at 15 ms, called at 50 ms",
+                                      "at step 6, when the loop's time was 0 ms, by line 15: main start beat 15 0"]),
+    ("late-timer.uvt", "save", None, ["step 20, call 1: on time", "due at 10 ms, called at 10 ms"]),
+    ("step-back.uvt", "late", None, ["late: a timer, never called", "step 11: no call: stopped by line 12: on early stop late",
+                                     "it was due and set aside to be called"]),
+    ("never-called.uvt", "retry", None, ["never called: `start retry 1 0` at step 43 was refused, with ESTALE",
+                                         "closed at step 20 by line 14: on timeout close retry", "step 29, close callback 1",
+                                         "it is gone, since step 29", "by line 15: on reply start retry 1 0"]),
+    ("two-timers.uvt", "a", None, ["step 6: no call: started again by line 16: main start a 5 0", "step 12, call 1: on time"]),
+    ("two-timers.uvt", "b", None, ["step 11, call 1: on time"]),
+    ("run-ends-early.uvt", "beat", None, ["meanwhile the run ended at step 20: nothing kept the loop alive", "step 37, call 1: on time",
+                                          "for beat is unreferenced since step 4, by line 12: main unref beat"]),
+    ("run-ends-early.uvt", "beat", "tick 5", ["the end, at 11: no call: the loop waits in the poll, since step 11 and until 5 ms", "due at 10 ms"]),
+    ("watcher-waits.uvt", "late", None, ["step 23, call 1: an iteration later: it was started in its own section `idle`, which had begun at step 7",
+                                         "started at step 9 by line 17: on starter @1 start late"]),
+    ("watcher-waits.uvt", "soon", None, ["step 12, call 1: in the section `prepare` that began at step 11"]),
+    ("poll-does-not-block.uvt", "t", None, ["the poll didn't wait, at step 12: busy was an active idle handle", "due at 50 ms, called at 50 ms"]),
+    ("poll-does-not-block.uvt", "t", "back 4", ["the loop waits in the poll", "until 50 ms",
+                                                "the poll didn't wait, at step 12: busy was an active idle handle"]),
+    ("falls-behind.uvt", "beat", None, ["late by 25 ms: 35 ms went by in the poll", "fell behind: 2 repeats lost (20, 30 ms), next due at 45 ms",
+                                        "due at 45 ms, called at 45 ms", "stopped by line 11: on beat @2 stop beat"]),
+    ("who-keeps-it-alive.uvt", "wake", None, ["nobody sends to it", "it keeps the loop alive", "the poll waits since step"]),
+    ("sends-are-one.uvt", "a", None, ["3 sends, and one call: those at steps 2, 3 and 4", "an async handle, 1 call"]),
+    ("closed-handle.uvt", "t", None, ["`start t 5 0` answers EINVAL: it closes, since step 2, by line 7: main close t",
+                                      "step 19: `start t 5 0` answers ESTALE: it is gone, since step 15"]),
+    ("closed-twice.uvt", "t", None, ["step 4: `close t` answers EINVAL: it closes, since step 3", "step 15, close callback 1",
+                                     "a timer, 1 close callback"]),
+    ("lost-send.uvt", "a", None, ["no call: closed by line 8: main close a", "the send at step 2 is lost",
+                                  "`send a` answers EINVAL", "`send a` answers ESTALE"]),
+    ("stale-name.uvt", "w", None, ["step 33: `stop w` answers ESTALE: it is gone, since step 14",
+                                   "its slot has n now (0.1)", "by line 16: on t stop w"]),
+    ("stale-name.uvt", "n", None, ["in the section `check`", "started at step 16 by line 15: closed w start n"]),
+    ("break-at-a-code.uvt", "t", None, ["step 33: `active t` answers ESTALE: it is gone, since step 28",
+                                        "it was closed at step 21, by line 12: on i @2 close t"]),
+    ("what-it-waits-for.uvt", "fast", "tick 8", ["the loop waits in the poll", "until 8 ms", "due at 8 ms, and the session ends at 0 ms"]),
+    ("what-it-waits-for.uvt", "slow", None, ["until 20 ms", "due at 20 ms, and the session ends at 8 ms"]),
+    ("done-out-of-order.uvt", "long", None, ["behind short, queued later and done earlier", "worker 0 ran it from step 4 to 7"]),
+    ("cancel-in-time.uvt", "first", None, ["`cancel first` answers EBUSY: too late: worker 0 took it at step 3"]),
+    ("cancel-in-time.uvt", "second", None, ["cancelled before a worker took it", "cancelled at step 5 from outside",
+                                            "it is cancelled already, since step 5"]),
+    ("tenth-waits.uvt", "j", None, ["it waits behind f, g, h and i", "e (worker 0), b (worker 1), c (worker 2) and d (worker 3)"]),
+    ("next-job.uvt", "job", None, ["2 after callbacks", "queued at step 12 by line 9: after job @1 queue job 1 two"]),
+    ("live-run-back.uvt", "p", "back 10", ["behind q, queued later and done earlier", "worker 1 ran it from step 9 to 12", "after callback 1"]),
+    ("live-run-back.uvt", "q", None, ["behind p"]),
+    ("loop-is-busy.uvt", "t", None, ["until then the loop had it: `closeloop` at step 3 answers EBUSY", "step 13, close callback 1"]),
+    ("image-heap.uvt", "b", None, ["no call: stopped by line", "not due yet"]),
+    ("sent-session.rec", "job", None, ["`cancel job` answers EBUSY: it is done already, since step 9", "by line 13: on early cancel job"]),
+]
+
+
+def cut(path: Path, until: str | None) -> str:
+    text = path.read_text()
+    return text if until is None else text[: text.index(f"\n{until}\n") + 1]
+
+
+def try_examples(check) -> None:
+    """The question at an example's head, answered."""
+    for file, name, until, wanted in WANTED:
+        script, commands = read_text(cut(EXAMPLES / file, until))
+        with Walk(script, longest_way(script, commands)) as walk:
+            out = "\n".join(why(walk, name))
+        missing = [it for it in wanted if it not in out]
+        check(f"why {name} of {file}", not missing, f"{missing} isn't in\n{out}")
+
+
+def try_command(check) -> None:
+    def ran(name: str, text: str) -> tuple[int, str, str]:
+        ended = subprocess.run([WHY, name], input=text, capture_output=True, text=True, timeout=SECONDS, env=os.environ)
+        return ended.returncode, ended.stdout, ended.stderr
+
+    late = (EXAMPLES / "late-timer.uvt").read_text()
+    status, out, told = ran("beat", late)
+    check("uvt-why", status == 0 and "late by 35 ms: the callback of save took 40 ms" in out and not told, f"{status} {out} {told}")
+    status, out, told = ran("baet", late)
+    check("uvt-why, a name that is none", (status, out, told) == (1, "", "uvt-why: no name `baet`: did you mean `beat`?\n"), f"{status} {out} {told}")
+    status, out, told = ran("a", "var a\nmain strat a 1 0\nbegin\n")
+    check("uvt-why, a script that is none", (status, told) == (1, "uvt-why: uvt: bad script line 2: main strat a 1 0\n"), f"{status} {out} {told}")
+    sent = (EXAMPLES / "sent-session.rec").read_text()
+    status, out, told = ran("job", sent.replace("finish 0", "finish 3"))
+    wanted = "uvt-why: step 9 of the recording is `finish 3`, and the program answers `refused idleworker`\n"
+    check("uvt-why, a recording with a step that is refused", (status, out, told) == (1, "", wanted), told)
+    # (the line's number is that of the recording)
+    status, out, told = ran("job", sent.replace("main run default", "main run defaulk"))
+    check("uvt-why, a bad line of a recording", (status, told) == (1, "uvt-why: uvt: bad script line 12: main run defaulk\n"), told)
+    status, out, told = ran("a", "uvt 1\nvar a\nbegin\nloop\n")
+    check("uvt-why, a recording that is none", status == 1 and "this is no recording" in told and "Traceback" not in told, told)
+
+
+# ---- beside the slow check
+
+
+def key_of(it: Wait | Seen) -> tuple:
+    return (it.asked, it.what, it.id, it.due, tuple(it.more), it.taken, it.finished, it.cancelled, it.how, it.ended, it.call)
+
+
+WHERE = {"the main program": "main", "the poll": "poll"}
+
+
+def where_of(what: str) -> str:
+    """The word of the slow check for where the clock went on."""
+    for kind, words in {"on": "the callback of ", "after": "the after callback of ", "closed": "the close callback of "}.items():
+        if what.startswith(words):
+            return f"{kind} {what.removeprefix(words)}"
+    return WHERE.get(what, "run")
+
+
+def differences(slow: SlowWhy, answers: Why, name: str) -> list[str]:
+    """Where the two say something else of a name."""
+    found = []
+    ours = sorted(answers.history.waits, key=key_of_order)
+    theirs = sorted(slow.waits(name), key=key_of_order)
+    if [key_of(it) for it in ours] != [key_of(it) for it in theirs]:
+        return [f"{name}: {ours} and {theirs}"]
+    for wait, seen in zip(ours, theirs):
+        if wait.how == "open" and (a := answers.reason(wait)) != (b := slow.reason(seen)):
+            found.append(f"{name}, asked at {wait.asked}: {a} and {b}")
+        if wait.how == "called":
+            begin, end = slow.looks[seen.asked].clock if seen.due is None else seen.due, slow.looks[seen.ended].clock
+            causes = {(where_of(it.what), it.first): it.between(begin, end) for it in answers.walk.causes(begin, end)}
+            if causes != slow.causes(begin, end):
+                found.append(f"{name}, called at {wait.ended}: {causes} and {slow.causes(begin, end)}")
+        for at in (it for it in range(wait.asked + 1, len(slow.looks)) if slow.lines[it].startswith("end ")):
+            if (a := answers.ended_by(at)) != (b := slow.ended_by(name, at)):
+                found.append(f"{name}, end at {at}: {a} and {b}")
+    return found
+
+
+def key_of_order(it: Wait | Seen) -> tuple:
+    return it.asked, it.what, it.id
+
+
+def try_random(check, first: int, count: int) -> int:
+    """Recordings of random sessions, each name of each: how many callbacks that were asked for were compared."""
+    compared = 0
+    for seed in range(first, first + count):
+        lines, asked = sessions.session(random.Random(seed))
+        script = Script(lines)
+        steps = longest_way(script, asked)
+        slow = SlowWhy(os.environ.get("UVT", str(ROOT / "uvt")), lines, steps)
+        with Walk(script, steps) as walk:
+            for name in script.names():
+                answers = Why(walk, name)
+                wrong = differences(slow, answers, name)
+                told = answers.answer()
+                compared += len(answers.history.waits)
+                check(f"why {name} of random session {seed}", not wrong and told, wrong)
+    return compared
+
+
+def try_whys(tries) -> None:
+    try_examples(tries.check)
+    try_command(tries.check)
+    compared = try_random(tries.check, 1, 50)
+    tries.check("the random sessions ask for callbacks", compared > 200, compared)
+
+
+if __name__ == "__main__":
+
+    class Tries:
+        failed = 0
+
+        def check(self, what, holds, why=""):
+            if not holds:
+                self.failed += 1
+                print(f"tools: {what}: {why}", flush=True)
+
+    tries = Tries()
+    numbers = [int(it) for it in sys.argv[1:]]
+    if numbers:
+        print(try_random(tries.check, *numbers), "compared")
+    else:
+        try_whys(tries)
+    print(tries.failed, "failed")

@@ -1,0 +1,319 @@
+"""A conversation with `uvt debug`, and the texts that it answers cut into values.
+
+What is here speaks the program's own words (docs/FORMAT.md) and has no loop of its own: every answer is the program's.
+"""
+
+from __future__ import annotations
+
+import os
+import re
+import signal
+import subprocess
+import threading
+from dataclasses import dataclass, field
+from pathlib import Path
+from typing import Iterator
+
+ROOT = Path(__file__).resolve().parent.parent
+
+# The two lines that end an answer: that of `back 0`, which changes nothing, and that of a line that is no command. No
+# answer has the second one right behind the first one but at its end.
+END_COMMANDS = b"back 0\n?\n"
+AT = re.compile(r"at (\d+)$")
+BAD = "bad command"
+
+
+class Fault(Exception):
+    """What a person is to be told, in a sentence."""
+
+
+@dataclass
+class Script:
+    """A script's lines as they were written, without its `begin`, and what the program makes of them."""
+
+    lines: list[str]
+    # the number of its first line in the file: a recording has its version in front
+    first: int = 1
+
+    def is_recorded(self) -> bool:
+        return self.first > 1
+
+    def names(self) -> list[str]:
+        """The names, in the order of their declarations."""
+        return [it.split(" ")[1] for it in self.lines if it.startswith("var ") and it.count(" ") == 1]
+
+    def numbered(self, first: str) -> list[int]:
+        """The numbers, from 0, of the lines that begin so, in order: the k-th op of `main `, or of `on NAME `."""
+        return [at for at, line in enumerate(self.lines) if line.startswith(first)]
+
+
+@dataclass
+class Recording:
+    """A recording: its script, the steps that stand, and the callbacks that were recorded."""
+
+    script: Script
+    steps: list[str]
+    calls: list[str]
+
+
+def read_lines(text: str) -> list[str]:
+    lines = text.split("\n")
+    return lines[:-1] if lines and not lines[-1] else lines
+
+
+def read_recording(text: str) -> Recording:
+    """Cuts a recording into its parts. What is in them is for the program to judge."""
+    lines = read_lines(text)
+    try:
+        begin = lines.index("begin")
+        calls = lines.index("calls", begin)
+    except ValueError:
+        raise Fault("this is no recording: it has no line `begin`, or no line `calls` behind it") from None
+    if not re.fullmatch(r"uvt \d+", lines[0]) or lines[-1] != "end":
+        raise Fault("this is no recording: its first line is `uvt` with a version, and its last one `end`")
+    return Recording(Script(lines[1:begin], 2), lines[begin + 1 : calls], lines[calls + 1 : -1])
+
+
+def read_text(text: str) -> tuple[Script, list[str]]:
+    """A script, or a recording, with the steps or commands behind it."""
+    lines = read_lines(text)
+    if lines and re.fullmatch(r"uvt \d+", lines[0]):
+        recording = read_recording(text)
+        return recording.script, recording.steps
+    if "begin" in lines:
+        begin = lines.index("begin")
+        return Script(lines[:begin]), [it for it in lines[begin + 1 :] if it and not it.startswith("#")]
+    return Script(lines), []
+
+
+def read_input(path: Path) -> tuple[Script, list[str]]:
+    """The same, of a file."""
+    try:
+        text = path.read_text(encoding="ascii", errors="surrogateescape")
+    except OSError as fault:
+        raise Fault(f"{path}: {fault.strerror}") from None
+    return read_text(text)
+
+
+@dataclass
+class Slot:
+    """A slot that was ever used: a handle's, a request's, or neither."""
+
+    id: str
+    kind: str
+    name: str = ""
+    values: dict[str, str] = field(default_factory=dict)
+    # of a request: `waiting`, `running K`, `done`, `cancelled`
+    outcome: str = ""
+
+
+@dataclass
+class State:
+    """What `state` prints, by its words."""
+
+    numbers: dict[str, int]
+    place: str
+    bound: dict[str, str | None]
+    counts: dict[str, tuple[int, int, int]]
+    slots: list[Slot]
+    lists: dict[str, list[str]]
+
+    def slot_of(self, name: str) -> Slot | None:
+        """The slot that the name's id holds still."""
+        id = self.bound.get(name)
+        return next((it for it in self.slots if it.id == id and it.name == name), None)
+
+
+SLOT_VALUES = {"ref", "active", "closing", "begun", "due", "start", "repeat", "pending"}
+
+
+def read_slot(words: list[str]) -> Slot:
+    id, kind = words[1], words[2]
+    if kind in ("empty", "retired"):
+        return Slot(id, kind)
+    if kind == "work":
+        outcome = " ".join(words[4:6]) if words[4] == "running" else words[4]
+        return Slot(id, kind, words[3], {}, outcome)
+    rest = words[4:]
+    return Slot(id, kind, words[3], {a: b for a, b in zip(rest[::2], rest[1::2]) if a in SLOT_VALUES})
+
+
+def read_state(lines: list[str]) -> State:
+    """Cuts the text of `state`."""
+    state = State({}, "", {}, {}, [], {})
+    for line in lines:
+        words = line.split(" ")
+        match words[0]:
+            case "steps":
+                state.numbers = {a: int(b) for a, b in zip(words[::2], words[1::2])}
+            case "place":
+                state.place = line[len("place ") :]
+            case "name":
+                state.bound[words[1]] = None if words[2] == "none" else words[2]
+                state.counts[words[1]] = (int(words[3]), int(words[4]), int(words[5]))
+            case "slot":
+                state.slots.append(read_slot(words))
+            case "unused":
+                state.numbers["unused"] = int(words[1])
+            case word:
+                state.lists[word] = words[1:]
+    return state
+
+
+def built_program() -> str:
+    """The program that `./uvt build` has built, or the one that UVT names."""
+    named = os.environ.get("UVT")
+    if named:
+        return named
+    built = ROOT / "out" / "uvt" / "uvt"
+    if not built.is_file():
+        raise Fault("the program isn't built yet: `./uvt build` does that, once")
+    return str(built)
+
+
+class Conversation:
+    """A running `uvt debug`, with its script read. One command is asked at a time."""
+
+    def __init__(self, script: Script, program: list[str] | None = None) -> None:
+        self.script = script
+        words = program or [built_program(), "debug"]
+        try:
+            self.process = subprocess.Popen(
+                words, stdin=subprocess.PIPE, stdout=subprocess.PIPE, stderr=subprocess.PIPE,
+                # (an interrupt at the terminal is for whoever asks, and not for the program)
+                start_new_session=True,
+            )
+        except OSError as fault:
+            raise Fault(f"{words[0]} could not be started: {fault.strerror}") from None
+        self.length = 0
+        self.send("".join(it + "\n" for it in script.lines) + "begin\n")
+        self.ask("back 0")
+
+    def send(self, text: str) -> None:
+        try:
+            self.process.stdin.write(text.encode("ascii", "surrogateescape"))
+            self.process.stdin.flush()
+        except (BrokenPipeError, ValueError):
+            self.ended()
+
+    def ended(self) -> None:
+        """The program has ended where it wasn't asked to: says why."""
+        said = self.process.stderr.read().decode("ascii", "replace").strip()
+        self.process.wait()
+        at = re.search(r"bad script line (\d+)", said)
+        line = self.script.lines[int(at[1]) - 1] if at and 0 < int(at[1]) <= len(self.script.lines) else None
+        told = said.splitlines()[-1] if said else f"uvt ended with status {self.process.returncode}"
+        if at:
+            told = f"uvt: bad script line {int(at[1]) - 1 + self.script.first}"
+        raise Fault(told if line is None else f"{told}: {line}")
+
+    def read_line(self) -> str:
+        line = self.process.stdout.readline()
+        if not line.endswith(b"\n"):
+            self.ended()
+        return line[:-1].decode("ascii", "replace")
+
+    def answer(self) -> Iterator[str]:
+        """The lines of an answer whose end was asked for."""
+        last = self.read_line()
+        while True:
+            line = self.read_line()
+            if line == BAD and (at := AT.match(last)):
+                self.length = int(at[1])
+                return
+            yield last
+            last = line
+
+    def begin(self, command: str) -> Iterator[str]:
+        """Asks a command, and gives the lines of its answer as they come. All of them have to be read."""
+        if "\n" in command:
+            raise Fault("a command is one line")
+        self.send(command + "\n" + END_COMMANDS.decode())
+        return self.answer()
+
+    def ask(self, command: str) -> list[str]:
+        """Asks a command, and answers the lines that it printed. `length` is how many steps stand then.
+
+        An interrupt waits until the answer is read, so that no half of it is taken for the next one.
+        """
+        before = signal.pthread_sigmask(signal.SIG_BLOCK, [signal.SIGINT])
+        try:
+            return list(self.begin(command))
+        finally:
+            signal.pthread_sigmask(signal.SIG_SETMASK, before)
+
+    def ask_each(self, commands: list[str]) -> Iterator[list[str]]:
+        """Asks one command after another without waiting for the answers, and gives these in order. All have to be read.
+
+        The commands are those that do steps, or set breaks: no line of their answers looks as that of `back 0` does, which ends each.
+        """
+        if any("\n" in it for it in commands):
+            raise Fault("a command is one line")
+        text = "".join(f"{it}\nback 0\n" for it in commands)
+        # (a pipe holds only so much: who writes all before reading would wait for a reader who waits)
+        writer = threading.Thread(target=self.send_quietly, args=(text,), daemon=True)
+        writer.start()
+        for _ in commands:
+            lines = []
+            while not (at := AT.match(line := self.read_line())):
+                lines.append(line)
+            self.length = int(at[1])
+            yield lines
+        writer.join()
+
+    def send_quietly(self, text: str) -> None:
+        """Sends, where the reader is the one who tells that the program has ended."""
+        try:
+            self.process.stdin.write(text.encode("ascii", "surrogateescape"))
+            self.process.stdin.flush()
+        except (BrokenPipeError, ValueError):
+            pass
+
+    def state(self) -> State:
+        return read_state(self.ask("state"))
+
+    def state_at(self, length: int) -> State:
+        """Goes to where so many steps stand, by those that stand or that were taken back, and answers the state there."""
+        away = length - self.length
+        move = f"forward {away}" if away > 0 else f"back {-away}"
+        self.send(f"{move}\nstate\n")
+        said = self.read_line()
+        # (the line `done-yet` is a state's last one)
+        lines = [self.read_line()]
+        while not lines[-1].startswith("done-yet"):
+            lines.append(self.read_line())
+        if not (at := AT.match(said)):
+            raise Fault(f"the program answers `{said}` to `{move}`")
+        self.length = int(at[1])
+        return read_state(lines)
+
+    def trace(self) -> list[str]:
+        return self.ask("trace")
+
+    def recording(self) -> Recording:
+        return read_recording("\n".join(self.ask("record")) + "\n")
+
+    def close(self) -> None:
+        """Ends the program."""
+        if self.process.poll() is None:
+            try:
+                self.process.stdin.write(b"quit\n")
+                self.process.stdin.close()
+            except (BrokenPipeError, ValueError):
+                pass
+            self.process.stdout.read()
+            self.process.wait()
+
+    def stop(self) -> None:
+        """Ends the program, whatever it is at: there may be answers that nobody reads any more."""
+        self.process.kill()
+        self.process.wait()
+
+    def __enter__(self) -> Conversation:
+        return self
+
+    def __exit__(self, fault: type[BaseException] | None, *_: object) -> None:
+        if fault is None:
+            self.close()
+        else:
+            self.stop()

@@ -1,0 +1,221 @@
+"""A run as a picture: what the page of uvt-view shows, from the program's answers at every step."""
+
+from __future__ import annotations
+
+import json
+import re
+import threading
+from dataclasses import dataclass, field
+from pathlib import Path
+from typing import Iterator
+
+from conversation import Conversation, Script
+from places import Place, read_place
+from walk import Walk
+from why import Why
+
+TEMPLATE = Path(__file__).resolve().parent / "view.html"
+SEND = re.compile(r"(out )?send \S+ = \S+")
+
+
+def all_states(script: Script, steps: list[str]) -> Iterator[list[str]]:
+    """The text of the state at each length, from 0 on."""
+    with Conversation(script) as talk:
+        text = "state\n" + "".join(f"{it}\nstate\n" for it in steps)
+        writer = threading.Thread(target=talk.send_quietly, args=(text,), daemon=True)
+        writer.start()
+        for _ in range(len(steps) + 1):
+            line = talk.read_line()
+            while not line.startswith("steps "):
+                line = talk.read_line()
+            rows = [line]
+            while not rows[-1].startswith("done-yet"):
+                rows.append(talk.read_line())
+            yield rows
+        writer.join()
+
+
+class Texts:
+    """Texts by numbers, each once."""
+
+    def __init__(self) -> None:
+        self.rows: list[str] = []
+        self.numbers: dict[str, int] = {}
+
+    def number(self, text: str) -> int:
+        if text not in self.numbers:
+            self.numbers[text] = len(self.rows)
+            self.rows.append(text)
+        return self.numbers[text]
+
+
+@dataclass
+class Lane:
+    """What is on a lane from which length on, up to the next one."""
+
+    name: str
+    what: str
+    parts: list[tuple[int, str]] = field(default_factory=list)
+
+    def now(self, length: int, what: str) -> None:
+        if not self.parts or self.parts[-1][1] != what:
+            self.parts.append((length, what))
+
+
+class Page:
+    """The states of a session as the changes from one to the next, and the lanes."""
+
+    def __init__(self, walk: Walk) -> None:
+        self.walk = walk
+        self.names = walk.script.names()
+        self.texts = Texts()
+        # of each length the keys and texts of the lines that changed: a key is a line's place, that of a slot counts from `base`
+        self.changes: list[list[int]] = []
+        self.lines_done: list[int] = []
+        self.sections = Lane("loop", "section")
+        self.lanes = {it: Lane(it, "name") for it in self.names}
+        self.workers: dict[int, Lane] = {}
+        self.numbered: dict[str, list[int]] = {}
+        before: dict[int, str] = {}
+        for length, rows in enumerate(all_states(walk.script, walk.steps)):
+            before = self.see(length, rows, before)
+
+    # ---- a state
+
+    def keyed(self, rows: list[str]) -> dict[int, str]:
+        """The lines by their keys: what stands in front of the slots and behind them by place, and the slots by number."""
+        head = 2 + len(self.names)
+        tail = next(at for at in range(head, len(rows)) if not rows[at].startswith("slot "))
+        # (how many steps stand is known without the line)
+        found = {0: re.sub(r"^steps \d+ ", "", rows[0])}
+        found.update(enumerate(rows[1:head], 1))
+        found.update({head + at: line for at, line in enumerate(rows[tail:])})
+        base = head + len(rows) - tail
+        self.base = base
+        found.update({base + at: line for at, line in enumerate(rows[head:tail])})
+        return found
+
+    def see(self, length: int, rows: list[str], before: dict[int, str]) -> dict[int, str]:
+        found = self.keyed(rows)
+        change: list[int] = []
+        for key, line in found.items():
+            if before.get(key) != line:
+                change += [key, self.texts.number(line)]
+        self.changes.append(change)
+        place = read_place(rows[1].removeprefix("place "))
+        self.lines_done.append(self.line_next(place))
+        self.see_lanes(length, rows, place)
+        return found
+
+    def line_next(self, place: Place) -> int:
+        """The script's line that the next step does, from 1, or 0."""
+        if place.callback:
+            first, at = f"{place.callback[0]} {place.callback[1]} ", place.callback[3]
+        elif place.mode is None:
+            first, at = "main ", place.main
+        else:
+            return 0
+        if first not in self.numbered:
+            self.numbered[first] = self.walk.script.numbered(first)
+        lines = self.numbered[first]
+        return lines[at] + 1 if at < len(lines) else 0
+
+    def see_lanes(self, length: int, rows: list[str], place: Place) -> None:
+        where = "main" if place.mode is None else place.where.split(" ")[0]
+        self.sections.now(length, "timers" if where == "first" else where)
+        lists = {line.split(" ")[0]: line.split(" ")[1:] for line in rows if line.startswith(("ready", "running"))}
+        bound = {line.split(" ")[1]: line.split(" ")[2] for line in rows[2 : 2 + len(self.names)]}
+        slots = {words[1]: words for words in (line.split(" ") for line in rows if line.startswith("slot "))}
+        called = place.callback[1] if place.callback else self.begun(length)
+        for name in self.names:
+            words = slots.get(bound[name])
+            mine = words if words and len(words) > 3 and words[3] == name else None
+            status = "callback" if name == called else self.status(name, mine, lists["ready"], self.walk.clock(length))
+            self.lanes[name].now(length, status)
+        self.see_workers(length, lists["running"])
+
+    def begun(self, length: int) -> str | None:
+        """Whose callback the last step began, where that has no op."""
+        words = self.walk.lines[length].split(" ")
+        return words[1] if words[0] in ("call", "after", "closed") else None
+
+    @staticmethod
+    def status(name: str, words: list[str] | None, ready: list[str], clock: int) -> str:
+        if words is None:
+            return "nothing"
+        if words[2] == "work":
+            return words[4]
+        values = dict(zip(words[4::2], words[5::2]))
+        if values["closing"] == "1":
+            return "closing"
+        if name in ready or values.get("pending") == "1":
+            return "ready"
+        if values["active"] == "0":
+            return "inactive"
+        return "due" if "due" in values and int(values["due"]) <= clock else "active"
+
+    def see_workers(self, length: int, running: list[str]) -> None:
+        at_work = {int(it.partition(":")[0]): it.partition(":")[2] for it in running}
+        for worker in at_work.keys() | self.workers.keys():
+            self.workers.setdefault(worker, Lane(f"worker {worker}", "worker", [(0, "")])).now(length, at_work.get(worker, ""))
+
+    # ---- what is written
+
+    def whys(self) -> tuple[dict[str, list], list[list]]:
+        """For each name its answers with their steps; and the calls that were late: step, name, by how much."""
+        found, late = {}, []
+        for name in self.names:
+            answers = Why(self.walk, name)
+            found[name] = answers.answer()
+            called = [it for it in answers.history.waits if it.how == "called" and answers.is_late(it)]
+            late += [[it.ended, name, self.walk.clock(it.ended) - it.due] for it in called]
+        return found, sorted(late)
+
+    def all_lanes(self) -> list[Lane]:
+        return [self.sections, *self.lanes.values(), *(self.workers[it] for it in sorted(self.workers))]
+
+    def values(self) -> dict[str, object]:
+        """All that the page is given."""
+        whys, late = self.whys()
+        lanes = self.all_lanes()
+        if any(SEND.fullmatch(it) for it in self.walk.lines):
+            lanes.append(Lane("sends", "sends"))
+        return {
+            "script": self.walk.script.lines, "first": self.walk.script.first, "names": self.names,
+            "base": self.base, "changes": self.changes, "next": self.lines_done,
+            "steps": [self.texts.number(it) for it in self.walk.steps], "said": [self.texts.number(it) for it in self.walk.lines],
+            "clock": self.walk.clocks, "lanes": [{"name": it.name, "what": it.what, "parts": it.parts} for it in lanes],
+            "late": late, "why": whys, "texts": self.texts.rows,
+        }
+
+
+def html(walk: Walk) -> str:
+    """The page: the template with the values in it."""
+    # (`<` could end the element that the values stand in)
+    values = json.dumps(Page(walk).values(), separators=(",", ":")).replace("<", "\\u003c")
+    return TEMPLATE.read_text().replace("/*VALUES*/null", values)
+
+
+# ---- for Perfetto and chrome://tracing
+
+
+def trace_events(walk: Walk) -> dict[str, object]:
+    """The run in the trace event format. A step takes a microsecond, and a millisecond of the clock as long as it says."""
+    page = Page(walk)
+    events: list[dict[str, object]] = []
+    for thread, lane in enumerate(page.all_lanes(), 1):
+        events.append({"ph": "M", "pid": 1, "tid": thread, "name": "thread_name", "args": {"name": lane.name}})
+        for (length, what), (end, _) in zip(lane.parts, [*lane.parts[1:], (walk.length, "")]):
+            if what in ("", "nothing", "inactive"):
+                continue
+            begin, until = time_of(walk, length), time_of(walk, end)
+            events.append({"ph": "X", "pid": 1, "tid": thread, "name": what, "ts": begin, "dur": until - begin, "args": {"step": length}})
+    for step in range(1, walk.length + 1):
+        if SEND.fullmatch(walk.lines[step]):
+            events.append({"ph": "i", "pid": 1, "tid": 1, "s": "p", "name": walk.lines[step], "ts": time_of(walk, step), "args": {"step": step}})
+    return {"traceEvents": events, "displayTimeUnit": "ms"}
+
+
+def time_of(walk: Walk, length: int) -> int:
+    """In microseconds: the clock, and one more for each step."""
+    return walk.clock(length) * 1000 + length

@@ -1,0 +1,182 @@
+"""What became of each callback that a name asked for: by the lines of a session, and by a few of its states."""
+
+from __future__ import annotations
+
+from dataclasses import dataclass, field
+
+from conversation import Slot
+from walk import Walk
+
+WATCHERS = ("idle", "prepare", "check")
+REFUSED = ("EINVAL", "EBUSY", "EBOUND", "EFULL", "ESTALE", "EKIND")
+
+
+@dataclass
+class Wait:
+    """A callback that was asked for, and what became of that."""
+
+    # `timer`, `idle`, `prepare`, `check`, `async`, `work`, or `close` for a close callback
+    what: str
+    id: str
+    # the step that asked for it: an op, or the call of a timer that repeats, or of a watcher, which stays active
+    asked: int
+    # of a timer: when it is due, by the loop's time
+    due: int | None = None
+    # sends and starts that came while it was asked for already
+    more: list[int] = field(default_factory=list)
+    # of a request: the step at which worker K took it, and that at which it was finished or cancelled
+    taken: tuple[int, int] | None = None
+    finished: int | None = None
+    cancelled: int | None = None
+    # `called`, `stopped`, `closed`, `started again`, or `open` where the session ends first, and the step
+    how: str = "open"
+    ended: int | None = None
+    # which call of the name it is, from 1
+    call: int = 0
+
+
+@dataclass
+class Refusal:
+    """An op of the name that was refused."""
+
+    step: int
+    op: str
+    code: str
+
+
+@dataclass
+class History:
+    """All that the session has of a name."""
+
+    name: str
+    # (step, id, kind) of each `init` and `queue` that answered with an id
+    made: list[tuple[int, str, str]] = field(default_factory=list)
+    waits: list[Wait] = field(default_factory=list)
+    refusals: list[Refusal] = field(default_factory=list)
+    # the steps of `unref` and `ref`
+    refs: list[tuple[int, str]] = field(default_factory=list)
+
+    def kind(self) -> str | None:
+        return self.made[-1][2] if self.made else None
+
+    def count(self, what: str) -> int:
+        return sum(1 for it in self.waits if it.how == "called" and kind_of_call(it.what) == what)
+
+
+def kind_of_call(what: str) -> str:
+    return {"close": "closed", "work": "after"}.get(what, "call")
+
+
+class Follower:
+    """Goes along the lines of a session, and keeps what they say of a name."""
+
+    def __init__(self, walk: Walk, name: str) -> None:
+        self.walk = walk
+        self.name = name
+        self.history = History(name)
+        self.id = ""
+        self.kind = ""
+        # what is asked for and didn't come yet: the handle's or request's callback, and a close callback
+        self.open: Wait | None = None
+        self.closing: Wait | None = None
+
+    def follow(self) -> History:
+        for step, line in enumerate(self.walk.lines):
+            if self.name in line:
+                self.see(step, line.split(" "))
+        return self.history
+
+    def see(self, step: int, words: list[str]) -> None:
+        match words:
+            case ["call", self.name, _]:
+                self.called(step)
+            case ["closed", self.name, _]:
+                self.end_close(step)
+            case ["after", self.name, *_]:
+                self.end(step, "called")
+            case ["out", "take", worker, self.name, _]:
+                self.open.taken = (step, int(worker))
+            case ["out", "finish", _, self.name, _]:
+                self.open.finished = step
+            case ["out", op, self.name, "=", code]:
+                self.op(step, [op, self.name], code)
+            case [_, self.name, *_, "=", answer]:
+                self.op(step, words[:-2], answer)
+
+    # ---- what begins and ends
+
+    def slot(self, length: int) -> Slot | None:
+        return next((it for it in self.walk.state(length).slots if it.id == self.id and it.name == self.name), None)
+
+    def is_active(self, length: int) -> bool:
+        slot = self.slot(length)
+        return slot is not None and slot.values.get("active") == "1"
+
+    def begin(self, step: int, what: str) -> None:
+        due = int(self.slot(step).values["due"]) if what == "timer" else None
+        self.open = Wait(what, self.id, step, due)
+        self.history.waits.append(self.open)
+
+    def end(self, step: int, how: str) -> None:
+        if self.open:
+            self.open.how, self.open.ended = how, step
+            self.open.call = self.history.count(kind_of_call(self.open.what)) if how == "called" else 0
+            self.open = None
+
+    def end_close(self, step: int) -> None:
+        if self.closing:
+            self.closing.how, self.closing.ended = "called", step
+            self.closing.call = self.history.count("closed")
+            self.closing = None
+
+    def called(self, step: int) -> None:
+        self.end(step, "called")
+        if self.kind != "async" and self.is_active(step):
+            self.begin(step, self.kind)
+
+    # ---- ops
+
+    def op(self, step: int, words: list[str], answer: str) -> None:
+        if answer in REFUSED:
+            self.history.refusals.append(Refusal(step, " ".join(words), answer))
+            return
+        match words[0]:
+            case "init" | "queue":
+                self.id, self.kind = answer, words[2] if words[0] == "init" else "work"
+                self.history.made.append((step, answer, self.kind))
+                if self.kind == "work":
+                    self.begin(step, "work")
+            case "start" if self.kind in WATCHERS:
+                self.ask(step)
+            case "start" | "again":
+                self.restart(step)
+            case "stop":
+                self.end(step, "stopped")
+            case "send":
+                self.ask(step)
+            case "close":
+                self.end(step, "closed")
+                self.closing = Wait("close", self.id, step)
+                self.history.waits.append(self.closing)
+            case "cancel":
+                self.open.cancelled = step
+            case "ref" | "unref":
+                self.history.refs.append((step, words[0]))
+
+    def ask(self, step: int) -> None:
+        """A start of a watcher or a send: where it is asked for already nothing new begins."""
+        if self.open:
+            self.open.more.append(step)
+        else:
+            self.begin(step, self.kind)
+
+    def restart(self, step: int) -> None:
+        """A start of a timer, or `again`, which only stops one that doesn't repeat."""
+        active = self.is_active(step)
+        self.end(step, "started again" if active else "stopped")
+        if active:
+            self.begin(step, "timer")
+
+
+def follow(walk: Walk, name: str) -> History:
+    return Follower(walk, name).follow()

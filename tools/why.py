@@ -1,0 +1,405 @@
+"""Why a callback ran late, or never: an answer for each callback that a name asked for, in sentences.
+
+What is said rests on the lines of the steps and on what states show (`due`, `active`, `ref`, the lists); no rule of the loop is
+reckoned here.
+"""
+
+from __future__ import annotations
+
+from conversation import State
+from waits import WATCHERS, History, Refusal, Wait, follow, kind_of_call
+from walk import Took, Walk
+
+KINDS = {"timer": "a timer", "idle": "an idle handle", "prepare": "a prepare handle", "check": "a check handle", "async": "an async handle",
+         "work": "a request"}
+CALLS = {"call": "call", "after": "after callback", "closed": "close callback"}
+ASKED = {"timer": "started", "async": "sent to", "work": "queued", "close": "closed"}
+SECTIONS = {"work": "done", "close": "closing", "async": "async", "timer": "timers"}
+# How many names or steps a sentence has at the most.
+MANY = 8
+
+
+def few(words: list[object]) -> str:
+    shown = [str(it) for it in words[:MANY]]
+    if len(words) > MANY:
+        return f"{', '.join(shown)} and {len(words) - MANY} more"
+    return shown[0] if len(shown) == 1 else f"{', '.join(shown[:-1])} and {shown[-1]}"
+
+
+def steps_of(steps: list[int]) -> str:
+    return f"step {steps[0]}" if len(steps) == 1 else f"steps {few(steps)}"
+
+
+def times(count: int, what: str) -> str:
+    return f"{count} {what}" if count == 1 else f"{count} {what}s"
+
+
+def told(took: Took) -> str:
+    """Where the clock went on, in a sentence: which, how long, from which step to which."""
+    steps = f"from step {took.first} to {took.last}" if took.first < took.last else f"at step {took.first}"
+    if took.is_callback():
+        return f"{took.what} took {took.took()} ms, {steps}"
+    return f"{took.took()} ms went by in {took.what}, {steps}"
+
+
+class Why:
+    """The answers about one name of a session."""
+
+    def __init__(self, walk: Walk, name: str) -> None:
+        self.walk = walk
+        self.name = name
+        self.history: History = follow(walk, name)
+        self.end = walk.length
+
+    # ---- the whole answer
+
+    def answer(self) -> list[str]:
+        items: list[tuple[int, list[str]]] = []
+        for run in self.runs():
+            items.append((run[0].ended or self.end + 1, self.several(run) if len(run) > 1 else self.one(run[0])))
+        items += [(it.step, self.refused(it)) for it in self.history.refusals]
+        items.sort(key=lambda it: it[0])
+        return [self.head(), *self.never_asked(), *(line for _, lines in items for line in lines)]
+
+    def head(self) -> str:
+        kind = self.history.kind()
+        counts = [(what, self.walk.state(self.end).counts[self.name][at]) for at, what in enumerate(CALLS)]
+        called = [times(count, CALLS[what]) for what, count in counts if count] or ["never called"]
+        made = f", made at {steps_of([step for step, _, _ in self.history.made])}" if kind else ""
+        return f"{self.name}: {KINDS[kind] if kind else 'it stands for nothing'}, {', '.join(called)}{made}"
+
+    def runs(self) -> list[list[Wait]]:
+        """The waits, those in a row together that each were asked for by the one before, and came in their time."""
+        rows: list[list[Wait]] = []
+        for wait in self.history.waits:
+            plain = wait.how == "called" and not wait.more and self.is_again(wait) and not self.is_late(wait)
+            if plain and rows and rows[-1][-1].ended == wait.asked and self.is_plain(rows[-1][-1]):
+                rows[-1].append(wait)
+            else:
+                rows.append([wait])
+        return rows
+
+    def is_plain(self, wait: Wait) -> bool:
+        return wait.how == "called" and self.is_again(wait) and not wait.more and not self.is_late(wait)
+
+    def is_again(self, wait: Wait) -> bool:
+        """Whether a call asked for the next one: of a timer that repeats, of a watcher, which stays active."""
+        return self.walk.lines[wait.asked].startswith("call ")
+
+    def is_late(self, wait: Wait) -> bool:
+        return wait.due is not None and self.walk.clock(wait.ended) > wait.due
+
+    def several(self, run: list[Wait]) -> list[str]:
+        first, last = run[0], run[-1]
+        how = f"due from {first.due} ms to {last.due} ms, each on time" if first.due is not None else "each in its section, as it stays active"
+        return [f"steps {first.ended} to {last.ended}, calls {first.call} to {last.call}: {how}",
+                f"    at steps {few([it.ended for it in run])}"]
+
+    def one(self, wait: Wait) -> list[str]:
+        if wait.how != "called":
+            return self.not_called(wait)
+        kind = kind_of_call(wait.what)
+        answers = {"timer": self.timer, "async": self.sent, "work": self.request, "close": self.close}
+        causes, details = answers.get(wait.what, self.watcher)(wait)
+        details += [*self.ends_between(wait), self.asked(wait)]
+        return [f"step {wait.ended}, {CALLS[kind]} {wait.call}: {causes}", *(f"    {it}" for it in details)]
+
+    def asked(self, wait: Wait) -> str:
+        """Who asked for it, and when."""
+        line = self.walk.lines[wait.asked]
+        state = self.walk.state(wait.asked)
+        now, clock = state.numbers["now"], state.numbers["clock"]
+        if line.startswith("call "):
+            how = "it repeats, and was started again" if wait.what == "timer" else "it stayed active"
+            return f"{how} by the call at step {wait.asked}"
+        behind = f" (the clock was at {clock} ms already)" if wait.what == "timer" and now != clock else ""
+        at = f", when the loop's time was {now} ms{behind}," if wait.what == "timer" else ""
+        return f"{ASKED.get(wait.what, 'started')} at step {wait.asked}{at} {self.walk.by(wait.asked)}"
+
+    # ---- those that were called
+
+    def delay(self, begin: int, end: int) -> str:
+        """Where the clock went on between two times of it."""
+        return "; ".join(told(it) for it in self.walk.causes(begin, end))
+
+    def timer(self, wait: Wait) -> tuple[str, list[str]]:
+        numbers = self.walk.state(wait.ended).numbers
+        now, clock = numbers["now"], numbers["clock"]
+        details = [f"due at {wait.due} ms, called at {clock} ms" + (f" (the loop's time was {now} ms still)" if now != clock else "")]
+        slot = next((it for it in self.walk.state(wait.ended).slots if it.id == wait.id), None)
+        repeat = int(slot.values["repeat"]) if slot else 0
+        missed = (now - wait.due) // repeat if repeat else 0
+        if missed > 0 and slot.values["active"] == "1":
+            lost = [wait.due + repeat * it for it in range(1, min(missed, MANY) + 1)]
+            more = f" and {missed - MANY} more" if missed > MANY else ""
+            details.append(f"fell behind: {times(missed, 'repeat')} lost ({', '.join(map(str, lost))}{more} ms), next due at {slot.values['due']} ms")
+        details += self.polls(wait)
+        late = clock - wait.due
+        return (f"late by {late} ms: {self.delay(wait.due, clock)}" if late > 0 else "on time"), details
+
+    def polls(self, wait: Wait) -> list[str]:
+        """The polls that didn't wait for a timer that wasn't due, since somebody else was active or closed."""
+        found: dict[str, list[int]] = {}
+        for at in range(wait.asked + 1, (wait.ended or self.end) + 1):
+            state = self.walk.state(at) if self.walk.lines[at] == "poll 0" else None
+            for word, what in (("idle", "an active idle handle"), ("closing", "closing")) if state and state.numbers["now"] < wait.due else ():
+                for name in state.lists[word]:
+                    found.setdefault(f"{name} was {what}", []).append(at)
+        return [f"the poll didn't wait, at {steps_of(at)}: {why}" for why, at in found.items()]
+
+    def watcher(self, wait: Wait) -> tuple[str, list[str]]:
+        details = [f"started again meanwhile at {steps_of(wait.more)}, which changed nothing"] if wait.more else []
+        if not self.is_again(wait) and self.walk.place(wait.asked).where == wait.what and self.walk.place(wait.asked).mode:
+            begun = self.walk.last_line((wait.what,), wait.asked)
+            next_one = self.walk.last_line((wait.what,), wait.ended)
+            return f"an iteration later: it was started in its own section `{wait.what}`, which had begun at step {begun}", [
+                *details, f"the next one began at step {next_one}"]
+        return f"in the section `{wait.what}` that began at step {self.walk.last_line((wait.what,), wait.ended)}", details
+
+    def between(self, wait: Wait, first: int) -> str:
+        begin, end = self.walk.clock(first), self.walk.clock(wait.ended)
+        return f"{end - begin} ms later: {self.delay(begin, end)}" if end > begin else "in the same millisecond"
+
+    def sent(self, wait: Wait) -> tuple[str, list[str]]:
+        sends = [wait.asked, *wait.more]
+        if wait.more:
+            return f"{len(sends)} sends, and one call: those at {steps_of(sends)}", [self.between(wait, wait.asked)]
+        return f"for the send at step {wait.asked}, {self.between(wait, wait.asked)}", []
+
+    def close(self, wait: Wait) -> tuple[str, list[str]]:
+        details = []
+        busy = [at for at in range(wait.asked, wait.ended) if self.walk.lines[at] == "closeloop = EBUSY"]
+        if busy:
+            details.append(f"until then the loop had it: `closeloop` at {steps_of(busy)} answers EBUSY")
+        return f"it was closed at step {wait.asked}, and the section `closing` came at step {self.walk.last_line(('closing',), wait.ended)}", details
+
+    def request(self, wait: Wait) -> tuple[str, list[str]]:
+        if wait.cancelled:
+            return "cancelled before a worker took it", [f"cancelled at step {wait.cancelled} {self.walk.by(wait.cancelled)}"]
+        details = [self.waited(wait), self.ran(wait), self.handed(wait)]
+        passed = self.overtaken(wait)
+        if passed:
+            return f"behind {few(passed)}, queued later and done earlier", details
+        return f"done at step {wait.finished}, {self.between(wait, wait.finished)}", details
+
+    def waited(self, wait: Wait) -> str:
+        step, worker = wait.taken
+        before = self.before(self.walk.state(wait.asked).lists["waiting"])
+        behind = f", behind {few(before)}" if before else ""
+        away = self.walk.clock(step) - self.walk.clock(wait.asked)
+        return f"waited for a worker from step {wait.asked} to {step}, {away} ms{behind}; worker {worker} took it at step {step}"
+
+    def ran(self, wait: Wait) -> str:
+        step, worker = wait.taken
+        return f"worker {worker} ran it from step {step} to {wait.finished}, {self.walk.clock(wait.finished) - self.walk.clock(step)} ms"
+
+    def handed(self, wait: Wait) -> str:
+        before = self.before(self.walk.state(wait.finished).lists["done"])
+        behind = f", behind {few(before)}" if before else ""
+        begun = self.walk.last_line(("done",), wait.ended)
+        return f"the section `done` came at step {begun}{behind}"
+
+    def before(self, names: list[str]) -> list[str]:
+        return names[: names.index(self.name)] if self.name in names else []
+
+    def overtaken(self, wait: Wait) -> list[str]:
+        """The requests that were queued behind this one and stood in front of it as it was done."""
+        before = self.before(self.walk.state(wait.finished).lists["done"])
+        first = self.walk.state(wait.asked)
+        return [it for it in before if (slot := first.slot_of(it)) is None or slot.kind != "work"]
+
+    def ends_between(self, wait: Wait) -> list[str]:
+        """The runs that ended while it was asked for, each with its reason."""
+        return [self.run_end(at) for at in range(wait.asked + 1, wait.ended or self.end + 1) if self.walk.lines[at].startswith("end ")]
+
+    def run_end(self, step: int) -> str:
+        return f"meanwhile the run ended at step {step}: {self.why_ended(step)}"
+
+    def ended_by(self, step: int) -> str:
+        """Why a run ended: the stop flag, nothing that keeps the loop alive, or a mode of one iteration."""
+        state = self.walk.state(step - 1)
+        if state.numbers["stop"] == 1:
+            return "stop"
+        if self.walk.lines[step] != "end 0":
+            return "mode"
+        slot = state.slot_of(self.name)
+        return "unreferenced" if slot and slot.values.get("active") == "1" and slot.values.get("ref") == "0" else "not alive"
+
+    def why_ended(self, step: int) -> str:
+        """The same in a sentence."""
+        match self.ended_by(step):
+            case "stop":
+                stop = max(at for at in range(1, step) if self.walk.lines[at] == "stoploop = ok")
+                return f"it was asked to stop at step {stop} {self.walk.by(stop)}"
+            case "mode":
+                return f"a run `{self.walk.place(step - 1).mode}` has one iteration"
+            case "unreferenced":
+                unref = max(at for at, op in self.history.refs if at < step and op == "unref")
+                return f"nothing kept the loop alive, for {self.name} is unreferenced since step {unref}, {self.walk.by(unref)}"
+        return "nothing kept the loop alive"
+
+    # ---- those that were not called
+
+    def not_called(self, wait: Wait) -> list[str]:
+        if wait.how == "open":
+            return self.still_open(wait)
+        step = wait.ended
+        head = f"step {step}: {self.no_call(wait)}: {wait.how} {self.walk.by(step)}"
+        details = []
+        if wait.what == "async":
+            details.append(f"{'the send' if not wait.more else 'the sends'} at {steps_of([wait.asked, *wait.more])} "
+                           + ("is lost" if not wait.more else "are lost"))
+        if wait.due is not None:
+            state = self.walk.state(step - 1)
+            aside = " and set aside to be called" if self.name in state.lists["ready"] else ""
+            clock = state.numbers["clock"]
+            due = f"it was due{aside}" if aside or wait.due <= clock else "not due yet"
+            details.append(f"{due}: due at {wait.due} ms, {wait.how} at {clock} ms")
+        return [head, *(f"    {it}" for it in [*details, *self.ends_between(wait), self.asked(wait)])]
+
+    def still_open(self, wait: Wait) -> list[str]:
+        state = self.walk.state(self.end)
+        details = [] if wait.what != "work" else self.request_so_far(wait)
+        if wait.due is not None:
+            details.append(f"due at {wait.due} ms, and the session ends at {state.numbers['clock']} ms")
+            details += self.polls(wait)
+        if wait.more:
+            details.append(f"asked for again at {steps_of(wait.more)}")
+        ends = self.ends_between(wait)
+        if ends and self.reason(wait) == "the run ended":
+            ends.pop()
+        head = f"the end, at {self.end}: {self.no_call(wait)}: {self.where_it_ends(wait, state)}"
+        return [head, *(f"    {it}" for it in [*details, *ends, self.asked(wait)])]
+
+    def no_call(self, wait: Wait) -> str:
+        further = any(it.how == "called" and it.ended <= wait.asked and kind_of_call(it.what) == kind_of_call(wait.what) for it in self.history.waits)
+        return f"no {'further ' if further else ''}{CALLS[kind_of_call(wait.what)]}"
+
+    def reason(self, wait: Wait) -> str:
+        """Why it isn't called up to the session's end, in a few words."""
+        place = self.walk.place(self.end)
+        if wait.what == "work" and not wait.finished and not wait.cancelled:
+            return "it runs" if wait.taken else "it waits"
+        if place.mode is None:
+            last = self.walk.last_line(("end",), self.end)
+            return "the run ended" if last and last > wait.asked else "no run"
+        if self.walk.after == "blocked":
+            return "blocked"
+        if place.callback:
+            return "a callback"
+        if wait.due is not None and wait.due > self.walk.clock(self.end):
+            return "not due"
+        return "a section"
+
+    def where_it_ends(self, wait: Wait, state: State) -> str:
+        """The same in a sentence."""
+        place = self.walk.place(self.end)
+        match self.reason(wait):
+            case "it runs":
+                return "nobody has finished it"
+            case "it waits":
+                return self.who_works(state)
+            case "the run ended":
+                last = self.walk.last_line(("end",), self.end)
+                return f"the run ended at step {last}: {self.why_ended(last)}"
+            case "no run":
+                return "no run began behind it" if self.walk.last_line(("run",), self.end) else "no run began, and only a run calls"
+            case "blocked":
+                until = place.where.removeprefix("poll ")
+                how = "without end" if until == "infinite" else f"until {until} ms"
+                return f"the loop waits in the poll, since step {self.walk.last_line(('poll',), self.end)} and {how}, and the session ends"
+            case "a callback":
+                return f"the session ends in the callback of {place.callback[1]}, and the loop calls one at a time"
+            case "not due":
+                return "it isn't due yet, and the session ends"
+        return f"the session ends before the section `{SECTIONS.get(wait.what, wait.what)}` comes to it (it stands at `{place.where}`)"
+
+    def who_works(self, state: State) -> str:
+        before = self.before(state.lists["waiting"])
+        running = [it.partition(":") for it in state.lists["running"]]
+        work = few([f"{name} (worker {worker})" for worker, _, name in running]) if running else ""
+        behind = f"it waits behind {few(before)}" if before else "it is the next that a worker takes"
+        return f"{behind}; the workers run {work}" if running else f"{behind}; no worker has one"
+
+    def request_so_far(self, wait: Wait) -> list[str]:
+        if wait.cancelled:
+            return [f"cancelled at step {wait.cancelled} {self.walk.by(wait.cancelled)}"]
+        if not wait.taken:
+            return []
+        return [self.waited(wait), self.ran(wait) if wait.finished else f"worker {wait.taken[1]} runs it since step {wait.taken[0]}"]
+
+    # ---- what was refused, and what nobody asked for
+
+    def refused(self, it: Refusal) -> list[str]:
+        return [f"step {it.step}: `{it.op}` answers {it.code}: {self.why_refused(it)}", f"    {self.walk.by(it.step)}"]
+
+    def why_refused(self, it: Refusal) -> str:
+        state = self.walk.state(it.step - 1)
+        slot = state.slot_of(self.name)
+        match it.code:
+            case "ESTALE":
+                return self.why_stale(it, state)
+            case "EINVAL":
+                closed = [at.asked for at in self.history.waits if at.what == "close" and at.asked < it.step]
+                if slot and slot.values.get("closing") == "1":
+                    return f"it closes, since step {closed[-1]}, {self.walk.by(closed[-1])}"
+                return "it was never started"
+            case "EKIND":
+                return f"{self.name} is {KINDS[slot.kind]}"
+            case "EBOUND":
+                made = [at for at, _, _ in self.history.made if at < it.step]
+                return f"{self.name} has {KINDS[slot.kind]} still, since step {made[-1]}"
+            case "EFULL":
+                return "no slot is free"
+        return self.why_busy(it, slot.outcome)
+
+    def why_stale(self, it: Refusal, state: State) -> str:
+        id = state.bound[self.name]
+        if id is None:
+            return f"no step had made {self.name} yet"
+        gone = self.gone(it.step)
+        close = [at for at in self.history.waits if at.what == "close" and at.id == id]
+        by = f"; it was closed at step {close[-1].asked}, {self.walk.by(close[-1].asked)}" if close else ""
+        number = id.split(".")[0]
+        other = next((at for at in state.slots if at.name and at.id.split(".")[0] == number), None)
+        holds = f"; its slot has {other.name} now ({other.id})" if other else ""
+        return f"it is gone, since step {gone}{by}{holds}"
+
+    def gone(self, step: int) -> int:
+        """The last step before this one at which the name's handle or request went."""
+        return next(at for at in range(step - 1, 0, -1) if self.walk.lines[at].startswith((f"closed {self.name} ", f"after {self.name} ")))
+
+    def why_busy(self, it: Refusal, outcome: str) -> str:
+        wait = next(at for at in reversed(self.history.waits) if at.what == "work" and at.asked < it.step)
+        if outcome.startswith("running"):
+            return f"too late: worker {wait.taken[1]} took it at step {wait.taken[0]}"
+        if outcome == "cancelled":
+            return f"it is cancelled already, since step {wait.cancelled}"
+        return f"it is done already, since step {wait.finished}"
+
+    def never_asked(self) -> list[str]:
+        """Why nothing asked for a callback of the handle."""
+        kind = self.history.kind()
+        if kind is None:
+            return [] if self.history.refusals else [f"never called: up to the end, at {self.end}, no step makes it"]
+        if kind == "work" or any(it.what not in ("close", "work") for it in self.history.waits):
+            return []
+        word = "send" if kind == "async" else "start"
+        refused = [it for it in self.history.refusals if it.op.startswith(word + " ")]
+        alive = [f"    {it}" for it in [self.keeps_alive()] if it]
+        if refused:
+            return [f"never called: `{refused[-1].op}` at step {refused[-1].step} was refused, with {refused[-1].code}", *alive]
+        return [f"never called: up to the end, at {self.end}, nobody {word}s {'to ' if kind == 'async' else ''}it", *alive]
+
+    def keeps_alive(self) -> str:
+        slot = self.walk.state(self.end).slot_of(self.name)
+        place = self.walk.place(self.end)
+        if not slot or slot.values.get("active") != "1" or slot.values.get("ref") != "1" or place.mode is None:
+            return ""
+        waits = f", and the poll waits since step {self.walk.last_line(('poll',), self.end)}" if self.walk.after == "blocked" else ""
+        return f"it keeps the loop alive: it is active from its init on, and referenced{waits}"
+
+
+def why(walk: Walk, name: str) -> list[str]:
+    """The answers about a name that the script declares."""
+    return Why(walk, name).answer()
