@@ -42,7 +42,7 @@ def copy_to(folder):
 
 def launch(root):
     """Has the launcher prove and build the program, and gives its path."""
-    ended = subprocess.run([os.path.join(root, 'uvt'), 'debug'], input=b'begin\n', stdout=subprocess.DEVNULL)
+    ended = subprocess.run([os.path.join(root, 'uvt'), 'build'], stdout=subprocess.DEVNULL)
     if ended.returncode:
         raise SystemExit('machines: the program was not built')
     return os.path.join(root, 'out', 'uvt', 'uvt')

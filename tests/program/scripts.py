@@ -5,31 +5,31 @@ HERE = os.path.dirname(os.path.realpath(__file__))
 
 
 def bad_scripts():
-    """The file bad-scripts: each script, and its first bad line."""
+    """The file bad-scripts: each script, its first bad line, and the word for why it is bad."""
     with open(os.path.join(HERE, 'bad-scripts'), encoding='ascii') as file:
-        rows = [line.rstrip('\n').split(' ', 1) for line in file if not line.startswith('# ')]
-    return [(text.encode().decode('unicode_escape').encode('latin-1'), int(number)) for number, text in rows]
+        rows = [line.rstrip('\n').split(' ', 2) for line in file if not line.startswith('# ')]
+    return [(text.encode().decode('unicode_escape').encode('latin-1'), int(number), why) for number, why, text in rows]
 
 
 def lines(count, text):
     return b''.join(text(number) for number in range(count))
 
 
-# What passes a limit by one line or one byte, and the first bad line; None where the limit is just kept.
+# What passes a limit by one line or one byte, the first bad line, and the word for why; None where the limit is just kept.
 LIMITS = [
-    ('a line of 256 bytes', b'#' + 255 * b'a', None),
-    ('a line of 257 bytes', b'#' + 256 * b'a', 1),
-    ('a name of 32 bytes', b'var ' + 32 * b'a', None),
-    ('a name of 33 bytes', b'var ' + 33 * b'a', 1),
-    ('4096 names', lines(4096, lambda number: b'var n%d\n' % number), None),
-    ('4097 names', lines(4097, lambda number: b'var n%d\n' % number), 4097),
-    ('65535 lines, and some that do not count', lines(65535, lambda number: b'main run once\n') + b'\n# none\nslots 9\nworkers 9\n', None),
+    ('a line of 256 bytes', b'#' + 255 * b'a', None, None),
+    ('a line of 257 bytes', b'#' + 256 * b'a', 1, 'long'),
+    ('a name of 32 bytes', b'var ' + 32 * b'a', None, None),
+    ('a name of 33 bytes', b'var ' + 33 * b'a', 1, 'name'),
+    ('4096 names', lines(4096, lambda number: b'var n%d\n' % number), None, None),
+    ('4097 names', lines(4097, lambda number: b'var n%d\n' % number), 4097, 'names'),
+    ('65535 lines, and some that do not count', lines(65535, lambda number: b'main run once\n') + b'\n# none\nslots 9\nworkers 9\n', None, None),
     ('65535 lines, many of them of threads',
-     b'var a\n' + lines(65534, lambda number: b'thread %d send a\n' % (number % 64)) + b'workers 9\n', None),
+     b'var a\n' + lines(65534, lambda number: b'thread %d send a\n' % (number % 64)) + b'workers 9\n', None, None),
     ('65536 lines, many of them of threads',
-     b'var a\n' + lines(65534, lambda number: b'thread %d send a\n' % (number % 64)) + b'workers 9\nthread 0 send a\n', 65537),
+     b'var a\n' + lines(65534, lambda number: b'thread %d send a\n' % (number % 64)) + b'workers 9\nthread 0 send a\n', 65537, 'lines'),
     ('65536 lines, and some that do not count',
-     lines(65535, lambda number: b'main run once\n') + b'\n# none\nslots 9\nworkers 9\nmain run once\n', 65540),
+     lines(65535, lambda number: b'main run once\n') + b'\n# none\nslots 9\nworkers 9\nmain run once\n', 65540, 'lines'),
 ]
 
 # Commands at a limit, and what they are answered.

@@ -1,0 +1,428 @@
+"""Tries the launcher: what it adds to the program's words, and how it comes to a program where none is built.
+
+Where it builds, a stand-in for the kit's command (kit/rt) takes a moment for each crate in the place of minutes; what it proves is
+nothing, and so only the launcher is tried by it. With the real kit are tried the first answer of the README's first command, and a
+build that is stopped once the first crate is done, and taken up again."""
+import os
+import pty
+import re
+import shutil
+import signal
+import subprocess
+import sys
+import tempfile
+import threading
+import time
+from typing import Callable, List, NamedTuple
+
+HERE = os.path.dirname(os.path.realpath(__file__))
+ROOT = os.path.dirname(os.path.dirname(HERE))
+sys.path.insert(0, os.path.join(ROOT, 'tools'))
+import reasons
+import scripts
+
+SECONDS = 60
+BAD_COMMAND = b'uvt: bad command line\n'
+SCRIPT = b'var t\nmain init t timer\nbegin\nloop\n'
+Check = Callable[..., None]
+
+
+def run(words: List, text: bytes = b'', **how) -> 'tuple[int, bytes, bytes]':
+    ended = subprocess.run(words, input=text, stdout=subprocess.PIPE, stderr=subprocess.PIPE, timeout=how.pop('timeout', SECONDS), **how)
+    return ended.returncode, ended.stdout, ended.stderr
+
+
+def same(check: Check, what: str, real: object, due: object) -> None:
+    check(what, real == due, 'wanted %r, got %r' % (due, real))
+
+
+# Words that are no command line, and what the launcher says of them behind the program's own line: the beginning of its text.
+HELPED = [
+    ([], b'uvt runs a script'), (['help'], b'uvt runs a script'), (['--help'], b'uvt runs a script'), (['-h'], b'uvt runs a script'),
+    (['run'], b'uvt: the words may be: '), (['--version'], b'uvt: the words may be: '), (['debug', '--help'], b'uvt: the words may be: '),
+    (['debug', 'no-such-file'], b'uvt: there is no file no-such-file\nuvt: the words may be: '),
+    (['replay', 'no-such-file'], b'uvt: there is no file no-such-file\n'), (['live', 'more'], b'uvt: there is no file more\n'),
+    (['live', '--workers', '2', 'none'], b'uvt: there is no file none\n'), (['debug', '/'], b'uvt: / is a folder, and no file\n'),
+    (['replay', '/dev/null'], b'uvt: /dev/null: this file cannot be taken as input'), (['debug', b'\xff'], b'uvt: there is no file \xff\n'),
+    ([b'\xff'], b'uvt: the words may be: '), ([b'debug\xff'], b'uvt: the words may be: '), ([''], b'uvt runs a script'),
+    (['build', 'x'], b'uvt: the words may be: '), (['live', '--workers=2', '--workers=2'], b'uvt: the words may be: '),
+    (['debug', '--workers=2'], b'uvt: the words may be: '), (['live', '--workers'], b'uvt: the words may be: '),
+    (['live', '--help'], b'uvt: the words may be: '),
+]
+# The same of words that only the program knows to be none: it has the only line.
+REFUSED = [['live', '--workers', '0'], ['live', '--workers', '1025'], ['live', '--workers=04']]
+
+
+def try_words(check: Check, uvt: str) -> None:
+    for words, said in HELPED:
+        status, output, errors = run([uvt] + words, SCRIPT)
+        check('the words %r' % words, (status, output) == (2, b'') and errors.startswith(BAD_COMMAND + said), 'got %r' % errors)
+    for words in REFUSED:
+        same(check, 'the words %r' % words, run([uvt] + words, SCRIPT), (2, b'', BAD_COMMAND))
+
+
+def try_files(check: Check, uvt: str, folder: str) -> None:
+    """The three commands with FILE are the same with FILE as their input."""
+    recording = os.path.join(ROOT, 'examples', 'sent-session.rec')
+    changed = os.path.join(ROOT, 'examples', 'changed-program.rec')
+    script = os.path.join(folder, 'a script.uvt')
+    with open(script, 'wb') as file:
+        file.write(SCRIPT)
+    same(check, 'replay FILE', run([uvt, 'replay', recording]), (0, b'same\n', b''))
+    same(check, 'replay of a changed FILE', run([uvt, 'replay', changed]), (3, b'differs at 1\n', b'uvt: differs at 1\n'))
+    same(check, 'debug FILE', run([uvt, 'debug', script], b'loop\n'), (0, b'init t timer = 0.0\nrefused ended\n', b''))
+    same(check, 'debug with the end of the options', run([uvt, 'debug', '--'], SCRIPT), (0, b'init t timer = 0.0\n', b''))
+    same(check, 'debug with it and FILE', run([uvt, 'debug', '--', script]), (0, b'init t timer = 0.0\n', b''))
+    same(check, 'debug of two files', run([uvt, 'debug', script, script])[0], 2)
+    status, output, errors = run([uvt, 'live', script])
+    check('live FILE', (status, errors) == (0, b'') and output.startswith(b'uvt 1\nworkers 4\n'), 'got %r' % ((status, output, errors),))
+    for words in (['live', '--workers', '3', script], ['live', script, '--workers', '3'], ['live', '--workers=3', script]):
+        status, output, errors = run([uvt] + words)
+        check('live with workers and FILE', (status, errors) == (0, b'') and output.startswith(b'uvt 1\nworkers 3\n'), 'got %r' % errors)
+
+
+# The rest of the rows of reasons.py, each with the whole sentence: the command's word, its input, the bad line, the row, the sentence.
+TOLD = [
+    ('debug', b'main run default\n', 2, 'begin', b'the line `begin` is missing, which ends the script'),
+    ('debug', b'#' + 256 * b'a' + b'\nbegin\n', 1, 'long', b'a line has at most 256 bytes, and this one has 257'),
+    ('debug', b'var a\r\nbegin\r\n', 1, 'byte', b'it has a byte that no line may have: a carriage return, as in the line ends of Windows'),
+    ('debug', b'#\tx\nbegin\n', 1, 'byte', b'it has a byte that no line may have: a tab'),
+    ('debug', '# é\nbegin\n'.encode(), 1, 'byte', b'it has a byte that no line may have: one of a character beyond ASCII'),
+    ('debug', b'main stop a\nvar a\nbegin\n', 1, 'undeclared', b'`a` isn\'t declared before this line, but only in line 2'),
+    ('debug', b'var a\nmain stop b\nbegin\n', 2, 'undeclared', b'`b` isn\'t declared before this line'),
+    ('debug', b'workers 4\n\nworkers 4\nbegin\n', 3, 'second', b'a second `workers`: a script has it once at most, and line 1 is the first'),
+    ('debug', b'var a\non a run once\nbegin\n', 2, 'main', b'`run` is an op of the main program alone: `main run ..`'),
+    ('debug', b'var a\nmain fly a\nbegin\n', 2, 'op', b'`fly` is no op'),
+    ('debug', b'var a\nmain queue a 1001 x\nbegin\n', 2, 'range', b'`1001` is out of range: ROUNDS is 1 to 1000'),
+    ('live', b'workers 0\n', 1, 'range', b'`0` is out of range: N is 1 to 1024'),
+    ('debug', b'var a\nvar a\nbegin\n', 2, 'twice', b'`a` is declared already, in line 1'),
+    ('debug', b'let a\nbegin\n', 1, 'word',
+     b'no line begins with `let`; the first word is slots, workers, var, main, on, after, closed, thread or begin'),
+    ('replay', b'uvt 2\nbegin\ncalls\nend\n', 1, 'version', b'a recording begins with the line `uvt 1`'),
+    ('replay', b'uvt 1\nvar A\nbegin\ncalls\nend\n', 2, 'name',
+     b'`A` is no name: a lower case letter, and then up to 31 lower case letters, digits or _'),
+    ('replay', b'uvt 1\nvar a\n', 3, 'begin', b'the line `begin` is missing, which ends the script'),
+    ('replay', b'uvt 1\nbegin\nback 1\ncalls\nend\n', 3, 'step',
+     b'between `begin` and `calls` each line is a step: loop, take K, finish K, cancel NAME, send NAME or tick MS'),
+    ('replay', b'uvt 1\nbegin\nloop 5\ncalls\nend\n', 3, 'many', b'`5` is too much: the line has the form `loop`'),
+    ('replay', b'uvt 1\nbegin\ntake 65536\ncalls\nend\n', 3, 'range', b'`65536` is out of range: K is 0 to 65535'),
+    ('replay', b'uvt 1\nvar a\nbegin\nsend b\ncalls\nend\n', 4, 'undeclared', b'`b` isn\'t declared before this line'),
+    ('replay', b'uvt 1\nbegin\nloop\n', 4, 'calls', b'the line `calls` is missing, which ends the steps'),
+    ('replay', b'uvt 1\nbegin\ncalls\nloop\nend\n', 4, 'callback',
+     b'behind `calls` each line begins with `call `, `after ` or `closed `, and the last one is `end`'),
+    ('replay', b'uvt 1\nbegin\ncalls\n', 4, 'end', b'the line `end` is missing, which ends the recording'),
+    ('replay', b'uvt 1\nbegin\ncalls\nend\nend\n', 5, 'behind', b'nothing may stand behind the line `end`'),
+]
+
+
+def shown(line: bytes) -> bytes:
+    text = b''.join(bytes([byte]) if 0x20 <= byte <= 0x7e else b'\\x%02x' % byte for byte in line[:120])
+    return text + (b' ..' if len(line) > 120 else b'')
+
+
+def try_bad_file(check: Check, uvt: str, path: str, what: str, told: 'tuple[str, bytes, int, bytes]') -> bytes:
+    """Of a bad line of a file the errors have the program's line, the line itself if there is one, and why. It gives them."""
+    word, text, number, sentence = told
+    with open(path, 'wb') as file:
+        file.write(text)
+    lines = text.split(b'\n')
+    due = b'uvt: bad script line %d\n' % number
+    if number < len(lines):
+        due += b'uvt: line %d is: %s\n' % (number, shown(lines[number - 1]))
+    due += b'uvt: %s\n' % sentence
+    with open(path, 'rb') as file:
+        ended = subprocess.run([uvt, word], stdin=file, stdout=subprocess.PIPE, stderr=subprocess.PIPE, timeout=SECONDS)
+    same(check, what + ', redirected', (ended.returncode, ended.stdout, ended.stderr), (2, b'', due))
+    return due
+
+
+def try_reasons(check: Check, uvt: str, folder: str) -> None:
+    path, seen = os.path.join(folder, 'bad.uvt'), set()
+    for at, (script, number, row) in enumerate(scripts.bad_scripts(), 1):
+        text = scripts.begun(script)
+        found = reasons.why('debug', text.split(b'\n')[:-1], number)
+        same(check, 'why script %d of bad-scripts is bad' % at, found and found.row, row)
+        if found:
+            seen.add(found.row)
+            try_bad_file(check, uvt, path, 'bad script %d' % at, ('debug', text, number, found.sentence().encode()))
+    for what, script, number, row in scripts.LIMITS:
+        if number is not None:
+            found = reasons.why('debug', scripts.begun(script).split(b'\n')[:-1], number)
+            same(check, 'why it is bad: ' + what, found and found.row, row)
+            seen.add(row)
+    for word, text, number, row, sentence in TOLD:
+        what = 'a bad line, %s' % row
+        due = try_bad_file(check, uvt, path, what, (word, text, number, sentence))
+        if number < len(text.split(b'\n')) or word == 'replay':
+            same(check, what + ', as FILE', run([uvt, word, path]), (2, b'', due))
+        same(check, what + ', from a pipe', run([uvt, word], text), (2, b'', b'uvt: bad script line %d\n' % number))
+        seen.add(row)
+    same(check, 'each row of the table of reasons is tried', sorted(seen), sorted(reasons.REASONS))
+    with open(path, 'wb') as file:
+        file.write(b'var t\n')
+    same(check, 'a file without begin, and more behind it', run([uvt, 'debug', path], b'none\nbegin\n'),
+         (2, b'', b'uvt: bad script line 2\nuvt: %s has no line `begin`, so what came behind it was read as a part of the script\n' % path.encode()))
+
+
+class StandIn(NamedTuple):
+    """A copy of the repository whose kit is the stand-in."""
+    folder: str
+    room: str
+
+    def uvt(self) -> str:
+        return os.path.join(self.folder, 'uvt')
+
+    def env(self) -> 'dict[str, str]':
+        return {**os.environ, 'PATH': os.path.join(HERE, 'kit') + ':' + os.environ['PATH'], 'STAND_IN': self.room,
+                'XDG_CACHE_HOME': os.path.join(self.room, 'cache'), 'RT_JOBS': '4'}
+
+    def write(self, name: str, text: str) -> None:
+        with open(os.path.join(self.room, name), 'w', encoding='ascii') as file:
+            file.write(text)
+
+    def log(self) -> List[List[str]]:
+        path = os.path.join(self.room, 'log')
+        if not os.path.exists(path):
+            return []
+        with open(path, encoding='ascii') as file:
+            return [line.split() for line in file]
+
+    def call(self, words: List[str], text: bytes = b'') -> 'tuple[int, bytes, bytes]':
+        return run([self.uvt()] + words, text, env=self.env())
+
+
+def stand_in(folder: str, program: str) -> StandIn:
+    made = StandIn(os.path.join(folder, 'copy'), os.path.join(folder, 'room'))
+    os.makedirs(made.room)
+    shutil.copy(program, os.path.join(made.room, 'program'))
+    for name in ('uvt', 'crates.txt'):
+        os.makedirs(made.folder, exist_ok=True)
+        shutil.copy(os.path.join(ROOT, name), os.path.join(made.folder, name))
+    shutil.copytree(os.path.join(ROOT, 'tools'), os.path.join(made.folder, 'tools'))
+    shutil.copytree(os.path.join(ROOT, 'crates'), os.path.join(made.folder, 'crates'),
+                    ignore=lambda at, names: [name for name in names if name in ('out', 'must-fail', 'data', 'specs', 'proofs')])
+    return made
+
+
+def try_first_call(check: Check, kit: StandIn) -> None:
+    """Without a built program: the answer of the try, the words that go with it, and when there is none."""
+    for words, said in ((['help'], b'uvt runs a script'), (['replay', 'none'], b'uvt: there is no file none\n')):
+        status, output, errors = kit.call(words)
+        check('%r before a build' % words, (status, output) == (2, b'') and errors.startswith(said), 'got %r' % errors)
+    ended: List = [None, None]
+
+    def call(at: int) -> None:
+        ended[at] = kit.call(['debug'], SCRIPT)
+
+    both = [threading.Thread(target=call, args=(at,)) for at in (0, 1)]
+    for it in both:
+        it.start()
+    for it in both:
+        it.join()
+    for at, real in enumerate(ended):
+        check('first call %d of two at once' % at, real[:2] == (0, b'init t timer = 0.0\n'), 'got %r' % (real,))
+        check('first call %d of two, what is said' % at,
+              b'before its proofs' in real[2] and b'./uvt build' in real[2] and b'none of it proved' in real[2], 'got %r' % real[2])
+    same(check, 'a first answer builds nothing', [line[0] for line in kit.log()], ['tries', 'tries'])
+    script = os.path.join(kit.room, 'script.uvt')
+    with open(script, 'wb') as file:
+        file.write(SCRIPT)
+    same(check, 'a first call of debug FILE', kit.call(['debug', script], b'loop\n')[:2], (0, b'init t timer = 0.0\nrefused ended\n'))
+    with open(script, 'wb') as file:
+        file.write(b'var a\nmain stop b\nbegin\n')
+    status, output, errors = kit.call(['debug', script])
+    check('a first call of a bad FILE', (status, output) == (2, b'') and errors.endswith(b'\nuvt: `b` isn\'t declared before this line\n'),
+          'got %r' % errors)
+    status, output, errors = kit.call(['debug'], b'var a\nmain stop b\nbegin\n')
+    check('a first call of a bad script', (status, output) == (2, b'') and b'\nuvt: bad script line 2\n' in errors, 'got %r' % errors)
+    status, output, errors = kit.call(['replay', os.path.join(ROOT, 'examples', 'changed-program.rec')])
+    check('a first call of replay FILE', (status, output) == (3, b'differs at 1\n') and b'\nuvt: differs at 1\n' in errors, 'got %r' % errors)
+
+
+def order_faults(log: List[List[str]], below: 'dict[str, List[str]]') -> List[str]:
+    """The crates that began before one that they stand on had ended, or began twice."""
+    ended, begun, faults = set(), set(), []
+    for what, crate in log:
+        if what == 'begins':
+            faults += [crate] * (crate in begun or not ended.issuperset(below[crate]))
+            begun.add(crate)
+        elif what == 'ends':
+            ended.add(crate)
+    return faults
+
+
+def crates_below(kit: StandIn) -> 'dict[str, List[str]]':
+    with open(os.path.join(kit.folder, 'crates.txt'), encoding='utf-8') as file:
+        rows = [line.partition('#')[0].partition(':') for line in file]
+    uses = {row[0].split()[0]: row[2].split() for row in rows if row[0].split()}
+    return {name: [word for word in words if word in uses] for name, words in uses.items()}
+
+
+def needed(below: 'dict[str, List[str]]') -> List[str]:
+    """The crates that the program stands on, and itself."""
+    found, left = set(), ['uvt']
+    while left:
+        name = left.pop()
+        if name not in found:
+            found.add(name)
+            left += below[name]
+    return sorted(found)
+
+
+def most_at_once(log: List[List[str]]) -> int:
+    at_once = most = 0
+    for what, _ in log:
+        at_once += {'begins': 1, 'ends': -1}.get(what, 0)
+        most = max(most, at_once)
+    return most
+
+
+def try_builds(check: Check, kit: StandIn) -> None:
+    """A build that is stopped and taken up again, one that fails, two at once, and a call while one is under way."""
+    kit.write('took', '0.3')
+    kit.write('log', '')
+    build = subprocess.Popen([kit.uvt(), 'build'], env=kit.env(), stderr=subprocess.PIPE, start_new_session=True)
+    until = time.monotonic() + SECONDS
+    while len([1 for what, _ in kit.log() if what == 'ends']) < 6 and time.monotonic() < until:
+        time.sleep(0.05)
+    build.send_signal(signal.SIGTERM)
+    errors = build.communicate(timeout=SECONDS)[1]
+    check('a build that is stopped', build.returncode == 70 and b'stopped' in errors, 'status %d, errors %r' % (build.returncode, errors))
+    time.sleep(1)
+    done = {crate for what, crate in kit.log() if what == 'ends'}
+    time.sleep(1)
+    same(check, 'nothing goes on behind it', {crate for what, crate in kit.log() if what == 'ends'}, done)
+    check('it is stopped in its midst', 6 <= len(done) < len(needed(crates_below(kit))), 'done %r' % done)
+
+    kit.write('took', '0.05')
+    kit.write('log', '')
+    kit.write('fails', 'uv_step')
+    status, output, errors = kit.call(['build'])
+    check('a build that fails', (status, output) == (70, b'') and b'uv_step was not built' in errors and b'fn a::c: not proved' in errors
+          and b'fn a::b: proved' not in errors, 'got %r' % errors)
+    again = {crate for what, crate in kit.log() if what == 'begins'}
+    check('what was proved before it was stopped is not proved again', not again & done, 'again %r' % (again & done))
+
+    kit.write('fails', '')
+    both = [subprocess.Popen([kit.uvt(), 'build'], env=kit.env(), stdout=subprocess.DEVNULL, stderr=subprocess.PIPE) for _ in (1, 2)]
+    said = [it.communicate(timeout=SECONDS)[1] for it in both]
+    same(check, 'two builds at once', [it.returncode for it in both], [0, 0])
+    check('one of them waits', any(b'another call is building the program' in it for it in said), 'errors %r' % said)
+    log = kit.log()
+    same(check, 'no crate is proved twice by them', len([1 for what, crate in log if (what, crate) == ('begins', 'uvt')]), 1)
+    same(check, 'the built program', kit.call(['debug'], SCRIPT), (0, b'init t timer = 0.0\n', b''))
+    same(check, 'a further build', kit.call(['build']), (0, b'', b'uvt: the program is built already, and nothing has changed since\n'))
+    same(check, 'no copy is left', os.listdir(os.path.join(kit.room, 'cache')), [])
+
+
+def begin_anew(kit: StandIn) -> None:
+    for name in os.listdir(kit.room):
+        if name.startswith('done-') or name == 'log':
+            os.remove(os.path.join(kit.room, name))
+    shutil.rmtree(os.path.join(kit.folder, 'out'), ignore_errors=True)
+
+
+def try_order(check: Check, kit: StandIn) -> None:
+    """Crates side by side, each after those that it stands on; the line at a terminal is rewritten."""
+    begin_anew(kit)
+    kit.write('took', '0.1')
+    ours, theirs = pty.openpty()
+    build = subprocess.Popen([kit.uvt(), 'build'], env=kit.env(), stdout=subprocess.DEVNULL, stderr=theirs)
+    os.close(theirs)
+    said = b''
+    try:
+        while True:
+            more = os.read(ours, 4096)
+            if not more:
+                break
+            said += more
+    except OSError:
+        pass
+    os.close(ours)
+    same(check, 'a build at a terminal', build.wait(SECONDS), 0)
+    line = rb'\r\x1b\[Kuvt: \d+ of \d+ crates, \d+ functions proved, \d+:\d\d, about '
+    check('its line is rewritten', re.search(line, said) is not None, 'got %r' % said[-500:])
+    same(check, 'each crate after those that it stands on', order_faults(kit.log(), crates_below(kit)), [])
+    same(check, 'the crates that it needs, and no other', sorted(crate for what, crate in kit.log() if what == 'ends'), needed(crates_below(kit)))
+    check('several at a time', 3 <= most_at_once(kit.log()) <= 4, 'most %d' % most_at_once(kit.log()))
+
+
+def try_unanswered(check: Check, kit: StandIn) -> None:
+    """What a try can't answer is built: an output that is too long, an input without an end."""
+    kit.write('took', '0.01')
+    for what, send_end in (('a long output', True), ('an open pipe', False)):
+        begin_anew(kit)
+        text = b'var i\nmain init i idle\nmain start i\nmain run default\nbegin\nloop %d\n' % (200000 if send_end else 5)
+        call = subprocess.Popen([kit.uvt(), 'debug'], env=kit.env(), stdin=subprocess.PIPE, stdout=subprocess.PIPE, stderr=subprocess.PIPE)
+        call.stdin.write(text)
+        call.stdin.flush()
+        if not send_end:
+            until = time.monotonic() + SECONDS
+            while not os.path.exists(os.path.join(kit.folder, 'out', 'uvt', 'stats')) and time.monotonic() < until:
+                time.sleep(0.2)
+            call.stdin.write(b'loop\n')
+        output, errors = call.communicate(timeout=SECONDS)
+        same(check, what + ' is answered by the built program', (call.returncode, output.count(b'\n') > 100000 if send_end else output),
+             (0, True if send_end else b'init i idle = 0.0\nstart i = ok\nrun default\ntimers\npending\nidle\n'))
+        check(what + ', what is said', b'only the built program can' in errors and b'built after' in errors, 'got %r' % errors)
+
+
+def try_typed(check: Check, kit: StandIn) -> None:
+    """At a terminal, what is typed is answered by the built program."""
+    begin_anew(kit)
+    script = os.path.join(kit.room, 'script.uvt')
+    with open(script, 'wb') as file:
+        file.write(SCRIPT)
+    ours, theirs = pty.openpty()
+    call = subprocess.Popen([kit.uvt(), 'debug', script], env=kit.env(), stdin=theirs, stdout=subprocess.PIPE, stderr=subprocess.PIPE)
+    os.close(theirs)
+    os.write(ours, b'loop\nquit\n')
+    output, errors = call.communicate(timeout=SECONDS)
+    os.close(ours)
+    same(check, 'a first call at a terminal', (call.returncode, output), (0, b'init t timer = 0.0\nrefused ended\n'))
+    check('a first call at a terminal, what is said',
+          b'what is typed can only be answered by the built one' in errors and b'built after' in errors, 'got %r' % errors)
+
+
+def try_changes(check: Check, kit: StandIn) -> None:
+    """A source that changed is no longer what was built; one that was only touched is."""
+    source = os.path.join(kit.folder, 'crates', 'uv_cli', 'src', 'lib.rt')
+    os.utime(source)
+    same(check, 'a source that was touched', kit.call(['debug'], SCRIPT), (0, b'init t timer = 0.0\n', b''))
+    with open(source, 'ab') as file:
+        file.write(b'// changed\n')
+    status, output, errors = kit.call(['debug'], SCRIPT)
+    check('a source that changed', (status, output) == (0, b'init t timer = 0.0\n') and b'before its proofs' in errors, 'got %r' % errors)
+
+
+def try_with_stand_in(check: Check, program: str) -> None:
+    folder = tempfile.mkdtemp(prefix='uvt-launcher-')
+    try:
+        kit = stand_in(folder, program)
+        try_first_call(check, kit)
+        try_builds(check, kit)
+        try_order(check, kit)
+        try_unanswered(check, kit)
+        try_typed(check, kit)
+        try_changes(check, kit)
+    finally:
+        shutil.rmtree(folder, ignore_errors=True)
+
+
+def try_with_kit(check: Check, copy: str, folder: str) -> None:
+    """In a copy without a built program: the README's first command, and a build that is stopped and taken up again."""
+    uvt, env = os.path.join(copy, 'uvt'), {**os.environ, 'XDG_CACHE_HOME': os.path.join(folder, 'cache')}
+    with open(os.path.join(copy, 'examples', 'late-timer.uvt'), 'rb') as script, open(os.path.join(copy, 'examples', 'late-timer.out'), 'rb') as due:
+        ended = subprocess.run([uvt, 'debug'], stdin=script, stdout=subprocess.PIPE, stderr=subprocess.PIPE, timeout=600, env=env)
+        same(check, 'the first answer', (ended.returncode, ended.stdout), (0, due.read()))
+    check('the first answer, what is said', ended.stderr.count(b'\n') == 3 and ended.stderr.count(b'uvt: ') == 3, 'got %r' % ended.stderr)
+    for turn in (1, 2):
+        build = subprocess.Popen([uvt, 'build'], stderr=subprocess.PIPE, env=env)
+        # (a build that ends ends the lines)
+        first = next((line for line in build.stderr if re.match(rb'uvt: [1-9]\d* of \d+ crates, ', line)), b'')
+        build.terminate()
+        build.stderr.read()
+        same(check, 'a real build that is stopped, turn %d' % turn, build.wait(SECONDS), 70)
+        proved = re.search(rb', (\d+) functions proved', first)
+        # (what is taken over isn't proved now; in the first turn that is so where another copy on this machine had proved it)
+        check('a real build, turn %d: its first crate' % turn, proved is not None and (turn == 1 or proved[1] == b'0'), 'got %r' % first)

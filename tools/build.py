@@ -1,0 +1,111 @@
+"""Proves and builds the program: tools/build.py ROOT KEPT CRATE..
+
+The crates are those that the program stands on, each after those that it stands on itself, and the program last. The libraries
+are proved side by side, in copies of the repository beside it (tools/lanes.py). Then the program is built in the repository
+itself, where the kit's command takes over what was proved in the copies: so what was proved stands in crates/*/out
+afterwards, for the next build and for `rt check`. Where the build is stopped or fails, the copies stay, and the next one
+goes on from there."""
+import hashlib
+import os
+import shutil
+import signal
+import sys
+import tempfile
+from typing import List
+
+sys.dont_write_bytecode = True
+import crates
+from lanes import Command, Failed, Lanes
+from progress import Progress, clock
+
+# What a check of a crate takes of the memory, in bytes.
+EACH = 1_600_000_000
+
+
+class Stopped(Exception):
+    pass
+
+
+SIGNALS = (signal.SIGINT, signal.SIGTERM, signal.SIGHUP)
+
+
+def stop(*_: object) -> None:
+    # (at a terminal two of them come)
+    for number in SIGNALS:
+        signal.signal(number, signal.SIG_IGN)
+    raise Stopped
+
+
+def room_of(root: str) -> str:
+    """The folder of the copies. It doesn't lie in the repository, of which the gate reads each file."""
+    cache = os.environ.get('XDG_CACHE_HOME') or os.path.expanduser('~/.cache')
+    name = 'uvt-' + hashlib.sha256(os.path.realpath(root).encode()).hexdigest()[:16]
+    for place in (cache, tempfile.gettempdir()):
+        try:
+            os.makedirs(os.path.join(place, name), exist_ok=True)
+            return os.path.join(place, name)
+        except OSError:
+            continue
+    raise Failed('uvt: neither %s nor %s can be written to' % (cache, tempfile.gettempdir()))
+
+
+def processors() -> int:
+    """How many checks go side by side: RT_JOBS, or as many as there are processors and memory for."""
+    number = os.environ.get('RT_JOBS', '')
+    if number.isdigit() and int(number):
+        return int(number)
+    found = len(os.sched_getaffinity(0))
+    with open('/proc/meminfo', encoding='ascii') as file:
+        for line in file:
+            if line.startswith('MemAvailable:'):
+                found = min(found, int(line.split()[1]) * 1024 // EACH)
+    return max(found, 1)
+
+
+def build_program(root: str, progress: Progress, lanes: Lanes) -> None:
+    """Builds the program in the repository, and starts it on a script without a step, to see that it answers."""
+    progress.begins('uvt')
+    folder = os.path.join(root, 'crates', 'uvt')
+    command = Command('uvt', ['run', '--', 'debug'], folder, lanes.said, b'begin\n')
+    lanes.running['uvt'] = command, '', lanes.processors
+    try:
+        lanes.next_end()
+    finally:
+        del lanes.running['uvt']
+        command.end()
+
+
+def build(root: str, kept: str, names: List[str]) -> None:
+    of = crates.read(root, names)
+    at_once = processors()
+    progress = Progress(of, at_once)
+    why = 'the sources or the kit have changed' if os.path.exists(os.path.join(kept, 'uvt')) else 'there is no proved program yet'
+    progress.say('%s: proving and building it, of %d crates, %d at a time (about half an hour on four cores that do nothing else)' % (
+        why, len(of), at_once))
+    room = room_of(root)
+    lanes = Lanes(root, room, of, at_once, progress)
+    lanes.build(names[:-1])
+    build_program(root, progress, lanes)
+    shutil.rmtree(room, ignore_errors=True)
+    progress.say('built after %s; from now on each call starts at once' % clock(progress.elapsed()))
+
+
+def main() -> int:
+    for number in SIGNALS:
+        signal.signal(number, stop)
+    root, kept, names = sys.argv[1], sys.argv[2], sys.argv[3:]
+    try:
+        build(root, kept, names)
+        return 0
+    except Stopped:
+        print('\nuvt: stopped; what is proved is kept, and the next build goes on from there', file=sys.stderr)
+    except Failed as fault:
+        print('\n%s' % fault, file=sys.stderr)
+        with open(os.path.join(kept, 'log'), 'w', encoding='utf-8') as log:
+            print(fault, file=log)
+    except OSError as error:
+        print('\nuvt: %s: %s' % (error.filename or 'the build', error.strerror), file=sys.stderr)
+    return 70
+
+
+sys.exit(main())

@@ -1,0 +1,153 @@
+# What is kept of a build, in the folder $kept: read by `uvt` and by `.ci/run`, which set $root and $kept and have `say` and `fail`.
+#
+#   uvt     the built program. It comes by a rename, so a running one is never written to
+#   sums    the kit and the sources that it was built from: what `rt version` says, and the SHA-256 of each file
+#   stats   the same files, and the kit's, as the file system has them: while nothing differs here, nothing was changed
+#   log     what rt said of the crate that failed last
+#   lock    held while a call builds: a second call waits, and then starts what the first one built
+
+# Whether the files that the stored list names, and those beside them, are as they were when it was written.
+# Its first line names the folders, so that nothing else has to be read.
+is_unchanged() {
+    [ -x "$kept/uvt" ] && read -r sources 2>/dev/null <"$kept/stats" && stats | cmp -s - "$kept/stats"
+}
+
+# Each file of $sources, of which some may not be there, with its size, its times and its number. The time
+# of change (%C@) can't be set by hand, so a file that was put back with its old date counts as changed
+# here, and then the sums decide.
+stats() {
+    printf '%s\n' "$sources"
+    kit_stats
+    (cd "$root" && find $sources ! -type d -printf '%p %s %T@ %C@ %i\n' 2>/dev/null)
+}
+
+# The kit's command and its name, as the file system has them, in a line. Without the kit nothing can be built, and
+# what was built goes on serving.
+kit_stats() {
+    rt=$(command -v rt) || {
+        sed -n 2p "$kept/stats" 2>/dev/null
+        return
+    }
+    rt=$(readlink -f "$rt")
+    echo $(find "$rt" "${rt%/*}/../KIT-ID" -printf '%p %s %T@ %C@ %i\n' 2>/dev/null)
+}
+
+# What the kit says of itself, and each file of $sources with the SHA-256 of what it holds.
+sums() {
+    rt version 2>/dev/null
+    (cd "$root" && find $sources ! -type d -exec sha256sum {} + 2>/dev/null) | LC_ALL=C sort -k 2
+}
+
+# Whether the built program is of the kit and the sources as they are now, also where files were only touched: then it is
+# marked as such. It says nothing, and builds nothing.
+is_built() {
+    is_unchanged && return
+    [ -x "$kept/uvt" ] && [ -s "$kept/sums" ] || return
+    list_sources
+    cmp -s "$kept/sums" "$kept/sums.$$" && mv -f "$kept/stats.$$" "$kept/stats" && rm -f "$kept/sums.$$" && return
+    drop_lists
+    false
+}
+
+drop_lists() {
+    rm -f "$kept/stats.$$" "$kept/sums.$$"
+}
+
+# Lists the sources as they are now, in files of this call's own. The lists are made before a build: a file that changes
+# meanwhile differs from them at the next call.
+list_sources() {
+    mkdir -p "$kept" || fail "cannot write to $kept"
+    find_crates
+    sources=crates.txt
+    for crate in $crates; do
+        sources="$sources crates/$crate/src crates/$crate/specs crates/$crate/proofs"
+    done
+    true >"$kept/stats.$$" || fail "cannot write to $kept"
+    stats >"$kept/stats.$$"
+    sums >"$kept/sums.$$"
+    if [ "$(wc -l <"$kept/stats.$$")" -lt 2 ] || [ ! -s "$kept/sums.$$" ]; then
+        fail "cannot list the sources: this needs the commands find (GNU) and sha256sum"
+    fi
+}
+
+# Sets $crates to the crates of crates.txt that the program stands on, each after those that it stands on
+# itself, and the program last.
+find_crates() {
+    crates=$(awk '
+        { sub(/#.*/, "") }
+        match($0, /:/) {
+            split(substr($0, 1, RSTART - 1), words)
+            below[words[1]] = substr($0, RSTART + 1)
+        }
+        function add(name, deps, count, i) {
+            if (!(name in below) || name in added) return
+            added[name] = 1
+            count = split(below[name], deps)
+            for (i = 1; i <= count; i++) add(deps[i])
+            print name
+        }
+        END { add("uvt") }' "$root/crates.txt")
+    [ -n "$crates" ] || fail "crates.txt has no line for the crate uvt"
+}
+
+# Keeps a program that was built of the sources as the lists have them.
+keep() {
+    cp "$1" "$kept/uvt.new" || fail "cannot copy the program to $kept"
+    # (without the lists a call builds again, so one that ends between these steps does no harm)
+    rm -f "$kept/stats" "$kept/sums"
+    mv -f "$kept/uvt.new" "$kept/uvt" && mv -f "$kept/sums.$$" "$kept/sums" && mv -f "$kept/stats.$$" "$kept/stats" ||
+        fail "cannot write to $kept"
+}
+
+# Builds, if need be, while no other call does; with a word it says so where nothing is to be done.
+build_alone() {
+    mkdir -p "$kept" || fail "cannot write to $kept"
+    if command -v flock >/dev/null; then
+        exec 9>"$kept/lock"
+        flock -n 9 || {
+            say "another call is building the program: waiting for it"
+            flock 9
+        }
+    else
+        until mkdir "$kept/lock.d" 2>/dev/null; do
+            [ -n "$told" ] || say "another call is building the program: waiting for it (if none is, remove $kept/lock.d)"
+            told=1
+            sleep 1
+        done
+        held=$kept/lock.d
+    fi
+    build_changed "$@"
+    built=$?
+    exec 9>&-
+    [ -z "$held" ] || rmdir "$held"
+    held=''
+    return "$built"
+}
+
+# Builds unless a call that was waited for has done so, or what the files hold is what was built.
+build_changed() {
+    if is_built; then
+        [ -z "$1" ] || say "the program is built already, and nothing has changed since"
+        return
+    fi
+    command -v rt >/dev/null || fail "the program has to be built, and the kit's command rt, which proves and builds it, isn't on the PATH"
+    command -v python3 >/dev/null || fail "the program has to be built, and the command python3, which the kit needs too, isn't on the PATH"
+    list_sources
+    # (a signal ends the build with all that it has started)
+    python3 "$root/tools/build.py" "$root" "$kept" $crates </dev/null 9>&- &
+    builder=$!
+    trap 'kill "$builder" 2>/dev/null' INT HUP TERM
+    while :; do
+        wait "$builder"
+        status=$?
+        # (a signal ends the wait, and not yet the builder)
+        kill -0 "$builder" 2>/dev/null || break
+    done
+    trap - INT HUP TERM
+    if [ "$status" = 0 ]; then
+        keep "$root/crates/uvt/out/uvt"
+    else
+        drop_lists
+        return 70
+    fi
+}

@@ -1,0 +1,149 @@
+"""Crates are proved side by side, each by the kit's own command in a copy of the repository.
+
+The kit lets one command at a time work in a crate and in all that the crate stands on, and all crates stand on one. So each
+lane is a copy of its own. What a command proves in one copy the kit gives to the commands in the others, and to those in
+the repository itself, where the files are the same: nothing is proved twice."""
+import contextlib
+import os
+import queue
+import re
+import shutil
+import subprocess
+import threading
+from typing import Dict, List, Optional, Tuple
+
+from crates import Crate, chains
+from progress import Progress
+
+PARTS = ('src', 'specs', 'proofs')
+# What rt says of each function that it proved, and of how far it is: nobody who looks for a fault reads it.
+ROUTINE = re.compile(r'(fn|enum|struct|trait|impl) .*: proved$|(library|crate) \S+: modules |(statements|logic|by-macro:) |so far: |rt: chose ')
+
+
+class Failed(Exception):
+    """A crate that isn't proved, and what rt says of it."""
+
+
+class Command:
+    """A command of the kit in a crate's folder. What it says goes into the queue, a line at a time, and then its status."""
+
+    def __init__(self, name: str, words: List[str], folder: str, said: 'queue.Queue', given: bytes = b'') -> None:
+        self.name, self.lines, self.functions = name, [], 0
+        self.process = subprocess.Popen(['rt'] + words, cwd=folder, stdin=subprocess.PIPE, stdout=subprocess.PIPE,
+                                        stderr=subprocess.STDOUT, start_new_session=True)
+        with contextlib.suppress(BrokenPipeError):
+            self.process.stdin.write(given)
+            self.process.stdin.close()
+        threading.Thread(target=self.read, args=(said,), daemon=True).start()
+
+    def read(self, said: 'queue.Queue') -> None:
+        for line in self.process.stdout:
+            said.put((self, line.decode(errors='replace').rstrip('\n')))
+        self.process.wait()
+        said.put((self, None))
+
+    def end(self) -> None:
+        # (with rt all that it has started ends)
+        self.process.terminate()
+        try:
+            self.process.wait(5)
+        except subprocess.TimeoutExpired:
+            self.process.kill()
+
+
+def copy_sources(root: str, lane: str, crates: Dict[str, Crate]) -> None:
+    """The program's crates as they stand, beside what commands kept in this copy before."""
+    for name in crates:
+        for part in PARTS:
+            source, target = os.path.join(root, 'crates', name, part), os.path.join(lane, 'crates', name, part)
+            shutil.rmtree(target, ignore_errors=True)
+            if os.path.isdir(source):
+                shutil.copytree(source, target, symlinks=True)
+    with open(os.path.join(lane, 'crates.txt'), 'w', encoding='utf-8') as file:
+        file.writelines(crate.line + '\n' for crate in crates.values())
+
+
+class Lanes:
+    def __init__(self, root: str, room: str, crates: Dict[str, Crate], processors: int, progress: Progress) -> None:
+        self.root, self.room, self.crates, self.processors, self.progress = root, room, crates, processors, progress
+        self.chains = chains(crates)
+        self.said: 'queue.Queue[Tuple[Command, Optional[str]]]' = queue.Queue()
+        self.running: Dict[str, Tuple[Command, str, int]] = {}  # each crate's command, lane and processors
+        self.free: List[str] = []
+
+    def build(self, names: List[str]) -> None:
+        """Builds the libraries of these crates, which stand on one another and on nothing else."""
+        for number in range(min(self.processors, len(names))):
+            lane = os.path.join(self.room, 'lane-%d' % number)
+            copy_sources(self.root, lane, self.crates)
+            self.free.insert(0, lane)
+        left = sorted(names, key=lambda name: -self.chains[name])
+        try:
+            while left or self.running:
+                self.start_ready(left)
+                command = self.next_end()
+                _, lane, _ = self.running.pop(command.name)
+                self.free.append(lane)
+        finally:
+            for command, _, _ in self.running.values():
+                command.end()
+
+    def start_ready(self, left: List[str]) -> None:
+        """Starts those that only stand on what is done, those with the longest chain above them first. A crate gets the
+        processors that no other one waits for, four at most. The first of the longest chain gets two, where that chain takes
+        longer than all that is left does on all processors: then it is what the build waits for."""
+        undone = [name for name in self.crates if name not in self.progress.done]
+        rest = sum(self.crates[name].weight for name in undone)
+        longest = max(self.chains[name] for name in undone)
+        ready = [name for name in left if all(below in self.progress.done for below in self.crates[name].below)]
+        for at, name in enumerate(ready):
+            idle = self.processors - sum(jobs for _, _, jobs in self.running.values())
+            if idle > 0 and self.free:
+                spare = min(4, idle // (len(ready) - at))
+                wanted = 2 if self.chains[name] == longest and longest * self.processors > rest else 1
+                jobs = min(idle, max(spare, wanted))
+                lane = self.lane_for(name)
+                left.remove(name)
+                self.progress.begins(name)
+                command = Command(name, ['lib', '--jobs', str(jobs)], os.path.join(lane, 'crates', name), self.said)
+                self.running[name] = command, lane, jobs
+
+    def lane_for(self, name: str) -> str:
+        """A free lane: the one where a build that was stopped had begun with this crate, if there is one."""
+        begun = [lane for lane in self.free if os.path.isdir(os.path.join(lane, 'crates', name, 'out', 'incremental'))]
+        lane = (begun or self.free)[-1]
+        self.free.remove(lane)
+        return lane
+
+    def next_end(self) -> Command:
+        """Waits until a command has ended well."""
+        while True:
+            try:
+                command, line = self.said.get(timeout=1)
+            except queue.Empty:
+                self.progress.tell()
+                continue
+            if line is None:
+                if command.process.returncode:
+                    raise Failed(failure(command))
+                self.progress.ends(command.name, command.functions)
+                return command
+            hear(command, line, self.progress)
+
+
+def hear(command: Command, line: str, progress: Progress) -> None:
+    """Takes in a line that rt says: how far it is, its verdict, or that it waits for another rt."""
+    command.lines.append(line)
+    far = re.match(r'so far: (\d+) of (\d+) functions checked', line)
+    verdict = re.match(r'logic=proved .*\bfunctions=(\d+)', line)
+    if far:
+        progress.checked(command.name, int(far[1]), int(far[2]))
+    elif verdict:
+        command.functions = int(verdict[1])
+    elif line.startswith('rt: waiting for ') or 'waiting for it' in line:
+        progress.say(line)
+
+
+def failure(command: Command) -> str:
+    told = [line for line in command.lines if not ROUTINE.match(line)]
+    return '\n'.join(['uvt: %s was not built; rt says:' % command.name] + told[-60:])
