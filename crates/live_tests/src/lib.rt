@@ -8,6 +8,8 @@ mod given;
 #[cfg(test)]
 mod live_examples;
 #[cfg(test)]
+mod noting;
+#[cfg(test)]
 mod pool_examples;
 #[cfg(test)]
 mod pool_threads;

@@ -3,13 +3,14 @@ ghost use Rattle.std.specs.Prelude.{◌≡◌, ◌<◌, [], IfOk};
 ghost use Rattle.uv_wake.specs.Seats.{names_of};
 
 use crate::given::{Quiet, id, put};
+use crate::noting::Noting;
 use std::alloc::Global;
 use std::marker::Brand;
 use std::process::Abort;
 use std::sync::Wait;
 use std::sync::ledger::{Blank, Ledger};
 use uv_ids::{Event, Fault, Id, Why};
-use uv_live::{Clock, Follower, JumpClock, settle, sync};
+use uv_live::{Clock, Follower, JumpClock, settle, sync, turn};
 use uv_model::{Machine, PlainLoop, STEPS};
 use uv_pool::{PoolBook, Shift, worker};
 use uv_run::LiveSession;
@@ -102,10 +103,11 @@ fn settles_once_it_follows<F: Follower, L: Ledger, R: Abort + Wait>(
 
 /// The run of one job over a machine.
 fn one_job<M: Machine, R: Abort + Wait>(rt: &R, alloc: Global) -> Result<bool, Fault> {
-    let session = begun::<M>(alloc, b"workers 1\nvar p\nmain queue p 1\n")?;
-    let mut live = LiveSession::new(alloc, session, Vec::new(alloc));
-    assert!(rt; live.step().is_ok());
-    settles_once_it_follows::<_, Brand, _>(rt, alloc, Blank::new(2), &mut live)
+    let mut session = begun::<M>(alloc, b"workers 1\nvar p\nmain queue p 1\n")?;
+    session.do_event(Event::Loop)?;
+    let mut live = Noting::new(LiveSession::of(alloc, session, Vec::new(alloc))?);
+    let settles = settles_once_it_follows::<_, Brand, _>(rt, alloc, Blank::new(2), &mut live)?;
+    Ok(settles && live.last == Some(WorkResult::compute(job(rt, id(0), b""))))
 }
 
 #[test]
@@ -164,9 +166,9 @@ fn beside<M: Machine, R: Abort>(
     alloc: Global,
     entries: &[Entry],
 ) -> Result<(Result<usize, Fault>, Result<usize, Fault>, usize), Fault> {
-    let session = begun::<M>(alloc, b"workers 2\nvar p\nmain queue p 1\n")?;
-    let mut live = LiveSession::new(alloc, session, Vec::new(alloc));
-    live.step()?;
+    let mut session = begun::<M>(alloc, b"workers 2\nvar p\nmain queue p 1\n")?;
+    session.do_event(Event::Loop)?;
+    let mut live = LiveSession::of(alloc, session, Vec::new(alloc))?;
     followed::<_, Brand, _>(rt, alloc, Blank::new(3), &mut live, entries)
 }
 
@@ -205,6 +207,39 @@ fn a_log_is_followed_once(rt: HostRuntime) -> Result<(), Fault> {
     let entries = [Entry::Submit(0), Entry::Take(1), Entry::Finish(1, 0)];
     let followed = beside::<PlainLoop, _>(&rt, rt.alloc(), &entries)?;
     assert!(&rt; followed == (Ok(2), Ok(0), 3));
+    Ok(())
+}
+
+/// The job that a worker takes after a turn on a session and an empty book, and how many steps stand then.
+fn taken_after_a_turn<F: Follower, L: Ledger, R: Abort>(
+    rt: &R,
+    alloc: Global,
+    blank: Blank,
+    session: &mut F,
+) -> Result<(Option<Job>, usize), Fault>
+    requires name { blank.name ≡ L.name }
+    requires parts { blank.parts ≡ L.parts }
+    requires more { 1 < blank.parts }
+{
+    let mut book = PoolBook::<L>::new(alloc, blank, 1)?;
+    assert!(rt; book.workers() == session.worker_count());
+    let _ = turn(session, &mut book)?;
+    Ok((book.take(0)?, session.steps().len()))
+}
+
+fn queued_by_a_turn<M: Machine, R: Abort>(
+    rt: &R,
+    alloc: Global,
+) -> Result<(Option<Job>, usize), Fault> {
+    let session = begun::<M>(alloc, b"workers 1\nvar p\nmain queue p 3 abc\n")?;
+    let mut live = LiveSession::of(alloc, session, Vec::new(alloc))?;
+    taken_after_a_turn::<_, Brand, _>(rt, alloc, Blank::new(2), &mut live)
+}
+
+#[test]
+fn a_turn_queues_the_job_of_its_line(rt: HostRuntime) -> Result<(), Fault> {
+    let wanted = Job::new(id(0), b"abc", 3);
+    assert!(&rt; queued_by_a_turn::<PlainLoop, _>(&rt, rt.alloc())? == (wanted, 1));
     Ok(())
 }
 

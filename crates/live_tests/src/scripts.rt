@@ -1,16 +1,17 @@
 //! Live runs of scripts on real threads.
 use crate::gates::Ordered;
 use crate::given::{Quiet, id};
+use crate::noting::Noting;
 use std::alloc::{AllocError, Global};
 use std::process::Abort;
 use std::sync::Wait;
 use std::thread::Threads;
 use std::time::Clock;
 use uv_ids::{Code, Event, Fault, Id, Seen, Var};
-use uv_live::JumpClock;
+use uv_live::{JumpClock, live};
 use uv_model::{Machine, PlainLoop, STEPS};
 use uv_pool::Gate;
-use uv_run::live_within;
+use uv_run::{LiveSession, live_within};
 use uv_script::{Script, push_number};
 use uv_session::Session;
 
@@ -133,6 +134,38 @@ fn a_timer_is_due_when_the_clock_has_jumped(rt: HostRuntime) -> Result<(), Fault
     let story = ran(&rt, rt.alloc(), text, &Quiet)?;
     assert!(&rt; story.steps.len() == 17 && counted(&story.steps).loops == 16);
     assert!(&rt; story.steps[8] == Event::Tick(10));
+    Ok(())
+}
+
+#[test]
+fn the_clock_goes_on_to_each_deadline(rt: HostRuntime) -> Result<(), Fault> {
+    let text =
+        b"var s\nvar t\nmain init s timer\nmain init t timer\nmain start s 10 0\nmain start t 25 0\n\
+        main run default\n";
+    let story = ran(&rt, rt.alloc(), text, &Quiet)?;
+    assert!(&rt; counted(&story.steps).ticks == 2);
+    assert!(&rt; story.steps.contains(&Event::Tick(10)) && story.steps.contains(&Event::Tick(15)));
+    Ok(())
+}
+
+/// How many results a session is handed in a run of two jobs.
+fn handed_in<M: Machine, R: Threads + Wait + Sync>(rt: &R, alloc: Global) -> Result<u32, Fault> {
+    let script = Script::parse(alloc, TWO_JOBS)?;
+    let machine = M::begin(alloc, script)?;
+    let session = LiveSession::of(alloc, Session::new(alloc, machine, STEPS), Vec::new(alloc))?;
+    let ran = live(
+        rt,
+        alloc,
+        Noting::new(session),
+        &mut JumpClock::new(0),
+        &Quiet,
+    )?;
+    Ok(ran.handed)
+}
+
+#[test]
+fn the_loop_does_no_job_itself(rt: HostRuntime) -> Result<(), Fault> {
+    assert!(&rt; handed_in::<PlainLoop, _>(&rt, rt.alloc())? == 2);
     Ok(())
 }
 

@@ -193,7 +193,10 @@ struct Sender {
     epochs: Vec<u64>,
 }
 
-/// Sends until the loop has found several, and notes the epochs of the last sends.
+/// How many sends of each sender are noted.
+const NOTED: u32 = 1000;
+
+/// Sends so often that each noted place is filled, and on until the loop has found several.
 fn send_on(board: &Board, sender: Sender, told: &Told) -> Sender
     requires board { sender.seat.board ≡ board.now.board }
     requires name { 0 < names_of board.now.board }
@@ -201,8 +204,8 @@ fn send_on(board: &Board, sender: Sender, told: &Told) -> Sender
 {
     let mut sender = sender;
     let mut place = 0;
-    for _ in 0..TURNS {
-        if told.found.load(Ordering::SeqCst) >= SEVERAL {
+    for turn in 0..TURNS {
+        if turn >= NOTED && told.found.load(Ordering::SeqCst) >= SEVERAL {
             break;
         }
         let epoch = send(board, &mut sender.seat, FIRST);
@@ -312,8 +315,8 @@ fn senders<R: Abort>(
     ensures two { IfOk result (λ pair. pair.1.seat.board ≡ board.now.board) }
     ensures board { seat.new.board ≡ seat.old.board }
 {
-    let left = Vec::from_elem(alloc, 0u64, 1000)?;
-    let right = Vec::from_elem(alloc, 0u64, 1000)?;
+    let left = Vec::from_elem(alloc, u64::MAX, NOTED as usize)?;
+    let right = Vec::from_elem(alloc, u64::MAX, NOTED as usize)?;
     let one = Sender {
         seat: split(rt, board, seat),
         epochs: left,

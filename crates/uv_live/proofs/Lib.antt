@@ -2,3 +2,4 @@ pub mod Legal
 pub mod Places
 pub mod Entered
 pub mod Shares
+pub mod Settled

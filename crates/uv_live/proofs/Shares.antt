@@ -1,10 +1,13 @@
 -- What is left of a log's part for a worker, and of the finishes that the shares count.
-use Rattle.std.proofs.Common.{◌≡◌, ◌∙◌, ◌<◌, ◌≤◌, ⊎_elim, ℕ, ◌+◌, ◌-◌, List, Some, map, option_map, length, take, get_or, slice_get, sym, ap, subst, arith}
+use Rattle.std.proofs.Common.{◌≡◌, ◌∙◌, ◌<◌, ◌≤◌, ⊎_elim, ℕ, ◌+◌, ◌-◌, Bool, true, false, List, Some, map, option_map, length, take, get_or, slice_get, sym, ap, subst, arith}
 use Rattle.std.proofs.lemmas.Bool.{cases_lt}
 use Rattle.std.proofs.lemmas.List.{length-map, get_or-map}
 use Rattle.std.proofs.lemmas.List.Sums.{sum_by_more, sum_by_more_le}
 use Rattle.std.proofs.lemmas.Option.{slice_get-map, slice_get-get_or, slice_get_within}
 use Rattle.uv_work.specs.declared.event.PoolEvent.{PoolEvent}
+use Rattle.uv_pool.specs.Benches.{are_turns}
+use Rattle.uv_pool.specs.Book.{finish_count}
+use Rattle.uv_live.specs.Following.{Decides}
 use Rattle.uv_live.specs.Settling.{Worked, part_of, IsShift, AreShifts, counted}
 
 -- what is left of the events is the part of what is left of the log, just where all of them are the part of all of it
@@ -24,6 +27,17 @@ mapped_at f xs k d within = slice_get-map f xs k ∙ ap (option_map f) (slice_ge
 pub shift_else : {X : Type 0} (f : X → Worked) (log : List PoolEvent) (xs : List X) (k : ℕ) (d : X) → k < length xs
     → (IsShift k log (f (get_or xs k d)) → ⊥) → AreShifts log (map f xs) → ⊥
 shift_else f log xs k d within other all = other (all k (f (get_or xs k d)) (mapped_at f xs k d within))
+
+-- a shift's own facts, and whether its events are the log's part for its worker
+pub is_shift_by : (k : ℕ) (log : List PoolEvent) (x : Worked) (answer : Bool) → x.worker ≡ k → are_turns x.worker x.events ≡ true
+    → x.finishes ≡ finish_count x.events → Decides answer (x.events ≡ part_of k log) → Decides answer (IsShift k log x)
+is_shift_by k log x true worker turns counts part = record {
+  worker = worker;
+  events = part;
+  turns = subst (λ (j : ℕ). are_turns j x.events ≡ true) worker turns;
+  counts = counts;
+}
+is_shift_by k log x false worker turns counts part = λ shift. part shift.events
 
 -- the shifts below k are those of the workers below k
 abbrev pub AreBelow : List PoolEvent → List Worked → ℕ → Type 0

@@ -1,7 +1,8 @@
 -- What a live run sees of a session: what its script says of the run, and what stands.
-use Rattle.std.specs.Prelude.{◌<◌, ℕ, List, [], ◌∷◌, ◌++◌, length, take, drop, map, All}
+use Rattle.std.specs.Prelude.{◌<◌, ℕ, List, [], ◌∷◌, ◌++◌, Option, Some, None, length, take, drop, map, All}
 use Rattle.uv_ids.specs.declared.event.Event.{Event}
 use Rattle.uv_ids.specs.declared.event.Event.TheVariants as step
+use Rattle.uv_work.specs.Work.{Work}
 use Rattle.uv_work.specs.declared.event.PoolEvent.{PoolEvent}
 use Rattle.uv_work.specs.declared.event.PoolEvent.TheVariants as event
 use Rattle.uv_ids.specs.declared.thread_line.ThreadLine.{ThreadLine}
@@ -40,6 +41,11 @@ abbrev pub step_of : PoolEvent → Event
 step_of (event.Take k id) = step.Take k
 step_of (event.Finish k id) = step.Finish k
 step_of _ = step.Loop
+
+-- the job of a request that it queued
+abbrev pub job_of : Did → Option Work
+job_of (did.Queued job) = Some job
+job_of _ = None
 
 -- the first n entries of the log are the session's events, and those past its own are a step each
 abbrev pub taken : ℕ → List PoolEvent → Course → Course

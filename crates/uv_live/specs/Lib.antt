@@ -3,3 +3,4 @@ pub mod Following
 pub mod Turning
 pub mod Settling
 pub mod Running
+pub mod Working

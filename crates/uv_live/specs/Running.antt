@@ -1,10 +1,11 @@
 -- A live run.
-use Rattle.std.specs.Prelude.{◌≡◌, ℕ, List, Bool, true, Option, Some, Result, Ok}
+use Rattle.std.specs.Prelude.{◌≡◌, ◌-◌, ◌<◌, ℕ, List, [], Bool, true, Option, Some, Result, Ok, Err}
+use Rattle.uv_ids.specs.declared.event.Event.TheVariants as step
 use Rattle.uv_ids.specs.declared.fault.Fault.{Fault}
 use Rattle.uv_ids.specs.declared.fault.Why.{Why}
 use Rattle.uv_ids.specs.declared.fault.Why.TheVariants as why
 use Rattle.uv_pool.specs.Book.{Standing}
-use Rattle.uv_live.specs.Course.{Course, Plan}
+use Rattle.uv_live.specs.Course.{Course, Plan, stepped}
 use Rattle.uv_live.specs.Settling.{Worked, IsSettled}
 
 -- a run that came to its end
@@ -15,3 +16,8 @@ HaltsAt _ refusal = Unit {0}
 -- with some book, shifts and counts of absorbed words the run is settled
 abbrev pub RunSettles : {S : Type 0} → Plan S → Course → Type 0
 RunSettles plan s = (book : Standing) × (shifts : List Worked) × (counts : List ℕ) × IsSettled plan s book shifts counts
+
+-- the clock went on from one time to a later one, and that is one step; or it is as it was
+abbrev pub PassesTo : ℕ → ℕ → Course → Result (Unit {0}) Fault → Course → Type 0
+PassesTo before moment s (Ok _) t = (before < moment) × (t ≡ stepped (step.Tick (moment - before)) [] s)
+PassesTo before moment s (Err f) t = t ≡ s

@@ -6,6 +6,7 @@ use Rattle.uv_ids.specs.declared.fault.Fault.{Fault}
 use Rattle.uv_ids.specs.declared.fault.Fault.TheVariants as fault
 use Rattle.uv_work.specs.declared.event.PoolEvent.{PoolEvent}
 use Rattle.uv_work.specs.declared.event.PoolEvent.TheVariants as event
+use Rattle.uv_pool.specs.Benches.{are_turns}
 use Rattle.uv_pool.specs.Book.{Standing, finish_count}
 use Rattle.uv_ids.specs.declared.thread_line.ThreadLine.{ThreadLine}
 use Rattle.uv_live.specs.Course.{Course, Plan}
@@ -29,8 +30,12 @@ is_of k _ = false
 abbrev pub part_of : ℕ → List PoolEvent → List PoolEvent
 part_of k log = filter (is_of k) log
 
-abbrev pub IsShift : ℕ → List PoolEvent → Worked → Type 0
-IsShift k log x = (x.worker ≡ k) × (x.events ≡ part_of k log)
+-- a shift of worker k: the log's part for it, in which each take was finished before the next one; its share counts the finishes
+pub record IsShift (k : ℕ) (log : List PoolEvent) (x : Worked) : Type 0 where
+  pub worker : x.worker ≡ k
+  pub events : x.events ≡ part_of k log
+  pub turns : are_turns k x.events ≡ true
+  pub counts : x.finishes ≡ finish_count x.events
 
 -- the shifts are those of workers 0, 1, .. in order, each with the log's part for its worker
 abbrev pub AreShifts : List PoolEvent → List Worked → Type 0

@@ -3,11 +3,18 @@ ghost use Rattle.std.specs.Prelude.{◌≡◌};
 
 /// Whom a live run asks for the time (own). Times are milliseconds.
 pub trait Clock {
+    ghost use Rattle.std.specs.Prelude.{◌≡◌, ℕ};
+
+    // The time now.
+    ghost hours: { Self → ℕ };
+
     /// The time now.
-    fn moment(&self) -> u64;
+    fn moment(&self) -> u64
+        ensures { result ≡ hours self.now };
 
     /// Waits until that time, and answers the time then.
-    fn until(&mut self, due: u64) -> u64;
+    fn until(&mut self, due: u64) -> u64
+        ensures { result ≡ hours self.new };
 }
 
 /// A clock that doesn't wait: it jumps to each time that it is asked to wait for.
@@ -26,6 +33,8 @@ impl JumpClock {
 }
 
 impl Clock for JumpClock {
+    ghost hours = { λ c. c.time };
+
     fn moment(&self) -> u64
         ensures { result ≡ self.now.time }
     {

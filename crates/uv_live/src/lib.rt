@@ -9,6 +9,7 @@ mod clock;
 mod crew;
 mod follower;
 mod following;
+mod outside;
 mod running;
 mod settling;
 mod turning;

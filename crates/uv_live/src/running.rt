@@ -1,16 +1,16 @@
 //! A live run.
-ghost use Rattle.std.specs.Prelude.{◌≡◌, ◌<◌, Some, Ok, true, IfOk, IfNone, All};
+ghost use Rattle.std.specs.Prelude.{◌≡◌, ◌<◌, Some, Ok, true, IfOk, IfNone};
 ghost use Rattle.uv_ids.specs.declared.fault.Why.TheVariants as why;
 ghost use Rattle.uv_wake.specs.Seats.{names_of};
 ghost use Rattle.uv_live.specs.Course.{AreNamed};
-ghost use Rattle.uv_live.specs.Running.{HaltsAt, RunSettles};
+ghost use Rattle.uv_live.specs.Running.{HaltsAt, RunSettles, PassesTo};
+ghost use Rattle.uv_live.specs.Turning.{Refuses};
 
 use crate::clock::Clock;
-use crate::crew::{
-    Sender, Worker, join_sender, join_senders, join_workers, start_senders, start_workers,
-};
+use crate::crew::{Crew, join_workers, start_workers};
 use crate::follower::{Did, Follower};
 use crate::following::sync;
+use crate::outside::Outside;
 use crate::settling::settle;
 use crate::turning::turn_rest;
 use std::alloc::Global;
@@ -19,53 +19,17 @@ use std::sync::Wait;
 use std::sync::ledger::{Blank, Ledger};
 use std::thread;
 use std::thread::{Scope, Threads};
-use uv_ids::{Fault, ThreadLine, Var, Why};
+use uv_ids::{Fault, ThreadLine, Why};
 use uv_pool::{Gate, LockedBook, PoolBook, Shift};
 use uv_wake::{Board, LoopSeat};
 
 /// As many senders' seats as a board gives: one for each number of a sender thread.
 const SEATS: u64 = 64;
 
-/// The count of a name past which its word is absorbed no more (own). No run comes so far.
-const MOST_ABSORBED: u64 = 1 << 62;
-
-/// Absorbs the word of a name, and answers whether a send stood in it.
-fn absorb(board: &Board, seat: &mut LoopSeat, name: Var) -> Result<bool, Fault>
-    requires board { seat.old.board ≡ board.now.board }
-    requires name { name.0 < names_of board.now.board }
-    ensures { seat.new.board ≡ board.now.board }
-{
-    if seat.count(name) >= MOST_ABSORBED {
-        return Err(Fault::Limit);
-    }
-    Ok(board.absorb(seat, name))
-}
-
-/// Absorbs every word, in the order of the names, and records a send for each that one stood in.
-fn absorb_all<S: Follower>(session: &mut S, board: &Board, seat: &mut LoopSeat) -> Result<(), Fault>
-    requires polling { S.polling session.old ≡ true }
-    requires board { seat.old.board ≡ board.now.board }
-    requires names { names_of board.now.board ≡ (S.plan session.old).names }
-    ensures board { seat.new.board ≡ board.now.board }
-    ensures plan { S.plan session.new ≡ S.plan session.old }
-{
-    'names: for v in 0..session.name_count() {
-        let name = Var(v);
-        match absorb(board, seat, name) {
-            Ok(true) => match session.send(name) {
-                Ok(()) => {}
-                Err(fault) => return Err(fault),
-            },
-            Ok(false) => {}
-            Err(fault) => return Err(fault),
-        }
-    }
-    Ok(())
-}
-
 /// Lets the clock go on up to the poll's deadline. `Stalled` where there is none, or where the clock doesn't go on.
 fn pass_time<S: Follower, C: Clock>(session: &mut S, clock: &mut C) -> Result<(), Fault>
     ensures plan { S.plan session.new ≡ S.plan session.old }
+    ensures passes { PassesTo (S.hours session.old) (C.hours clock.new) (S.course session.old) result (S.course session.new) }
 {
     match session.deadline() {
         None => Err(Fault::Stalled),
@@ -80,37 +44,43 @@ fn pass_time<S: Follower, C: Clock>(session: &mut S, clock: &mut C) -> Result<()
     }
 }
 
-/// What the loop's thread does where the loop is blocked: it waits for the workers, or else joins a sender, or else lets the clock go
-/// on. False where the book was closed.
+/// What the loop's thread does where the loop is blocked: it waits until a worker has finished a job, or else joins a sender, or else
+/// lets the clock go on.
 fn unblock<S: Follower, L: Ledger, C: Clock, R: Threads + Wait>(
     rt: &R,
     session: &mut S,
     book: &LockedBook<L>,
-    board: &Board,
-    seat: &mut LoopSeat,
-    senders: &mut Vec<Sender<'_>>,
+    outside: &mut Outside<'_>,
     clock: &mut C,
-) -> Result<bool, Fault>
-    requires board { seat.old.board ≡ board.now.board }
-    requires ours { All (λ h. h.promise.0.now.board ≡ board.now.board) senders.old.items }
-    ensures board { seat.new.board ≡ board.now.board }
-    ensures ours { All (λ h. h.promise.0.now.board ≡ board.now.board) senders.new.items }
+) -> Result<(), Fault>
+    ensures board { outside.new.board.now.board ≡ outside.old.board.now.board }
     ensures plan { S.plan session.new ≡ S.plan session.old }
 {
-    if book.lock(rt).closed() {
-        return Ok(false);
-    }
     if session.is_working() {
-        book.wait_past(rt, session.pool_events().len());
-        return Ok(true);
+        book.wait_finished(rt, session.pool_events().len());
+        return Ok(());
     }
-    if join_sender(rt, board, seat, senders) {
-        return Ok(true);
+    if outside.join_one(rt) {
+        return Ok(());
     }
-    match pass_time(session, clock) {
-        Ok(()) => Ok(true),
+    pass_time(session, clock)
+}
+
+/// A turn under the book's lock: what its step did, and whether the book is closed.
+fn locked_turn<S: Follower, L: Ledger, R: Wait>(
+    rt: &R,
+    session: &mut S,
+    book: &LockedBook<L>,
+) -> (Result<Did, Fault>, bool)
+    ensures plan { S.plan session.new ≡ S.plan session.old }
+    ensures refused { Refuses result.0 (S.refusal session.new) }
+{
+    let mut guard = book.lock(rt);
+    let answer = match turn_rest(session, &mut guard) {
+        Ok(outcome) => Ok(session.did(outcome)),
         Err(fault) => Err(fault),
-    }
+    };
+    (answer, guard.closed())
 }
 
 /// Takes turns until the loop is at its end. False where the book was closed before.
@@ -118,35 +88,32 @@ fn run<S: Follower, L: Ledger, C: Clock, R: Threads + Wait>(
     rt: &R,
     session: &mut S,
     book: &LockedBook<L>,
-    board: &Board,
-    seat: &mut LoopSeat,
-    senders: &mut Vec<Sender<'_>>,
+    outside: &mut Outside<'_>,
     clock: &mut C,
 ) -> Result<bool, Fault>
-    requires board { seat.old.board ≡ board.now.board }
-    requires names { names_of board.now.board ≡ (S.plan session.old).names }
-    requires ours { All (λ h. h.promise.0.now.board ≡ board.now.board) senders.old.items }
-    ensures board { seat.new.board ≡ board.now.board }
-    ensures ours { All (λ h. h.promise.0.now.board ≡ board.now.board) senders.new.items }
+    requires names { names_of outside.old.board.now.board ≡ (S.plan session.old).names }
+    ensures board { outside.new.board.now.board ≡ outside.old.board.now.board }
     ensures plan { S.plan session.new ≡ S.plan session.old }
     ensures end { HaltsAt result (S.refusal session.new) }
 {
     'turns: for _ in rt.forever() {
         if session.is_polling() {
-            match absorb_all(session, board, seat) {
+            match outside.absorb_all(session) {
                 Ok(()) => {}
                 Err(fault) => return Err(fault),
             }
         }
-        let answer = turn_rest(session, &mut book.lock(rt));
+        let (answer, closed) = locked_turn(rt, session, book);
         match answer {
-            Ok(Did::Queued(_)) => book.wake(),
+            Ok(Did::Queued(_)) => book.wake_worker(),
             Ok(_) => {}
             Err(Fault::Refused(Why::Ended)) => return Ok(true),
             Err(Fault::Refused(Why::Blocked)) => {
-                match unblock(rt, session, book, board, seat, senders, clock) {
-                    Ok(true) => {}
-                    Ok(false) => return Ok(false),
+                if closed {
+                    return Ok(false);
+                }
+                match unblock(rt, session, book, outside, clock) {
+                    Ok(()) => {}
                     Err(fault) => return Err(fault),
                 }
             }
@@ -176,6 +143,17 @@ struct Joined<S, L: Ledger> {
     shifts: Vec<Shift<L>>,
 }
 
+/// What the threads of a run share, and the `thread` lines that they send by.
+#[derive(Drop)]
+pub(crate) struct Shared<'a, L: Ledger, G> {
+    alloc: Global,
+    book: &'a LockedBook<L>,
+    board: &'a Board,
+    lines: &'a [ThreadLine],
+    gate: &'a G,
+    pub ghost named: { AreNamed (names_of board.now.board) lines.now },
+}
+
 /// Starts the threads, takes the turns, and then closes the book and joins all threads.
 fn within<
     's,
@@ -187,48 +165,43 @@ fn within<
     R: Threads + Wait + Sync,
 >(
     rt: &'s R,
-    alloc: Global,
     scope: &Scope<'s, E>,
+    shared: Shared<'s, L, G>,
     session: S,
-    book: &'s LockedBook<L>,
-    board: &'s Board,
     seat: LoopSeat,
-    lines: &'s [ThreadLine],
     clock: &mut C,
-    gate: &'s G,
 ) -> Result<Joined<S, L>, Fault>
-    requires board { seat.board ≡ board.now.board }
-    requires names { names_of board.now.board ≡ (S.plan session).names }
-    requires lines { AreNamed (names_of board.now.board) lines.now }
-    ensures board { IfOk result (λ r. r.seat.board ≡ board.now.board) }
+    requires board { seat.board ≡ shared.board.now.board }
+    requires names { names_of shared.board.now.board ≡ (S.plan session).names }
+    ensures board { IfOk result (λ r. r.seat.board ≡ shared.entry.board.now.board) }
     ensures plan { IfOk result (λ r. S.plan r.session ≡ S.plan session) }
     ensures end { IfOk result (λ r. S.refusal r.session ≡ Some why.Ended) }
 {
     let mut session = session;
-    let mut seat = seat;
-    let mut crew: Vec<Worker<L>> = Vec::new(alloc);
-    let mut senders: Vec<Sender<'s>> = Vec::new(alloc);
+    let Shared {
+        alloc,
+        book,
+        board,
+        lines,
+        gate,
+    } = shared;
+    let mut outside = Outside::new(alloc, board, seat);
+    let mut crew = Crew {
+        workers: session.worker_count(),
+        started: Vec::new(alloc),
+    };
     let mut shifts: Vec<Shift<L>> = Vec::new(alloc);
-    let workers = session.worker_count();
-    let started = match start_workers(rt, alloc, scope, book, gate, workers, &mut crew) {
-        Ok(()) => start_senders(scope, board, &mut seat, gate, lines, &mut senders),
+    let started = match start_workers(rt, alloc, scope, book, gate, &mut crew) {
+        Ok(()) => outside.start(scope, gate, lines),
         Err(fault) => Err(fault),
     };
     let halt = match started {
-        Ok(()) => run(
-            rt,
-            &mut session,
-            book,
-            board,
-            &mut seat,
-            &mut senders,
-            clock,
-        ),
+        Ok(()) => run(rt, &mut session, book, &mut outside, clock),
         Err(fault) => Err(fault),
     };
     book.lock(rt).close();
     book.wake();
-    join_senders(rt, board, &mut seat, &mut senders);
+    let seat = outside.into_seat(rt);
     let theirs = join_workers(rt, crew, &mut shifts);
     match fault_of(halt, theirs) {
         None => Ok(Joined {
@@ -289,19 +262,14 @@ fn scoped<
     R: Threads + Wait + Sync,
 >(
     rt: &'a R,
-    alloc: Global,
+    shared: Shared<'a, L, G>,
     session: S,
-    book: &'a LockedBook<L>,
-    board: &'a Board,
     seat: LoopSeat,
-    lines: &'a [ThreadLine],
     clock: &'a mut C,
-    gate: &'a G,
 ) -> Result<Joined<S, L>, Fault>
-    requires board { seat.board ≡ board.now.board }
-    requires names { names_of board.now.board ≡ (S.plan session).names }
-    requires lines { AreNamed (names_of board.now.board) lines.now }
-    ensures board { IfOk result (λ r. r.seat.board ≡ board.now.board) }
+    requires board { seat.board ≡ shared.board.now.board }
+    requires names { names_of shared.board.now.board ≡ (S.plan session).names }
+    ensures board { IfOk result (λ r. r.seat.board ≡ shared.entry.board.now.board) }
     ensures plan { IfOk result (λ r. S.plan r.session ≡ S.plan session) }
     ensures end { IfOk result (λ r. S.refusal r.session ≡ Some why.Ended) }
 {
@@ -309,17 +277,12 @@ fn scoped<
         thread::scope_env(),
         rt,
         |scope| -> Result<Joined<S, L>, Fault>
-            requires board { seat.board ≡ board.now.board }
-            requires names { names_of board.now.board ≡ (S.plan session).names }
-            requires lines { AreNamed (names_of board.now.board) lines.now }
-            ensures board { IfOk result (λ r. r.seat.board ≡ board.entry.now.board) }
+            requires board { seat.board ≡ shared.board.now.board }
+            requires names { names_of shared.board.now.board ≡ (S.plan session).names }
+            ensures board { IfOk result (λ r. r.seat.board ≡ shared.entry.board.now.board) }
             ensures plan { IfOk result (λ r. S.plan r.session ≡ S.plan session) }
             ensures end { IfOk result (λ r. S.refusal r.session ≡ Some why.Ended) }
-        {
-            within(
-                rt, alloc, scope, session, book, board, seat, lines, clock, gate,
-            )
-        },
+        { within(rt, scope, shared, session, seat, clock) },
     )
 }
 
@@ -351,20 +314,16 @@ fn live_over<
         Ok(lines) => lines,
         Err(fault) => return Err(fault),
     };
-    let shared = LockedBook::new(book);
-    let joined = scoped(
-        rt,
+    let book = LockedBook::new(book);
+    let shared = Shared {
         alloc,
-        session,
-        &shared,
-        &board,
-        seat,
-        lines.as_slice(),
-        clock,
+        book: &book,
+        board: &board,
+        lines: lines.as_slice(),
         gate,
-    );
-    match joined {
-        Ok(joined) => conclude(joined, &shared.into_book()),
+    };
+    match scoped(rt, shared, session, seat, clock) {
+        Ok(joined) => conclude(joined, &book.into_book()),
         Err(fault) => Err(fault),
     }
 }
@@ -372,8 +331,8 @@ fn live_over<
 /// Runs a session to its end with a thread for each worker and each sender, and answers it once what it did was compared with what they
 /// did (`settle`). Its script may ask for 1 to 1024 workers; Range outside.
 ///
-/// Where the loop is blocked it waits for the workers if a request waits or runs, or else joins a sender's thread, or else lets the
-/// clock go on to the poll's deadline, or else is `Stalled`. On every fault the book is closed and all threads are joined
+/// Where the loop is blocked it waits until a worker has finished a job if a request waits or runs, or else joins a sender's thread, or
+/// else lets the clock go on to the poll's deadline, or else is `Stalled`. On every fault the book is closed and all threads are joined
 /// before it is answered. The loop's own fault comes first, then the lowest worker's, then `settle`'s. A thread that can't be
 /// started is `Memory`.
 pub fn live<S: Follower + Drop, C: Clock, G: Gate + Sync, R: Threads + Wait + Sync>(

@@ -9,7 +9,7 @@ ghost use Rattle.uv_live.specs.Settling.{worked, part_of, IsShift, AreShifts, co
 use crate::follower::Follower;
 use crate::following::{first_apart, is_same};
 use std::sync::ledger::Ledger;
-use uv_ids::{Event, Fault, ThreadLine, Var};
+use uv_ids::{Event, Fault, Var};
 use uv_pool::{PoolBook, Shift};
 use uv_wake::LoopSeat;
 use uv_work::PoolEvent;
@@ -102,31 +102,10 @@ fn do_add_up<L: Ledger>(log: &[PoolEvent], shifts: &[Shift<L>]) -> bool
     left == 0
 }
 
-fn is_send(name: Var, event: Event) -> bool
-    ensures { result ≡ spec.is_send name.0 event }
-{
-    match event {
-        Event::Send(other) => other.0 == name.0,
-        _ => false,
-    }
-}
-
 fn is_cancel(event: Event) -> bool
     ensures { result ≡ spec.is_cancel event }
 {
     matches!(event, Event::Cancel(_))
-}
-
-fn sends_of(name: Var, steps: &[Event]) -> usize
-    ensures { result ≡ count_by (spec.is_send name.0) steps.now }
-{
-    steps.iter().filter(|event| is_send(name, **event)).count()
-}
-
-fn lines_of(name: Var, lines: &[ThreadLine]) -> usize
-    ensures { result ≡ count_by (spec.is_line name.0) lines.now }
-{
-    lines.iter().filter(|line| line.name.0 == name.0).count()
 }
 
 fn cancels(steps: &[Event]) -> usize
@@ -135,12 +114,14 @@ fn cancels(steps: &[Event]) -> usize
     steps.iter().filter(|event| is_cancel(**event)).count()
 }
 
-fn sends_fit(name: Var, steps: &[Event], lines: &[ThreadLine], seat: &LoopSeat) -> bool
-    requires { name.0 < names_of seat.now.board }
-    ensures { Decides result (SendsFit steps.now lines.now seat.now.knows.counts name.0) }
+fn sends_fit<F: Follower>(name: Var, session: &F, seat: &LoopSeat) -> bool
+    requires name { name.0 < (F.plan session.now).names }
+    requires seat { name.0 < names_of seat.now.board }
+    ensures { Decides result
+        (SendsFit (F.course session.now).steps (F.plan session.now).lines seat.now.knows.counts name.0) }
 {
-    let sent = sends_of(name, steps);
-    sent as u64 == seat.count(name) && sent <= lines_of(name, lines)
+    let sent = session.sends_to(name);
+    sent as u64 == seat.count(name) && sent <= session.lines_to(name)
 }
 
 fn all_sends_fit<F: Follower>(session: &F, seat: &LoopSeat) -> bool
@@ -148,7 +129,7 @@ fn all_sends_fit<F: Follower>(session: &F, seat: &LoopSeat) -> bool
     ensures { Decides result (AllSendsFit (F.course session.now).steps (F.plan session.now) seat.now.knows.counts) }
 {
     'names: for v in 0..session.name_count() {
-        if !sends_fit(Var(v), session.steps(), session.thread_lines(), seat) {
+        if !sends_fit(Var(v), session, seat) {
             return false;
         }
     }

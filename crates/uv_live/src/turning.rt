@@ -4,7 +4,7 @@ ghost use Rattle.uv_work.specs.Pool.{IsLegal};
 ghost use Rattle.uv_work.specs.declared.event.PoolEvent.TheVariants as event;
 ghost use Rattle.uv_live.specs.Course.{events_of};
 ghost use Rattle.uv_live.specs.Following.{Follows};
-ghost use Rattle.uv_live.specs.Turning.{Turns, Refuses};
+ghost use Rattle.uv_live.specs.Turning.{Turns, Refuses, events_as};
 
 use crate::follower::{Did, Follower};
 use crate::following::{first_apart, sync_rest};
@@ -66,31 +66,36 @@ fn enter<L: Ledger>(book: &mut PoolBook<L>, did: Did)
 pub(crate) fn turn_rest<F: Follower, L: Ledger>(
     session: &mut F,
     book: &mut PoolBook<L>,
-) -> Result<Did, Fault>
+) -> Result<F::Outcome, Fault>
     ensures plan { F.plan session.new ≡ F.plan session.old }
     ensures turned { Follows (F.plan session.old).workers (F.course session.old).events book.old.hold.contents
-        → Turns book.old.hold.contents.log (F.course session.old) result book.new.hold.contents.log (F.course session.new) }
+        → Turns book.old.hold.contents.log (F.course session.old) (events_as (F.events_by (F.plan session.old).script) result)
+        book.new.hold.contents.log (F.course session.new) }
     ensures rest { book.new.rest ≡ book.old.rest }
     ensures refused { Refuses result (F.refusal session.new) }
 {
     book.is_sound();
     sync_rest(session, book)?;
     book.reserve()?;
-    let did = session.step()?;
-    let answer = did;
+    let outcome = session.step()?;
     let _ = session.pool_events();
-    enter(book, did);
-    Ok(answer)
+    enter(book, session.did(outcome));
+    Ok(outcome)
 }
 
-/// Applies the rest of the book's log to the session, does one step of the loop, and enters in the book what that did.
+/// Applies the rest of the book's log to the session, does one step of the loop, and enters in the book what that did. It answers what
+/// the step answered.
 ///
 /// Room in the book is made before the step, so `Memory` and `Limit` of the book come before any refusal of the step. On a fault
 /// neither has taken the step, and what was applied stands.
-pub fn turn<F: Follower, L: Ledger>(session: &mut F, book: &mut PoolBook<L>) -> Result<Did, Fault>
+pub fn turn<F: Follower, L: Ledger>(
+    session: &mut F,
+    book: &mut PoolBook<L>,
+) -> Result<F::Outcome, Fault>
     requires { (F.plan session.old).workers ≡ length book.old.hold.contents.running }
     ensures plan { F.plan session.new ≡ F.plan session.old }
-    ensures turned { Turns book.old.hold.contents.log (F.course session.old) result book.new.hold.contents.log (F.course session.new) }
+    ensures turned { Turns book.old.hold.contents.log (F.course session.old) (events_as (F.events_by (F.plan session.old).script) result)
+        book.new.hold.contents.log (F.course session.new) }
     ensures rest { book.new.rest ≡ book.old.rest }
     ensures refused { Refuses result (F.refusal session.new) }
 {

@@ -6,7 +6,7 @@ use crate::book::PoolBook;
 use std::sync::ledger::{Ledger, Share};
 use std::sync::{Condvar, Mutex, MutexGuard, Wait};
 use uv_ids::Fault;
-use uv_work::{Job, WorkResult};
+use uv_work::{Job, PoolEvent, WorkResult};
 
 /// A book that threads share. Whoever holds its lock may call the book; whoever has added to the log or closed the book
 /// calls `wake` once it has let the lock go.
@@ -17,8 +17,20 @@ pub struct LockedBook<L: Ledger> {
     book: Mutex<PoolBook<L>>,
     /// Those who wait for the log to grow.
     grown: Condvar,
+    /// Those who wait for a job to be finished.
+    finished: Condvar,
     /// Workers who wait for a job.
     queued: Condvar,
+}
+
+/// Whether a job was finished past the first n entries of the log.
+fn is_finished_past(log: &[PoolEvent], n: usize) -> bool {
+    for place in n..log.len() {
+        if matches!(log[place], PoolEvent::Finish(_, _)) {
+            return true;
+        }
+    }
+    false
 }
 
 impl<L: Ledger> LockedBook<L> {
@@ -27,6 +39,7 @@ impl<L: Ledger> LockedBook<L> {
         LockedBook {
             book: Mutex::new(book),
             grown: Condvar::new(),
+            finished: Condvar::new(),
             queued: Condvar::new(),
         }
     }
@@ -48,10 +61,28 @@ impl<L: Ledger> LockedBook<L> {
         unreachable!()
     }
 
-    /// Wakes all that wait: workers, and those in `wait_past`.
+    /// Waits until a job was finished past the log's first n entries, or the book closed.
+    pub fn wait_finished<R: Wait>(&self, rt: &R, n: usize) {
+        let mut guard = self.book.lock(rt);
+        for _ in rt.forever() {
+            if is_finished_past(guard.log(), n) || guard.closed() {
+                return;
+            }
+            guard = self.finished.wait(rt, guard);
+        }
+        unreachable!()
+    }
+
+    /// Wakes all that wait: workers, and those in `wait_past` and `wait_finished`.
     pub fn wake(&self) {
         self.queued.notify_all();
         self.grown.notify_all();
+        self.finished.notify_all();
+    }
+
+    /// Wakes one worker that waits for a job: enough for one job that was submitted, where nobody is in `wait_past`.
+    pub fn wake_worker(&self) {
+        self.queued.notify_one();
     }
 
     /// The book, where nobody shares it any more.
@@ -103,6 +134,7 @@ impl<L: Ledger> LockedBook<L> {
     {
         let answer = self.book.lock(rt).finish_for(k, work, share);
         self.grown.notify_all();
+        self.finished.notify_all();
         answer
     }
 

@@ -5,6 +5,7 @@ use Rattle.uv_ids.specs.declared.id.Id.{Id}
 use Rattle.uv_arena.specs.Chains.{IsIn}
 use Rattle.uv_work.specs.Ids.{same_id}
 use Rattle.uv_work.specs.Pool.{Pool, Done, waits, runs, is_done, without, busy, size, after_queue, taken_by, after_take, finished_by, after_finish, after_cancel, collected_from, after_collect}
+use Rattle.uv_work.proofs.Counts.{busy_set_some, busy_set_none}
 use Rattle.uv_work.proofs.Replays.{same_itself, same_when}
 
 pub not_same : (a b : Id) → (a ≡ b → ⊥) → same_id a b ≡ false
@@ -40,20 +41,6 @@ without_at f (u ∷ us) vs x h =
     ∙ ap (λ l. f u ∷ l) (without_at f us vs x (λ y k. h y (inr k)))
 
 -- ---- workers
-
-pub busy_set_some : (ws : List (Option Id)) (k : ℕ) (d : Id) → slice_get ws k ≡ Some None → busy (set ws k (Some d)) ≡ busy ws + 1
-busy_set_some [] k d e = cc
-busy_set_some (None ∷ ws) zero d e = omega arith
-busy_set_some (Some x ∷ ws) zero d e = cc
-busy_set_some (None ∷ ws) (suc k) d e = busy_set_some ws k d e
-busy_set_some (Some x ∷ ws) (suc k) d e = let rest = busy_set_some ws k d e in omega (arith, rest)
-
-pub busy_set_none : (ws : List (Option Id)) (k : ℕ) (d : Id) → slice_get ws k ≡ Some (Some d) → busy (set ws k None) + 1 ≡ busy ws
-busy_set_none [] k d e = cc
-busy_set_none (None ∷ ws) zero d e = cc
-busy_set_none (Some x ∷ ws) zero d e = omega arith
-busy_set_none (None ∷ ws) (suc k) d e = busy_set_none ws k d e
-busy_set_none (Some x ∷ ws) (suc k) d e = let rest = busy_set_none ws k d e in omega (arith, rest)
 
 module _ {A : Type 0} where
   pub set_back : (xs : List A) (k : ℕ) (a b : A) → slice_get xs k ≡ Some a → set (set xs k b) k a ≡ xs

@@ -1,11 +1,15 @@
 -- What a session answers to a step, as a live run sees it.
-use Rattle.std.proofs.Common.{◌≡◌, ℕ, List, [], ◌∷◌, ◌++◌, Some, Ok, Err, refl, ap, ap₂, sym, subst, ◌∙◌, append-nil}
+use Rattle.std.proofs.Common.{◌≡◌, ℕ, ◌+◌, List, [], ◌∷◌, ◌++◌, false, cond, Option, Some, None, Result, Ok, Err, refl, ap, ap₂, sym, subst, ◌∙◌, append-nil, arith}
+use Rattle.std.specs.List.{count_by}
 use Rattle.uv_ids.specs.declared.event.Event.{Event}
-use Rattle.uv_ids.specs.declared.event.Event.TheVariants.{Loop, Take, Finish}
+use Rattle.uv_ids.specs.declared.event.Event.TheVariants.{Loop, Take, Finish, Send, Tick}
 use Rattle.uv_ids.specs.declared.fault.Fault.{Fault}
 use Rattle.uv_ids.specs.declared.fault.Fault.TheVariants as fault
 use Rattle.uv_ids.specs.declared.fault.Why.{Why}
+use Rattle.uv_ids.specs.declared.seen.Seen.{Seen}
+use Rattle.uv_ids.specs.declared.seen.Seen.TheVariants as seen
 use Rattle.uv_ids.specs.declared.id.Id.{Id}
+use Rattle.uv_ids.specs.declared.id.Var.{Var}
 use Rattle.uv_script.specs.Program.{Program, worker_count}
 use Rattle.uv_work.specs.Work.{Work}
 use Rattle.uv_work.specs.declared.event.PoolEvent.{PoolEvent}
@@ -19,14 +23,15 @@ use Rattle.uv_order.specs.PoolEvents.{pool_of}
 use Rattle.uv_order.specs.Taking.{IsTakenAs}
 use Rattle.uv_order.proofs.Pooling.{pools}
 use Rattle.uv_order.proofs.Taking.{take_is_taken, finish_is_taken}
-use Rattle.uv_live.specs.declared.follower.Did.{Did}
-use Rattle.uv_live.specs.Course.{Course, stepped, events_of}
+use Rattle.uv_live.specs.Course.{Course, stepped}
 use Rattle.uv_live.specs.Following.{Applies, StaysEnded}
+use Rattle.uv_live.specs.Settling.{is_send}
 use Rattle.uv_live.specs.Turning.{Steps}
-use Rattle.uv_run.specs.Events.{events_by, events_in, refusal_after, polls_after, IsOfLoop}
-use Rattle.uv_run.specs.Bound.{course_of, refusal_in, polls_in}
+use Rattle.uv_run.specs.Events.{events_by, events_in, refusal_after, polls_after, hours_after, IsOfLoop, events_of_loop}
+use Rattle.uv_run.specs.Bound.{course_of, refusal_in, polls_in, hours_in, SameSends, Sends}
+use Rattle.uv_run.proofs.Counting.{count_push}
 use Rattle.uv_run.proofs.Loops.{of_loop}
-use Rattle.uv_run.proofs.Steps.{events_more, IsBeside, stays_ended, stays_polling, IsOutside, quiet}
+use Rattle.uv_run.proofs.Steps.{events_more, IsBeside, stays_ended, stays_polling, IsOutside, quiet, IsNoSend, ticked}
 
 -- ---- nothing changed
 
@@ -95,30 +100,53 @@ fault_polls s t e (fault.Refused why) h = ap₂ polls_after h.same_program h.ans
 fault_polls s t e fault.StepsFull h = ap₂ polls_after h.same_program h.answer.1
 fault_polls s t e _ h = absurd h.answer
 
+-- ---- sends
+
+not_a_send : (e : Event) → IsNoSend e → (v : ℕ) → is_send v e ≡ false
+not_a_send (Send name) i v = absurd i
+not_a_send _ i v = refl
+
+same_sends : (s t : Shown) → t.standing ≡ s.standing → SameSends s t
+same_sends s t e = λ v. ap (count_by (is_send v)) e
+
+-- a step that is no send
+pub no_send : (s t : Shown) (e : Event) (r : Result Outcome Fault) → IsNoSend e → TakesEvent s e r t → SameSends s t
+no_send s t e (Ok o) i h = λ v.
+    ap (count_by (is_send v)) h.answer.1 ∙ (count_push (is_send v) s.standing e
+    ∙ (ap (λ b. count_by (is_send v) s.standing + cond b 1 0) (not_a_send e i v) ∙ omega arith))
+no_send s t e (Err f) i h = same_sends s t (ap (λ (c : Course). c.steps) (fault_keeps s t e f h).course)
+
+pub send_more : (s t : Shown) (name : Var) (o : Outcome) → TakesEvent s (Send name) (Ok o) t → Sends name.0 s (Ok tt) t
+send_more s t name o h = λ v. ap (count_by (is_send v)) h.answer.1 ∙ count_push (is_send v) s.standing (Send name)
+
+pub send_none : (s t : Shown) (name : Var) (f : Fault) → TakesEvent s (Send name) (Err f) t → SameSends s t
+send_none s t name f h = same_sends s t (ap (λ (c : Course). c.steps) (fault_keeps s t (Send name) f h).course)
+
+-- ---- the clock
+
+pub tick_more : (s t : Shown) (ms : ℕ) (o : Outcome) → TakesEvent s (Tick ms) (Ok o) t → hours_in t ≡ hours_in s + ms
+tick_more s t ms o h = ap (λ (p : Program). hours_after p t.standing) h.same_program ∙ ticked s.program s.standing t.standing ms o.seen h.answer.2
+
 -- ---- a step of the loop
 
 pub loop_line : (s t : Shown) (o : Outcome) → TakesEvent s Loop (Ok o) t → IsOfLoop o.seen
 loop_line s t o h = of_loop s.program (after s.program s.standing) _ o.seen h.answer.2
 
-pub loop_ok : (s t : Shown) (o : Outcome) (d : Did) → events_of d ≡ events_in s.program o.seen → TakesEvent s Loop (Ok o) t →
-    Steps (refusal_in s) (course_of s) (Ok d) (course_of t)
+loops_events : (p : Program) (l : Option Seen) → IsOfLoop l → events_of_loop p l ≡ events_in p l
+loops_events p None i = refl
+loops_events p (Some (seen.Take k v id)) i = absurd i
+loops_events p (Some (seen.Finish k v id)) i = absurd i
+loops_events p (Some (seen.Cancel v a)) i = absurd i
+loops_events p (Some _) i = refl
+
+pub loop_ok : (s t : Shown) (o : Outcome) → TakesEvent s Loop (Ok o) t →
+    Steps (refusal_in s) (course_of s) (Ok (events_of_loop s.program o.seen)) (course_of t)
 unfolding refusal_after
-loop_ok s t o d e h = (
+loop_ok s t o h = (
   ap refusal_of h.answer.2,
-  more s t Loop (events_of d) o h (events_more s.program s.standing Loop _ o.seen h.answer.2
-      ∙ ap (λ (xs : List PoolEvent). events_by s.program s.standing ++ xs) (sym e)),
+  more s t Loop (events_of_loop s.program o.seen) o h (events_more s.program s.standing Loop _ o.seen h.answer.2
+      ∙ ap (λ (xs : List PoolEvent). events_by s.program s.standing ++ xs) (sym (loops_events s.program o.seen (loop_line s t o h)))),
 )
-
--- what it did is read by the script of the session after it
-pub loop_did : (s t : Shown) (o : Outcome) (d : Did) (p : Program) → p ≡ t.program → events_of d ≡ events_in p o.seen → TakesEvent s Loop (Ok o) t →
-    events_of d ≡ events_in s.program o.seen
-loop_did s t o d p q e h = e ∙ ap (λ (x : Program). events_in x o.seen) (q ∙ h.same_program)
-
--- and the list of events with it at its end
-pub loop_events : (s t : Shown) (o : Outcome) (d : Did) (was is : List PoolEvent) → events_of d ≡ events_in s.program o.seen →
-    TakesEvent s Loop (Ok o) t → was ≡ events_by s.program s.standing → is ≡ was ++ events_of d → is ≡ events_by t.program t.standing
-loop_events s t o d was is e h f g =
-    g ∙ ap (λ (xs : List PoolEvent). xs ++ events_of d) f ∙ sym (ap (λ (c : Course). c.events) (loop_ok s t o d e h).1)
 
 pub loop_err : (s t : Shown) (f : Fault) → TakesEvent s Loop (Err f) t → Steps (refusal_in s) (course_of s) (Err f) (course_of t)
 unfolding refusal_after
@@ -193,6 +221,10 @@ line_events s t e o p was is q h f g =
     ∙ (sym (events_more s.program s.standing e _ o.seen h.answer.2) ∙ sym (ap₂ events_by h.same_program h.answer.1)))
 
 pub ruleset answers = (
+  no_send,
+  send_more,
+  send_none,
+  tick_more,
   fault_keeps,
   worker_ok,
   worker_ended,

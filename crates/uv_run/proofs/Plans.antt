@@ -3,7 +3,6 @@ use Rattle.std.proofs.Common.{◌≡◌, subst}
 use Rattle.uv_script.specs.Program.{Program}
 use Rattle.uv_live.specs.Course.{Plan, Course}
 use Rattle.uv_live.specs.Running.{RunSettles}
-use Rattle.uv_live.specs.Settling.{IsSettled}
 use Rattle.uv_run.specs.Bound.{Asked}
 
 -- what the script alone says of the run

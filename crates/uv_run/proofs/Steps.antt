@@ -1,6 +1,7 @@
 -- What one step more does to what a live run sees of a session.
-use Rattle.std.proofs.Common.{◌≡◌, ℕ, ◌+◌, List, [], ◌∷◌, ◌++◌, length, nat_lt, nat_le, Option, Some, None, Result, Ok, Err, refl, ap, sym, subst, ◌∙◌, append_assoc, append-nil, slice_get}
+use Rattle.std.proofs.Common.{◌≡◌, ℕ, ◌+◌, List, [], ◌∷◌, ◌++◌, length, nat_lt, nat_le, ◌<◌, ◌≤◌, take, Option, Some, None, Result, Ok, Err, refl, ap, sym, subst, ◌∙◌, append_assoc, append-nil, slice_get}
 use Rattle.std.proofs.lemmas.Bool.{cond_both}
+use Rattle.std.proofs.lemmas.Option.{slice_get_within}
 use Rattle.std.specs.Prelude.{option_to_list}
 use Rattle.std.specs.List.{flat_map}
 use Rattle.uv_ids.specs.declared.id.Id.{Id}
@@ -31,7 +32,8 @@ use Rattle.uv_model.proofs.Found.{found_both}
 use Rattle.uv_model.proofs.Refusals.{stage_refusal, stage_moves, body_moves, main_moves}
 use Rattle.uv_model.proofs.Runs.{after-moves, seen_by-moves, seen_by-nil}
 use Rattle.uv_order.specs.PoolEvents.{line_events, pool_events}
-use Rattle.uv_run.specs.Events.{events_by, events_in, refusal_after, is_polling, polls_after}
+use Rattle.uv_session.proofs.Traces.{those, those_more, those_all}
+use Rattle.uv_run.specs.Events.{events_by, events_in, refusal_after, is_polling, polls_after, hours_after}
 
 -- ---- the pool's events
 
@@ -49,6 +51,23 @@ events-append p (x ∷ xs) ys = ap (λ (zs : List PoolEvent). line_events p x ++
 events_of_one : (p : Program) (l : Option Seen) → pool_events p (flat_map option_to_list (l ∷ [])) ≡ events_in p l
 events_of_one p None = refl
 events_of_one p (Some l) = append-nil (line_events p l)
+
+-- those of the first steps, one step after another
+pub events_step : (p : Program) (xs : List (Option Seen)) (i : ℕ) (x : Option Seen) → slice_get xs i ≡ Some x → i < length xs →
+    pool_events p (those (take (i + 1) xs)) ≡ pool_events p (those (take i xs)) ++ events_in p x
+events_step p xs i x h l = ap (pool_events p) (those_more xs i x h l)
+    ∙ (events-append p (those (take i xs)) (option_to_list x)
+    ∙ ap (λ (ys : List PoolEvent). pool_events p (those (take i xs)) ++ ys) (of_line x)) where
+      of_line : (y : Option Seen) → pool_events p (option_to_list y) ≡ events_in p y
+      of_line None = refl
+      of_line (Some y) = append-nil (line_events p y)
+
+pub seen_within : (p : Program) (es : List Event) (i : ℕ) (x : Option Seen) → slice_get (seen_by p es) i ≡ Some x → i < length (seen_by p es)
+seen_within p es i x h = slice_get_within (seen_by p es) i x h
+
+pub all_events : (p : Program) (es : List Event) (i : ℕ) → length es ≤ i → pool_events p (those (take i (seen_by p es))) ≡ events_by p es
+unfolding events_by
+all_events p es i l = ap (pool_events p) (those_all p es i l)
 
 pub no_events : (p : Program) → events_by p [] ≡ []
 unfolding events_by
@@ -152,6 +171,26 @@ pub stays_polling : (p : Program) (es : List Event) (e : Event) (t : State) (l :
     polls_after p (es ++ e ∷ []) ≡ polls_after p es
 unfolding polls_after
 stays_polling p es e t l i m = ap is_polling (place_stays p es e t l i m)
+
+-- any step but a send
+abbrev pub IsNoSend : Event → Type 0
+IsNoSend (Send v) = ⊥
+IsNoSend e = Unit {0}
+
+-- ---- the clock
+
+abbrev Ticks : State → ℕ → Next → Type 0
+Ticks s ms (Moves t l) = t.clock ≡ s.clock + ms
+Ticks s ms (Refuses why) = Unit {0}
+
+tick_ticks : (p : Program) (s : State) (ms : ℕ) → Ticks s ms (next p s (Tick ms))
+unfolding next
+tick_ticks p s ms = cond_both (nat_le (s.clock + ms) 4611686018427387904) _ _ (Ticks s ms) (λ h. refl) (λ h. tt)
+
+pub ticked : (p : Program) (es fs : List Event) (ms : ℕ) (l : Option Seen) → next p (after p es) (Tick ms) ≡ Moves (after p fs) l →
+    hours_after p fs ≡ hours_after p es + ms
+unfolding hours_after
+ticked p es fs ms l m = subst (Ticks (after p es) ms) m (tick_ticks p (after p es) ms)
 
 -- ---- steps from outside that are no event of the pool
 

@@ -1,2 +1,3 @@
+pub mod Counts
 pub mod Events
 pub mod Bound

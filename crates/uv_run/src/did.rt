@@ -3,8 +3,10 @@ ghost use Rattle.std.specs.Prelude.{◌≡◌, ◌∷◌, [], Some, option_to_li
 ghost use Rattle.uv_ids.specs.declared.seen.Seen.TheVariants as seen;
 ghost use Rattle.uv_work.specs.declared.event.PoolEvent.TheVariants as event;
 ghost use Rattle.uv_order.specs.PoolEvents.{op_events};
-ghost use Rattle.uv_live.specs.Course.{events_of};
-ghost use Rattle.uv_run.specs.Events.{events_in, IsOfLoop};
+ghost use Rattle.uv_script.specs.Program.{op_at};
+ghost use Rattle.uv_script.specs.Tasks.{text_of};
+ghost use Rattle.uv_live.specs.Course.{events_of, job_of};
+ghost use Rattle.uv_run.specs.Events.{events_in, events_of_loop, job_asked, job_at, job_by};
 
 use uv_ids::{Answer, Id, Seen, Site};
 use uv_live::Did;
@@ -13,7 +15,8 @@ use uv_work::{Job, PoolEvent};
 
 /// A request was queued.
 fn queued(id: Id, task: Task) -> Did
-    ensures { events_of result ≡ event.Queue id ∷ [] }
+    ensures events { events_of result ≡ event.Queue id ∷ [] }
+    ensures job { job_of result ≡ Some record { req = id; rounds = task.rounds; text = text_of task } }
 {
     match Job::new(id, task.text(), task.rounds()) {
         Some(job) => Did::Queued(job),
@@ -23,7 +26,8 @@ fn queued(id: Id, task: Task) -> Did
 
 /// What an op did that answered this.
 fn did_op(op: Op, answer: Answer) -> Did
-    ensures { events_of result ≡ op_events op answer }
+    ensures events { events_of result ≡ op_events op answer }
+    ensures job { job_of result ≡ job_asked op answer }
 {
     match (op, answer) {
         (Op::Queue(_, task), Answer::Id(id)) => queued(id, task),
@@ -34,7 +38,8 @@ fn did_op(op: Op, answer: Answer) -> Did
 
 /// What the op at a place did.
 fn did_at(script: &Script, site: Site, answer: Answer) -> Did
-    ensures { events_of result ≡ events_in script.now (Some (seen.Op site answer)) }
+    ensures events { events_of result ≡ events_in script.now (Some (seen.Op site answer)) }
+    ensures job { job_of result ≡ job_at (op_at script.now site) answer }
 {
     match script.op_at(site) {
         Some(op) => did_op(op, answer),
@@ -44,8 +49,8 @@ fn did_at(script: &Script, site: Site, answer: Answer) -> Did
 
 /// What a step of the loop did.
 pub(crate) fn did(script: &Script, seen: Option<Seen>) -> Did
-    requires { IsOfLoop seen }
-    ensures { events_of result ≡ events_in script.now seen }
+    ensures events { events_of result ≡ events_of_loop script.now seen }
+    ensures job { job_of result ≡ job_by script.now seen }
 {
     match seen {
         Some(Seen::Op(site, answer)) => did_at(script, site, answer),
@@ -62,14 +67,13 @@ pub(crate) fn event_of_line(script: &Script, seen: Option<Seen>) -> Option<PoolE
         Some(Seen::Take(k, _, id)) => Some(PoolEvent::Take(k, id)),
         Some(Seen::Finish(k, _, id)) => Some(PoolEvent::Finish(k, id)),
         Some(Seen::Cancel(_, Answer::Cancelled(id))) => Some(PoolEvent::Cancel(id)),
-        Some(Seen::Op(site, answer)) => event_of(did_at(script, site, answer)),
-        Some(Seen::After(_, _, id)) => Some(PoolEvent::Collect(id)),
+        Some(Seen::Op(_, _) | Seen::After(_, _, _)) => event_of(did(script, seen)),
         _ => None,
     }
 }
 
 /// The pool's event of it.
-pub(crate) fn event_of(did: Did) -> Option<PoolEvent>
+fn event_of(did: Did) -> Option<PoolEvent>
     ensures { option_to_list result ≡ events_of did }
 {
     match did {

@@ -1,23 +1,22 @@
 //! The steps of a live run, each as a step of the session, with the list of the pool's events.
-ghost use Rattle.std.specs.Prelude.{◌≡◌, ◌<◌, ◌++◌, OnErr, vec_len, vec_capacity};
+ghost use Rattle.std.specs.Prelude.{◌≡◌, ◌<◌, ◌+◌, ◌++◌, OnOk, OnErr, vec_len, vec_capacity};
 ghost use Rattle.uv_ids.specs.declared.event.Event.TheVariants as step;
 ghost use Rattle.uv_work.specs.declared.event.PoolEvent.TheVariants as event;
 ghost use Rattle.uv_session.specs.Shown.{TakesEvent};
 ghost use Rattle.uv_order.specs.Taking.{IsTakenAs};
-ghost use Rattle.uv_live.specs.Course.{events_of};
 ghost use Rattle.uv_live.specs.Following.{Adds, Applies, StaysEnded};
-ghost use Rattle.uv_live.specs.Turning.{Steps};
+ghost use Rattle.uv_live.specs.Turning.{Steps, events_as};
 ghost use Rattle.uv_run.specs.Events as spec;
-ghost use Rattle.uv_run.specs.Events.{events_in};
-ghost use Rattle.uv_run.specs.Bound.{course_of, refusal_in, polls_in};
+ghost use Rattle.uv_run.specs.Events.{events_in, events_of_loop};
+ghost use Rattle.uv_run.specs.Bound.{course_of, refusal_in, polls_in, hours_in, SameSends, Sends};
 
-use crate::did::{did, event_of, event_of_line};
+use crate::did::event_of_line;
+use crate::pool_log::PoolLog;
 use uv_ids::{Event, Fault, Id, Seen, Var};
-use uv_live::Did;
 use uv_model::{Machine, Outcome, Place, Stage};
 use uv_script::Script;
 use uv_session::Session;
-use uv_work::{PoolEvent, WorkResult};
+use uv_work::WorkResult;
 
 /// Whether the loop is at a poll.
 pub(crate) fn is_polling(place: Place) -> bool
@@ -29,23 +28,26 @@ pub(crate) fn is_polling(place: Place) -> bool
     }
 }
 
-/// Puts the pool's event at the end of the list.
-fn push_event(events: &mut Vec<PoolEvent>, did: Did)
-    requires room { vec_len events.old < vec_capacity events.old }
-    ensures { events.new.items ≡ events.old.items ++ events_of did }
+/// When the poll times out; none where the loop isn't at a poll, or the poll waits forever.
+pub(crate) fn deadline(place: Place) -> Option<u64>
+    ensures { result ≡ spec.deadline_of place }
 {
-    if let Some(event) = event_of(did) {
-        events.push_reserved(event);
+    match place {
+        Place::Running(run) => match run.stage {
+            Stage::Poll(deadline) => deadline,
+            _ => None,
+        },
+        Place::Main(_) => None,
     }
 }
 
 /// Puts the pool's event of a line at the end of the list.
-fn push_line(events: &mut Vec<PoolEvent>, script: &Script, seen: Option<Seen>)
-    requires room { vec_len events.old < vec_capacity events.old }
-    ensures { events.new.items ≡ events.old.items ++ events_in script.now seen }
+pub(crate) fn push_line(log: &mut PoolLog, script: &Script, seen: Option<Seen>)
+    requires room { vec_len log.old.events < vec_capacity log.old.events }
+    ensures { log.new.events.items ≡ log.old.events.items ++ events_in script.now seen }
 {
     if let Some(event) = event_of_line(script, seen) {
-        events.push_reserved(event);
+        log.push(event);
     }
 }
 
@@ -53,24 +55,22 @@ fn push_line(events: &mut Vec<PoolEvent>, script: &Script, seen: Option<Seen>)
 #[tactic(auto, using(crate::proofs::Answers::answers))]
 pub(crate) fn step<M: Machine>(
     session: &mut Session<M>,
-    events: &mut Vec<PoolEvent>,
-) -> Result<Did, Fault>
-    requires { events.old.items ≡ (course_of session.old).events }
+    log: &mut PoolLog,
+) -> Result<Outcome, Fault>
+    requires { log.old.events.items ≡ (course_of session.old).events }
     ensures program { session.new.program ≡ session.old.program }
     ensures limit { session.new.limit ≡ session.old.limit }
-    ensures events { events.new.items ≡ (course_of session.new).events }
-    ensures answer { Steps (refusal_in session.old) (course_of session.old) result (course_of session.new) }
+    ensures events { log.new.events.items ≡ (course_of session.new).events }
+    ensures answer { Steps (refusal_in session.old) (course_of session.old) (events_as (λ o. events_of_loop session.old.program o.seen) result)
+        (course_of session.new) }
     ensures same { OnErr result (refusal_in session.new ≡ refusal_in session.old) }
+    ensures sends { SameSends session.old session.new }
 {
-    if events.reserve(1).is_err() {
-        return Err(Fault::Memory);
-    }
+    log.reserve()?;
     match session.do_event(Event::Loop) {
         Ok(outcome) => {
-            let did = did(session.machine().script(), outcome.seen);
-            let answer = did;
-            push_event(events, did);
-            Ok(answer)
+            push_line(log, session.machine().script(), outcome.seen);
+            Ok(outcome)
         }
         Err(fault) => Err(fault),
     }
@@ -84,6 +84,7 @@ pub(crate) fn send<M: Machine>(session: &mut Session<M>, name: Var) -> Result<()
     ensures events { (course_of session.new).events ≡ (course_of session.old).events }
     ensures answer { Adds (step.Send name) (course_of session.old) result (course_of session.new) }
     ensures polling { polls_in session.new ≡ polls_in session.old }
+    ensures sends { Sends name.0 session.old result session.new }
 {
     match session.do_event(Event::Send(name)) {
         Ok(_) => Ok(()),
@@ -98,6 +99,8 @@ pub(crate) fn tick<M: Machine>(session: &mut Session<M>, span: u64) -> Result<()
     ensures limit { session.new.limit ≡ session.old.limit }
     ensures events { (course_of session.new).events ≡ (course_of session.old).events }
     ensures answer { Adds (step.Tick span) (course_of session.old) result (course_of session.new) }
+    ensures hours { OnOk result (hours_in session.new ≡ hours_in session.old + span) }
+    ensures sends { SameSends session.old session.new }
 {
     match session.do_event(Event::Tick(span)) {
         Ok(_) => Ok(()),
@@ -109,24 +112,23 @@ pub(crate) fn tick<M: Machine>(session: &mut Session<M>, span: u64) -> Result<()
 #[tactic(auto, using(crate::proofs::Answers::answers))]
 pub(crate) fn take<M: Machine>(
     session: &mut Session<M>,
-    events: &mut Vec<PoolEvent>,
+    log: &mut PoolLog,
     k: u16,
     id: Id,
 ) -> Result<(), Fault>
-    requires events { events.old.items ≡ (course_of session.old).events }
+    requires events { log.old.events.items ≡ (course_of session.old).events }
     ensures program { session.new.program ≡ session.old.program }
     ensures limit { session.new.limit ≡ session.old.limit }
-    ensures events { events.new.items ≡ (course_of session.new).events }
+    ensures events { log.new.events.items ≡ (course_of session.new).events }
     ensures answer { IsTakenAs session.old.program session.old.standing (step.Take k) (event.Take k id)
         → Applies (event.Take k id) (course_of session.old) result (course_of session.new) }
     ensures ended { StaysEnded (refusal_in session.old) (refusal_in session.new) }
+    ensures sends { SameSends session.old session.new }
 {
-    if events.reserve(1).is_err() {
-        return Err(Fault::Memory);
-    }
+    log.reserve()?;
     match session.do_event(Event::Take(k)) {
         Ok(outcome) => {
-            push_line(events, session.machine().script(), outcome.seen);
+            push_line(log, session.machine().script(), outcome.seen);
             Ok(())
         }
         Err(fault) => Err(fault),
@@ -156,25 +158,24 @@ fn hand_in<M: Machine>(
 #[tactic(auto, using(crate::proofs::Answers::answers))]
 pub(crate) fn finish<M: Machine>(
     session: &mut Session<M>,
-    events: &mut Vec<PoolEvent>,
+    log: &mut PoolLog,
     k: u16,
     id: Id,
     work: Option<WorkResult>,
 ) -> Result<(), Fault>
-    requires events { events.old.items ≡ (course_of session.old).events }
+    requires events { log.old.events.items ≡ (course_of session.old).events }
     ensures program { session.new.program ≡ session.old.program }
     ensures limit { session.new.limit ≡ session.old.limit }
-    ensures events { events.new.items ≡ (course_of session.new).events }
+    ensures events { log.new.events.items ≡ (course_of session.new).events }
     ensures answer { IsTakenAs session.old.program session.old.standing (step.Finish k) (event.Finish k id)
         → Applies (event.Finish k id) (course_of session.old) result (course_of session.new) }
     ensures ended { StaysEnded (refusal_in session.old) (refusal_in session.new) }
+    ensures sends { SameSends session.old session.new }
 {
-    if events.reserve(1).is_err() {
-        return Err(Fault::Memory);
-    }
+    log.reserve()?;
     match hand_in(session, k, work) {
         Ok(outcome) => {
-            push_line(events, session.machine().script(), outcome.seen);
+            push_line(log, session.machine().script(), outcome.seen);
             Ok(())
         }
         Err(fault) => Err(fault),

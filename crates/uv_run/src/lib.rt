@@ -1,8 +1,10 @@
 //! A live run of a session: what real threads did becomes the steps of a `Session`.
 #![tactic(auto)]
 
+mod counts;
 mod did;
 mod following;
+mod pool_log;
 mod running;
 mod session;
 

@@ -40,7 +40,10 @@ pub fn live_within<M: Machine, C: Clock, G: Gate + Sync, R: Threads + Wait + Syn
         Ok(machine) => machine,
         Err(fault) => return Err(fault),
     };
-    let session = LiveSession::new(alloc, Session::new(alloc, machine, limit), lines);
+    let session = match LiveSession::of(alloc, Session::new(alloc, machine, limit), lines) {
+        Ok(session) => session,
+        Err(fault) => return Err(fault),
+    };
     match uv_live::live(rt, alloc, session, clock, gate) {
         Ok(session) => Ok(session.into_session()),
         Err(fault) => Err(fault),

@@ -1,3 +1,4 @@
 pub mod Rounds
 pub mod Replays
+pub mod Counts
 pub mod DigestBytes

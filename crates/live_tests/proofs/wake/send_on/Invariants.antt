@@ -1,5 +1,5 @@
 use Rattle.std.proofs.Common.{◌≡◌}
 use Rattle.live_tests.proofs.wake.send_on.Given as goal
 
-abbrev pub invariant-loop : goal.invariant-loop
-invariant-loop l = l.sender.seat.board ≡ l.initial.sender.seat.board
+abbrev pub invariant-loop-turn : goal.invariant-loop-turn
+invariant-loop-turn l = l.sender.seat.board ≡ l.initial.sender.seat.board

@@ -1,6 +1,5 @@
 use Rattle.std.proofs.Common.{◌≡◌}
-use Rattle.uv_live.specs.Course.{taken}
-use Rattle.uv_live.specs.Following.{Follows, MayTake, StaysEnded}
+use Rattle.uv_live.specs.Following.{Follows, StaysEnded}
 use Rattle.uv_live.proofs.Places.{AreApplied}
 use Rattle.uv_live.proofs.following.sync_rest.Given as goal
 

@@ -1,0 +1,10 @@
+use Rattle.std.proofs.Common.{◌≡◌, take}
+use Rattle.uv_model.specs.After.{seen_by}
+use Rattle.uv_order.specs.PoolEvents.{pool_events}
+use Rattle.uv_session.proofs.Traces.{those}
+use Rattle.uv_run.proofs.session.log_of.Given as goal
+
+-- the events of the steps so far
+abbrev pub invariant-steps : goal.invariant-steps
+invariant-steps g l =
+    l.log.events.items ≡ pool_events l.session.program (those (take l.n (seen_by l.session.program l.session.standing)))
