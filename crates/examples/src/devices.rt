@@ -3,182 +3,13 @@
 use std::alloc::Global;
 use std::io;
 use std::io::{Read, Write};
-use uv_engine::{Reader, Writer, converse};
+use uv_engine::{Ended, Reader, Writer, converse, converse_within};
 use uv_ids::Fault;
-use uv_model::PlainLoop;
+use uv_loop::ArenaLoop;
+use uv_model::Machine;
 
-/// An input, and all that is written for it.
-pub struct Conversation {
-    pub what: &'static str,
-    input: &'static str,
-    output: &'static str,
-}
-
-const CONVERSATIONS: [Conversation; 4] = [
-    Conversation {
-        what: "what was taken back is run again past a refused step until another step is done",
-        input: "var t\n\
-         main init t timer\n\
-         main start t 3 0\n\
-         main run default\n\
-         begin\n\
-         loop 4\n\
-         back 9\n\
-         back 2\n\
-         take 0\n\
-         forward 2\n\
-         trace\n\
-         back 2\n\
-         tick 1\n\
-         forward 1\n",
-        output: "init t timer = 0.0\n\
-         start t 3 0 = ok\n\
-         run default\n\
-         timers\n\
-         refused range\n\
-         at 2\n\
-         refused nowork\n\
-         at 4\n\
-         init t timer = 0.0\n\
-         start t 3 0 = ok\n\
-         run default\n\
-         timers\n\
-         at 2\n\
-         out tick 1\n\
-         refused range\n",
-    },
-    Conversation {
-        what: "a run stops at each call of a name and goes back to them but not to the present one",
-        input: "var i\n\
-         main init i idle\n\
-         main start i\n\
-         main run default\n\
-         on i @3 stop i\n\
-         begin\n\
-         break call i\n\
-         loop 100\n\
-         loop 100\n\
-         loop 100\n\
-         rback\n\
-         rback\n\
-         rback\n\
-         forward 20\n",
-        output: "break ok\n\
-         init i idle = 0.0\n\
-         start i = ok\n\
-         run default\n\
-         timers\n\
-         pending\n\
-         idle\n\
-         call i 0.0\n\
-         break at 7\n\
-         prepare\n\
-         poll 0\n\
-         done\n\
-         async\n\
-         check\n\
-         closing\n\
-         timers\n\
-         pending\n\
-         idle\n\
-         call i 0.0\n\
-         break at 17\n\
-         prepare\n\
-         poll 0\n\
-         done\n\
-         async\n\
-         check\n\
-         closing\n\
-         timers\n\
-         pending\n\
-         idle\n\
-         call i 0.0\n\
-         break at 27\n\
-         break at 17\n\
-         break at 7\n\
-         refused range\n\
-         at 27\n",
-    },
-    Conversation {
-        what: "the recording of a session with a cancelled request",
-        input: "var w\n\
-         main queue w 1 abc\n\
-         main cancel w\n\
-         main cancel w\n\
-         main run default\n\
-         main cancel w\n\
-         begin\n\
-         loop 100\n\
-         record\n",
-        output: "queue w 1 abc = 0.0\n\
-         cancel w = ok\n\
-         cancel w = EBUSY\n\
-         run default\n\
-         timers\n\
-         pending\n\
-         idle\n\
-         prepare\n\
-         poll infinite\n\
-         done\n\
-         after w 0.0 ECANCELED\n\
-         async\n\
-         check\n\
-         closing\n\
-         timers\n\
-         end 0\n\
-         cancel w = ESTALE\n\
-         refused ended\n\
-         uvt 1\n\
-         workers 4\n\
-         slots 1024 4294967295\n\
-         var w\n\
-         main queue w 1 abc\n\
-         main cancel w\n\
-         main cancel w\n\
-         main run default\n\
-         main cancel w\n\
-         begin\n\
-         loop\n\
-         loop\n\
-         loop\n\
-         loop\n\
-         loop\n\
-         loop\n\
-         loop\n\
-         loop\n\
-         loop\n\
-         loop\n\
-         loop\n\
-         loop\n\
-         loop\n\
-         loop\n\
-         loop\n\
-         loop\n\
-         loop\n\
-         calls\n\
-         after w 0.0 ECANCELED\n\
-         end\n",
-    },
-    Conversation {
-        what: "a machine without one memory has no image",
-        input: "var t\n\
-         main init t timer\n\
-         begin\n\
-         loop\n\
-         image\n\
-         image t\n\
-         trace\n",
-        output: "init t timer = 0.0\n\
-         refused image\n\
-         bad command\n\
-         init t timer = 0.0\n",
-    },
-];
-
-/// The conversations: behind a function, since a proof writes out a constant where it meets it.
-pub fn conversations() -> &'static [Conversation] {
-    &CONVERSATIONS
-}
+/// The most reads, writes or flushes of a conversation here.
+const MOST: u32 = 1000;
 
 /// A reader that gives a line at a time, and fails at the read after so many.
 #[derive(Drop)]
@@ -204,12 +35,24 @@ impl Read for Lines<'_> {
     }
 }
 
-/// A writer that takes a few bytes at a time, notes each flush, and fails at the write after so many.
+/// A reader that gives empty lines without end.
+#[derive(Drop)]
+struct EmptyLines;
+
+impl Read for EmptyLines {
+    fn read(&mut self, room: &mut [u8]) -> io::Result<usize> {
+        room.fill(b'\n');
+        Ok(room.len())
+    }
+}
+
+/// A writer that takes a few bytes at a time, notes each flush, and fails at the write after so many or at the flush after so many.
 #[derive(Drop)]
 struct Page {
     text: Vec<u8>,
     flush: &'static [u8],
     writes_left: u32,
+    flushes_left: u32,
 }
 
 impl Write for Page {
@@ -224,67 +67,150 @@ impl Write for Page {
     }
 
     fn flush(&mut self) -> io::Result<()> {
+        if self.flushes_left == 0 {
+            return Err(io::ErrorKind::Other.into());
+        }
+        self.flushes_left -= 1;
         self.text.extend_from_slice(self.flush)?;
         Ok(())
     }
 }
 
-/// Converses with the plain loop: why that failed, if it did.
-pub fn fault_of<I: Read + Drop, O: Write + Drop>(
+/// A writer that takes all that it is given, and notes the most that it was given at once.
+#[derive(Drop)]
+struct Widest {
+    most: usize,
+}
+
+impl Write for Widest {
+    fn write(&mut self, bytes: &[u8]) -> io::Result<usize> {
+        self.most = self.most.max(bytes.len());
+        Ok(bytes.len())
+    }
+
+    fn flush(&mut self) -> io::Result<()> {
+        Ok(())
+    }
+}
+
+/// What a conversation asks of its devices.
+#[derive(Clone, Copy, PartialEq, Eq)]
+enum Call {
+    Read,
+    Write,
+    Flush,
+}
+
+/// A call that fails, after so many that don't.
+#[derive(Clone, Copy)]
+struct Failing {
+    call: Call,
+    after: u32,
+}
+
+impl Failing {
+    /// How many of these calls are answered.
+    fn left(self, call: Call) -> u32 {
+        if self.call == call { self.after } else { MOST }
+    }
+
+    /// What a conversation answers then.
+    fn fault(self) -> Fault {
+        if self.call == Call::Read {
+            Fault::Read
+        } else {
+            Fault::Write
+        }
+    }
+}
+
+fn read_lines(input: &[u8], failing: Failing) -> Lines<'_> {
+    Lines {
+        rest: input,
+        reads_left: failing.left(Call::Read),
+    }
+}
+
+fn blank_page(alloc: Global, flush: &'static [u8], failing: Failing) -> Page {
+    Page {
+        text: Vec::new(alloc),
+        flush,
+        writes_left: failing.left(Call::Write),
+        flushes_left: failing.left(Call::Flush),
+    }
+}
+
+/// What a conversation answers.
+pub fn answer_of<M: Machine, I: Read + Drop, O: Write + Drop>(
     alloc: Global,
     input: I,
     output: O,
-) -> Option<Fault> {
+) -> Result<Ended, Fault> {
     let mut reader = Reader::new(input);
     let mut writer = Writer::new(output);
-    converse::<PlainLoop, _, _>(alloc, &mut reader, &mut writer).err()
+    converse::<M, _, _>(alloc, &mut reader, &mut writer)
 }
 
-/// Whether a conversation failed in this way, or not at all and is whole.
-fn is_wanted(fault: Option<Fault>, wanted: Fault, is_whole: bool) -> bool {
-    match fault {
-        Some(fault) => fault == wanted,
-        None => is_whole,
-    }
-}
-
-/// Whether a conversation in which so many reads and so many writes are possible is the beginning of the whole one, and
-/// fails in no other way than this one.
-fn ends_early(
+/// What a conversation answers of which so many bytes may be read.
+fn answer_within<I: Read + Drop, O: Write + Drop>(
     alloc: Global,
-    one: &Conversation,
-    reads_left: u32,
-    writes_left: u32,
-    wanted: Fault,
-) -> bool {
-    let mut page = Page {
-        text: Vec::new(alloc),
-        flush: b"",
-        writes_left,
-    };
-    let lines = Lines {
-        rest: one.input.as_bytes(),
-        reads_left,
-    };
-    let fault = fault_of(alloc, lines, &mut page);
-    let is_whole = page.text.len() == one.output.len();
-    one.output.as_bytes().starts_with(&page.text) && is_wanted(fault, wanted, is_whole)
+    limit: u64,
+    input: I,
+    output: O,
+) -> Result<Ended, Fault> {
+    let mut reader = Reader::new(input);
+    let mut writer = Writer::new(output);
+    converse_within::<ArenaLoop, _, _>(alloc, limit, &mut reader, &mut writer)
 }
 
-/// Whether the conversations in which one of the first 40 reads or one of the first 80 writes fails are as they must be.
-pub fn fails_early(alloc: Global, one: &Conversation) -> bool {
-    for k in 0..40u32 {
-        if !ends_early(alloc, one, k, 1000, Fault::Read) {
-            return false;
-        }
-    }
-    for k in 0..80u32 {
-        if !ends_early(alloc, one, 1000, k, Fault::Write) {
-            return false;
-        }
-    }
-    true
+/// What became of a conversation with a device that fails.
+#[derive(Clone, Copy)]
+enum Became {
+    /// It failed as that device did, with a beginning of the output written.
+    Broken,
+    /// It went through, with all of the output written.
+    Whole,
+    Wrong,
 }
+
+fn converse_with(alloc: Global, input: &[u8], wanted: &[u8], failing: Failing) -> Became {
+    let mut page = blank_page(alloc, b"", failing);
+    let answer = answer_of::<ArenaLoop, _, _>(alloc, read_lines(input, failing), &mut page);
+    let is_whole = page.text.len() == wanted.len();
+    if !wanted.starts_with(&page.text) {
+        return Became::Wrong;
+    }
+    match answer {
+        Ok(_) if is_whole => Became::Whole,
+        Err(fault) if fault == failing.fault() => Became::Broken,
+        _ => Became::Wrong,
+    }
+}
+
+/// Whether the conversation ends early where this call fails the first time, the second, and so on up to the last time, and
+/// goes through where it fails past that.
+fn each_fails(alloc: Global, input: &[u8], wanted: &[u8], call: Call) -> bool {
+    for after in 0..MOST {
+        match converse_with(alloc, input, wanted, Failing { call, after }) {
+            Became::Broken => {}
+            Became::Whole => return after > 0,
+            Became::Wrong => return false,
+        }
+    }
+    false
+}
+
+/// Whether a conversation fails as it must where one of its reads, writes or flushes fails.
+pub fn fails_early(alloc: Global, input: &[u8], wanted: &[u8]) -> bool {
+    each_fails(alloc, input, wanted, Call::Read)
+        && each_fails(alloc, input, wanted, Call::Write)
+        && each_fails(alloc, input, wanted, Call::Flush)
+}
+
+const NEVER: Failing = Failing {
+    call: Call::Read,
+    after: MOST,
+};
 
 const LINES: &[u8] = b"var t\nmain init t timer\nbegin\nloop\nloop\ntick 3\nnone\ntrace\nback 2";
 
@@ -294,14 +220,32 @@ const ANSWERS: &[u8] = b"init t timer = 0.0\n|refused ended\n|out tick 3\n|bad c
 
 /// Whether each line is answered before the next one is read.
 pub fn answers_line_by_line(alloc: Global) -> bool {
-    let mut page = Page {
-        text: Vec::new(alloc),
-        flush: b"|",
-        writes_left: 100,
-    };
-    let lines = Lines {
-        rest: LINES,
-        reads_left: 100,
-    };
-    fault_of(alloc, lines, &mut page).is_none() && page.text.as_slice() == ANSWERS
+    let mut page = blank_page(alloc, b"|", NEVER);
+    let answer = answer_of::<ArenaLoop, _, _>(alloc, read_lines(LINES, NEVER), &mut page);
+    answer.is_ok() && page.text.as_slice() == ANSWERS
+}
+
+/// Whether of lines without end as many are read as may be, and nothing is written.
+pub fn stops_at_its_limit(alloc: Global) -> bool {
+    let mut page = blank_page(alloc, b"|", NEVER);
+    let answer = answer_within(alloc, 4096, EmptyLines, &mut page);
+    answer.err() == Some(Fault::Read) && page.text.is_empty()
+}
+
+/// A script of one timer, and 400 states of it: 320 bytes each.
+fn many_states(alloc: Global) -> Result<Vec<u8>, Fault> {
+    let mut input = Vec::new(alloc);
+    input.extend_from_slice(b"var t\nmain init t timer\nbegin\nloop\n")?;
+    for _ in 0..400 {
+        input.extend_from_slice(b"state\n")?;
+    }
+    Ok(input)
+}
+
+/// Whether no write is given more than 8 KiB and one more answer, though more was asked for in one read.
+pub fn writes_are_short(alloc: Global) -> Result<bool, Fault> {
+    let input = many_states(alloc)?;
+    let mut widest = Widest { most: 0 };
+    let answer = answer_of::<ArenaLoop, _, _>(alloc, input.as_slice(), &mut widest);
+    Ok(answer.is_ok() && widest.most > 8192 && widest.most < 9000)
 }

@@ -1,13 +1,48 @@
 -- How the end of a conversation or of a replay is a status.
-use Rattle.std.proofs.Common.{ℕ, List, Result, Ok, Err, ◌≡◌, refl, sym, ap, subst, ◌∙◌}
+use Rattle.std.proofs.Common.{ℕ, List, Option, Some, None, Result, Ok, Err, ◌≡◌, refl, sym, ap, subst, ◌∙◌}
 use Rattle.uv_ids.specs.declared.fault.Fault.{Fault}
 use Rattle.uv_ids.specs.declared.fault.Fault.TheVariants as fault
 use Rattle.uv_engine.specs.declared.verdict.Verdict.{Verdict}
 use Rattle.uv_engine.specs.declared.verdict.Verdict.TheVariants.{Same, Differs, Refused, Full}
-use Rattle.uv_engine.specs.Out.{Converses}
+use Rattle.uv_engine.specs.Out.{Converses, IsConversationFault}
 use Rattle.uv_engine.specs.Verdict as verdict
-use Rattle.uv_engine.specs.Verdict.{HasVerdict, answer_of, Tells, Replays}
-use Rattle.uv_cli.specs.Status.{Runs, bad_script, broken, Reruns, judged, bad_line, nothing, cut_short, status_by, status_of}
+use Rattle.uv_engine.specs.Verdict.{HasVerdict, answer_of, Tells, Replays, IsReplayFault}
+use Rattle.std.proofs.lemmas.Option.{none-some}
+use Rattle.uv_cli.specs.declared.command_line.Job.{Job}
+use Rattle.uv_cli.specs.declared.command_line.Job.TheVariants.{Debug, Replay, Live}
+use Rattle.uv_cli.specs.Status.{MayEnd, Runs, bad_script, broken, Reruns, judged, bad_line, nothing, cut_short, status_by, status_of}
+
+-- ---- the statuses
+
+pub conversed_status : (f : Fault) → IsConversationFault f → MayEnd (Some Debug) (status_of f)
+conversed_status (fault.Script line) h = refl
+conversed_status fault.Memory h = refl
+conversed_status fault.Read h = refl
+conversed_status fault.Write h = refl
+conversed_status _ h = absurd h
+
+pub replayed_status : (f : Fault) → IsReplayFault f → MayEnd (Some Replay) (status_of f)
+replayed_status (fault.Script line) h = refl
+replayed_status (fault.Refused why) h = refl
+replayed_status fault.StepsFull h = refl
+replayed_status (fault.Differs place) h = refl
+replayed_status fault.Memory h = refl
+replayed_status fault.Read h = refl
+replayed_status fault.Write h = refl
+replayed_status _ h = absurd h
+
+-- where there was no memory to read the words
+pub no_memory_status : (asked : Option Job) → MayEnd asked 4
+no_memory_status (Some Debug) = refl
+no_memory_status (Some Replay) = refl
+no_memory_status (Some (Live workers)) = refl
+no_memory_status None = refl
+
+-- words that ask for something are a command line
+pub asks_something : {A : Type 0} (asked : Option Job) (job : Job) → asked ≡ Some job → asked ≡ None → A
+asks_something {A} asked job e none = absurd (none-some job (sym none ∙ e))
+
+-- ---- a conversation
 
 pub by_fault : (input old new : List ℕ) (f : Fault) → Converses input (Err f) old new → Runs input old new (status_of f)
 by_fault input old new (fault.Script line) h = bad_script line h.0 h.1

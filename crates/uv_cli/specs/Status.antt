@@ -1,5 +1,6 @@
 -- Exit statuses, and what was written where a run ended with one.
-use Rattle.std.specs.Prelude.{◌≡◌, ℕ, List, [], ◌++◌, Option, Some, None}
+use Rattle.std.specs.Prelude.{◌≡◌, ℕ, ◌==◌, List, [], ◌∷◌, ◌++◌, true, Option, Some, None}
+use Rattle.std.specs.List.{list_any}
 use Rattle.uv_ids.specs.declared.fault.Fault.{Fault}
 use Rattle.uv_ids.specs.declared.fault.Fault.TheVariants as fault
 use Rattle.uv_engine.specs.declared.conversation.Ended.{Ended}
@@ -20,6 +21,17 @@ status_of (fault.Differs place) = 3
 status_of (fault.Refused why) = 3
 status_of fault.StepsFull = 3
 status_of _ = 4
+
+-- the statuses with which a run may end, by what its words ask for
+abbrev pub statuses : Option Job → List ℕ
+statuses (Some Debug) = 0 ∷ 2 ∷ 4 ∷ []
+statuses (Some Replay) = 0 ∷ 2 ∷ 3 ∷ 4 ∷ []
+statuses (Some (Live workers)) = 0 ∷ 2 ∷ 4 ∷ []
+statuses None = 2 ∷ 4 ∷ []
+
+-- it ends with one of these
+abbrev pub MayEnd : Option Job → ℕ → Type 0
+MayEnd asked status = list_any (λ s. s == status) (statuses asked) ≡ true
 
 -- a conversation. 0: all that the input asks for was written. 2: the script is bad, and nothing was written. 4: a beginning was written
 pub data Runs (input old new : List ℕ) : ℕ → Type 0 where

@@ -1,8 +1,9 @@
 //! The program over any reader and writers.
-ghost use Rattle.std.specs.Prelude.{◌≡◌, map, IfSome};
+ghost use Rattle.std.specs.Prelude.{◌≡◌, map, IfSome, Some, None};
 ghost use Rattle.uv_script.specs.Program.{IsWorkerCount};
+ghost use Rattle.uv_cli.specs.declared.command_line.Job.TheVariants.{Debug, Replay, Live};
 ghost use Rattle.uv_cli.specs.Live.{Lives};
-ghost use Rattle.uv_cli.specs.Status.{Runs, Reruns, Ran, status_of};
+ghost use Rattle.uv_cli.specs.Status.{Runs, Reruns, Ran, MayEnd, status_of};
 ghost use Rattle.uv_cli.specs.Words.{job_of};
 
 use crate::command_line::{Job, NoJob, read_words};
@@ -29,6 +30,12 @@ pub fn run<H: Threads + Wait + Sync, R: Source, W: Sink, E: Write>(
     ensures text { R.Tells → W.Tells → Ran (job_of (map (λ word. word.now) words.now))
         (R.remaining reader.old) (W.written writer.old) (W.written writer.new) result }
 
+    // On any device, also one that doesn't tell its bytes, it ends with one of these statuses.
+    ensures status { MayEnd (job_of (map (λ word. word.now) words.now)) result }
+
+    // Where the words are no command line, nothing is read and nothing is written.
+    ensures untouched { job_of (map (λ word. word.now) words.now) ≡ None → (reader.new ≡ reader.old) × (writer.new ≡ writer.old) }
+
     // A terminal doesn't tell its bytes. Yet with status 0 neither device has failed.
     ensures reader { result ≡ 0 → R.failures reader.new ≡ R.failures reader.old }
     ensures writer { result ≡ 0 → W.failures writer.new ≡ W.failures writer.old }
@@ -49,6 +56,7 @@ fn debug<R: Source, W: Sink, E: Write>(
     errors: &mut E,
 ) -> u8
     ensures text { R.Tells → W.Tells → Runs (R.remaining reader.old) (W.written writer.old) (W.written writer.new) result }
+    ensures status { MayEnd (Some Debug) result }
     ensures reader { result ≡ 0 → R.failures reader.new ≡ R.failures reader.old }
     ensures writer { result ≡ 0 → W.failures writer.new ≡ W.failures writer.old }
 {
@@ -65,6 +73,7 @@ fn rerun<R: Source, W: Sink, E: Write>(
     errors: &mut E,
 ) -> u8
     ensures text { R.Tells → W.Tells → Reruns (R.remaining reader.old) (W.written writer.old) (W.written writer.new) result }
+    ensures status { MayEnd (Some Replay) result }
     ensures reader { result ≡ 0 → R.failures reader.new ≡ R.failures reader.old }
     ensures writer { result ≡ 0 → W.failures writer.new ≡ W.failures writer.old }
 {
@@ -84,6 +93,7 @@ fn live<H: Threads + Wait + Sync, R: Source, W: Sink, E: Write>(
 ) -> u8
     requires within { IfSome workers IsWorkerCount }
     ensures text { R.Tells → W.Tells → Lives workers (R.remaining reader.old) (W.written writer.old) (W.written writer.new) result }
+    ensures status { MayEnd (Some (Live workers)) result }
     ensures reader { result ≡ 0 → R.failures reader.new ≡ R.failures reader.old }
     ensures writer { result ≡ 0 → W.failures writer.new ≡ W.failures writer.old }
 {

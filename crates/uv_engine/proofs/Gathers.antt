@@ -1,5 +1,5 @@
 -- Text that is gathered and written, a piece at a time.
-use Rattle.std.proofs.Common.{◌≡◌, ℕ, List, [], ◌++◌, Ok, Err, refl, ap, sym, ◌∙◌, append_assoc, append-nil, suc, ◌<◌, length, drop, get_or, drop-cons}
+use Rattle.std.proofs.Common.{◌≡◌, ℕ, List, [], ◌++◌, Result, Ok, Err, OnOk, refl, ap, sym, ◌∙◌, append_assoc, append-nil, suc, ◌<◌, length, drop, get_or, drop-cons, arith}
 use Rattle.std.specs.List.{flat_map}
 use Rattle.std.proofs.lemmas.List.{append_cancel_left}
 use Rattle.uv_ids.specs.declared.fault.Fault.{Fault}
@@ -82,3 +82,8 @@ short_of_cut {w} {t} {v} h = record {
       (sym (append_assoc w h.grown.part h.rest) ∙ ap (λ (xs : List ℕ). xs ++ h.rest) (sym h.grown.is) ∙ h.whole ∙ append-nil (w ++ t));
   written = h.grown.is;
 }
+
+-- what was gathered is written
+pub few_left : {A : Type 0} (r : Result A Fault) (gathered : List ℕ) → OnOk r (gathered ≡ []) → OnOk r (length gathered < 8192)
+few_left (Ok done) gathered e = rw e (omega arith)
+few_left (Err f) gathered e = tt

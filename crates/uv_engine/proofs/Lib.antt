@@ -5,6 +5,7 @@ pub mod Images
 pub mod Loops
 pub mod Talking
 pub mod Starting
+pub mod Faults
 pub mod Fronts
 mod OneAnswer
 pub mod Reruns
@@ -12,3 +13,4 @@ pub mod Recordings
 pub mod Replays
 pub mod Remade
 pub mod OneRecording
+pub mod OneVerdict

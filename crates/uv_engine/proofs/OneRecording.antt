@@ -58,7 +58,7 @@ one_step names line e f distinct (outside _ l h) (outside _ m k) =
 
 -- ---- a line goes on to one part at most
 
-abbrev IsDistinct : Part → Type 0
+abbrev pub IsDistinct : Part → Type 0
 IsDistinct Start = Unit {0}
 IsDistinct (InScript d) = AreDistinct d.program.names
 IsDistinct (InSteps p es) = AreDistinct p.names
@@ -99,7 +99,7 @@ at_end : (p : Program) (es : List Event) (called : List (List ℕ)) (line : List
 at_end p es called line _ is_end (callback h) = absurd (end_no_callback (subst IsCallbackLine is_end h))
 at_end p es called _ _ is_end ends = refl
 
-one_part : (x y z : Part) (line : List ℕ) → IsDistinct x → Reads x line y → Reads x line z → z ≡ y
+pub one_part : (x y z : Part) (line : List ℕ) → IsDistinct x → Reads x line y → Reads x line z → z ≡ y
 one_part _ _ z line distinct version k = from_start (codes "uvt 1") z k
 one_part _ _ z line distinct (in_script {d = d} {e = e} says h) k = from_script d e line z distinct h k
 one_part _ _ z line distinct (begins {d = d}) k = at_begin d (codes "begin") z distinct refl k
@@ -108,7 +108,7 @@ one_part _ _ z line distinct (calls {p = p} {es = es}) k = at_calls p es (codes 
 one_part _ _ z line distinct (callback {p = p} {es = es} {called = called} h) k = from_calls p es called line z h k
 one_part _ _ z line distinct (ends {p = p} {es = es} {called = called}) k = at_end p es called (codes "end") z refl k
 
-distinct_part : (x y : Part) (line : List ℕ) → IsDistinct x → Reads x line y → IsDistinct y
+pub distinct_part : (x y : Part) (line : List ℕ) → IsDistinct x → Reads x line y → IsDistinct y
 distinct_part _ _ line distinct version = distinct_none
 distinct_part _ _ line distinct (in_script {d = d} {e = e} says h) = distinct_reads d e line distinct h
 distinct_part _ _ line distinct begins = distinct
@@ -117,7 +117,7 @@ distinct_part _ _ line distinct calls = tt
 distinct_part _ _ line distinct (callback h) = tt
 distinct_part _ _ line distinct ends = tt
 
-all_one : (x y z : Part) (ls : List (List ℕ)) → IsDistinct x → ReadsAll x ls y → ReadsAll x ls z → y ≡ z
+pub all_one : (x y z : Part) (ls : List (List ℕ)) → IsDistinct x → ReadsAll x ls y → ReadsAll x ls z → y ≡ z
 all_one x _ _ [] distinct none none = refl
 all_one x y z (l ∷ ls) distinct (one {y = a} h hs) (one {y = b} k ks) =
     let same_part = one_part x b a l distinct k h in
@@ -125,7 +125,7 @@ all_one x y z (l ∷ ls) distinct (one {y = a} h hs) (one {y = b} k ks) =
 
 -- ---- the verdict
 
-never_halts : (q : Program) (es : List Event) (v : Verdict) → AllTaken q es → IsHalt q es v → ⊥
+pub never_halts : (q : Program) (es : List Event) (v : Verdict) → AllTaken q es → IsHalt q es v → ⊥
 never_halts q es _ taken (refused before rest e why cut accepted less is_refused) =
     let long = ap length cut in
     let within : length before < length es = omega (arith, long, length-append before (e ∷ rest)) in
@@ -139,7 +139,7 @@ never_halts q es _ taken (full before rest e cut accepted all) =
     let long = ap length cut in
     absurd (omega (arith, long, length-append before (e ∷ rest), all, taken.1))
 
-never_apart : (xs : List (List ℕ)) → AreApart xs xs → ⊥
+pub never_apart : (xs : List (List ℕ)) → AreApart xs xs → ⊥
 never_apart [] h = h
 never_apart (x ∷ xs) h = h refl
 
@@ -152,7 +152,7 @@ only_same q es called _ taken is_called (differs place t part) =
     absurd (never_apart part.right (subst (λ (xs : List (List ℕ)). AreApart xs part.right) both part.apart))
 
 -- the verdict on what was read
-abbrev Judged : Verdict → Part → Type 0
+abbrev pub Judged : Verdict → Part → Type 0
 Judged v (Whole p es called) = IsVerdict p es called v
 Judged v x = Unit {0}
 

@@ -1,7 +1,7 @@
 -- How devices count their failures.
-use Rattle.std.specs.Prelude.{◌≡◌, ℕ, ◌+◌, ◌<◌, ◌-◌, ◌^◌, ◌⊎◌, List, [], length, Option, Some, None, IsSome, Result, Ok, Err}
+use Rattle.std.specs.Prelude.{◌≡◌, ℕ, ◌+◌, ◌<◌, ◌≤◌, ◌-◌, ◌^◌, ◌⊎◌, List, [], length, Option, Some, None, IsSome, Result, Ok, Err}
 use Rattle.uv_ids.specs.declared.fault.Fault.{Fault}
-use Rattle.uv_ids.specs.declared.fault.Fault.TheVariants.{Read, Write}
+use Rattle.uv_ids.specs.declared.fault.Fault.TheVariants.{Memory, Read, Write}
 use Rattle.uv_engine.specs.declared.sink.WriteFailed.{WriteFailed}
 
 -- one failure more; nothing is said at the greatest count
@@ -24,6 +24,22 @@ abbrev pub ReaderCounts : {A : Type 0} → Result A Fault → Type 0 → ℕ →
 ReaderCounts (Err Read) TooLong old new = Counted old new ⊎ ((new ≡ old) × TooLong)
 ReaderCounts (Err _) TooLong old new = new ≡ old
 ReaderCounts (Ok _) TooLong old new = new ≡ old
+
+-- where a fault is one of the input, and not want of memory or the failure of a device
+abbrev pub IfOfInput : Fault → Type 0 → Type 0
+IfOfInput Memory Holds = Unit {0}
+IfOfInput Read Holds = Unit {0}
+IfOfInput Write Holds = Unit {0}
+IfOfInput _ Holds = Holds
+
+-- where a call answers its input: well, or by such a fault
+abbrev pub OnAnswer : {A : Type 0} → Result A Fault → Type 0 → Type 0
+OnAnswer (Ok found) Holds = Holds
+OnAnswer (Err f) Holds = IfOfInput f Holds
+
+-- so many bytes of what remained were taken, at the most
+abbrev pub TakesWithin : ℕ → List ℕ → List ℕ → Type 0
+TakesWithin limit remaining remaining' = length remaining ≤ limit + length remaining'
 
 -- the bytes of each reader or writer of this type are known, as those of one over memory are
 abbrev pub AreKnown : {A : Type 0} → (A → Option (List ℕ)) → Type 0

@@ -159,6 +159,14 @@ IsDeviceFault fault.Read = Unit {0}
 IsDeviceFault fault.Write = Unit {0}
 IsDeviceFault _ = ⊥
 
+-- the script is bad, or one of these
+abbrev pub IsConversationFault : Fault → Type 0
+IsConversationFault (fault.Script line) = Unit {0}
+IsConversationFault fault.Memory = Unit {0}
+IsConversationFault fault.Read = Unit {0}
+IsConversationFault fault.Write = Unit {0}
+IsConversationFault _ = ⊥
+
 -- what a conversation may answer, and what it has written then
 abbrev pub Converses : List ℕ → Result Ended Fault → List ℕ → List ℕ → Type 0
 Converses input (Ok end) old new = IsWhole input (Ends end) old new

@@ -25,7 +25,7 @@ abbrev pub TakesNext : List ℕ → Option Line → List ℕ → Type 0
 TakesNext old (Some line) new = TakesLine old line.text.items line.fed new
 TakesNext old None new = old ≡ []
 
--- the reader failed, or gave more than 2^30 bytes in all (both answer `Read`), or there was no memory
+-- the reader failed, or gave more bytes than may be read (both answer `Read`), or there was no memory
 abbrev pub IsReadFault : Fault → Type 0
 IsReadFault fault.Read = Unit {0}
 IsReadFault fault.Memory = Unit {0}

@@ -56,6 +56,12 @@ pub record HasVerdict (text : List ℕ) (v : Verdict) : Type 0 where
   pub recording : IsRecording text program steps called
   pub verdict : IsVerdict program steps called v
 
+-- a text has one verdict at most, one first bad line at most, and not both
+pub record HasOneVerdict (text : List ℕ) : Type 0 where
+  pub verdict : (v w : Verdict) → HasVerdict text v → HasVerdict text w → v ≡ w
+  pub line : (m n : ℕ) → IsBadLine text m → IsBadLine text n → m ≡ n
+  pub apart : (v : Verdict) (n : ℕ) → HasVerdict text v → IsBadLine text n → ⊥
+
 -- ---- what is told of it
 
 abbrev pub refused_at : ℕ → List ℕ → List ℕ
@@ -86,3 +92,14 @@ pub data Replays (input : List ℕ) (r : Result (Unit {0}) Fault) (old new : Lis
   bad_line : (line : ℕ) → r ≡ Err (fault.Script line) → IsBadLine input line → new ≡ old → Replays input r old new
   no_memory : r ≡ Err fault.Memory → new ≡ old → Replays input r old new
   no_read : r ≡ Err fault.Read → new ≡ old → Replays input r old new
+
+-- what a replay may answer but for `same`: a bad line, a verdict, a growth that was refused, or a reader or a writer that failed
+abbrev pub IsReplayFault : Fault → Type 0
+IsReplayFault (fault.Script line) = Unit {0}
+IsReplayFault (fault.Refused why) = Unit {0}
+IsReplayFault fault.StepsFull = Unit {0}
+IsReplayFault (fault.Differs place) = Unit {0}
+IsReplayFault fault.Memory = Unit {0}
+IsReplayFault fault.Read = Unit {0}
+IsReplayFault fault.Write = Unit {0}
+IsReplayFault _ = ⊥

@@ -1,12 +1,12 @@
 //! A script that no commands follow.
 ghost use Rattle.std.specs.Prelude.{◌^◌, ◌<◌, length, IfErr};
 ghost use Rattle.uv_engine.specs.Alone.{ReadsAlone};
-ghost use Rattle.uv_engine.specs.Devices.{ReaderCounts};
+ghost use Rattle.uv_engine.specs.Devices.{ReaderCounts, OnAnswer, TakesWithin};
 ghost use Rattle.uv_engine.specs.Start.{IsStartFault};
 
 use crate::input::Input;
 use crate::script::read_front;
-use crate::source::Source;
+use crate::source::{LIMIT, Source};
 use std::alloc::Global;
 use uv_ids::Fault;
 use uv_script::Script;
@@ -18,10 +18,11 @@ use uv_script::Script;
 /// longer than 2^30 bytes.
 pub fn read_alone<R: Source>(alloc: Global, reader: &mut R) -> Result<Script, Fault>
     ensures script { R.Tells → ReadsAlone (R.remaining reader.old) result }
+    ensures within { OnAnswer result (R.Tells → TakesWithin (2 ^ 30) (R.remaining reader.old) (R.remaining reader.new)) }
     ensures err { IfErr result IsStartFault }
     ensures reader { ReaderCounts result (R.Tells → 2 ^ 30 < length (R.remaining reader.old)) (R.failures reader.old) (R.failures reader.new) }
 {
-    let mut input = Input::new(alloc);
+    let mut input = Input::new(alloc, LIMIT);
     let front = read_front(alloc, &mut input, reader)?;
     Script::parse(alloc, front.text.as_slice())
 }

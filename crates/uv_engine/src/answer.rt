@@ -1,5 +1,5 @@
 //! The answers to commands.
-ghost use Rattle.std.specs.Prelude.{◌≡◌, [], OnOk, IfErr};
+ghost use Rattle.std.specs.Prelude.{◌≡◌, ◌<◌, [], OnOk, IfErr, length};
 ghost use Rattle.std.specs.List.{flat_map};
 ghost use Rattle.uv_ids.specs.declared.fault.Fault.TheVariants.{Write};
 ghost use Rattle.uv_text.specs.Trace.{seen_text};
@@ -19,9 +19,10 @@ use uv_text::{Asked, Command, push_recording, push_seen, push_state};
 /// How much text is gathered before it is written, in bytes.
 const FULL: usize = 8192;
 
-/// Writes the gathered text if there is much of it.
-fn spill<W: Sink>(writer: &mut W, text: &mut Vec<u8>) -> Result<(), Fault>
+/// Writes the gathered text if there is much of it: then less than 8 KiB are left.
+pub(crate) fn spill<W: Sink>(writer: &mut W, text: &mut Vec<u8>) -> Result<(), Fault>
     ensures text { W.Tells → Gathers result (W.written writer.old) text.old.items [] (W.written writer.new) text.new.items }
+    ensures few { OnOk result (length text.new.items < 8192) }
     ensures err { IfErr result (λ fault. fault ≡ Write) }
     ensures writer { WriterCounts result (W.failures writer.old) (W.failures writer.new) }
 {

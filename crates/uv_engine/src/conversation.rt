@@ -3,16 +3,17 @@ ghost use Rattle.std.specs.Prelude.{◌≡◌, ℕ, List, ◌++◌, ◌<◌, ◌
 ghost use Rattle.std.specs.List.{list_any};
 ghost use Rattle.uv_ids.specs.declared.fault.Fault.TheVariants.{Write};
 ghost use Rattle.uv_script.specs.Lines.{lines_of};
-ghost use Rattle.uv_engine.specs.Devices.{ReaderCounts, WriterCounts};
+ghost use Rattle.uv_engine.specs.Devices.{ReaderCounts, WriterCounts, OnAnswer, TakesWithin};
 ghost use Rattle.uv_engine.specs.Input.{left, EndIsSeen};
 ghost use Rattle.uv_engine.specs.Gather.{Gathers};
-ghost use Rattle.uv_engine.specs.Out.{Converses, HasAnswer, HasOneAnswer, IsDeviceFault};
+ghost use Rattle.uv_engine.specs.Out.{Converses, HasAnswer, HasOneAnswer, IsDeviceFault, IsConversationFault};
 ghost use Rattle.uv_engine.specs.Talk.{TalksOn, Finishes};
 
+use crate::answer::spill;
 use crate::input::Input;
 use crate::script::read_script;
 use crate::sink::{Sink, write_out};
-use crate::source::Source;
+use crate::source::{LIMIT, Source};
 use std::alloc::Global;
 use uv_ids::Fault;
 use uv_model::{Machine, STEPS};
@@ -59,7 +60,7 @@ fn is_quit(asked: Asked) -> bool
 
 impl<M: Machine> Conversation<M> {
     /// Answers the lines of an input, one after another, up to `quit` or the end of the input. The answers to the lines that
-    /// were read are written before more is read.
+    /// were read are written before more is read, and before there is much of them.
     fn talk<R: Source, W: Sink>(
         &mut self,
         input: &mut Input,
@@ -72,6 +73,7 @@ impl<M: Machine> Conversation<M> {
             (W.written writer.old) (W.written writer.new) }
         ensures err { IfErr result IsDeviceFault }
         ensures limit { result ≡ Ok Ended.Input → R.Tells → length (R.remaining reader.old) ≤ input.old.budget }
+        ensures within { OnOk result (R.Tells → TakesWithin input.old.budget (R.remaining reader.old) (R.remaining reader.new)) }
         ensures reader { ReaderCounts result (R.Tells → input.old.budget < length (R.remaining reader.old))
             (R.failures reader.old) (R.failures reader.new) }
         ensures writer { WriterCounts result (W.failures writer.old) (W.failures writer.new) }
@@ -88,6 +90,7 @@ impl<M: Machine> Conversation<M> {
                 return self.finish(writer, Ended::Quit);
             }
             self.answer(writer, asked)?;
+            spill(writer, &mut self.text)?;
         }
     }
 
@@ -112,24 +115,27 @@ pub fn one_answer()
 {}
 
 /// Reads a script up to the line `begin`, and then answers the commands that follow it, a line at a time. The answers to the
-/// lines that were read are written before more is read.
+/// lines that were read are written before more is read. So many bytes are read, and no more.
 ///
 /// `Script` names the first line outside the grammar of scripts, and nothing is written then. `Read` comes where the reader
-/// fails, and else only where the input is longer than 2^30 bytes: such an input is never read to its end. `Write` comes
+/// fails, and else only where the input is longer than the limit: such an input is never read to its end. `Write` comes
 /// where the writer fails or takes no byte, and only there. What follows `quit` may have been read.
-pub fn converse<M: Machine, R: Source, W: Sink>(
+pub fn converse_within<M: Machine, R: Source, W: Sink>(
     alloc: Global,
+    limit: u64,
     reader: &mut R,
     writer: &mut W,
 ) -> Result<Ended, Fault>
     ensures text { R.Tells → W.Tells → Converses (R.remaining reader.old) result (W.written writer.old) (W.written writer.new) }
-    ensures limit { result ≡ Ok Ended.Input → R.Tells → length (R.remaining reader.old) ≤ 2 ^ 30 }
-    ensures reader { ReaderCounts result (R.Tells → 2 ^ 30 < length (R.remaining reader.old)) (R.failures reader.old) (R.failures reader.new) }
+    ensures limit { result ≡ Ok Ended.Input → R.Tells → length (R.remaining reader.old) ≤ limit }
+    ensures within { OnAnswer result (R.Tells → TakesWithin limit (R.remaining reader.old) (R.remaining reader.new)) }
+    ensures err { IfErr result IsConversationFault }
+    ensures reader { ReaderCounts result (R.Tells → limit < length (R.remaining reader.old)) (R.failures reader.old) (R.failures reader.new) }
     ensures writer { WriterCounts result (W.failures writer.old) (W.failures writer.new) }
 {
     one_reading();
     every_line_asks();
-    let mut input = Input::new(alloc);
+    let mut input = Input::new(alloc, limit);
     let script = read_script(alloc, &mut input, reader)?;
     let machine = M::begin(alloc, script)?;
     let mut conversation = Conversation {
@@ -137,4 +143,20 @@ pub fn converse<M: Machine, R: Source, W: Sink>(
         text: Vec::new(alloc),
     };
     conversation.talk(&mut input, reader, writer)
+}
+
+/// Converses as `converse_within` does, over 2^30 bytes at the most.
+pub fn converse<M: Machine, R: Source, W: Sink>(
+    alloc: Global,
+    reader: &mut R,
+    writer: &mut W,
+) -> Result<Ended, Fault>
+    ensures text { R.Tells → W.Tells → Converses (R.remaining reader.old) result (W.written writer.old) (W.written writer.new) }
+    ensures limit { result ≡ Ok Ended.Input → R.Tells → length (R.remaining reader.old) ≤ 2 ^ 30 }
+    ensures within { OnAnswer result (R.Tells → TakesWithin (2 ^ 30) (R.remaining reader.old) (R.remaining reader.new)) }
+    ensures err { IfErr result IsConversationFault }
+    ensures reader { ReaderCounts result (R.Tells → 2 ^ 30 < length (R.remaining reader.old)) (R.failures reader.old) (R.failures reader.new) }
+    ensures writer { WriterCounts result (W.failures writer.old) (W.failures writer.new) }
+{
+    converse_within::<M, R, W>(alloc, LIMIT, reader, writer)
 }

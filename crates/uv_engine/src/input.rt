@@ -1,5 +1,5 @@
 //! The lines of a reader.
-ghost use Rattle.std.specs.Prelude.{◌≡◌, ◌<◌, ◌+◌, ◌^◌, ◌==◌, ◌++◌, [], IfOk, IfErr, OnOk, OnSome, length, true, false};
+ghost use Rattle.std.specs.Prelude.{◌≡◌, ◌<◌, ◌+◌, ◌==◌, ◌++◌, [], IfOk, IfErr, OnOk, OnSome, length, true, false};
 ghost use Rattle.std.specs.List.{list_any};
 ghost use Rattle.uv_engine.specs.Devices.{ReaderCounts};
 ghost use Rattle.uv_engine.specs.Input.{Buffered, pending, left, EndIsSeen, size, turns_left};
@@ -11,9 +11,6 @@ use std::collections::VecDeque;
 use std::marker::Model;
 use std::mem;
 use uv_ids::Fault;
-
-/// The longest input in bytes (own).
-const LIMIT: usize = 1_073_741_824;
 
 /// What was read of an input and not yet taken.
 #[derive(Drop)]
@@ -55,18 +52,18 @@ fn push_all(ahead: &mut VecDeque<u8>, bytes: &[u8]) -> Result<(), AllocError>
 }
 
 impl Input {
-    /// Nothing was read yet.
-    pub fn new(alloc: Global) -> Input
+    /// Nothing was read yet. So many bytes may be read, and no more.
+    pub fn new(alloc: Global, limit: u64) -> Input
         ensures empty { pending result ≡ [] }
         ensures open { result.ended ≡ false }
-        ensures budget { result.budget ≡ 2 ^ 30 }
+        ensures budget { result.budget ≡ limit }
     {
         Input {
             alloc,
             part: Vec::new(alloc),
             ahead: VecDeque::new(alloc),
             ended: false,
-            budget: LIMIT,
+            budget: limit as usize,
         }
     }
 
@@ -98,7 +95,7 @@ impl Input {
         Ok(None)
     }
 
-    /// Reads some bytes more. `Read` where the reader fails, or gives more than 2^30 bytes in all.
+    /// Reads some bytes more. `Read` where the reader fails, or gives more bytes than may be read.
     fn read_ahead<R: Source>(&mut self, reader: &mut R) -> Result<(), Fault>
         requires { self.old.ended ≡ false }
         ensures bytes { OnOk result (R.Tells → left self.old (R.remaining reader.old) ≡ left self.new (R.remaining reader.new)) }

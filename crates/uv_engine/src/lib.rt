@@ -16,9 +16,9 @@ mod source;
 mod verdict;
 
 pub use alone::read_alone;
-pub use conversation::{Ended, converse, one_answer};
+pub use conversation::{Ended, converse, converse_within, one_answer};
 pub use devices::{Reader, Writer};
-pub use replaying::{recordings_rerun_same, replay};
+pub use replaying::{one_verdict, recordings_rerun_same, replay, replay_within};
 pub use sink::{Sink, WriteFailed, write_text};
-pub use source::{ReadFailed, Source};
+pub use source::{LIMIT, ReadFailed, Source};
 pub use verdict::Verdict;

@@ -4,7 +4,7 @@ ghost use Rattle.uv_ids.specs.declared.event.Event.{Event};
 ghost use Rattle.uv_script.specs.Grammar.{unread};
 ghost use Rattle.uv_script.specs.Lines.{lines_of};
 ghost use Rattle.uv_script.specs.Program.{Program};
-ghost use Rattle.uv_engine.specs.Devices.{ReaderCounts};
+ghost use Rattle.uv_engine.specs.Devices.{ReaderCounts, OnAnswer};
 ghost use Rattle.uv_engine.specs.Input.{left, EndIsSeen, size};
 ghost use Rattle.uv_engine.specs.Recordings.{Start, InScript, InSteps, Whole};
 ghost use Rattle.uv_engine.specs.Rerun.{CanCount, ReadsPart, IsReadingFault};
@@ -73,7 +73,7 @@ impl Numbered {
             result self.new.taken (left self.new.input (R.remaining reader.new)) }
         ensures few { OnOk result (self.new.taken + size self.new.input ≤ self.old.taken + size self.old.input) }
         ensures end { OnOk result (R.Tells → EndIsSeen self.new.input (R.remaining reader.new)) }
-        ensures budget { OnOk result (R.Tells → SpendsBudget self.old.input (R.remaining reader.old) self.new.input (R.remaining reader.new)) }
+        ensures budget { OnAnswer result (R.Tells → SpendsBudget self.old.input (R.remaining reader.old) self.new.input (R.remaining reader.new)) }
         ensures err { IfErr result IsReadingFault }
         ensures reader { ReaderCounts result (R.Tells → self.old.input.budget < length (R.remaining reader.old))
             (R.failures reader.old) (R.failures reader.new) }
@@ -100,7 +100,7 @@ impl Numbered {
             (left self.old.input (R.remaining reader.old)) result self.new.taken (left self.new.input (R.remaining reader.new)) }
         ensures few { OnOk result (CanCount self.new.taken self.new.input) }
         ensures end { OnOk result (R.Tells → EndIsSeen self.new.input (R.remaining reader.new)) }
-        ensures budget { OnOk result (R.Tells → SpendsBudget self.old.input (R.remaining reader.old) self.new.input (R.remaining reader.new)) }
+        ensures budget { OnAnswer result (R.Tells → SpendsBudget self.old.input (R.remaining reader.old) self.new.input (R.remaining reader.new)) }
         ensures err { IfErr result IsReadingFault }
         ensures reader { ReaderCounts result (R.Tells → self.old.input.budget < length (R.remaining reader.old))
             (R.failures reader.old) (R.failures reader.new) }
@@ -132,6 +132,7 @@ impl Numbered {
         ensures read { R.Tells → (p : Program) → (es : List Event) → (called : List (List ℕ)) → ReadsPart (λ _. Whole p es called)
             (Whole p es called) self.old.taken (left self.old.input (R.remaining reader.old))
             result self.new.taken [] }
+        ensures budget { OnAnswer result (R.Tells → SpendsBudget self.old.input (R.remaining reader.old) self.new.input (R.remaining reader.new)) }
         ensures err { IfErr result IsReadingFault }
         ensures reader { ReaderCounts result (R.Tells → self.old.input.budget < length (R.remaining reader.old))
             (R.failures reader.old) (R.failures reader.new) }

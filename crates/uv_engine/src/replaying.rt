@@ -6,17 +6,17 @@ ghost use Rattle.uv_script.specs.Program.{Program};
 ghost use Rattle.uv_text.specs.Recording.{recording_text};
 ghost use Rattle.uv_engine.specs.declared.verdict.Verdict.{Verdict};
 ghost use Rattle.uv_engine.specs.declared.verdict.Verdict.TheVariants.{Same};
-ghost use Rattle.uv_engine.specs.Devices.{ReaderCounts, WriterCounts};
+ghost use Rattle.uv_engine.specs.Devices.{ReaderCounts, WriterCounts, OnAnswer, TakesWithin};
 ghost use Rattle.uv_engine.specs.Input.{left, EndIsSeen, size};
 ghost use Rattle.uv_engine.specs.Rerun.{CanCount, ReadsSteps, ReadsCalls, Judges, IsReadingFault};
 ghost use Rattle.uv_engine.specs.Taking.{SpendsBudget};
-ghost use Rattle.uv_engine.specs.Verdict.{AllTaken, HasVerdict, Replays};
+ghost use Rattle.uv_engine.specs.Verdict.{AllTaken, HasVerdict, HasOneVerdict, Replays, IsReplayFault};
 
 use crate::input::Input;
 use crate::numbered::Numbered;
 use crate::rerun::Rerun;
 use crate::sink::Sink;
-use crate::source::Source;
+use crate::source::{LIMIT, Source};
 use crate::verdict::Verdict;
 use std::alloc::Global;
 use uv_ids::Fault;
@@ -41,7 +41,7 @@ fn read_steps<M: Machine, R: Source>(
     ensures parted { rerun.new.parted ≡ rerun.old.parted }
     ensures few { OnOk result (CanCount input.new.taken input.new.input) }
     ensures end { OnOk result (R.Tells → EndIsSeen input.new.input (R.remaining reader.new)) }
-    ensures budget { OnOk result (R.Tells → SpendsBudget input.old.input (R.remaining reader.old) input.new.input (R.remaining reader.new)) }
+    ensures budget { OnAnswer result (R.Tells → SpendsBudget input.old.input (R.remaining reader.old) input.new.input (R.remaining reader.new)) }
     ensures err { IfErr result IsReadingFault }
     ensures reader { ReaderCounts result (R.Tells → input.old.input.budget < length (R.remaining reader.old))
         (R.failures reader.old) (R.failures reader.new) }
@@ -89,7 +89,7 @@ fn read_calls<M: Machine, R: Source>(
     ensures count { OnOk result (rerun.new.count < 2 ^ 64 - 1) }
     ensures few { OnOk result (CanCount input.new.taken input.new.input) }
     ensures end { OnOk result (R.Tells → EndIsSeen input.new.input (R.remaining reader.new)) }
-    ensures budget { OnOk result (R.Tells → SpendsBudget input.old.input (R.remaining reader.old) input.new.input (R.remaining reader.new)) }
+    ensures budget { OnAnswer result (R.Tells → SpendsBudget input.old.input (R.remaining reader.old) input.new.input (R.remaining reader.new)) }
     ensures err { IfErr result IsReadingFault }
     ensures reader { ReaderCounts result (R.Tells → input.old.input.budget < length (R.remaining reader.old))
         (R.failures reader.old) (R.failures reader.new) }
@@ -116,13 +116,15 @@ fn is_end(line: &[u8]) -> bool
 }
 
 /// Reads a recording to its end, and runs its steps while they come.
-fn judge<M: Machine, R: Source>(alloc: Global, reader: &mut R) -> Result<Verdict, Fault>
+fn judge<M: Machine, R: Source>(alloc: Global, limit: u64, reader: &mut R) -> Result<Verdict, Fault>
+    requires few { limit ≤ 2 ^ 30 }
     ensures verdict { R.Tells → Judges (R.remaining reader.old) result }
+    ensures within { OnAnswer result (R.Tells → TakesWithin limit (R.remaining reader.old) (R.remaining reader.new)) }
     ensures err { IfErr result IsReadingFault }
-    ensures reader { ReaderCounts result (R.Tells → 2 ^ 30 < length (R.remaining reader.old)) (R.failures reader.old) (R.failures reader.new) }
+    ensures reader { ReaderCounts result (R.Tells → limit < length (R.remaining reader.old)) (R.failures reader.old) (R.failures reader.new) }
 {
     let mut input = Numbered {
-        input: Input::new(alloc),
+        input: Input::new(alloc, limit),
         taken: 0,
     };
     input.read_version(reader)?;
@@ -140,6 +142,11 @@ fn judge<M: Machine, R: Source>(alloc: Global, reader: &mut R) -> Result<Verdict
     Ok(rerun.verdict())
 }
 
+/// A text has one verdict, or one first bad line, and not both. It does nothing, and is called for its clause.
+pub fn one_verdict()
+    ensures one { (text : List ℕ) → HasOneVerdict text }
+{}
+
 /// The text of a recording, of any script and any steps that it takes, is a recording, and the verdict on it is `same` and no other.
 /// It does nothing, and is called for its clauses.
 pub fn recordings_rerun_same()
@@ -148,21 +155,41 @@ pub fn recordings_rerun_same()
         (v : Verdict) → HasVerdict (recording_text p es) v → v ≡ Same }
 {}
 
-/// Runs a recording's steps again, and writes the verdict: whether their callbacks are those that are recorded.
+/// Runs a recording's steps again, and writes the verdict: whether their callbacks are those that are recorded. So many bytes are read,
+/// and no more.
 ///
 /// `Script` names the recording's first line outside its grammar, from 1, and nothing is written then. Where a step is not
 /// taken, that is the verdict, and `Refused` or `StepsFull` the answer; where the callbacks are others, `Differs` with the first
-/// place. `Read` comes where the reader fails, and else only where the recording is longer than 2^30 bytes. `Write` comes where
+/// place. `Read` comes where the reader fails, and else only where the recording is longer than the limit. `Write` comes where
 /// the writer fails or takes no byte, and only there.
+pub fn replay_within<M: Machine, R: Source, W: Sink>(
+    alloc: Global,
+    limit: u64,
+    reader: &mut R,
+    writer: &mut W,
+) -> Result<(), Fault>
+    requires few { limit ≤ 2 ^ 30 }
+    ensures text { R.Tells → W.Tells → Replays (R.remaining reader.old) result (W.written writer.old) (W.written writer.new) }
+    ensures within { OnAnswer result (R.Tells → TakesWithin limit (R.remaining reader.old) (R.remaining reader.new)) }
+    ensures err { IfErr result IsReplayFault }
+    ensures reader { ReaderCounts result (R.Tells → limit < length (R.remaining reader.old)) (R.failures reader.old) (R.failures reader.new) }
+    ensures writer { WriterCounts result (W.failures writer.old) (W.failures writer.new) }
+{
+    let verdict = judge::<M, R>(alloc, limit, reader)?;
+    verdict.tell(alloc, writer)
+}
+
+/// Runs a recording's steps again, as `replay_within` does, of 2^30 bytes at the most.
 pub fn replay<M: Machine, R: Source, W: Sink>(
     alloc: Global,
     reader: &mut R,
     writer: &mut W,
 ) -> Result<(), Fault>
     ensures text { R.Tells → W.Tells → Replays (R.remaining reader.old) result (W.written writer.old) (W.written writer.new) }
+    ensures within { OnAnswer result (R.Tells → TakesWithin (2 ^ 30) (R.remaining reader.old) (R.remaining reader.new)) }
+    ensures err { IfErr result IsReplayFault }
     ensures reader { ReaderCounts result (R.Tells → 2 ^ 30 < length (R.remaining reader.old)) (R.failures reader.old) (R.failures reader.new) }
     ensures writer { WriterCounts result (W.failures writer.old) (W.failures writer.new) }
 {
-    let verdict = judge::<M, R>(alloc, reader)?;
-    verdict.tell(alloc, writer)
+    replay_within::<M, R, W>(alloc, LIMIT, reader, writer)
 }

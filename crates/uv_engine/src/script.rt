@@ -1,7 +1,7 @@
 //! The script in front of a conversation.
 ghost use Rattle.std.specs.Prelude.{◌≡◌, ◌≢◌, ◌++◌, [], ◌∷◌, IfOk, IfErr, OnOk, true, false, codes, length, ◌+◌, ◌<◌, ◌≤◌};
 ghost use Rattle.uv_script.specs.Lines.{lines_of};
-ghost use Rattle.uv_engine.specs.Devices.{ReaderCounts};
+ghost use Rattle.uv_engine.specs.Devices.{ReaderCounts, OnAnswer};
 ghost use Rattle.uv_engine.specs.Input.{left, EndIsSeen, size};
 ghost use Rattle.uv_engine.specs.Taking.{SpendsBudget, IsReadFault};
 ghost use Rattle.uv_engine.specs.Start.{ReadsScript, IsFront, ParsesFront, NoScript, IsStartFault, with_line};
@@ -28,7 +28,7 @@ pub fn read_script<R: Source>(
     requires end { R.Tells → EndIsSeen input.old (R.remaining reader.old) }
     ensures script { R.Tells → ReadsScript (left input.old (R.remaining reader.old)) result (left input.new (R.remaining reader.new)) }
     ensures end { OnOk result (R.Tells → EndIsSeen input.new (R.remaining reader.new)) }
-    ensures budget { OnOk result (R.Tells → SpendsBudget input.old (R.remaining reader.old) input.new (R.remaining reader.new)) }
+    ensures budget { OnAnswer result (R.Tells → SpendsBudget input.old (R.remaining reader.old) input.new (R.remaining reader.new)) }
     ensures err { IfErr result IsStartFault }
     ensures reader { ReaderCounts result (R.Tells → input.old.budget < length (R.remaining reader.old))
         (R.failures reader.old) (R.failures reader.new) }

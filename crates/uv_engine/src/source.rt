@@ -2,6 +2,9 @@
 ghost use Rattle.std.specs.Prelude.{◌≡◌, ◌<◌, ◌≤◌, ◌++◌, ℕ, List, [], IfOk, OnOk, OnErr, length, take};
 ghost use Rattle.uv_engine.specs.Devices.{Counted};
 
+/// The longest input in bytes (own).
+pub const LIMIT: u64 = 1_073_741_824;
+
 /// A read failed.
 #[derive(Clone, Copy, PartialEq, Eq)]
 pub struct ReadFailed;

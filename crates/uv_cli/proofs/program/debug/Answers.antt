@@ -1,5 +1,5 @@
 use Rattle.uv_cli.specs.Status.{done}
-use Rattle.uv_cli.proofs.Ending.{by_fault}
+use Rattle.uv_cli.proofs.Ending.{by_fault, conversed_status}
 use Rattle.uv_cli.proofs.program.debug.Goals as goal
 
 pub returns-in-Ok-clause-text : goal.returns-in-Ok-clause-text
@@ -7,3 +7,6 @@ returns-in-Ok-clause-text g c = λ reads tells. done c.in-Ok.field-0 (c.in-Ok.en
 
 pub returns-in-Err-clause-text : goal.returns-in-Err-clause-text
 returns-in-Err-clause-text g c = λ reads tells. rw c.fail.ensures (by_fault _ _ _ c.in-Err.fault (c.in-Err.ensures.text reads tells))
+
+pub returns-in-Err-clause-status : goal.returns-in-Err-clause-status
+returns-in-Err-clause-status g c = rw c.fail.ensures (conversed_status c.in-Err.fault c.in-Err.ensures.err)

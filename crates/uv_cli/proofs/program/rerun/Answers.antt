@@ -1,4 +1,4 @@
-use Rattle.uv_cli.proofs.Ending.{replayed_well, replayed_fault}
+use Rattle.uv_cli.proofs.Ending.{replayed_well, replayed_fault, replayed_status}
 use Rattle.uv_cli.proofs.program.rerun.Goals as goal
 
 pub returns-in-Ok-clause-text : goal.returns-in-Ok-clause-text
@@ -6,3 +6,6 @@ returns-in-Ok-clause-text g c = λ reads tells. replayed_well _ _ _ tt (c.in-Ok.
 
 pub returns-in-Err-clause-text : goal.returns-in-Err-clause-text
 returns-in-Err-clause-text g c = λ reads tells. rw c.fail.ensures (replayed_fault _ _ _ c.in-Err.fault (c.in-Err.ensures.text reads tells))
+
+pub returns-in-Err-clause-status : goal.returns-in-Err-clause-status
+returns-in-Err-clause-status g c = rw c.fail.ensures (replayed_status c.in-Err.fault c.in-Err.ensures.err)

@@ -1,6 +1,8 @@
 use Rattle.std.proofs.lemmas.Result.{err_from_is_err_and}
 use Rattle.uv_engine.specs.Input.{left}
 use Rattle.uv_engine.proofs.Fronts.{no_front, read_is_start, reads_alone, parsed_fault}
+use Rattle.std.proofs.Common.{arith}
+use Rattle.uv_engine.proofs.Faults.{on_answer, no_read}
 use Rattle.uv_engine.proofs.alone.read_alone.Goals as goal
 
 pub returns-in_err-front-clause-script : goal.returns-in_err-front-clause-script
@@ -21,3 +23,12 @@ returns-clause-script g c = λ reads.
 
 pub returns-clause-err : goal.returns-clause-err
 returns-clause-err g c = parsed_fault c.as_slice.result.now c.parse.result c.parse.ensures
+
+pub returns-in_err-front-clause-within : goal.returns-in_err-front-clause-within
+returns-in_err-front-clause-within g c =
+    let p = err_from_is_err_and c.from_residual.result c.from_residual.ensures.1 in
+    rw (p.1, p.2) (no_read _ _ c.in_err-front.ensures.err)
+
+pub returns-clause-within : goal.returns-clause-within
+returns-clause-within g c = on_answer c.parse.result
+    (λ reads. omega (arith, c.in_ok-front.ensures.budget reads, c.new-input.ensures.budget))

@@ -1,9 +1,10 @@
-use Rattle.std.proofs.Common.{[]}
+use Rattle.std.proofs.Common.{[], arith}
 use Rattle.std.proofs.lemmas.Result.{err_from_is_err_and}
 use Rattle.uv_script.specs.Grammar.{unread}
 use Rattle.uv_engine.specs.Recordings.{Start, InScript, InCalls, Whole}
 use Rattle.uv_engine.proofs.Recordings.{reads_then}
 use Rattle.uv_engine.proofs.Replays.{fails_then, has_verdict}
+use Rattle.uv_engine.proofs.Faults.{taken, no_memory}
 use Rattle.uv_engine.proofs.replaying.judge.Goals as goal
 
 pub returns-in_err-script-clause-verdict : goal.returns-in_err-script-clause-verdict
@@ -56,3 +57,78 @@ returns-clause-verdict g c = λ reads.
     let verdict = rw (c.in_ok-read_calls.ensures.machine, c.in_ok-read_calls.ensures.halted, c.in_ok-read_steps.ensures.program) at
     c.verdict.ensures in
     has_verdict c.verdict.result first script steps calls end verdict
+
+pub returns-in_err-read_version-clause-within : goal.returns-in_err-read_version-clause-within
+returns-in_err-read_version-clause-within g c =
+    let p = err_from_is_err_and c.from_residual.result c.from_residual.ensures.1 in
+    rw (p.1, p.2)
+    (taken c.in_err-read_version.field-0.0 g.R.Source.Tells c.args.limit c.new.result.budget c.read_version.new.self.input.budget
+    (g.R.Source.remaining c.args.reader.now) (g.R.Source.remaining c.args.reader.now) (g.R.Source.remaining c.read_version.new.reader)
+    c.in_err-read_version.ensures.budget
+    (λ reads. omega (arith, c.new.ensures.budget)))
+
+pub returns-in_err-script-clause-within : goal.returns-in_err-script-clause-within
+returns-in_err-script-clause-within g c =
+    let p = err_from_is_err_and c.from_residual-in_err-script.result c.from_residual-in_err-script.ensures.1 in
+    rw (p.1, p.2)
+    (taken c.in_err-script.field-0.0 g.R.Source.Tells c.args.limit c.read_version.new.self.input.budget c.read_script.new.self.input.budget
+    (g.R.Source.remaining c.args.reader.now) (g.R.Source.remaining c.read_version.new.reader) (g.R.Source.remaining c.read_script.new.reader)
+    c.in_err-script.ensures.budget
+    (λ reads. omega (arith, c.new.ensures.budget, c.in_ok-read_version.ensures.budget reads)))
+
+pub returns-in_err-begin-clause-within : goal.returns-in_err-begin-clause-within
+returns-in_err-begin-clause-within g c =
+    let p = err_from_is_err_and c.from_residual-in_err-begin.result c.from_residual-in_err-begin.ensures.1 in
+    rw (p.1, p.2) (no_memory _ _ c.in_err-begin.ensures.err)
+
+pub returns-in_err-read_steps-clause-within : goal.returns-in_err-read_steps-clause-within
+returns-in_err-read_steps-clause-within g c =
+    let p = err_from_is_err_and c.from_residual-in_err-read_steps.result c.from_residual-in_err-read_steps.ensures.1 in
+    rw (p.1, p.2)
+    (taken c.in_err-read_steps.field-0.0 g.R.Source.Tells c.args.limit c.read_script.new.self.input.budget c.read_steps.new.input.input.budget
+    (g.R.Source.remaining c.args.reader.now) (g.R.Source.remaining c.read_script.new.reader) (g.R.Source.remaining c.read_steps.new.reader)
+    c.in_err-read_steps.ensures.budget
+    (λ reads. omega (arith, c.new.ensures.budget, c.in_ok-read_version.ensures.budget reads, c.in_ok-script.ensures.budget reads)))
+
+pub returns-in_err-read_calls-clause-within : goal.returns-in_err-read_calls-clause-within
+returns-in_err-read_calls-clause-within g c =
+    let p = err_from_is_err_and c.from_residual-in_err-read_calls.result c.from_residual-in_err-read_calls.ensures.1 in
+    rw (p.1, p.2)
+    (taken c.in_err-read_calls.field-0.0 g.R.Source.Tells c.args.limit c.read_steps.new.input.input.budget c.read_calls.new.input.input.budget
+    (g.R.Source.remaining c.args.reader.now) (g.R.Source.remaining c.read_steps.new.reader) (g.R.Source.remaining c.read_calls.new.reader)
+    c.in_err-read_calls.ensures.budget
+    (λ reads. omega (
+      arith,
+      c.new.ensures.budget,
+      c.in_ok-read_version.ensures.budget reads,
+      c.in_ok-script.ensures.budget reads,
+      c.in_ok-read_steps.ensures.budget reads,
+    )))
+
+pub returns-in_err-expect_end-clause-within : goal.returns-in_err-expect_end-clause-within
+returns-in_err-expect_end-clause-within g c =
+    let p = err_from_is_err_and c.from_residual-in_err-expect_end.result c.from_residual-in_err-expect_end.ensures.1 in
+    rw (p.1, p.2)
+    (taken c.in_err-expect_end.field-0.0 g.R.Source.Tells c.args.limit c.read_calls.new.input.input.budget c.expect_end.new.self.input.budget
+    (g.R.Source.remaining c.args.reader.now) (g.R.Source.remaining c.read_calls.new.reader) (g.R.Source.remaining c.expect_end.new.reader)
+    c.in_err-expect_end.ensures.budget
+    (λ reads. omega (
+      arith,
+      c.new.ensures.budget,
+      c.in_ok-read_version.ensures.budget reads,
+      c.in_ok-script.ensures.budget reads,
+      c.in_ok-read_steps.ensures.budget reads,
+      c.in_ok-read_calls.ensures.budget reads,
+    )))
+
+pub returns-clause-within : goal.returns-clause-within
+returns-clause-within g c = λ reads.
+    omega (
+      arith,
+      c.in_ok-read_version.ensures.budget reads,
+      c.in_ok-script.ensures.budget reads,
+      c.in_ok-read_steps.ensures.budget reads,
+      c.in_ok-read_calls.ensures.budget reads,
+      c.in_ok-expect_end.ensures.budget reads,
+      c.new.ensures.budget,
+    )

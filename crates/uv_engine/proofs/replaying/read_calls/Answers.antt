@@ -2,6 +2,8 @@ use Rattle.std.proofs.Common.{ℕ, ◌+◌, arith, refl, ap, sym, subst, ◌∙�
 use Rattle.std.proofs.lemmas.Bool.{both_ways}
 use Rattle.uv_text.specs.Recorded.{IsCallbackLine}
 use Rattle.uv_engine.proofs.Replays.{calls_none, calls_more, calls_end, calls_bad, calls_missing}
+use Rattle.std.proofs.lemmas.Result.{err_from_is_err_and}
+use Rattle.uv_engine.proofs.Faults.{no_read, no_memory}
 use Rattle.uv_engine.proofs.replaying.read_calls.Goals as goal
 
 pub lines-init : goal.lines-init
@@ -62,3 +64,21 @@ lines-preserved g c = record {
   budget = λ reads. omega (arith, c.lines.invariant.budget reads, c.in_ok-line.ensures.budget reads);
   none_failed = c.in_ok-line.ensures.reader ∙ c.lines.invariant.none_failed;
 }
+
+pub returns-in_err-line-clause-budget : goal.returns-in_err-line-clause-budget
+returns-in_err-line-clause-budget g c =
+    let p = err_from_is_err_and c.from_residual.result c.from_residual.ensures.1 in
+    rw (p.1, p.2) (no_read _ _ c.in_err-line.ensures.err)
+
+pub returns-in_default-clause-budget : goal.returns-in_default-clause-budget
+returns-in_default-clause-budget g c =
+    rw c.missing.ensures (λ reads. omega (arith, c.lines.invariant.budget reads, c.in_ok-line.ensures.budget reads))
+
+pub returns-then-not-is_callback_line-clause-budget : goal.returns-then-not-is_callback_line-clause-budget
+returns-then-not-is_callback_line-clause-budget g c =
+    rw c.bad.ensures (λ reads. omega (arith, c.lines.invariant.budget reads, c.in_ok-line.ensures.budget reads))
+
+pub returns-in_err-meet-clause-budget : goal.returns-in_err-meet-clause-budget
+returns-in_err-meet-clause-budget g c =
+    let p = err_from_is_err_and c.from_residual-in_err-meet.result c.from_residual-in_err-meet.ensures.1 in
+    rw p.1 (no_memory _ _ p.2)

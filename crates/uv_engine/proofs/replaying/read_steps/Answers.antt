@@ -2,6 +2,8 @@ use Rattle.std.proofs.Common.{arith, refl, ap, sym, ◌∙◌}
 use Rattle.uv_script.specs.Program.{Program}
 use Rattle.uv_model.proofs.Runs.{accepts-nil}
 use Rattle.uv_engine.proofs.Replays.{steps_none, steps_more, steps_end, steps_bad}
+use Rattle.std.proofs.lemmas.Result.{err_from_is_err_and}
+use Rattle.uv_engine.proofs.Faults.{no_read, no_memory}
 use Rattle.uv_engine.proofs.replaying.read_steps.Goals as goal
 
 pub lines-init : goal.lines-init
@@ -57,3 +59,21 @@ lines-preserved g c = record {
   budget = λ reads. omega (arith, c.lines.invariant.budget reads, c.in_ok-line.ensures.budget reads);
   none_failed = c.in_ok-line.ensures.reader ∙ c.lines.invariant.none_failed;
 }
+
+pub returns-in_err-line-clause-budget : goal.returns-in_err-line-clause-budget
+returns-in_err-line-clause-budget g c =
+    let p = err_from_is_err_and c.from_residual.result c.from_residual.ensures.1 in
+    rw (p.1, p.2) (no_read _ _ c.in_err-line.ensures.err)
+
+pub returns-in_default-clause-budget : goal.returns-in_default-clause-budget
+returns-in_default-clause-budget g c =
+    rw c.missing.ensures (λ reads. omega (arith, c.lines.invariant.budget reads, c.in_ok-line.ensures.budget reads))
+
+pub returns-in_default-read_step-clause-budget : goal.returns-in_default-read_step-clause-budget
+returns-in_default-read_step-clause-budget g c =
+    rw c.bad.ensures (λ reads. omega (arith, c.lines.invariant.budget reads, c.in_ok-line.ensures.budget reads))
+
+pub returns-in_err-take-clause-budget : goal.returns-in_err-take-clause-budget
+returns-in_err-take-clause-budget g c =
+    let p = err_from_is_err_and c.from_residual-in_err-take.result c.from_residual-in_err-take.ensures.1 in
+    rw (p.1, p.2) (no_memory _ _ c.in_err-take.ensures.err)

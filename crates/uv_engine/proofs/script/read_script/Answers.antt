@@ -1,4 +1,6 @@
 use Rattle.uv_engine.proofs.Starting.{front_read, front_fault}
+use Rattle.std.proofs.lemmas.Result.{err_from_is_err_and}
+use Rattle.uv_engine.proofs.Faults.{on_answer, no_read}
 use Rattle.uv_engine.proofs.script.read_script.Goals as goal
 
 pub returns-clause-script : goal.returns-clause-script
@@ -7,3 +9,11 @@ returns-clause-script g c = λ reads.
 
 pub returns-clause-err : goal.returns-clause-err
 returns-clause-err g c = front_fault _ c.in_ok-front.front.begun c.parse_front.result c.parse_front.ensures
+
+pub returns-in_err-front-clause-budget : goal.returns-in_err-front-clause-budget
+returns-in_err-front-clause-budget g c =
+    let p = err_from_is_err_and c.from_residual.result c.from_residual.ensures.1 in
+    rw (p.1, p.2) (no_read _ _ c.in_err-front.ensures.err)
+
+pub returns-clause-budget : goal.returns-clause-budget
+returns-clause-budget g c = on_answer c.parse_front.result c.in_ok-front.ensures.budget

@@ -2,6 +2,7 @@ use Rattle.std.proofs.Common.{arith, ap, ◌∙◌}
 use Rattle.std.proofs.lemmas.Result.{err_from_is_err_and}
 use Rattle.uv_script.specs.Lines.{lines_of}
 use Rattle.uv_script.specs.Program.{Program}
+use Rattle.uv_engine.proofs.Faults.{on_ok}
 use Rattle.uv_engine.proofs.Talking.{can_write, can_answer, can_next, cut_waiting, cut_writing, cut_answer, talk_ends, talk_quits}
 use Rattle.uv_engine.proofs.conversation.Conversation.talk.Goals as goal
 
@@ -43,6 +44,26 @@ returns-in_err-answer-clause-text g c = λ reads tells.
     rw ((err_from_is_err_and c.from_residual-in_err-answer.result c.from_residual-in_err-answer.ensures.1).1)
     (cut_answer c.every_line_asks.ensures.some before asks other (c.in_err-answer.ensures.text tells))
 
+pub returns-in_err-spill-clause-text : goal.returns-in_err-spill-clause-text
+returns-in_err-spill-clause-text g c = λ reads tells.
+    let written = can_write (c.lines.invariant.text reads tells) (c.in_ok-write_if_waiting.ensures.text tells) in
+    let taken = rw c.in-Some.is at (c.in_ok-line.ensures.line reads) in
+    let before = can_next _ _ _ taken written in
+    let names = c.names-names.ensures.names ∙ ap (λ (p : Program). p.names) (c.script.ensures ∙ c.machine.ensures.program) in
+    let asks = rw (c.as_slice.ensures.value, names) at c.read_command-asked.ensures.rule in
+    let other = c.is_quit.ensures.other c.if-is_quit.false in
+    let answered = can_answer before asks other (c.in_ok-answer.ensures.text tells) c.in_ok-answer.ensures.session in
+    rw ((err_from_is_err_and c.from_residual-in_err-spill.result c.from_residual-in_err-spill.ensures.1).1)
+    (cut_writing c.every_line_asks.ensures.some answered (c.in_err-spill.ensures.text tells))
+
+pub returns-in_default-clause-within : goal.returns-in_default-clause-within
+returns-in_default-clause-within g c = on_ok c.finish.result
+    (λ reads. omega (arith, c.lines.invariant.budget reads, c.in_ok-line.ensures.budget reads))
+
+pub returns-then-is_quit-clause-within : goal.returns-then-is_quit-clause-within
+returns-then-is_quit-clause-within g c = on_ok c.finish-then-is_quit.result
+    (λ reads. omega (arith, c.lines.invariant.budget reads, c.in_ok-line.ensures.budget reads))
+
 pub lines-preserved : goal.lines-preserved
 lines-preserved g c = record {
   end = c.in_ok-line.ensures.end;
@@ -53,8 +74,10 @@ lines-preserved g c = record {
       let names = c.names-names.ensures.names ∙ ap (λ (p : Program). p.names) (c.script.ensures ∙ c.machine.ensures.program) in
       let asks = rw (c.as_slice.ensures.value, names) at c.read_command-asked.ensures.rule in
       let other = c.is_quit.ensures.other c.if-is_quit.false in
-      can_answer before asks other (c.in_ok-answer.ensures.text tells) c.in_ok-answer.ensures.session;
+      can_write (can_answer before asks other (c.in_ok-answer.ensures.text tells) c.in_ok-answer.ensures.session)
+      (c.in_ok-spill.ensures.text tells);
   budget = λ reads. omega (arith, c.lines.invariant.budget reads, c.in_ok-line.ensures.budget reads);
   none_read_failed = c.in_ok-line.ensures.reader ∙ c.lines.invariant.none_read_failed;
-  none_write_failed = c.in_ok-answer.ensures.writer ∙ c.in_ok-write_if_waiting.ensures.writer ∙ c.lines.invariant.none_write_failed;
+  none_write_failed = c.in_ok-spill.ensures.writer ∙ c.in_ok-answer.ensures.writer ∙ c.in_ok-write_if_waiting.ensures.writer
+      ∙ c.lines.invariant.none_write_failed;
 }

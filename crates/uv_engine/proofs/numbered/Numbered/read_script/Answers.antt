@@ -3,6 +3,8 @@ use Rattle.uv_script.specs.Lines.{lines_of}
 use Rattle.uv_engine.specs.Start.{NoneSkipped, IsFirstSkipped, FindsSkipped}
 use Rattle.uv_engine.proofs.Recordings.{front_bad, front_skipped}
 use Rattle.uv_engine.proofs.Replays.{front_read}
+use Rattle.std.proofs.lemmas.Result.{err_from_is_err_and}
+use Rattle.uv_engine.proofs.Faults.{no_read}
 use Rattle.uv_engine.proofs.numbered.Numbered.read_script.Goals as goal
 
 pub returns-in-Some-clause-read : goal.returns-in-Some-clause-read
@@ -25,3 +27,8 @@ returns-in-Err-Script-clause-read g c = λ reads.
     (c.in_ok-front.ensures.front reads) (rw c.in-Err-Script.field-0-is at c.in-Err-Script.ensures)
     (subst (λ (xs : List ℕ). FindsSkipped (lines_of xs) skipped) c.as_slice-2.ensures.value c.first_skipped-skipped.ensures.found)
     c.first_bad.ensures refl
+
+pub returns-in_err-front-clause-budget : goal.returns-in_err-front-clause-budget
+returns-in_err-front-clause-budget g c =
+    let p = err_from_is_err_and c.from_residual.result c.from_residual.ensures.1 in
+    rw (p.1, p.2) (no_read _ _ c.in_err-front.ensures.err)

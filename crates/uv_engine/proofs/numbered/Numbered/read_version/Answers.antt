@@ -2,6 +2,8 @@ use Rattle.std.proofs.Common.{ℕ, ◌+◌, ap, sym, ◌∙◌}
 use Rattle.uv_engine.specs.Recordings.{Start}
 use Rattle.uv_engine.proofs.Recordings.{bad_end}
 use Rattle.uv_engine.proofs.Replays.{version_read, version_bad}
+use Rattle.std.proofs.lemmas.Result.{err_from_is_err_and}
+use Rattle.uv_engine.proofs.Faults.{no_read}
 use Rattle.uv_engine.proofs.numbered.Numbered.read_version.Goals as goal
 
 pub returns-in_default-clause-read : goal.returns-in_default-clause-read
@@ -24,3 +26,14 @@ returns-clause-read g c = λ reads.
     rw c.bad.ensures
     (version_bad _ _ _ c.in-Some.line.text.items _ c.in-Some.line.fed count taken
     (λ e. c.is_version.ensures.other c.if-is_version.false (c.as_slice.ensures.value ∙ e)))
+
+pub returns-in_err-line-clause-budget : goal.returns-in_err-line-clause-budget
+returns-in_err-line-clause-budget g c =
+    let p = err_from_is_err_and c.from_residual.result c.from_residual.ensures.1 in
+    rw (p.1, p.2) (no_read _ _ c.in_err-line.ensures.err)
+
+pub returns-in_default-clause-budget : goal.returns-in_default-clause-budget
+returns-in_default-clause-budget g c = rw c.missing.ensures c.in_ok-line.ensures.budget
+
+pub returns-clause-budget : goal.returns-clause-budget
+returns-clause-budget g c = rw c.bad.ensures c.in_ok-line.ensures.budget

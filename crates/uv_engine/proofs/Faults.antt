@@ -1,0 +1,112 @@
+-- Which faults answer the input, and which those of a device.
+use Rattle.std.proofs.Common.{◌≡◌, ℕ, ◌+◌, List, length, arith, Result, Ok, Err, IfErr, OnOk, sym, subst}
+use Rattle.uv_ids.specs.declared.fault.Fault.{Fault}
+use Rattle.uv_ids.specs.declared.fault.Fault.TheVariants as fault
+use Rattle.uv_engine.specs.Devices.{OnAnswer, IfOfInput, TakesWithin}
+use Rattle.uv_engine.specs.Out.{IsDeviceFault, IsConversationFault}
+use Rattle.uv_engine.specs.Rerun.{IsReadingFault, IsTellingFault}
+use Rattle.uv_engine.specs.Start.{IsStartFault}
+use Rattle.uv_engine.specs.Taking.{IsReadFault}
+use Rattle.uv_engine.specs.Verdict.{IsReplayFault}
+
+-- ---- what holds on each answer
+
+pub of_input : (f : Fault) {Holds : Type 0} → Holds → IfOfInput f Holds
+of_input fault.Memory h = tt
+of_input fault.Read h = tt
+of_input fault.Write h = tt
+of_input (fault.Script line) h = h
+of_input (fault.Refused why) h = h
+of_input fault.StepsFull h = h
+of_input (fault.Torn at) h = h
+of_input fault.Stalled h = h
+of_input (fault.Differs at) h = h
+of_input fault.Limit h = h
+
+within : (tells : Type 0) (limit a b : ℕ) (first mid last : List ℕ) → (tells → b + length mid ≡ a + length last) →
+    (tells → a + length first ≡ limit + length mid) → tells → TakesWithin limit first last
+within tells limit a b first mid last h k reads = omega (arith, h reads, k reads)
+
+-- what was taken before and by this call
+pub taken : (f : Fault) (tells : Type 0) (limit a b : ℕ) (first mid last : List ℕ) → IfOfInput f (tells → b + length mid ≡ a + length last) →
+    (tells → a + length first ≡ limit + length mid) → IfOfInput f (tells → TakesWithin limit first last)
+taken fault.Memory tells limit a b first mid last h k = tt
+taken fault.Read tells limit a b first mid last h k = tt
+taken fault.Write tells limit a b first mid last h k = tt
+taken (fault.Script line) tells limit a b first mid last h k = within tells limit a b first mid last h k
+taken (fault.Refused why) tells limit a b first mid last h k = within tells limit a b first mid last h k
+taken fault.StepsFull tells limit a b first mid last h k = within tells limit a b first mid last h k
+taken (fault.Torn at) tells limit a b first mid last h k = within tells limit a b first mid last h k
+taken fault.Stalled tells limit a b first mid last h k = within tells limit a b first mid last h k
+taken (fault.Differs at) tells limit a b first mid last h k = within tells limit a b first mid last h k
+taken fault.Limit tells limit a b first mid last h k = within tells limit a b first mid last h k
+
+pub on_answer : {A : Type 0} (r : Result A Fault) {Holds : Type 0} → Holds → OnAnswer r Holds
+on_answer (Ok found) h = h
+on_answer (Err f) h = of_input f h
+
+pub on_ok : {A : Type 0} (r : Result A Fault) {Holds : Type 0} → Holds → OnOk r Holds
+on_ok (Ok found) h = h
+on_ok (Err f) h = tt
+
+-- ---- faults that are none of the input
+
+pub no_read : (f : Fault) (Holds : Type 0) → IsReadFault f → IfOfInput f Holds
+no_read fault.Read holds h = tt
+no_read fault.Memory holds h = tt
+no_read _ holds h = absurd h
+
+pub no_device : (f : Fault) (Holds : Type 0) → IsDeviceFault f → IfOfInput f Holds
+no_device fault.Memory holds h = tt
+no_device fault.Read holds h = tt
+no_device fault.Write holds h = tt
+no_device _ holds h = absurd h
+
+pub no_memory : (f : Fault) (Holds : Type 0) → f ≡ fault.Memory → IfOfInput f Holds
+no_memory f holds e = subst (λ (x : Fault). IfOfInput x holds) (sym e) tt
+
+-- a talk fails by its devices alone
+pub talked_within : {A : Type 0} (r : Result A Fault) {P Q : Type 0} → IfErr r IsDeviceFault → OnOk r P → (P → Q) → OnAnswer r Q
+talked_within (Ok found) e h on = on h
+talked_within (Err f) e h on = no_device f _ e
+
+-- ---- the faults of a conversation
+
+pub start_converses : (f : Fault) → IsStartFault f → IsConversationFault f
+start_converses (fault.Script line) h = tt
+start_converses fault.Memory h = tt
+start_converses fault.Read h = tt
+start_converses _ h = absurd h
+
+pub memory_converses : (f : Fault) → f ≡ fault.Memory → IsConversationFault f
+memory_converses f e = subst IsConversationFault (sym e) tt
+
+device_fault : (f : Fault) → IsDeviceFault f → IsConversationFault f
+device_fault fault.Memory h = tt
+device_fault fault.Read h = tt
+device_fault fault.Write h = tt
+device_fault _ h = absurd h
+
+pub talk_converses : {A : Type 0} (r : Result A Fault) → IfErr r IsDeviceFault → IfErr r IsConversationFault
+talk_converses (Ok found) h = tt
+talk_converses (Err f) h = device_fault f h
+
+-- ---- the faults of a replay
+
+pub reading_replays : (f : Fault) → IsReadingFault f → IsReplayFault f
+reading_replays (fault.Script line) h = tt
+reading_replays fault.Memory h = tt
+reading_replays fault.Read h = tt
+reading_replays _ h = absurd h
+
+telling_fault : (f : Fault) → IsTellingFault f → IsReplayFault f
+telling_fault fault.Memory h = tt
+telling_fault fault.Write h = tt
+telling_fault fault.StepsFull h = tt
+telling_fault (fault.Refused why) h = tt
+telling_fault (fault.Differs at) h = tt
+telling_fault _ h = absurd h
+
+pub telling_replays : {A : Type 0} (r : Result A Fault) → IfErr r IsTellingFault → IfErr r IsReplayFault
+telling_replays (Ok found) h = tt
+telling_replays (Err f) h = telling_fault f h

@@ -1,0 +1,152 @@
+-- A text has one verdict, or one first bad line, and not both.
+use Rattle.std.proofs.Common.{◌≡◌, inl, inr, ⊎_elim, ℕ, suc, ◌+◌, ◌<◌, ◌≤◌, List, [], ◌∷◌, ◌++◌, length, take, get_or, refl, ap, ap₂, sym, subst, ◌∙◌, arith, length-append}
+use Rattle.std.proofs.Math.Seq.{get_or-append_seam}
+use Rattle.std.proofs.lemmas.Bool.{cases_lt}
+use Rattle.std.proofs.lemmas.List.{append_cancel_left, take-append-le, take_all, get_or_append_left}
+use Rattle.uv_ids.specs.declared.event.Event.{Event}
+use Rattle.uv_ids.specs.declared.fault.Why.{Why}
+use Rattle.uv_script.specs.Program.{Program}
+use Rattle.uv_script.specs.Lines.{lines_of}
+use Rattle.uv_model.specs.Next.{Next, Refuses, next}
+use Rattle.uv_model.specs.After.{after, Accepts, STEPS}
+use Rattle.uv_model.proofs.Runs.{not_refused}
+use Rattle.uv_text.specs.Recording.{callback_lines}
+use Rattle.uv_engine.specs.declared.verdict.Verdict.{Verdict}
+use Rattle.uv_engine.specs.declared.verdict.Verdict.TheVariants.{Same, Differs, Refused, Full}
+use Rattle.uv_engine.specs.Recordings.{Part, Start, Whole, Reads, ReadsAll, none, one, IsStuck, IsBadLine}
+use Rattle.uv_engine.specs.Verdict.{IsHalt, refused, full, AreApart, PartAt, IsVerdict, halts, same, differs, HasVerdict, HasOneVerdict}
+use Rattle.uv_engine.proofs.OneRecording.{IsDistinct, Judged, one_part, distinct_part, all_one, never_halts, never_apart}
+
+-- neither number is below the other
+same_number : (n m : ℕ) → (n < m → ⊥) → (m < n → ⊥) → n ≡ m
+same_number n m low high =
+    ⊎_elim (λ (less : n < m). absurd (low less))
+    (λ (past : m ≤ n). ⊎_elim (λ (more : m < n). absurd (high more)) (λ (up : n ≤ m). omega (arith, past, up)) (cases_lt m n)) (cases_lt n m)
+
+-- ---- the first step that isn't taken
+
+-- the steps in front of it
+front : (before rest es : List Event) (e : Event) → es ≡ before ++ e ∷ rest → take (length before) es ≡ before
+front before rest es e cut = ap (take (length before)) cut ∙ take-append-le (length before) before (e ∷ rest) (omega arith)
+    ∙ take_all (length before) before (omega arith)
+
+-- the step itself
+here : (before rest es : List Event) (e d : Event) → es ≡ before ++ e ∷ rest → get_or es (length before) d ≡ e
+here before rest es e d cut = ap (λ (xs : List Event). get_or xs (length before) d) cut ∙ get_or-append_seam before e rest d
+
+-- steps of which each is taken don't go past it
+not_past : (p : Program) (es before rest taken left : List Event) (e : Event) (why : Why) → es ≡ before ++ e ∷ rest → es ≡ taken ++ left →
+    Accepts p taken → next p (after p before) e ≡ Refuses why → length before < length taken → ⊥
+not_past p es before rest taken left e why cut other accepted is_refused less =
+    let n = length before in
+    let at : e ≡ get_or taken n e = sym (sym (get_or_append_left taken left e n less) ∙ ap (λ (xs : List Event). get_or xs n e) (sym other)
+    ∙ here before rest es e e cut) in
+    let first : take n taken ≡ before = sym (take-append-le n taken left (omega (arith, less))) ∙ ap (take n) (sym other)
+    ∙ front before rest es e cut in
+    not_refused p taken n e e why accepted less at (subst (λ (xs : List Event). next p (after p xs) e ≡ Refuses why) (sym first) is_refused)
+
+abbrev why_of : Next → Why → Why
+why_of (Refuses why) other = why
+why_of _ other = other
+
+refused_alike : (p : Program) (es before rest before' rest' : List Event) (e e' : Event) (why why' : Why) → es ≡ before ++ e ∷ rest →
+    es ≡ before' ++ e' ∷ rest' → length before ≡ length before' → next p (after p before) e ≡ Refuses why →
+    next p (after p before') e' ≡ Refuses why' → Refused (length before + 1) why ≡ Refused (length before' + 1) why'
+refused_alike p es before rest before' rest' e e' why why' cut cut' long is_refused is_refused' =
+    let same_front : before ≡ before' = sym (front before rest es e cut) ∙ ap (λ (n : ℕ). take n es) long ∙ front before' rest' es e' cut' in
+    let same_step : e ≡ e' = sym (here before rest es e e cut) ∙ ap (λ (n : ℕ). get_or es n e) long ∙ here before' rest' es e' e cut' in
+    let same_next : next p (after p before) e ≡ next p (after p before') e' =
+    ap₂ (λ (xs : List Event) (x : Event). next p (after p xs) x) same_front same_step in
+    let same_why : why ≡ why' = ap (λ (n : Next). why_of n why) (sym is_refused ∙ same_next ∙ is_refused') in
+    ap₂ (λ (n : ℕ) (w : Why). Refused (n + 1) w) long same_why
+
+one_halt : (p : Program) (es : List Event) (v w : Verdict) → IsHalt p es v → IsHalt p es w → v ≡ w
+one_halt p es _ _ (refused before rest e why cut accepted less is_refused) (refused before' rest' e' why' cut' accepted' less' is_refused') =
+    refused_alike p es before rest before' rest' e e' why why' cut cut'
+    (same_number (length before) (length before') (not_past p es before rest before' (e' ∷ rest') e why cut cut' accepted' is_refused)
+    (not_past p es before' rest' before (e ∷ rest) e' why' cut' cut accepted is_refused')) is_refused is_refused'
+one_halt p es _ _ (refused before rest e why cut accepted less is_refused) (full before' rest' e' cut' accepted' all) =
+    absurd (not_past p es before rest before' (e' ∷ rest') e why cut cut' accepted' is_refused (omega (arith, less, all)))
+one_halt p es _ _ (full before rest e cut accepted all) (refused before' rest' e' why' cut' accepted' less' is_refused') =
+    absurd (not_past p es before' rest' before (e ∷ rest) e' why' cut' cut accepted is_refused' (omega (arith, less', all)))
+one_halt p es _ _ (full before rest e cut accepted all) (full before' rest' e' cut' accepted' all') =
+    ap (λ (n : ℕ). Full (n + 1)) (all ∙ sym all')
+
+-- ---- the first place where two lists part
+
+one_place : (s t l l' r r' : List (List ℕ)) → s ++ l ≡ t ++ l' → s ++ r ≡ t ++ r' → AreApart l r → AreApart l' r' → length s ≡ length t
+one_place [] [] l l' r r' e f a b = refl
+one_place [] (y ∷ t) l l' r r' e f a b =
+    let both = subst (AreApart (y ∷ t ++ l')) f (subst (λ (xs : List (List ℕ)). AreApart xs r) e a) in
+    absurd (both refl)
+one_place (x ∷ s) [] l l' r r' e f a b =
+    let both = subst (AreApart (x ∷ s ++ l)) (sym f) (subst (λ (xs : List (List ℕ)). AreApart xs r') (sym e) b) in
+    absurd (both refl)
+one_place (x ∷ s) (y ∷ t) l l' r r' e f a b =
+    let left : s ++ l ≡ t ++ l' = cc in
+    let right : s ++ r ≡ t ++ r' = cc in
+    ap suc (one_place s t l l' r r' left right a b)
+
+one_parting : (xs ys : List (List ℕ)) (n m : ℕ) → PartAt xs ys n → PartAt xs ys m → n ≡ m
+one_parting xs ys n m h k =
+    let long = one_place h.same k.same h.left k.left h.right k.right (sym h.left_is ∙ k.left_is) (sym h.right_is ∙ k.right_is) h.apart k.apart in
+    h.counted ∙ ap (λ (x : ℕ). x + 1) long ∙ sym k.counted
+
+-- two lists that are one part nowhere
+not_parted : (xs ys : List (List ℕ)) (n : ℕ) → xs ≡ ys → PartAt xs ys n → ⊥
+not_parted xs ys n e h =
+    let rest = append_cancel_left h.same h.left h.right (sym h.left_is ∙ e ∙ h.right_is) in
+    never_apart h.right (subst (λ (zs : List (List ℕ)). AreApart zs h.right) rest h.apart)
+
+one_of_these : (p : Program) (es : List Event) (called : List (List ℕ)) (v w : Verdict) → IsVerdict p es called v → IsVerdict p es called w → v ≡ w
+one_of_these p es called _ _ (halts v h) (halts w k) = one_halt p es v w h k
+one_of_these p es called _ _ (halts v h) (same t e) = absurd (never_halts p es v t h)
+one_of_these p es called _ _ (halts v h) (differs n t k) = absurd (never_halts p es v t h)
+one_of_these p es called _ _ (same t e) (halts w k) = absurd (never_halts p es w t k)
+one_of_these p es called _ _ (same t e) (same u f) = refl
+one_of_these p es called _ _ (same t e) (differs n u k) = absurd (not_parted called (callback_lines p es) n e k)
+one_of_these p es called _ _ (differs m t h) (halts w k) = absurd (never_halts p es w t k)
+one_of_these p es called _ _ (differs m t h) (same u f) = absurd (not_parted called (callback_lines p es) m f h)
+one_of_these p es called _ _ (differs m t h) (differs n u k) = ap Differs (one_parting called (callback_lines p es) m n h k)
+
+verdicts : (text : List ℕ) (v w : Verdict) → HasVerdict text v → HasVerdict text w → v ≡ w
+verdicts text v w h k =
+    let whole = all_one Start (Whole k.program k.steps k.called) (Whole h.program h.steps h.called) (lines_of text) tt k.recording h.recording in
+    one_of_these h.program h.steps h.called v w h.verdict (subst (Judged w) whole k.verdict)
+
+-- ---- the first bad line
+
+one_stop : (x y z : Part) (s t a b : List (List ℕ)) → IsDistinct x → s ++ a ≡ t ++ b → ReadsAll x s y → IsStuck y a → ReadsAll x t z → IsStuck z b →
+    length s ≡ length t
+one_stop x _ _ [] [] a b distinct e none stuck none stuck' = refl
+one_stop x _ z [] (m ∷ t) a b distinct e none stuck (one {y = w} r rs) stuck' = absurd (subst (IsStuck x) e stuck w r)
+one_stop x y _ (l ∷ s) [] a b distinct e (one {y = u} r rs) stuck none stuck' = absurd (subst (IsStuck x) (sym e) stuck' u r)
+one_stop x y z (l ∷ s) (m ∷ t) a b distinct e (one {y = u} r rs) stuck (one {y = w} q qs) stuck' =
+    let line : l ≡ m = cc in
+    let rest : s ++ a ≡ t ++ b = cc in
+    let again = subst (λ (k : List ℕ). Reads x k w) (sym line) q in
+    let part = one_part x u w l distinct r again in
+    ap suc (one_stop u y z s t a b (distinct_part x u l distinct r) rest rs stuck (subst (λ (k : Part). ReadsAll k t z) part qs) stuck')
+
+bad_lines : (text : List ℕ) (m n : ℕ) → IsBadLine text m → IsBadLine text n → m ≡ n
+bad_lines text m n h k =
+    let long = one_stop Start h.part k.part h.before k.before h.after k.after tt (sym h.lines_are ∙ k.lines_are) h.read h.stuck k.read k.stuck in
+    omega (arith, h.counted, k.counted, long)
+
+-- what is whole isn't stuck
+goes_through : (x y : Part) (s a : List (List ℕ)) (p : Program) (es : List Event) (called : List (List ℕ)) → IsDistinct x → ReadsAll x s y →
+    IsStuck y a → ReadsAll x (s ++ a) (Whole p es called) → ⊥
+goes_through x _ [] [] p es called distinct none stuck none = stuck
+goes_through x _ [] (l ∷ a) p es called distinct none stuck (one {y = u} r rs) = stuck u r
+goes_through x y (l ∷ s) a p es called distinct (one {y = u} r rs) stuck (one {y = w} q qs) =
+    let part = one_part x u w l distinct r q in
+    goes_through u y s a p es called (distinct_part x u l distinct r) rs stuck
+    (subst (λ (k : Part). ReadsAll k (s ++ a) (Whole p es called)) part qs)
+
+not_both : (text : List ℕ) (v : Verdict) (n : ℕ) → HasVerdict text v → IsBadLine text n → ⊥
+not_both text v n h k =
+    goes_through Start k.part k.before k.after h.program h.steps h.called tt k.read k.stuck
+    (subst (λ (ls : List (List ℕ)). ReadsAll Start ls (Whole h.program h.steps h.called)) k.lines_are h.recording)
+
+pub has_one : (text : List ℕ) → HasOneVerdict text
+has_one text = record { verdict = verdicts text; line = bad_lines text; apart = not_both text }
