@@ -1,0 +1,62 @@
+"""Loops with a wrong rule, each a model with one change: what a comparison has to notice.
+
+Each obeys the commands of `uvt debug` by which a script is run, as the program itself does.
+"""
+
+from __future__ import annotations
+
+from model import Item, Model, Program
+
+
+class WatchersFromTheBack(Model):
+    """A watcher that is started goes to the end of its list, and not to its front."""
+
+    def start_op(self, item: Item, op: list[str]) -> str:
+        was_active = item.active
+        answer = super().start_op(item, op)
+        if answer == "ok" and not was_active and item.kind != "timer":
+            some = self.lists[item.kind]
+            some.append(some.pop(0))
+        return answer
+
+
+class ClosingInTheirOrder(Model):
+    """The handle that was closed first has its close callback first."""
+
+    def close_op(self, item: Item, op: list[str]) -> str:
+        answer = super().close_op(item, op)
+        if answer == "ok":
+            some = self.lists["closing"]
+            some.append(some.pop(0))
+        return answer
+
+
+class IdleWaits(Model):
+    """The poll waits though an idle handle is active."""
+
+    def counts(self, name: str) -> bool:
+        return name != "idle" and super().counts(name)
+
+
+# (with `nothing` the rules are right, and nothing may be noticed)
+PLANTED = {"nothing": Model, "watchers": WatchersFromTheBack, "closing": ClosingInTheirOrder, "idle": IdleWaits}
+
+
+def obey(planted: str, text: str, commands: list[str]) -> list[str]:
+    """What the wrong loop prints at these commands, without the lines of sections."""
+    program = Program(text)
+    program.steps, program.ways, program.limit = [], [], 10**9
+    model = PLANTED[planted](program)
+    for command in commands:
+        word, _, what = command.partition(" ")
+        if word == "loop":
+            for _ in range(int(what)):
+                refusal = model.step()
+                if refusal:
+                    model.lines.append(refusal)
+                    break
+        elif word in ("tick", "take", "finish"):
+            {"tick": model.tick, "take": model.take, "finish": model.finish}[word](int(what))
+        else:
+            model.print(f"out {command} = {model.answer([word, what])}")
+    return model.lines
