@@ -21,6 +21,8 @@ ROOT = Path(__file__).resolve().parent.parent
 END_COMMANDS = b"back 0\n?\n"
 AT = re.compile(r"at (\d+)$")
 BAD = "bad command"
+# as many bytes as every pipe holds at least
+PIPE = 4096
 
 
 class Fault(Exception):
@@ -251,15 +253,19 @@ class Conversation:
             raise Fault("a command is one line")
         text = "".join(f"{it}\nback 0\n" for it in commands)
         # (a pipe holds only so much: who writes all before reading would wait for a reader who waits)
-        writer = threading.Thread(target=self.send_quietly, args=(text,), daemon=True)
-        writer.start()
+        writer = threading.Thread(target=self.send_quietly, args=(text,), daemon=True) if len(text) > PIPE else None
+        if writer:
+            writer.start()
+        else:
+            self.send_quietly(text)
         for _ in commands:
             lines = []
             while not (at := AT.match(line := self.read_line())):
                 lines.append(line)
             self.length = int(at[1])
             yield lines
-        writer.join()
+        if writer:
+            writer.join()
 
     def send_quietly(self, text: str) -> None:
         """Sends, where the reader is the one who tells that the program has ended."""

@@ -1,0 +1,267 @@
+"""Recordings of programs (tools/uvt-record), from logs that were kept: logs/ has them. No libuv is needed.
+
+What a log has to give stands in WANTED, by hand: what the program does in it is read off its source, or off the log's lines.
+"""
+
+from __future__ import annotations
+
+import os
+import random
+import re
+import shutil
+import subprocess
+import sys
+import tempfile
+from pathlib import Path
+
+ROOT = Path(__file__).resolve().parent.parent.parent
+sys.path[:0] = [str(ROOT / "tools"), str(ROOT / "tools" / "record")]
+
+from conversation import Fault, built_program  # noqa: E402
+from record_log import read_log  # noqa: E402
+from record_run import from_data  # noqa: E402
+
+LOGS = Path(__file__).resolve().parent / "logs"
+RECORD = str(ROOT / "tools" / "uvt-record")
+SECONDS = 120
+IO, ROUND, ZERO, NESTED = (
+    "Callbacks of I/O come in the order of the system",
+    "Each iteration ends with its timers, and doesn't begin with them",
+    "A zero timeout started in a callback waits (own)",
+    "A run in a callback",
+)
+
+# Of each log its loops, and of one that isn't `same` all the way: what the program does there, and the heading that speaks of it.
+#   mixed    `run once` begins with a timer that is due, and an idle handle is active
+#   zero     a timer is started with 0 in its own callback, and a prepare handle is to be called
+#   nested   uv_run in a timer's callback
+#   dig      the callback of a datagram that was sent at once comes before the poll, and the async handle has sent to itself
+#   node     the check handle of node's immediates stands between two callbacks of I/O of one poll
+WANTED: dict[str, dict[int, tuple[str, str] | None]] = {
+    "late": {0: None},
+    "threads": {0: None},
+    "work": {0: None},
+    "starved": {0: None},
+    "watchers": {0: None},
+    "killed": {0: None},
+    "mixed": {0: ("the program calls the callback of timer", ROUND)},
+    "zero": {0: ("the program calls the callback of again", ZERO)},
+    "nested": {0: ("the program calls uv_run in a callback", NESTED)},
+    "named": {0: None, 1: None},
+    "dig": {0: ("the program calls the callback of isc_nm_udp_read_cb (send)", IO), 1: None},
+    "dig-tcp": {0: None, 1: None},
+    "nvim": {1: None},
+    "ctest": {0: None},
+    "uvloop": {0: None},
+    "luv": {0: None},
+    "node-late": {0: None, 1: None, 2: None},
+    "node-http": {0: None, 1: None, 2: ("the program calls the callback of tcp_2 (read)", IO)},
+}
+
+
+def recorded(words: list[str], folder: str, **more: object) -> subprocess.CompletedProcess[str]:
+    return subprocess.run([RECORD, *words], cwd=folder, capture_output=True, text=True, timeout=SECONDS, env=os.environ, **more)
+
+
+def verdict(path: Path) -> str:
+    return subprocess.run([os.environ["UVT"], "replay"], input=path.read_bytes(), capture_output=True, timeout=SECONDS).stdout.decode().strip()
+
+
+def callbacks(log: Path, loop: int) -> list[tuple[str, str]]:
+    """The list and the object of each callback of a loop, by the log's own lines: those in another one are part of it, and so is
+    one that comes behind another one of the same handle of I/O."""
+    watchers, found, depth, closing, over = set(), [], 0, set(), False
+    for line in log.read_text().splitlines()[1:]:
+        words = line.split(" ")
+        if words[0] != str(loop) or words[1] in "CVST":
+            continue
+        if words[1] == "O" and words[3] == "init" and words[5] not in ("timer", "idle", "prepare", "check", "async"):
+            watchers.add(words[4][1:])
+        if words[1] == "O" and words[3] == "close":
+            closing.add(words[4][1:])
+        if words[1] == "B":
+            begun = (words[3], words[4])
+            if begun[0] == "on" and begun[1] in watchers & closing:
+                begun = ("closed", begun[1])
+            again = over and begun == found[-1] and begun[0] == "on" and begun[1] in watchers
+            if depth == 0 and not again and begun not in [it for it in found if it[0] == "closed"]:
+                found.append(begun)
+            depth += 1
+        elif words[1] == "E":
+            depth -= 1
+        over = words[1] == "E" or over and words[1] == "O" and words[3] in ("ref", "unref")
+    return found
+
+
+def agrees(recording: Path, wanted: list[tuple[str, str]]) -> str:
+    """Are the recording's callbacks the beginning of these, each object under one name at a time? Else what is wrong."""
+    lines = recording.read_text().splitlines()
+    calls = [it.split(" ") for it in lines[lines.index("calls") + 1 : -1] if not it.startswith("call wake ")]
+    names: dict[str, str] = {}
+    for call, (kind, object) in zip(calls, wanted):
+        if call[0] != {"on": "call"}.get(kind, kind) or names.setdefault(object, call[1]) != call[1]:
+            return f"{call} for {kind} {object}"
+        if kind != "on":
+            del names[object]
+    return "" if len(calls) <= len(wanted) else f"{len(calls)} callbacks, and the log has {len(wanted)}"
+
+
+def try_log(check, name: str, folder: str) -> None:
+    log = LOGS / f"{name}.log"
+    ran = recorded(["-o", name, "--log", str(log)], folder)
+    loops = WANTED[name]
+    whole = all(it is None for it in loops.values())
+    check(f"record {name}: its status", ran.returncode == (0 if whole else 1) and not ran.stderr, (ran.returncode, ran.stderr))
+    said = re.split(r"^(?=loop )", ran.stdout, flags=re.MULTILINE)[1:]
+    check(f"record {name}: its loops", [int(it.split(":")[0][5:]) for it in said] == list(loops), ran.stdout)
+    check(f"record {name}: the names", (Path(folder) / f"{name}.names").is_file())
+    for text, (loop, stops) in zip(said, loops.items()):
+        path = Path(folder) / (f"{name}.rec" if len(loops) == 1 else f"{name}.{loop}.rec")
+        wanted, what = callbacks(log, loop), f"record {name}, loop {loop}"
+        check(f"{what}: replay", verdict(path) == "same", verdict(path))
+        check(f"{what}: its callbacks", not agrees(path, wanted), agrees(path, wanted))
+        got = re.match(r"loop \d+: (\d+) of (\d+) callbacks, (\d+) steps: same", text)
+        check(f"{what}: what is said", bool(got), text)
+        if stops is None:
+            check(f"{what}: all of it", bool(got) and int(got[1]) == int(got[2]) == len(wanted), text)
+        else:
+            check(f"{what}: where it stops", stops[0] in text and f"docs/LIBUV.md, `{stops[1]}`" in text, text)
+            if name == "zero":
+                page = (ROOT / "docs" / "RECORD.md").read_text()
+                check("RECORD.md shows where a recording stops", "\n".join(text.splitlines()[:2]) + "\n" in page, text)
+            check(f"{what}: the heading", f"### {stops[1]}\n" in (ROOT / "docs" / "LIBUV.md").read_text())
+
+
+# ---- bad input
+
+
+def changes(text: bytes) -> list[bytes]:
+    """A log that is cut somewhere, and one with another byte."""
+    chosen = random.Random(7)
+    cuts = [text[: chosen.randrange(len(text))] for _ in range(30)] + [b"", text[:1]]
+    places = [(chosen.randrange(len(text)), chosen.choice(b"\0\n 09aZ%=-\xff")) for _ in range(60)]
+    return cuts + [text[:at] + bytes([byte]) + text[at + 1 :] for at, byte in places]
+
+
+def try_changed(check, folder: str) -> None:
+    """A log that is cut anywhere, or has another byte: a sentence and a status, and what is written is `same`."""
+    for name in ("work", "watchers"):
+        for number, data in enumerate(changes((LOGS / f"{name}.log").read_bytes())):
+            what, said = f"record, {name} changed, {number}", []
+            for old in Path(folder).glob("changed*.rec"):
+                old.unlink()
+            try:
+                said, _ = from_data(data, read_log(data), f"{folder}/changed")
+            except Fault as fault:
+                said = [str(fault)]
+            check(f"{what}: what is said", bool(said) and not any("isn't built" in it for it in said), said)
+            verdicts = [verdict(it) for it in Path(folder).glob("changed*.rec")]
+            check(f"{what}: replay", set(verdicts) <= {"same"}, verdicts)
+            if number % 16 == 5:
+                (Path(folder) / "changed.log").write_bytes(data)
+                ran = recorded(["-o", "changed", "--log", "changed.log"], folder)
+                told = ran.returncode in (0, 1) and ran.stdout or ran.returncode == 2 and ran.stderr.startswith("uvt-record: ")
+                check(f"{what}: its status", told and "Traceback" not in ran.stderr, (ran.returncode, ran.stdout, ran.stderr))
+
+
+def try_faults(check, folder: str) -> None:
+    (Path(folder) / "full.rec.part").symlink_to("/dev/full")
+    cases = [
+        ("no such log", ["--log", "nowhere.log"], "nowhere.log: No such file or directory"),
+        ("a folder as a log", ["--log", "."], "Is a directory"),
+        ("no log", ["--log", str(ROOT / "README.md")], "this is no log of a program"),
+        ("a full disk", ["-o", "full", "--log", str(LOGS / "late.log")], "full.rec: No space left on device"),
+        ("a folder that isn't there", ["-o", "none/late", "--log", str(LOGS / "late.log")], "none/late.rec: No such file or directory"),
+    ]
+    for what, words, wanted in cases:
+        ran = recorded(words, folder)
+        check(f"record, {what}", ran.returncode == 2 and wanted in ran.stderr and "Traceback" not in ran.stderr, ran.stderr)
+    check("record, no words", recorded([], folder).returncode == 2)
+
+
+def has_libuv() -> bool:
+    """May the recorder be compiled here?"""
+    if not shutil.which("cc"):
+        return False
+    ran = subprocess.run(["cc", "-E", "-x", "c", "-"], input="#include <uv.h>\n", capture_output=True, text=True)
+    return ran.returncode == 0
+
+
+def try_programs(check, folder: str) -> None:
+    """With a compiler and libuv: programs themselves."""
+    cases = [
+        ("a program that isn't there", ["-o", "program", "./nowhere"], "could not be started"),
+        ("one without libuv", ["-o", "program", "true"], "called nothing of a libuv"),
+        ("a folder that isn't there, and a program", ["-o", "none/program", "true"], "none: No such file or directory"),
+    ]
+    for what, words, wanted in cases:
+        ran = recorded(words, folder)
+        check(f"record, {what}", ran.returncode == 2 and wanted in ran.stderr and "Traceback" not in ran.stderr, ran.stderr)
+    for name in ("killed", "late"):
+        subprocess.run(["cc", "-O1", str(ROOT / "tools" / "record" / "programs" / f"{name}.c"), "-o", f"{folder}/{name}", "-luv"], check=True)
+    ran = recorded(["./killed"], folder)
+    check("record, one that is ended by a signal", "ended by SIGABRT" in ran.stdout and "3 of 3 callbacks" in ran.stdout, ran)
+    check("record, its recording", verdict(Path(folder) / "killed.rec") == "same")
+    # (a file may have 1,024 bytes: the log's first window has no room)
+    full = subprocess.run(["sh", "-c", f"ulimit -f 1; exec {RECORD} ./late"], cwd=folder, capture_output=True, text=True, timeout=SECONDS)
+    check("record, no room for the log", full.returncode == 2 and "no room" in full.stderr and "Traceback" not in full.stderr, full)
+    check("record, the program isn't disturbed by that", "beat 2 is late" in full.stdout, full)
+
+
+# ---- the pages
+
+
+def try_page(check, page: Path, folder: str) -> None:
+    """Each call that the page shows, in order in one folder. In place of running `./late` its log is taken."""
+    blocks = re.findall(r"```text\n(.*?)```", page.read_text(), re.DOTALL)
+    shown = [(block, behind) for block, behind in zip(blocks, blocks[1:]) if "late.rec" in block or "uvt-record ./late" in block]
+    calls = [(block, behind) for block, behind in shown if all(re.match(r"(tools/|printf |sed |grep )", it) for it in block.splitlines())]
+    check(f"{page.name}: it shows calls", bool(calls))
+    for block, behind in calls:
+        command = block.replace("tools/uvt-record ./late", "tools/uvt-record -o late --log late.log")
+        ran = subprocess.run(["sh", "-c", command], cwd=folder, capture_output=True, text=True, timeout=SECONDS, env=os.environ)
+        # (what the program printed)
+        parts = [it for it in behind.splitlines() if not it.startswith("beat ")]
+        at, lines = 0, ran.stdout.splitlines()
+        for line in (it for it in parts if it != ".."):
+            at = lines.index(line, at) + 1 if line in lines[at:] else -1
+            check(f"{page.name}: `{block.strip()}` prints `{line}`", at > 0, ran.stdout + ran.stderr)
+            if at < 0:
+                break
+        if ".." not in parts:
+            check(f"{page.name}: `{block.strip()}` prints that alone", lines == parts, ran.stdout)
+
+
+def try_pages(check) -> None:
+    for page in (ROOT / "README.md", ROOT / "docs" / "RECORD.md"):
+        with tempfile.TemporaryDirectory() as folder:
+            (Path(folder) / "tools").symlink_to(ROOT / "tools")
+            shutil.copy(LOGS / "late.log", folder)
+            try_page(check, page, folder)
+
+
+def try_sharpness(check) -> None:
+    """Changed logs are noticed: a request's callback left out or doubled always, two swapped in nine of ten."""
+    logs = [str(LOGS / f"{name}.log") for name in WANTED]
+    ran = subprocess.run([str(ROOT / "tools" / "record" / "sharpness"), *logs], capture_output=True, text=True, timeout=SECONDS)
+    counts = {it[0]: (int(it[1]), int(it[2])) for it in re.findall(r"^(\w+): (\d+) of (\d+) noticed$", ran.stdout, re.MULTILINE)}
+    swapped, requests = counts.get("swapped", (0, 0)), counts.get("request", (0, 0))
+    check("record, requests left out or twice", requests[1] >= 20 and requests[0] == requests[1], ran.stdout + ran.stderr)
+    check("record, swapped callbacks", swapped[1] >= 100 and swapped[0] >= 0.9 * swapped[1], ran.stdout + ran.stderr)
+
+
+def try_records(tries) -> None:
+    check = tries.check
+    os.environ["UVT"] = built_program()
+    check("record: each log is known", {it.stem for it in LOGS.glob("*.log")} == set(WANTED))
+    with tempfile.TemporaryDirectory() as folder:
+        for name in WANTED:
+            try_log(check, name, folder)
+        try_changed(check, folder)
+        try_faults(check, folder)
+        if has_libuv():
+            try_programs(check, folder)
+        else:
+            print("tools: recording of programs: not tried, since there is no C compiler `cc` with libuv's header", flush=True)
+    try_sharpness(check)
+    try_pages(check)

@@ -1,0 +1,71 @@
+"""What a program did where the loop of `uvt` does something else, in words, and which part of the page speaks of it."""
+
+from __future__ import annotations
+
+import re
+
+from record_follow import Outcome
+from record_log import WATCHERS
+from record_script import Item, Program, is_pool
+
+PAGE = "docs/LIBUV.md"
+IO = "Callbacks of I/O come in the order of the system"
+ROUND = "Each iteration ends with its timers, and doesn't begin with them"
+ENDS = "A default run that its first timers finish does no iteration (own)"
+ZERO = "A zero timeout started in a callback waits (own)"
+CLOSING = "Some handles close later"
+ANY = "Recordings of real programs"
+MADE = re.compile(r"`(?:call|after|closed) (\S+) ")
+
+
+def says(item: Item) -> str:
+    """What the program did, in words."""
+    match item.type:
+        case "call" if item.list == "on":
+            what = f" ({item.text})" if item.kind in WATCHERS else ""
+            return f"the program calls the callback of {item.name}{what}"
+        case "call" if item.list == "after":
+            return f"the program calls the after callback of {item.name} ({item.text})"
+        case "call":
+            return f"the program calls the close callback of {item.name}"
+        case "op":
+            return f"the program does `{item.text}`"
+        case "run":
+            return f"the program begins `run {item.text}`"
+        case "end":
+            return f"the program's run ends with {item.text}"
+    return f"the program has `{item.type}`"
+
+
+def kind_of(program: Program, name: str) -> str:
+    """The kind of a name's handles."""
+    return next((it.kind for it in program.items if it.type == "call" and it.name == name), "")
+
+
+def is_io(kind: str) -> bool:
+    return kind in WATCHERS or kind == "async" or bool(kind) and is_pool(kind)
+
+
+def in_its_section(program: Program, item: Item) -> bool:
+    """Is it a timer that comes right behind another timer, without a poll between?"""
+    for other in reversed(program.items[: program.items.index(item)]):
+        if other.type in ("call", "poll", "run"):
+            return other.type == "call" and other.list == "on" and other.kind == "timer"
+    return False
+
+
+def heading_of(program: Program, outcome: Outcome) -> str:
+    """The heading of the page that speaks of this difference."""
+    item, made = outcome.item, MADE.search(outcome.why)
+    kind = kind_of(program, made[1]) if made else ""
+    if "`closed " in outcome.why and kind in ("fs_poll", "signal"):
+        return CLOSING
+    if item.type == "call" and item.list == "closed" and item.kind in ("fs_poll", "signal"):
+        return CLOSING
+    if item.type == "call" and item.kind == "timer" and item.list == "on" and in_its_section(program, item):
+        return ZERO
+    if item.type == "call" and is_io(item.kind) or is_io(kind):
+        return IO
+    if item.type == "end" or "`end " in outcome.why or "`call " in outcome.why:
+        return ROUND if int(program.version.split(".")[1]) < 45 else ENDS
+    return ANY

@@ -1,0 +1,378 @@
+"""Leads `uvt debug` along what a program did, and so makes a recording of it.
+
+This is a search, and isn't trusted. It has no loop of its own: the program answers each step, and what is written is what its
+`record` prints. It decides when the clock goes on, when a worker takes or finishes a request, and when somebody sends. It looks ahead
+in three ways:
+
+  - the clock goes on to the time that the loop had at the next event, before a step that may look at the clock; and at a callback's end
+    to the time that the clock had there, so the tick stands behind the callback that took the time
+  - before a poll is left, all that the program's poll called is made ready: sends for async handles and watchers, finishes for requests
+  - at each poll of the program the loop is led to its own. Where that takes a callback, the steps are taken back
+"""
+
+from __future__ import annotations
+
+from dataclasses import dataclass, field
+
+from conversation import AT, Conversation, Fault, Recording, Script
+from record_log import WATCHERS
+from record_script import Item, Program, is_pool
+
+SECTIONS = ["pending", "idle", "prepare", "poll", "done", "async", "check", "closing", "timers"]
+FAR = 40
+MANY_WORKERS = 64
+PATIENCE = 5000
+CALLS = {"on": "call", "after": "after", "closed": "closed"}
+
+
+class Stopped(Exception):
+    """The loop doesn't go on as the program did; what it does stands behind."""
+
+    def __init__(self, model: str) -> None:
+        self.model = model
+
+
+class NeedsWake(Exception):
+    """The loop waits where the program went on, and nobody that is known woke it."""
+
+
+@dataclass
+class Outcome:
+    """A recording, and how far it goes."""
+
+    recording: list[str]
+    callbacks: int
+    of: int
+    steps: int
+    # why it stops before the log does: the item, and what the loop would do; or a sentence of its own
+    why: str = ""
+    item: Item | None = None
+    # ops whose answer is another one than in the log
+    answers: list[str] = field(default_factory=list)
+    ends: int = 0
+    wakes: int = 0
+
+
+def section_of(item: Item) -> str:
+    """Where in an iteration a callback comes."""
+    if item.list == "closed":
+        return "closing"
+    if item.list == "after":
+        return "done"
+    return item.kind if item.kind in SECTIONS[1:] else "timers" if item.kind == "timer" else "async"
+
+
+def is_polled(item: Item) -> bool:
+    """Does it come with the poll?"""
+    return item.list != "closed" and (item.kind == "async" or item.kind in WATCHERS or is_pool(item.kind))
+
+
+class Follower:
+    """One way along a program's items."""
+
+    def __init__(self, program: Program, workers: int, wake: bool, command: list[str] | None = None) -> None:
+        self.program, self.items, self.wake = program, program.items, wake
+        self.workers = workers
+        self.talk = Conversation(Script(program.script(workers, wake)), command)
+        # commands that are asked with the next one, each with what its answer begins with
+        self.queue: list[tuple[str, str, Item | None]] = []
+        self.where, self.clock = "main", 0
+        self.at = 0
+        # how many steps stood, and which item came next, when all was as in the log
+        self.kept, self.kept_at = 0, 0
+        self.taken: dict[str, int] = {}
+        self.finished: set[str] = set()
+        self.outcome = Outcome([], 0, program.callbacks(), 0)
+        self.senders = {op.split(" ")[1] for op in self.all_ops() if op.startswith("send ")}
+        self.afters = [it.name for it in self.items if it.type == "call" and it.list == "after"]
+        self.after_at = 0
+
+    def all_ops(self) -> list[str]:
+        return self.program.main + [op for body in self.program.bodies.values() for op in body]
+
+    # ---- the conversation
+
+    def later(self, command: str, wanted: str, item: Item | None = None) -> None:
+        """A command whose answer decides nothing: it begins so."""
+        self.queue.append((command, wanted, item))
+
+    def ask(self, commands: list[str]) -> list[str]:
+        """Asks what waits in the queue, and then these. Answers the line of each, `` where it has none."""
+        waiting, self.queue = self.queue, []
+        answers = []
+        lengths = []
+        for lines in self.talk.ask_each([it[0] for it in waiting] + commands):
+            answers.append(lines[0] if lines else "")
+            lengths.append(self.talk.length)
+        for (command, wanted, item), answer, length in zip(waiting, answers, lengths):
+            if not answer.startswith(wanted):
+                self.at = self.kept_at if item is None else self.items.index(item)
+                raise Stopped(f"has `{answer}` there" if answer else "has a step without a line there")
+            if item is not None:
+                self.compare(item, answer[len(wanted) :])
+            self.kept = length
+        return answers[len(waiting) :]
+
+    def compare(self, item: Item, answer: str) -> None:
+        """The answer of an op beside that of the log."""
+        if item.answer != "id" and answer != item.answer and item.answer:
+            self.outcome.answers.append(f"`{item.text}` answers {answer} here, and {item.answer} in the program (line {item.line} of the log)")
+
+    def flush(self) -> None:
+        if self.queue:
+            self.ask([])
+
+    def move(self, length: int) -> None:
+        """Takes steps back."""
+        if self.talk.length > length:
+            self.talk.ask(f"back {self.talk.length - length}")
+
+    # ---- steps
+
+    def tick_to(self, time: int) -> None:
+        if time > self.clock:
+            self.later(f"tick {time - self.clock}", "out tick")
+            self.clock = time
+
+    def see(self, line: str) -> None:
+        """Where the loop is, by the line of its step."""
+        word = line.split(" ")[0]
+        if word in SECTIONS:
+            self.where = word
+        elif word == "run":
+            self.where = "entry"
+        elif word == "end":
+            self.where = "main"
+
+    def distance(self, section: str) -> int:
+        """How many steps there may be to a callback of that section, or to the poll before it."""
+        if self.where not in SECTIONS:
+            return 1
+        here, there, poll = SECTIONS.index(self.where), SECTIONS.index(section), SECTIONS.index("poll")
+        if here == there:
+            return 1
+        far = (there - here) % len(SECTIONS)
+        to_poll = (poll - here) % len(SECTIONS)
+        return to_poll if 0 < to_poll <= far else far + 1
+
+    def steps(self, count: int) -> list[str]:
+        """Lines of the next steps, up to one that isn't that of a section. What comes behind it is taken back."""
+        before = self.talk.length + sum(1 for it in self.queue if not it[0].startswith("back"))
+        answers = self.ask(["loop"] * count)
+        for at, line in enumerate(answers):
+            self.see(line)
+            if line and (line.split(" ")[0] not in SECTIONS or line.startswith("poll ")):
+                self.move(min(self.talk.length, before + at + 1))
+                return answers[: at + 1]
+        return answers
+
+    def at_poll(self, item: Item, at: int) -> None:
+        """All that this poll of the program called is made ready."""
+        self.tick_to(item.now)
+        self.flush()
+        self.make_ready(at)
+
+    def until(self, wanted: str, item: Item, at: int, section: str) -> str:
+        """Steps until a line that begins so. A line of another callback, op or run is a difference."""
+        woken = False
+        self.tick_to(item.now)
+        if self.where == "poll":
+            self.at_poll(item, at)
+        for _ in range(PATIENCE):
+            line = self.steps(self.distance(section))[-1]
+            if line.startswith("refused blocked"):
+                if not self.wake or woken:
+                    raise Stopped("waits in the poll") if self.wake else NeedsWake
+                woken = True
+                self.outcome.wakes += 1
+                self.later("send wake", "out send wake = ok")
+            elif line.startswith("refused"):
+                raise Stopped("is at the end of its main program" if line == "refused ended" else f"refuses a step, with `{line}`")
+            elif line.startswith(wanted):
+                return line
+            elif line.startswith("poll "):
+                self.at_poll(item, at)
+            elif line.split(" ")[0] not in SECTIONS and line and not (self.wake and line.startswith("call wake ")):
+                raise Stopped(f"has `{line}` there")
+        raise Stopped("goes round and round")
+
+    def to_poll(self, item: Item, at: int) -> None:
+        """Leads the loop to its next poll, if there is no callback on the way; else it stays where it is."""
+        if self.where in ("poll", "main"):
+            return
+        self.flush()
+        length, where, clock = self.talk.length, self.where, self.clock
+        self.tick_to(item.now)
+        for _ in range(FAR):
+            line = self.steps(max(1, (3 - SECTIONS.index(self.where)) % 9 if self.where in SECTIONS else 1))[-1]
+            if line.startswith("poll "):
+                return
+            if line and line.split(" ")[0] not in SECTIONS:
+                break
+        self.move(length)
+        self.where, self.clock = where, clock
+
+    # ---- what comes from outside
+
+    def make_ready(self, at: int) -> None:
+        for item in self.group(at):
+            if item.list == "after":
+                self.finish(item.name)
+            elif item.name not in self.senders or self.talk.state().slot_of(item.name).values.get("pending") == "0":
+                self.later(f"send {item.name}", f"out send {item.name} = ok")
+
+    def group(self, at: int) -> list[Item]:
+        """The callbacks of this poll, from this item on, that the loop calls in this order in one iteration."""
+        first, chosen, last, places = self.items[at], [], -1, None
+        for item in self.items[at:]:
+            if item.type in ("poll", "run", "end"):
+                break
+            if item.type != "call":
+                continue
+            if not is_polled(item) or item.now != first.now or item.made >= at or any(it.name == item.name for it in chosen):
+                break
+            if item.list == "after" and last >= 0:
+                break
+            if item.list == "on":
+                if last >= 0 and places is None:
+                    places = {name: place for place, name in enumerate(self.talk.state().lists["async"])}
+                    last = places.get(next(it.name for it in chosen if it.list == "on"), len(places))
+                place = 0 if places is None else places.get(item.name, -1)
+                if place <= last and places is not None:
+                    break
+                last = place
+            chosen.append(item)
+        return chosen
+
+    def take(self) -> None:
+        """The request that waits longest is taken; where all workers are busy, one is through first."""
+        busy = set(self.taken.values())
+        worker = next((it for it in range(self.workers) if it not in busy), None)
+        if worker is None:
+            name = next((it for it in self.afters[self.after_at :] if it in self.taken), next(iter(self.taken)))
+            worker = self.taken[name]
+            self.finish(name)
+        line = self.ask([f"take {worker}"])[0]
+        if not line.startswith("out take "):
+            raise Stopped(f"has no request that waits (`{line}`)")
+        self.taken[line.split(" ")[3]] = worker
+
+    def finish(self, name: str) -> None:
+        """The request is through; those that waited longer are taken before it."""
+        if name in self.finished:
+            return
+        while name not in self.taken:
+            self.take()
+        self.finished.add(name)
+        worker = self.taken.pop(name)
+        self.ask([f"finish {worker}"])
+
+    def before_cancel(self, item: Item) -> None:
+        """A cancel that succeeds puts its request behind those that are done: so they have to be. One that fails comes behind its take."""
+        name = item.text.split(" ")[1]
+        coming = self.afters[self.after_at :]
+        if item.answer == "ok":
+            for other in coming[: coming.index(name)] if name in coming else []:
+                if other in self.taken:
+                    self.finish(other)
+            self.finished.add(name)
+        elif item.answer == "EBUSY":
+            while name not in self.taken and name not in self.finished:
+                self.take()
+
+    # ---- the items
+
+    def do_op(self, item: Item) -> None:
+        word = item.text.split(" ")[0]
+        if word == "updatetime":
+            self.tick_to(item.now)
+        elif word == "cancel":
+            self.flush()
+            self.before_cancel(item)
+        elif word == "queue":
+            self.finished.discard(item.text.split(" ")[1])
+        self.later("loop", f"{item.text} = ", item)
+
+    def do_run(self, item: Item, at: int) -> None:
+        """A default run looks at the clock as it begins."""
+        self.tick_to(item.now)
+        if item.text == "default":
+            self.tick_to(next((it.now for it in self.items[at + 1 : at + FAR] if it.type in ("call", "poll", "end")), item.now))
+        self.later("loop", f"run {item.text}")
+        self.where = "entry"
+
+    def do_call(self, item: Item, at: int) -> None:
+        wanted = f"{CALLS[item.list]} {item.name} "
+        line = self.until(wanted, item, at, section_of(item))
+        if item.list == "after":
+            if line.split(" ")[3] != item.text:
+                raise Stopped(f"has `{line}` there")
+            self.after_at += 1
+            self.finished.discard(item.name)
+            self.taken.pop(item.name, None)
+        self.outcome.callbacks += 1
+
+    def do_done(self, item: Item, at: int) -> None:
+        """The clock goes on to where it was as the callback ended."""
+        ahead = self.items[at + 1 : at + FAR]
+        if self.starts_behind_end(item, ahead):
+            return
+        later = (it.now for it in ahead if it.type in ("call", "poll", "run", "end") and it.now > item.now)
+        self.tick_to(min(item.clock, next(later, item.clock)))
+
+    def starts_behind_end(self, item: Item, ahead: list[Item]) -> bool:
+        """Does the run end by the same time, and the main program start a timer by it then? The last iteration looks at the clock
+        behind its callbacks, which libuv's doesn't up to 1.44: so the clock must not go on before."""
+        ended = False
+        for other in ahead:
+            if other.type in ("call", "poll", "run", "end") and (other.now > item.now or ended):
+                return False
+            ended |= other.type == "end"
+            if ended and other.type == "op" and other.text.split(" ")[0] in ("start", "again"):
+                return True
+        return False
+
+    def do(self, item: Item, at: int) -> None:
+        match item.type:
+            case "op":
+                self.do_op(item)
+            case "run":
+                self.do_run(item, at)
+            case "end":
+                self.flush()
+                line = self.until("end ", item, at, "timers")
+                self.outcome.ends += line != f"end {item.text}"
+            case "poll":
+                self.to_poll(item, at)
+            case "call":
+                self.flush()
+                self.do_call(item, at)
+            case "done":
+                self.do_done(item, at)
+            case "take":
+                self.flush()
+                while item.name not in self.taken and item.name not in self.finished:
+                    self.take()
+
+    def follow(self) -> Outcome:
+        """Goes along all items, or up to where the loop does something else."""
+        if self.wake:
+            self.later("loop", "init wake async = ")
+            self.later("loop", "unref wake = ok")
+        try:
+            for at, item in enumerate(self.items):
+                self.at = at
+                self.do(item, at)
+                if not self.queue:
+                    self.kept, self.kept_at = self.talk.length, at + 1
+            self.flush()
+        except Stopped as stopped:
+            self.move(self.kept)
+            self.outcome.why, self.outcome.item = stopped.model, self.items[self.at]
+        self.record()
+        return self.outcome
+
+    def record(self) -> None:
+        self.outcome.steps = self.talk.length
+        self.outcome.recording = self.talk.ask("record")
+        self.talk.close()

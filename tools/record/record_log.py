@@ -1,0 +1,109 @@
+"""Logs of the recorder, line by line (docs/RECORD.md has what each line means).
+
+A log may be cut anywhere, and any byte of it may be another one: it is read up to the first line that is none.
+"""
+
+from __future__ import annotations
+
+import re
+from dataclasses import dataclass, field
+
+from conversation import Fault
+
+NUMBER = r"(?:0|[1-9]\d{0,18})"
+TIMER_OWN = {"timer", "idle", "prepare", "check", "async"}
+WATCHERS = {"tcp", "udp", "pipe", "tty", "poll", "signal", "fs_event", "fs_poll", "process"}
+HEAD = re.compile(r"uvt-log 1 (1\.\d{1,4}\.\d{1,4}\S*) (\d{1,9}) (\d{1,9}) (.*)")
+LINE = re.compile(rf"({NUMBER}) ([OBERrPTSCV]) ({NUMBER}) (.*)")
+ENDED = re.compile(rf"({NUMBER}) ({NUMBER})")
+ADDRESS = re.compile(r"- A (\d{1,9}) ([0-9a-f]{1,16}) (\S+) (.*)")
+NO_ROOM = "- ! no room"
+CODE = r"(?:ok|E[A-Z0-9_]+)"
+WORDS = {
+    "O": re.compile(
+        rf"init %{NUMBER} (?:{'|'.join(sorted(TIMER_OWN | WATCHERS))}) = ok"
+        rf"|queue %{NUMBER} (?:work|addrinfo|nameinfo|random|fs_[a-z]+) = ok"
+        rf"|start %{NUMBER}(?: \d{{1,20}} \d{{1,20}})? = {CODE}|repeat %{NUMBER} \d{{1,20}} = {CODE}"
+        rf"|(?:stop|again|close|ref|unref|send|cancel) %{NUMBER} = {CODE}|(?:closeloop|stoploop|updatetime) = {CODE}"
+    ),
+    "B": re.compile(rf"on {NUMBER} [a-z_]+|after {NUMBER} (?:ok|ECANCELED)|closed {NUMBER}"),
+    "R": re.compile("default|once|nowait"),
+    "r": re.compile("[01]"),
+    "P": re.compile(r"-?\d{1,10}"),
+    "T": re.compile(NUMBER),
+    "S": re.compile(rf"{NUMBER} \d{{1,20}}"),
+    "C": re.compile(rf"{NUMBER} \d{{1,9}}"),
+    "V": re.compile(rf"{NUMBER} \d{{1,9}}"),
+}
+
+
+@dataclass(slots=True)
+class Event:
+    """A line of a loop."""
+
+    type: str
+    # the loop's time; and of a callback's end the clock: in ms since the loop was first seen
+    now: int
+    clock: int
+    words: str
+    line: int
+
+
+@dataclass(slots=True)
+class Address:
+    """A place in a program's file: of a static handle, or of a callback."""
+
+    offset: int
+    # `-` where nobody knows it
+    symbol: str
+    file: str
+
+
+@dataclass
+class Log:
+    version: str
+    process: int
+    workers: int
+    program: str
+    loops: dict[int, list[Event]] = field(default_factory=dict)
+    addresses: dict[int, Address] = field(default_factory=dict)
+    lines: int = 0
+    # why it ends before its program did, in a sentence
+    note: str = ""
+
+
+def read_event(text: str, line: int) -> tuple[int, Event] | None:
+    found = LINE.fullmatch(text)
+    if not found:
+        return None
+    loop, type, now, words = int(found[1]), found[2], int(found[3]), found[4]
+    if type == "E":
+        ended = ENDED.fullmatch(words)
+        return (loop, Event(type, now, int(ended[1]), ended[2], line)) if ended else None
+    return (loop, Event(type, now, 0, words, line)) if WORDS[type].fullmatch(words) else None
+
+
+def read_log(data: bytes) -> Log:
+    """What stands in a log, up to its first line that is none."""
+    # (a window of the file that wasn't filled has zeros at its end)
+    lines = data.replace(b"\0", b"").decode("utf-8", "replace").split("\n")
+    cut = lines.pop() != ""
+    head = HEAD.fullmatch(lines[0]) if lines else None
+    if not head:
+        raise Fault("this is no log of a program: its first line isn't `uvt-log 1` with libuv's version, a process, workers and a program")
+    log = Log(head[1], int(head[2]), max(1, min(1024, int(head[3]))), head[4])
+    for number, text in enumerate(lines[1:], 2):
+        log.lines = number
+        if event := read_event(text, number):
+            log.loops.setdefault(event[0], []).append(event[1])
+        elif address := ADDRESS.fullmatch(text):
+            log.addresses[int(address[1])] = Address(int(address[2], 16), address[3], address[4])
+        elif text == NO_ROOM:
+            log.note = f"the disk had no room for more: the log ends at line {number}"
+            return log
+        else:
+            log.note = f"line {number} of the log is none that the recorder writes: what stands before it was taken"
+            return log
+    if cut:
+        log.note = f"the log is cut in its line {len(lines) + 1}: what stands before it was taken"
+    return log

@@ -1,0 +1,92 @@
+"""Names of handles and requests: the variable of a static one, else its callback's symbol, else its kind.
+
+Symbols are looked up once, behind the run, with `nm`, and written into the log: so a stored log needs no program.
+"""
+
+from __future__ import annotations
+
+import bisect
+import re
+import subprocess
+
+from record_log import Address, Log
+
+ROOM = 26
+
+
+def listed(file: str, words: list[str]) -> list[list[str]]:
+    """What nm lists of a file; nothing without nm, or of a file that it can't read."""
+    try:
+        ran = subprocess.run(["nm", "--defined-only", *words, "--", file], capture_output=True, text=True, errors="replace", timeout=60)
+    except (OSError, subprocess.TimeoutExpired):
+        return []
+    return [line.split(" ", 3) for line in ran.stdout.splitlines()]
+
+
+class Symbols:
+    """The functions and variables of a file."""
+
+    def __init__(self, file: str) -> None:
+        self.functions: dict[int, str] = {}
+        self.variables: list[tuple[int, int, str]] = []
+        for words in ([], ["-D"]):
+            for row in listed(file, ["-C", *words]):
+                if len(row) >= 3 and row[1] in "tTwWiu" and re.fullmatch("[0-9a-f]+", row[0]):
+                    self.functions.setdefault(int(row[0], 16), " ".join(row[2:]))
+            for row in listed(file, ["-S", *words]):
+                if len(row) == 4 and row[2] in "bBdDvV" and int(row[1], 16):
+                    self.variables.append((int(row[0], 16), int(row[1], 16), row[3]))
+        self.variables.sort()
+
+    def name_at(self, offset: int) -> str:
+        """A function that begins there, or a variable that lies there: with how far behind its start where it is a larger one."""
+        if offset in self.functions:
+            return self.functions[offset]
+        at = bisect.bisect_right(self.variables, (offset, 1 << 64, "")) - 1
+        if at < 0:
+            return "-"
+        start, size, name = self.variables[at]
+        if not start <= offset < start + size:
+            return "-"
+        name = re.sub(r"\.\d+$", "", name.split("@")[0])
+        return name if offset == start and size <= 1024 else f"{name}_{offset - start}"
+
+
+def plain(symbol: str) -> str:
+    """A symbol of C++ without its parameters and templates."""
+    symbol = symbol.replace("(anonymous namespace)", "").replace("operator()", "call")
+    while (shorter := re.sub(r"<[^<>]*>|\([^()]*\)", "", symbol)) != symbol:
+        symbol = shorter
+    return re.sub(r"\(.*|<.*|\s.*", "", symbol) or "-"
+
+
+def name_addresses(log: Log) -> None:
+    """Gives the addresses of a fresh log their symbols."""
+    files: dict[str, Symbols] = {}
+    for address in log.addresses.values():
+        if address.file not in files:
+            files[address.file] = Symbols(address.file)
+        found = files[address.file].name_at(address.offset)
+        if found != "-":
+            address.symbol = plain(found)
+
+
+def named_log(data: bytes, log: Log) -> bytes:
+    """The text of a log with these symbols in it."""
+    lines = data.replace(b"\0", b"").split(b"\n")
+    for at, line in enumerate(lines):
+        if line.startswith(b"- A ") and line.count(b" ") >= 5:
+            words = line.split(b" ", 5)
+            address = log.addresses.get(int(words[2])) if words[2].isdigit() else None
+            if address:
+                words[4] = address.symbol.encode()
+                lines[at] = b" ".join(words)
+    return b"\n".join(lines)
+
+
+def base_name(address: Address) -> str | None:
+    """A symbol as a script's names are: lower case, without signs."""
+    symbol = address.symbol
+    symbol = "_".join(symbol.split("::")[-2:])
+    name = re.sub("[^a-z0-9]+", "_", symbol.lower()).strip("_")[:ROOM].strip("_")
+    return name if name and name[0].isalpha() else None

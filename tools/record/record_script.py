@@ -1,0 +1,359 @@
+"""From the lines of a loop to a script, and to what the program did, item by item.
+
+What the script says is what the program asked of libuv. Nothing here knows what the loop makes of it.
+"""
+
+from __future__ import annotations
+
+import collections
+import re
+from dataclasses import dataclass, field
+
+from record_log import TIMER_OWN, WATCHERS, Event, Log
+from record_names import base_name
+
+SCRIPT_LINES = 65535
+NAMES = 4096
+ID = re.compile(r"%(\d+)")
+KEEPS = ("ref", "unref")
+
+
+@dataclass(slots=True)
+class Item:
+    """What the program did next: `op`, `run`, `end`, `poll`, `call`, `done` (a callback ends) or `take`."""
+
+    type: str
+    now: int
+    # of a callback's end
+    clock: int
+    line: int
+    # of an op its line; of a run its mode, of its end 1 or 0, of a poll its timeout; of a call what libuv said of it
+    text: str = ""
+    answer: str = ""
+    name: str = ""
+    # of a call: `on`, `after` or `closed`, and which kind of handle or request
+    list: str = ""
+    kind: str = ""
+    # of a call: at which item its handle was made
+    made: int = 0
+
+
+@dataclass
+class Origin:
+    """Where a name comes from."""
+
+    name: str
+    text: str
+
+
+@dataclass
+class Bound:
+    """A handle or a request of the log, and its name."""
+
+    id: int
+    kind: str
+    base: str
+    name: str
+    made: int
+    closing: bool = False
+    # a callback came while it was closing: that of its close has begun with it
+    early: bool = False
+
+
+def is_pool(kind: str) -> bool:
+    return kind not in TIMER_OWN and kind not in WATCHERS
+
+
+@dataclass
+class Program:
+    """A script, and what is to be followed."""
+
+    names: list[str] = field(default_factory=list)
+    main: list[str] = field(default_factory=list)
+    # by list, name and call
+    bodies: dict[tuple[str, str, int], list[str]] = field(default_factory=dict)
+    counts: collections.Counter[tuple[str, str]] = field(default_factory=collections.Counter)
+    items: list[Item] = field(default_factory=list)
+    origins: list[Origin] = field(default_factory=list)
+    notes: collections.Counter[str] = field(default_factory=collections.Counter)
+    slots: int = 0
+    # of libuv
+    version: str = ""
+    # why the items end before the log does, in a sentence
+    stopped: str = ""
+
+    def callbacks(self) -> int:
+        return sum(1 for it in self.items if it.type == "call")
+
+    def body_lines(self) -> list[str]:
+        """The bodies by name. One that is the same in each call stands there once."""
+        lines = []
+        for name in self.names:
+            for kind in ("on", "after", "closed"):
+                bodies = [self.bodies[kind, name, call] for call in range(1, self.counts[kind, name] + 1)]
+                if bodies and all(it == bodies[0] for it in bodies):
+                    lines += [f"{kind} {name} {op}" for op in bodies[0]]
+                else:
+                    lines += [f"{kind} {name} @{call} {op}" for call, body in enumerate(bodies, 1) for op in body]
+        return lines
+
+    def script(self, workers: int, wake: bool) -> list[str]:
+        """The whole script. With `wake` a handle more, that stands for what woke the loop and called nobody."""
+        slots = self.slots + (1 if wake else 0)
+        lines = [f"workers {workers}"] + ([f"slots {slots}"] if slots > 1024 else [])
+        lines += [f"var {name}" for name in (["wake"] if wake else []) + self.names]
+        lines += ["main init wake async", "main unref wake"] if wake else []
+        return lines + [f"main {op}" for op in self.main] + self.body_lines()
+
+
+class Maker:
+    """Reads the events of a loop one after another."""
+
+    def __init__(self, log: Log) -> None:
+        self.log = log
+        self.program = Program(version=log.version)
+        self.bound: dict[int, Bound] = {}
+        self.first_callback: dict[int, int] = {}
+        self.variable: dict[int, int] = {}
+        self.free: dict[str, list[str]] = collections.defaultdict(list)
+        self.taken: set[str] = {"wake"}
+        # the callbacks under way: the ops of the first one, in which the others are
+        self.body: list[str] | None = None
+        self.depth = 0
+        self.call: Item | None = None
+        self.stray: list[Item] = []
+        self.runs = 0
+
+    # ---- names
+
+    def base_of(self, id: int, kind: str) -> tuple[str, str]:
+        """What a name is made of, and where that comes from."""
+        for known, word in ((self.variable, "the variable"), (self.first_callback, "the callback")):
+            address = self.log.addresses.get(known.get(id, -1))
+            base = base_name(address) if address else None
+            if base:
+                return base, f"{word} {address.symbol} of {address.file}"
+        return kind, "its kind: it lies in memory of its own, and its callback has no symbol"
+
+    def bind(self, id: int, kind: str, line: int) -> Bound:
+        base, origin = self.base_of(id, kind)
+        if self.free[base]:
+            name = self.free[base].pop()
+        else:
+            number, name = 1, base
+            while name in self.taken:
+                number += 1
+                name = f"{base}_{number}"
+            self.taken.add(name)
+            self.program.names.append(name)
+            self.program.origins.append(Origin(name, f"{origin}; kind {kind}, first seen in line {line} of the log"))
+        bound = self.bound[id] = Bound(id, kind, base, name, len(self.program.items))
+        self.program.slots = max(self.program.slots, len(self.bound))
+        return bound
+
+    def release(self, bound: Bound) -> None:
+        """From the beginning of its last callback on the name may stand for another one."""
+        del self.bound[bound.id]
+        self.free[bound.base].append(bound.name)
+
+    # ---- ops
+
+    def add(self, event: Event, type: str, **words: object) -> Item:
+        item = Item(type, event.now, event.clock, event.line, **words)
+        self.program.items.append(item)
+        return item
+
+    def add_op(self, event: Event, text: str, answer: str) -> None:
+        """An op of the callback under way, or of the main program."""
+        items = self.program.items
+        if self.body is not None:
+            self.body.append(text)
+        elif self.runs and items and items[-1].type == "done" and text.split(" ")[0] in KEEPS:
+            # (seen as the callback was over: its last op)
+            self.program.bodies[items[-1].list, items[-1].name, int(items[-1].text)].append(text)
+            items.insert(len(items) - 1, Item("op", items[-1].now, event.clock, event.line, text, answer))
+            return
+        elif self.runs:
+            self.stray.append(Item("op", event.now, event.clock, event.line, text, answer))
+            self.program.notes["ops outside of callbacks, which were put into the next one"] += 1
+            return
+        else:
+            self.program.main.append(text)
+        self.add(event, "op", text=text, answer=answer)
+
+    def read_op(self, event: Event) -> bool:
+        text, answer = event.words.rsplit(" = ", 1)
+        id = ID.search(text)
+        if not id:
+            self.add_op(event, text, answer)
+            return True
+        number, word = int(id[1]), text.split(" ")[0]
+        if word in ("init", "queue"):
+            kind = text.split(" ")[2]
+            if number in self.bound:
+                return False
+            name = self.bind(number, kind, event.line).name
+            if word == "queue":
+                self.add_op(event, f"queue {name} 1", "id")
+                return True
+            self.add_op(event, f"init {name} {kind if kind in TIMER_OWN else 'async'}", "id")
+            if kind in WATCHERS:
+                self.add_op(event, f"unref {name}", "ok")
+            return True
+        bound = self.bound.get(number)
+        if not bound or not self.fits(bound, text):
+            return False
+        bound.closing |= word == "close" and answer == "ok"
+        self.add_op(event, ID.sub(bound.name, text), answer)
+        return True
+
+    def fits(self, bound: Bound, text: str) -> bool:
+        """Does the recorder write this op of this kind? A log with a changed byte may say anything."""
+        word, words = text.split(" ")[0], text.count(" ")
+        if word == "cancel":
+            return is_pool(bound.kind)
+        if word == "start":
+            return bound.kind == "timer" if words == 3 else bound.kind in ("idle", "prepare", "check")
+        if word in ("again", "repeat"):
+            return bound.kind == "timer"
+        if word == "send":
+            return bound.kind == "async"
+        return not is_pool(bound.kind) and (word != "stop" or bound.kind in TIMER_OWN - {"async"})
+
+    # ---- callbacks
+
+    def read_begin(self, event: Event) -> bool:
+        words = event.words.split(" ")
+        list, id, what = words[0], int(words[1]), words[2] if len(words) > 2 else ""
+        bound = self.bound.get(id)
+        if not bound:
+            # (its close callback has begun with an earlier one)
+            early = self.call is not None and self.call.text == f"early {id}" and self.depth == 1
+            self.depth += early and list == "on"
+            return early and list != "after"
+        if list == "after" and not is_pool(bound.kind) or list != "after" and is_pool(bound.kind):
+            return False
+        if self.depth:
+            self.program.notes["callbacks that came in another one, as part of it"] += 1
+            self.depth += 1
+            return True
+        if list == "on" and bound.kind in WATCHERS and bound.closing:
+            list, what = "closed", f"early {id}"
+        self.depth = 2 if what.startswith("early") else 1
+        if list == "on" and bound.kind in WATCHERS and self.joins(bound):
+            return True
+        self.begin_call(event, bound, list, what)
+        return True
+
+    def joins(self, bound: Bound) -> bool:
+        """Several callbacks of one watcher in a row are one: the loop calls it once for all that it has."""
+        items = self.program.items
+        if not items or items[-1].type != "done" or items[-1].list != "on" or items[-1].name != bound.name:
+            return False
+        done = items.pop()
+        self.body = self.program.bodies["on", bound.name, int(done.text)]
+        self.call = next(it for it in reversed(items) if it.type == "call")
+        return True
+
+    def begin_call(self, event: Event, bound: Bound, list: str, what: str) -> None:
+        program = self.program
+        program.counts[list, bound.name] += 1
+        call = program.counts[list, bound.name]
+        self.call = self.add(event, "call", text=what, name=bound.name, list=list, kind=bound.kind, made=bound.made)
+        self.body = program.bodies[list, bound.name, call] = [it.text for it in self.stray]
+        program.items += self.stray
+        self.stray = []
+        if list != "on":
+            self.release(bound)
+
+    def read_end(self, event: Event) -> bool:
+        if not self.depth or not self.call:
+            return False
+        self.depth -= 1
+        # (a close callback that began early goes on with the one that libuv calls last)
+        if self.depth == 0:
+            call = self.call
+            self.add(event, "done", text=str(self.program.counts[call.list, call.name]), name=call.name, list=call.list)
+            self.body = self.call = None
+        return True
+
+    # ---- the rest
+
+    def read(self, event: Event) -> bool:
+        """Takes an event. False where no program does that: the log is wrong there."""
+        match event.type:
+            case "O":
+                return self.read_op(event)
+            case "B":
+                return self.read_begin(event)
+            case "E":
+                return self.read_end(event)
+            case "R" if not self.depth and not self.runs:
+                self.runs += 1
+                self.program.main.append(f"run {event.words}")
+                self.add(event, "run", text=event.words)
+            case "r":
+                if not self.runs or self.depth:
+                    return False
+                self.runs -= 1
+                self.add(event, "end", text=event.words)
+            case "P":
+                self.add(event, "poll", text=event.words)
+            case "T":
+                if bound := self.bound.get(int(event.words)):
+                    self.add(event, "take", name=bound.name)
+            case "C":
+                id, place = event.words.split(" ")
+                self.first_callback.setdefault(int(id), int(place))
+            case "V":
+                id, place = event.words.split(" ")
+                self.variable[int(id)] = int(place)
+        return True
+
+
+def without_looks(events: list[Event]) -> list[Event]:
+    """Without the polls that libuv's idle-time metrics put before each poll: they only look, and don't wait."""
+    kept = []
+    for at, event in enumerate(events):
+        looks = event.type == "P" and event.words == "0" and at + 1 < len(events) and events[at + 1].type == "P"
+        if not looks:
+            kept.append(event)
+    return kept
+
+
+def make_program(log: Log, events: list[Event]) -> Program:
+    """The script of a loop's events, up to the first that a script can't say."""
+    maker = Maker(log)
+    for event in events:
+        if event.type in "CV":
+            maker.read(event)
+    for event in without_looks(events):
+        if event.type in "CV":
+            continue
+        if event.type == "R" and (maker.depth or maker.runs):
+            maker.program.stopped = (
+                f"at line {event.line} of the log the program calls uv_run in a callback, and a script has its runs in the main program only:"
+                " docs/LIBUV.md, `A run in a callback`"
+            )
+            break
+        if not maker.read(event):
+            maker.program.stopped = f"line {event.line} of the log is `{event.type} {event.words}`, and no program does that there"
+            break
+        if len(maker.program.names) > NAMES:
+            maker.program.stopped = f"at line {event.line} of the log the program has more than {NAMES} handles and requests at a time"
+            break
+    return maker.program
+
+
+def program_of(log: Log, events: list[Event]) -> Program:
+    """The same, of as many events as a script has room for."""
+    program = make_program(log, events)
+    count = len(events)
+    while (size := len(program.script(1, True))) > SCRIPT_LINES:
+        count = min(count - 1, count * SCRIPT_LINES // size)
+        line = events[count].line
+        program = make_program(log, events[:count])
+        program.stopped = f"a script has at most {SCRIPT_LINES} lines, and those of this program are full at line {line} of the log"
+    if len(program.names) > NAMES - 1:
+        program.stopped = program.stopped or "there is no name left"
+    return program

@@ -1,0 +1,391 @@
+/* Loops and runs; timers, idle, prepare, check and async handles; close and references. */
+#define _GNU_SOURCE
+#include "recorder.h"
+
+#include <stdio.h>
+
+REAL(uv_loop_init)
+REAL(uv_default_loop)
+REAL(uv_loop_close)
+REAL(uv_run)
+REAL(uv_stop)
+REAL(uv_update_time)
+REAL(uv_walk)
+REAL(uv_close)
+REAL(uv_ref)
+REAL(uv_unref)
+REAL(uv_is_closing)
+REAL(uv_is_active)
+REAL(uv_has_ref)
+
+/* ---- what callbacks and watchers have in common */
+
+struct object *enter(void *handle, const char *what) {
+    lock();
+    struct object *object = find(handle);
+    if (object) {
+        settle_all(object->loop);
+        write_line(object->loop, 'B', "on %d %s", object->id, what);
+    }
+    unlock();
+    return object;
+}
+
+/* The handle may be gone by now, and another one have its address. */
+void leave(struct loop *loop, void *handle, int id) {
+    lock();
+    struct object *object = find(handle);
+    if (object && object->id != id) object = NULL;
+    if (object) settle(object);
+    write_line(loop, 'E', "%d", id);
+    if (object && object->watcher && !object->is_unsettled) {
+        object->is_unsettled = true;
+        object->next_unsettled = loop->unsettled;
+        loop->unsettled = object;
+    }
+    unlock();
+}
+
+struct object *made(uv_loop_t *uv, void *handle, const char *kind, bool watcher) {
+    struct object *object = put(loop_of(uv), handle);
+    if (!object) return NULL;
+    object->watcher = watcher;
+    write_line(object->loop, 'O', "init %%%d %s = ok", object->id, kind);
+    name_place(object);
+    settle(object);
+    return object;
+}
+
+/* A watcher keeps the loop alive while it is active and referenced, or a request of its own is under way. */
+void settle(struct object *watcher) {
+    if (!watcher || !watcher->watcher || CALL(uv_is_closing)(watcher->address)) return;
+    bool active = CALL(uv_is_active)(watcher->address) && CALL(uv_has_ref)(watcher->address);
+    bool counts = active || watcher->requests > 0;
+    if (counts == watcher->counts) return;
+    watcher->counts = counts;
+    write_op(watcher, counts ? "ref" : "unref", "", 0);
+}
+
+/* libuv stops some watchers after their callback (a signal that comes once, the end of a stream): before the loop's next
+ * event they are looked at once more. */
+void settle_all(struct loop *loop) {
+    while (loop->unsettled) {
+        struct object *watcher = loop->unsettled;
+        loop->unsettled = watcher->next_unsettled;
+        watcher->is_unsettled = false;
+        settle(watcher);
+    }
+}
+
+/* ---- loops */
+
+int uv_loop_init(uv_loop_t *uv) {
+    if (INSIDE()) return CALL(uv_loop_init)(uv);
+    int answer = REALLY(CALL(uv_loop_init)(uv));
+    lock();
+    if (answer == 0) new_loop(uv);
+    unlock();
+    return answer;
+}
+
+uv_loop_t *uv_default_loop(void) {
+    if (INSIDE()) return CALL(uv_default_loop)();
+    uv_loop_t *uv = REALLY(CALL(uv_default_loop)());
+    lock();
+    if (uv) loop_of(uv);
+    unlock();
+    return uv;
+}
+
+int uv_loop_close(uv_loop_t *uv) {
+    if (INSIDE()) return CALL(uv_loop_close)(uv);
+    lock();
+    struct loop *loop = loop_of(uv);
+    /* (a loop that is closed has no time any more, so the line comes before what it says) */
+    inside++;
+    int busy = CALL(uv_loop_close)(uv);
+    inside--;
+    if (loop && busy) write_line(loop, 'O', "closeloop = %s", answer_text(busy));
+    if (loop && !busy) loop->uv = NULL;
+    unlock();
+    return busy;
+}
+
+static const char *const MODES[] = {"default", "once", "nowait"};
+static __thread struct loop *run_here; /* the loop that this thread runs */
+
+int uv_run(uv_loop_t *uv, uv_run_mode mode) {
+    if (INSIDE()) return CALL(uv_run)(uv, mode);
+    lock();
+    struct loop *loop = loop_of(uv), *outer = run_here;
+    if (loop) {
+        settle_all(loop);
+        loop->thread = pthread_self();
+        loop->running++;
+        write_line(loop, 'R', "%s", (unsigned)mode < 3 ? MODES[mode] : "default");
+    }
+    run_here = loop;
+    unlock();
+    int alive = CALL(uv_run)(uv, mode);
+    lock();
+    run_here = outer;
+    if (loop) {
+        settle_all(loop);
+        loop->running--;
+        write_line(loop, 'r', "%d", alive != 0);
+    }
+    unlock();
+    return alive;
+}
+
+void uv_stop(uv_loop_t *uv) {
+    bool from_libuv = INSIDE();
+    CALL(uv_stop)(uv);
+    if (from_libuv) return;
+    lock();
+    struct loop *loop = loop_of(uv);
+    if (loop) write_line(loop, 'O', "stoploop = ok");
+    unlock();
+}
+
+void uv_update_time(uv_loop_t *uv) {
+    bool from_libuv = INSIDE();
+    CALL(uv_update_time)(uv);
+    if (from_libuv) return;
+    lock();
+    struct loop *loop = loop_of(uv);
+    if (loop) write_line(loop, 'O', "updatetime = ok");
+    unlock();
+}
+
+/* A callback of uv_walk may end in a call of libuv, which would come from libuv's text then. */
+struct walk {
+    uv_walk_cb callback;
+    void *word;
+};
+
+static void walk_one(uv_handle_t *handle, void *word) {
+    struct walk *walk = word;
+    PROGRAM(walk->callback(handle, walk->word));
+}
+
+void uv_walk(uv_loop_t *uv, uv_walk_cb callback, void *word) {
+    struct walk walk = {callback, word};
+    if (INSIDE()) CALL(uv_walk)(uv, callback, word);
+    else CALL(uv_walk)(uv, walk_one, &walk);
+}
+
+/* ---- close and references */
+
+static void on_closed(uv_handle_t *handle) {
+    lock();
+    struct object *object = find(handle);
+    struct loop *loop = object->loop;
+    uv_close_cb callback = object->closed;
+    int id = object->id;
+    write_line(loop, 'B', "closed %d", id);
+    drop(object); /* the callback may free the memory, or make a new handle there */
+    unlock();
+    if (callback) PROGRAM(callback(handle));
+    lock();
+    write_line(loop, 'E', "%d", id);
+    unlock();
+}
+
+void uv_close(uv_handle_t *handle, uv_close_cb callback) {
+    lock();
+    struct object *object = INSIDE() ? NULL : find(handle);
+    if (object) {
+        object->closed = callback;
+        name_callback(object, (void *)callback);
+        write_op(object, "close", "", 0);
+    }
+    unlock();
+    inside++;
+    CALL(uv_close)(handle, object ? on_closed : callback);
+    inside--;
+}
+
+REAL(uv_tcp_close_reset)
+int uv_tcp_close_reset(uv_tcp_t *handle, uv_close_cb callback) {
+    struct object *object;
+    if (INSIDE() || !(object = find(handle))) return CALL(uv_tcp_close_reset)(handle, callback);
+    lock();
+    object->closed = callback;
+    int answer = REALLY(CALL(uv_tcp_close_reset)(handle, on_closed));
+    if (answer == 0) write_op(object, "close", "", 0);
+    unlock();
+    return answer;
+}
+
+static void referenced(uv_handle_t *handle, const char *word) {
+    lock();
+    struct object *object = find(handle);
+    if (object && object->watcher) settle(object);
+    else write_op(object, word, "", 0);
+    unlock();
+}
+
+void uv_ref(uv_handle_t *handle) {
+    CALL(uv_ref)(handle);
+    if (!INSIDE()) referenced(handle, "ref");
+}
+
+void uv_unref(uv_handle_t *handle) {
+    CALL(uv_unref)(handle);
+    if (!INSIDE()) referenced(handle, "unref");
+}
+
+/* ---- timers and the watchers of the loop's sections */
+
+#define CALLBACK(KIND)                                                       \
+    static void on_##KIND(uv_##KIND##_t *handle) {                           \
+        struct object *object = enter(handle, #KIND);                        \
+        if (!object) return;                                                 \
+        struct loop *loop = object->loop;                                    \
+        int id = object->id;                                                 \
+        if (object->callback) PROGRAM(((uv_##KIND##_cb)object->callback)(handle)); \
+        leave(loop, handle, id);                                             \
+    }
+
+#define INIT(KIND)                                                    \
+    REAL(uv_##KIND##_init)                                            \
+    int uv_##KIND##_init(uv_loop_t *uv, uv_##KIND##_t *handle) {      \
+        if (INSIDE()) return CALL(uv_##KIND##_init)(uv, handle);      \
+        lock();                                                       \
+        int answer = REALLY(CALL(uv_##KIND##_init)(uv, handle));      \
+        if (answer == 0) made(uv, handle, #KIND, false);              \
+        unlock();                                                     \
+        return answer;                                                \
+    }
+
+/* An op of a handle that the program has made, without a callback. */
+#define OP(NAME, KIND, WORD)                                          \
+    REAL(NAME)                                                        \
+    int NAME(KIND *handle) {                                          \
+        if (INSIDE()) return CALL(NAME)(handle);                      \
+        lock();                                                       \
+        int answer = REALLY(CALL(NAME)(handle));                      \
+        write_op(find(handle), WORD, "", answer);                     \
+        unlock();                                                     \
+        return answer;                                                \
+    }
+
+/* Idle, prepare and check: one that is active already keeps the callback that it has. */
+#define WATCH(KIND)                                                           \
+    INIT(KIND)                                                                \
+    CALLBACK(KIND)                                                            \
+    REAL(uv_##KIND##_start)                                                   \
+    int uv_##KIND##_start(uv_##KIND##_t *handle, uv_##KIND##_cb callback) {   \
+        struct object *object;                                                \
+        if (INSIDE() || !callback || !(object = find(handle)))                \
+            return CALL(uv_##KIND##_start)(handle, callback);                 \
+        lock();                                                               \
+        if (!CALL(uv_is_active)((uv_handle_t *)handle)) object->callback = (void *)callback; \
+        name_callback(object, (void *)callback);                              \
+        int answer = REALLY(CALL(uv_##KIND##_start)(handle, on_##KIND));      \
+        write_op(object, "start", "", answer);                                \
+        unlock();                                                             \
+        return answer;                                                        \
+    }                                                                         \
+    OP(uv_##KIND##_stop, uv_##KIND##_t, "stop")
+
+WATCH(idle)
+WATCH(prepare)
+WATCH(check)
+
+INIT(timer)
+CALLBACK(timer)
+OP(uv_timer_stop, uv_timer_t, "stop")
+OP(uv_timer_again, uv_timer_t, "again")
+REAL(uv_timer_start)
+REAL(uv_timer_set_repeat)
+
+int uv_timer_start(uv_timer_t *handle, uv_timer_cb callback, uint64_t timeout, uint64_t repeat) {
+    struct object *object;
+    if (INSIDE() || !callback || !(object = find(handle))) return CALL(uv_timer_start)(handle, callback, timeout, repeat);
+    char words[64];
+    snprintf(words, sizeof words, " %llu %llu", (unsigned long long)timeout, (unsigned long long)repeat);
+    lock();
+    int answer = REALLY(CALL(uv_timer_start)(handle, on_timer, timeout, repeat));
+    if (answer == 0) object->callback = (void *)callback;
+    name_callback(object, (void *)callback);
+    write_op(object, "start", words, answer);
+    unlock();
+    return answer;
+}
+
+void uv_timer_set_repeat(uv_timer_t *handle, uint64_t repeat) {
+    char words[32];
+    bool from_libuv = INSIDE();
+    CALL(uv_timer_set_repeat)(handle, repeat);
+    if (from_libuv) return;
+    snprintf(words, sizeof words, " %llu", (unsigned long long)repeat);
+    lock();
+    write_op(find(handle), "repeat", words, 0);
+    unlock();
+}
+
+/* ---- async handles */
+
+CALLBACK(async)
+REAL(uv_async_init)
+REAL(uv_async_send)
+
+int uv_async_init(uv_loop_t *uv, uv_async_t *handle, uv_async_cb callback) {
+    if (INSIDE()) return CALL(uv_async_init)(uv, handle, callback);
+    lock();
+    int answer = REALLY(CALL(uv_async_init)(uv, handle, on_async));
+    struct object *object = answer == 0 ? made(uv, handle, "async", false) : NULL;
+    if (object) object->callback = (void *)callback;
+    name_callback(object, (void *)callback);
+    unlock();
+    return answer;
+}
+
+/* By the loop's thread it is an op; by another one it is a line of its own, before the send. (A signal's handler may send
+ * while its thread is at a line: that send isn't recorded.) */
+int uv_async_send(uv_async_t *handle) {
+    if (INSIDE() || is_locked_here()) return CALL(uv_async_send)(handle);
+    lock();
+    struct object *object = find(handle);
+    pthread_t here = pthread_self();
+    bool own = object && pthread_equal(object->loop->thread, here);
+    if (object && !own) write_line(object->loop, 'S', "%d %u", object->id, (uint64_t)here);
+    int answer = REALLY(CALL(uv_async_send)(handle));
+    if (own) write_op(object, "send", "", answer);
+    unlock();
+    return answer;
+}
+
+/* ---- the poll: what libuv asks of the system */
+
+#include <sys/epoll.h>
+
+REAL(uv_backend_fd)
+REAL(epoll_wait)
+REAL(epoll_pwait)
+
+static struct loop *polls(int descriptor, const void *caller) {
+    struct loop *loop = run_here;
+    if (off || !loop || !loop->uv || !is_from_libuv(caller)) return NULL;
+    return CALL(uv_backend_fd)(loop->uv) == descriptor ? loop : NULL;
+}
+
+static void note_poll(struct loop *loop, int timeout) {
+    if (!loop) return;
+    lock();
+    settle_all(loop);
+    write_line(loop, 'P', "%d", timeout);
+    unlock();
+}
+
+int epoll_wait(int descriptor, struct epoll_event *events, int room, int timeout) {
+    note_poll(polls(descriptor, __builtin_return_address(0)), timeout);
+    return CALL(epoll_wait)(descriptor, events, room, timeout);
+}
+
+int epoll_pwait(int descriptor, struct epoll_event *events, int room, int timeout, const sigset_t *signals) {
+    note_poll(polls(descriptor, __builtin_return_address(0)), timeout);
+    return CALL(epoll_pwait)(descriptor, events, room, timeout, signals);
+}

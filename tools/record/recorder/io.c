@@ -1,0 +1,223 @@
+/* Watchers: handles of I/O, signals, files and processes, with the requests of streams, whose callbacks count as theirs. */
+#define _GNU_SOURCE
+#include "recorder.h"
+
+/* ---- init */
+
+#define INIT(NAME, TYPE, KIND, PARAMETERS, WORDS)               \
+    REAL(NAME)                                                  \
+    int NAME PARAMETERS {                                       \
+        if (INSIDE()) return CALL(NAME) WORDS;                  \
+        lock();                                                 \
+        int answer = REALLY(CALL(NAME) WORDS);                  \
+        if (answer == 0) made(uv, handle, KIND, true);          \
+        unlock();                                               \
+        return answer;                                          \
+    }
+
+INIT(uv_tcp_init, uv_tcp_t, "tcp", (uv_loop_t * uv, uv_tcp_t *handle), (uv, handle))
+INIT(uv_tcp_init_ex, uv_tcp_t, "tcp", (uv_loop_t * uv, uv_tcp_t *handle, unsigned flags), (uv, handle, flags))
+INIT(uv_udp_init, uv_udp_t, "udp", (uv_loop_t * uv, uv_udp_t *handle), (uv, handle))
+INIT(uv_udp_init_ex, uv_udp_t, "udp", (uv_loop_t * uv, uv_udp_t *handle, unsigned flags), (uv, handle, flags))
+INIT(uv_pipe_init, uv_pipe_t, "pipe", (uv_loop_t * uv, uv_pipe_t *handle, int ipc), (uv, handle, ipc))
+INIT(uv_tty_init, uv_tty_t, "tty", (uv_loop_t * uv, uv_tty_t *handle, uv_file file, int unused), (uv, handle, file, unused))
+INIT(uv_poll_init, uv_poll_t, "poll", (uv_loop_t * uv, uv_poll_t *handle, int file), (uv, handle, file))
+INIT(uv_poll_init_socket, uv_poll_t, "poll", (uv_loop_t * uv, uv_poll_t *handle, uv_os_sock_t file), (uv, handle, file))
+INIT(uv_signal_init, uv_signal_t, "signal", (uv_loop_t * uv, uv_signal_t *handle), (uv, handle))
+INIT(uv_fs_event_init, uv_fs_event_t, "fs_event", (uv_loop_t * uv, uv_fs_event_t *handle), (uv, handle))
+INIT(uv_fs_poll_init, uv_fs_poll_t, "fs_poll", (uv_loop_t * uv, uv_fs_poll_t *handle), (uv, handle))
+
+/* ---- callbacks */
+
+#define CALLBACK(NAME, TYPE, FIELD, WHAT, PARAMETERS, WORDS)         \
+    static void NAME PARAMETERS {                                    \
+        struct object *object = enter(handle, WHAT);                 \
+        if (!object) return;                                         \
+        struct loop *loop = object->loop;                            \
+        int id = object->id;                                         \
+        if (object->FIELD) PROGRAM(((TYPE)object->FIELD)WORDS);      \
+        leave(loop, handle, id);                                     \
+    }
+
+CALLBACK(on_read, uv_read_cb, callback, "read", (uv_stream_t * handle, ssize_t length, const uv_buf_t *bytes),
+         (handle, length, bytes))
+CALLBACK(on_connection, uv_connection_cb, second, "connection", (uv_stream_t * handle, int status), (handle, status))
+CALLBACK(on_poll, uv_poll_cb, callback, "poll", (uv_poll_t * handle, int status, int events), (handle, status, events))
+CALLBACK(on_signal, uv_signal_cb, callback, "signal", (uv_signal_t * handle, int number), (handle, number))
+CALLBACK(on_exit_of, uv_exit_cb, callback, "exit", (uv_process_t * handle, int64_t status, int number), (handle, status, number))
+CALLBACK(on_fs_event, uv_fs_event_cb, callback, "fs_event", (uv_fs_event_t * handle, const char *name, int events, int status),
+         (handle, name, events, status))
+CALLBACK(on_fs_poll, uv_fs_poll_cb, callback, "fs_poll",
+         (uv_fs_poll_t * handle, int status, const uv_stat_t *before, const uv_stat_t *now), (handle, status, before, now))
+CALLBACK(on_receive, uv_udp_recv_cb, callback, "receive",
+         (uv_udp_t * handle, ssize_t length, const uv_buf_t *bytes, const struct sockaddr *from, unsigned flags),
+         (handle, length, bytes, from, flags))
+
+/* ---- start and stop */
+
+/* WITH(x) are the function's words with x as the callback. */
+#define START(NAME, FIELD, INSTEAD, PARAMETERS, WITH)                                \
+    REAL(NAME)                                                                       \
+    int NAME PARAMETERS {                                                            \
+        struct object *object;                                                       \
+        if (INSIDE() || !callback || !(object = find(handle))) return CALL(NAME) WITH(callback); \
+        lock();                                                                      \
+        void *before = object->FIELD;                                                \
+        object->FIELD = (void *)callback;                                            \
+        name_callback(object, (void *)callback);                                     \
+        int answer = REALLY(CALL(NAME) WITH(INSTEAD));                               \
+        if (answer != 0) object->FIELD = before;                                     \
+        settle(object);                                                              \
+        unlock();                                                                    \
+        return answer;                                                               \
+    }
+
+#define W_READ(x) (handle, alloc, x)
+#define W_LISTEN(x) (handle, backlog, x)
+#define W_POLL(x) (handle, events, x)
+#define W_SIGNAL(x) (handle, x, number)
+#define W_PATH(x) (handle, x, path, number)
+START(uv_read_start, callback, on_read, (uv_stream_t * handle, uv_alloc_cb alloc, uv_read_cb callback), W_READ)
+START(uv_udp_recv_start, callback, on_receive, (uv_udp_t * handle, uv_alloc_cb alloc, uv_udp_recv_cb callback), W_READ)
+START(uv_listen, second, on_connection, (uv_stream_t * handle, int backlog, uv_connection_cb callback), W_LISTEN)
+START(uv_poll_start, callback, on_poll, (uv_poll_t * handle, int events, uv_poll_cb callback), W_POLL)
+START(uv_signal_start, callback, on_signal, (uv_signal_t * handle, uv_signal_cb callback, int number), W_SIGNAL)
+START(uv_signal_start_oneshot, callback, on_signal, (uv_signal_t * handle, uv_signal_cb callback, int number), W_SIGNAL)
+START(uv_fs_event_start, callback, on_fs_event,
+      (uv_fs_event_t * handle, uv_fs_event_cb callback, const char *path, unsigned number), W_PATH)
+START(uv_fs_poll_start, callback, on_fs_poll,
+      (uv_fs_poll_t * handle, uv_fs_poll_cb callback, const char *path, unsigned number), W_PATH)
+
+#define STOP(NAME, TYPE)                            \
+    REAL(NAME)                                      \
+    int NAME(TYPE *handle) {                        \
+        if (INSIDE()) return CALL(NAME)(handle);    \
+        lock();                                     \
+        int answer = REALLY(CALL(NAME)(handle));    \
+        settle(find(handle));                       \
+        unlock();                                   \
+        return answer;                              \
+    }
+
+STOP(uv_read_stop, uv_stream_t)
+STOP(uv_udp_recv_stop, uv_udp_t)
+STOP(uv_poll_stop, uv_poll_t)
+STOP(uv_signal_stop, uv_signal_t)
+STOP(uv_fs_event_stop, uv_fs_event_t)
+STOP(uv_fs_poll_stop, uv_fs_poll_t)
+
+/* A process is a handle also where it could not be started, and the program closes it. */
+REAL(uv_spawn)
+int uv_spawn(uv_loop_t *uv, uv_process_t *handle, const uv_process_options_t *options) {
+    if (INSIDE()) return CALL(uv_spawn)(uv, handle, options);
+    uv_process_options_t ours = *options;
+    ours.exit_cb = on_exit_of;
+    int answer = REALLY(CALL(uv_spawn)(uv, handle, &ours));
+    lock();
+    struct object *object = made(uv, handle, "process", true);
+    if (object) object->callback = (void *)options->exit_cb;
+    name_callback(object, (void *)options->exit_cb);
+    for (int at = 0; at < options->stdio_count; at++)
+        if (options->stdio[at].flags & UV_CREATE_PIPE) settle(find(options->stdio[at].data.stream));
+    unlock();
+    return answer;
+}
+
+/* ---- requests of streams */
+
+struct request {
+    struct object *stream;
+    struct loop *loop;
+    void *callback;
+    int id;
+};
+
+static struct request begin_request(void *address, const char *what) {
+    lock();
+    struct object *object = find(address);
+    struct request request = {object->owner, object->loop, object->callback, object->owner->id};
+    drop(object);
+    request.stream->requests--;
+    enter(request.stream->address, what);
+    unlock();
+    return request;
+}
+
+#define REQUEST(NAME, WHAT, REQUEST_TYPE, TYPE)                                     \
+    static void NAME(REQUEST_TYPE *address, int status) {                           \
+        struct request request = begin_request(address, WHAT);                      \
+        void *stream = request.stream->address;                                     \
+        if (request.callback) PROGRAM(((TYPE)request.callback)(address, status));   \
+        leave(request.loop, stream, request.id);                                    \
+    }
+
+REQUEST(on_write, "write", uv_write_t, uv_write_cb)
+REQUEST(on_connect, "connect", uv_connect_t, uv_connect_cb)
+REQUEST(on_shutdown, "shutdown", uv_shutdown_t, uv_shutdown_cb)
+REQUEST(on_send, "send", uv_udp_send_t, uv_udp_send_cb)
+
+/* The request of a stream of the program; NULL if it is another one's. (The lock isn't held while it starts: a write to a stream that
+ * blocks may wait for another thread.) */
+static struct object *begin_start(void *request, void *handle, void *callback) {
+    lock();
+    struct object *stream = find(handle);
+    struct object *object = stream ? put(stream->loop, request) : NULL;
+    if (object) {
+        object->owner = stream;
+        object->callback = callback;
+        name_callback(stream, callback);
+        stream->requests++;
+    }
+    unlock();
+    return object;
+}
+
+static int end_start(struct object *object, int answer) {
+    lock();
+    struct object *stream = object->owner;
+    if (answer != 0) {
+        stream->requests--;
+        drop(object);
+    }
+    settle(stream);
+    unlock();
+    return answer;
+}
+
+#define SENDS(NAME, INSTEAD, PARAMETERS, WITH)                                        \
+    REAL(NAME)                                                                        \
+    int NAME PARAMETERS {                                                             \
+        struct object *object = INSIDE() ? NULL : begin_start(request, handle, (void *)callback); \
+        if (!object) return CALL(NAME) WITH(callback);                                \
+        return end_start(object, REALLY(CALL(NAME) WITH(INSTEAD)));                   \
+    }
+
+#define W_WRITE(x) (request, handle, buffers, count, x)
+#define W_WRITE2(x) (request, handle, buffers, count, sent, x)
+#define W_SHUTDOWN(x) (request, handle, x)
+#define W_CONNECT(x) (request, handle, address, x)
+#define W_SEND(x) (request, handle, buffers, count, address, x)
+SENDS(uv_write, on_write, (uv_write_t * request, uv_stream_t *handle, const uv_buf_t buffers[], unsigned count, uv_write_cb callback),
+      W_WRITE)
+SENDS(uv_write2, on_write,
+      (uv_write_t * request, uv_stream_t *handle, const uv_buf_t buffers[], unsigned count, uv_stream_t *sent, uv_write_cb callback),
+      W_WRITE2)
+SENDS(uv_shutdown, on_shutdown, (uv_shutdown_t * request, uv_stream_t *handle, uv_shutdown_cb callback), W_SHUTDOWN)
+SENDS(uv_tcp_connect, on_connect,
+      (uv_connect_t * request, uv_tcp_t *handle, const struct sockaddr *address, uv_connect_cb callback), W_CONNECT)
+SENDS(uv_udp_send, on_send,
+      (uv_udp_send_t * request, uv_udp_t *handle, const uv_buf_t buffers[], unsigned count, const struct sockaddr *address,
+       uv_udp_send_cb callback), W_SEND)
+
+REAL(uv_pipe_connect)
+void uv_pipe_connect(uv_connect_t *request, uv_pipe_t *handle, const char *name, uv_connect_cb callback) {
+    struct object *object = INSIDE() ? NULL : begin_start(request, handle, (void *)callback);
+    if (!object) {
+        CALL(uv_pipe_connect)(request, handle, name, callback);
+        return;
+    }
+    inside++;
+    CALL(uv_pipe_connect)(request, handle, name, on_connect);
+    inside--;
+    end_start(object, 0);
+}

@@ -1,0 +1,269 @@
+/* The log: a file that grows by windows, each mapped and shared. So what was written is in the file, however the program ends,
+ * and a line costs no system call. */
+#define _GNU_SOURCE
+#include "recorder.h"
+
+#include <dlfcn.h>
+#include <errno.h>
+#include <fcntl.h>
+#include <link.h>
+#include <pthread.h>
+#include <stdarg.h>
+#include <stdio.h>
+#include <stdlib.h>
+#include <string.h>
+#include <sys/mman.h>
+#include <sys/resource.h>
+#include <time.h>
+#include <unistd.h>
+
+enum { WINDOW = 1 << 20, NOTE = 64, LINE = 4096 };
+
+bool off = true;
+__thread int inside;
+static __thread int locked;
+static pthread_mutex_t mutex = PTHREAD_RECURSIVE_MUTEX_INITIALIZER_NP;
+static char prefix[3072];
+static int file = -1;
+static char *window;
+static size_t used, windows;
+static uintptr_t text_from, text_to; /* of libuv */
+REAL(uv_now)
+REAL(uv_err_name)
+REAL(uv_version_string)
+
+void lock(void) {
+    pthread_mutex_lock(&mutex);
+    locked++;
+}
+
+void unlock(void) {
+    locked--;
+    pthread_mutex_unlock(&mutex);
+}
+
+bool is_locked_here(void) {
+    return locked > 0;
+}
+
+/* ---- the file */
+
+static bool may_grow_to(size_t size) {
+    struct rlimit limit;
+    /* (a file past its limit ends the program with a signal) */
+    return getrlimit(RLIMIT_FSIZE, &limit) != 0 || limit.rlim_cur == RLIM_INFINITY || size <= limit.rlim_cur;
+}
+
+/* The next window. Without room for it the last one says so at its end, and nothing is recorded any more. */
+static bool next_window(void) {
+    size_t size = (windows + 1) * (size_t)WINDOW;
+    char *next = MAP_FAILED;
+    if (may_grow_to(size) && posix_fallocate(file, (off_t)(size - WINDOW), WINDOW) == 0)
+        next = mmap(NULL, WINDOW, PROT_READ | PROT_WRITE, MAP_SHARED, file, (off_t)(size - WINDOW));
+    if (next == MAP_FAILED) {
+        if (window) strcpy(window + used, "- ! no room\n");
+        off = true;
+        return false;
+    }
+    if (window) munmap(window, WINDOW);
+    window = next;
+    used = 0;
+    windows++;
+    return true;
+}
+
+static void write_text(const char *text, size_t length) {
+    if (used + length > WINDOW - NOTE && !next_window()) return;
+    memcpy(window + used, text, length);
+    used += length;
+}
+
+/* The first line: which libuv, which process, how many workers, which program. */
+static void write_head(void) {
+    char text[LINE], program[2048];
+    ssize_t length = readlink("/proc/self/exe", program, sizeof program - 1);
+    const char *asked = getenv("UV_THREADPOOL_SIZE");
+    int workers = asked ? atoi(asked) : 4;
+    if (workers == 0) workers = 1;
+    if (workers < 0 || workers > 1024) workers = 1024; /* as libuv has it */
+    program[length < 0 ? 0 : length] = 0;
+    int size = snprintf(text, sizeof text, "uvt-log 1 %s %d %d %s\n", CALL(uv_version_string)(), (int)getpid(),
+                        workers, program);
+    write_text(text, (size_t)size);
+}
+
+/* The file is made with the first line of the first loop. */
+static bool open_log(void) {
+    char name[4096];
+    if (window) return true;
+    snprintf(name, sizeof name, "%s.%d.log", prefix, (int)getpid());
+    file = open(name, O_RDWR | O_CREAT | O_TRUNC | O_CLOEXEC, 0644);
+    if (file < 0 || !next_window()) {
+        off = true;
+        return false;
+    }
+    write_head();
+    return true;
+}
+
+/* ---- lines */
+
+struct line {
+    size_t length;
+    char text[LINE];
+};
+
+/* (a word of the program's own is cut, so that what follows has its room) */
+static inline void add_sign(struct line *line, char sign) {
+    if (line->length < LINE - 2) line->text[line->length++] = sign == '\n' ? '?' : sign;
+}
+
+static inline void add_text(struct line *line, const char *text) {
+    while (*text) add_sign(line, *text++);
+}
+
+static void add_number(struct line *line, uint64_t number, unsigned base) {
+    char digits[24];
+    int count = 0;
+    do {
+        digits[count++] = "0123456789abcdef"[base == 10 ? number % 10 : number % 16];
+        number = base == 10 ? number / 10 : number / 16;
+    } while (number);
+    while (count) add_sign(line, digits[--count]);
+}
+
+static void add_format(struct line *line, const char *format, va_list words) {
+    for (; *format; format++) {
+        if (*format != '%' || !format[1]) {
+            add_sign(line, *format);
+            continue;
+        }
+        switch (*++format) {
+        case 's': add_text(line, va_arg(words, const char *)); break;
+        case 'u': add_number(line, va_arg(words, uint64_t), 10); break;
+        case 'x': add_number(line, va_arg(words, uint64_t), 16); break;
+        case 'd': {
+            int number = va_arg(words, int);
+            if (number < 0) add_sign(line, '-');
+            add_number(line, (uint64_t)(number < 0 ? -(int64_t)number : number), 10);
+            break;
+        }
+        default: add_sign(line, '%'); /* of an id */
+        }
+    }
+}
+
+static uint64_t clock_now(void) {
+    struct timespec time;
+    clock_gettime(CLOCK_MONOTONIC, &time);
+    return (uint64_t)time.tv_sec * 1000 + (uint64_t)time.tv_nsec / 1000000;
+}
+
+void write_line(struct loop *loop, char type, const char *format, ...) {
+    struct line line;
+    if (off || (loop && !loop->uv) || !open_log()) return;
+    line.length = 0;
+    if (loop) add_number(&line, (uint64_t)loop->number, 10);
+    else add_sign(&line, '-');
+    add_sign(&line, ' ');
+    add_sign(&line, type);
+    add_sign(&line, ' ');
+    if (loop) {
+        add_number(&line, CALL(uv_now)(loop->uv) - loop->base, 10);
+        add_sign(&line, ' ');
+    }
+    if (type == 'E') {
+        add_number(&line, clock_now() - loop->base, 10);
+        add_sign(&line, ' ');
+    }
+    va_list words;
+    va_start(words, format);
+    add_format(&line, format, words);
+    va_end(words);
+    line.text[line.length++] = '\n';
+    write_text(line.text, line.length);
+}
+
+const char *answer_text(int answer) {
+    return answer == 0 ? "ok" : CALL(uv_err_name)(answer);
+}
+
+void write_op(struct object *object, const char *word, const char *rest, int answer) {
+    if (object) write_line(object->loop, 'O', "%s %%%d%s = %s", word, object->id, rest, answer_text(answer));
+}
+
+/* ---- libuv */
+
+static int missing(void) {
+    return UV_ENOSYS;
+}
+
+static int find_text(struct dl_phdr_info *info, size_t size, void *none) {
+    (void)size, (void)none;
+    if (!strstr(info->dlpi_name, "libuv.so")) return 0;
+    for (int at = 0; at < info->dlpi_phnum; at++) {
+        const ElfW(Phdr) *part = &info->dlpi_phdr[at];
+        if (part->p_type != PT_LOAD || !(part->p_flags & PF_X)) continue;
+        text_from = info->dlpi_addr + part->p_vaddr;
+        text_to = text_from + part->p_memsz;
+    }
+    return 1;
+}
+
+/* The function of this name, of libuv or of the C library. The recorder isn't linked with libuv, so that a program
+ * without it doesn't get it; and one may come by dlopen. */
+static void *look_up(const char *name) {
+    static void *libuv;
+    if (strncmp(name, "uv_", 3) != 0) return dlsym(RTLD_NEXT, name);
+    if (!libuv) {
+        libuv = dlopen("libuv.so.1", RTLD_LAZY | RTLD_NOLOAD);
+        if (!libuv) libuv = dlopen("libuv.so.1", RTLD_LAZY);
+        dl_iterate_phdr(find_text, NULL);
+    }
+    void *found = libuv ? dlsym(libuv, name) : NULL;
+    return found ? found : (void *)missing;
+}
+
+void *real(const char *name, void **kept) {
+    void *found = __atomic_load_n(kept, __ATOMIC_ACQUIRE);
+    if (found) return found;
+    found = look_up(name);
+    __atomic_store_n(kept, found, __ATOMIC_RELEASE);
+    return found;
+}
+
+bool is_from_libuv(const void *caller) {
+    uintptr_t at = (uintptr_t)caller;
+    return off || inside > 0 || (at >= text_from && at < text_to);
+}
+
+/* ---- the process */
+
+static void before_fork(void) {
+    lock();
+}
+
+static void after_fork(void) {
+    unlock();
+}
+
+/* A child without exec has loops of which the log has only a part. (Its mutex has an owner that isn't there any more.) */
+static void in_child(void) {
+    off = true;
+    locked = 0;
+    mutex = (pthread_mutex_t)PTHREAD_RECURSIVE_MUTEX_INITIALIZER_NP;
+}
+
+static void __attribute__((constructor)) begin(void) {
+    const char *named = getenv("UVT_LOG");
+    if (!named || strlen(named) >= sizeof prefix) return;
+    strcpy(prefix, named);
+    pthread_atfork(before_fork, after_fork, in_child);
+    off = false;
+}
+
+static void __attribute__((destructor)) end(void) {
+    if (off || !window) return;
+    off = true;
+    if (ftruncate(file, (off_t)((windows - 1) * (size_t)WINDOW + used)) != 0) return;
+}

@@ -1,0 +1,154 @@
+/* Loops, and the handles and requests of the program by their addresses, with a number each. */
+#define _GNU_SOURCE
+#include "recorder.h"
+
+#include <dlfcn.h>
+#include <stdlib.h>
+#include <string.h>
+#include <unistd.h>
+
+static struct loop **loops;
+static int loop_count, loop_room;
+static struct object **buckets, *unused;
+static size_t bucket_count, object_count;
+static int ids;
+REAL(uv_now)
+
+/* ---- loops */
+
+static struct loop *add_loop(uv_loop_t *uv) {
+    if (loop_count == loop_room) {
+        int room = loop_room ? 2 * loop_room : 16;
+        struct loop **more = realloc(loops, (size_t)room * sizeof *more);
+        if (!more) return NULL;
+        loops = more;
+        loop_room = room;
+    }
+    struct loop *loop = calloc(1, sizeof *loop);
+    if (!loop) return NULL;
+    *loop = (struct loop){.uv = uv, .number = loop_count, .base = CALL(uv_now)(uv), .thread = pthread_self()};
+    loops[loop_count++] = loop;
+    return loop;
+}
+
+/* A loop that is made, maybe where one that was never closed has been. */
+struct loop *new_loop(uv_loop_t *uv) {
+    for (int at = loop_count - 1; at >= 0; at--)
+        if (loops[at]->uv == uv) loops[at]->uv = NULL;
+    return add_loop(uv);
+}
+
+struct loop *loop_of(uv_loop_t *uv) {
+    static __thread struct loop *last;
+    if (last && last->uv == uv) return last;
+    for (int at = loop_count - 1; at >= 0; at--)
+        if (loops[at]->uv == uv) return last = loops[at];
+    return last = add_loop(uv);
+}
+
+/* ---- objects */
+
+static struct object **bucket(const void *address) {
+    uint64_t mixed = (uint64_t)(uintptr_t)address * 0x9E3779B97F4A7C15u;
+    return &buckets[(mixed >> 32) & (bucket_count - 1)];
+}
+
+static void grow(void) {
+    struct object **old = buckets;
+    size_t count = bucket_count;
+    struct object **more = calloc(count ? 2 * count : 1024, sizeof *more);
+    if (!more) return;
+    buckets = more;
+    bucket_count = count ? 2 * count : 1024;
+    for (size_t at = 0; at < count; at++)
+        for (struct object *it = old[at], *next; it; it = next) {
+            struct object **to = bucket(it->address);
+            next = it->next;
+            it->next = *to;
+            *to = it;
+        }
+    free(old);
+}
+
+struct object *find(const void *address) {
+    if (!buckets) return NULL;
+    struct object *it = *bucket(address);
+    while (it && it->address != address) it = it->next;
+    return it;
+}
+
+/* A handle or a request that begins at this address; what was there is gone. */
+struct object *put(struct loop *loop, void *address) {
+    struct object *it = find(address);
+    if (it) drop(it);
+    if (object_count >= bucket_count) grow();
+    it = unused;
+    if (it) unused = it->next;
+    else it = malloc(sizeof *it);
+    if (!it || !loop || !buckets) return NULL;
+    memset(it, 0, sizeof *it);
+    struct object **to = bucket(address);
+    it->address = address;
+    it->loop = loop;
+    it->id = ids++;
+    it->next = *to;
+    *to = it;
+    object_count++;
+    return it;
+}
+
+void drop(struct object *object) {
+    struct object **at = bucket(object->address);
+    while (*at && *at != object) at = &(*at)->next;
+    if (!*at) return;
+    *at = object->next;
+    for (struct object **it = &object->loop->unsettled; *it; it = &(*it)->next_unsettled)
+        if (*it == object) {
+            *it = object->next_unsettled;
+            break;
+        }
+    object->next = unused;
+    unused = object;
+    object_count--;
+}
+
+/* ---- where they and their callbacks lie */
+
+enum { PLACES = 1024 };
+
+/* The number of an address in a program's file: the first time a line says where it is. -1 for memory that is in none. */
+static int place_of(const void *address) {
+    static struct { const void *address; int number; } places[PLACES];
+    static int count;
+    size_t at = ((uintptr_t)address * 0x9E3779B97F4A7C15u >> 40) % PLACES;
+    if (places[at].address == address) return places[at].number;
+    Dl_info info;
+    if (!dladdr(address, &info) || !info.dli_fname) return -1;
+    char program[2048];
+    ssize_t length = *info.dli_fname == '/' ? -1 : readlink("/proc/self/exe", program, sizeof program - 1);
+    if (length >= 0) program[length] = 0;
+    const char *symbol = info.dli_saddr == address && info.dli_sname ? info.dli_sname : "-";
+    write_line(NULL, 'A', "%d %x %s %s", count, (uint64_t)((const char *)address - (const char *)info.dli_fbase), symbol,
+               length >= 0 ? program : info.dli_fname);
+    places[at].address = address;
+    places[at].number = count;
+    return count++;
+}
+
+/* (most handles lie in memory that was allocated, many in a page: such a page is remembered) */
+void name_place(struct object *object) {
+    static uintptr_t elsewhere[PLACES];
+    if (!object) return;
+    uintptr_t page = (uintptr_t)object->address >> 12;
+    if (elsewhere[page % PLACES] == page) return;
+    int place = place_of(object->address);
+    if (place >= 0) write_line(object->loop, 'V', "%d %d", object->id, place);
+    else elsewhere[page % PLACES] = page;
+}
+
+void name_callback(struct object *object, void *callback) {
+    if (!object || object->named || !callback) return;
+    int place = place_of(callback);
+    object->named = true;
+    if (place >= 0) write_line(object->loop, 'C', "%d %d", object->id, place);
+}

@@ -1,0 +1,177 @@
+/* Requests of the thread pool: work, files, names and random bytes. */
+#define _GNU_SOURCE
+#include "recorder.h"
+
+REAL(uv_cancel)
+REAL(uv_fs_get_result)
+REAL(uv_queue_work)
+
+/* A request that is queued while the lock is held: a worker that is quicker writes its line behind. */
+static struct object *queue(uv_loop_t *uv, void *request, void *callback, void *work) {
+    struct object *object = put(loop_of(uv), request);
+    if (!object) return NULL;
+    object->callback = callback;
+    object->second = work;
+    return object;
+}
+
+static int queued(struct object *object, const char *kind, int answer) {
+    if (object && answer == 0) {
+        write_line(object->loop, 'O', "queue %%%d %s = ok", object->id, kind);
+        name_place(object);
+        name_callback(object, object->second ? object->second : object->callback);
+    } else if (object) {
+        drop(object);
+    }
+    unlock();
+    return answer;
+}
+
+/* What an after callback needs: the request's memory may be another one's behind it. */
+struct after {
+    struct loop *loop;
+    void *callback;
+    int id;
+};
+
+static struct after begin_after(void *request, bool cancelled) {
+    lock();
+    struct object *object = find(request);
+    struct after after = {object->loop, object->callback, object->id};
+    settle_all(after.loop);
+    write_line(after.loop, 'B', "after %d %s", after.id, cancelled ? "ECANCELED" : "ok");
+    drop(object);
+    unlock();
+    return after;
+}
+
+static void end_after(struct after after) {
+    lock();
+    write_line(after.loop, 'E', "%d", after.id);
+    unlock();
+}
+
+static void do_work(uv_work_t *request) {
+    lock();
+    struct object *object = find(request);
+    uv_work_cb work = (uv_work_cb)object->second;
+    write_line(object->loop, 'T', "%d", object->id);
+    unlock();
+    PROGRAM(work(request));
+}
+
+/* The callbacks that libuv gets in place of the program's. */
+#define AFTER(NAME, TYPE, PARAMETERS, WORDS, CANCELLED)                     \
+    static void NAME PARAMETERS {                                           \
+        struct after after = begin_after(request, CANCELLED);               \
+        if (after.callback) PROGRAM(((TYPE)after.callback)WORDS);           \
+        end_after(after);                                                   \
+    }
+
+AFTER(after_work, uv_after_work_cb, (uv_work_t * request, int status), (request, status), status == UV_ECANCELED)
+AFTER(after_fs, uv_fs_cb, (uv_fs_t * request), (request), CALL(uv_fs_get_result)(request) == UV_ECANCELED)
+AFTER(after_addrinfo, uv_getaddrinfo_cb, (uv_getaddrinfo_t * request, int status, struct addrinfo *found),
+      (request, status, found), status == UV_EAI_CANCELED)
+AFTER(after_nameinfo, uv_getnameinfo_cb, (uv_getnameinfo_t * request, int status, const char *host, const char *service),
+      (request, status, host, service), status == UV_EAI_CANCELED)
+AFTER(after_random, uv_random_cb, (uv_random_t * request, int status, void *bytes, size_t length),
+      (request, status, bytes, length), status == UV_ECANCELED)
+
+int uv_queue_work(uv_loop_t *uv, uv_work_t *request, uv_work_cb work, uv_after_work_cb callback) {
+    if (INSIDE() || !work) return CALL(uv_queue_work)(uv, request, work, callback);
+    lock();
+    struct object *object = queue(uv, request, (void *)callback, (void *)work);
+    return queued(object, "work", REALLY(CALL(uv_queue_work)(uv, request, object ? do_work : work, object ? after_work : callback)));
+}
+
+int uv_cancel(uv_req_t *request) {
+    if (INSIDE()) return CALL(uv_cancel)(request);
+    lock();
+    int answer = REALLY(CALL(uv_cancel)(request));
+    write_op(find(request), "cancel", "", answer);
+    unlock();
+    return answer;
+}
+
+/* A function that takes a callback. WITH(x) are its words with x as the callback; without one it is done at once. */
+#define POOLED(NAME, KIND, INSTEAD, CALLBACK, PARAMETERS, WITH)                          \
+    REAL(NAME)                                                                           \
+    int NAME PARAMETERS {                                                                \
+        if (INSIDE() || !callback || !uv) return CALL(NAME) WITH(callback);              \
+        lock();                                                                          \
+        struct object *object = queue(uv, request, (void *)callback, NULL);              \
+        return queued(object, KIND, REALLY(CALL(NAME) WITH((object ? INSTEAD : callback)))); \
+    }
+
+#define WITH(x) (uv, request, x, node, service, hints)
+POOLED(uv_getaddrinfo, "addrinfo", after_addrinfo, uv_getaddrinfo_cb,
+       (uv_loop_t * uv, uv_getaddrinfo_t *request, uv_getaddrinfo_cb callback, const char *node, const char *service,
+        const struct addrinfo *hints), WITH)
+#undef WITH
+#define WITH(x) (uv, request, x, address, flags)
+POOLED(uv_getnameinfo, "nameinfo", after_nameinfo, uv_getnameinfo_cb,
+       (uv_loop_t * uv, uv_getnameinfo_t *request, uv_getnameinfo_cb callback, const struct sockaddr *address, int flags), WITH)
+#undef WITH
+#define WITH(x) (uv, request, bytes, length, flags, x)
+POOLED(uv_random, "random", after_random, uv_random_cb,
+       (uv_loop_t * uv, uv_random_t *request, void *bytes, size_t length, unsigned flags, uv_random_cb callback), WITH)
+#undef WITH
+
+/* ---- files: uv_fs_NAME(loop, request, words of its own, callback) */
+
+#define FS(NAME, PARAMETERS, WORDS) \
+    POOLED(uv_fs_##NAME, "fs_" #NAME, after_fs, uv_fs_cb, PARAMETERS, WORDS)
+#define P(...) (uv_loop_t * uv, uv_fs_t *request, __VA_ARGS__, uv_fs_cb callback)
+#define W_PATH(x) (uv, request, path, x)
+#define W_PATH_FLAGS(x) (uv, request, path, flags, x)
+#define W_PATHS(x) (uv, request, path, target, x)
+#define W_PATHS_FLAGS(x) (uv, request, path, target, flags, x)
+#define W_FILE(x) (uv, request, file, x)
+#define W_BYTES(x) (uv, request, file, buffers, count, offset, x)
+#define W_TIMES(x) (uv, request, path, accessed, modified, x)
+#define W_OWNER(x) (uv, request, path, user, group, x)
+#define W_DIR(x) (uv, request, dir, x)
+
+#define W_OPEN(x) (uv, request, path, flags, mode, x)
+#define W_SIZE(x) (uv, request, file, offset, x)
+#define W_SEND(x) (uv, request, out, in, offset, length, x)
+#define W_MODE(x) (uv, request, file, mode, x)
+#define W_FILE_TIMES(x) (uv, request, file, accessed, modified, x)
+#define W_FILE_OWNER(x) (uv, request, file, user, group, x)
+
+FS(close, P(uv_file file), W_FILE)
+FS(open, P(const char *path, int flags, int mode), W_OPEN)
+FS(read, P(uv_file file, const uv_buf_t buffers[], unsigned count, int64_t offset), W_BYTES)
+FS(write, P(uv_file file, const uv_buf_t buffers[], unsigned count, int64_t offset), W_BYTES)
+FS(unlink, P(const char *path), W_PATH)
+FS(copyfile, P(const char *path, const char *target, int flags), W_PATHS_FLAGS)
+FS(mkdir, P(const char *path, int flags), W_PATH_FLAGS)
+FS(mkdtemp, P(const char *path), W_PATH)
+FS(mkstemp, P(const char *path), W_PATH)
+FS(rmdir, P(const char *path), W_PATH)
+FS(scandir, P(const char *path, int flags), W_PATH_FLAGS)
+FS(opendir, P(const char *path), W_PATH)
+FS(readdir, P(uv_dir_t *dir), W_DIR)
+FS(closedir, P(uv_dir_t *dir), W_DIR)
+FS(stat, P(const char *path), W_PATH)
+FS(fstat, P(uv_file file), W_FILE)
+FS(lstat, P(const char *path), W_PATH)
+FS(statfs, P(const char *path), W_PATH)
+FS(rename, P(const char *path, const char *target), W_PATHS)
+FS(fsync, P(uv_file file), W_FILE)
+FS(fdatasync, P(uv_file file), W_FILE)
+FS(ftruncate, P(uv_file file, int64_t offset), W_SIZE)
+FS(sendfile, P(uv_file out, uv_file in, int64_t offset, size_t length), W_SEND)
+FS(access, P(const char *path, int flags), W_PATH_FLAGS)
+FS(chmod, P(const char *path, int flags), W_PATH_FLAGS)
+FS(fchmod, P(uv_file file, int mode), W_MODE)
+FS(utime, P(const char *path, double accessed, double modified), W_TIMES)
+FS(lutime, P(const char *path, double accessed, double modified), W_TIMES)
+FS(futime, P(uv_file file, double accessed, double modified), W_FILE_TIMES)
+FS(link, P(const char *path, const char *target), W_PATHS)
+FS(symlink, P(const char *path, const char *target, int flags), W_PATHS_FLAGS)
+FS(readlink, P(const char *path), W_PATH)
+FS(realpath, P(const char *path), W_PATH)
+FS(chown, P(const char *path, uv_uid_t user, uv_gid_t group), W_OWNER)
+FS(lchown, P(const char *path, uv_uid_t user, uv_gid_t group), W_OWNER)
+FS(fchown, P(uv_file file, uv_uid_t user, uv_gid_t group), W_FILE_OWNER)

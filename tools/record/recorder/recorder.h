@@ -1,0 +1,106 @@
+/* A recorder of programs on libuv, for LD_PRELOAD.
+ *
+ * It stands before libuv's public functions, calls them, and writes a line for each op, callback and poll. It decides
+ * nothing: the program runs as it would. tools/uvt-record makes recordings of what it writes, and docs/RECORD.md says
+ * what each line means.
+ *
+ * UVT_LOG=PREFIX LD_PRELOAD=recorder.so PROGRAM..   writes PREFIX.PID.log for each process that has a loop */
+#ifndef RECORDER_H
+#define RECORDER_H
+
+#include <pthread.h>
+#include <stdbool.h>
+#include <stdint.h>
+#include <uv.h>
+
+/* ---- a loop, and a handle or a request (objects.c) */
+
+struct loop {
+    uv_loop_t *uv; /* NULL once it is closed */
+    int number;
+    uint64_t base; /* the loop's time as it was first seen: times in the log count from there */
+    pthread_t thread; /* that of the last uv_run, or of its init */
+    int running; /* how many uv_run are under way */
+    struct object *unsettled; /* watchers whose callback has just ended: see settle() */
+};
+
+struct object {
+    struct object *next; /* of the same bucket, or of those that are free */
+    void *address;
+    struct loop *loop;
+    int id;
+    bool watcher; /* a handle of I/O, signals, files or processes */
+    bool counts; /* of a watcher: does it keep the loop alive, as the log has it */
+    bool named;
+    int requests; /* of a watcher: writes, connects, .. that are under way */
+    void *callback;
+    void *second; /* of a request: its work; of a stream: its connection callback */
+    uv_close_cb closed;
+    struct object *owner; /* of a stream's request: the stream */
+    struct object *next_unsettled;
+    bool is_unsettled;
+};
+
+struct loop *loop_of(uv_loop_t *uv);
+struct loop *new_loop(uv_loop_t *uv);
+struct object *find(const void *address);
+struct object *put(struct loop *loop, void *address);
+void drop(struct object *object);
+/* The lines that say where it lies, and which its callback is: the first one that it had. */
+void name_place(struct object *object);
+void name_callback(struct object *object, void *callback);
+
+/* ---- the log (log.c) */
+
+extern bool off; /* nothing is recorded: no UVT_LOG, no room, or a child after fork */
+
+/* Around all that is asked of objects and written. */
+void lock(void);
+void unlock(void);
+bool is_locked_here(void);
+/* `LOOP TYPE NOW ..`, and the clock behind NOW where a callback ends (type E). The format knows %d, %u (64 bits), %x (64 bits) and %s. */
+void write_line(struct loop *loop, char type, const char *format, ...);
+/* `LOOP O NOW WORD %ID REST = ANSWER`; nothing where there is no object. */
+void write_op(struct object *object, const char *word, const char *rest, int answer);
+const char *answer_text(int answer);
+
+/* ---- the real functions (log.c) */
+
+void *real(const char *name, void **kept);
+/* Does libuv itself call the function that asks so? Its own calls of its public functions are no ops of the program. They
+ * come from its text; or, as tail calls, while a real function is under way. */
+bool is_from_libuv(const void *caller);
+extern __thread int inside;
+
+#define REAL(name) static void *kept_##name;
+#define CALL(name) ((__typeof__(name) *)real(#name, &kept_##name))
+#define INSIDE() is_from_libuv(__builtin_return_address(0))
+#define REALLY(call)                 \
+    ({                               \
+        inside++;                    \
+        __typeof__(call) got = call; \
+        inside--;                    \
+        got;                         \
+    })
+
+/* ---- callbacks and watchers (handles.c) */
+
+/* Around a handle's callback. `enter` answers its object, NULL if there is none. */
+struct object *enter(void *handle, const char *what);
+void leave(struct loop *loop, void *handle, int id);
+/* The op `init`, of a handle that was made. */
+struct object *made(uv_loop_t *loop, void *handle, const char *kind, bool watcher);
+/* Says whether a watcher keeps the loop alive, where that has changed. */
+void settle(struct object *watcher);
+void settle_all(struct loop *loop);
+
+/* Calls a callback of the program: what it asks of libuv are ops again. */
+#define PROGRAM(call)           \
+    do {                        \
+        int outer = inside;     \
+        inside = 0;             \
+        call;                   \
+        inside = outer;         \
+    } while (0)
+
+#endif
