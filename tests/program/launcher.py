@@ -24,6 +24,8 @@ import scripts
 SECONDS = 60
 BAD_COMMAND = b'uvt: bad command line\n'
 SCRIPT = b'var t\nmain init t timer\nbegin\nloop\n'
+# A plain file whose first byte can't be read, whoever asks.
+UNREADABLE = '/proc/1/mem'
 Check = Callable[..., None]
 
 
@@ -74,6 +76,14 @@ def try_files(check: Check, uvt: str, folder: str) -> None:
     same(check, 'debug with the end of the options', run([uvt, 'debug', '--'], SCRIPT), (0, b'init t timer = 0.0\n', b''))
     same(check, 'debug with it and FILE', run([uvt, 'debug', '--', script]), (0, b'init t timer = 0.0\n', b''))
     same(check, 'debug of two files', run([uvt, 'debug', script, script])[0], 2)
+    for word in ('debug', 'replay', 'live'):
+        status, output, errors = run([uvt, word, UNREADABLE], SCRIPT)
+        check('%s of a file that cannot be read' % word, (status, output) == (2, b'') and b'cannot be taken as input' in errors,
+              'got %r' % ((status, output, errors),))
+        closed = subprocess.run(['sh', '-c', 'exec "$@" <&-', 'sh', uvt, word], stdout=subprocess.PIPE, stderr=subprocess.PIPE)
+        same(check, '%s of a closed input' % word, (closed.returncode, closed.stdout, closed.stderr), (4, b'', b'uvt: read failed\n'))
+    closed = subprocess.run(['sh', '-c', 'exec "$@" <&-', 'sh', uvt, 'debug', script], stdout=subprocess.PIPE, stderr=subprocess.PIPE)
+    same(check, 'debug FILE with a closed input', (closed.returncode, closed.stdout, closed.stderr), (0, b'init t timer = 0.0\n', b''))
     status, output, errors = run([uvt, 'live', script])
     check('live FILE', (status, errors) == (0, b'') and output.startswith(b'uvt 1\nworkers 4\n'), 'got %r' % ((status, output, errors),))
     for words in (['live', '--workers', '3', script], ['live', script, '--workers', '3'], ['live', '--workers=3', script]):
