@@ -4,6 +4,8 @@ use Rattle.uv_ids.specs.declared.phase.Kind.{Kind}
 use Rattle.uv_ids.specs.declared.phase.Kind.TheVariants as kind
 use Rattle.uv_ids.specs.declared.phase.Mode.{Mode}
 use Rattle.uv_ids.specs.declared.phase.Mode.TheVariants as mode
+use Rattle.uv_ids.specs.declared.order.Order.{Order}
+use Rattle.uv_ids.specs.declared.order.Order.TheVariants as order
 use Rattle.uv_ids.specs.declared.phase.Phase.{Phase}
 use Rattle.uv_ids.specs.declared.phase.Phase.TheVariants as phase
 use Rattle.uv_ids.specs.declared.code.Code.{Code}
@@ -33,7 +35,16 @@ mode_word mode.Nowait = codes "nowait"
 abbrev pub IsNoMode : List ℕ → Type 0
 IsNoMode word = (mode : Mode) → word ≡ mode_word mode → ⊥
 
--- a section of an iteration, in the order of libuv's design overview at 1.45
+-- the order of a run's phases, by the version of libuv that has it
+abbrev pub order_word : Order → List ℕ
+order_word order.V144 = codes "1.44"
+order_word order.V145 = codes "1.45"
+
+-- the word names no order
+abbrev pub IsNoOrder : List ℕ → Type 0
+IsNoOrder word = (o : Order) → word ≡ order_word o → ⊥
+
+-- a section of an iteration
 abbrev pub phase_word : Phase → List ℕ
 phase_word phase.Pending = codes "pending"
 phase_word phase.Idle = codes "idle"
