@@ -86,12 +86,12 @@ fn there_and_back(slots: &mut Slots<u64>, id: Id, content: u64) -> Option<(u64, 
         None => None,
         Some(freed) => match slots.insert(content) {
             Err(_) => {
-                slots.undo_remove(freed.1);
+                slots.undo_remove(freed.1, freed.0);
                 None
             }
             Ok(taken) => {
                 slots.undo_insert(taken.1);
-                slots.undo_remove(freed.1);
+                slots.undo_remove(freed.1, freed.0);
                 Some((freed.0, taken.0))
             }
         },

@@ -179,9 +179,10 @@ impl Counted {
     /// Takes a closing handle and puts it back: its id, and whether it was seen so in between.
     pub fn take_closing_and_back(&mut self, view: View) -> Option<(Id, bool)> {
         match self.handles.take_closing(&mut self.slots) {
-            Some((id, _, undo)) => {
+            Some((id, content, undo)) => {
                 let seen = self.is_seen(id, view);
-                self.handles.undo_take_closing(&mut self.slots, undo);
+                self.handles
+                    .undo_take_closing(&mut self.slots, undo, content);
                 Some((id, seen))
             }
             None => None,

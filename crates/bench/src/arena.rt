@@ -54,7 +54,7 @@ fn remove_and_back(clock: &impl Clock, watch: &mut Watch, slots: &mut Slots<Cont
         None => watch.fail(),
         Some(freed) => {
             remove_and_back(clock, watch, slots, others);
-            slots.undo_remove(freed.1);
+            slots.undo_remove(freed.1, freed.0);
         }
     }
 }

@@ -12,5 +12,5 @@ undone_work (Taken u) w can h = can.work
 undone_work (Finished u) w can h = can.work
 undone_work (Cancelled u) w can h = can.work
 undone_work (Begun u) w can h = can.work
-undone_work (Collected u) w can h = can.work
+undone_work (Collected u r) w can h = can.work
 undone_work Nothing w can h = h

@@ -7,7 +7,7 @@ use Rattle.calls.specs.declared.arena.calls.Token.TheVariants.{Inserted, Removed
 
 abbrev pub undone : Token → Image ℕ → Image ℕ
 undone (Inserted u) i = insert_undone u i
-undone (Removed u) i = remove_undone u i
+undone (Removed u v) i = remove_undone u v i
 undone (Pushed u) i = push_undone u.slot i
 undone (Unlinked t) i = unlink_undone t i
 undone (Spliced u) i = splice_undone u i
@@ -15,7 +15,7 @@ undone Nothing i = i
 
 abbrev pub CanUndo : Token → Image ℕ → Type 0
 CanUndo (Inserted u) i = CanUndoInsert i u
-CanUndo (Removed u) i = CanUndoRemove i u
+CanUndo (Removed u v) i = CanUndoRemove i u v
 CanUndo (Pushed u) i = CanUndoPush i u.slot
 CanUndo (Unlinked t) i = CanUndoUnlink i t
 CanUndo (Spliced u) i = CanUndoSplice i u

@@ -12,7 +12,7 @@ undone (Taken u) w = take_undone u w
 undone (Finished u) w = finish_undone asked holding u w
 undone (Cancelled u) w = cancel_undone asked holding u w
 undone (Begun u) w = begin_undone u w
-undone (Collected u) w = collect_undone u w
+undone (Collected u r) w = collect_undone holding u r w
 undone Nothing w = w
 
 abbrev pub CanUndo : Token → Working Held → Type 0
@@ -21,5 +21,5 @@ CanUndo (Taken u) w = CanUndoTake asked w u
 CanUndo (Finished u) w = CanUndoFinish asked holding w u
 CanUndo (Cancelled u) w = CanUndoCancel asked holding w u
 CanUndo (Begun u) w = CanUndoBegin asked w u
-CanUndo (Collected u) w = CanUndoCollect asked w u
+CanUndo (Collected u r) w = CanUndoCollect asked holding w u r
 CanUndo Nothing w = Unit {0}

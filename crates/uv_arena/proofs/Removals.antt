@@ -26,12 +26,11 @@ module _ {X : Type 0} where
     pub removed : IsRemoved v (in_memory (edited d.slot (record { generation = d.generation; content = None })) v) d was (record {
       slot = d.slot;
       retired = true;
-      content = was;
     })
 
   pub retires : (v : Image X) → IsSound v → (d : Id) (was : X) → held v d ≡ Some was → on_list v d ≡ false → d.generation ≡ v.last → IsRetired v d was
   retires v s d was is bare last =
-      let m = v.memory in let x = d.slot in let u : RemoveUndo X = record { slot = x; retired = true; content = was } in
+      let m = v.memory in let x = d.slot in let u : RemoveUndo = record { slot = x; retired = true } in
       let t = held_tells m d was is in let c = t.0 in
       let off = is_loose v d (ap is_some is) bare c t.1 in
       let written : Slot X = record { generation = d.generation; content = None } in
@@ -49,7 +48,7 @@ module _ {X : Type 0} where
       } in
       let put : Slot X = record { generation = (slot_at n x).generation; content = Some was } in
       let same : put ≡ c.slot = λ i. record { generation = (ap (λ o. (slot_in o).generation) at ∙ sym t.3) i; content = sym t.2 i } in
-      let back : remove_undone u j ≡ v = ap (λ q. in_memory (edited x q) j) same
+      let back : remove_undone u was j ≡ v = ap (λ q. in_memory (edited x q) j) same
       ∙ ap (λ (q : Memory X). record { memory = q; names = v.names; last = v.last }) (edited_back m x written c t.1) in
       let slots = slots_edited x written m c t.1 in let long = length_edited x written m in
       let contents : (e : Id) → e.slot ≢ x → held j e ≡ held v e = λ e ne. held_other (held_slots m) (held_slots n) x written slots e ne in
@@ -71,7 +70,6 @@ module _ {X : Type 0} where
         removed = record {
           was = is;
           slot = refl;
-          content = refl;
           plain = (λ i. record { slots = slots i; free = chain_edited x written m FREE i; unused = m.row.capacity - long i })
               ∙ ap way (sym (eq-eqb d.generation v.last last));
           contents = contents;
@@ -95,12 +93,12 @@ module _ {X : Type 0} where
       generation = d.generation + 1;
       content =
           None;
-    }) m)) v) d was (record { slot = d.slot; retired = false; content = was })
+    }) m)) v) d was (record { slot = d.slot; retired = false })
 
   freed_at : (v : Image X) → IsSound v → (d : Id) (was : X) → held v d ≡ Some was → on_list v d ≡ false → d.generation ≢ v.last
       → IsFreed v d was (between FREE [] d.slot (chain v.memory FREE))
   freed_at v s d was is bare more =
-      let m = v.memory in let x = d.slot in let u : RemoveUndo X = record { slot = x; retired = false; content = was } in
+      let m = v.memory in let x = d.slot in let u : RemoveUndo = record { slot = x; retired = false } in
       let h = held_tells m d was is in let c = h.0 in let fit = s.fit x c h.1 in
       let off = is_loose v d (ap is_some is) bare c h.1 in
       let room : d.generation < v.last = omega (arith, fit.below, h.3, more) in
@@ -130,7 +128,7 @@ module _ {X : Type 0} where
       let less : (slot_at n x).generation - 1 ≡ c.slot.generation = ap (λ o. (slot_in o).generation - 1) at ∙ omega (arith, h.3) in
       let put : Slot X = record { generation = (slot_at n x).generation - 1; content = Some was } in
       let same : put ≡ c.slot = λ i. record { generation = less i; content = sym h.2 i } in
-      let back : remove_undone u j ≡ v = ap (λ p. in_memory (λ q. edited x put (taken_out p q)) j) stands
+      let back : remove_undone u was j ≡ v = ap (λ p. in_memory (λ q. edited x put (taken_out p q)) j) stands
       ∙ ap (λ q. in_memory (λ r. edited x q (taken_out t r)) j) same
       ∙ ap (λ (q : Memory X). in_memory (λ r. edited x c.slot q) v) both.1
       ∙ ap (λ (q : Memory X). record { memory = q; names = v.names; last = v.last }) (edited_back m x written c h.1) in
@@ -151,7 +149,6 @@ module _ {X : Type 0} where
         removed = record {
           was = is;
           slot = refl;
-          content = refl;
           plain = (λ i. record { slots = slots i; free = both.0.now i; unused = m.row.capacity - long i }) ∙ ap way (sym no);
           contents = contents;
           kept = λ i ne. on_list_by j v i (contents i ne) (list_relinked t (Some x) (Some x) own e i.slot (λ q. ne (sym q))

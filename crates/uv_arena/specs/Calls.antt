@@ -32,16 +32,15 @@ module _ {X : Type 0} where
     pub can_undo : CanUndoInsert new u
 
   -- what was held under the id is gone: its slot is free, or retired
-  pub record IsRemoved (old new : Image X) (d : Id) (v : X) (u : RemoveUndo X) : Type 0 where
+  pub record IsRemoved (old new : Image X) (d : Id) (v : X) (u : RemoveUndo) : Type 0 where
     pub was : held old d ≡ Some v
     pub slot : u.slot ≡ d.slot
-    pub content : u.content ≡ v
     pub plain : plain_slots new ≡ freed old.last d (plain_slots old)
     pub contents : (e : Id) → e.slot ≢ d.slot → held new e ≡ held old e
     pub kept : (e : Id) → e.slot ≢ d.slot → on_list new e ≡ on_list old e
     pub lists : (l : ListName) → members new l ≡ members old l
-    pub undone : remove_undone u new ≡ old
-    pub can_undo : CanUndoRemove new u
+    pub undone : remove_undone u v new ≡ old
+    pub can_undo : CanUndoRemove new u v
 
   -- other content is held under the id
   pub record IsSet (old new : Image X) (d : Id) (v was : X) : Type 0 where

@@ -34,19 +34,19 @@ module _ {X : Type 0} where
     pub place : u.fresh ≡ false → IsWithin (front_place FREE u.slot i.memory) (length i.memory.row.items)
     pub sound : IsSound (insert_undone u i)
 
-  -- a removal is taken back: the slot leaves the front of the free list, or is no longer retired; its generation and content are
-  -- put back
-  abbrev pub remove_undone : RemoveUndo X → Image X → Image X
-  remove_undone u i =
-      if u.retired then in_memory (holding u.slot u.content) i
+  -- a removal is taken back: the slot leaves the front of the free list, or is no longer retired; its generation is put back, and
+  -- what it held
+  abbrev pub remove_undone : RemoveUndo → X → Image X → Image X
+  remove_undone u v i =
+      if u.retired then in_memory (holding u.slot v) i
       else in_memory
-      (λ m. edited u.slot (record { generation = (slot_at m u.slot).generation - 1; content = Some u.content }) (taken_out (place_at m u.slot) m)) i
+      (λ m. edited u.slot (record { generation = (slot_at m u.slot).generation - 1; content = Some v }) (taken_out (place_at m u.slot) m)) i
 
-  pub record CanUndoRemove (i : Image X) (u : RemoveUndo X) : Type 0 where
+  pub record CanUndoRemove (i : Image X) (u : RemoveUndo) (v : X) : Type 0 where
     pub slot : u.slot < length i.memory.row.items
     pub generation : u.retired ≡ false → 0 < (slot_at i.memory u.slot).generation
     pub place : u.retired ≡ false → IsWithin (place_at i.memory u.slot) (length i.memory.row.items)
-    pub sound : IsSound (remove_undone u i)
+    pub sound : IsSound (remove_undone u v i)
 
   -- a change of content is taken back
   abbrev pub set_undone : ℕ → X → Image X → Image X

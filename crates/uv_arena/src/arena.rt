@@ -126,8 +126,9 @@ impl<T: Copy> Slots<T> {
         Ok((id, InsertUndo { slot, fresh: true }))
     }
 
-    /// Frees the slot of an id, which is on no list; at the last generation it is retired. None if nothing is held there.
-    pub fn remove(&mut self, id: Id) -> Option<(T, RemoveUndo<T>)>
+    /// Frees the slot of an id, which is on no list; at the last generation it is retired. What it held, and what takes that back with
+    /// it. None if nothing is held there.
+    pub fn remove(&mut self, id: Id) -> Option<(T, RemoveUndo)>
         requires { on_list self.old id ≡ false }
         ensures none { IfNone result ((held self.old id ≡ None) × (self.new ≡ self.old)) }
         ensures some { IfSome result (λ r. IsRemoved self.old self.new id r.0 r.1) }
@@ -141,8 +142,8 @@ impl<T: Copy> Slots<T> {
         Some((content, undo))
     }
 
-    /// Empties a slot for good.
-    fn retire(&mut self, id: Id, content: T) -> RemoveUndo<T>
+    /// Empties a slot, which holds this, for good.
+    fn retire(&mut self, id: Id, content: T) -> RemoveUndo
         requires held { held self.old id ≡ Some content }
         requires loose { on_list self.old id ≡ false }
         requires last { id.generation ≡ self.old.last }
@@ -159,12 +160,11 @@ impl<T: Copy> Slots<T> {
         RemoveUndo {
             slot: id.slot,
             retired: true,
-            content,
         }
     }
 
-    /// Puts a slot at the front of the free list.
-    fn free(&mut self, id: Id, content: T) -> RemoveUndo<T>
+    /// Empties a slot, which holds this, and puts it at the front of the free list.
+    fn free(&mut self, id: Id, content: T) -> RemoveUndo
         requires held { held self.old id ≡ Some content }
         requires loose { on_list self.old id ≡ false }
         requires more { id.generation ≢ self.old.last }
@@ -182,7 +182,6 @@ impl<T: Copy> Slots<T> {
         RemoveUndo {
             slot: id.slot,
             retired: false,
-            content,
         }
     }
 

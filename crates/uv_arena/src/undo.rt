@@ -8,12 +8,12 @@ pub struct InsertUndo {
     pub fresh: bool,
 }
 
-/// Takes a removal back: the slot that was freed, whether it was retired, and what it held.
+/// Takes a removal back, together with what the slot held, which the removal answers beside it: the slot that was freed, and whether
+/// it was retired.
 #[derive(Clone, Copy)]
-pub struct RemoveUndo<T> {
+pub struct RemoveUndo {
     pub slot: u32,
     pub retired: bool,
-    pub content: T,
 }
 
 /// Takes a push back: the slot that was put on a list.

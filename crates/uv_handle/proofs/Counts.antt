@@ -117,7 +117,7 @@ module _ {X : Type 0} (read : X → Option HandleRecord) where
         | inr q ↦ ap (λ (b : Bool). active_count read (way b).slots + one_if (keeps_in (read v))) q.0 ∙ out (d.generation + 1)
       ]
 
-  pub count_removed : (i j : Image X) (d : Id) (v : X) (u : RemoveUndo X) → IsRemoved i j d v u
+  pub count_removed : (i j : Image X) (d : Id) (v : X) (u : RemoveUndo) → IsRemoved i j d v u
       → alive_count read j + one_if (keeps_in (read v)) ≡ alive_count read i
   count_removed i j d v u h = ap (λ l. active_count read l + one_if (keeps_in (read v))) (ap (λ (q : plain.Slots X). q.slots) h.plain)
       ∙ count_freed i.last d (plain_slots i) v h.was

@@ -83,7 +83,7 @@ module _ {X : Type 0} (read : X → Option HandleRecord) (make : HandleRecord �
     pub enlisted : IsEnlisted old new d from (closed from) Closing u
 
   -- the front of those that have yet to be closed is off its list, and its slot is freed
-  pub record IsTaken (old new : Counted X) (d : Id) (content : X) (u : TakeUndo X) : Type 0 where
+  pub record IsTaken (old new : Counted X) (d : Id) (content : X) (u : TakeUndo) : Type 0 where
     pub first : IsFirst old.arena ClosingYet d
     pub was : held old.arena d ≡ Some content
     pub plain : plain_slots new.arena ≡ freed old.arena.last d (plain_slots old.arena)
@@ -91,5 +91,5 @@ module _ {X : Type 0} (read : X → Option HandleRecord) (make : HandleRecord �
     pub contents : (e : Id) → e.slot ≢ d.slot → held new.arena e ≡ held old.arena e
     pub kept : (e : Id) → e.slot ≢ d.slot → on_list new.arena e ≡ on_list old.arena e
     pub counts : IsCounted read new
-    pub undone : take_undone read u new ≡ old
-    pub can_undo : CanUndoTake read new u
+    pub undone : take_undone read u content new ≡ old
+    pub can_undo : CanUndoTake read new u content

@@ -58,14 +58,14 @@ module _ {X : Type 0} (read : X → Option HandleRecord) where
     pub inserted : CanUndoInsert c.arena u.inserted
     pub counts : IsCounted (add_undone u c)
 
-  -- a closing handle that was taken and freed is put back
-  abbrev pub take_undone : TakeUndo X → Counted X → Counted X
-  take_undone u c = counted (unlink_undone u.unlinked (remove_undone u.removed c.arena)) u.active
+  -- a closing handle that was taken and freed is put back, with what its slot held
+  abbrev pub take_undone : TakeUndo → X → Counted X → Counted X
+  take_undone u v c = counted (unlink_undone u.unlinked (remove_undone u.removed v c.arena)) u.active
 
-  pub record CanUndoTake (c : Counted X) (u : TakeUndo X) : Type 0 where
-    pub removed : CanUndoRemove c.arena u.removed
-    pub unlinked : CanUndoUnlink (remove_undone u.removed c.arena) u.unlinked
-    pub counts : IsCounted (take_undone u c)
+  pub record CanUndoTake (c : Counted X) (u : TakeUndo) (v : X) : Type 0 where
+    pub removed : CanUndoRemove c.arena u.removed v
+    pub unlinked : CanUndoUnlink (remove_undone u.removed v c.arena) u.unlinked
+    pub counts : IsCounted (take_undone u v c)
 
   module _ (make : HandleRecord → X) where
     -- a change of a record is taken back

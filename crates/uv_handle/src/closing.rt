@@ -119,12 +119,12 @@ impl Handles {
         slots.undo_splice(undo);
     }
 
-    /// Takes the front of those that have yet to be closed off its list, and frees its slot. None, and nothing changed, where
-    /// there is none.
+    /// Takes the front of those that have yet to be closed off its list, and frees its slot: what that held, and what takes this back
+    /// with it. None, and nothing changed, where there is none.
     pub fn take_closing<T: HoldsHandle>(
         &mut self,
         slots: &mut Slots<T>,
-    ) -> Option<(Id, T, TakeUndo<T>)>
+    ) -> Option<(Id, T, TakeUndo)>
         requires { IsCounted T.held_record (counted slots.old self.old) }
         ensures none { IfNone result ((members slots.old ClosingYet ≡ []) × (counted slots.new self.new ≡ counted slots.old self.old)) }
         ensures some { IfSome result (λ r. IsTaken T.held_record T.of_record (counted slots.old self.old) (counted slots.new self.new) r.0 r.1 r.2) }
@@ -136,7 +136,7 @@ impl Handles {
     }
 
     /// Takes a handle off its list, and frees its slot.
-    fn release<T: HoldsHandle>(&mut self, slots: &mut Slots<T>, id: Id) -> (Id, T, TakeUndo<T>)
+    fn release<T: HoldsHandle>(&mut self, slots: &mut Slots<T>, id: Id) -> (Id, T, TakeUndo)
         requires counts { IsCounted T.held_record (counted slots.old self.old) }
         requires first { IsFirst slots.old ClosingYet id }
         ensures id { result.0 ≡ id }
@@ -150,8 +150,8 @@ impl Handles {
                 self.set_count(active, keeps_alive(&freed.0));
                 let undo = TakeUndo {
                     unlinked,
-                    removed: freed.1,
                     active,
+                    removed: freed.1,
                 };
                 (id, freed.0, undo)
             }
@@ -159,12 +159,17 @@ impl Handles {
         }
     }
 
-    /// Takes back that a closing handle was taken and freed.
-    pub fn undo_take_closing<T: HoldsHandle>(&mut self, slots: &mut Slots<T>, undo: TakeUndo<T>)
-        requires { CanUndoTake T.held_record (counted slots.old self.old) undo }
-        ensures { counted slots.new self.new ≡ take_undone T.held_record undo (counted slots.old self.old) }
+    /// Takes back that a closing handle was taken and freed: its slot holds this again, which it held before.
+    pub fn undo_take_closing<T: HoldsHandle>(
+        &mut self,
+        slots: &mut Slots<T>,
+        undo: TakeUndo,
+        content: T,
+    )
+        requires { CanUndoTake T.held_record (counted slots.old self.old) undo content }
+        ensures { counted slots.new self.new ≡ take_undone T.held_record undo content (counted slots.old self.old) }
     {
-        slots.undo_remove(undo.removed);
+        slots.undo_remove(undo.removed, content);
         slots.undo_unlink(undo.unlinked);
         self.restore(undo.active);
     }

@@ -31,10 +31,10 @@ pub struct DelistUndo {
     pub changed: RecordUndo,
 }
 
-/// Takes back that a closing handle was taken off its list and freed.
+/// Takes back that a closing handle was taken off its list and freed, together with what its slot held.
 #[derive(Clone, Copy)]
-pub struct TakeUndo<T> {
+pub struct TakeUndo {
     pub unlinked: Place,
-    pub removed: RemoveUndo<T>,
     pub active: u32,
+    pub removed: RemoveUndo,
 }

@@ -54,14 +54,23 @@ module _ {X : Type 0} (s : plain.Slots X) (d e : Id) (v : X) (there : plain.held
         | inr q ↦ ap (λ (b : Bool). plain.held (way b).slots e) q.0 ∙ emptied (d.generation + 1)
       ]
 
-module _ {X : Type 0} (read : X → Option Request) (i a j : Image X) (d : Id) (from : Request) (v : X) (t : Place) (u : RemoveUndo X) (r : Running)
-    (s : IsSound i) (w : IsWork read (working i r)) (there : request_in read i d ≡ Some from) (f : IsFirst i EndedYet d) (un : IsUnlinked i a d t)
+module _ {X : Type 0} (read : X → Option Request) (make : Request → X) (only_that : (t : X) (r : Request) → read t ≡ Some r → t ≡ make r)
+    (i a j : Image X) (d : Id) (from : Request) (v : X) (t : Place) (u : RemoveUndo) (r : Running) (s : IsSound i) (w : IsWork read (working i r)) (there : request_in read i d ≡ Some from) (f : IsFirst i EndedYet d) (un : IsUnlinked i a d t)
     (rem : IsRemoved a j d v u) where
   abbrev P : ℕ → Type 0
   P x = x ≢ d.slot
 
   abbrev now : Running
   now = with_count (r.count - 1) r
+
+  -- what the slot held is the request
+  it_was : v ≡ make from
+  it_was =
+      let x = content_of read i d from there in let was : held i d ≡ Some v = sym (un.slots.contents d) ∙ rem.was in
+      let one : x.0 ≡ v = cc (x.1, was) in sym one ∙ only_that x.0 from x.2
+
+  removed : IsRemoved a j d (make from) u
+  removed = subst (λ z. IsRemoved a j d z u) it_was rem
 
   same : (e : Id) → e.slot ≢ d.slot → held j e ≡ held i e
   same e ne = rem.contents e ne ∙ un.slots.contents e
@@ -157,10 +166,10 @@ module _ {X : Type 0} (read : X → Option Request) (i a j : Image X) (d : Id) (
     count = count_now;
   }
 
-  back : collect_undone (record { unlinked = t; removed = u; count = r.count }) (working j now) ≡ working i r
-  back = ap (λ z. working (unlink_undone t z) r) rem.undone ∙ ap (λ z. working z r) un.undone
+  back : collect_undone make (record { unlinked = t; removed = u; count = r.count }) from (working j now) ≡ working i r
+  back = ap (λ z. working (unlink_undone t z) r) removed.undone ∙ ap (λ z. working z r) un.undone
 
-  pub collect_done : IsCollected read (working i r) (working j now) d from (record { unlinked = t; removed = u; count = r.count })
+  pub collect_done : IsCollected read make (working i r) (working j now) d from (record { unlinked = t; removed = u; count = r.count })
   collect_done = record {
     rule = collect_rule before d (done_in read i d.slot) left id_is_d was_done ∙ ap Some pool_now;
     first = f;
@@ -173,8 +182,8 @@ module _ {X : Type 0} (read : X → Option Request) (i a j : Image X) (d : Id) (
     work = work_now;
     undone = back;
     can_undo = record {
-      removed = rem.can_undo;
-      unlinked = subst (λ z. CanUndoUnlink z t) (sym rem.undone) un.can_undo;
+      removed = removed.can_undo;
+      unlinked = subst (λ z. CanUndoUnlink z t) (sym removed.undone) un.can_undo;
       work = subst (IsWork read) (sym back) w;
     };
   }

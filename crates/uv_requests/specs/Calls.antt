@@ -72,21 +72,21 @@ module _ {X : Type 0} (read : X → Option Request) where
     pub undone : begin_undone u new ≡ old
     pub can_undo : CanUndoBegin read new u
 
-  -- the front of those yet to be called back is off its list, and its slot is freed
-  pub record IsCollected (old new : Working X) (d : Id) (r : Request) (u : CollectUndo X) : Type 0 where
-    pub rule : after_event (pool_of read old) (event.Collect d) ≡ Some (pool_of read new)
-    pub first : IsFirst old.arena EndedYet d
-    pub was : request_in read old.arena d ≡ Some r
-    pub plain : plain_slots new.arena ≡ freed old.arena.last d (plain_slots old.arena)
-    pub yet : members new.arena EndedYet ≡ first.rest
-    pub others : (l : ListName) → l ≢ EndedYet → members new.arena l ≡ members old.arena l
-    pub contents : (e : Id) → e.slot ≢ d.slot → held new.arena e ≡ held old.arena e
-    pub kept : (e : Id) → e.slot ≢ d.slot → on_list new.arena e ≡ on_list old.arena e
-    pub work : IsWork read new
-    pub undone : collect_undone u new ≡ old
-    pub can_undo : CanUndoCollect read new u
-
   module _ (make : Request → X) where
+    -- the front of those yet to be called back is off its list, and its slot is freed
+    pub record IsCollected (old new : Working X) (d : Id) (r : Request) (u : CollectUndo) : Type 0 where
+      pub rule : after_event (pool_of read old) (event.Collect d) ≡ Some (pool_of read new)
+      pub first : IsFirst old.arena EndedYet d
+      pub was : request_in read old.arena d ≡ Some r
+      pub plain : plain_slots new.arena ≡ freed old.arena.last d (plain_slots old.arena)
+      pub yet : members new.arena EndedYet ≡ first.rest
+      pub others : (l : ListName) → l ≢ EndedYet → members new.arena l ≡ members old.arena l
+      pub contents : (e : Id) → e.slot ≢ d.slot → held new.arena e ≡ held old.arena e
+      pub kept : (e : Id) → e.slot ≢ d.slot → on_list new.arena e ≡ on_list old.arena e
+      pub work : IsWork read new
+      pub undone : collect_undone make u r new ≡ old
+      pub can_undo : CanUndoCollect read make new u r
+
     -- a request is held in the slot that was next, and waits behind the others
     pub record IsQueued (old new : Working X) (r : Request) (d : Id) (u : QueueUndo) : Type 0 where
       pub rule : after_event (pool_of read old) (event.Queue d) ≡ Some (pool_of read new)

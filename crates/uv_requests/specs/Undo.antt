@@ -33,11 +33,11 @@ module _ {X : Type 0} where
   abbrev pub begin_undone : SpliceUndo → Working X → Working X
   begin_undone u w = working (splice_undone u w.arena) w.running
 
-  -- a request that was collected is put back
-  abbrev pub collect_undone : CollectUndo X → Working X → Working X
-  collect_undone u w = working (unlink_undone u.unlinked (remove_undone u.removed w.arena)) (with_count u.count w.running)
-
 module _ {X : Type 0} (make : Request → X) where
+  -- a request that was collected is put back
+  abbrev pub collect_undone : CollectUndo → Request → Working X → Working X
+  collect_undone u r w = working (unlink_undone u.unlinked (remove_undone u.removed (make r) w.arena)) (with_count u.count w.running)
+
   abbrev pub reopened_by : Option Request → ℕ → Image X → Image X
   reopened_by None x i = i
   reopened_by (Some r) x i = set_undone x (make (reopened r)) i
@@ -61,12 +61,12 @@ module _ {X : Type 0} (read : X → Option Request) where
     pub spliced : CanUndoSplice w.arena u
     pub work : IsWork read (begin_undone u w)
 
-  pub record CanUndoCollect (w : Working X) (u : CollectUndo X) : Type 0 where
-    pub removed : CanUndoRemove w.arena u.removed
-    pub unlinked : CanUndoUnlink (remove_undone u.removed w.arena) u.unlinked
-    pub work : IsWork read (collect_undone u w)
-
   module _ (make : Request → X) where
+    pub record CanUndoCollect (w : Working X) (u : CollectUndo) (r : Request) : Type 0 where
+      pub removed : CanUndoRemove w.arena u.removed (make r)
+      pub unlinked : CanUndoUnlink (remove_undone u.removed (make r) w.arena) u.unlinked
+      pub work : IsWork read (collect_undone make u r w)
+
     -- a request that was finished or cancelled is open again
     abbrev pub reopened_in : Id → Image X → Image X
     reopened_in d i = reopened_by make (request_in read i d) d.slot i

@@ -33,15 +33,15 @@ impl Requests {
         slots.undo_splice(undo);
     }
 
-    /// Takes the front of those that have yet to be called back off its list, and frees its slot: the request as it was. None,
-    /// and nothing changed, where there is none.
+    /// Takes the front of those that have yet to be called back off its list, and frees its slot: the request as it was, and
+    /// what takes this back with it. None, and nothing changed, where there is none.
     pub fn collect<T: HoldsWork>(
         &mut self,
         slots: &mut Slots<T>,
-    ) -> Option<(Id, RequestRecord, CollectUndo<T>)>
+    ) -> Option<(Id, RequestRecord, CollectUndo)>
         requires { IsWork T.held_request (working slots.old self.old) }
         ensures none { IfNone result ((members slots.old DoneYet ≡ []) × (working slots.new self.new ≡ working slots.old self.old)) }
-        ensures some { IfSome result (λ r. IsCollected T.held_request
+        ensures some { IfSome result (λ r. IsCollected T.held_request T.of_request
             (working slots.old self.old) (working slots.new self.new) r.0 r.1 r.2) }
     {
         match slots.first(ListName::DoneYet) {
@@ -58,13 +58,13 @@ impl Requests {
         slots: &mut Slots<T>,
         id: Id,
         request: RequestRecord,
-    ) -> (Id, RequestRecord, CollectUndo<T>)
+    ) -> (Id, RequestRecord, CollectUndo)
         requires work { IsWork T.held_request (working slots.old self.old) }
         requires first { IsFirst slots.old DoneYet id }
         requires found { request_in T.held_request slots.old id ≡ Some request }
         ensures id { result.0 ≡ id }
         ensures request { result.1 ≡ request }
-        ensures collected { IsCollected T.held_request (working slots.old self.old) (working slots.new self.new) id request result.2 }
+        ensures collected { IsCollected T.held_request T.of_request (working slots.old self.old) (working slots.new self.new) id request result.2 }
     {
         slots.is_sound();
         let count = self.open_requests();
@@ -74,8 +74,8 @@ impl Requests {
                 self.set_count(count - 1);
                 let undo = CollectUndo {
                     unlinked,
-                    removed,
                     count,
+                    removed,
                 };
                 (id, request, undo)
             }
@@ -83,12 +83,17 @@ impl Requests {
         }
     }
 
-    /// Takes a collect back.
-    pub fn undo_collect<T: HoldsWork>(&mut self, slots: &mut Slots<T>, undo: CollectUndo<T>)
-        requires { CanUndoCollect T.held_request (working slots.old self.old) undo }
-        ensures { working slots.new self.new ≡ collect_undone undo (working slots.old self.old) }
+    /// Takes a collect back: the request is there again.
+    pub fn undo_collect<T: HoldsWork>(
+        &mut self,
+        slots: &mut Slots<T>,
+        undo: CollectUndo,
+        request: RequestRecord,
+    )
+        requires { CanUndoCollect T.held_request T.of_request (working slots.old self.old) undo request }
+        ensures { working slots.new self.new ≡ collect_undone T.of_request undo request (working slots.old self.old) }
     {
-        slots.undo_remove(undo.removed);
+        slots.undo_remove(undo.removed, T::of(request));
         slots.undo_unlink(undo.unlinked);
         self.set_count(undo.count);
     }

@@ -31,10 +31,11 @@ pub struct CancelUndo {
     pub unlinked: Place,
 }
 
-/// Takes a collect back: where the request stood, what its slot held, and how many requests were open before.
+/// Takes a collect back, together with the request that was collected: where it stood, its slot, and how many requests were open
+/// before.
 #[derive(Clone, Copy)]
-pub struct CollectUndo<T> {
+pub struct CollectUndo {
     pub unlinked: Place,
-    pub removed: RemoveUndo<T>,
     pub count: u32,
+    pub removed: RemoveUndo,
 }

@@ -13,7 +13,7 @@ use uv_records::ListName;
 #[derive(Clone, Copy)]
 pub enum Token {
     Inserted(InsertUndo),
-    Removed(RemoveUndo<u64>),
+    Removed(RemoveUndo, u64),
     Pushed(PushUndo),
     Unlinked(Place),
     Spliced(SpliceUndo),
@@ -28,7 +28,7 @@ pub fn undo(slots: &mut Slots<u64>, token: Token)
 {
     match token {
         Token::Inserted(inserted) => slots.undo_insert(inserted),
-        Token::Removed(removed) => slots.undo_remove(removed),
+        Token::Removed(removed, content) => slots.undo_remove(removed, content),
         Token::Pushed(pushed) => slots.undo_push(pushed),
         Token::Unlinked(place) => slots.undo_unlink(place),
         Token::Spliced(spliced) => slots.undo_splice(spliced),
@@ -98,7 +98,7 @@ fn remove(slots: &mut Slots<u64>, plain: &mut Plain, id: Id, score: &mut Score) 
     match slots.remove(id) {
         Some(freed) => {
             score.note(expected == Some(freed.0));
-            Token::Removed(freed.1)
+            Token::Removed(freed.1, freed.0)
         }
         None => {
             score.note(expected.is_none());

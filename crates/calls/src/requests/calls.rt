@@ -21,7 +21,7 @@ pub enum Token {
     Finished(FinishUndo),
     Cancelled(CancelUndo),
     Begun(SpliceUndo),
-    Collected(CollectUndo<Held>),
+    Collected(CollectUndo, RequestRecord),
     Nothing,
 }
 
@@ -36,7 +36,7 @@ pub fn undo(slots: &mut Slots<Held>, requests: &mut Requests, token: Token)
         Token::Finished(finished) => requests.undo_finish(slots, finished),
         Token::Cancelled(cancelled) => requests.undo_cancel(slots, cancelled),
         Token::Begun(begun) => requests.undo_begin(slots, begun),
-        Token::Collected(collected) => requests.undo_collect(slots, collected),
+        Token::Collected(collected, request) => { requests.undo_collect(slots, collected, request) }
         Token::Nothing => {}
     }
 }
@@ -223,9 +223,9 @@ fn collect(
 {
     let expected = plain.collect();
     match requests.collect(slots) {
-        Some((id, request, undo)) => {
-            score.note(expected == Some((id, request.outcome())));
-            Token::Collected(undo)
+        Some(collected) => {
+            score.note(expected == Some((collected.0, collected.1.outcome())));
+            Token::Collected(collected.2, collected.1)
         }
         None => {
             score.note(expected.is_none());

@@ -28,13 +28,13 @@ impl<T: Copy> Slots<T> {
         }
     }
 
-    /// Takes a removal back.
-    pub fn undo_remove(&mut self, undo: RemoveUndo<T>)
-        requires { CanUndoRemove self.old undo }
-        ensures { self.new ≡ remove_undone undo self.old }
+    /// Takes a removal back: the slot holds this again, which it held before.
+    pub fn undo_remove(&mut self, undo: RemoveUndo, content: T)
+        requires { CanUndoRemove self.old undo content }
+        ensures { self.new ≡ remove_undone undo content self.old }
     {
         let generation = self.slot_at(undo.slot).generation;
-        let content = Some(undo.content);
+        let content = Some(content);
         if undo.retired {
             self.edit(
                 undo.slot,

@@ -23,7 +23,7 @@ edit_and_put-requires-clause-sound g c =
 pub returns : goal.returns
 returns g c =
     let v = c.args.self.now in
-    subst (λ j. IsRemoved v j c.args.id c.args.content (record { slot = c.args.id.slot; retired = false; content = c.args.content }))
+    subst (λ j. IsRemoved v j c.args.id c.args.content (record { slot = c.args.id.slot; retired = false }))
     (sym (c.edit_and_put.ensures ∙ ap (λ p. in_memory (λ m. put_in p (edited p.slot (record {
       generation = c.args.id.generation + 1;
       content =

@@ -17,7 +17,5 @@ returns g c =
     subst (λ j. IsRemoved v j c.args.id c.args.content (record {
       slot = c.args.id.slot;
       retired = true;
-      content =
-          c.args.content;
     })) (sym c.edit.ensures)
     (retires v c.is_sound.ensures c.args.id c.args.content c.requires.held c.requires.loose c.requires.last).removed
