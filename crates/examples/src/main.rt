@@ -16,7 +16,7 @@ use uv_ids::Fault;
 use uv_loop::ArenaLoop;
 use uv_model::PlainLoop;
 
-const EXAMPLES: [&str; 21] = [
+const EXAMPLES: [&str; 23] = [
     "two-timers",
     "falls-behind",
     "step-back",
@@ -38,6 +38,8 @@ const EXAMPLES: [&str; 21] = [
     "tenth-waits",
     "next-job",
     "live-run-back",
+    "check-before-timer",
+    "timer-before-check",
 ];
 
 /// The examples: behind a function, since a proof writes out a constant where it meets it.

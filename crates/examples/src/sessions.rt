@@ -63,7 +63,7 @@ const STATE: &[u8] = b"steps 1 now 0 clock 0 stop 0 next 0 idled 0\n\
     done-yet\n";
 
 const RECORDING: &[u8] =
-    b"uvt 1\nworkers 4\nslots 1024 4294967295\nvar t\nmain init t timer\nbegin\nloop\ntick 7\ncalls\nend\n";
+    b"uvt 2\norder 1.45\nworkers 4\nslots 1024 4294967295\nvar t\nmain init t timer\nbegin\nloop\ntick 7\ncalls\nend\n";
 
 /// Whether a text was answered, and is this one.
 fn is_text(text: Result<Vec<u8>, Fault>, wanted: &[u8]) -> bool {
@@ -99,7 +99,7 @@ pub fn replays<M: Machine>(alloc: Global) -> Result<bool, Fault> {
     Ok(text.as_slice() == b"same\n".as_slice())
 }
 
-const SCRIPT: &[u8] = b"workers 4\nslots 1024 4294967295\nvar t\nmain init t timer\n";
+const SCRIPT: &[u8] = b"order 1.45\nworkers 4\nslots 1024 4294967295\nvar t\nmain init t timer\n";
 
 /// Whether a script is read up to the line `begin`.
 pub fn reads_a_script(alloc: Global) -> Result<bool, Fault> {

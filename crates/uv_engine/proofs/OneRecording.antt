@@ -8,7 +8,7 @@ use Rattle.uv_script.specs.Program.{Program}
 use Rattle.uv_script.specs.Lines.{fields_of}
 use Rattle.uv_script.specs.Reading as reading
 use Rattle.uv_script.specs.Grammar as script
-use Rattle.uv_script.specs.Grammar.{Draft, unread, IsScript}
+use Rattle.uv_script.specs.Grammar.{Draft, IsScript}
 use Rattle.uv_script.proofs.Agrees.{AreDistinct}
 use Rattle.uv_script.proofs.AfterLines.{after_complete, distinct_reads, distinct_none}
 use Rattle.uv_model.specs.Next.{Refuses, next}
@@ -23,7 +23,9 @@ use Rattle.uv_text.specs.Recording.{callback_lines, recording_text}
 use Rattle.uv_text.proofs.Commands.{asks_one}
 use Rattle.uv_engine.specs.declared.verdict.Verdict.{Verdict}
 use Rattle.uv_engine.specs.declared.verdict.Verdict.TheVariants.{Same}
-use Rattle.uv_engine.specs.Recordings.{Part, Start, InScript, InSteps, InCalls, Whole, Reads, version, in_script, begins, step, calls, callback, ends, ReadsAll, none, one}
+use Rattle.uv_engine.specs.declared.version.Version.{Version}
+use Rattle.uv_engine.specs.declared.version.Version.TheVariants as versions
+use Rattle.uv_engine.specs.Recordings.{version_line, unread_in, Part, Start, InScript, InSteps, InCalls, Whole, Reads, version, in_script, begins, step, calls, callback, ends, ReadsAll, none, one}
 use Rattle.uv_engine.specs.Verdict.{IsHalt, refused, full, AreApart, AllTaken, IsVerdict, halts, same, differs, HasVerdict}
 use Rattle.uv_engine.proofs.Remade.{is_made, made_read}
 
@@ -65,8 +67,11 @@ IsDistinct (InSteps p es) = AreDistinct p.names
 IsDistinct (InCalls p es called) = Unit {0}
 IsDistinct (Whole p es called) = Unit {0}
 
-from_start : (line : List ℕ) (z : Part) → Reads Start line z → z ≡ InScript unread
-from_start _ _ version = refl
+from_start : (v : Version) (line : List ℕ) (z : Part) → line ≡ version_line v → Reads Start line z → z ≡ InScript (unread_in v)
+from_start versions.V1 _ _ e (version versions.V1) = refl
+from_start versions.V1 _ _ e (version versions.V2) = let last = ap (λ (xs : List ℕ). get_or xs 4 0) e in absurd (omega (arith, last))
+from_start versions.V2 _ _ e (version versions.V1) = let last = ap (λ (xs : List ℕ). get_or xs 4 0) e in absurd (omega (arith, last))
+from_start versions.V2 _ _ e (version versions.V2) = refl
 
 from_script : (d e : Draft) (line : List ℕ) (z : Part) → AreDistinct d.program.names → script.Reads d line e → Reads (InScript d) line z →
     z ≡ InScript e
@@ -100,7 +105,7 @@ at_end p es called line _ is_end (callback h) = absurd (end_no_callback (subst I
 at_end p es called _ _ is_end ends = refl
 
 pub one_part : (x y z : Part) (line : List ℕ) → IsDistinct x → Reads x line y → Reads x line z → z ≡ y
-one_part _ _ z line distinct version k = from_start (codes "uvt 1") z k
+one_part _ _ z line distinct (version v) k = from_start v (version_line v) z refl k
 one_part _ _ z line distinct (in_script {d = d} {e = e} says h) k = from_script d e line z distinct h k
 one_part _ _ z line distinct (begins {d = d}) k = at_begin d (codes "begin") z distinct refl k
 one_part _ _ z line distinct (step {p = p} {es = es} {e = e} h) k = from_steps p es e line z distinct h k
@@ -109,7 +114,8 @@ one_part _ _ z line distinct (callback {p = p} {es = es} {called = called} h) k 
 one_part _ _ z line distinct (ends {p = p} {es = es} {called = called}) k = at_end p es called (codes "end") z refl k
 
 pub distinct_part : (x y : Part) (line : List ℕ) → IsDistinct x → Reads x line y → IsDistinct y
-distinct_part _ _ line distinct version = distinct_none
+distinct_part _ _ line distinct (version versions.V1) = distinct_none
+distinct_part _ _ line distinct (version versions.V2) = distinct_none
 distinct_part _ _ line distinct (in_script {d = d} {e = e} says h) = distinct_reads d e line distinct h
 distinct_part _ _ line distinct begins = distinct
 distinct_part _ _ line distinct (step h) = distinct

@@ -7,13 +7,14 @@ use Rattle.uv_ids.specs.declared.fault.Fault.TheVariants as fault
 use Rattle.uv_script.specs.Program.{Program}
 use Rattle.uv_script.specs.Lines.{lines_of, IsSkipped, empty, comment}
 use Rattle.uv_script.specs.Grammar as script
-use Rattle.uv_script.specs.Grammar.{Draft, unread, IsScript, Parses}
+use Rattle.uv_script.specs.Grammar.{Draft, MakesFrom}
 use Rattle.uv_text.specs.Recorded.{SaysStep, IsCallbackLine}
 use Rattle.uv_engine.specs.Input.{TakesLine}
 use Rattle.uv_engine.specs.Out.{Begins, here, here_at_end, later, NeverBegins, nothing, last_line, one_line}
 use Rattle.uv_engine.specs.Start.{IsFront, ParsesFront, after_last, at_line, NoneSkipped, IsFirstSkipped, FindsSkipped, IsFirstBad}
-use Rattle.uv_engine.specs.Recordings.{Part, Start, InScript, InSteps, InCalls, Whole, Reads, version, in_script, begins, step, calls, callback, ends, ReadsAll, none, one, IsStuck, IsBadFrom}
+use Rattle.uv_engine.specs.Recordings.{version_line, Part, Start, InScript, InSteps, InCalls, Whole, Reads, version, in_script, begins, step, calls, callback, ends, ReadsAll, none, one, IsStuck, IsBadFrom}
 use Rattle.uv_engine.specs.Rerun.{ReadsTo}
+use Rattle.uv_engine.specs.declared.version.Version.{Version}
 use Rattle.uv_engine.proofs.Talking.{lines_fed, lines_last, lines_next}
 
 -- ---- one part after another
@@ -153,53 +154,53 @@ stuck_script d line other h _ (in_script {e = e} says k) = h e k
 stuck_script d line other h _ begins = other refl
 
 -- the script was read, and `begin`
-pub script_read : (input text rest : List ℕ) (p : Program) (a b : ℕ) → Begins input text rest → IsScript text p → NoneSkipped (lines_of text) →
-    b ≡ a + length (lines_of text) + 1 → ReadsTo (InScript unread) a input (InSteps p []) b rest
-script_read input text rest p a b h is say n =
+pub script_read : (s : Draft) (input text rest : List ℕ) (p : Program) (a b : ℕ) → Begins input text rest → MakesFrom s (lines_of text) p →
+    NoneSkipped (lines_of text) → b ≡ a + length (lines_of text) + 1 → ReadsTo (InScript s) a input (InSteps p []) b rest
+script_read s input text rest p a b h is say n =
     let k = fronts input text rest h in
     let d : Draft = record { program = p; said = is.said } in
     record {
       before = lines_of text ++ codes "begin" ∷ [];
       lines_are = k.lines_are ∙ sym (append_assoc (lines_of text) (codes "begin" ∷ []) (lines_of rest));
       counted = omega (arith, n, length-append (lines_of text) (codes "begin" ∷ []));
-      read = reads_on (InScript unread) (InScript d) (InSteps p []) (lines_of text) (codes "begin" ∷ [])
-          (script_on unread d (lines_of text) say is.read) (one begins none);
+      read = reads_on (InScript s) (InScript d) (InSteps p []) (lines_of text) (codes "begin" ∷ [])
+          (script_on s d (lines_of text) say is.read) (one begins none);
     }
 
 -- a line of it is bad
-script_bad : (input text : List ℕ) (rest : List (List ℕ)) (a n m : ℕ) → lines_of input ≡ lines_of text ++ rest → NoBegin (lines_of text) →
-    (bad : script.IsBadLine text n) → AllSay (lines_of text) n → m ≡ a + n → IsBadFrom (InScript unread) a input m
-script_bad input text rest a n m lines no_begin bad say e = record {
+script_bad : (s : Draft) (input text : List ℕ) (rest : List (List ℕ)) (a n m : ℕ) → lines_of input ≡ lines_of text ++ rest →
+    NoBegin (lines_of text) → (bad : script.IsBadLineFrom s text n) → AllSay (lines_of text) n → m ≡ a + n → IsBadFrom (InScript s) a input m
+script_bad s input text rest a n m lines no_begin bad say e = record {
   before = bad.before;
   after = bad.line ∷ (bad.after ++ rest);
   part = InScript bad.draft;
   lines_are = lines ∙ ap (λ (ls : List (List ℕ)). ls ++ rest) bad.lines_are ∙ append_assoc bad.before (bad.line ∷ bad.after) rest;
   counted = omega (arith, e, bad.counted);
-  read = script_on unread bad.draft bad.before (say bad.before (bad.line ∷ bad.after) bad.lines_are (omega (arith, bad.counted))) bad.read;
+  read = script_on s bad.draft bad.before (say bad.before (bad.line ∷ bad.after) bad.lines_are (omega (arith, bad.counted))) bad.read;
   stuck = stuck_script bad.draft bad.line (no_begin_at bad.before bad.after bad.line (subst NoBegin bad.lines_are no_begin)) bad.refused;
 }
 
 -- there is no `begin`
-script_missing : (input text : List ℕ) (p : Program) (a m : ℕ) → input ≡ text → IsScript text p →
-    AllSay (lines_of text) (length (lines_of text) + 1) → m ≡ a + (length (lines_of text) + 1) → IsBadFrom (InScript unread) a input m
-script_missing input text p a m e is say n = record {
+script_missing : (s : Draft) (input text : List ℕ) (p : Program) (a m : ℕ) → input ≡ text → MakesFrom s (lines_of text) p →
+    AllSay (lines_of text) (length (lines_of text) + 1) → m ≡ a + (length (lines_of text) + 1) → IsBadFrom (InScript s) a input m
+script_missing s input text p a m e is say n = record {
   before = lines_of text;
   after = [];
   part = InScript (record { program = p; said = is.said });
   lines_are = ap lines_of e ∙ sym (append-nil (lines_of text));
   counted = omega (arith, n);
-  read = script_on unread (record { program = p; said = is.said }) (lines_of text)
+  read = script_on s (record { program = p; said = is.said }) (lines_of text)
       (say (lines_of text) [] (sym (append-nil (lines_of text))) (omega arith)) is.read;
   stuck = tt;
 }
 
-front_outside : (input text rest : List ℕ) (begun : Bool) (a n m : ℕ) → IsFront input text begun rest →
-    ParsesFront text begun (Err (fault.Script n)) → AllSay (lines_of text) n → m ≡ a + n → IsBadFrom (InScript unread) a input m
-front_outside input text rest true a n m h p say e =
-    let k = fronts input text rest h in script_bad input text (codes "begin" ∷ lines_of rest) a n m k.lines_are k.no_begin p say e
-front_outside input text rest false a n m h (after_last p is) say e = script_missing input text p a m h.1 is say e
-front_outside input text rest false a n m h (at_line bad) say e =
-    script_bad input text [] a n m (ap lines_of h.1 ∙ sym (append-nil (lines_of text)))
+front_outside : (s : Draft) (input text rest : List ℕ) (begun : Bool) (a n m : ℕ) → IsFront input text begun rest →
+    ParsesFront s text begun (Err (fault.Script n)) → AllSay (lines_of text) n → m ≡ a + n → IsBadFrom (InScript s) a input m
+front_outside s input text rest true a n m h p say e =
+    let k = fronts input text rest h in script_bad s input text (codes "begin" ∷ lines_of rest) a n m k.lines_are k.no_begin p say e
+front_outside s input text rest false a n m h (after_last p is) say e = script_missing s input text p a m h.1 is say e
+front_outside s input text rest false a n m h (at_line bad) say e =
+    script_bad s input text [] a n m (ap lines_of h.1 ∙ sym (append-nil (lines_of text)))
     (subst (λ (xs : List ℕ). NoBegin (lines_of xs)) h.1 (never_begin input h.0)) bad say e
 
 -- a line of it is skipped, and those before it are a script
@@ -222,58 +223,57 @@ reads_some : (d e : Draft) (ls more : List (List ℕ)) → script.ReadsAll d (ls
 reads_some d e [] more read = (d, script.none)
 reads_some d e (l ∷ ls) more (script.one {e = m} first rest) = let k = reads_some m e ls more rest in (k.0, script.one first k.1)
 
-abbrev Before : List (List ℕ) → Type 0
-Before ls = ReadsSome unread ls
-
-before_skipped : (text : List ℕ) (p : Program) (n : ℕ) (first : IsFirstSkipped (lines_of text) n) → IsScript text p → Before first.before
-before_skipped text p n first is =
+before_skipped : (s : Draft) (text : List ℕ) (p : Program) (n : ℕ) (first : IsFirstSkipped (lines_of text) n) → MakesFrom s (lines_of text) p →
+    ReadsSome s first.before
+before_skipped s text p n first is =
     let d : Draft = record { program = p; said = is.said } in
-    reads_some unread d first.before (first.line ∷ first.after)
-    (subst (λ (ls : List (List ℕ)). script.ReadsAll unread ls d) first.lines_are is.read)
+    reads_some s d first.before (first.line ∷ first.after)
+    (subst (λ (ls : List (List ℕ)). script.ReadsAll s ls d) first.lines_are is.read)
 
-before_bad : (text : List ℕ) (n k : ℕ) (first : IsFirstSkipped (lines_of text) n) → script.IsBadLine text k → n ≤ k → Before first.before
-before_bad text n k first bad less =
+before_bad : (s : Draft) (text : List ℕ) (n k : ℕ) (first : IsFirstSkipped (lines_of text) n) → script.IsBadLineFrom s text k → n ≤ k →
+    ReadsSome s first.before
+before_bad s text n k first bad less =
     let longer = prefix first.before bad.before (first.line ∷ first.after) (bad.line ∷ bad.after) (sym first.lines_are ∙ bad.lines_are)
     (omega (arith, first.counted, bad.counted)) in
-    reads_some unread bad.draft first.before longer.0
-    (subst (λ (ls : List (List ℕ)). script.ReadsAll unread ls bad.draft) longer.1 bad.read)
+    reads_some s bad.draft first.before longer.0
+    (subst (λ (ls : List (List ℕ)). script.ReadsAll s ls bad.draft) longer.1 bad.read)
 
-before_front : (text : List ℕ) (begun : Bool) (n k : ℕ) (first : IsFirstSkipped (lines_of text) n) →
-    ParsesFront text begun (Err (fault.Script k)) → n ≤ k → Before first.before
-before_front text true n k first bad less = before_bad text n k first bad less
-before_front text false n k first (after_last p is) less = before_skipped text p n first is
-before_front text false n k first (at_line bad) less = before_bad text n k first bad less
+before_front : (s : Draft) (text : List ℕ) (begun : Bool) (n k : ℕ) (first : IsFirstSkipped (lines_of text) n) →
+    ParsesFront s text begun (Err (fault.Script k)) → n ≤ k → ReadsSome s first.before
+before_front s text true n k first bad less = before_bad s text n k first bad less
+before_front s text false n k first (after_last p is) less = before_skipped s text p n first is
+before_front s text false n k first (at_line bad) less = before_bad s text n k first bad less
 
-skipped_bad : (input text : List ℕ) (a n m : ℕ) → FrontLines input text → (first : IsFirstSkipped (lines_of text) n) → Before first.before →
-    m ≡ a + n → IsBadFrom (InScript unread) a input m
-skipped_bad input text a n m front first before e = record {
+skipped_bad : (s : Draft) (input text : List ℕ) (a n m : ℕ) → FrontLines input text → (first : IsFirstSkipped (lines_of text) n) →
+    ReadsSome s first.before → m ≡ a + n → IsBadFrom (InScript s) a input m
+skipped_bad s input text a n m front first before e = record {
   before = first.before;
   after = first.line ∷ (first.after ++ front.0);
   part = InScript before.0;
   lines_are = front.1 ∙ ap (λ (ls : List (List ℕ)). ls ++ front.0) first.lines_are ∙ append_assoc first.before (first.line ∷ first.after) front.0;
   counted = omega (arith, e, first.counted);
-  read = script_on unread before.0 first.before first.others before.1;
+  read = script_on s before.0 first.before first.others before.1;
   stuck = stuck_skipped before.0 first.line first.skipped;
 }
 
 -- it is a script, but a line is skipped
-pub front_skipped : (input text rest : List ℕ) (begun : Bool) (p : Program) (a n m : ℕ) → IsFront input text begun rest →
-    ParsesFront text begun (Ok p) → IsFirstSkipped (lines_of text) n → m ≡ a + n → IsBadFrom (InScript unread) a input m
-front_skipped input text rest true p a n m h is first e =
-    skipped_bad input text a n m (front_lines input text rest true h) first (before_skipped text p n first is) e
-front_skipped input text rest false p a n m h is first e = absurd is
+pub front_skipped : (s : Draft) (input text rest : List ℕ) (begun : Bool) (p : Program) (a n m : ℕ) → IsFront input text begun rest →
+    ParsesFront s text begun (Ok p) → IsFirstSkipped (lines_of text) n → m ≡ a + n → IsBadFrom (InScript s) a input m
+front_skipped s input text rest true p a n m h is first e =
+    skipped_bad s input text a n m (front_lines input text rest true h) first (before_skipped s text p n first is) e
+front_skipped s input text rest false p a n m h is first e = absurd is
 
 -- the first line that is outside the grammar or skipped
-pub front_bad : (input text rest : List ℕ) (begun : Bool) (skipped : Option ℕ) (a k n m : ℕ) → IsFront input text begun rest →
-    ParsesFront text begun (Err (fault.Script k)) → FindsSkipped (lines_of text) skipped → IsFirstBad k skipped n → m ≡ a + n →
-    IsBadFrom (InScript unread) a input m
-front_bad input text rest begun None a k n m h p say is e =
-    front_outside input text rest begun a k m h p (say_all (lines_of text) k say) (omega (arith, e, is))
-front_bad input text rest begun (Some skipped) a k n m h p first (inl is) e =
-    skipped_bad input text a skipped m (front_lines input text rest begun h) first (before_front text begun skipped k first p is.0)
+pub front_bad : (s : Draft) (input text rest : List ℕ) (begun : Bool) (skipped : Option ℕ) (a k n m : ℕ) → IsFront input text begun rest →
+    ParsesFront s text begun (Err (fault.Script k)) → FindsSkipped (lines_of text) skipped → IsFirstBad k skipped n → m ≡ a + n →
+    IsBadFrom (InScript s) a input m
+front_bad s input text rest begun None a k n m h p say is e =
+    front_outside s input text rest begun a k m h p (say_all (lines_of text) k say) (omega (arith, e, is))
+front_bad s input text rest begun (Some skipped) a k n m h p first (inl is) e =
+    skipped_bad s input text a skipped m (front_lines input text rest begun h) first (before_front s text begun skipped k first p is.0)
     (omega (arith, e, is.1))
-front_bad input text rest begun (Some skipped) a k n m h p first (inr is) e =
-    front_outside input text rest begun a k m h p (say_up_to (lines_of text) skipped k first is.0) (omega (arith, e, is.1))
+front_bad s input text rest begun (Some skipped) a k n m h p first (inr is) e =
+    front_outside s input text rest begun a k m h p (say_up_to (lines_of text) skipped k first is.0) (omega (arith, e, is.1))
 
 -- ---- the first line that is skipped, as it is looked for
 
@@ -304,17 +304,18 @@ skipped_here f ls number before x left after h whole onto count skipped = record
 }
 
 -- a bad line's number is at most one more than the lines
-pub front_within : (text : List ℕ) (begun : Bool) (n : ℕ) → ParsesFront text begun (Err (fault.Script n)) → n ≤ length (lines_of text) + 1
-front_within text true n bad = within text n bad where
-  within : (text : List ℕ) (n : ℕ) → script.IsBadLine text n → n ≤ length (lines_of text) + 1
+pub front_within : (s : Draft) (text : List ℕ) (begun : Bool) (n : ℕ) → ParsesFront s text begun (Err (fault.Script n)) →
+    n ≤ length (lines_of text) + 1
+front_within s text true n bad = within text n bad where
+  within : (text : List ℕ) (n : ℕ) → script.IsBadLineFrom s text n → n ≤ length (lines_of text) + 1
   within text n bad = omega (arith, bad.counted, ap length bad.lines_are, length-append bad.before (bad.line ∷ bad.after))
-front_within text false n (after_last p is) = omega arith
-front_within text false n (at_line bad) = omega (arith, bad.counted, ap length bad.lines_are, length-append bad.before (bad.line ∷ bad.after))
+front_within s text false n (after_last p is) = omega arith
+front_within s text false n (at_line bad) = omega (arith, bad.counted, ap length bad.lines_are, length-append bad.before (bad.line ∷ bad.after))
 
 -- ---- the other parts
 
-pub only_version : (line : List ℕ) → line ≢ codes "uvt 1" → (y : Part) → Reads Start line y → ⊥
-only_version line other _ version = other refl
+pub only_version : (line : List ℕ) → ((v : Version) → line ≢ version_line v) → (y : Part) → Reads Start line y → ⊥
+only_version line other _ (version v) = other v refl
 
 pub only_steps : (p : Program) (es : List Event) (line : List ℕ) → line ≢ codes "calls" → ((e : Event) → SaysStep p.names line e → ⊥) → (y : Part) →
     Reads (InSteps p es) line y → ⊥

@@ -24,6 +24,7 @@ use Rattle.uv_text.proofs.Played.{played, callbacks_said}
 use Rattle.uv_text.proofs.Printed.{step_said}
 use Rattle.uv_text.proofs.Sizes.{CanBe}
 use Rattle.uv_engine.specs.declared.verdict.Verdict.TheVariants.{Same}
+use Rattle.uv_engine.specs.declared.version.Version.TheVariants as versions
 use Rattle.uv_engine.specs.Recordings.{Start, InScript, InSteps, InCalls, Whole, version, begins, step, calls, callback, ends, ReadsAll, none, one}
 use Rattle.uv_engine.specs.Start.{NoneSkipped}
 use Rattle.uv_engine.specs.Verdict.{AllTaken, same, HasVerdict}
@@ -97,11 +98,14 @@ script_says p =
       begins_says _ _ refl,
       (
         begins_says _ _ refl,
-        none_append (names ++ ops ++ called) sent
-            (none_append (names ++ ops) called
-            (none_append names ops (none_mapped var_line p.names (λ name. begins_says _ _ refl))
-            (none_mapped (main_line p.names) p.main (main_says p.names)))
-            (callbacks_say p 0 p.names)) (none_mapped (thread_line p.names) p.threads (λ line. begins_says _ _ refl)),
+        (
+          begins_says _ _ refl,
+          none_append (names ++ ops ++ called) sent
+              (none_append (names ++ ops) called
+              (none_append names ops (none_mapped var_line p.names (λ name. begins_says _ _ refl))
+              (none_mapped (main_line p.names) p.main (main_says p.names)))
+              (callbacks_say p 0 p.names)) (none_mapped (thread_line p.names) p.threads (λ line. begins_says _ _ refl)),
+        ),
       ),
     )
 
@@ -146,11 +150,11 @@ is_made text p es is taken =
 
 are_lines : (p : Program) (es : List Event) → IsMade p es → AllByRecursion IsLine (recording_lines p es)
 are_lines p es h =
-    let front = (is_line_decides (codes "uvt 1")).0 refl in
+    let front = (is_line_decides (codes "uvt 2")).0 refl in
     let begin = (is_line_decides (codes "begin")).0 refl in
     let middle = (is_line_decides (codes "calls")).0 refl in
     let last = (is_line_decides (codes "end")).0 refl in
-    let ks = codes "uvt 1" ∷ script_lines p in
+    let ks = codes "uvt 2" ∷ script_lines p in
     let bs = codes "begin" ∷ map (step_line p.names) es in
     let cs = codes "calls" ∷ callback_lines p es in
     every_append IsLine (ks ++ bs ++ cs) (codes "end" ∷ [])
@@ -162,12 +166,12 @@ are_read : (p : Program) (es : List Event) → IsMade p es → ReadsAll Start (r
 are_read p es h =
     let called = callback_lines p es in
     let d = settled p in
-    let ks = codes "uvt 1" ∷ script_lines p in
+    let ks = codes "uvt 2" ∷ script_lines p in
     let bs = codes "begin" ∷ map (step_line p.names) es in
     let cs = codes "calls" ∷ called in
     reads_on Start (InCalls p es called) (Whole p es called) (ks ++ bs ++ cs) (codes "end" ∷ [])
     (reads_on Start (InSteps p es) (InCalls p es called) (ks ++ bs) cs
-    (reads_on Start (InScript d) (InSteps p es) ks bs (one version (script_on unread d (script_lines p) (script_says p) h.script))
+    (reads_on Start (InScript d) (InSteps p es) ks bs (one (version versions.V2) (script_on unread d (script_lines p) (script_says p) h.script))
     (one begins (steps_on p [] es h.steps)))
     (one calls (calls_on p es [] called h.called))) (one ends none)
 

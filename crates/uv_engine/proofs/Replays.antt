@@ -7,8 +7,9 @@ use Rattle.uv_script.specs.Program.{Program}
 use Rattle.uv_script.specs.Lines.{lines_of}
 use Rattle.uv_text.specs.Recorded.{SaysStep, IsCallbackLine}
 use Rattle.uv_engine.specs.declared.verdict.Verdict.{Verdict}
+use Rattle.uv_engine.specs.declared.version.Version.{Version}
 use Rattle.uv_engine.specs.Input.{TakesLine}
-use Rattle.uv_engine.specs.Recordings.{Part, Start, InScript, InSteps, InCalls, Whole, Reads, version, step, calls, callback, ends, ReadsAll, IsBadFrom}
+use Rattle.uv_engine.specs.Recordings.{version_line, unread_in, Part, Start, InScript, InSteps, InCalls, Whole, Reads, version, step, calls, callback, ends, ReadsAll, IsBadFrom}
 use Rattle.uv_engine.specs.Start.{IsFront, ParsesFront, NoneSkipped}
 use Rattle.uv_engine.specs.Sink.{CutShort}
 use Rattle.uv_engine.specs.Gather.{CutOff}
@@ -18,24 +19,25 @@ use Rattle.uv_engine.specs.Recordings as grammar
 use Rattle.uv_engine.specs.Rerun.{ReadsTo, RanSo, HasSteps, Met, HasCalls, FailsAt}
 use Rattle.uv_engine.proofs.Recordings.{reads_none, reads_then, reads_line, bad_then, bad_line, bad_end, only_version, only_steps, only_calls, only_whole, script_read}
 use Rattle.uv_engine.proofs.Gathers.{short_of_cut}
-use Rattle.uv_script.specs.Grammar.{unread}
+use Rattle.uv_script.specs.Grammar.{Draft}
 
 -- ---- the first line and the script
 
-pub version_read : (a b : ℕ) (old line new : List ℕ) (fed : Bool) → b ≡ a + 1 → TakesLine old line fed new → line ≡ codes "uvt 1" →
-    ReadsTo Start a old (InScript unread) b new
-version_read a b old line new fed n takes is =
-    reads_line Start (InScript unread) a b old line new fed n takes
-    (subst (λ (l : List ℕ). Reads Start l (InScript unread)) (sym is) version)
+pub version_read : (v : Version) (a b : ℕ) (old line new : List ℕ) (fed : Bool) → b ≡ a + 1 → TakesLine old line fed new → line ≡ version_line v →
+    ReadsTo Start a old (InScript (unread_in v)) b new
+version_read v a b old line new fed n takes is =
+    reads_line Start (InScript (unread_in v)) a b old line new fed n takes
+    (subst (λ (l : List ℕ). Reads Start l (InScript (unread_in v))) (sym is) (version v))
 
-pub version_bad : (a b : ℕ) (old line new : List ℕ) (fed : Bool) → b ≡ a + 1 → TakesLine old line fed new → line ≢ codes "uvt 1" →
-    IsBadFrom Start a old b
+pub version_bad : (a b : ℕ) (old line new : List ℕ) (fed : Bool) → b ≡ a + 1 → TakesLine old line fed new →
+    ((v : Version) → line ≢ version_line v) → IsBadFrom Start a old b
 version_bad a b old line new fed n takes other = bad_line Start a b old line new fed n takes (only_version line other)
 
-pub front_read : (input text rest : List ℕ) (begun : Bool) (p : Program) (a n : ℕ) → IsFront input text begun rest → ParsesFront text begun (Ok p) →
-    NoneSkipped (lines_of text) → n ≡ length (lines_of text) → ReadsTo (InScript unread) a input (InSteps p []) (a + (n + 1)) rest
-front_read input text rest true p a n h is say e = script_read input text rest p a (a + (n + 1)) h is say (omega (arith, e))
-front_read input text rest false p a n h is say e = absurd is
+pub front_read : (s : Draft) (input text rest : List ℕ) (begun : Bool) (p : Program) (a n : ℕ) → IsFront input text begun rest →
+    ParsesFront s text begun (Ok p) → NoneSkipped (lines_of text) → n ≡ length (lines_of text) →
+    ReadsTo (InScript s) a input (InSteps p []) (a + (n + 1)) rest
+front_read s input text rest true p a n h is say e = script_read s input text rest p a (a + (n + 1)) h is say (omega (arith, e))
+front_read s input text rest false p a n h is say e = absurd is
 
 -- ---- the steps
 
@@ -166,16 +168,16 @@ fails_then x y a b old mid (fault.Differs place) h k = absurd k
 fails_then x y a b old mid fault.Limit h k = absurd k
 
 pub has_verdict : {p : Program} {b1 b2 b3 b4 b5 : ℕ} {input r1 r2 r3 r4 : List ℕ} {standing : List Event} {halted : Option Verdict}
-    {looked count : ℕ} {parted : Option ℕ} (v : Verdict) → ReadsTo Start 0 input (InScript unread) b1 r1 →
-    ReadsTo (InScript unread) b1 r1 (InSteps p []) b2 r2 → (steps : HasSteps p b2 r2 b3 r3 standing halted) →
+    {looked count : ℕ} {parted : Option ℕ} (s : Draft) (v : Verdict) → ReadsTo Start 0 input (InScript s) b1 r1 →
+    ReadsTo (InScript s) b1 r1 (InSteps p []) b2 r2 → (steps : HasSteps p b2 r2 b3 r3 standing halted) →
     (met_calls : HasCalls p steps.steps standing halted b3 r3 b4 r4 looked count parted) →
     ReadsTo (Whole p steps.steps met_calls.called) b4 r4 (Whole p steps.steps met_calls.called) b5 [] →
     ((es : List Event) → (called : List (List ℕ)) → RanSo p es standing halted → Met p standing halted called looked count parted →
     IsVerdict p es called v) → HasVerdict input v
-has_verdict {p} {b1} {b2} {b3} {b4} {b5} {input} {r1} {r2} {r3} {r4} {standing} {halted} {looked} {count} {parted} v h1 h2 steps met_calls h5 is =
+has_verdict {p} {b1} {b2} {b3} {b4} {b5} {input} {r1} {r2} {r3} {r4} {standing} {halted} {looked} {count} {parted} s v h1 h2 steps met_calls h5 is =
     let es = steps.steps in
     let whole = Whole p es met_calls.called in
-    let front = reads_then Start (InScript unread) (InSteps p []) 0 b1 b2 input r1 r2 h1 h2 in
+    let front = reads_then Start (InScript s) (InSteps p []) 0 b1 b2 input r1 r2 h1 h2 in
     let ran = reads_then Start (InSteps p []) (InCalls p es []) 0 b2 b3 input r2 r3 front steps.reads in
     let met = reads_then Start (InCalls p es []) whole 0 b3 b4 input r3 r4 ran met_calls.reads in
     let all = reads_then Start whole whole 0 b4 b5 input r4 [] met h5 in

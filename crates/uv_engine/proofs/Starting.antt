@@ -9,7 +9,7 @@ use Rattle.std.proofs.lemmas.Slice.Eq.{bytes_eq-Decides}
 use Rattle.std.proofs.lemmas.Bool.{both_ways}
 use Rattle.std.proofs.lemmas.Bool.Decides.{Decides-eqb}
 use Rattle.std.proofs.lemmas.Grind.{elements}
-use Rattle.uv_script.specs.Grammar.{IsScript, IsBadLine, Parses}
+use Rattle.uv_script.specs.Grammar.{Draft, IsScript, MakesFrom, IsBadLine, Parses, ParsesFrom, unread}
 use Rattle.uv_script.specs.Laws.{HasReading}
 use Rattle.uv_model.specs.After.{STEPS}
 use Rattle.uv_session.specs.Shown.{Shown}
@@ -100,14 +100,14 @@ pub front_missing : {input text before : List ℕ} → CanBegin input text befor
 front_missing {input} {text} {before} h e =
     (h.never (subst NeverBegins (sym e) nothing), h.whole ∙ ap (λ (xs : List ℕ). text ++ xs) e ∙ append-nil text)
 
-missing : (input text : List ℕ) (line : ℕ) → NeverBegins input → input ≡ text → MissesBegin text line → Out input [] (BadScript line)
+missing : (input text : List ℕ) (line : ℕ) → NeverBegins input → input ≡ text → MissesBegin unread text line → Out input [] (BadScript line)
 missing input text _ n e (after_last p h) = subst (λ (xs : List ℕ). Out input [] (BadScript (length (lines_of xs) + 1))) e
     (no_begin p n (subst (λ (xs : List ℕ). IsScript xs p) (sym e) h))
 missing input text line n e (at_line h) = bad_input n (subst (λ (xs : List ℕ). IsBadLine xs line) (sym e) h)
 
 -- what the text in front of `begin` says
-pub front_read : (input text rest : List ℕ) (begun : Bool) (r : Result Program Fault) → IsFront input text begun rest → ParsesFront text begun r →
-    ReadsScript input r rest
+pub front_read : (input text rest : List ℕ) (begun : Bool) (r : Result Program Fault) → IsFront input text begun rest →
+    ParsesFront unread text begun r → ReadsScript input r rest
 front_read input text rest true r h p = parsed input text rest r h p
 front_read input text rest false (Ok q) h p = absurd p
 front_read input text rest false (Err (fault.Script line)) h p = missing input text line h.0 h.1 p
@@ -134,7 +134,7 @@ start_fault text fault.Stalled h = absurd h
 start_fault text (fault.Differs at) h = absurd h
 start_fault text fault.Limit h = absurd h
 
-missing_fault : (text : List ℕ) (f : Fault) → NoScript text f → IsStartFault f
+missing_fault : (text : List ℕ) (f : Fault) → NoScript unread text f → IsStartFault f
 missing_fault text (fault.Script line) h = tt
 missing_fault text fault.Memory h = tt
 missing_fault text (fault.Refused why) h = absurd h
@@ -146,26 +146,27 @@ missing_fault text fault.Stalled h = absurd h
 missing_fault text (fault.Differs at) h = absurd h
 missing_fault text fault.Limit h = absurd h
 
-pub front_fault : (text : List ℕ) (begun : Bool) (r : Result Program Fault) → ParsesFront text begun r → IfErr r IsStartFault
+pub front_fault : (text : List ℕ) (begun : Bool) (r : Result Program Fault) → ParsesFront unread text begun r → IfErr r IsStartFault
 front_fault text begun (Ok p) h = tt
 front_fault text true (Err f) h = start_fault text f h
 front_fault text false (Err f) h = missing_fault text f h
 
 -- a script that has no line `begin`
-pub no_script : (text : List ℕ) (p : Program) (f : Fault) → IsScript text p → f ≡ fault.Script (length (lines_of text) + 1) → NoScript text f
-no_script text p f h e = subst (NoScript text) (sym e) (after_last p h)
+pub no_script : (d : Draft) (text : List ℕ) (p : Program) (f : Fault) → MakesFrom d (lines_of text) p →
+    f ≡ fault.Script (length (lines_of text) + 1) → NoScript d text f
+no_script d text p f h e = subst (NoScript d text) (sym e) (after_last p h)
 
-pub no_script_fault : (text : List ℕ) (f : Fault) → Parses text (Err f) → NoScript text f
-no_script_fault text (fault.Script line) h = at_line h
-no_script_fault text fault.Memory h = tt
-no_script_fault text (fault.Refused why) h = absurd h
-no_script_fault text fault.StepsFull h = absurd h
-no_script_fault text fault.Read h = absurd h
-no_script_fault text fault.Write h = absurd h
-no_script_fault text (fault.Torn at) h = absurd h
-no_script_fault text fault.Stalled h = absurd h
-no_script_fault text (fault.Differs at) h = absurd h
-no_script_fault text fault.Limit h = absurd h
+pub no_script_fault : (d : Draft) (text : List ℕ) (f : Fault) → ParsesFrom d text (Err f) → NoScript d text f
+no_script_fault d text (fault.Script line) h = at_line h
+no_script_fault d text fault.Memory h = tt
+no_script_fault d text (fault.Refused why) h = absurd h
+no_script_fault d text fault.StepsFull h = absurd h
+no_script_fault d text fault.Read h = absurd h
+no_script_fault d text fault.Write h = absurd h
+no_script_fault d text (fault.Torn at) h = absurd h
+no_script_fault d text fault.Stalled h = absurd h
+no_script_fault d text (fault.Differs at) h = absurd h
+no_script_fault d text fault.Limit h = absurd h
 
 -- ---- every input asks for something
 -- where an input begins, if it does

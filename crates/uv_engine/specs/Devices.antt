@@ -1,5 +1,5 @@
 -- How devices count their failures.
-use Rattle.std.specs.Prelude.{◌≡◌, ℕ, ◌+◌, ◌<◌, ◌≤◌, ◌-◌, ◌^◌, ◌⊎◌, List, [], length, Option, Some, None, IsSome, Result, Ok, Err}
+use Rattle.std.specs.Prelude.{◌≡◌, ℕ, ◌+◌, ◌<◌, ◌≤◌, ◌-◌, ◌^◌, ◌⊎◌, min, List, [], length, Option, Some, None, IsSome, Result, Ok, Err}
 use Rattle.uv_ids.specs.declared.fault.Fault.{Fault}
 use Rattle.uv_ids.specs.declared.fault.Fault.TheVariants.{Memory, Read, Write}
 use Rattle.uv_engine.specs.declared.sink.WriteFailed.{WriteFailed}
@@ -18,6 +18,16 @@ abbrev pub WriterCounts : {A : Type 0} → Result A Fault → ℕ → ℕ → Ty
 WriterCounts (Err Write) old new = Counted old new
 WriterCounts (Err _) old new = new ≡ old
 WriterCounts (Ok _) old new = new ≡ old
+
+-- so many bytes more were given; the count stays at its greatest value
+abbrev pub Gave : ℕ → ℕ → ℕ → Type 0
+Gave n old new = new ≡ min (old + n) (2 ^ 64 - 1)
+
+-- the input is longer than the limit: by the bytes that a reader tells, and by the count of those that any reader gave, of which
+-- nothing is said at its greatest value
+pub record IsTooLong (Tells : Type 0) (limit : ℕ) (remaining : List ℕ) (given given' : ℕ) : Type 0 where
+  pub told : Tells → limit < length remaining
+  pub gave : given + limit < 2 ^ 64 - 1 → given + limit < given'
 
 -- a call answers `Read` where the reader failed, and else only where the input is too long
 abbrev pub ReaderCounts : {A : Type 0} → Result A Fault → Type 0 → ℕ → ℕ → Type 0

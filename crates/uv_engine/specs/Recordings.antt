@@ -4,8 +4,20 @@ use Rattle.uv_ids.specs.declared.event.Event.{Event}
 use Rattle.uv_script.specs.Program.{Program}
 use Rattle.uv_script.specs.Lines.{lines_of, IsSkipped}
 use Rattle.uv_script.specs.Grammar as script
-use Rattle.uv_script.specs.Grammar.{Draft, unread}
+use Rattle.uv_script.specs.Grammar.{Draft, unread, order_said}
 use Rattle.uv_text.specs.Recorded.{SaysStep, IsCallbackLine}
+use Rattle.uv_engine.specs.declared.version.Version.{Version}
+use Rattle.uv_engine.specs.declared.version.Version.TheVariants as versions
+
+-- the first line of a recording of this version
+abbrev pub version_line : Version → List ℕ
+version_line versions.V1 = codes "uvt 1"
+version_line versions.V2 = codes "uvt 2"
+
+-- before the first line of its script: in version 1 that says no order, which is that of libuv from 1.45 on
+abbrev pub unread_in : Version → Draft
+unread_in versions.V1 = order_said
+unread_in versions.V2 = unread
 
 -- how far a recording was read: the script so far, the steps, and the lines of callbacks
 pub data Part : Type 0 where
@@ -18,7 +30,7 @@ pub data Part : Type 0 where
 
 -- the line goes on from one part to another
 pub data Reads : Part → List ℕ → Part → Type 0 where
-  version : Reads Start (codes "uvt 1") (InScript unread)
+  version : (v : Version) → Reads Start (version_line v) (InScript (unread_in v))
   -- a recording takes no empty line and no comment
   in_script : {d e : Draft} {line : List ℕ} → (IsSkipped line → ⊥) → script.Reads d line e → Reads (InScript d) line (InScript e)
   begins : {d : Draft} → Reads (InScript d) (codes "begin") (InSteps d.program [])

@@ -4,7 +4,7 @@ use Rattle.uv_ids.specs.declared.fault.Fault.{Fault}
 use Rattle.uv_ids.specs.declared.fault.Fault.TheVariants as fault
 use Rattle.uv_script.specs.Program.{Program}
 use Rattle.uv_script.specs.Lines.{lines_of, IsSkipped}
-use Rattle.uv_script.specs.Grammar.{IsScript, IsBadLine, Parses}
+use Rattle.uv_script.specs.Grammar.{Draft, IsScript, MakesFrom, IsBadLineFrom, ParsesFrom}
 use Rattle.uv_engine.specs.Out.{Out, Begins, NeverBegins, BadScript}
 
 -- a line as it stood in the text
@@ -31,15 +31,15 @@ IsStartFault fault.Memory = Unit {0}
 IsStartFault fault.Read = Unit {0}
 IsStartFault _ = ⊥
 
--- what is wrong with a text that has no line `begin`
-pub data MissesBegin (text : List ℕ) : ℕ → Type 0 where
-  after_last : (p : Program) → IsScript text p → MissesBegin text (length (lines_of text) + 1)
-  at_line : {number : ℕ} → IsBadLine text number → MissesBegin text number
+-- what is wrong with a text that goes on from a draft and has no line `begin`
+pub data MissesBegin (d : Draft) (text : List ℕ) : ℕ → Type 0 where
+  after_last : (p : Program) → MakesFrom d (lines_of text) p → MissesBegin d text (length (lines_of text) + 1)
+  at_line : {number : ℕ} → IsBadLineFrom d text number → MissesBegin d text number
 
-abbrev pub NoScript : List ℕ → Fault → Type 0
-NoScript text (fault.Script line) = MissesBegin text line
-NoScript text fault.Memory = Unit {0}
-NoScript text _ = ⊥
+abbrev pub NoScript : Draft → List ℕ → Fault → Type 0
+NoScript d text (fault.Script line) = MissesBegin d text line
+NoScript d text fault.Memory = Unit {0}
+NoScript d text _ = ⊥
 
 -- the text in front of the line `begin`, or the whole text where there is no such line
 abbrev pub IsFront : List ℕ → List ℕ → Bool → List ℕ → Type 0
@@ -47,10 +47,10 @@ IsFront input text true rest = Begins input text rest
 IsFront input text false rest = NeverBegins input × (input ≡ text)
 
 -- what may be answered to it
-abbrev pub ParsesFront : List ℕ → Bool → Result Program Fault → Type 0
-ParsesFront text true r = Parses text r
-ParsesFront text false (Ok p) = ⊥
-ParsesFront text false (Err fault) = NoScript text fault
+abbrev pub ParsesFront : Draft → List ℕ → Bool → Result Program Fault → Type 0
+ParsesFront d text true r = ParsesFrom d text r
+ParsesFront d text false (Ok p) = ⊥
+ParsesFront d text false (Err fault) = NoScript d text fault
 
 -- none of these lines is an empty one or a comment
 abbrev pub NoneSkipped : List (List ℕ) → Type 0

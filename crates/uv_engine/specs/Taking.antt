@@ -1,5 +1,5 @@
 -- What the calls of an input's buffer do.
-use Rattle.std.specs.Prelude.{◌≡◌, ℕ, ◌+◌, List, [], true, length, Option, Some, None, Vec}
+use Rattle.std.specs.Prelude.{◌≡◌, ℕ, ◌+◌, ◌-◌, ◌<◌, ◌^◌, List, [], true, length, Option, Some, None, Vec}
 use Rattle.std.specs.Global.{Global}
 use Rattle.uv_ids.specs.declared.fault.Fault.{Fault}
 use Rattle.uv_ids.specs.declared.fault.Fault.TheVariants as fault
@@ -14,6 +14,10 @@ pub record SameReader (old new : Buffered) : Type 0 where
 -- as many bytes fewer may be read as were taken from those that remained
 abbrev pub SpendsBudget : Buffered → List ℕ → Buffered → List ℕ → Type 0
 SpendsBudget old remaining new remaining' = new.budget + length remaining ≡ old.budget + length remaining'
+
+-- as many bytes fewer may be read as the reader gave; nothing is said at the greatest value of its count
+abbrev pub SpendsGiven : Buffered → ℕ → Buffered → ℕ → Type 0
+SpendsGiven old given new given' = given + old.budget < 2 ^ 64 - 1 → given' + new.budget ≡ given + old.budget
 
 -- a line is taken that ends in what was read; with none, all that was read is part of the next line
 abbrev pub TakesAhead : Buffered → Option (Vec ℕ Global) → Buffered → Type 0

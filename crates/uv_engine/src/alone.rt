@@ -1,7 +1,7 @@
 //! A script that no commands follow.
 ghost use Rattle.std.specs.Prelude.{◌^◌, ◌<◌, length, IfErr};
 ghost use Rattle.uv_engine.specs.Alone.{ReadsAlone};
-ghost use Rattle.uv_engine.specs.Devices.{ReaderCounts, OnAnswer, TakesWithin};
+ghost use Rattle.uv_engine.specs.Devices.{ReaderCounts, IsTooLong, OnAnswer, TakesWithin};
 ghost use Rattle.uv_engine.specs.Start.{IsStartFault};
 
 use crate::input::Input;
@@ -20,7 +20,8 @@ pub fn read_alone<R: Source>(alloc: Global, reader: &mut R) -> Result<Script, Fa
     ensures script { R.Tells → ReadsAlone (R.remaining reader.old) result }
     ensures within { OnAnswer result (R.Tells → TakesWithin (2 ^ 30) (R.remaining reader.old) (R.remaining reader.new)) }
     ensures err { IfErr result IsStartFault }
-    ensures reader { ReaderCounts result (R.Tells → 2 ^ 30 < length (R.remaining reader.old)) (R.failures reader.old) (R.failures reader.new) }
+    ensures reader { ReaderCounts result (IsTooLong R.Tells (2 ^ 30) (R.remaining reader.old) (R.given reader.old)
+        (R.given reader.new)) (R.failures reader.old) (R.failures reader.new) }
 {
     let mut input = Input::new(alloc, LIMIT);
     let front = read_front(alloc, &mut input, reader)?;

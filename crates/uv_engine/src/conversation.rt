@@ -3,7 +3,7 @@ ghost use Rattle.std.specs.Prelude.{◌≡◌, ℕ, List, ◌++◌, ◌<◌, ◌
 ghost use Rattle.std.specs.List.{list_any};
 ghost use Rattle.uv_ids.specs.declared.fault.Fault.TheVariants.{Write};
 ghost use Rattle.uv_script.specs.Lines.{lines_of};
-ghost use Rattle.uv_engine.specs.Devices.{ReaderCounts, WriterCounts, OnAnswer, TakesWithin};
+ghost use Rattle.uv_engine.specs.Devices.{ReaderCounts, IsTooLong, WriterCounts, OnAnswer, TakesWithin};
 ghost use Rattle.uv_engine.specs.Input.{left, EndIsSeen};
 ghost use Rattle.uv_engine.specs.Gather.{Gathers};
 ghost use Rattle.uv_engine.specs.Out.{Converses, HasAnswer, HasOneAnswer, IsDeviceFault, IsConversationFault};
@@ -74,8 +74,8 @@ impl<M: Machine> Conversation<M> {
         ensures err { IfErr result IsDeviceFault }
         ensures limit { result ≡ Ok Ended.Input → R.Tells → length (R.remaining reader.old) ≤ input.old.budget }
         ensures within { OnOk result (R.Tells → TakesWithin input.old.budget (R.remaining reader.old) (R.remaining reader.new)) }
-        ensures reader { ReaderCounts result (R.Tells → input.old.budget < length (R.remaining reader.old))
-            (R.failures reader.old) (R.failures reader.new) }
+        ensures reader { ReaderCounts result (IsTooLong R.Tells input.old.budget (R.remaining reader.old) (R.given reader.old)
+            (R.given reader.new)) (R.failures reader.old) (R.failures reader.new) }
         ensures writer { WriterCounts result (W.failures writer.old) (W.failures writer.new) }
     {
         every_line_asks();
@@ -130,7 +130,8 @@ pub fn converse_within<M: Machine, R: Source, W: Sink>(
     ensures limit { result ≡ Ok Ended.Input → R.Tells → length (R.remaining reader.old) ≤ limit }
     ensures within { OnAnswer result (R.Tells → TakesWithin limit (R.remaining reader.old) (R.remaining reader.new)) }
     ensures err { IfErr result IsConversationFault }
-    ensures reader { ReaderCounts result (R.Tells → limit < length (R.remaining reader.old)) (R.failures reader.old) (R.failures reader.new) }
+    ensures reader { ReaderCounts result (IsTooLong R.Tells limit (R.remaining reader.old) (R.given reader.old)
+        (R.given reader.new)) (R.failures reader.old) (R.failures reader.new) }
     ensures writer { WriterCounts result (W.failures writer.old) (W.failures writer.new) }
 {
     one_reading();
@@ -155,7 +156,8 @@ pub fn converse<M: Machine, R: Source, W: Sink>(
     ensures limit { result ≡ Ok Ended.Input → R.Tells → length (R.remaining reader.old) ≤ 2 ^ 30 }
     ensures within { OnAnswer result (R.Tells → TakesWithin (2 ^ 30) (R.remaining reader.old) (R.remaining reader.new)) }
     ensures err { IfErr result IsConversationFault }
-    ensures reader { ReaderCounts result (R.Tells → 2 ^ 30 < length (R.remaining reader.old)) (R.failures reader.old) (R.failures reader.new) }
+    ensures reader { ReaderCounts result (IsTooLong R.Tells (2 ^ 30) (R.remaining reader.old) (R.given reader.old)
+        (R.given reader.new)) (R.failures reader.old) (R.failures reader.new) }
     ensures writer { WriterCounts result (W.failures writer.old) (W.failures writer.new) }
 {
     converse_within::<M, R, W>(alloc, LIMIT, reader, writer)

@@ -14,10 +14,11 @@ fn count(failures: &mut u64)
     *failures = failures.saturating_add(1);
 }
 
-/// A standard reader, and how often it failed.
+/// A standard reader, how many bytes it gave, and how often it failed.
 #[derive(Drop)]
 pub struct Reader<R> {
     reader: R,
+    given: u64,
     failures: u64,
 }
 
@@ -25,6 +26,7 @@ impl<R: Read> Reader<R> {
     pub fn new(reader: R) -> Reader<R> {
         Reader {
             reader,
+            given: 0,
             failures: 0,
         }
     }
@@ -35,11 +37,16 @@ impl<R: Read> Source for Reader<R> {
 
     ghost remaining = { λ reader. known (R.remaining reader.reader) };
 
+    ghost given = { λ reader. reader.given };
+
     ghost failures = { λ reader. reader.failures };
 
     fn read(&mut self, room: &mut [u8]) -> Result<usize, ReadFailed> {
         match self.reader.read(room) {
-            Ok(n) => Ok(n),
+            Ok(n) => {
+                self.given = self.given.saturating_add(n as u64);
+                Ok(n)
+            }
             Err(_) => {
                 count(&mut self.failures);
                 Err(ReadFailed)

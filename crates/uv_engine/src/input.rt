@@ -1,9 +1,9 @@
 //! The lines of a reader.
 ghost use Rattle.std.specs.Prelude.{◌≡◌, ◌<◌, ◌+◌, ◌==◌, ◌++◌, [], IfOk, IfErr, OnOk, OnSome, length, true, false};
 ghost use Rattle.std.specs.List.{list_any};
-ghost use Rattle.uv_engine.specs.Devices.{ReaderCounts};
+ghost use Rattle.uv_engine.specs.Devices.{ReaderCounts, IsTooLong};
 ghost use Rattle.uv_engine.specs.Input.{Buffered, pending, left, EndIsSeen, size, turns_left};
-ghost use Rattle.uv_engine.specs.Taking.{TakesAhead, TakesNext, SameReader, SpendsBudget, IsReadFault};
+ghost use Rattle.uv_engine.specs.Taking.{TakesAhead, TakesNext, SameReader, SpendsBudget, SpendsGiven, IsReadFault};
 
 use crate::source::Source;
 use std::alloc::{AllocError, Global};
@@ -104,9 +104,10 @@ impl Input {
         ensures turns { OnOk result (turns_left self.new < turns_left self.old) }
         ensures size { OnOk result (size self.new ≡ size self.old) }
         ensures budget { OnOk result (R.Tells → SpendsBudget self.old (R.remaining reader.old) self.new (R.remaining reader.new)) }
+        ensures given { OnOk result (SpendsGiven self.old (R.given reader.old) self.new (R.given reader.new)) }
         ensures err { IfErr result IsReadFault }
-        ensures reader { ReaderCounts result (R.Tells → self.old.budget < length (R.remaining reader.old))
-            (R.failures reader.old) (R.failures reader.new) }
+        ensures reader { ReaderCounts result (IsTooLong R.Tells self.old.budget (R.remaining reader.old) (R.given reader.old)
+            (R.given reader.new)) (R.failures reader.old) (R.failures reader.new) }
     {
         let mut room = [0; 4096];
         match reader.read(&mut room) {
@@ -135,9 +136,10 @@ impl Input {
         ensures end { OnOk result (R.Tells → EndIsSeen self.new (R.remaining reader.new)) }
         ensures ended { OnOk result (self.old.ended ≡ true → self.new.ended ≡ true) }
         ensures budget { OnOk result (R.Tells → SpendsBudget self.old (R.remaining reader.old) self.new (R.remaining reader.new)) }
+        ensures given { OnOk result (SpendsGiven self.old (R.given reader.old) self.new (R.given reader.new)) }
         ensures err { IfErr result IsReadFault }
-        ensures reader { ReaderCounts result (R.Tells → self.old.budget < length (R.remaining reader.old))
-            (R.failures reader.old) (R.failures reader.new) }
+        ensures reader { ReaderCounts result (IsTooLong R.Tells self.old.budget (R.remaining reader.old) (R.given reader.old)
+            (R.given reader.new)) (R.failures reader.old) (R.failures reader.new) }
     {
         loop {
             if let Some(text) = self.take_ahead()? {

@@ -14,6 +14,7 @@ mod script;
 mod sink;
 mod source;
 mod verdict;
+mod version;
 
 pub use alone::read_alone;
 pub use conversation::{Ended, converse, converse_within, one_answer};

@@ -1,19 +1,19 @@
 //! The lines of a recording, with their numbers.
-ghost use Rattle.std.specs.Prelude.{◌≡◌, ◌≢◌, ◌<◌, ◌≤◌, ◌+◌, ◌-◌, ◌^◌, [], List, ℕ, length, true, false, codes, IfOk, IfErr, IfSome, IfNone, OnOk, OnSome};
+ghost use Rattle.std.specs.Prelude.{◌≡◌, ◌<◌, ◌≤◌, ◌+◌, ◌-◌, ◌^◌, [], List, ℕ, length, IfOk, IfErr, IfSome, IfNone, OnOk, OnSome};
 ghost use Rattle.uv_ids.specs.declared.event.Event.{Event};
-ghost use Rattle.uv_script.specs.Grammar.{unread};
 ghost use Rattle.uv_script.specs.Lines.{lines_of};
 ghost use Rattle.uv_script.specs.Program.{Program};
-ghost use Rattle.uv_engine.specs.Devices.{ReaderCounts, OnAnswer};
+ghost use Rattle.uv_engine.specs.Devices.{ReaderCounts, IsTooLong, OnAnswer};
 ghost use Rattle.uv_engine.specs.Input.{left, EndIsSeen, size};
-ghost use Rattle.uv_engine.specs.Recordings.{Start, InScript, InSteps, Whole};
+ghost use Rattle.uv_engine.specs.Recordings.{unread_in, Start, InScript, InSteps, Whole};
 ghost use Rattle.uv_engine.specs.Rerun.{CanCount, ReadsPart, IsReadingFault};
 ghost use Rattle.uv_engine.specs.Start.{FindsSkipped, IsFirstBad};
-ghost use Rattle.uv_engine.specs.Taking.{TakesNext, SpendsBudget, IsReadFault};
+ghost use Rattle.uv_engine.specs.Taking.{TakesNext, SpendsBudget, SpendsGiven, IsReadFault};
 
 use crate::input::{Input, Line};
 use crate::script::{parse_front, read_front};
 use crate::source::Source;
+use crate::version::Version;
 use std::alloc::Global;
 use uv_ids::Fault;
 use uv_script::{Lines, Script, is_skipped, line_count};
@@ -37,9 +37,10 @@ impl Numbered {
         ensures size { IfOk result (λ line. OnSome line (size self.new.input < size self.old.input)) }
         ensures end { OnOk result (R.Tells → EndIsSeen self.new.input (R.remaining reader.new)) }
         ensures budget { OnOk result (R.Tells → SpendsBudget self.old.input (R.remaining reader.old) self.new.input (R.remaining reader.new)) }
+        ensures given { OnOk result (SpendsGiven self.old.input (R.given reader.old) self.new.input (R.given reader.new)) }
         ensures err { IfErr result IsReadFault }
-        ensures reader { ReaderCounts result (R.Tells → self.old.input.budget < length (R.remaining reader.old))
-            (R.failures reader.old) (R.failures reader.new) }
+        ensures reader { ReaderCounts result (IsTooLong R.Tells self.old.input.budget (R.remaining reader.old) (R.given reader.old)
+            (R.given reader.new)) (R.failures reader.old) (R.failures reader.new) }
     {
         let line = self.input.next_line(reader)?;
         if line.is_some() {
@@ -66,25 +67,25 @@ impl Numbered {
     }
 
     /// Reads the first line, which names the format.
-    pub(crate) fn read_version<R: Source>(&mut self, reader: &mut R) -> Result<(), Fault>
+    pub(crate) fn read_version<R: Source>(&mut self, reader: &mut R) -> Result<Version, Fault>
         requires end { R.Tells → EndIsSeen self.old.input (R.remaining reader.old) }
         requires few { CanCount self.old.taken self.old.input }
-        ensures read { R.Tells → ReadsPart (λ _. InScript unread) Start self.old.taken (left self.old.input (R.remaining reader.old))
-            result self.new.taken (left self.new.input (R.remaining reader.new)) }
+        ensures read { R.Tells → ReadsPart (λ version. InScript (unread_in version)) Start self.old.taken
+            (left self.old.input (R.remaining reader.old)) result self.new.taken (left self.new.input (R.remaining reader.new)) }
         ensures few { OnOk result (self.new.taken + size self.new.input ≤ self.old.taken + size self.old.input) }
         ensures end { OnOk result (R.Tells → EndIsSeen self.new.input (R.remaining reader.new)) }
         ensures budget { OnAnswer result (R.Tells → SpendsBudget self.old.input (R.remaining reader.old) self.new.input (R.remaining reader.new)) }
+        ensures given { OnOk result (SpendsGiven self.old.input (R.given reader.old) self.new.input (R.given reader.new)) }
         ensures err { IfErr result IsReadingFault }
-        ensures reader { ReaderCounts result (R.Tells → self.old.input.budget < length (R.remaining reader.old))
-            (R.failures reader.old) (R.failures reader.new) }
+        ensures reader { ReaderCounts result (IsTooLong R.Tells self.old.input.budget (R.remaining reader.old) (R.given reader.old)
+            (R.given reader.new)) (R.failures reader.old) (R.failures reader.new) }
     {
         let Some(line) = self.next_line(reader)? else {
             return Err(self.missing());
         };
-        if is_version(line.text.as_slice()) {
-            Ok(())
-        } else {
-            Err(self.bad())
+        match Version::of_line(line.text.as_slice()) {
+            Some(version) => Ok(version),
+            None => Err(self.bad()),
         }
     }
 
@@ -92,23 +93,25 @@ impl Numbered {
     pub(crate) fn read_script<R: Source>(
         &mut self,
         alloc: Global,
+        version: Version,
         reader: &mut R,
     ) -> Result<Script, Fault>
         requires end { R.Tells → EndIsSeen self.old.input (R.remaining reader.old) }
         requires few { self.old.taken + size self.old.input < 2 ^ 62 }
-        ensures read { R.Tells → ReadsPart (λ (script : Program). InSteps script []) (InScript unread) self.old.taken
+        ensures read { R.Tells → ReadsPart (λ (script : Program). InSteps script []) (InScript (unread_in version)) self.old.taken
             (left self.old.input (R.remaining reader.old)) result self.new.taken (left self.new.input (R.remaining reader.new)) }
         ensures few { OnOk result (CanCount self.new.taken self.new.input) }
         ensures end { OnOk result (R.Tells → EndIsSeen self.new.input (R.remaining reader.new)) }
         ensures budget { OnAnswer result (R.Tells → SpendsBudget self.old.input (R.remaining reader.old) self.new.input (R.remaining reader.new)) }
+        ensures given { OnOk result (SpendsGiven self.old.input (R.given reader.old) self.new.input (R.given reader.new)) }
         ensures err { IfErr result IsReadingFault }
-        ensures reader { ReaderCounts result (R.Tells → self.old.input.budget < length (R.remaining reader.old))
-            (R.failures reader.old) (R.failures reader.new) }
+        ensures reader { ReaderCounts result (IsTooLong R.Tells self.old.input.budget (R.remaining reader.old) (R.given reader.old)
+            (R.given reader.new)) (R.failures reader.old) (R.failures reader.new) }
     {
         let front = read_front(alloc, &mut self.input, reader)?;
         let lines = line_count(front.text.as_slice());
         let skipped = first_skipped(front.text.as_slice());
-        match parse_front(alloc, &front) {
+        match parse_front(alloc, version, &front) {
             Ok(script) => {
                 if let Some(line) = skipped {
                     return Err(Fault::Script {
@@ -133,9 +136,10 @@ impl Numbered {
             (Whole p es called) self.old.taken (left self.old.input (R.remaining reader.old))
             result self.new.taken [] }
         ensures budget { OnAnswer result (R.Tells → SpendsBudget self.old.input (R.remaining reader.old) self.new.input (R.remaining reader.new)) }
+        ensures given { OnOk result (SpendsGiven self.old.input (R.given reader.old) self.new.input (R.given reader.new)) }
         ensures err { IfErr result IsReadingFault }
-        ensures reader { ReaderCounts result (R.Tells → self.old.input.budget < length (R.remaining reader.old))
-            (R.failures reader.old) (R.failures reader.new) }
+        ensures reader { ReaderCounts result (IsTooLong R.Tells self.old.input.budget (R.remaining reader.old) (R.given reader.old)
+            (R.given reader.new)) (R.failures reader.old) (R.failures reader.new) }
     {
         let Some(_) = self.next_line(reader)? else {
             return Ok(());
@@ -167,12 +171,4 @@ fn first_bad(line: usize, skipped: Option<usize>) -> usize
         Some(skipped) if skipped <= line => skipped,
         _ => line,
     }
-}
-
-/// Whether this is a recording's first line.
-fn is_version(line: &[u8]) -> bool
-    ensures is { result ≡ true → line.now ≡ codes "uvt 1" }
-    ensures other { result ≡ false → line.now ≢ codes "uvt 1" }
-{
-    line == b"uvt 1".as_slice()
 }

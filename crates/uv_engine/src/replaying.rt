@@ -6,10 +6,10 @@ ghost use Rattle.uv_script.specs.Program.{Program};
 ghost use Rattle.uv_text.specs.Recording.{recording_text};
 ghost use Rattle.uv_engine.specs.declared.verdict.Verdict.{Verdict};
 ghost use Rattle.uv_engine.specs.declared.verdict.Verdict.TheVariants.{Same};
-ghost use Rattle.uv_engine.specs.Devices.{ReaderCounts, WriterCounts, OnAnswer, TakesWithin};
+ghost use Rattle.uv_engine.specs.Devices.{ReaderCounts, IsTooLong, WriterCounts, OnAnswer, TakesWithin};
 ghost use Rattle.uv_engine.specs.Input.{left, EndIsSeen, size};
 ghost use Rattle.uv_engine.specs.Rerun.{CanCount, ReadsSteps, ReadsCalls, Judges, IsReadingFault};
-ghost use Rattle.uv_engine.specs.Taking.{SpendsBudget};
+ghost use Rattle.uv_engine.specs.Taking.{SpendsBudget, SpendsGiven};
 ghost use Rattle.uv_engine.specs.Verdict.{AllTaken, HasVerdict, HasOneVerdict, Replays, IsReplayFault};
 
 use crate::input::Input;
@@ -42,9 +42,10 @@ fn read_steps<M: Machine, R: Source>(
     ensures few { OnOk result (CanCount input.new.taken input.new.input) }
     ensures end { OnOk result (R.Tells → EndIsSeen input.new.input (R.remaining reader.new)) }
     ensures budget { OnAnswer result (R.Tells → SpendsBudget input.old.input (R.remaining reader.old) input.new.input (R.remaining reader.new)) }
+    ensures given { OnOk result (SpendsGiven input.old.input (R.given reader.old) input.new.input (R.given reader.new)) }
     ensures err { IfErr result IsReadingFault }
-    ensures reader { ReaderCounts result (R.Tells → input.old.input.budget < length (R.remaining reader.old))
-        (R.failures reader.old) (R.failures reader.new) }
+    ensures reader { ReaderCounts result (IsTooLong R.Tells input.old.input.budget (R.remaining reader.old) (R.given reader.old)
+        (R.given reader.new)) (R.failures reader.old) (R.failures reader.new) }
 {
     'lines: loop {
         let Some(line) = input.next_line(reader)? else {
@@ -90,9 +91,10 @@ fn read_calls<M: Machine, R: Source>(
     ensures few { OnOk result (CanCount input.new.taken input.new.input) }
     ensures end { OnOk result (R.Tells → EndIsSeen input.new.input (R.remaining reader.new)) }
     ensures budget { OnAnswer result (R.Tells → SpendsBudget input.old.input (R.remaining reader.old) input.new.input (R.remaining reader.new)) }
+    ensures given { OnOk result (SpendsGiven input.old.input (R.given reader.old) input.new.input (R.given reader.new)) }
     ensures err { IfErr result IsReadingFault }
-    ensures reader { ReaderCounts result (R.Tells → input.old.input.budget < length (R.remaining reader.old))
-        (R.failures reader.old) (R.failures reader.new) }
+    ensures reader { ReaderCounts result (IsTooLong R.Tells input.old.input.budget (R.remaining reader.old) (R.given reader.old)
+        (R.given reader.new)) (R.failures reader.old) (R.failures reader.new) }
 {
     'lines: loop {
         let Some(line) = input.next_line(reader)? else {
@@ -121,14 +123,15 @@ fn judge<M: Machine, R: Source>(alloc: Global, limit: u64, reader: &mut R) -> Re
     ensures verdict { R.Tells → Judges (R.remaining reader.old) result }
     ensures within { OnAnswer result (R.Tells → TakesWithin limit (R.remaining reader.old) (R.remaining reader.new)) }
     ensures err { IfErr result IsReadingFault }
-    ensures reader { ReaderCounts result (R.Tells → limit < length (R.remaining reader.old)) (R.failures reader.old) (R.failures reader.new) }
+    ensures reader { ReaderCounts result (IsTooLong R.Tells limit (R.remaining reader.old) (R.given reader.old)
+        (R.given reader.new)) (R.failures reader.old) (R.failures reader.new) }
 {
     let mut input = Numbered {
         input: Input::new(alloc, limit),
         taken: 0,
     };
-    input.read_version(reader)?;
-    let script = input.read_script(alloc, reader)?;
+    let version = input.read_version(reader)?;
+    let script = input.read_script(alloc, version, reader)?;
     let mut rerun = Rerun {
         machine: M::begin(alloc, script)?,
         halted: None,
@@ -172,7 +175,8 @@ pub fn replay_within<M: Machine, R: Source, W: Sink>(
     ensures text { R.Tells → W.Tells → Replays (R.remaining reader.old) result (W.written writer.old) (W.written writer.new) }
     ensures within { OnAnswer result (R.Tells → TakesWithin limit (R.remaining reader.old) (R.remaining reader.new)) }
     ensures err { IfErr result IsReplayFault }
-    ensures reader { ReaderCounts result (R.Tells → limit < length (R.remaining reader.old)) (R.failures reader.old) (R.failures reader.new) }
+    ensures reader { ReaderCounts result (IsTooLong R.Tells limit (R.remaining reader.old) (R.given reader.old)
+        (R.given reader.new)) (R.failures reader.old) (R.failures reader.new) }
     ensures writer { WriterCounts result (W.failures writer.old) (W.failures writer.new) }
 {
     let verdict = judge::<M, R>(alloc, limit, reader)?;
@@ -188,7 +192,8 @@ pub fn replay<M: Machine, R: Source, W: Sink>(
     ensures text { R.Tells → W.Tells → Replays (R.remaining reader.old) result (W.written writer.old) (W.written writer.new) }
     ensures within { OnAnswer result (R.Tells → TakesWithin (2 ^ 30) (R.remaining reader.old) (R.remaining reader.new)) }
     ensures err { IfErr result IsReplayFault }
-    ensures reader { ReaderCounts result (R.Tells → 2 ^ 30 < length (R.remaining reader.old)) (R.failures reader.old) (R.failures reader.new) }
+    ensures reader { ReaderCounts result (IsTooLong R.Tells (2 ^ 30) (R.remaining reader.old) (R.given reader.old)
+        (R.given reader.new)) (R.failures reader.old) (R.failures reader.new) }
     ensures writer { WriterCounts result (W.failures writer.old) (W.failures writer.new) }
 {
     replay_within::<M, R, W>(alloc, LIMIT, reader, writer)

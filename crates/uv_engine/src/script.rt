@@ -1,13 +1,15 @@
 //! The script in front of a conversation.
 ghost use Rattle.std.specs.Prelude.{◌≡◌, ◌≢◌, ◌++◌, [], ◌∷◌, IfOk, IfErr, OnOk, true, false, codes, length, ◌+◌, ◌<◌, ◌≤◌};
 ghost use Rattle.uv_script.specs.Lines.{lines_of};
-ghost use Rattle.uv_engine.specs.Devices.{ReaderCounts, OnAnswer};
+ghost use Rattle.uv_engine.specs.Recordings.{unread_in};
+ghost use Rattle.uv_engine.specs.Devices.{ReaderCounts, IsTooLong, OnAnswer};
 ghost use Rattle.uv_engine.specs.Input.{left, EndIsSeen, size};
-ghost use Rattle.uv_engine.specs.Taking.{SpendsBudget, IsReadFault};
+ghost use Rattle.uv_engine.specs.Taking.{SpendsBudget, SpendsGiven, IsReadFault};
 ghost use Rattle.uv_engine.specs.Start.{ReadsScript, IsFront, ParsesFront, NoScript, IsStartFault, with_line};
 
 use crate::input::{Input, Line};
 use crate::source::Source;
+use crate::version::Version;
 use std::alloc::{AllocError, Global};
 use uv_ids::Fault;
 use uv_script::{Script, line_count};
@@ -29,12 +31,13 @@ pub fn read_script<R: Source>(
     ensures script { R.Tells → ReadsScript (left input.old (R.remaining reader.old)) result (left input.new (R.remaining reader.new)) }
     ensures end { OnOk result (R.Tells → EndIsSeen input.new (R.remaining reader.new)) }
     ensures budget { OnAnswer result (R.Tells → SpendsBudget input.old (R.remaining reader.old) input.new (R.remaining reader.new)) }
+    ensures given { OnOk result (SpendsGiven input.old (R.given reader.old) input.new (R.given reader.new)) }
     ensures err { IfErr result IsStartFault }
-    ensures reader { ReaderCounts result (R.Tells → input.old.budget < length (R.remaining reader.old))
-        (R.failures reader.old) (R.failures reader.new) }
+    ensures reader { ReaderCounts result (IsTooLong R.Tells input.old.budget (R.remaining reader.old) (R.given reader.old)
+        (R.given reader.new)) (R.failures reader.old) (R.failures reader.new) }
 {
     let front = read_front(alloc, input, reader)?;
-    parse_front(alloc, &front)
+    parse_front(alloc, Version::V2, &front)
 }
 
 /// Reads the text in front of the line `begin`, and that line.
@@ -49,9 +52,10 @@ pub(crate) fn read_front<R: Source>(
     ensures size { IfOk result (λ front. front.begun ≡ true → size input.new ≤ size input.old) }
     ensures end { OnOk result (R.Tells → EndIsSeen input.new (R.remaining reader.new)) }
     ensures budget { OnOk result (R.Tells → SpendsBudget input.old (R.remaining reader.old) input.new (R.remaining reader.new)) }
+    ensures given { OnOk result (SpendsGiven input.old (R.given reader.old) input.new (R.given reader.new)) }
     ensures err { IfErr result IsReadFault }
-    ensures reader { ReaderCounts result (R.Tells → input.old.budget < length (R.remaining reader.old))
-        (R.failures reader.old) (R.failures reader.new) }
+    ensures reader { ReaderCounts result (IsTooLong R.Tells input.old.budget (R.remaining reader.old) (R.given reader.old)
+        (R.given reader.new)) (R.failures reader.old) (R.failures reader.new) }
 {
     let mut text = Vec::new(alloc);
     'lines: loop {
@@ -65,14 +69,14 @@ pub(crate) fn read_front<R: Source>(
     }
 }
 
-/// The script of a text in front of `begin`.
-pub(crate) fn parse_front(alloc: Global, front: &Front) -> Result<Script, Fault>
-    ensures { ParsesFront front.now.text.items front.now.begun result }
+/// The script of a text in front of `begin`, as recordings of this version have it.
+pub(crate) fn parse_front(alloc: Global, version: Version, front: &Front) -> Result<Script, Fault>
+    ensures { ParsesFront (unread_in version) front.now.text.items front.now.begun result }
 {
     if front.begun {
-        Script::parse(alloc, front.text.as_slice())
+        version.parse(alloc, front.text.as_slice())
     } else {
-        Err(without_begin(alloc, front.text.as_slice()))
+        Err(without_begin(alloc, version, front.text.as_slice()))
     }
 }
 
@@ -95,10 +99,10 @@ fn push_line(text: &mut Vec<u8>, line: &Line) -> Result<(), AllocError>
 }
 
 /// What is wrong with an input without the line `begin`: its first bad line, or the line after its last one.
-fn without_begin(alloc: Global, text: &[u8]) -> Fault
-    ensures { NoScript text.now result }
+fn without_begin(alloc: Global, version: Version, text: &[u8]) -> Fault
+    ensures { NoScript (unread_in version) text.now result }
 {
-    match Script::parse(alloc, text) {
+    match version.parse(alloc, text) {
         Ok(_) => {}
         Err(fault) => return fault,
     }

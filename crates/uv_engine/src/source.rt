@@ -1,6 +1,6 @@
 //! Where input comes from.
 ghost use Rattle.std.specs.Prelude.{◌≡◌, ◌<◌, ◌≤◌, ◌++◌, ℕ, List, [], IfOk, OnOk, OnErr, length, take};
-ghost use Rattle.uv_engine.specs.Devices.{Counted};
+ghost use Rattle.uv_engine.specs.Devices.{Counted, Gave};
 
 /// The longest input in bytes (own).
 pub const LIMIT: u64 = 1_073_741_824;
@@ -9,13 +9,15 @@ pub const LIMIT: u64 = 1_073_741_824;
 #[derive(Clone, Copy, PartialEq, Eq)]
 pub struct ReadFailed;
 
-/// A reader, as the bytes that are left and the number of its failures.
+/// A reader, as the bytes that are left, the number of those that it gave, and the number of its failures.
 pub trait Source {
     /// Whether the reader tells its bytes, as one over memory does. Of one that doesn't, as a terminal, a contract says
     /// nothing of the bytes.
     ghost Tells: { Type 0 };
 
     ghost remaining: { Self → List ℕ };
+
+    ghost given: { Self → ℕ };
 
     ghost failures: { Self → ℕ };
 
@@ -24,6 +26,8 @@ pub trait Source {
         ensures within { IfOk result (λ n. n ≤ length room.new) }
         ensures bytes { IfOk result (λ n. Tells → remaining self.old ≡ take n room.new ++ remaining self.new) }
         ensures end { IfOk result (λ n. Tells → n ≡ 0 → 0 < length room.new → remaining self.old ≡ []) }
+        ensures given { IfOk result (λ n. Gave n (given self.old) (given self.new)) }
+        ensures none { OnErr result (given self.new ≡ given self.old) }
         ensures count { OnErr result (Counted (failures self.old) (failures self.new)) }
         ensures same { OnOk result (failures self.new ≡ failures self.old) };
 }

@@ -25,8 +25,8 @@ limits i = (i.last, i.memory.row.capacity)
 inserted_limits : (u : InsertUndo) (i : arena.Image Content) → limits (insert_undone u i) ≡ limits i
 inserted_limits u i = cond_both u.fresh _ _ (λ (z : arena.Image Content). limits z ≡ limits i) (λ e. refl) (λ e. refl)
 
-removed_limits : (u : RemoveUndo Content) (i : arena.Image Content) → limits (remove_undone u i) ≡ limits i
-removed_limits u i = cond_both u.retired _ _ (λ (z : arena.Image Content). limits z ≡ limits i) (λ e. refl) (λ e. refl)
+removed_limits : (u : RemoveUndo) (v : Content) (i : arena.Image Content) → limits (remove_undone u v i) ≡ limits i
+removed_limits u v i = cond_both u.retired _ _ (λ (z : arena.Image Content). limits z ≡ limits i) (λ e. refl) (λ e. refl)
 
 reopened_limits : (o : Option Request) (x : ℕ) (i : arena.Image Content) → limits (reopened_by Asked o x i) ≡ limits i
 reopened_limits None x i = refl
@@ -47,7 +47,7 @@ undo_limits (part.Ran k id) i = refl
 undo_limits (part.Held x v) i = refl
 undo_limits (part.WasOpen d) i = reopened_limits (work.request_in request_in i.arena d) d.slot i.arena
 undo_limits (part.Taken u) i = inserted_limits u i.arena
-undo_limits (part.Freed u) i = removed_limits u i.arena
+undo_limits (part.Freed u v) i = removed_limits u v i.arena
 undo_limits (part.PutOn x) i = refl
 undo_limits (part.TakenOff t) i = refl
 undo_limits (part.Moved u) i = refl

@@ -3,7 +3,7 @@ use Rattle.std.proofs.Common.{◌≡◌, ℕ, slice_get, Option, Some, None, IfN
 use Rattle.uv_ids.specs.declared.seen.Seen.{Seen}
 use Rattle.uv_ids.specs.declared.fault.Why.{Why}
 use Rattle.uv_ids.specs.declared.event.Event.TheVariants.{Loop}
-use Rattle.uv_script.specs.Program.{Program}
+use Rattle.uv_script.specs.Program.{Program, order_of}
 use Rattle.uv_model.specs.declared.place.Place.{Place}
 use Rattle.uv_model.specs.declared.place.Place.TheVariants.{Main, Running}
 use Rattle.uv_model.specs.declared.place.Run.{Run}
@@ -18,7 +18,7 @@ use Rattle.uv_loop.specs.Acting.{MayAt, Refusal}
 use Rattle.uv_loop.specs.Turning.{Turns}
 
 module _ (p : Program) (i : Image Place) (s : State) (h : StandsFor i s) where
-  pub main_there : (line : ℕ) → i.place ≡ Main line → next p s Loop ≡ main_step s line (slice_get p.main line)
+  pub main_there : (line : ℕ) → i.place ≡ Main line → next p s Loop ≡ main_step (order_of p) s line (slice_get p.main line)
   unfolding next
   main_there line is = ap (loop_step p s) (sym h.place ∙ is)
 

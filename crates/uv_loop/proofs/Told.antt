@@ -7,29 +7,17 @@ use Rattle.uv_ids.specs.declared.id.Var.{Var}
 use Rattle.uv_ids.specs.declared.event.Event.{Event}
 use Rattle.uv_ids.specs.declared.event.Event.TheVariants.{Loop, Take, Finish, Cancel, Send, Tick}
 use Rattle.uv_ids.specs.declared.seen.Seen.{Seen}
+use Rattle.uv_ids.specs.declared.seen.Seen.TheVariants as seen
 use Rattle.uv_ids.specs.declared.fault.Why.{Why}
-use Rattle.uv_script.specs.declared.op.MainOp.{MainOp}
-use Rattle.uv_script.specs.declared.op.MainOp.TheVariants as main
-use Rattle.uv_script.specs.declared.op.CallbackLine.{CallbackLine}
-use Rattle.uv_script.specs.Program.{Program, lines_in}
-use Rattle.uv_model.specs.declared.place.Body.{Body}
+use Rattle.uv_script.specs.Program.{Program}
 use Rattle.uv_model.specs.declared.place.Place.{Place}
-use Rattle.uv_model.specs.declared.place.Place.TheVariants.{Main, Running}
-use Rattle.uv_model.specs.declared.place.Run.{Run}
-use Rattle.uv_model.specs.declared.place.Stage.{Stage}
-use Rattle.uv_model.specs.declared.place.Stage.TheVariants as stage
-use Rattle.uv_model.specs.declared.place.TimersOf.{TimersOf}
-use Rattle.uv_model.specs.declared.place.TimersOf.TheVariants as timers_of
-use Rattle.uv_model.specs.declared.place.Timing.{Timing}
-use Rattle.uv_model.specs.declared.place.Timing.TheVariants.{Collecting, Firing}
 use Rattle.uv_model.specs.declared.request.Request.{Request}
-use Rattle.uv_records.specs.declared.lists.WatcherKind.{WatcherKind}
-use Rattle.uv_records.specs.declared.lists.WatcherKind.TheVariants as watcher
-use Rattle.uv_model.specs.State.{State, front, front_request, watched}
+use Rattle.uv_model.specs.State.{State}
 use Rattle.uv_model.specs.Next as step
 use Rattle.uv_model.specs.Next.{Next, Moves, Refuses, next}
 use Rattle.uv_model.specs.After.{after, STEPS}
-use Rattle.uv_model.proofs.Found.{found_both}
+use Rattle.uv_model.specs.Steps.{IsOfLoop}
+use Rattle.uv_model.proofs.Refusals.{OfLoop, loop_lines}
 use Rattle.uv_step.specs.declared.record.Record.{Record}
 use Rattle.uv_step.specs.Image.{Image, Held}
 use Rattle.uv_order.proofs.Reaching.{reached}
@@ -44,68 +32,25 @@ Tells e (Refuses why) = Unit {0}
 
 -- ---- steps of the loop
 
-leave_tells : (s : State) (run : Run) (part : TimersOf) → Tells Loop (step.leave_timers s run part)
-leave_tells s run timers_of.Entry = cond_both (step.goes s) _ _ (Tells Loop) (λ e. refl) (λ e. refl)
-leave_tells s run timers_of.Iteration = cond_both (step.is_default run.mode && step.goes s) _ _ (Tells Loop) (λ e. refl) (λ e. refl)
+own : (l : Option Seen) → IsOfLoop l → event_of l ≡ Loop
+own None h = refl
+own (Some (seen.Run mode)) h = refl
+own (Some (seen.Section word)) h = refl
+own (Some (seen.Poll timeout)) h = refl
+own (Some (seen.End alive)) h = refl
+own (Some (seen.Call v id)) h = refl
+own (Some (seen.After digest v id)) h = refl
+own (Some (seen.Closed v id)) h = refl
+own (Some (seen.Op place a)) h = refl
+own (Some (seen.Take k v id)) h = absurd h
+own (Some (seen.Finish k v id)) h = absurd h
+own (Some (seen.Cancel v a)) h = absurd h
+own (Some (seen.Send v code)) h = absurd h
+own (Some (seen.Tick ms)) h = absurd h
 
-enter_tells : (s : State) (run : Run) → Tells Loop (step.enter s run)
-enter_tells s run =
-    cond_both (step.goes s) _ _ (Tells Loop) (λ e. cond_both (step.is_default run.mode) _ _ (Tells Loop) (λ d. refl) (λ d. refl)) (λ e. refl)
-
-fire_tells : (p : Program) (s : State) (run : Run) (part : TimersOf) → Tells Loop (step.fire p s run part)
-fire_tells p s run part = found_both (front s s.ready) _ _ (Tells Loop) (λ t e. refl) (λ e. leave_tells s run part)
-
-timers_tell : (p : Program) (s : State) (run : Run) (part : TimersOf) (timing : Timing) → Tells Loop (step.timers p s run part timing)
-timers_tell p s run part Collecting = found_both (step.first_due s s.timers) _ _ (Tells Loop) (λ t e. refl) (λ e. fire_tells p s run part)
-timers_tell p s run part Firing = fire_tells p s run part
-
-after_tells : (s : State) (run : Run) (kind : WatcherKind) → Tells Loop (step.after_walk s run kind)
-after_tells s run watcher.Idle = refl
-after_tells s run watcher.Prepare = refl
-after_tells s run watcher.Check = refl
-after_tells s run watcher.Async = refl
-
-walk_tells : (p : Program) (s : State) (run : Run) (kind : WatcherKind) → Tells Loop (step.walk p s run kind)
-walk_tells p s run kind = found_both (front s (watched s kind).yet) _ _ (Tells Loop) (λ t e. refl) (λ e. after_tells s run kind)
-
-async_tells : (p : Program) (s : State) (run : Run) → Tells Loop (step.walk_async p s run)
-async_tells p s run =
-    found_both (front s s.async.yet) _ _ (Tells Loop) (λ t e. cond_both t.1.pending _ _ (Tells Loop) (λ d. refl) (λ d. refl)) (λ e. refl)
-
-close_tells : (p : Program) (s : State) (run : Run) → Tells Loop (step.close_front p s run)
-close_tells p s run = found_both (front s s.closing.yet) _ _ (Tells Loop) (λ t e. refl) (λ e. refl)
-
-done_tells : (p : Program) (s : State) (run : Run) → Tells Loop (step.collect_request p s run)
-done_tells p s run = found_both (front_request s s.done.yet) _ _ (Tells Loop) (λ t e. refl) (λ e. refl)
-
-stage_tells : (p : Program) (s : State) (run : Run) (x : Stage) → Tells Loop (step.stage_step p s run x)
-stage_tells p s run stage.Entry = enter_tells s run
-stage_tells p s run stage.Pending = refl
-stage_tells p s run stage.Idle = walk_tells p s run watcher.Idle
-stage_tells p s run stage.Prepare = walk_tells p s run watcher.Prepare
-stage_tells p s run (stage.Poll deadline) = cond_both (step.may_leave s deadline) _ _ (Tells Loop) (λ e. refl) (λ e. tt)
-stage_tells p s run stage.Done = done_tells p s run
-stage_tells p s run stage.Async = async_tells p s run
-stage_tells p s run stage.Check = walk_tells p s run watcher.Check
-stage_tells p s run stage.Closing = close_tells p s run
-stage_tells p s run (stage.Timers part timing) = timers_tell p s run part timing
-
-body_tells : (p : Program) (s : State) (run : Run) (body : Body) (x : Option CallbackLine) → Tells Loop (step.body_step p s run body x)
-body_tells p s run body None = refl
-body_tells p s run body (Some x) = refl
-
-run_tells : (p : Program) (s : State) (run : Run) (body : Option Body) → Tells Loop (step.run_step p s run body)
-run_tells p s run None = stage_tells p s run run.stage
-run_tells p s run (Some body) = body_tells p s run body (slice_get (lines_in p body.callback body.name) body.next)
-
-main_tells : (s : State) (line : ℕ) (x : Option MainOp) → Tells Loop (step.main_step s line x)
-main_tells s line None = tt
-main_tells s line (Some (main.Run mode)) = refl
-main_tells s line (Some (main.Op op)) = refl
-
-loop_tells : (p : Program) (s : State) (place : Place) → Tells Loop (step.loop_step p s place)
-loop_tells p s (Main line) = main_tells s line (slice_get p.main line)
-loop_tells p s (Running run) = run_tells p s run run.body
+tells : (n : Next) → OfLoop n → Tells Loop n
+tells (Moves t line) h = own line h
+tells (Refuses why) h = tt
 
 -- ---- steps from outside
 
@@ -128,7 +73,7 @@ tick_tells s ms = cond_both (nat_le (s.clock + ms) step.LATEST) _ _ (Tells (Tick
 
 next_tells : (p : Program) (s : State) (e : Event) → Tells e (next p s e)
 unfolding next
-next_tells p s Loop = loop_tells p s s.place
+next_tells p s Loop = tells (next p s Loop) (loop_lines p s)
 next_tells p s (Take k) = take_tells s k (step.next_work s (slice_get s.running k))
 next_tells p s (Finish k) = finish_tells s k (step.work_of s (slice_get s.running k))
 next_tells p s (Cancel v) = cancel_tells s v

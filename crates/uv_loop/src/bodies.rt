@@ -1,6 +1,6 @@
 //! The ops of bodies and of the main program.
 ghost use Rattle.std.specs.Prelude.{◌≡◌, ◌<◌, ◌^◌, None, Some, IfSome, is_some, true, slice_get};
-ghost use Rattle.uv_script.specs.Program.{Program, lines_in};
+ghost use Rattle.uv_script.specs.Program.{Program, lines_in, order_of};
 ghost use Rattle.uv_model.specs.declared.place.Body.{Body};
 ghost use Rattle.uv_model.specs.Next.{body_step, main_step};
 ghost use Rattle.uv_step.specs.Image.{held};
@@ -78,11 +78,12 @@ pub(crate) fn in_main(memory: &mut Memory<Place>, script: &Script, line: usize) 
     requires ready { IsReady (held memory.old) }
     requires line { line < 2 ^ 63 }
     requires may { is_some (slice_get script.now.main line) ≡ true }
-    ensures turns { Turns (λ s. main_step s line (slice_get script.now.main line)) memory.new.step_record (held memory.old) (held memory.new) result }
+    ensures turns { Turns (λ s. main_step (order_of script.now) s line (slice_get script.now.main line))
+        memory.new.step_record (held memory.old) (held memory.new) result }
 {
     match script.main_op(line) {
         None => unreachable!(),
-        Some(MainOp::Run(mode)) => Some(begin_run(memory, line, mode)),
+        Some(MainOp::Run(mode)) => Some(begin_run(memory, script, line, mode)),
         Some(MainOp::Op(op)) => {
             let answer = perform_at(memory, op, Place::Main(line + 1));
             Some(Seen::Op(Site::Main(line), answer))

@@ -27,6 +27,10 @@ impl Machine for ArenaLoop {
 
     ghost standing = { λ machine. machine.standing };
 
+    ghost BackWantsMemory = { ⊥ };
+
+    ghost MayHaveNoLayout = { ⊥ };
+
     fn begin(alloc: Global, script: Script) -> Result<Self, Fault>
         ensures program { IfOk result (λ begun. begun.program ≡ script) }
         ensures standing { IfOk result (λ begun. begun.standing ≡ []) }

@@ -4,7 +4,7 @@ ghost use Rattle.uv_ids.specs.declared.event.Event.TheVariants.{Loop, Take, Fini
 ghost use Rattle.uv_model.specs.Next.{main_step, run_step, stage_step, next};
 ghost use Rattle.uv_model.specs.After.{refusal_of};
 ghost use Rattle.uv_model.specs.State.{State};
-ghost use Rattle.uv_script.specs.Program.{Program};
+ghost use Rattle.uv_script.specs.Program.{Program, order_of};
 ghost use Rattle.uv_step.specs.Fit.{IsFit};
 ghost use Rattle.uv_step.specs.Image.{held};
 ghost use Rattle.uv_stands.specs.Doing.{OfEach};
@@ -99,7 +99,7 @@ fn loop_refusal(memory: &Memory<Place>, script: &Script) -> Option<Why>
 
 /// The main program has an end.
 fn main_refusal(script: &Script, line: usize) -> Option<Why>
-    ensures why { (s : State) → refusal_of (main_step s line (slice_get script.now.main line)) ≡ result }
+    ensures why { (s : State) → refusal_of (main_step (order_of script.now) s line (slice_get script.now.main line)) ≡ result }
     ensures may { IfNone result (is_some (slice_get script.now.main line) ≡ true) }
 {
     match script.main_op(line) {

@@ -9,12 +9,12 @@ ghost use Rattle.uv_loop.specs.Begins.{IsClearBehind};
 ghost use Rattle.uv_loop.specs.Turning.{Turns};
 
 use uv_ids::Seen;
-use uv_model::{Place, Run, Stage};
+use uv_model::{Place, Run, Stage, Turn};
 use uv_records::WatcherKind;
 use uv_script::Script;
 use uv_sections::{
-    begin_done, begin_walk, enter, in_async, in_check, in_closing, in_done, in_idle, in_prepare,
-    in_timers,
+    begin_done, begin_walk, in_async, in_check, in_closing, in_done, in_idle, in_prepare,
+    in_timers, turn,
 };
 use uv_step::Memory;
 
@@ -28,7 +28,7 @@ pub(crate) fn in_stage(memory: &mut Memory<Place>, script: &Script, run: Run) ->
     ensures turns { Turns (λ s. stage_step script.now s run run.stage) memory.new.step_record (held memory.old) (held memory.new) result }
 {
     match run.stage {
-        Stage::Entry => Some(enter(memory, run)),
+        Stage::Entry => Some(turn(memory, script, run, Turn::AtEntry)),
         Stage::Pending => Some(begin_walk(memory, run, WatcherKind::Idle)),
         Stage::Idle => Some(in_idle(memory, script, run)),
         Stage::Prepare => Some(in_prepare(memory, script, run)),

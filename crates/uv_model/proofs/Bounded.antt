@@ -1,5 +1,5 @@
 -- A state's numbers are no larger than the number of its steps, and its times no later than the clock's limit.
-use Rattle.std.proofs.Common.{◌≡◌, ℕ, zero, suc, ◌+◌, ◌≤◌, ◌^◌, List, [], ◌∷◌, ◌++◌, length, drop, Bool, true, false, Option, Some, None, if◌then◌else◌, nat_le, nat_lt, ◌==◌, ◌&&◌, option_and_then, Result, Ok, Err, slice_get, slice_set, refl, arith, subst, replicate, add-zero, zero-add}
+use Rattle.std.proofs.Common.{◌≡◌, ℕ, zero, suc, ◌+◌, ◌≤◌, ◌^◌, List, [], ◌∷◌, ◌++◌, length, drop, Bool, true, false, Option, Some, None, if◌then◌else◌, nat_le, nat_lt, ◌==◌, option_and_then, Result, Ok, Err, slice_get, slice_set, refl, arith, subst, replicate, add-zero, zero-add}
 use Rattle.std.proofs.lemmas.Grind.{elements}
 use Rattle.std.specs.List.{list_any}
 use Rattle.std.proofs.lemmas.Bool.{cond_both}
@@ -8,6 +8,8 @@ use Rattle.std.proofs.lemmas.Bool.Decides.{nat_tests}
 use Rattle.uv_ids.specs.declared.id.Id.{Id}
 use Rattle.uv_ids.specs.declared.id.Var.{Var}
 use Rattle.uv_ids.specs.declared.due.Due.{Due}
+use Rattle.uv_ids.specs.declared.order.Order.{Order}
+use Rattle.uv_ids.specs.declared.order.Order.TheVariants.{V144, V145}
 use Rattle.uv_ids.specs.declared.phase.Kind.{Kind}
 use Rattle.uv_ids.specs.declared.phase.Kind.TheVariants as kind
 use Rattle.uv_ids.specs.declared.event.Event.{Event}
@@ -18,7 +20,7 @@ use Rattle.uv_script.specs.declared.op.MainOp.{MainOp}
 use Rattle.uv_script.specs.declared.op.MainOp.TheVariants as main
 use Rattle.uv_script.specs.declared.op.CallbackLine.{CallbackLine}
 use Rattle.uv_script.specs.declared.task.Task.{Task}
-use Rattle.uv_script.specs.Program.{Program, arena_size}
+use Rattle.uv_script.specs.Program.{Program, arena_size, order_of}
 use Rattle.uv_script.specs.Tasks.{text_of}
 use Rattle.uv_work.specs.Digests.{digest_of}
 use Rattle.uv_work.specs.declared.outcome.Outcome.{Outcome}
@@ -51,6 +53,10 @@ use Rattle.uv_model.specs.declared.place.Stage.{Stage}
 use Rattle.uv_model.specs.declared.place.Stage.TheVariants.{Entry, Pending, Idle, Prepare, Poll, Done, Async, Check, Closing, Timers}
 use Rattle.uv_model.specs.declared.place.TimersOf.{TimersOf}
 use Rattle.uv_model.specs.declared.place.TimersOf.TheVariants as timers_of
+use Rattle.uv_model.specs.declared.place.Turn.{Turn}
+use Rattle.uv_model.specs.declared.place.Turn.TheVariants.{AtEntry, Behind, BehindClosing}
+use Rattle.uv_model.specs.declared.place.Way.{Way}
+use Rattle.uv_model.specs.declared.place.Way.TheVariants.{ToTimers, ToPending, ToEnd}
 use Rattle.uv_model.specs.declared.place.Timing.{Timing}
 use Rattle.uv_model.specs.declared.place.Timing.TheVariants.{Collecting, Firing}
 use Rattle.uv_model.specs.declared.place.Place.{Place}
@@ -63,7 +69,7 @@ use Rattle.uv_model.specs.State.{State, unbound, fresh, named, handle, with_hand
 use Rattle.uv_model.specs.Timers.{taken_off, stopped, started, restarted}
 use Rattle.uv_model.specs.Ops as ops
 use Rattle.uv_model.specs.Ops.{do_op, refuses}
-use Rattle.uv_model.specs.Next.{Next, Moves, Refuses, next, loop_step, main_step, run_step, body_step, stage_step, tick, sent_to, take, next_work, finish, work_of, cancels, begin_done, collect_request, timers, collected, first_due, fire, leave_timers, enter, ends, new_iteration, calls, may_leave, is_default, body_from, goes, begin_walk, after_walk, front_moved, walk, walk_async, close_front, stage_of}
+use Rattle.uv_model.specs.Next.{Next, Moves, Refuses, next, loop_step, main_step, run_step, body_step, stage_step, tick, sent_to, take, next_work, finish, work_of, cancels, begin_done, collect_request, timers, collected, first_due, fire, way, time_at, idled_at, idled_then, goes_by, turns, refreshes, ends, calls, may_leave, is_default, body_from, goes, begin_walk, after_walk, front_moved, walk, walk_async, close_front, stage_of}
 use Rattle.uv_model.specs.After.{after, goes_on, state_of}
 use Rattle.uv_model.specs.Bounds.{line_of, HoldsBefore, StartsBefore, CanStep}
 use Rattle.uv_model.proofs.Found.{found_both}
@@ -251,21 +257,23 @@ ends_bounded : (n : ℕ) (s : State) (run : Run) → IsBounded n s → run.line 
 ends_bounded n s run h l = let t = record s { stop_flag = false } in placed (suc n) t (Main (run.line + 1)) (more n t (flagged n s false s.idled h))
     (omega arith)
 
-iteration_bounded : (n : ℕ) (s : State) (run : Run) → IsBounded n s → run.line ≤ n → StaysBounded (suc n) (new_iteration s run)
-iteration_bounded n s run h l =
-    let idled = has_some s.idle.list in
+timed : (n : ℕ) (o : Order) (s : State) (part : TimersOf) → IsBounded n s → IsBounded n (record s { time = time_at o part s })
+timed n V145 s timers_of.Entry h = h
+timed n V145 s timers_of.Iteration h = at_clock n s h
+timed n V144 s part h = at_clock n s h
+
+way_bounded : (n : ℕ) (o : Order) (s : State) (run : Run) (w : Way) → IsBounded n s → run.line ≤ n → StaysBounded (suc n) (goes_by o s run w)
+way_bounded n o s run (ToTimers part) h l =
+    let t = record s { time = time_at o part s } in
+    run_at n (record t { idled = idled_at o part s }) (record run { stage = Timers part Collecting; body = None })
+    (flagged n t s.stop_flag (idled_at o part s) (timed n o s part h)) l
+way_bounded n o s run ToPending h l =
+    let idled = idled_then o s in
     run_at n (record s { idled = idled }) (record run { stage = Pending; body = None }) (flagged n s s.stop_flag idled h) l
+way_bounded n o s run ToEnd h l = ends_bounded n s run h l
 
-enter_bounded : (n : ℕ) (s : State) (run : Run) → IsBounded n s → run.line ≤ n → StaysBounded (suc n) (enter s run)
-enter_bounded n s run h l = if_keeps (StaysBounded (suc n)) (goes s) _ _
-    (if_keeps (StaysBounded (suc n)) (is_default run.mode) _ _
-    (run_at n s (record run { stage = Timers timers_of.Entry Collecting; body = None }) h l) (iteration_bounded n s run h l))
-    (ends_bounded n s run h l)
-
-leave_bounded : (n : ℕ) (s : State) (run : Run) (part : TimersOf) → IsBounded n s → run.line ≤ n → StaysBounded (suc n) (leave_timers s run part)
-leave_bounded n s run timers_of.Entry h l = if_keeps (StaysBounded (suc n)) (goes s) _ _ (iteration_bounded n s run h l) (ends_bounded n s run h l)
-leave_bounded n s run timers_of.Iteration h l = if_keeps (StaysBounded (suc n)) (is_default run.mode && goes s) _ _ (iteration_bounded n s run h l)
-    (ends_bounded n s run h l)
+turn_bounded : (n : ℕ) (o : Order) (s : State) (run : Run) (turn : Turn) → IsBounded n s → run.line ≤ n → StaysBounded (suc n) (turns o s run turn)
+turn_bounded n o s run turn h l = way_bounded n o s run (way o run.mode (goes s) turn) h l
 
 counted_up : (n : ℕ) (kind : Callback) (c : CallCounts) → AreUpTo n c → AreUpTo (suc n) (counted kind c)
 counted_up n callback.Handle c h = (omega (arith, h.0), omega (arith, h.1), omega (arith, h.2))
@@ -298,7 +306,7 @@ fire_bounded p n s run part h l = found_both (front s s.ready) _ _ (StaysBounded
     let few = (front_before n s s.ready t e h).freed in
     calls_bounded p n (restarted u t.0 t.1) (record run { stage = Timers part Firing }) callback.Handle t.1.name (seen.Call t.1.name t.0)
     (restarted_bounded n u t.0 t.1 (listed n s s.timers (drop 1 s.ready) h) few) (restarted_names n u t.0 t.1 h.counts) l)
-    (λ e. leave_bounded n s run part h l)
+    (λ e. turn_bounded n (order_of p) s run (Behind part) h l)
 
 collected_bounded : (n : ℕ) (s : State) (id : Id) (x : HandleRecord) → IsBounded n s → id.generation ≤ n → IsBounded n (collected s id x)
 collected_bounded n s id x h few =
@@ -401,7 +409,7 @@ close_bounded p n s run h l = found_both (front s s.closing.yet) _ _ (StaysBound
     let u = record s { arena = freed last t.0 s.arena } in
     calls_bounded p n (record u { closing = w }) run callback.Close t.1.name (seen.Closed t.1.name t.0)
     (closing_bounded (suc n) u w (released n s last t.0 h (front_before n s s.closing.yet t e h).freed)) h.counts l)
-    (λ e. run_at n (refreshed s) (record run { stage = Timers timers_of.Iteration Collecting; body = None }) (at_clock n s h) l)
+    (λ e. turn_bounded n (order_of p) s run BehindClosing h l)
 
 collect_bounded : (p : Program) (n : ℕ) (s : State) (run : Run) → IsBounded n s → run.line ≤ n → StaysBounded (suc n) (collect_request p s run)
 collect_bounded p n s run h l = found_both (front_request s s.done.yet) _ _ (StaysBounded (suc n))
@@ -420,7 +428,7 @@ begin_done_bounded n s run h l =
 
 stage_bounded : (p : Program) (n : ℕ) (s : State) (run : Run) (stage : Stage) → IsBounded n s → run.line ≤ n →
     StaysBounded (suc n) (stage_step p s run stage)
-stage_bounded p n s run Entry h l = enter_bounded n s run h l
+stage_bounded p n s run Entry h l = turn_bounded n (order_of p) s run AtEntry h l
 stage_bounded p n s run Pending h l = begin_walk_bounded n s run watcher.Idle h l
 stage_bounded p n s run Idle h l = walk_bounded p n s run watcher.Idle h l
 stage_bounded p n s run Prepare h l = walk_bounded p n s run watcher.Prepare h l
@@ -438,12 +446,12 @@ body_bounded p n s run body None h l = run_at n s (record run { body = None }) h
 body_bounded p n s run body (Some line) h l = placed (suc n) (do_op s line.op).state
     (Running (record run { body = body_from p body.callback body.name body.call (body.next + 1) })) (op_bounded n s line.op h) (omega arith)
 
-main_bounded : (n : ℕ) (s : State) (line : ℕ) (x : Option MainOp) → IsBounded n s → line ≤ n → StaysBounded (suc n) (main_step s line x)
-main_bounded n s line None h l = tt
-main_bounded n s line (Some (main.Run mode)) h l =
-    run_at n (if is_default mode then refreshed s else s) (record { mode = mode; line = line; stage = Entry; body = None })
-    (if_keeps (IsBounded n) (is_default mode) (refreshed s) s (at_clock n s h) h) l
-main_bounded n s line (Some (main.Op op)) h l = placed (suc n) (do_op s op).state (Main (line + 1)) (op_bounded n s op h) (omega arith)
+main_bounded : (n : ℕ) (o : Order) (s : State) (line : ℕ) (x : Option MainOp) → IsBounded n s → line ≤ n → StaysBounded (suc n) (main_step o s line x)
+main_bounded n o s line None h l = tt
+main_bounded n o s line (Some (main.Run mode)) h l =
+    run_at n (if refreshes o mode then refreshed s else s) (record { mode = mode; line = line; stage = Entry; body = None })
+    (if_keeps (IsBounded n) (refreshes o mode) (refreshed s) s (at_clock n s h) h) l
+main_bounded n o s line (Some (main.Op op)) h l = placed (suc n) (do_op s op).state (Main (line + 1)) (op_bounded n s op h) (omega arith)
 
 run_bounded : (p : Program) (n : ℕ) (s : State) (run : Run) (body : Option Body) → IsBounded n s → run.line ≤ n →
     StaysBounded (suc n) (run_step p s run body)
@@ -451,7 +459,7 @@ run_bounded p n s run None h l = stage_bounded p n s run run.stage h l
 run_bounded p n s run (Some body) h l = body_bounded p n s run body _ h l
 
 place_bounded : (p : Program) (n : ℕ) (s : State) (place : Place) → IsBounded n s → line_of place ≤ n → StaysBounded (suc n) (loop_step p s place)
-place_bounded p n s (Main line) h l = main_bounded n s line _ h l
+place_bounded p n s (Main line) h l = main_bounded n (order_of p) s line _ h l
 place_bounded p n s (Running run) h l = run_bounded p n s run run.body h l
 
 tick_bounded : (n : ℕ) (s : State) (ms : ℕ) → IsBounded n s → StaysBounded (suc n) (tick s ms)

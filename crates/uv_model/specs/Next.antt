@@ -1,8 +1,10 @@
--- One step of the loop: a place and what holds there give the line and the next place (design overview, the order of 1.45).
+-- One step of the loop: a place and what holds there give the line and the next place (design overview, the orders of 1.44 and 1.45).
 use Rattle.std.specs.Prelude.{ℕ, ◌+◌, ◌^◌, List, [], ◌∷◌, ◌++◌, Bool, true, false, ◌&&◌, not, drop, Option, Some, None, Result, Ok, Err, slice_get, slice_set, length, nat_le, nat_lt, ◌||◌, if◌then◌else◌}
 use Rattle.uv_ids.specs.declared.id.Id.{Id}
 use Rattle.uv_ids.specs.declared.id.Var.{Var}
 use Rattle.uv_ids.specs.declared.due.Due.{Due}
+use Rattle.uv_ids.specs.declared.order.Order.{Order}
+use Rattle.uv_ids.specs.declared.order.Order.TheVariants.{V144, V145}
 use Rattle.uv_ids.specs.declared.phase.Mode.{Mode}
 use Rattle.uv_ids.specs.declared.phase.Mode.TheVariants.{Default, Once, Nowait}
 use Rattle.uv_ids.specs.declared.phase.Phase.{Phase}
@@ -19,7 +21,7 @@ use Rattle.uv_ids.specs.declared.fault.Why.TheVariants.{Blocked, Ended, NoWork, 
 use Rattle.uv_script.specs.declared.op.MainOp.{MainOp}
 use Rattle.uv_script.specs.declared.op.MainOp.TheVariants as main
 use Rattle.uv_script.specs.declared.op.CallbackLine.{CallbackLine}
-use Rattle.uv_script.specs.Program.{Program, arena_size, lines_in, is_for}
+use Rattle.uv_script.specs.Program.{Program, arena_size, order_of, lines_in, is_for}
 use Rattle.uv_script.specs.Tasks.{text_of}
 use Rattle.uv_model.specs.declared.place.Body.{Body}
 use Rattle.uv_model.specs.declared.place.Run.{Run}
@@ -27,6 +29,10 @@ use Rattle.uv_model.specs.declared.place.Stage.{Stage}
 use Rattle.uv_model.specs.declared.place.Stage.TheVariants.{Entry, Pending, Idle, Prepare, Poll, Done, Async, Check, Closing, Timers}
 use Rattle.uv_model.specs.declared.place.TimersOf.{TimersOf}
 use Rattle.uv_model.specs.declared.place.TimersOf.TheVariants as timers_of
+use Rattle.uv_model.specs.declared.place.Turn.{Turn}
+use Rattle.uv_model.specs.declared.place.Turn.TheVariants.{AtEntry, Behind, BehindClosing}
+use Rattle.uv_model.specs.declared.place.Way.{Way}
+use Rattle.uv_model.specs.declared.place.Way.TheVariants.{ToTimers, ToPending, ToEnd}
 use Rattle.uv_model.specs.declared.place.Timing.{Timing}
 use Rattle.uv_model.specs.declared.place.Timing.TheVariants.{Collecting, Firing}
 use Rattle.uv_model.specs.declared.place.Place.{Place}
@@ -78,10 +84,6 @@ at s run stage = record s { place = Running (record run { stage = stage; body = 
 abbrev pub begins : State → Run → Stage → Phase → Next
 begins s run stage phase = Moves (at s run stage) (Some (seen.Section phase))
 
--- an iteration begins, and keeps whether an idle handle is active
-abbrev pub new_iteration : State → Run → Next
-new_iteration s run = begins (record s { idled = has_some s.idle.list }) run Pending phase.Pending
-
 -- the run ends, and says whether the loop is alive; the stop flag is cleared
 abbrev pub ends : State → Run → Next
 ends s run = Moves (record s { place = Main (run.line + 1); stop_flag = false }) (Some (seen.End (is_alive s)))
@@ -95,14 +97,59 @@ is_default Nowait = false
 abbrev pub goes : State → Bool
 goes s = is_alive s && not s.stop_flag
 
--- ---- the rows
+-- how a run goes on from a turn, where the loop goes on or doesn't. In the order of 1.45 default begins with the timers that are due, and
+-- one iteration follows another; else there is one iteration at most, and each ends with its timers. In the order of 1.44 each iteration
+-- begins with its timers, and in once others are behind it
+abbrev pub way : Order → Mode → Bool → Turn → Way
+way V145 m go BehindClosing = ToTimers timers_of.Iteration
+way V145 m false AtEntry = ToEnd
+way V145 Default true AtEntry = ToTimers timers_of.Entry
+way V145 Once true AtEntry = ToPending
+way V145 Nowait true AtEntry = ToPending
+way V145 m false (Behind timers_of.Entry) = ToEnd
+way V145 m true (Behind timers_of.Entry) = ToPending
+way V145 Default true (Behind timers_of.Iteration) = ToPending
+way V145 Default false (Behind timers_of.Iteration) = ToEnd
+way V145 Once go (Behind timers_of.Iteration) = ToEnd
+way V145 Nowait go (Behind timers_of.Iteration) = ToEnd
+way V144 m false AtEntry = ToEnd
+way V144 m true AtEntry = ToTimers timers_of.Entry
+way V144 m go (Behind timers_of.Entry) = ToPending
+way V144 m go (Behind timers_of.Iteration) = ToEnd
+way V144 Default true BehindClosing = ToTimers timers_of.Entry
+way V144 Default false BehindClosing = ToEnd
+way V144 Once go BehindClosing = ToTimers timers_of.Iteration
+way V144 Nowait go BehindClosing = ToEnd
 
--- entry: in default the timers that are due run first
-abbrev pub enter : State → Run → Next
-enter s run =
-    if goes s
-    then (if is_default run.mode then begins s run (Timers timers_of.Entry Collecting) phase.Timers else new_iteration s run)
-    else ends s run
+-- the time as timers begin: it is refreshed, but not for those of the entry in the order of 1.45
+abbrev pub time_at : Order → TimersOf → State → ℕ
+time_at V145 timers_of.Entry s = s.time
+time_at V145 timers_of.Iteration s = s.clock
+time_at V144 part s = s.clock
+
+-- whether the loop idled, as timers begin: in the order of 1.44 it didn't as an iteration begins
+abbrev pub idled_at : Order → TimersOf → State → Bool
+idled_at V145 part s = s.idled
+idled_at V144 timers_of.Entry s = false
+idled_at V144 timers_of.Iteration s = s.idled
+
+-- and as the pending section begins: in the order of 1.45 it keeps whether an idle handle is active
+abbrev pub idled_then : Order → State → Bool
+idled_then V145 s = has_some s.idle.list
+idled_then V144 s = s.idled
+
+-- it goes on so
+abbrev pub goes_by : Order → State → Run → Way → Next
+goes_by o s run (ToTimers part) =
+    begins (record s { time = time_at o part s; idled = idled_at o part s }) run (Timers part Collecting) phase.Timers
+goes_by o s run ToPending = begins (record s { idled = idled_then o s }) run Pending phase.Pending
+goes_by o s run ToEnd = ends s run
+
+-- the run goes on from a turn
+abbrev pub turns : Order → State → Run → Turn → Next
+turns o s run turn = goes_by o s run (way o run.mode (goes s) turn)
+
+-- ---- the rows
 
 -- the poll begins, with its timeout
 abbrev pub begin_poll : State → Run → Next
@@ -121,15 +168,6 @@ begin_done s run = begins (record (refreshed s) { done = all_yet s.done }) run D
 abbrev pub poll : State → Run → Option ℕ → Next
 poll s run deadline = if may_leave s deadline then begin_done s run else Refuses Blocked
 
--- the timers of an iteration begin with the time refreshed
-abbrev pub begin_timers : State → Run → Next
-begin_timers s run = begins (refreshed s) run (Timers timers_of.Iteration Collecting) phase.Timers
-
--- after the timers: from the entry the first iteration, and in default one iteration after another
-abbrev pub leave_timers : State → Run → TimersOf → Next
-leave_timers s run timers_of.Entry = if goes s then new_iteration s run else ends s run
-leave_timers s run timers_of.Iteration = if is_default run.mode && goes s then new_iteration s run else ends s run
-
 -- a callback begins, with this line: one call more of its name
 abbrev pub calls : Program → State → Run → Callback → Var → Seen → Next
 calls p s run kind v line =
@@ -147,7 +185,7 @@ call p s run id v = calls p s run callback.Handle v (seen.Call v id)
 abbrev pub fire : Program → State → Run → TimersOf → Next
 fire p s run part = found_or (front s s.ready)
     (λ t. call p (restarted (record s { ready = drop 1 s.ready }) t.0 t.1) (record run { stage = Timers part Firing }) t.0 t.1.name)
-    (leave_timers s run part)
+    (turns (order_of p) s run (Behind part))
 
 -- the first timer, if it is due
 abbrev pub first_due : State → List (Due × Id) → Option (Id × HandleRecord)
@@ -209,13 +247,13 @@ walk_async p s run = found_or (front s s.async.yet)
     else Moves (at moved run Async) None)
     (after_walk s run watcher.Async)
 
--- the front of the closing handles leaves its list, its slot is freed and its close callback begins; with none the timers begin
+-- the front of the closing handles leaves its list, its slot is freed and its close callback begins; with none the section is over
 abbrev pub close_front : Program → State → Run → Next
 close_front p s run = found_or (front s s.closing.yet)
     (λ t.
     let gone = record s { arena = freed (arena_size p).last_generation t.0 s.arena; closing = record s.closing { yet = drop 1 s.closing.yet } } in
     calls p gone run callback.Close t.1.name (seen.Closed t.1.name t.0))
-    (begin_timers s run)
+    (turns (order_of p) s run BehindClosing)
 
 -- the front of the requests that are done leaves its list, its slot is freed and its after callback begins; with none the async
 -- handles begin
@@ -228,7 +266,7 @@ collect_request p s run = found_or (front_request s s.done.yet)
 
 -- what a run does next where no body is under way
 abbrev pub stage_step : Program → State → Run → Stage → Next
-stage_step p s run Entry = enter s run
+stage_step p s run Entry = turns (order_of p) s run AtEntry
 stage_step p s run Pending = begin_walk s run watcher.Idle
 stage_step p s run Idle = walk p s run watcher.Idle
 stage_step p s run Prepare = walk p s run watcher.Prepare
@@ -252,18 +290,23 @@ abbrev pub run_step : Program → State → Run → Option Body → Next
 run_step p s run None = stage_step p s run run.stage
 run_step p s run (Some body) = body_step p s run body (slice_get (lines_in p body.callback body.name) body.next)
 
--- the main program does its next line; a default run refreshes the time as it begins
-abbrev pub main_step : State → ℕ → Option MainOp → Next
-main_step s line None = Refuses Ended
-main_step s line (Some (main.Run mode)) = Moves
-    (record (if is_default mode then refreshed s else s) { place = Running (record { mode = mode; line = line; stage = Entry; body = None }) })
+-- a default run refreshes the time as it begins, in the order of 1.45
+abbrev pub refreshes : Order → Mode → Bool
+refreshes V145 m = is_default m
+refreshes V144 m = false
+
+-- the main program does its next line
+abbrev pub main_step : Order → State → ℕ → Option MainOp → Next
+main_step o s line None = Refuses Ended
+main_step o s line (Some (main.Run mode)) = Moves
+    (record (if refreshes o mode then refreshed s else s) { place = Running (record { mode = mode; line = line; stage = Entry; body = None }) })
     (Some (seen.Run mode))
-main_step s line (Some (main.Op op)) =
+main_step o s line (Some (main.Op op)) =
     let done = do_op s op in
     Moves (record done.state { place = Main (line + 1) }) (Some (seen.Op (site.Main line) done.answer))
 
 abbrev pub loop_step : Program → State → Place → Next
-loop_step p s (Main line) = main_step s line (slice_get p.main line)
+loop_step p s (Main line) = main_step (order_of p) s line (slice_get p.main line)
 loop_step p s (Running run) = run_step p s run run.body
 
 -- the latest time that the clock may show, in ms

@@ -15,6 +15,7 @@ mod plain;
 mod request;
 mod running;
 mod state;
+mod turns;
 mod walked;
 
 pub use bodies::body_from;
@@ -23,7 +24,8 @@ pub use layout::{LaidSlot, Layout, ListEnds};
 pub use machine::{Machine, Outcome, STEPS};
 pub use named::{Counts, Named};
 pub use numbers::Numbers;
-pub use place::{Body, Place, Run, Stage, TimersOf, Timing};
+pub use place::{Body, Place, Run, Stage, TimersOf, Timing, Turn, Way};
 pub use plain::PlainLoop;
 pub use request::Request;
 pub use running::runner_of;
+pub use turns::way;

@@ -1,5 +1,5 @@
 //! What every machine does.
-ghost use Rattle.std.specs.Prelude.{◌≡◌, ◌≤◌, ◌-◌, IfOk, IfErr, IfSome, List, length, slice_get, Some, []};
+ghost use Rattle.std.specs.Prelude.{◌≡◌, ◌≤◌, ◌-◌, IfOk, IfErr, OnErr, IfSome, IfNone, List, length, slice_get, Some, []};
 ghost use Rattle.uv_ids.specs.declared.event.Event.{Event};
 ghost use Rattle.uv_ids.specs.declared.fault.Fault.TheVariants.{Memory};
 ghost use Rattle.uv_script.specs.Program.{Program};
@@ -38,6 +38,12 @@ pub trait Machine: Drop {
 
     ghost standing: { Self → List Event };
 
+    /// Whether taking a step back may want memory.
+    ghost BackWantsMemory: { Type 0 };
+
+    /// Whether the machine may have no one memory that stands for its state.
+    ghost MayHaveNoLayout: { Type 0 };
+
     /// The machine of a script that has taken no step.
     fn begin(alloc: Global, script: Script) -> Result<Self, Fault>
         ensures program { IfOk result (λ machine. program machine ≡ script) }
@@ -58,7 +64,8 @@ pub trait Machine: Drop {
     /// Takes the last step back; `false` where there is none. Want of memory leaves the machine as before.
     fn back(&mut self) -> Result<bool, Fault>
         ensures program { program self.new ≡ program self.old }
-        ensures answer { GoesBack (standing self.old) result (standing self.new) };
+        ensures answer { GoesBack (standing self.old) result (standing self.new) }
+        ensures memory { OnErr result BackWantsMemory };
 
     /// The number of standing steps.
     fn len(&self) -> usize
@@ -136,5 +143,6 @@ pub trait Machine: Drop {
     /// How the memory lies that stands for the state; none of a machine without one memory (own).
     fn layout(&self) -> Result<Option<Layout>, Fault>
         ensures layout { IfOk result (λ laid. IfSome laid (λ layout. LiesFor layout (after (program self.now) (standing self.now)))) }
+        ensures none { IfOk result (λ laid. IfNone laid MayHaveNoLayout) }
         ensures err { IfErr result (λ fault. fault ≡ Memory) };
 }

@@ -43,10 +43,32 @@ pub enum Stage {
 /// Which timers section it is.
 #[derive(Clone, Copy, PartialEq, Eq)]
 pub enum TimersOf {
-    /// The one at the entry of a default run (own).
+    /// The first: the one at the entry of a default run (own), and in the order of 1.44 the one with which an iteration begins.
     Entry,
     /// The one at the end of an iteration.
     Iteration,
+}
+
+/// Where a run has to choose how it goes on.
+#[derive(Clone, Copy)]
+pub enum Turn {
+    /// After its line.
+    AtEntry,
+    /// After a timers section.
+    Behind(TimersOf),
+    /// After the closing section.
+    BehindClosing,
+}
+
+/// How a run goes on from a turn.
+#[derive(Clone, Copy)]
+pub enum Way {
+    /// A timers section begins.
+    ToTimers(TimersOf),
+    /// An iteration begins, with the pending section.
+    ToPending,
+    /// The run ends.
+    ToEnd,
 }
 
 /// How far a timers section is.

@@ -101,6 +101,11 @@ impl Machine for PlainLoop {
 
     ghost standing = { λ machine. machine.standing };
 
+    // Taking a step back runs the others anew.
+    ghost BackWantsMemory = { Unit {0} };
+
+    ghost MayHaveNoLayout = { Unit {0} };
+
     fn begin(alloc: Global, script: Script) -> Result<Self, Fault> {
         let Ok(state) = LoopState::fresh(alloc, &script) else {
             return Err(Fault::Memory);

@@ -1,5 +1,5 @@
 -- Each handle closes once: every op and every step of the loop appends a line that may follow those before it.
-use Rattle.std.proofs.Common.{◌≡◌, ◌⊎◌, inl, inr, ℕ, zero, suc, ◌+◌, ◌==◌, ◌&&◌, ◌||◌, List, [], ◌∷◌, ◌++◌, Bool, true, false, drop, Option, Some, None, Result, Ok, Err, length, map, slice_get, slice_set, unwrap_or, option_map, replicate, nat_le, nat_lt, refl, ap, sym, subst, ◌∙◌, arith}
+use Rattle.std.proofs.Common.{◌≡◌, ◌⊎◌, inl, inr, ℕ, zero, suc, ◌+◌, ◌==◌, ◌||◌, List, [], ◌∷◌, ◌++◌, Bool, true, false, drop, Option, Some, None, Result, Ok, Err, length, map, slice_get, slice_set, unwrap_or, option_map, replicate, nat_le, nat_lt, refl, ap, sym, subst, ◌∙◌, arith}
 use Rattle.std.proofs.lemmas.Bool.{cond_both, both_ways, eqb-true}
 use Rattle.std.proofs.lemmas.Option.{same_Some}
 use Rattle.uv_ids.specs.declared.id.Id.{Id}
@@ -24,7 +24,7 @@ use Rattle.uv_script.specs.declared.op.MainOp.{MainOp}
 use Rattle.uv_script.specs.declared.op.MainOp.TheVariants as main
 use Rattle.uv_script.specs.declared.op.Op.{Op}
 use Rattle.uv_script.specs.declared.op.Op.TheVariants as op
-use Rattle.uv_script.specs.Program.{Program, op_at, arena_size, worker_count, lines_in, main_op}
+use Rattle.uv_script.specs.Program.{Program, op_at, arena_size, worker_count, lines_in, main_op, order_of}
 use Rattle.uv_records.specs.declared.handle.HandleRecord.{HandleRecord}
 use Rattle.uv_records.specs.declared.lists.WatcherKind.{WatcherKind}
 use Rattle.uv_records.specs.declared.lists.WatcherKind.TheVariants as watcher
@@ -45,13 +45,16 @@ use Rattle.uv_model.specs.declared.place.Run.{Run}
 use Rattle.uv_model.specs.declared.place.Stage.{Stage}
 use Rattle.uv_model.specs.declared.place.Stage.TheVariants.{Entry, Pending, Idle, Prepare, Poll, Done, Async, Check, Closing, Timers}
 use Rattle.uv_model.specs.declared.place.TimersOf.{TimersOf}
-use Rattle.uv_model.specs.declared.place.TimersOf.TheVariants as timers_of
+use Rattle.uv_model.specs.declared.place.Turn.{Turn}
+use Rattle.uv_model.specs.declared.place.Turn.TheVariants.{AtEntry, Behind, BehindClosing}
+use Rattle.uv_model.specs.declared.place.Way.{Way}
+use Rattle.uv_model.specs.declared.place.Way.TheVariants.{ToTimers, ToPending, ToEnd}
 use Rattle.uv_model.specs.declared.place.Timing.{Timing}
 use Rattle.uv_model.specs.declared.place.Timing.TheVariants.{Collecting, Firing}
 use Rattle.uv_model.specs.declared.place.Place.{Place}
 use Rattle.uv_model.specs.declared.place.Place.TheVariants.{Main, Running}
 use Rattle.uv_records.specs.Walks.{Walk, all_yet}
-use Rattle.uv_model.specs.Ids.{same_id, has_some}
+use Rattle.uv_model.specs.Ids.{same_id}
 use Rattle.uv_order.specs.Active.{has_id, AreDistinct, run_ids}
 use Rattle.uv_model.specs.Timeout.{is_alive, poll_timeout}
 use Rattle.uv_model.specs.State.{State, unbound, fresh, handle, live_handle, live_request, with_handle, with_request, front, front_request, watched, with_watched, refreshed}
@@ -114,21 +117,14 @@ ends_known p past s run k = (
       (record { queued = λ i. refl; taken = λ i. refl; finished = λ i. refl; over = λ i. refl; cancelled = λ i. refl }) k,
 )
 
-iteration_known : (p : Program) (past : List Seen) (s : State) (run : Run) → KnownAt p past s → Follows p past (step.new_iteration s run)
-iteration_known p past s run k = begins_known p past (record s { idled = has_some s.idle.list }) run Pending phase.Pending k
-
-enter_known : (p : Program) (past : List Seen) (s : State) (run : Run) → KnownAt p past s → Follows p past (step.enter s run)
-enter_known p past s run k = cond_both (goes s) _ _ (Follows p past)
-    (λ g. cond_both (is_default run.mode) _ _ (Follows p past)
-    (λ d. begins_known p past s run (Timers timers_of.Entry Collecting) phase.Timers k) (λ d. iteration_known p past s run k))
-    (λ g. ends_known p past s run k)
-
-leave_known : (p : Program) (past : List Seen) (s : State) (run : Run) (part : TimersOf) → KnownAt p past s →
-    Follows p past (step.leave_timers s run part)
-leave_known p past s run timers_of.Entry k = cond_both (goes s) _ _ (Follows p past) (λ g. iteration_known p past s run k)
-    (λ g. ends_known p past s run k)
-leave_known p past s run timers_of.Iteration k = cond_both (is_default run.mode && goes s) _ _ (Follows p past)
-    (λ g. iteration_known p past s run k) (λ g. ends_known p past s run k)
+turn_known : (p : Program) (past : List Seen) (s : State) (run : Run) (turn : Turn) → KnownAt p past s →
+    Follows p past (step.turns (order_of p) s run turn)
+turn_known p past s run turn k = by (step.way (order_of p) run.mode (goes s) turn) where
+  by : (w : Way) → Follows p past (step.goes_by (order_of p) s run w)
+  by (ToTimers part) = begins_known p past (record s { time = step.time_at (order_of p) part s; idled = step.idled_at (order_of p) part s }) run
+      (Timers part Collecting) phase.Timers k
+  by ToPending = begins_known p past (record s { idled = step.idled_then (order_of p) s }) run Pending phase.Pending k
+  by ToEnd = ends_known p past s run k
 
 -- a callback counts one call more of its name
 called_known : (p : Program) (past : List Seen) (s : State) (v : Var) (x : Named) → x.id ≡ id_in s.names v → KnownAt p past s →
@@ -149,7 +145,7 @@ call_known p past s run id v h e stays k = (
 fire_known : (p : Program) (past : List Seen) (s : State) (run : Run) (part : TimersOf) → Kept s → KnownAt p past s →
     Follows p past (step.fire p s run part)
 fire_known p past s run part kept k = found_both (front s s.ready) _ _ (Follows p past) (λ t e. fired t (front_of s s.ready t e))
-    (λ e. leave_known p past s run part k)
+    (λ e. turn_known p past s run (Behind part) k)
   where
     fired : (t : Id × HandleRecord) → FrontOf s s.ready t →
         Follows p past (call p (restarted (record s { ready = drop 1 s.ready }) t.0 t.1) (record run { stage = Timers part Firing }) t.0 t.1.name)
@@ -275,7 +271,7 @@ freed_known p past s t e kept k = cond_both (t.0.generation == (arena_size p).la
 close_front_known : (p : Program) (past : List Seen) (s : State) (run : Run) → Kept s → KnownAt p past s → Follows p past (step.close_front p s run)
 close_front_known p past s run kept k = found_both (front s s.closing.yet) _ _ (Follows p past)
     (λ t e. gone t (front_of s s.closing.yet t e))
-    (λ e. begins_known p past (refreshed s) run (Timers timers_of.Iteration Collecting) phase.Timers k)
+    (λ e. turn_known p past s run BehindClosing k)
   where
     gone : (t : Id × HandleRecord) → FrontOf s s.closing.yet t →
         Follows p past (calls p (record s {
@@ -331,7 +327,7 @@ collect_known p past s run kept work k = found_both (front_request s s.done.yet)
 
 stage_known : (p : Program) (past : List Seen) (s : State) (run : Run) (x : Stage) → Kept s → Working s → KnownAt p past s →
     Follows p past (step.stage_step p s run x)
-stage_known p past s run Entry kept work k = enter_known p past s run k
+stage_known p past s run Entry kept work k = turn_known p past s run AtEntry k
 stage_known p past s run Pending kept work k = begin_known p past s run watcher.Idle k
 stage_known p past s run Idle kept work k = walk_known p past s run watcher.Idle kept k
 stage_known p past s run Prepare kept work k = walk_known p past s run watcher.Prepare kept k
@@ -404,11 +400,11 @@ body_known p past s run body (Some line) e kept k = (
 )
 
 main_known : (p : Program) (past : List Seen) (s : State) (i : ℕ) (x : Option MainOp) → slice_get p.main i ≡ x → Kept s → KnownAt p past s →
-    Follows p past (step.main_step s i x)
+    Follows p past (step.main_step (order_of p) s i x)
 main_known p past s i None e kept k = tt
 main_known p past s i (Some (main.Run m)) e kept k = (
   tt,
-  cond_both (is_default m) (refreshed s) s (KnownAt p (seen.Run m ∷ past)) (λ d. begun) (λ d. begun),
+  cond_both (step.refreshes (order_of p) m) (refreshed s) s (KnownAt p (seen.Run m ∷ past)) (λ d. begun) (λ d. begun),
 ) where
   begun : KnownAt p (seen.Run m ∷ past) s
   begun = known_quiet p past (seen.Run m) s.arena s.names (record { binding = λ v b. refl; made = λ i. refl; closing = refl; closed = λ id. refl })

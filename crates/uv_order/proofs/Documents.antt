@@ -1,6 +1,6 @@
 -- The lines of every list of steps are in the documented order: what names are bound to by the lines is what the accepted ops of a step
 -- find them bound to.
-use Rattle.std.proofs.Common.{◌≡◌, ℕ, ◌+◌, ◌&&◌, List, [], ◌∷◌, ◌++◌, Option, Some, None, Result, Ok, Err, length, slice_get, nat_le, nat_lt, refl, ap, sym, subst, ◌∙◌}
+use Rattle.std.proofs.Common.{◌≡◌, ℕ, ◌+◌, List, [], ◌∷◌, ◌++◌, Option, Some, None, Result, Ok, Err, length, slice_get, nat_le, nat_lt, refl, ap, sym, subst, ◌∙◌}
 use Rattle.std.specs.Prelude.{option_map}
 use Rattle.std.proofs.lemmas.Bool.{cond_both}
 use Rattle.std.proofs.lemmas.Option.{same_Some}
@@ -23,7 +23,7 @@ use Rattle.uv_script.specs.declared.op.Op.TheVariants as op
 use Rattle.uv_script.specs.declared.op.MainOp.{MainOp}
 use Rattle.uv_script.specs.declared.op.MainOp.TheVariants as main
 use Rattle.uv_script.specs.declared.op.CallbackLine.{CallbackLine}
-use Rattle.uv_script.specs.Program.{Program, lines_in, main_op, op_at}
+use Rattle.uv_script.specs.Program.{Program, lines_in, main_op, op_at, order_of}
 use Rattle.uv_records.specs.declared.handle.HandleRecord.{HandleRecord}
 use Rattle.uv_records.specs.declared.lists.WatcherKind.{WatcherKind}
 use Rattle.uv_records.specs.declared.lists.WatcherKind.TheVariants as watcher
@@ -35,7 +35,10 @@ use Rattle.uv_model.specs.declared.place.Run.{Run}
 use Rattle.uv_model.specs.declared.place.Stage.{Stage}
 use Rattle.uv_model.specs.declared.place.Stage.TheVariants as stage
 use Rattle.uv_model.specs.declared.place.TimersOf.{TimersOf}
-use Rattle.uv_model.specs.declared.place.TimersOf.TheVariants as timers_of
+use Rattle.uv_model.specs.declared.place.Turn.{Turn}
+use Rattle.uv_model.specs.declared.place.Turn.TheVariants.{AtEntry, Behind, BehindClosing}
+use Rattle.uv_model.specs.declared.place.Way.{Way}
+use Rattle.uv_model.specs.declared.place.Way.TheVariants.{ToTimers, ToPending, ToEnd}
 use Rattle.uv_model.specs.declared.place.Timing.TheVariants.{Collecting, Firing}
 use Rattle.uv_model.specs.declared.place.Place.{Place}
 use Rattle.uv_model.specs.declared.place.Place.TheVariants as place
@@ -43,7 +46,7 @@ use Rattle.uv_model.specs.State.{State, fresh, named, live, live_handle, front, 
 use Rattle.uv_model.specs.Ops as ops
 use Rattle.uv_model.specs.Ops.{do_op}
 use Rattle.uv_model.specs.Next as step
-use Rattle.uv_model.specs.Next.{Next, Moves, Refuses, next, goes, is_default, first_due, may_leave, next_work, work_of}
+use Rattle.uv_model.specs.Next.{Next, Moves, Refuses, next, goes, first_due, may_leave, next_work, work_of}
 use Rattle.uv_model.specs.After.{state_of}
 use Rattle.uv_model.proofs.Found.{found_both}
 use Rattle.uv_order.specs.Line.{Line}
@@ -239,12 +242,15 @@ Told_by p s (Moves t (Some l)) = Says p s l
 Told_by p s (Moves t None) = Unit {0}
 Told_by p s (Refuses why) = Unit {0}
 
-leave_says : (p : Program) (s : State) (run : Run) (part : TimersOf) → Told_by p s (step.leave_timers s run part)
-leave_says p s run timers_of.Entry = cond_both (goes s) _ _ (Told_by p s) (λ g. tt) (λ g. tt)
-leave_says p s run timers_of.Iteration = cond_both (is_default run.mode && goes s) _ _ (Told_by p s) (λ g. tt) (λ g. tt)
+turn_says : (p : Program) (s : State) (run : Run) (turn : Turn) → Told_by p s (step.turns (order_of p) s run turn)
+turn_says p s run turn = by (step.way (order_of p) run.mode (goes s) turn) where
+  by : (w : Way) → Told_by p s (step.goes_by (order_of p) s run w)
+  by (ToTimers part) = tt
+  by ToPending = tt
+  by ToEnd = tt
 
 fire_says : (p : Program) (s : State) (run : Run) (part : TimersOf) → Told_by p s (step.fire p s run part)
-fire_says p s run part = found_both (front s s.ready) _ _ (Told_by p s) (λ t e. tt) (λ e. leave_says p s run part)
+fire_says p s run part = found_both (front s s.ready) _ _ (Told_by p s) (λ t e. tt) (λ e. turn_says p s run (Behind part))
 
 after_says : (p : Program) (s : State) (run : Run) (q : WatcherKind) → Told_by p s (step.after_walk s run q)
 after_says p s run watcher.Idle = tt
@@ -256,8 +262,7 @@ walk_says : (p : Program) (s : State) (run : Run) (q : WatcherKind) → Told_by 
 walk_says p s run q = found_both (front s (watched s q).yet) _ _ (Told_by p s) (λ t e. tt) (λ e. after_says p s run q)
 
 stage_says : (p : Program) (s : State) (run : Run) (x : Stage) → Told_by p s (step.stage_step p s run x)
-stage_says p s run stage.Entry = cond_both (goes s) _ _ (Told_by p s) (λ g. cond_both (is_default run.mode) _ _ (Told_by p s) (λ d. tt) (λ d. tt))
-    (λ g. tt)
+stage_says p s run stage.Entry = turn_says p s run AtEntry
 stage_says p s run stage.Pending = tt
 stage_says p s run stage.Idle = walk_says p s run watcher.Idle
 stage_says p s run stage.Prepare = walk_says p s run watcher.Prepare
@@ -266,7 +271,7 @@ stage_says p s run stage.Done = found_both (front_request s s.done.yet) _ _ (Tol
 stage_says p s run stage.Async = found_both (front s s.async.yet) _ _ (Told_by p s)
     (λ t e. cond_both t.1.pending _ _ (Told_by p s) (λ on. tt) (λ off. tt)) (λ e. tt)
 stage_says p s run stage.Check = walk_says p s run watcher.Check
-stage_says p s run stage.Closing = found_both (front s s.closing.yet) _ _ (Told_by p s) (λ t e. tt) (λ e. tt)
+stage_says p s run stage.Closing = found_both (front s s.closing.yet) _ _ (Told_by p s) (λ t e. tt) (λ e. turn_says p s run BehindClosing)
 stage_says p s run (stage.Timers part Collecting) = found_both (first_due s s.timers) _ _ (Told_by p s) (λ t e. tt) (λ e. fire_says p s run part)
 stage_says p s run (stage.Timers part Firing) = fire_says p s run part
 
@@ -280,7 +285,7 @@ run_says : (p : Program) (s : State) (run : Run) (body : Option Body) → Told_b
 run_says p s run None = stage_says p s run run.stage
 run_says p s run (Some body) = body_says p s run body _ refl
 
-main_says : (p : Program) (s : State) (i : ℕ) (x : Option MainOp) → slice_get p.main i ≡ x → Told_by p s (step.main_step s i x)
+main_says : (p : Program) (s : State) (i : ℕ) (x : Option MainOp) → slice_get p.main i ≡ x → Told_by p s (step.main_step (order_of p) s i x)
 main_says p s i None e = tt
 main_says p s i (Some (main.Run m)) e = tt
 main_says p s i (Some (main.Op o)) e = λ x is. ap (λ (y : Op). (do_op s y).answer) (same_Some _ _ (sym (ap main_op e) ∙ is))

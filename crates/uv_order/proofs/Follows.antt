@@ -3,6 +3,8 @@ use Rattle.std.proofs.Common.{◌≡◌, ℕ, suc, ◌+◌, ◌||◌, List, [], 
 use Rattle.std.specs.Prelude.{option_map}
 use Rattle.std.specs.List.{list_any}
 use Rattle.std.proofs.lemmas.Bool.{cond_both, eq-eqb}
+use Rattle.uv_ids.specs.declared.order.Order.{Order}
+use Rattle.uv_ids.specs.declared.order.Order.TheVariants.{V144, V145}
 use Rattle.uv_ids.specs.declared.id.Id.{Id}
 use Rattle.uv_ids.specs.declared.id.Var.{Var}
 use Rattle.uv_ids.specs.declared.event.Event.{Event}
@@ -20,7 +22,7 @@ use Rattle.uv_script.specs.declared.op.Op.{Op}
 use Rattle.uv_script.specs.declared.op.MainOp.{MainOp}
 use Rattle.uv_script.specs.declared.op.MainOp.TheVariants as main
 use Rattle.uv_script.specs.declared.op.CallbackLine.{CallbackLine}
-use Rattle.uv_script.specs.Program.{Program, lines_in, main_op}
+use Rattle.uv_script.specs.Program.{Program, lines_in, main_op, order_of}
 use Rattle.uv_records.specs.declared.handle.HandleRecord.{HandleRecord}
 use Rattle.uv_records.specs.declared.slot.Slot.{Slot}
 use Rattle.uv_records.specs.Slots.{held}
@@ -37,6 +39,7 @@ use Rattle.uv_model.specs.declared.place.Stage.{Stage}
 use Rattle.uv_model.specs.declared.place.Stage.TheVariants as stage
 use Rattle.uv_model.specs.declared.place.TimersOf.{TimersOf}
 use Rattle.uv_model.specs.declared.place.TimersOf.TheVariants as timers_of
+use Rattle.uv_model.specs.declared.place.Turn.TheVariants.{AtEntry}
 use Rattle.uv_model.specs.declared.place.Timing.TheVariants.{Collecting, Firing}
 use Rattle.uv_model.specs.declared.place.Place.{Place}
 use Rattle.uv_model.specs.declared.place.Place.TheVariants as place
@@ -63,7 +66,7 @@ use Rattle.uv_order.proofs.OpEffects.{Effect, op_effect}
 use Rattle.uv_order.proofs.Counted.{Counted, counted_kept, counted_sent, counted_fresh}
 use Rattle.uv_order.proofs.Sends.{pends_in, pends, SentAt, still_sent, pass_more, pends_more}
 use Rattle.uv_order.proofs.Standing.{bare, begun_with, are_ended, section_of, StandsIn, waiting, rest, Leaves, NobodyLeft, due_now, StandsAt, Stands, FollowsLine, Follows, idle_next, done_next, bare_over, async_moved, begun, pending, idle, prepare, polls, done, async, check, closing, collects, fires, between, running}
-use Rattle.uv_order.proofs.TimersFollow.{enter_follows, timers_left, left_timers, fire_follows, collect_follows}
+use Rattle.uv_order.proofs.TimersFollow.{turn_follows, timers_left, left_timers, fire_follows, collect_follows}
 use Rattle.uv_order.proofs.WatchersFollow.{begin_follows, walk_follows, async_follows, done_follows, closing_follows}
 
 -- ---- a stage
@@ -100,7 +103,8 @@ left_poll p told s run deadline sent g c e = cond_both (may_leave s deadline) _ 
     (λ h. record {
       to = Running run.mode run.line (Within (In phase.Done) (begun_with s.done.list));
       goes = doc.section (In phase.Done) (more_or (has_passed s.clock deadline) (has_some s.done.list) (has_pending s) (has_some told.sent)
-          (λ on. let r = found_pending s.arena.slots on in some_sent told.sent r.0 (sent.are r.0 ∙ r.1)) h) (done_next run.mode (doc.goes_on s)) refl
+          (λ on. let r = found_pending s.arena.slots on in some_sent told.sent r.0 (sent.are r.0 ∙ r.1)) h)
+          (done_next (order_of p) run.mode (doc.goes_on s)) refl
           (record { list = (refl, are_ended s e.done g); off = refl; sent = refl; body = refl }) refl;
       stands = record {
         stands = running (done refl) (record {
@@ -121,7 +125,7 @@ pub stage_follows : (p : Program) (told : Told) (s : State) (run : Run) (x : Sta
     SentAt told.sent s → Working s → Counted p s.names told → StandsIn p None x at → Leaves (rest (waiting x s.ready (due_now s)) s) at →
     Follows p told (Running run.mode run.line at) s (step.stage_step p s
     run x)
-stage_follows p told s run stage.Entry at st k h g c begun l = enter_follows p told s run (lives_is s g) k c (record {
+stage_follows p told s run stage.Entry at st k h g c begun l = turn_follows p told s run AtEntry Begun (lives_is s g) refl tt k c (record {
   timers = l.timers;
   idle = l.idle;
   prepare = l.prepare;
@@ -154,7 +158,7 @@ stage_follows p told s run (stage.Poll deadline) at st k h g c polls l = left_po
 stage_follows p told s run stage.Done at st k h g c (done b) l = done_follows p told s run _ st k h g c l b
 stage_follows p told s run stage.Async at st k h g c (async b) l = async_follows p told s run _ (lives_is s g) st k h c l b
 stage_follows p told s run stage.Check at st k h g c (check b) l = walk_follows p told s run watcher.Check _ (lives_is s g) tt st k h c l b
-stage_follows p told s run stage.Closing at st k h g c (closing b) l = closing_follows p told s run _ st k c l b
+stage_follows p told s run stage.Closing at st k h g c (closing b) l = closing_follows p told s run _ (lives_is s g) st k c l b
 stage_follows p told s run (stage.Timers part Collecting) at st k h g c (collects b) l = collect_follows p told s run part _ (lives_is s g) k c l b
 stage_follows p told s run (stage.Timers part Firing) at st k h g c (fires b) l = fire_follows p told s run part _ (lives_is s g) k c l b
 
@@ -399,54 +403,27 @@ body_follows p told s run body x at (Some y) st e k h c (fires {part = part} {w 
 
 -- ---- the main program, and a whole step
 
-pub run_lasts : (m : Mode) (s : State) → lasting (if is_default m then refreshed s else s) ≡ doc.after_run m s
-run_lasts Default s = refl
-run_lasts Once s = refl
-run_lasts Nowait s = refl
+pub run_lasts : (o : Order) (m : Mode) (s : State) → lasting (if step.refreshes o m then refreshed s else s) ≡ doc.after_run o m s
+run_lasts V145 Default s = refl
+run_lasts V145 Once s = refl
+run_lasts V145 Nowait s = refl
+run_lasts V144 m s = refl
 
 pub main_follows : (p : Program) (told : Told) (s : State) (i : ℕ) (x : Option MainOp) → slice_get p.main i ≡ x → Kept s → Counted p s.names told →
     NobodyLeft (rest s.ready s) →
-    Follows p told (Between i) s (step.main_step s i x)
+    Follows p told (Between i) s (step.main_step (order_of p) s i x)
 main_follows p told s i None e k c l = tt
 main_follows p told s i (Some (main.Run m)) e k c l = record {
   to = Running m i Begun;
-  goes = doc.run m e refl (run_lasts m s);
-  stands = begun_run m;
+  goes = doc.run m e refl (run_lasts (order_of p) m s);
+  stands = cond_both (step.refreshes (order_of p) m) (refreshed s) s (λ (t : State). Stands p told (begun_in t) (Running m i Begun))
+      (λ d. begun_at s.clock) (λ d. begun_at s.time);
 } where
-  begun_run : (x : Mode) →
-      Stands p told (record (if is_default x then refreshed s else s) {
-        place = place.Running (record {
-          mode = m;
-          line = i;
-          stage = stage.Entry;
-          body = None;
-        });
-      }) (Running m i Begun)
-  begun_run Default = record {
-    stands = running begun (record {
-      timers = l.timers;
-      idle = l.idle;
-      prepare = l.prepare;
-      check = l.check;
-      async = l.async;
-      closing = l.closing;
-      done = l.done;
-    });
-    counted = c;
-  }
-  begun_run Once = record {
-    stands = running begun (record {
-      timers = l.timers;
-      idle = l.idle;
-      prepare = l.prepare;
-      check = l.check;
-      async = l.async;
-      closing = l.closing;
-      done = l.done;
-    });
-    counted = c;
-  }
-  begun_run Nowait = record {
+  begun_in : State → State
+  begun_in t = record t { place = place.Running (record { mode = m; line = i; stage = stage.Entry; body = None }) }
+
+  begun_at : (time : ℕ) → Stands p told (begun_in (record s { time = time })) (Running m i Begun)
+  begun_at time = record {
     stands = running begun (record {
       timers = l.timers;
       idle = l.idle;

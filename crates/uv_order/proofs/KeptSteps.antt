@@ -1,7 +1,8 @@
 -- Each op and each step of the loop keeps what is kept.
-use Rattle.std.proofs.Common.{◌≡◌, inl, ℕ, ◌+◌, ◌==◌, ◌&&◌, List, [], ◌∷◌, ◌++◌, Bool, true, false, Option, Some, None, Result, Ok, Err, slice_get, drop, length, nat_le, nat_lt, refl, ap, sym, subst, ◌∙◌, append_assoc, append-nil, if◌then◌else◌}
+use Rattle.std.proofs.Common.{◌≡◌, inl, ℕ, ◌+◌, ◌==◌, List, [], ◌∷◌, ◌++◌, Bool, true, false, Option, Some, None, Result, Ok, Err, slice_get, drop, length, nat_le, nat_lt, refl, ap, sym, subst, ◌∙◌, append_assoc, append-nil, if◌then◌else◌}
 use Rattle.std.proofs.lemmas.Bool.{cond_both}
 use Rattle.std.proofs.lemmas.Option.{same_Some}
+use Rattle.uv_ids.specs.declared.order.Order.{Order}
 use Rattle.uv_ids.specs.declared.id.Id.{Id}
 use Rattle.uv_ids.specs.declared.id.Var.{Var}
 use Rattle.uv_ids.specs.declared.due.Due.{Due}
@@ -25,7 +26,7 @@ use Rattle.uv_script.specs.declared.op.MainOp.{MainOp}
 use Rattle.uv_script.specs.declared.op.MainOp.TheVariants as main
 use Rattle.uv_script.specs.declared.op.CallbackLine.{CallbackLine}
 use Rattle.uv_script.specs.declared.task.Task.{Task}
-use Rattle.uv_script.specs.Program.{Program, arena_size}
+use Rattle.uv_script.specs.Program.{Program, arena_size, order_of}
 use Rattle.uv_model.specs.declared.content.Content.{Content}
 use Rattle.uv_model.specs.declared.content.Content.TheVariants as content
 use Rattle.uv_model.specs.declared.request.Request.{Request}
@@ -35,7 +36,10 @@ use Rattle.uv_model.specs.declared.place.Run.{Run}
 use Rattle.uv_model.specs.declared.place.Stage.{Stage}
 use Rattle.uv_model.specs.declared.place.Stage.TheVariants.{Entry, Pending, Idle, Prepare, Poll, Done, Async, Check, Closing, Timers}
 use Rattle.uv_model.specs.declared.place.TimersOf.{TimersOf}
-use Rattle.uv_model.specs.declared.place.TimersOf.TheVariants as timers_of
+use Rattle.uv_model.specs.declared.place.Turn.{Turn}
+use Rattle.uv_model.specs.declared.place.Turn.TheVariants.{AtEntry, Behind, BehindClosing}
+use Rattle.uv_model.specs.declared.place.Way.{Way}
+use Rattle.uv_model.specs.declared.place.Way.TheVariants.{ToTimers, ToPending, ToEnd}
 use Rattle.uv_model.specs.declared.place.Timing.{Timing}
 use Rattle.uv_model.specs.declared.place.Timing.TheVariants.{Collecting, Firing}
 use Rattle.uv_model.specs.declared.place.Place.{Place}
@@ -45,7 +49,7 @@ use Rattle.uv_model.specs.Timers.{started, restarted}
 use Rattle.uv_model.specs.Ops as ops
 use Rattle.uv_model.specs.Ops.{do_op}
 use Rattle.uv_model.specs.Next as step
-use Rattle.uv_model.specs.Next.{Next, Moves, Refuses, next, loop_step, main_step, run_step, body_step, stage_step, sent_to, timers, collect, collected, first_due, fire, leave_timers, enter, is_default, next_work, work_of, walk, walk_async, front_moved, close_front, begin_walk, may_leave, goes}
+use Rattle.uv_model.specs.Next.{Next, Moves, Refuses, next, loop_step, main_step, run_step, body_step, stage_step, sent_to, timers, collect, collected, first_due, fire, way, turns, goes_by, is_default, next_work, work_of, walk, walk_async, front_moved, close_front, begin_walk, may_leave, goes}
 use Rattle.uv_order.specs.Active.{has_id}
 use Rattle.uv_model.proofs.Found.{found_both}
 use Rattle.uv_order.proofs.IdLists.{Each, each_push, distinct_push, member, has_new_middle}
@@ -169,12 +173,12 @@ abbrev pub StaysKept : Next → Type 0
 StaysKept (Moves t seen) = Kept t
 StaysKept (Refuses why) = Unit {0}
 
-pub enter_kept : (s : State) (run : Run) → Kept s → StaysKept (enter s run)
-enter_kept s run k = cond_both (goes s) _ _ StaysKept (λ g. cond_both (is_default run.mode) _ _ StaysKept (λ d. k) (λ d. k)) (λ g. k)
-
-pub leave_kept : (s : State) (run : Run) (part : TimersOf) → Kept s → StaysKept (leave_timers s run part)
-leave_kept s run timers_of.Entry k = cond_both (goes s) _ _ StaysKept (λ g. k) (λ g. k)
-leave_kept s run timers_of.Iteration k = cond_both (is_default run.mode && goes s) _ _ StaysKept (λ g. k) (λ g. k)
+pub turn_kept : (o : Order) (s : State) (run : Run) (turn : Turn) → Kept s → StaysKept (turns o s run turn)
+turn_kept o s run turn k = by (way o run.mode (goes s) turn) where
+  by : (w : Way) → StaysKept (goes_by o s run w)
+  by (ToTimers part) = k
+  by ToPending = k
+  by ToEnd = k
 
 pub with_ready : (s : State) (ids : List Id) → Lists s.arena.slots Rests ids → Kept s → Kept (record s { ready = ids })
 with_ready s ids l k = record {
@@ -196,15 +200,16 @@ front_kept s id rest e k =
     with_ready s rest (record { each = l.each.1; distinct = l.distinct.1 }) k
 
 pub fire_kept : (p : Program) (s : State) (run : Run) (part : TimersOf) → Kept s → StaysKept (fire p s run part)
-fire_kept p s run part k = found_both (front s s.ready) _ _ StaysKept (λ t e. fired t (front_of s s.ready t e)) (λ e. leave_kept s run part k) where
-  fired : (t : Id × HandleRecord) → FrontOf s s.ready t → Kept (restarted (record s { ready = drop 1 s.ready }) t.0 t.1)
-  fired t f = subst (λ (rest : List Id). Kept (restarted (record s { ready = rest }) t.0 t.1)) (sym f.behind) (
-      let l : Lists s.arena.slots Rests (t.0 ∷ f.rest) = subst (Lists s.arena.slots Rests) f.are k.ready in
-      let rests : Rests t.1 = its_handle s.arena.slots Rests t.0 t.1 f.holds l.each.0 in
-      let u : State = record s { ready = f.rest } in
-      let kept : Kept u = front_kept s t.0 f.rest f.are k in
-      cond_both (t.1.repeat == 0) u (started u t.0 t.1 t.1.repeat t.1.repeat) Kept (λ z. kept)
-      (λ z. started_kept u t.0 t.1 t.1 t.1.repeat t.1.repeat f.holds rests.kind rests.inactive rests.stays rests.kind rests.stays l.distinct.0 kept))
+fire_kept p s run part k = found_both (front s s.ready) _ _ StaysKept (λ t e. fired t (front_of s s.ready t e))
+    (λ e. turn_kept (order_of p) s run (Behind part) k) where
+      fired : (t : Id × HandleRecord) → FrontOf s s.ready t → Kept (restarted (record s { ready = drop 1 s.ready }) t.0 t.1)
+      fired t f = subst (λ (rest : List Id). Kept (restarted (record s { ready = rest }) t.0 t.1)) (sym f.behind) (
+          let l : Lists s.arena.slots Rests (t.0 ∷ f.rest) = subst (Lists s.arena.slots Rests) f.are k.ready in
+          let rests : Rests t.1 = its_handle s.arena.slots Rests t.0 t.1 f.holds l.each.0 in
+          let u : State = record s { ready = f.rest } in
+          let kept : Kept u = front_kept s t.0 f.rest f.are k in
+          cond_both (t.1.repeat == 0) u (started u t.0 t.1 t.1.repeat t.1.repeat) Kept (λ z. kept)
+          (λ z. started_kept u t.0 t.1 t.1 t.1.repeat t.1.repeat f.holds rests.kind rests.inactive rests.stays rests.kind rests.stays l.distinct.0 kept))
 
 -- an active handle doesn't close
 pub opened : (h : HandleRecord) → h.active ≡ true → IsSound h → h.closing ≡ false
@@ -447,25 +452,27 @@ freed_free slots id c n free e k =
     )
 
 pub close_kept : (p : Program) (s : State) (run : Run) → Kept s → StaysKept (close_front p s run)
-close_kept p s run k = found_both (front s s.closing.yet) _ _ StaysKept (λ t e. gone t (front_of s s.closing.yet t e)) (λ e. k) where
-  gone : (t : Id × HandleRecord) → FrontOf s s.closing.yet t →
-      Agree (freed (arena_size p).last_generation t.0 s.arena) s.next_start s.timers s.ready s.idle s.prepare s.check s.async (record s.closing {
-        yet = drop 1
-            s.closing.yet;
-      })
-  gone t f = subst
-      (λ (rest : List Id). Agree (freed (arena_size p).last_generation t.0 s.arena) s.next_start s.timers s.ready s.idle s.prepare s.check s.async
-      (record s.closing { yet = rest }))
-      (sym f.behind)
-      (cond_both (t.0.generation == (arena_size p).last_generation) _ _
-      (λ (u : Slots Content). Agree u s.next_start s.timers s.ready s.idle s.prepare s.check
-      s.async (record s.closing { yet = f.rest }))
-      (λ last. gone_kept s t f.rest t.0.generation s.arena.free f.holds f.are (freed_free s.arena.slots t.0
-      (content.Handle t.1) t.0.generation s.arena.free (is_held s.arena.slots t.0 t.1 f.holds)
-      k.free).0 k)
-      (λ more. gone_kept s t f.rest (t.0.generation + 1) (t.0.slot ∷ s.arena.free) f.holds f.are (freed_free s.arena.slots t.0 (content.Handle t.1)
-      (t.0.generation +
-      1) s.arena.free (is_held s.arena.slots t.0 t.1 f.holds) k.free).1 k))
+close_kept p s run k = found_both (front s s.closing.yet) _ _ StaysKept (λ t e. gone t (front_of s s.closing.yet t e))
+    (λ e. turn_kept (order_of p) s run BehindClosing k)
+  where
+    gone : (t : Id × HandleRecord) → FrontOf s s.closing.yet t →
+        Agree (freed (arena_size p).last_generation t.0 s.arena) s.next_start s.timers s.ready s.idle s.prepare s.check s.async (record s.closing {
+          yet = drop 1
+              s.closing.yet;
+        })
+    gone t f = subst
+        (λ (rest : List Id). Agree (freed (arena_size p).last_generation t.0 s.arena) s.next_start s.timers s.ready s.idle s.prepare s.check s.async
+        (record s.closing { yet = rest }))
+        (sym f.behind)
+        (cond_both (t.0.generation == (arena_size p).last_generation) _ _
+        (λ (u : Slots Content). Agree u s.next_start s.timers s.ready s.idle s.prepare s.check
+        s.async (record s.closing { yet = f.rest }))
+        (λ last. gone_kept s t f.rest t.0.generation s.arena.free f.holds f.are (freed_free s.arena.slots t.0
+        (content.Handle t.1) t.0.generation s.arena.free (is_held s.arena.slots t.0 t.1 f.holds)
+        k.free).0 k)
+        (λ more. gone_kept s t f.rest (t.0.generation + 1) (t.0.slot ∷ s.arena.free) f.holds f.are (freed_free s.arena.slots t.0 (content.Handle t.1)
+        (t.0.generation +
+        1) s.arena.free (is_held s.arena.slots t.0 t.1 f.holds) k.free).1 k))
 
 -- the front of the requests that are done leaves, and its slot is freed
 pub collect_kept : (p : Program) (s : State) (run : Run) → s.async.yet ≡ [] → Kept s → StaysKept (step.collect_request p s run)
@@ -484,7 +491,7 @@ collect_kept p s run r k = found_both (front_request s s.done.yet) _ _ StaysKept
         (same_handles s.arena.slots (freed last t.0 s.arena).slots t.0 _ _ (freed_turns last s.arena t.0 c f.holds) refl refl) free k
 
 pub stage_kept : (p : Program) (s : State) (run : Run) (stage : Stage) → IsRested stage s → Kept s → StaysKept (stage_step p s run stage)
-stage_kept p s run Entry r k = enter_kept s run k
+stage_kept p s run Entry r k = turn_kept (order_of p) s run AtEntry k
 stage_kept p s run Pending r k = begin_kept s run watcher.Idle r k
 stage_kept p s run Idle r k = walk_kept p s run watcher.Idle (begin_kept s run watcher.Prepare r k) k
 stage_kept p s run Prepare r k = walk_kept p s run watcher.Prepare k k
@@ -499,10 +506,10 @@ pub body_kept : (p : Program) (s : State) (run : Run) (body : Body) (line : Opti
 body_kept p s run body None k = k
 body_kept p s run body (Some line) k = op_kept s line.op k
 
-pub main_kept : (s : State) (i : ℕ) (x : Option MainOp) → Kept s → StaysKept (main_step s i x)
-main_kept s i None k = tt
-main_kept s i (Some (main.Run mode)) k = cond_both (is_default mode) (refreshed s) s Kept (λ d. k) (λ d. k)
-main_kept s i (Some (main.Op o)) k = op_kept s o k
+pub main_kept : (o : Order) (s : State) (i : ℕ) (x : Option MainOp) → Kept s → StaysKept (main_step o s i x)
+main_kept o s i None k = tt
+main_kept o s i (Some (main.Run mode)) k = cond_both (step.refreshes o mode) (refreshed s) s Kept (λ d. k) (λ d. k)
+main_kept o s i (Some (main.Op x)) k = op_kept s x k
 
 abbrev pub IsRestedIn : Option Body → Stage → State → Type 0
 IsRestedIn None stage s = IsRested stage s
@@ -517,7 +524,7 @@ run_kept p s run None r k = stage_kept p s run run.stage r k
 run_kept p s run (Some body) r k = body_kept p s run body _ k
 
 pub place_kept : (p : Program) (s : State) (place : Place) → IsRestedAt place s → Kept s → StaysKept (loop_step p s place)
-place_kept p s (Main i) r k = main_kept s i _ k
+place_kept p s (Main i) r k = main_kept (order_of p) s i _ k
 place_kept p s (Running run) r k = run_kept p s run run.body r k
 
 take_kept : (s : State) (n : ℕ) (t : Result (Id × Request) Why) → Kept s → StaysKept (step.take s n t)

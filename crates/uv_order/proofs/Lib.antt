@@ -27,6 +27,7 @@ pub mod ClosesOnce
 pub mod Documents
 pub mod RefusedOnce
 pub mod RefusedOrder
+pub mod RefusedTimers
 pub mod Pooling
 pub mod Taking
 pub mod Reaching

@@ -1,5 +1,5 @@
 -- Each line is the event of the thread pool that it says, by the rules of the pool.
-use Rattle.std.proofs.Common.{◌≡◌, ℕ, ◌+◌, ◌||◌, ◌&&◌, List, [], ◌∷◌, ◌++◌, map, Bool, true, false, Option, Some, None, Result, Ok, Err, drop, length, nat_le, nat_lt, slice_get, slice_set, option_map, refl, ap, sym, subst, ◌∙◌, append_assoc, append-nil}
+use Rattle.std.proofs.Common.{◌≡◌, ℕ, ◌+◌, ◌||◌, List, [], ◌∷◌, ◌++◌, map, Bool, true, false, Option, Some, None, Result, Ok, Err, drop, length, nat_le, nat_lt, slice_get, slice_set, option_map, refl, ap, sym, subst, ◌∙◌, append_assoc, append-nil}
 use Rattle.std.specs.List.{list_any}
 use Rattle.std.proofs.lemmas.Bool.{cond_both, both_ways}
 use Rattle.std.proofs.lemmas.Option.{same_Some}
@@ -26,7 +26,7 @@ use Rattle.uv_script.specs.declared.op.MainOp.{MainOp}
 use Rattle.uv_script.specs.declared.op.MainOp.TheVariants as main
 use Rattle.uv_script.specs.declared.op.CallbackLine.{CallbackLine}
 use Rattle.uv_script.specs.declared.task.Task.{Task}
-use Rattle.uv_script.specs.Program.{Program, arena_size, worker_count, lines_in, main_op, op_at}
+use Rattle.uv_script.specs.Program.{Program, arena_size, worker_count, lines_in, main_op, op_at, order_of}
 use Rattle.uv_script.specs.Tasks.{text_of}
 use Rattle.uv_work.specs.Digests.{digest_of}
 use Rattle.uv_work.specs.Pool.{Pool, Done as Ended, empty_pool, waits, runs, is_done, has, without, collected_from, after_event, then_event, after_events, replay}
@@ -48,7 +48,10 @@ use Rattle.uv_model.specs.Next as step
 use Rattle.uv_model.specs.declared.place.Stage.{Stage}
 use Rattle.uv_model.specs.declared.place.Stage.TheVariants.{Entry, Pending, Idle, Prepare, Poll, Done, Async, Check, Closing, Timers}
 use Rattle.uv_model.specs.declared.place.TimersOf.{TimersOf}
-use Rattle.uv_model.specs.declared.place.TimersOf.TheVariants as timers_of
+use Rattle.uv_model.specs.declared.place.Turn.{Turn}
+use Rattle.uv_model.specs.declared.place.Turn.TheVariants.{AtEntry, Behind, BehindClosing}
+use Rattle.uv_model.specs.declared.place.Way.{Way}
+use Rattle.uv_model.specs.declared.place.Way.TheVariants.{ToTimers, ToPending, ToEnd}
 use Rattle.uv_model.specs.declared.place.Timing.{Timing}
 use Rattle.uv_model.specs.declared.place.Timing.TheVariants.{Collecting, Firing}
 use Rattle.uv_model.specs.declared.place.Place.{Place}
@@ -62,7 +65,7 @@ use Rattle.uv_order.proofs.OpCases.{names_at, cancel_both, make_both}
 use Rattle.uv_order.proofs.Keeping.{Kept, fills}
 use Rattle.uv_order.proofs.Asked.{request_turns, freed_turns, FrontRequest, request_front, TakesFront, takes_front, RunsWork, runs_work}
 use Rattle.uv_order.proofs.Works.{asked_at, AllAsk, IsOpen, HasEnded, once_middle, lets_go}
-use Rattle.uv_order.proofs.Quiet.{SameWork, IsOfHandles, op_same, send_same, KeepsWork, enter_same, begin_same, walk_same, async_same, close_same, timers_same}
+use Rattle.uv_order.proofs.Quiet.{SameWork, IsOfHandles, op_same, send_same, KeepsWork, turn_same, begin_same, walk_same, async_same, close_same, timers_same}
 use Rattle.uv_order.proofs.Working.{Working, StaysWorking, next_working, fresh_working, IsCalm, IsCalmIn, IsCalmAt}
 use Rattle.uv_order.proofs.KeptSteps.{StaysKept, next_kept, fresh_kept}
 use Rattle.uv_order.proofs.Histories.{lines-history}
@@ -360,12 +363,15 @@ quiet_step p s (Moves t (Some l)) q none = ap (after_events (Some (pool_of s))) 
 quiet_step p s (Moves t None) q none = pool_same s t q
 quiet_step p s (Refuses why) q none = tt
 
-leave_quiet : (p : Program) (s : State) (run : Run) (part : TimersOf) → IsQuiet p (step.leave_timers s run part)
-leave_quiet p s run timers_of.Entry = cond_both (goes s) _ _ (IsQuiet p) (λ g. refl) (λ g. refl)
-leave_quiet p s run timers_of.Iteration = cond_both (is_default run.mode && goes s) _ _ (IsQuiet p) (λ g. refl) (λ g. refl)
+turn_quiet : (p : Program) (s : State) (run : Run) (turn : Turn) → IsQuiet p (step.turns (order_of p) s run turn)
+turn_quiet p s run turn = by (step.way (order_of p) run.mode (goes s) turn) where
+  by : (w : Way) → IsQuiet p (step.goes_by (order_of p) s run w)
+  by (ToTimers part) = refl
+  by ToPending = refl
+  by ToEnd = refl
 
 fire_quiet : (p : Program) (s : State) (run : Run) (part : TimersOf) → IsQuiet p (step.fire p s run part)
-fire_quiet p s run part = found_both (front s s.ready) _ _ (IsQuiet p) (λ t e. refl) (λ e. leave_quiet p s run part)
+fire_quiet p s run part = found_both (front s s.ready) _ _ (IsQuiet p) (λ t e. refl) (λ e. turn_quiet p s run (Behind part))
 
 timers_quiet : (p : Program) (s : State) (run : Run) (part : TimersOf) (timing : Timing) → IsQuiet p (step.timers p s run part timing)
 timers_quiet p s run part Collecting = found_both (first_due s s.timers) _ _ (IsQuiet p) (λ t e. tt) (λ e. fire_quiet p s run part)
@@ -386,8 +392,7 @@ begun_pool s e = equal_pools _ _ _ _ _ _ refl refl
     (ap (map (done_as s)) (append-nil s.done.list) ∙ ap (λ (ids : List Id). map (done_as s) (ids ++ s.done.list)) (sym e))
 
 stage_pools : (p : Program) (s : State) (run : Run) (x : Stage) → IsCalm x s → Kept s → Working s → Pools p s (step.stage_step p s run x)
-stage_pools p s run Entry r kept k = quiet_step p s _ (enter_same s run) (cond_both (goes s) _ _ (IsQuiet p)
-    (λ g. cond_both (is_default run.mode) _ _ (IsQuiet p) (λ d. refl) (λ d. refl)) (λ g. refl))
+stage_pools p s run Entry r kept k = quiet_step p s _ (turn_same (order_of p) s run AtEntry) (turn_quiet p s run AtEntry)
 stage_pools p s run Pending r kept k = quiet_step p s (step.begin_walk s run watcher.Idle) (begin_same s run watcher.Idle) refl
 stage_pools p s run Idle r kept k = quiet_step p s _ (walk_same p s run watcher.Idle) (walk_quiet p s run watcher.Idle)
 stage_pools p s run Prepare r kept k = quiet_step p s _ (walk_same p s run watcher.Prepare) (walk_quiet p s run watcher.Prepare)
@@ -399,7 +404,7 @@ stage_pools p s run Async r kept k = quiet_step p s _ (async_same p s run)
     (found_both (front s s.async.yet) _ _ (IsQuiet p) (λ t e. cond_both t.1.pending _ _ (IsQuiet p) (λ on. refl) (λ off. tt)) (λ e. refl))
 stage_pools p s run Check r kept k = quiet_step p s _ (walk_same p s run watcher.Check) (walk_quiet p s run watcher.Check)
 stage_pools p s run Closing r kept k = quiet_step p s _ (close_same p s run)
-    (found_both (front s s.closing.yet) _ _ (IsQuiet p) (λ t e. refl) (λ e. refl))
+    (found_both (front s s.closing.yet) _ _ (IsQuiet p) (λ t e. refl) (λ e. turn_quiet p s run BehindClosing))
 stage_pools p s run (Timers part timing) r kept k = quiet_step p s _ (timers_same p s run part timing) (timers_quiet p s run part timing)
 
 body_pools : (p : Program) (s : State) (run : Run) (body : Body) (l : Option CallbackLine) →
@@ -409,10 +414,10 @@ body_pools p s run body (Some line) e kept k =
     op_line p s (site.In body.callback body.name body.next) line.op (ap (option_map (λ (x : CallbackLine). x.op)) e) kept k
 
 main_pools : (p : Program) (s : State) (i : ℕ) (x : Option MainOp) → slice_get p.main i ≡ x → Kept s → Working s →
-    Pools p s (step.main_step s i x)
+    Pools p s (step.main_step (order_of p) s i x)
 main_pools p s i None e kept k = tt
 main_pools p s i (Some (main.Run m)) e kept k =
-    cond_both (is_default m) (refreshed s) s (λ (t : State). Some (pool_of s) ≡ Some (pool_of t)) (λ d. refl) (λ d. refl)
+    cond_both (step.refreshes (order_of p) m) (refreshed s) s (λ (t : State). Some (pool_of s) ≡ Some (pool_of t)) (λ d. refl) (λ d. refl)
 main_pools p s i (Some (main.Op o)) e kept k = op_line p s (site.Main i) o (ap main_op e) kept k
 
 run_pools : (p : Program) (s : State) (run : Run) (body : Option Body) → IsCalmIn body run.stage s → Kept s → Working s →

@@ -1,6 +1,7 @@
 -- The steps that change no request: those of handles, of the loop's sections but for the requests that are done, and of the clock.
-use Rattle.std.proofs.Common.{◌≡◌, ◌==◌, ◌&&◌, List, true, false, Option, Some, None, drop, if◌then◌else◌, refl, ◌∙◌}
+use Rattle.std.proofs.Common.{◌≡◌, ◌==◌, List, true, false, Option, Some, None, drop, if◌then◌else◌, refl, ◌∙◌}
 use Rattle.std.proofs.lemmas.Bool.{cond_both}
+use Rattle.uv_ids.specs.declared.order.Order.{Order}
 use Rattle.uv_ids.specs.declared.id.Id.{Id}
 use Rattle.uv_ids.specs.declared.id.Var.{Var}
 use Rattle.uv_ids.specs.declared.phase.Kind.{Kind}
@@ -18,12 +19,15 @@ use Rattle.uv_records.specs.Refusals.{no_refusal, timer_refusal, start_timer_ref
 use Rattle.uv_records.specs.Slots.{taken, next_free}
 use Rattle.uv_script.specs.declared.op.Op.{Op}
 use Rattle.uv_script.specs.declared.op.Op.TheVariants as op
-use Rattle.uv_script.specs.Program.{Program, arena_size}
+use Rattle.uv_script.specs.Program.{Program, arena_size, order_of}
 use Rattle.uv_model.specs.declared.content.Content.{Content}
 use Rattle.uv_model.specs.declared.content.Content.TheVariants as content
 use Rattle.uv_model.specs.declared.place.Run.{Run}
 use Rattle.uv_model.specs.declared.place.TimersOf.{TimersOf}
-use Rattle.uv_model.specs.declared.place.TimersOf.TheVariants as timers_of
+use Rattle.uv_model.specs.declared.place.Turn.{Turn}
+use Rattle.uv_model.specs.declared.place.Turn.TheVariants.{Behind, BehindClosing}
+use Rattle.uv_model.specs.declared.place.Way.{Way}
+use Rattle.uv_model.specs.declared.place.Way.TheVariants.{ToTimers, ToPending, ToEnd}
 use Rattle.uv_model.specs.declared.place.Timing.{Timing}
 use Rattle.uv_model.specs.declared.place.Timing.TheVariants.{Collecting, Firing}
 use Rattle.uv_model.specs.State.{State, handle, live_handle, front, watched, refreshed}
@@ -156,17 +160,16 @@ abbrev pub KeepsWork : State → Next → Type 0
 KeepsWork s (Moves t seen) = SameWork s t
 KeepsWork s (Refuses why) = Unit {0}
 
-pub enter_same : (s : State) (run : Run) → KeepsWork s (step.enter s run)
-enter_same s run = cond_both (goes s) _ _ (KeepsWork s) (λ g. cond_both (is_default run.mode) _ _ (KeepsWork s) (λ d. same s) (λ d. same s))
-    (λ g. same s)
-
-pub leave_same : (s : State) (run : Run) (part : TimersOf) → KeepsWork s (step.leave_timers s run part)
-leave_same s run timers_of.Entry = cond_both (goes s) _ _ (KeepsWork s) (λ g. same s) (λ g. same s)
-leave_same s run timers_of.Iteration = cond_both (is_default run.mode && goes s) _ _ (KeepsWork s) (λ g. same s) (λ g. same s)
+pub turn_same : (o : Order) (s : State) (run : Run) (turn : Turn) → KeepsWork s (step.turns o s run turn)
+turn_same o s run turn = by (step.way o run.mode (goes s) turn) where
+  by : (w : Way) → KeepsWork s (step.goes_by o s run w)
+  by (ToTimers part) = same s
+  by ToPending = same s
+  by ToEnd = same s
 
 pub fire_same : (p : Program) (s : State) (run : Run) (part : TimersOf) → KeepsWork s (step.fire p s run part)
 fire_same p s run part = found_both (front s s.ready) _ _ (KeepsWork s) (λ t e. fired t (front_of s s.ready t e))
-    (λ e. leave_same s run part)
+    (λ e. turn_same (order_of p) s run (Behind part))
   where
     fired : (t : Id × HandleRecord) → FrontOf s s.ready t → SameWork s (restarted (record s { ready = drop 1 s.ready }) t.0 t.1)
     fired t f = cond_both (t.1.repeat == 0) _ _ (SameWork s) (λ z. same s) (λ z. changed s t _ f.holds)
@@ -208,8 +211,8 @@ close_same p s run = found_both (front s s.closing.yet) _ _ (KeepsWork s)
     by_slots s _
     (same_requests s.arena.slots _ t.0 _ _
     (freed_turns (arena_size p).last_generation s.arena t.0 (content.Handle t.1) (is_held s.arena.slots t.0 t.1 f.holds)) refl refl))
-    (λ e. same s)
+    (λ e. turn_same (order_of p) s run BehindClosing)
 
 -- so does the line of a run
-pub begun_same : (s : State) (mode : Mode) → SameWork s (if is_default mode then refreshed s else s)
-begun_same s mode = cond_both (is_default mode) (refreshed s) s (SameWork s) (λ d. same s) (λ d. same s)
+pub begun_same : (o : Order) (s : State) (mode : Mode) → SameWork s (if step.refreshes o mode then refreshed s else s)
+begun_same o s mode = cond_both (step.refreshes o mode) (refreshed s) s (SameWork s) (λ d. same s) (λ d. same s)

@@ -10,6 +10,8 @@ use Rattle.uv_ids.specs.declared.code.Code.TheVariants as code
 use Rattle.uv_ids.specs.declared.code.Code.TheVariants.{Ok as Success}
 use Rattle.uv_ids.specs.declared.code.Answer.{Answer}
 use Rattle.uv_ids.specs.declared.code.Answer.TheVariants as answer
+use Rattle.uv_ids.specs.declared.order.Order.{Order}
+use Rattle.uv_ids.specs.declared.order.Order.TheVariants.{V145}
 use Rattle.uv_ids.specs.declared.phase.Kind.{Kind}
 use Rattle.uv_ids.specs.declared.phase.Mode.{Mode}
 use Rattle.uv_ids.specs.declared.phase.Mode.TheVariants.{Default, Once, Nowait}
@@ -22,7 +24,7 @@ use Rattle.uv_ids.specs.declared.seen.Seen.TheVariants as seen
 use Rattle.uv_ids.specs.declared.seen.Site.{Site}
 use Rattle.uv_script.specs.declared.op.Op.{Op}
 use Rattle.uv_script.specs.declared.op.Op.TheVariants as op
-use Rattle.uv_script.specs.Program.{Program, op_at}
+use Rattle.uv_script.specs.Program.{Program, op_at, order_of}
 use Rattle.uv_model.specs.declared.request.Request.{Request}
 use Rattle.uv_model.specs.Content.{digest_in}
 use Rattle.uv_model.specs.Ids.{has_some, without_id, same_id}
@@ -39,24 +41,24 @@ use Rattle.uv_order.proofs.IdLists.{itself, without_itself, still_absent}
 
 -- ---- where the lines stand
 
-record Behind (p : Program) (told : Told) (past : List Seen) (ls : List Line) : Type 0 where
-  at : Position
-  was : Lasting
-  goes : GoesOn p at told past was ls
+pub record Behind (p : Program) (told : Told) (past : List Seen) (ls : List Line) : Type 0 where
+  pub at : Position
+  pub was : Lasting
+  pub goes : GoesOn p at told past was ls
 
-behind : (p : Program) (before ls : List Line) (at : Position) (told : Told) (past : List Seen) (was : Lasting) →
+pub behind : (p : Program) (before ls : List Line) (at : Position) (told : Told) (past : List Seen) (was : Lasting) →
     GoesOn p at told past was (before ++ ls) → Behind p (told_after p told past before) (past_after past before) ls
 behind p [] ls at told past was h = record { at = at; was = was; goes = h }
 behind p (x ∷ before) ls at told past was (line {to = to} e g h) =
     behind p before ls to (told_by p told (names_by p past) x.seen) (x.seen ∷ past) (lasting x.after) h
 
 -- a line that says this goes on, and so do those behind it
-record Step (p : Program) (at : Position) (told : Told) (past : List Seen) (l : Line) (this : Seen) (ls : List Line) : Type 0 where
-  to : Position
-  goes : Goes p told (names_by p past) at l to
-  rest : GoesOn p to (told_by p told (names_by p past) this) (this ∷ past) (lasting l.after) ls
+pub record Step (p : Program) (at : Position) (told : Told) (past : List Seen) (l : Line) (this : Seen) (ls : List Line) : Type 0 where
+  pub to : Position
+  pub goes : Goes p told (names_by p past) at l to
+  pub rest : GoesOn p to (told_by p told (names_by p past) this) (this ∷ past) (lasting l.after) ls
 
-steps : (p : Program) (at : Position) (told : Told) (past : List Seen) (was : Lasting) (l : Line) (this : Seen) (ls : List Line) → l.seen ≡ this →
+pub steps : (p : Program) (at : Position) (told : Told) (past : List Seen) (was : Lasting) (l : Line) (this : Seen) (ls : List Line) → l.seen ≡ this →
     GoesOn p at told past was (l ∷ ls) → Step p at told past l this ls
 steps p at told past was l this ls e (line {to = to} f g h) = record {
   to = to;
@@ -66,7 +68,7 @@ steps p at told past was l this ls e (line {to = to} f g h) = record {
 
 -- ---- lines of other kinds
 
-abbrev is_call : Seen → Bool
+abbrev pub is_call : Seen → Bool
 is_call (seen.Call v id) = true
 is_call (seen.After digest v id) = true
 is_call (seen.Closed v id) = true
@@ -80,7 +82,8 @@ call_line s callback.After v id what e = at (request s id) e where
   at None f = cc f
   at (Some r) f = ap is_call (sym (same_Some _ _ f))
 
-not_call : (s : State) (kind : Callback) (v : Var) (id : Id) (what this : Seen) → IsCallLine s kind v id what → what ≡ this → is_call this ≡ false → ⊥
+pub not_call : (s : State) (kind : Callback) (v : Var) (id : Id) (what this : Seen) → IsCallLine s kind v id what → what ≡ this →
+    is_call this ≡ false → ⊥
 not_call s kind v id what this h e f = both_ways (is_call what) (ap is_call e ∙ f) (call_line s kind v id what h)
 
 -- ---- the poll
@@ -206,11 +209,11 @@ request_lives false false c e = cc e
 
 -- ---- no iteration where the loop doesn't go on
 
-abbrev is_iteration : doc.Part → Bool
+abbrev pub is_iteration : doc.Part → Bool
 is_iteration (doc.Of (In phase.Pending)) = true
 is_iteration part = false
 
-no_iteration : (m : Mode) (part : doc.Part) → is_iteration (doc.part_after m false part) ≡ false
+no_iteration : (m : Mode) (part : doc.Part) → is_iteration (doc.part_after V145 m false part) ≡ false
 no_iteration Default doc.Start = refl
 no_iteration Default (doc.Of doc.Entry) = refl
 no_iteration Default (doc.Of (In phase.Pending)) = refl
@@ -248,27 +251,28 @@ no_iteration Nowait (doc.Of (In phase.Timers)) = refl
 no_iteration Nowait doc.Poll = refl
 no_iteration Nowait doc.End = refl
 
-of_pending : (part : Section) → word_of part ≡ phase.Pending → is_iteration (doc.Of part) ≡ true
+pub of_pending : (part : Section) → word_of part ≡ phase.Pending → is_iteration (doc.Of part) ≡ true
 of_pending doc.Entry e = cc e
 of_pending (In word) e = ap (λ (x : Phase). is_iteration (doc.Of (In x))) e
 
 goes_on_there : (p : Program) (told : Told) (names : Names) (l : Line) (at to : Position) → l.seen ≡ seen.Section phase.Pending →
-    Goes p told names at l to → doc.goes_on l.before ≡ false → ⊥
-goes_on_there p told names l at to e (doc.section {m = m} {at = st} x a b c d f) off =
-    both_ways (is_iteration (doc.part_after m (doc.goes_on l.before) (doc.part_of st)))
-    (ap (λ (go : Bool). is_iteration (doc.part_after m go (doc.part_of st))) off ∙ no_iteration m (doc.part_of st))
+    Goes p told names at l to → order_of p ≡ V145 → doc.goes_on l.before ≡ false → ⊥
+goes_on_there p told names l at to e (doc.section {m = m} {at = st} x a b c d f) is off =
+    both_ways (is_iteration (doc.part_after (order_of p) m (doc.goes_on l.before) (doc.part_of st)))
+    (ap (λ (o : Order). is_iteration (doc.part_after o m (doc.goes_on l.before) (doc.part_of st))) is
+    ∙ ap (λ (go : Bool). is_iteration (doc.part_after V145 m go (doc.part_of st))) off ∙ no_iteration m (doc.part_of st))
     (ap is_iteration b ∙ of_pending x (cc (c, e)))
-goes_on_there p told names l at to e (doc.main_line o a f g h) off = cc (e, g)
-goes_on_there p told names l at to e (doc.run m f g h) off = cc (e, g)
-goes_on_there p told names l at to e (doc.poll t a b c d f) off = cc (e, d)
-goes_on_there p told names l at to e (doc.ends a b c d) off = cc (e, c)
-goes_on_there p told names l at to e (doc.call kind v id more a b c d f) off = not_call l.before kind v id _ _ d e refl
-goes_on_there p told names l at to e (doc.body_op place rest o a b c d f) off = cc (e, d)
-goes_on_there p told names l at to e (doc.sent v x a b) off = cc (e, a)
-goes_on_there p told names l at to e (doc.taken n v id a b) off = cc (e, a)
-goes_on_there p told names l at to e (doc.finished n v id a b) off = cc (e, a)
-goes_on_there p told names l at to e (doc.cancelled v x a b) off = cc (e, a)
-goes_on_there p told names l at to e (doc.outside ms a b) off = cc (e, a)
+goes_on_there p told names l at to e (doc.main_line o a f g h) is off = cc (e, g)
+goes_on_there p told names l at to e (doc.run m f g h) is off = cc (e, g)
+goes_on_there p told names l at to e (doc.poll t a b c d f) is off = cc (e, d)
+goes_on_there p told names l at to e (doc.ends a b c d) is off = cc (e, c)
+goes_on_there p told names l at to e (doc.call kind v id more a b c d f) is off = not_call l.before kind v id _ _ d e refl
+goes_on_there p told names l at to e (doc.body_op place rest o a b c d f) is off = cc (e, d)
+goes_on_there p told names l at to e (doc.sent v x a b) is off = cc (e, a)
+goes_on_there p told names l at to e (doc.taken n v id a b) is off = cc (e, a)
+goes_on_there p told names l at to e (doc.finished n v id a b) is off = cc (e, a)
+goes_on_there p told names l at to e (doc.cancelled v x a b) is off = cc (e, a)
+goes_on_there p told names l at to e (doc.outside ms a b) is off = cc (e, a)
 
 -- ---- a section begins
 
@@ -385,15 +389,15 @@ polls_on p at told past was l timeout ls e h = by (steps p at told past was l (s
       rest = subst (λ (y : Position). GoesOn p y told (seen.Poll timeout ∷ past) (lasting l.after) ls) k.is s.rest;
     }
 
-record BeginsOn (p : Program) (told : Told) (past : List Seen) (l : Line) (word : Phase) (ls : List Line) : Type 0 where
-  mode : Mode
-  number : ℕ
-  part : Section
-  walk : Walk
-  its : word_of part ≡ word
-  rest : GoesOn p (Running mode number (Within part walk)) told (seen.Section word ∷ past) (lasting l.after) ls
+pub record BeginsOn (p : Program) (told : Told) (past : List Seen) (l : Line) (word : Phase) (ls : List Line) : Type 0 where
+  pub mode : Mode
+  pub number : ℕ
+  pub part : Section
+  pub walk : Walk
+  pub its : word_of part ≡ word
+  pub rest : GoesOn p (Running mode number (Within part walk)) told (seen.Section word ∷ past) (lasting l.after) ls
 
-begins_on : (p : Program) (at : Position) (told : Told) (past : List Seen) (was : Lasting) (l : Line) (word : Phase) (ls : List Line) →
+pub begins_on : (p : Program) (at : Position) (told : Told) (past : List Seen) (was : Lasting) (l : Line) (word : Phase) (ls : List Line) →
     l.seen ≡ seen.Section word → GoesOn p at told past was (l ∷ ls) → BeginsOn p told past l word ls
 begins_on p at told past was l word ls e h = by (steps p at told past was l (seen.Section word) ls e h) where
   by : Step p at told past l (seen.Section word) ls → BeginsOn p told past l word ls
@@ -474,7 +478,7 @@ still_off (x ∷ taken) off id e = at (same_id x id) (still_off taken off id e) 
   at true h = refl
   at false h = h
 
-not_within : (what this : Seen) → is_within what ≡ true → what ≡ this → is_within this ≡ false → ⊥
+pub not_within : (what this : Seen) → is_within what ≡ true → what ≡ this → is_within this ≡ false → ⊥
 not_within what this e f g = both_ways (is_within what) (ap is_within f ∙ g) e
 
 stays : (p : Program) (told : Told) (names : Names) (m : Mode) (i : ℕ) (part : Section) (w : Walk) (l : Line) (to : Position) →
@@ -491,13 +495,13 @@ stays p told names m i part w l to e (doc.finished n v x a b) = record { walk = 
 stays p told names m i part w l to e (doc.cancelled v x a b) = record { walk = w; is = refl; grown = λ id h. h }
 stays p told names m i part w l to e (doc.outside ms a b) = record { walk = w; is = refl; grown = λ id h. h }
 
-record WithinOn (p : Program) (m : Mode) (i : ℕ) (part : Section) (w : Walk) (told : Told) (past : List Seen) (ls : List Line) : Type 0 where
-  walk : Walk
-  was : Lasting
-  grown : (id : Id) → has_id w.off id ≡ true → has_id walk.off id ≡ true
-  rest : GoesOn p (Running m i (Within part walk)) told past was ls
+pub record WithinOn (p : Program) (m : Mode) (i : ℕ) (part : Section) (w : Walk) (told : Told) (past : List Seen) (ls : List Line) : Type 0 where
+  pub walk : Walk
+  pub was : Lasting
+  pub grown : (id : Id) → has_id w.off id ≡ true → has_id walk.off id ≡ true
+  pub rest : GoesOn p (Running m i (Within part walk)) told past was ls
 
-within_on : (p : Program) (m : Mode) (i : ℕ) (part : Section) (xs ls : List Line) (w : Walk) (told : Told) (past : List Seen) (was : Lasting) →
+pub within_on : (p : Program) (m : Mode) (i : ℕ) (part : Section) (xs ls : List Line) (w : Walk) (told : Told) (past : List Seen) (was : Lasting) →
     AllWithin xs → GoesOn p (Running m i (Within part w)) told past was (xs ++ ls) →
     WithinOn p m i part w (told_after p told past xs) (past_after past xs) ls
 within_on p m i part [] ls w told past was a h = record { walk = w; was = was; grown = λ id on. on; rest = h }
@@ -630,11 +634,11 @@ forgotten p told past at was l more asked e h =
     both_ways (lives l.before) (ends_alive p told (names_by p past) l at s.to false e s.goes)
     (request_lives (has_handle l.before) (has_request l.before) (closes_some l.before) asked)
 
-still_runs : (p : Program) (told : Told) (past : List Seen) (at : Position) (was : Lasting) (l : Line) (more : List Line) →
+still_runs : (p : Program) (told : Told) (past : List Seen) (at : Position) (was : Lasting) (l : Line) (more : List Line) → order_of p ≡ V145 →
     lives l.before ≡ false → l.seen ≡ seen.Section phase.Pending → GoesOn p at told past was (l ∷ more) → ⊥
-still_runs p told past at was l more dead e h =
+still_runs p told past at was l more is dead e h =
     let s = steps p at told past was l (seen.Section phase.Pending) more e h in
-    goes_on_there p told (names_by p past) l at s.to e s.goes (ap (λ (b : Bool). b && not l.before.stop_flag) dead)
+    goes_on_there p told (names_by p past) l at s.to e s.goes is (ap (λ (b : Bool). b && not l.before.stop_flag) dead)
 
 ghost_alive : (p : Program) (told : Told) (past : List Seen) (at : Position) (was : Lasting) (l : Line) (more : List Line) →
     lives l.before ≡ false → l.seen ≡ seen.End true → GoesOn p at told past was (l ∷ more) → ⊥
@@ -723,9 +727,9 @@ refused p before more = record {
   forgotten_request = λ l asked e h.
       let k = behind p before (l ∷ more) (Between 0) nothing_told [] at_first h in
       forgotten p (told_after p nothing_told [] before) (past_after [] before) k.at k.was l more asked e k.goes;
-  still_runs = λ l dead e h.
+  still_runs = λ is l dead e h.
       let k = behind p before (l ∷ more) (Between 0) nothing_told [] at_first h in
-      still_runs p (told_after p nothing_told [] before) (past_after [] before) k.at k.was l more dead e k.goes;
+      still_runs p (told_after p nothing_told [] before) (past_after [] before) k.at k.was l more is dead e k.goes;
   ghost_alive = λ l dead e h.
       let k = behind p before (l ∷ more) (Between 0) nothing_told [] at_first h in
       ghost_alive p (told_after p nothing_told [] before) (past_after [] before) k.at k.was l more dead e k.goes;

@@ -1,5 +1,5 @@
 -- Who was sent to, by the lines and by the handles: each step keeps that they agree.
-use Rattle.std.proofs.Common.{◌≡◌, ℕ, ◌+◌, ◌==◌, ◌&&◌, ◌||◌, List, [], ◌∷◌, ◌++◌, Bool, true, false, drop, Option, Some, None, Result, Ok, Err, length, slice_get, nat_le, nat_lt, refl, ap, sym, subst, ◌∙◌, if◌then◌else◌}
+use Rattle.std.proofs.Common.{◌≡◌, ℕ, ◌+◌, ◌==◌, ◌||◌, List, [], ◌∷◌, ◌++◌, Bool, true, false, drop, Option, Some, None, Result, Ok, Err, length, slice_get, nat_le, nat_lt, refl, ap, sym, subst, ◌∙◌, if◌then◌else◌}
 use Rattle.std.specs.Prelude.{option_map, not}
 use Rattle.std.proofs.lemmas.Bool.{cond_both, both_ways, or_parts}
 use Rattle.std.proofs.lemmas.Option.{same_Some}
@@ -21,7 +21,7 @@ use Rattle.uv_script.specs.declared.op.MainOp.TheVariants as main
 use Rattle.uv_script.specs.declared.op.Op.{Op}
 use Rattle.uv_script.specs.declared.op.Op.TheVariants as op
 use Rattle.uv_script.specs.declared.task.Task.{Task}
-use Rattle.uv_script.specs.Program.{Program, arena_size, lines_in, main_op}
+use Rattle.uv_script.specs.Program.{Program, arena_size, lines_in, main_op, order_of}
 use Rattle.uv_records.specs.declared.handle.HandleRecord.{HandleRecord}
 use Rattle.uv_records.specs.declared.lists.WatcherKind.{WatcherKind}
 use Rattle.uv_records.specs.declared.lists.WatcherKind.TheVariants as watcher
@@ -41,7 +41,10 @@ use Rattle.uv_model.specs.declared.place.Run.{Run}
 use Rattle.uv_model.specs.declared.place.Stage.{Stage}
 use Rattle.uv_model.specs.declared.place.Stage.TheVariants.{Entry, Pending, Idle, Prepare, Poll, Done, Async, Check, Closing, Timers}
 use Rattle.uv_model.specs.declared.place.TimersOf.{TimersOf}
-use Rattle.uv_model.specs.declared.place.TimersOf.TheVariants as timers_of
+use Rattle.uv_model.specs.declared.place.Turn.{Turn}
+use Rattle.uv_model.specs.declared.place.Turn.TheVariants.{AtEntry, Behind, BehindClosing}
+use Rattle.uv_model.specs.declared.place.Way.{Way}
+use Rattle.uv_model.specs.declared.place.Way.TheVariants.{ToTimers, ToPending, ToEnd}
 use Rattle.uv_model.specs.declared.place.Timing.{Timing}
 use Rattle.uv_model.specs.declared.place.Timing.TheVariants.{Collecting, Firing}
 use Rattle.uv_model.specs.declared.place.Place.{Place}
@@ -370,10 +373,13 @@ SentFollows p told s (Moves t (Some l)) = SentAt (told_by p told (names_at s) l)
 SentFollows p told s (Moves t None) = SentAt told.sent t
 SentFollows p told s (Refuses why) = Unit {0}
 
-leave_sent : (p : Program) (told : Told) (s : State) (run : Run) (part : TimersOf) → SentAt told.sent s →
-    SentFollows p told s (step.leave_timers s run part)
-leave_sent p told s run timers_of.Entry k = cond_both (goes s) _ _ (SentFollows p told s) (λ g. k) (λ g. k)
-leave_sent p told s run timers_of.Iteration k = cond_both (is_default run.mode && goes s) _ _ (SentFollows p told s) (λ g. k) (λ g. k)
+turn_sent : (p : Program) (told : Told) (s : State) (run : Run) (turn : Turn) → SentAt told.sent s →
+    SentFollows p told s (step.turns (order_of p) s run turn)
+turn_sent p told s run turn k = by (step.way (order_of p) run.mode (goes s) turn) where
+  by : (w : Way) → SentFollows p told s (step.goes_by (order_of p) s run w)
+  by (ToTimers part) = k
+  by ToPending = k
+  by ToEnd = k
 
 -- a handle that isn't an async one isn't pending
 not_pending : (sent : List Id) (slots : List (Slot Content)) (id : Id) (h : HandleRecord) (q : Kind) → held_at slots id ≡ Some h → h.kind ≡ q →
@@ -386,7 +392,7 @@ not_pending sent slots id h q e is apart k = at h.pending refl where
 fire_sent : (p : Program) (told : Told) (s : State) (run : Run) (part : TimersOf) → Kept s → SentAt told.sent s →
     SentFollows p told s (step.fire p s run part)
 fire_sent p told s run part kept k = found_both (front s s.ready) _ _ (SentFollows p told s) (λ t e. fired t (front_of s s.ready t e))
-    (λ e. leave_sent p told s run part k)
+    (λ e. turn_sent p told s run (Behind part) k)
   where
     fired : (t : Id × HandleRecord) → FrontOf s s.ready t →
         SentAt (without_id told.sent t.0) (restarted (record s { ready = drop 1 s.ready }) t.0 t.1)
@@ -439,7 +445,7 @@ async_sent p told s run k = found_both (front s s.async.yet) _ _ (SentFollows p 
 
 close_front_sent : (p : Program) (told : Told) (s : State) (run : Run) → Kept s → SentAt told.sent s → SentFollows p told s (step.close_front p s run)
 close_front_sent p told s run kept k = found_both (front s s.closing.yet) _ _ (SentFollows p told s)
-    (λ t e. gone t (front_of s s.closing.yet t e)) (λ e. k)
+    (λ t e. gone t (front_of s s.closing.yet t e)) (λ e. turn_sent p told s run BehindClosing k)
   where
     gone : (t : Id × HandleRecord) → FrontOf s s.closing.yet t → Sent told.sent (freed (arena_size p).last_generation t.0 s.arena).slots
     gone t f =
@@ -462,8 +468,7 @@ collect_sent p told s run k = found_both (front_request s s.done.yet) _ _ (SentF
 
 stage_sent : (p : Program) (told : Told) (s : State) (run : Run) (x : Stage) → Kept s → SentAt told.sent s →
     SentFollows p told s (step.stage_step p s run x)
-stage_sent p told s run Entry kept k = cond_both (goes s) _ _ (SentFollows p told s)
-    (λ g. cond_both (is_default run.mode) _ _ (SentFollows p told s) (λ d. k) (λ d. k)) (λ g. k)
+stage_sent p told s run Entry kept k = turn_sent p told s run AtEntry k
 stage_sent p told s run Pending kept k = k
 stage_sent p told s run Idle kept k =
     walk_sent p told s run watcher.Idle (λ t f. unsent_called s told.sent kind.Idle s.idle t (λ c. cc c) kept.idle f k) k
@@ -490,9 +495,9 @@ body_sent p told s run body (Some line) e kept k =
     placed_sent p s told.sent line.op _ (ap (option_map (λ (x : CallbackLine). x.op)) e) kept k
 
 main_sent : (p : Program) (told : Told) (s : State) (i : ℕ) (x : Option MainOp) → slice_get p.main i ≡ x → Kept s → SentAt told.sent s →
-    SentFollows p told s (step.main_step s i x)
+    SentFollows p told s (step.main_step (order_of p) s i x)
 main_sent p told s i None e kept k = tt
-main_sent p told s i (Some (main.Run m)) e kept k = cond_both (is_default m) (refreshed s) s (SentAt told.sent) (λ d. k) (λ d. k)
+main_sent p told s i (Some (main.Run m)) e kept k = cond_both (step.refreshes (order_of p) m) (refreshed s) s (SentAt told.sent) (λ d. k) (λ d. k)
 main_sent p told s i (Some (main.Op o)) e kept k = placed_sent p s told.sent o _ (ap main_op e) kept k
 
 run_sent : (p : Program) (told : Told) (s : State) (run : Run) (body : Option Body) → Kept s → SentAt told.sent s →

@@ -1,5 +1,7 @@
 -- Where a state stands in the documented order, and the lists of the sections there.
-use Rattle.std.proofs.Common.{◌≡◌, ℕ, ◌&&◌, List, [], ◌++◌, Bool, true, false, Option, Some, None, refl, ap, sym, subst, ◌∙◌, append-nil}
+use Rattle.std.proofs.Common.{◌≡◌, ℕ, List, [], ◌++◌, Bool, true, false, Option, Some, None, refl, ap, sym, subst, ◌∙◌, append-nil}
+use Rattle.uv_ids.specs.declared.order.Order.{Order}
+use Rattle.uv_ids.specs.declared.order.Order.TheVariants.{V144, V145}
 use Rattle.uv_ids.specs.declared.id.Id.{Id}
 use Rattle.uv_ids.specs.declared.due.Due.{Due}
 use Rattle.uv_ids.specs.declared.phase.Kind.{Kind}
@@ -15,6 +17,10 @@ use Rattle.uv_model.specs.declared.place.Stage.{Stage}
 use Rattle.uv_model.specs.declared.place.Stage.TheVariants as stage
 use Rattle.uv_model.specs.declared.place.TimersOf.{TimersOf}
 use Rattle.uv_model.specs.declared.place.TimersOf.TheVariants as timers_of
+use Rattle.uv_model.specs.declared.place.Turn.{Turn}
+use Rattle.uv_model.specs.declared.place.Turn.TheVariants.{AtEntry, Behind, BehindClosing}
+use Rattle.uv_model.specs.declared.place.Way.{Way}
+use Rattle.uv_model.specs.declared.place.Way.TheVariants.{ToTimers, ToPending, ToEnd}
 use Rattle.uv_model.specs.declared.place.Timing.TheVariants.{Collecting, Firing}
 use Rattle.uv_model.specs.declared.place.Place.{Place}
 use Rattle.uv_model.specs.declared.place.Place.TheVariants as place
@@ -22,7 +28,7 @@ use Rattle.uv_records.specs.Walks.{Walk as Listed}
 use Rattle.uv_records.specs.declared.slot.Slot.{Slot}
 use Rattle.uv_model.specs.declared.content.Content.{Content}
 use Rattle.uv_model.specs.State.{State}
-use Rattle.uv_model.specs.Next.{Next, Moves, Refuses, goes, is_default}
+use Rattle.uv_model.specs.Next.{Next, Moves, Refuses, way, time_at, idled_at, idled_then}
 use Rattle.uv_order.specs.Line.{Line}
 use Rattle.uv_order.specs.Active.{has_id, IsTimer, AreTimers, AreDistinct, IsActive, AreActive, IsClosing, AreClosing, IsEnded, AreEnded, IsOpened, AreOpened, run_ids}
 use Rattle.uv_order.specs.Documented as doc
@@ -204,85 +210,108 @@ Follows p told at s (Refuses why) = Unit {0}
 
 -- ---- the order of the parts
 
-abbrev pub Default_goes : Mode → State → Type 0
-Default_goes m s = (is_default m && goes s) ≡ true
+-- the part that is left at a turn, and the one that is reached by a way
+abbrev pub left : Turn → doc.Part
+left AtEntry = doc.Start
+left (Behind part) = doc.Of (section_of part)
+left BehindClosing = doc.Of (In phase.Closing)
 
-pub start_default : (m : Mode) (go : Bool) → go ≡ true → is_default m ≡ true → part_after m go doc.Start ≡ doc.Of Entry
-start_default Default go g d = rw g refl
-start_default Once go g d = cc d
-start_default Nowait go g d = cc d
+abbrev pub reached_by : Way → doc.Part
+reached_by (ToTimers part) = doc.Of (section_of part)
+reached_by ToPending = doc.Of (In phase.Pending)
+reached_by ToEnd = doc.End
 
-pub start_other : (m : Mode) (go : Bool) → go ≡ true → is_default m ≡ false → part_after m go doc.Start ≡ doc.Of (In phase.Pending)
-start_other Default go g d = cc d
-start_other Once go g d = rw g refl
-start_other Nowait go g d = rw g refl
+-- the table of the step is that of the documented order
+pub ways_agree : (o : Order) (m : Mode) (go : Bool) (turn : Turn) → part_after o m go (left turn) ≡ reached_by (way o m go turn)
+ways_agree V144 Default true AtEntry = refl
+ways_agree V144 Default true (Behind timers_of.Entry) = refl
+ways_agree V144 Default true (Behind timers_of.Iteration) = refl
+ways_agree V144 Default true BehindClosing = refl
+ways_agree V144 Default false AtEntry = refl
+ways_agree V144 Default false (Behind timers_of.Entry) = refl
+ways_agree V144 Default false (Behind timers_of.Iteration) = refl
+ways_agree V144 Default false BehindClosing = refl
+ways_agree V144 Once true AtEntry = refl
+ways_agree V144 Once true (Behind timers_of.Entry) = refl
+ways_agree V144 Once true (Behind timers_of.Iteration) = refl
+ways_agree V144 Once true BehindClosing = refl
+ways_agree V144 Once false AtEntry = refl
+ways_agree V144 Once false (Behind timers_of.Entry) = refl
+ways_agree V144 Once false (Behind timers_of.Iteration) = refl
+ways_agree V144 Once false BehindClosing = refl
+ways_agree V144 Nowait true AtEntry = refl
+ways_agree V144 Nowait true (Behind timers_of.Entry) = refl
+ways_agree V144 Nowait true (Behind timers_of.Iteration) = refl
+ways_agree V144 Nowait true BehindClosing = refl
+ways_agree V144 Nowait false AtEntry = refl
+ways_agree V144 Nowait false (Behind timers_of.Entry) = refl
+ways_agree V144 Nowait false (Behind timers_of.Iteration) = refl
+ways_agree V144 Nowait false BehindClosing = refl
+ways_agree V145 Default true AtEntry = refl
+ways_agree V145 Default true (Behind timers_of.Entry) = refl
+ways_agree V145 Default true (Behind timers_of.Iteration) = refl
+ways_agree V145 Default true BehindClosing = refl
+ways_agree V145 Default false AtEntry = refl
+ways_agree V145 Default false (Behind timers_of.Entry) = refl
+ways_agree V145 Default false (Behind timers_of.Iteration) = refl
+ways_agree V145 Default false BehindClosing = refl
+ways_agree V145 Once true AtEntry = refl
+ways_agree V145 Once true (Behind timers_of.Entry) = refl
+ways_agree V145 Once true (Behind timers_of.Iteration) = refl
+ways_agree V145 Once true BehindClosing = refl
+ways_agree V145 Once false AtEntry = refl
+ways_agree V145 Once false (Behind timers_of.Entry) = refl
+ways_agree V145 Once false (Behind timers_of.Iteration) = refl
+ways_agree V145 Once false BehindClosing = refl
+ways_agree V145 Nowait true AtEntry = refl
+ways_agree V145 Nowait true (Behind timers_of.Entry) = refl
+ways_agree V145 Nowait true (Behind timers_of.Iteration) = refl
+ways_agree V145 Nowait true BehindClosing = refl
+ways_agree V145 Nowait false AtEntry = refl
+ways_agree V145 Nowait false (Behind timers_of.Entry) = refl
+ways_agree V145 Nowait false (Behind timers_of.Iteration) = refl
+ways_agree V145 Nowait false BehindClosing = refl
 
-pub start_end : (m : Mode) (go : Bool) → go ≡ false → part_after m go doc.Start ≡ doc.End
-start_end Default go g = rw g refl
-start_end Once go g = rw g refl
-start_end Nowait go g = rw g refl
+-- so is what the lines of the sections set
+pub timers_last : (o : Order) (part : TimersOf) (s : State) →
+    record (lasting s) { time = time_at o part s; idled = idled_at o part s } ≡ doc.after_section o (section_of part) s
+timers_last V144 timers_of.Entry s = refl
+timers_last V144 timers_of.Iteration s = refl
+timers_last V145 timers_of.Entry s = refl
+timers_last V145 timers_of.Iteration s = refl
 
-pub entry_next : (m : Mode) (go : Bool) → go ≡ true → part_after m go (doc.Of Entry) ≡ doc.Of (In phase.Pending)
-entry_next Default go g = rw g refl
-entry_next Once go g = rw g refl
-entry_next Nowait go g = rw g refl
-
-pub entry_end : (m : Mode) (go : Bool) → go ≡ false → part_after m go (doc.Of Entry) ≡ doc.End
-entry_end Default go g = rw g refl
-entry_end Once go g = rw g refl
-entry_end Nowait go g = rw g refl
-
-pub timers_next : (m : Mode) (go : Bool) → (is_default m && go) ≡ true → part_after m go (doc.Of (In phase.Timers)) ≡ doc.Of (In phase.Pending)
-timers_next Default go g = rw g refl
-timers_next Once go g = cc g
-timers_next Nowait go g = cc g
-
-pub timers_end : (m : Mode) (go : Bool) → (is_default m && go) ≡ false → part_after m go (doc.Of (In phase.Timers)) ≡ doc.End
-timers_end Default go g = rw g refl
-timers_end Once go g = refl
-timers_end Nowait go g = refl
+pub pending_lasts : (o : Order) (s : State) → record (lasting s) { idled = idled_then o s } ≡ doc.after_section o (In phase.Pending) s
+pending_lasts V144 s = refl
+pending_lasts V145 s = refl
 
 -- a part that one part follows, whether the loop goes on or not
 abbrev pub IsNext : doc.Part → doc.Part → Type 0
-IsNext a b = (m : Mode) (go : Bool) → part_after m go a ≡ b
-
-pub by_mode : (a b : doc.Part) → part_after Default true a ≡ b → part_after Default false a ≡ b → part_after Once true a ≡ b →
-    part_after Once false a ≡ b →
-    part_after Nowait true a ≡ b → part_after Nowait false a ≡ b → IsNext a b
-by_mode a b c d e f g h Default true = c
-by_mode a b c d e f g h Default false = d
-by_mode a b c d e f g h Once true = e
-by_mode a b c d e f g h Once false = f
-by_mode a b c d e f g h Nowait true = g
-by_mode a b c d e f g h Nowait false = h
+IsNext a b = (o : Order) (m : Mode) (go : Bool) → part_after o m go a ≡ b
 
 -- a section of an iteration
 abbrev pub section_at : Phase → doc.Part
 section_at word = doc.Of (In word)
 
 pub idle_next : IsNext (section_at phase.Pending) (section_at phase.Idle)
-idle_next = by_mode (section_at phase.Pending) (section_at phase.Idle) refl refl refl refl refl refl
+idle_next o m go = refl
 
 pub prepare_next : IsNext (section_at phase.Idle) (section_at phase.Prepare)
-prepare_next = by_mode (section_at phase.Idle) (section_at phase.Prepare) refl refl refl refl refl refl
+prepare_next o m go = refl
 
 pub poll_next : IsNext (section_at phase.Prepare) doc.Poll
-poll_next = by_mode (section_at phase.Prepare) doc.Poll refl refl refl refl refl refl
+poll_next o m go = refl
 
 pub done_next : IsNext doc.Poll (section_at phase.Done)
-done_next = by_mode doc.Poll (section_at phase.Done) refl refl refl refl refl refl
+done_next o m go = refl
 
 pub async_next : IsNext (section_at phase.Done) (section_at phase.Async)
-async_next = by_mode (section_at phase.Done) (section_at phase.Async) refl refl refl refl refl refl
+async_next o m go = refl
 
 pub check_next : IsNext (section_at phase.Async) (section_at phase.Check)
-check_next = by_mode (section_at phase.Async) (section_at phase.Check) refl refl refl refl refl refl
+check_next o m go = refl
 
 pub closing_next : IsNext (section_at phase.Check) (section_at phase.Closing)
-closing_next = by_mode (section_at phase.Check) (section_at phase.Closing) refl refl refl refl refl refl
-
-pub timers_after : IsNext (section_at phase.Closing) (section_at phase.Timers)
-timers_after = by_mode (section_at phase.Closing) (section_at phase.Timers) refl refl refl refl refl refl
+closing_next o m go = refl
 
 -- ---- lists of sections
 

@@ -1,5 +1,5 @@
 -- The timers of the entry and of an iteration, and callbacks: each step goes on from where the state stands.
-use Rattle.std.proofs.Common.{◌≡◌, inl, ℕ, ◌+◌, ◌==◌, ◌&&◌, List, [], ◌∷◌, ◌++◌, Bool, true, false, drop, Option, Some, None, nat_le, refl, ap, sym, ◌∙◌, append_assoc, append-nil, if◌then◌else◌}
+use Rattle.std.proofs.Common.{◌≡◌, inl, ℕ, ◌+◌, ◌==◌, List, [], ◌∷◌, ◌++◌, Bool, true, false, drop, Option, Some, None, nat_le, refl, ap, sym, ◌∙◌, append_assoc, append-nil, if◌then◌else◌}
 use Rattle.std.specs.Prelude.{option_map}
 use Rattle.std.proofs.lemmas.Bool.{cond_both}
 use Rattle.uv_ids.specs.declared.id.Id.{Id}
@@ -9,22 +9,25 @@ use Rattle.uv_ids.specs.declared.phase.Phase.TheVariants as phase
 use Rattle.uv_ids.specs.declared.seen.Seen.TheVariants as seen
 use Rattle.uv_ids.specs.declared.seen.Callback.{Callback}
 use Rattle.uv_ids.specs.declared.seen.Callback.TheVariants as callback
-use Rattle.uv_script.specs.Program.{Program}
+use Rattle.uv_script.specs.Program.{Program, order_of}
 use Rattle.uv_records.specs.declared.handle.HandleRecord.{HandleRecord}
 use Rattle.uv_model.specs.declared.named.Named.{Named}
 use Rattle.uv_model.specs.declared.place.Run.{Run}
 use Rattle.uv_model.specs.declared.place.Stage.TheVariants as stage
 use Rattle.uv_model.specs.declared.place.TimersOf.{TimersOf}
 use Rattle.uv_model.specs.declared.place.TimersOf.TheVariants as timers_of
+use Rattle.uv_model.specs.declared.place.Turn.{Turn}
+use Rattle.uv_model.specs.declared.place.Turn.TheVariants.{Behind}
+use Rattle.uv_model.specs.declared.place.Way.{Way}
+use Rattle.uv_model.specs.declared.place.Way.TheVariants.{ToTimers, ToPending, ToEnd}
 use Rattle.uv_model.specs.declared.place.Timing.TheVariants.{Collecting, Firing}
-use Rattle.uv_model.specs.declared.place.Place.TheVariants as place
 use Rattle.uv_model.specs.State.{State, handle, with_id, front, named, with_named, counted, count_of}
 use Rattle.uv_model.specs.Timers.{started, restarted}
 use Rattle.uv_model.specs.Timeout.{is_alive}
 use Rattle.uv_model.specs.Next as step
 use Rattle.uv_model.specs.Next.{Next, Moves, Refuses, next, goes, is_default, call, calls, first_due, collected, front_moved, may_leave, body_from}
 use Rattle.uv_order.specs.Alive.{lives}
-use Rattle.uv_order.specs.Active.{AreDue, has_id}
+use Rattle.uv_order.specs.Active.{has_id}
 use Rattle.uv_order.specs.Documented as doc
 use Rattle.uv_order.specs.Documented.{Told, nothing_told, told_of, told_by, Lasting, lasting, at_first, Section, Entry, In, word_of, part_after, part_of, Walk, Opens, IsOver, CallsNext, MayCall, is_called, callback_in, IsCallLine, Standing, Begun, Within, Polling, MayLeave, PollsFor, Position, Between, Running, Goes, GoesOn, cut, line, Documented, body_of, next_call, taken_off}
 use Rattle.uv_model.proofs.Found.{found_both}
@@ -36,128 +39,7 @@ use Rattle.uv_order.proofs.KeptSteps.{FrontOf, front_of, no_front, FirstOf, firs
 use Rattle.uv_order.proofs.Bodies.{IsBody}
 use Rattle.uv_order.proofs.Lives.{goes_is}
 use Rattle.uv_order.proofs.Counted.{Counted, counted_call, told_call, next_body}
-use Rattle.uv_order.proofs.Standing.{bare, begun_with, section_of, Rest, rest, Leaves, NobodyLeft, due_now, Follows, start_default, start_other, start_end, entry_next, entry_end, timers_next, timers_end, are_timers, due_distinct, opens_bare, pending, collects, fires, between, running}
-
--- ---- the timers of the entry, and the end of timers
-
-pub enter_follows : (p : Program) (told : Told) (s : State) (run : Run) → lives s ≡ is_alive s → Kept s → Counted p s.names told → NobodyLeft
-    (rest s.ready s) →
-    Follows p told (Running run.mode run.line Begun) s (step.enter s run)
-enter_follows p told s run alive k c e = cond_both (goes s) _ _ (Follows p told (Running run.mode run.line Begun) s)
-    (λ g. cond_both (is_default run.mode) _ _ (Follows p told (Running run.mode run.line Begun) s)
-    (λ d. record {
-      to = Running run.mode run.line (Within Entry (begun_with (due_now s)));
-      goes = doc.section Entry tt (start_default run.mode (doc.goes_on s) (goes_is s alive ∙ g) d) refl
-          (record { list = due_list; off = refl; sent = refl; body = refl }) refl;
-      stands = record {
-        stands = running (collects refl) (record {
-          timers = ap (λ (ids : List Id). ids ++ due_now s) e.timers ∙ sym (none_off
-              (due_now s));
-          idle = e.idle;
-          prepare = e.prepare;
-          check = e.check;
-          async = e.async;
-          closing = e.closing;
-          done = e.done;
-        });
-        counted = c;
-      };
-    })
-    (λ d. record {
-      to = Running run.mode run.line (Within (In phase.Pending) bare);
-      goes = doc.section (In phase.Pending) tt (start_other run.mode (doc.goes_on s) (goes_is s alive ∙ g) d) refl
-          (opens_bare phase.Pending told _ refl refl) refl;
-      stands = record {
-        stands = running pending (record {
-          timers = e.timers;
-          idle = e.idle;
-          prepare = e.prepare;
-          check = e.check;
-          async = e.async;
-          closing = e.closing;
-          done = e.done;
-        });
-        counted = c;
-      };
-    }))
-    (λ g. record {
-      to = Between (run.line + 1);
-      goes = doc.ends tt (start_end run.mode (doc.goes_on s) (goes_is s alive ∙ g)) (ap seen.End (sym alive)) refl;
-      stands = record {
-        stands = between (record {
-          timers = e.timers;
-          idle = e.idle;
-          prepare = e.prepare;
-          check = e.check;
-          async = e.async;
-          closing = e.closing;
-          done = e.done;
-        });
-        counted = c;
-      };
-    })
-  where
-    due_list : AreDue (record s { place = place.Running (record run { stage = stage.Timers timers_of.Entry Collecting; body = None }) }) (due_now s)
-    due_list = record { timers = s.timers; are = are_timers _ s.timers s.next_start k.timers; due = refl; distinct = due_distinct s s.time k }
-
-pub goes_iteration : (p : Program) (told : Told) (s : State) (run : Run) (part : TimersOf) (w : Walk) →
-    part_after run.mode (doc.goes_on s) (doc.Of (section_of part)) ≡ doc.Of (In phase.Pending) → IsOver (word_of (section_of part)) w →
-    Counted p s.names
-    told →
-    NobodyLeft (rest s.ready s) → Follows p told (Running run.mode run.line (Within (section_of part) w)) s (step.new_iteration s run)
-goes_iteration p told s run part w d over c e = record {
-  to = Running run.mode run.line (Within (In phase.Pending) bare);
-  goes = doc.section (In phase.Pending) over d refl (opens_bare phase.Pending told _ refl refl) refl;
-  stands = record {
-    stands = running pending (record {
-      timers = e.timers;
-      idle = e.idle;
-      prepare = e.prepare;
-      check = e.check;
-      async = e.async;
-      closing = e.closing;
-      done = e.done;
-    });
-    counted = c;
-  };
-}
-
-pub goes_end : (p : Program) (told : Told) (s : State) (run : Run) (part : TimersOf) (w : Walk) → lives s ≡ is_alive s → part_after run.mode
-    (doc.goes_on s) (doc.Of (section_of
-    part)) ≡ doc.End →
-    IsOver (word_of (section_of part)) w → Counted p s.names told → NobodyLeft (rest s.ready s) →
-    Follows p told (Running run.mode run.line (Within (section_of part) w)) s (step.ends s run)
-goes_end p told s run part w alive d over c e = record {
-  to = Between (run.line + 1);
-  goes = doc.ends over d (ap seen.End (sym alive)) refl;
-  stands = record {
-    stands = between (record {
-      timers = e.timers;
-      idle = e.idle;
-      prepare = e.prepare;
-      check = e.check;
-      async = e.async;
-      closing = e.closing;
-      done = e.done;
-    });
-    counted = c;
-  };
-}
-
-pub leave_follows : (p : Program) (told : Told) (s : State) (run : Run) (part : TimersOf) (w : Walk) → lives s ≡ is_alive s → IsOver
-    (word_of (section_of part)) w →
-    Counted p
-    s.names told →
-    NobodyLeft (rest s.ready s) → Follows p told (Running run.mode run.line (Within (section_of part) w)) s (step.leave_timers s run part)
-leave_follows p told s run timers_of.Entry w alive over c e = cond_both (goes s) _ _ (Follows p told (Running run.mode run.line (Within Entry w)) s)
-    (λ g. goes_iteration p told s run timers_of.Entry w (entry_next run.mode (doc.goes_on s) (goes_is s alive ∙ g)) over c e)
-    (λ g. goes_end p told s run timers_of.Entry w alive (entry_end run.mode (doc.goes_on s) (goes_is s alive ∙ g)) over c e)
-leave_follows p told s run timers_of.Iteration w alive over c e =
-    cond_both (is_default run.mode && goes s) _ _ (Follows p told (Running run.mode run.line (Within (In phase.Timers) w)) s)
-    (λ g. goes_iteration p told s run timers_of.Iteration w (timers_next run.mode (doc.goes_on s)
-    (ap (λ (b : Bool). is_default run.mode && b) (goes_is s alive) ∙ g)) over c e)
-    (λ g. goes_end p told s run timers_of.Iteration w alive (timers_end run.mode (doc.goes_on s)
-    (ap (λ (b : Bool). is_default run.mode && b) (goes_is s alive) ∙ g)) over c e)
+use Rattle.uv_order.proofs.Standing.{bare, begun_with, section_of, Rest, rest, Leaves, NobodyLeft, due_now, Stands, Follows, left, reached_by, ways_agree, timers_last, pending_lasts, are_timers, due_distinct, opens_bare, pending, collects, fires, between, running}
 
 -- ---- callbacks
 
@@ -253,6 +135,99 @@ left_timers timers_of.Iteration r w l = record {
   done = l.done;
 }
 
+-- ---- turns
+
+-- a run goes on from a turn
+pub turn_follows : (p : Program) (told : Told) (s : State) (run : Run) (turn : Turn) (at : Standing) → lives s ≡ is_alive s → part_of at ≡ left turn →
+    MayLeave s told at → Kept s → Counted p s.names told → NobodyLeft (rest s.ready s) →
+    Follows p told (Running run.mode run.line at) s (step.turns (order_of p) s run turn)
+turn_follows p told s run turn at alive is over k c e =
+    by (step.way (order_of p) run.mode (goes s) turn)
+    (ap (part_after (order_of p) run.mode (doc.goes_on s)) is
+    ∙ ap (λ (go : Bool). part_after (order_of p) run.mode go (left turn)) (goes_is s alive) ∙ ways_agree (order_of p) run.mode (goes s) turn)
+  where
+    nobody : NobodyLeft (rest s.ready s)
+    nobody = record {
+      timers = e.timers;
+      idle = e.idle;
+      prepare = e.prepare;
+      check = e.check;
+      async = e.async;
+      closing = e.closing;
+      done = e.done;
+    }
+
+    due : TimersOf → List Id
+    due part = due_ids (step.time_at (order_of p) part s) s.timers
+
+    begun : TimersOf → State
+    begun part = step.at (record s { time = step.time_at (order_of p) part s; idled = step.idled_at (order_of p) part s }) run
+        (stage.Timers part Collecting)
+
+    opens : (part : TimersOf) → Opens phase.Timers told (record { before = s; seen = seen.Section phase.Timers; after = begun part })
+        (begun_with (due part))
+    opens part = record {
+      list = record {
+        timers = s.timers;
+        are = are_timers _ s.timers s.next_start k.timers;
+        due = refl;
+        distinct = due_distinct s (step.time_at (order_of p) part s) k;
+      };
+      off = refl;
+      sent = refl;
+      body = refl;
+    }
+
+    stands : (part : TimersOf) → Stands p told (begun part) (Running run.mode run.line (Within (section_of part) (begun_with (due part))))
+    stands part = record {
+      stands = running (collects refl) (timers_left part _ _ (record {
+        ready = ap (λ (ids : List Id). ids ++ due part) e.timers ∙ sym (none_off (due part));
+        idle = e.idle;
+        prepare = e.prepare;
+        check = e.check;
+        async = e.async;
+        closing = e.closing;
+        done = e.done;
+      }));
+      counted = c;
+    }
+
+    by : (w : Way) → part_after (order_of p) run.mode (doc.goes_on s) (part_of at) ≡ reached_by w →
+        Follows p told (Running run.mode run.line at) s (step.goes_by (order_of p) s run w)
+    by (ToTimers timers_of.Entry) g = record {
+      to = Running run.mode run.line (Within Entry (begun_with (due timers_of.Entry)));
+      goes = doc.section Entry over g refl (opens timers_of.Entry) (timers_last (order_of p) timers_of.Entry s);
+      stands = stands timers_of.Entry;
+    }
+    by (ToTimers timers_of.Iteration) g = record {
+      to = Running run.mode run.line (Within (In phase.Timers) (begun_with (due timers_of.Iteration)));
+      goes = doc.section (In phase.Timers) over g refl (opens timers_of.Iteration) (timers_last (order_of p) timers_of.Iteration s);
+      stands = stands timers_of.Iteration;
+    }
+    by ToPending g = record {
+      to = Running run.mode run.line (Within (In phase.Pending) bare);
+      goes = doc.section (In phase.Pending) over g refl (opens_bare phase.Pending told _ refl refl) (pending_lasts (order_of p) s);
+      stands = record {
+        stands = running pending (record {
+          timers = e.timers;
+          idle = e.idle;
+          prepare = e.prepare;
+          check = e.check;
+          async = e.async;
+          closing = e.closing;
+          done = e.done;
+        });
+        counted = c;
+      };
+    }
+    by ToEnd g = record {
+      to = Between (run.line + 1);
+      goes = doc.ends over g (ap seen.End (sym alive)) refl;
+      stands = record { stands = between nobody; counted = c };
+    }
+
+-- ---- the calls of timers
+
 pub timers_word : (part : TimersOf) → callback_in (word_of (section_of part)) ≡ callback.Handle
 timers_word timers_of.Entry = refl
 timers_word timers_of.Iteration = refl
@@ -321,7 +296,8 @@ fire_follows p told s run part w alive k c l b =
     found_both (front s s.ready) _ _ (Follows p told (Running run.mode run.line (Within (section_of part) w)) s)
     (λ t e. fired o t (front_of s s.ready t e))
     (λ e. let none : s.ready ≡ [] = no_front s Rests s.ready k.ready.each e in
-    leave_follows p told s run part w alive (timers_over part w b (all_off w.ahead w.off (sym o.ready ∙ none))) c
+    turn_follows p told s run (Behind part) (Within (section_of part) w) alive refl
+    (timers_over part w b (all_off w.ahead w.off (sym o.ready ∙ none))) k c
     (record { timers = none; idle = o.idle; prepare = o.prepare; check = o.check; async = o.async; closing = o.closing; done = o.done }))
   where
     fired : OnlyReady (rest s.ready s) w → (t : Id × HandleRecord) → FrontOf s s.ready t →

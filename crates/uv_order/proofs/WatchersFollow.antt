@@ -7,13 +7,11 @@ use Rattle.uv_ids.specs.declared.phase.Kind.TheVariants as kind
 use Rattle.uv_ids.specs.declared.phase.Phase.TheVariants as phase
 use Rattle.uv_ids.specs.declared.seen.Seen.TheVariants as seen
 use Rattle.uv_ids.specs.declared.seen.Callback.TheVariants as callback
-use Rattle.uv_script.specs.Program.{Program, arena_size}
+use Rattle.uv_script.specs.Program.{Program, arena_size, order_of}
 use Rattle.uv_records.specs.declared.handle.HandleRecord.{HandleRecord}
 use Rattle.uv_model.specs.declared.place.Run.{Run}
 use Rattle.uv_model.specs.declared.place.Stage.TheVariants as stage
-use Rattle.uv_model.specs.declared.place.TimersOf.TheVariants as timers_of
-use Rattle.uv_model.specs.declared.place.Timing.TheVariants.{Collecting}
-use Rattle.uv_model.specs.declared.place.Place.TheVariants as place
+use Rattle.uv_model.specs.declared.place.Turn.TheVariants.{BehindClosing}
 use Rattle.uv_records.specs.declared.lists.WatcherKind.{WatcherKind}
 use Rattle.uv_records.specs.declared.lists.WatcherKind.TheVariants as watcher
 use Rattle.uv_records.specs.Handles as records
@@ -25,17 +23,16 @@ use Rattle.uv_model.specs.declared.content.Content.TheVariants as content
 use Rattle.uv_model.specs.declared.request.Request.{Request}
 use Rattle.uv_model.specs.Content.{request_in, digest_in}
 use Rattle.uv_model.specs.Ids.{same_id}
-use Rattle.uv_model.specs.State.{State, with_handle, front, front_request, watched, refreshed}
+use Rattle.uv_model.specs.State.{State, with_handle, front, front_request, watched}
 use Rattle.uv_model.specs.Timeout.{is_alive, poll_timeout, deadline_of}
 use Rattle.uv_model.specs.Next as step
 use Rattle.uv_model.specs.Next.{Next, Moves, Refuses, next, goes, is_default, call, calls, first_due, collected, front_moved, may_leave, body_from}
-use Rattle.uv_order.specs.Active.{has_id, AreDistinct, AreDue}
+use Rattle.uv_order.specs.Active.{has_id, AreDistinct}
 use Rattle.uv_order.specs.Alive.{lives}
 use Rattle.uv_order.specs.Documented as doc
 use Rattle.uv_order.specs.Documented.{Told, nothing_told, told_of, told_by, AllOff, AllOffOrUnsent, Lasting, lasting, at_first, Section, Entry, In, word_of, part_after, part_of, Walk, Opens, IsOver, CallsNext, MayCall, is_called, callback_in, IsCallLine, Standing, Begun, Within, Polling, MayLeave, PollsFor, Position, Between, Running, Goes, GoesOn, cut, line, Documented, body_of, next_call, taken_off}
 use Rattle.uv_model.proofs.Found.{found_both}
 use Rattle.uv_order.proofs.IdLists.{left_of, none_off, all_off, each_back, distinct_back, same, itself}
-use Rattle.uv_order.proofs.TimerKeys.{due_ids}
 use Rattle.uv_order.proofs.Holding.{name_in, SameHandles, same_handles, Fits, Everyone}
 use Rattle.uv_order.proofs.Asked.{freed_turns, FrontRequest, request_front}
 use Rattle.uv_order.proofs.Works.{HasEnded}
@@ -46,8 +43,8 @@ use Rattle.uv_order.proofs.KeptSteps.{FrontOf, front_of, no_front}
 use Rattle.uv_order.proofs.Lives.{may_wait_is}
 use Rattle.uv_order.proofs.Counted.{Counted}
 use Rattle.uv_order.proofs.Sends.{pends, pends_in, pends_there, SentAt, either_right, pass_both, pass_off}
-use Rattle.uv_order.proofs.Standing.{begun_with, async_with, rest, Leaves, NobodyLeft, Follows, IsNext, async_next, async_moved, prepare_next, poll_next, check_next, closing_next, timers_after, are_timers, due_distinct, are_active, are_closing, idle, prepare, polls, done, async, check, closing, collects, running}
-use Rattle.uv_order.proofs.TimersFollow.{named_of, next_of, call_counted, its_body, called}
+use Rattle.uv_order.proofs.Standing.{begun_with, async_with, rest, Leaves, NobodyLeft, Follows, IsNext, async_next, async_moved, prepare_next, poll_next, check_next, closing_next, are_timers, are_active, are_closing, idle, prepare, polls, done, async, check, closing, running}
+use Rattle.uv_order.proofs.TimersFollow.{turn_follows, named_of, next_of, call_counted, its_body, called}
 
 -- ---- sections of watchers, and of async handles
 
@@ -75,7 +72,7 @@ pub begin_follows : (p : Program) (told : Told) (s : State) (run : Run) (q : Wat
     Follows p told (Running run.mode run.line at) s (step.begin_walk s run q)
 begin_follows p told s run watcher.Idle at over next k h c e = record {
   to = Running run.mode run.line (Within (In phase.Idle) (begun_with s.idle.list));
-  goes = doc.section (In phase.Idle) over (next run.mode (doc.goes_on s)) refl (opens_watched told s _ watcher.Idle k e.idle) refl;
+  goes = doc.section (In phase.Idle) over (next (order_of p) run.mode (doc.goes_on s)) refl (opens_watched told s _ watcher.Idle k e.idle) refl;
   stands = record {
     stands = running (idle refl) (record {
       timers = e.timers;
@@ -91,7 +88,8 @@ begin_follows p told s run watcher.Idle at over next k h c e = record {
 }
 begin_follows p told s run watcher.Prepare at over next k h c e = record {
   to = Running run.mode run.line (Within (In phase.Prepare) (begun_with s.prepare.list));
-  goes = doc.section (In phase.Prepare) over (next run.mode (doc.goes_on s)) refl (opens_watched told s _ watcher.Prepare k e.prepare) refl;
+  goes = doc.section (In phase.Prepare) over (next (order_of p) run.mode (doc.goes_on s)) refl
+      (opens_watched told s _ watcher.Prepare k e.prepare) refl;
   stands = record {
     stands = running (prepare refl) (record {
       timers = e.timers;
@@ -107,7 +105,7 @@ begin_follows p told s run watcher.Prepare at over next k h c e = record {
 }
 begin_follows p told s run watcher.Check at over next k h c e = record {
   to = Running run.mode run.line (Within (In phase.Check) (begun_with s.check.list));
-  goes = doc.section (In phase.Check) over (next run.mode (doc.goes_on s)) refl (opens_watched told s _ watcher.Check k e.check) refl;
+  goes = doc.section (In phase.Check) over (next (order_of p) run.mode (doc.goes_on s)) refl (opens_watched told s _ watcher.Check k e.check) refl;
   stands = record {
     stands = running (check refl) (record {
       timers = e.timers;
@@ -123,7 +121,7 @@ begin_follows p told s run watcher.Check at over next k h c e = record {
 }
 begin_follows p told s run watcher.Async at over next k h c e = record {
   to = Running run.mode run.line (Within (In phase.Async) (async_with told s.async.list));
-  goes = doc.section (In phase.Async) over (next run.mode (doc.goes_on s)) refl (opens_watched told s _ watcher.Async k e.async) refl;
+  goes = doc.section (In phase.Async) over (next (order_of p) run.mode (doc.goes_on s)) refl (opens_watched told s _ watcher.Async k e.async) refl;
   stands = record {
     stands = running (async refl) (record {
       timers = e.timers;
@@ -152,7 +150,7 @@ pub poll_follows : (p : Program) (told : Told) (s : State) (run : Run) (w : Walk
     Follows p told (Running run.mode run.line (Within (In phase.Prepare) w)) s (step.begin_poll s run)
 poll_follows p told s run w alive over k c e = record {
   to = Running run.mode run.line (Polling (deadline_of s (poll_timeout s run.mode)));
-  goes = doc.poll (poll_timeout s run.mode) over (poll_next run.mode (doc.goes_on s))
+  goes = doc.poll (poll_timeout s run.mode) over (poll_next (order_of p) run.mode (doc.goes_on s))
       (record { timers = s.timers; are = are_timers s s.timers s.next_start k.timers; is = may_wait_is s s.timers run.mode alive }) refl refl;
   stands = record {
     stands = running polls (record {
@@ -174,7 +172,7 @@ pub closing_begins : (p : Program) (told : Told) (s : State) (run : Run) (w : Wa
     Follows p told (Running run.mode run.line (Within (In phase.Check) w)) s (step.begin_closing s run)
 closing_begins p told s run w over k c e = record {
   to = Running run.mode run.line (Within (In phase.Closing) (begun_with s.closing.list));
-  goes = doc.section (In phase.Closing) over (closing_next run.mode (doc.goes_on s)) refl
+  goes = doc.section (In phase.Closing) over (closing_next (order_of p) run.mode (doc.goes_on s)) refl
       (record { list = (refl, are_closing s e.closing k); off = refl; sent = refl; body = refl }) refl;
   stands = record {
     stands = running (closing refl) (record {
@@ -558,50 +556,17 @@ done_follows p told s run w st k h g c l b = found_both (front_request s s.done.
 
 -- ---- the closing section
 
--- the timers of an iteration begin
-pub timers_begin : (p : Program) (told : Told) (s : State) (run : Run) (w : Walk) → IsOver phase.Closing w → Kept s → Counted p s.names told →
-    NobodyLeft (rest s.ready s) →
-    Follows p told (Running run.mode run.line (Within (In phase.Closing) w)) s (step.begin_timers s run)
-timers_begin p told s run w over k c e = record {
-  to = Running run.mode run.line (Within (In phase.Timers) (begun_with (due_ids s.clock s.timers)));
-  goes = doc.section (In phase.Timers) over (timers_after run.mode (doc.goes_on s)) refl (record {
-    list = due_list;
-    off = refl;
-    sent = refl;
-    body =
-        refl;
-  }) refl;
-  stands = record {
-    stands = running (collects refl) (record {
-      timers = ap (λ (ids : List Id). ids ++ due_ids s.clock s.timers) e.timers ∙ sym (none_off (due_ids
-          s.clock s.timers));
-      idle = e.idle;
-      prepare = e.prepare;
-      check = e.check;
-      async = e.async;
-      closing = e.closing;
-      done = e.done;
-    });
-    counted = c;
-  };
-} where
-  due_list : AreDue (record (refreshed s) {
-    place = place.Running (record run {
-      stage = stage.Timers timers_of.Iteration Collecting;
-      body = None;
-    });
-  }) (due_ids s.clock s.timers)
-  due_list = record { timers = s.timers; are = are_timers _ s.timers s.next_start k.timers; due = refl; distinct = due_distinct s s.clock k }
-
-pub closing_follows : (p : Program) (told : Told) (s : State) (run : Run) (w : Walk) → run.stage ≡ stage.Closing → Kept s → Counted p s.names told →
+pub closing_follows : (p : Program) (told : Told) (s : State) (run : Run) (w : Walk) → lives s ≡ is_alive s → run.stage ≡ stage.Closing → Kept s →
+    Counted p s.names told →
     Leaves (rest s.ready s) (Within (In phase.Closing) w) → w.body ≡ [] → Follows p told (Running run.mode run.line (Within (In phase.Closing) w)) s
     (step.close_front p s run)
-closing_follows p told s run w st k c l b = found_both (front s s.closing.yet) _ _ (Follows p told (Running run.mode run.line (Within (In
+closing_follows p told s run w alive st k c l b = found_both (front s s.closing.yet) _ _ (Follows p told (Running run.mode run.line (Within (In
     phase.Closing) w)) s)
     (λ t e. at t (front_of s s.closing.yet t e))
     (λ e. let each = each_back (Fits s.arena.slots Closes) s.closing.list s.closing.yet k.closing.lists.each in
     let none : s.closing.yet ≡ [] = no_front s Closes s.closing.yet each e in
-    timers_begin p told s run w (record { done = b; may_pass = all_off w.ahead w.off (sym l.closing ∙ none) }) k c (record {
+    turn_follows p told s run BehindClosing (Within (In phase.Closing) w) alive refl
+    (record { done = b; may_pass = all_off w.ahead w.off (sym l.closing ∙ none) }) k c (record {
       timers = l.timers;
       idle = l.idle;
       prepare = l.prepare;

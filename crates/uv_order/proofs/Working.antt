@@ -2,6 +2,7 @@
 use Rattle.std.proofs.Common.{◌≡◌, ℕ, ◌+◌, List, [], ◌∷◌, ◌++◌, true, Option, Some, None, Result, Ok, Err, length, nat_le, nat_lt, slice_get, slice_set, refl, ap, sym, subst, ◌∙◌}
 use Rattle.std.specs.List.{list_any}
 use Rattle.std.proofs.lemmas.Bool.{cond_both}
+use Rattle.uv_ids.specs.declared.order.Order.{Order}
 use Rattle.uv_ids.specs.declared.id.Id.{Id}
 use Rattle.uv_ids.specs.declared.id.Var.{Var}
 use Rattle.uv_ids.specs.declared.fault.Why.{Why}
@@ -16,7 +17,7 @@ use Rattle.uv_script.specs.declared.op.MainOp.{MainOp}
 use Rattle.uv_script.specs.declared.op.MainOp.TheVariants as main
 use Rattle.uv_script.specs.declared.op.CallbackLine.{CallbackLine}
 use Rattle.uv_script.specs.declared.task.Task.{Task}
-use Rattle.uv_script.specs.Program.{Program, arena_size, worker_count}
+use Rattle.uv_script.specs.Program.{Program, arena_size, worker_count, order_of}
 use Rattle.uv_script.specs.Tasks.{text_of}
 use Rattle.uv_work.specs.Digests.{digest_of}
 use Rattle.uv_work.specs.declared.outcome.Outcome.TheVariants.{Finished, Cancelled}
@@ -30,6 +31,7 @@ use Rattle.uv_model.specs.declared.place.Place.{Place}
 use Rattle.uv_model.specs.declared.place.Place.TheVariants.{Main, Running}
 use Rattle.uv_model.specs.Content.{queued}
 use Rattle.uv_model.specs.Ids.{same_id}
+use Rattle.uv_model.specs.declared.place.Turn.TheVariants.{AtEntry}
 use Rattle.uv_model.specs.State.{State, fresh, live_handle, live_request, with_id, front_request, refreshed}
 use Rattle.uv_model.specs.Ops as ops
 use Rattle.uv_model.specs.Ops.{do_op}
@@ -41,7 +43,7 @@ use Rattle.uv_order.proofs.Asked.{request_turns, freed_turns, request_front, tak
 use Rattle.uv_order.proofs.Works.{AllAsk, IsOpen, HasEnded, Works, works_same, works_queued, works_cancelled, works_taken, works_finished, works_collected, works_begun, none_run}
 use Rattle.uv_order.proofs.OpCases.{cancel_both, make_both}
 use Rattle.uv_order.proofs.Keeping.{Kept, fills}
-use Rattle.uv_order.proofs.Quiet.{SameWork, IsOfHandles, op_same, send_same, KeepsWork, enter_same, walk_same, async_same, close_same, timers_same}
+use Rattle.uv_order.proofs.Quiet.{SameWork, IsOfHandles, op_same, send_same, KeepsWork, turn_same, walk_same, async_same, close_same, timers_same}
 
 -- the requests of a state agree with its lists
 abbrev pub Working : State → Type 0
@@ -139,7 +141,7 @@ IsCalm (Poll deadline) s = s.done.yet ≡ []
 IsCalm stage s = Unit {0}
 
 stage_working : (p : Program) (s : State) (run : Run) (x : Stage) → IsCalm x s → Working s → StaysWorking (step.stage_step p s run x)
-stage_working p s run Entry r k = quiet s _ (enter_same s run) k
+stage_working p s run Entry r k = quiet s _ (turn_same (order_of p) s run AtEntry) k
 stage_working p s run Pending r k = k
 stage_working p s run Idle r k = quiet s _ (walk_same p s run watcher.Idle) k
 stage_working p s run Prepare r k = quiet s _ (walk_same p s run watcher.Prepare) k
@@ -156,10 +158,10 @@ body_working : (p : Program) (s : State) (run : Run) (body : Body) (line : Optio
 body_working p s run body None kept k = k
 body_working p s run body (Some line) kept k = op_working s line.op kept k
 
-main_working : (s : State) (i : ℕ) (x : Option MainOp) → Kept s → Working s → StaysWorking (step.main_step s i x)
-main_working s i None kept k = tt
-main_working s i (Some (main.Run mode)) kept k = cond_both (is_default mode) (refreshed s) s Working (λ d. k) (λ d. k)
-main_working s i (Some (main.Op o)) kept k = op_working s o kept k
+main_working : (o : Order) (s : State) (i : ℕ) (x : Option MainOp) → Kept s → Working s → StaysWorking (step.main_step o s i x)
+main_working o s i None kept k = tt
+main_working o s i (Some (main.Run mode)) kept k = cond_both (step.refreshes o mode) (refreshed s) s Working (λ d. k) (λ d. k)
+main_working o s i (Some (main.Op x)) kept k = op_working s x kept k
 
 abbrev pub IsCalmIn : Option Body → Stage → State → Type 0
 IsCalmIn None stage s = IsCalm stage s
@@ -175,7 +177,7 @@ run_working p s run None r kept k = stage_working p s run run.stage r k
 run_working p s run (Some body) r kept k = body_working p s run body _ kept k
 
 place_working : (p : Program) (s : State) (place : Place) → IsCalmAt place s → Kept s → Working s → StaysWorking (loop_step p s place)
-place_working p s (Main i) r kept k = main_working s i _ kept k
+place_working p s (Main i) r kept k = main_working (order_of p) s i _ kept k
 place_working p s (Running run) r kept k = run_working p s run run.body r kept k
 
 -- ---- the thread pool

@@ -1,8 +1,10 @@
--- The documented order of phases (design overview, in the loop order of 1.45; what is marked own is this profile's): a grammar
+-- The documented order of phases (design overview, in the loop orders of 1.44 and 1.45; what is marked own is this profile's): a grammar
 -- over the lines of a trace, with the states before and after each. A trace is the lines of the main program and its runs; a run
 -- is the timers of its entry, iterations, and its end; an iteration is its sections in their order; a section calls the members
 -- of its list, and each callback does the ops of its body. It says nothing of how a step is done.
 use Rattle.std.specs.Prelude.{◌≡◌, ◌==◌, ◌&&◌, ◌||◌, ℕ, zero, suc, ◌+◌, List, [], ◌∷◌, ◌++◌, Bool, true, false, not, Option, Some, None, slice_get, option_map, if◌then◌else◌}
+use Rattle.uv_ids.specs.declared.order.Order.{Order}
+use Rattle.uv_ids.specs.declared.order.Order.TheVariants.{V144, V145}
 use Rattle.uv_ids.specs.declared.id.Id.{Id}
 use Rattle.uv_ids.specs.declared.id.Var.{Var}
 use Rattle.uv_ids.specs.declared.due.Due.{Due}
@@ -25,7 +27,7 @@ use Rattle.uv_script.specs.declared.op.Op.{Op}
 use Rattle.uv_script.specs.declared.op.Op.TheVariants as op
 use Rattle.uv_script.specs.declared.op.MainOp.TheVariants as main
 use Rattle.uv_script.specs.declared.op.CallbackLine.{CallbackLine}
-use Rattle.uv_script.specs.Program.{Program, lines_in, is_for, op_at}
+use Rattle.uv_script.specs.Program.{Program, lines_in, is_for, op_at, order_of}
 use Rattle.uv_model.specs.declared.request.Request.{Request}
 use Rattle.uv_model.specs.Content.{digest_in}
 use Rattle.uv_model.specs.Ids.{has_some, without_id}
@@ -63,23 +65,28 @@ after_op op.UpdateTime s = at_clock s
 after_op op.StopLoop s = record (lasting s) { stop_flag = true }
 after_op o s = lasting s
 
--- the line of a run: a default one sets the time to the clock (own)
-abbrev pub after_run : Mode → State → Lasting
-after_run Default s = at_clock s
-after_run Once s = lasting s
-after_run Nowait s = lasting s
+-- the line of a run: in the order of 1.45 a default one sets the time to the clock (own)
+abbrev pub after_run : Order → Mode → State → Lasting
+after_run V145 Default s = at_clock s
+after_run V145 Once s = lasting s
+after_run V145 Nowait s = lasting s
+after_run V144 m s = lasting s
 
--- the line of a section of an iteration: `pending` keeps whether an idle handle is active, and on leaving the poll (own) and before
--- the timers the time is set to the clock
-abbrev pub after_line : Phase → State → Lasting
-after_line phase.Pending s = record (lasting s) { idled = has_some s.idle.list }
-after_line phase.Done s = at_clock s
-after_line phase.Timers s = at_clock s
-after_line phase.Idle s = lasting s
-after_line phase.Prepare s = lasting s
-after_line phase.Async s = lasting s
-after_line phase.Check s = lasting s
-after_line phase.Closing s = lasting s
+-- whether the loop idled, behind the line `pending`: in the order of 1.45 that keeps whether an idle handle is active
+abbrev pub idled_by : Order → State → Bool
+idled_by V145 s = has_some s.idle.list
+idled_by V144 s = s.idled
+
+-- the line of a section of an iteration: on leaving the poll (own) and before the timers the time is set to the clock
+abbrev pub after_line : Order → Phase → State → Lasting
+after_line o phase.Pending s = record (lasting s) { idled = idled_by o s }
+after_line o phase.Done s = at_clock s
+after_line o phase.Timers s = at_clock s
+after_line o phase.Idle s = lasting s
+after_line o phase.Prepare s = lasting s
+after_line o phase.Async s = lasting s
+after_line o phase.Check s = lasting s
+after_line o phase.Closing s = lasting s
 
 -- the end of a run clears the stop flag
 abbrev pub after_end : State → Lasting
@@ -188,7 +195,8 @@ body_of p kind v call = sites_from kind v call 0 (lines_in p kind v)
 
 -- ---- the parts of a run
 
--- the parts of a run that have a line and may have callbacks: the timers of its entry, and the sections of an iteration
+-- the parts of a run that have a line and may have callbacks: the timers of its entry, in the order of 1.44 those with which an iteration
+-- begins, and the sections of an iteration
 pub data Section : Type 0 where
   Entry : Section
   In : Phase → Section
@@ -208,37 +216,46 @@ pub data Part : Type 0 where
   -- the line of the run's end
   End : Part
 
--- what follows a part of a run, where the loop goes on or doesn't: the order of 1.45. Once and nowait have one iteration at most, and
--- no timers at their entry
-abbrev pub part_after : Mode → Bool → Part → Part
-part_after Default true Start = Of Entry
-part_after Once true Start = Of (In phase.Pending)
-part_after Nowait true Start = Of (In phase.Pending)
-part_after m false Start = End
-part_after m true (Of Entry) = Of (In phase.Pending)
-part_after m false (Of Entry) = End
-part_after m go (Of (In phase.Pending)) = Of (In phase.Idle)
-part_after m go (Of (In phase.Idle)) = Of (In phase.Prepare)
-part_after m go (Of (In phase.Prepare)) = Poll
-part_after m go Poll = Of (In phase.Done)
-part_after m go (Of (In phase.Done)) = Of (In phase.Async)
-part_after m go (Of (In phase.Async)) = Of (In phase.Check)
-part_after m go (Of (In phase.Check)) = Of (In phase.Closing)
-part_after m go (Of (In phase.Closing)) = Of (In phase.Timers)
-part_after Default true (Of (In phase.Timers)) = Of (In phase.Pending)
-part_after Default false (Of (In phase.Timers)) = End
-part_after Once go (Of (In phase.Timers)) = End
-part_after Nowait go (Of (In phase.Timers)) = End
-part_after m go End = End
+-- what follows a part of a run, where the loop goes on or doesn't. In the order of 1.45 once and nowait have one iteration at most, and no
+-- timers at their entry. In that of 1.44 each iteration begins with timers as the entry does, and in once others are behind it
+abbrev pub part_after : Order → Mode → Bool → Part → Part
+part_after o m go (Of (In phase.Pending)) = Of (In phase.Idle)
+part_after o m go (Of (In phase.Idle)) = Of (In phase.Prepare)
+part_after o m go (Of (In phase.Prepare)) = Poll
+part_after o m go Poll = Of (In phase.Done)
+part_after o m go (Of (In phase.Done)) = Of (In phase.Async)
+part_after o m go (Of (In phase.Async)) = Of (In phase.Check)
+part_after o m go (Of (In phase.Check)) = Of (In phase.Closing)
+part_after o m go End = End
+part_after o m false Start = End
+part_after V145 Default true Start = Of Entry
+part_after V145 Once true Start = Of (In phase.Pending)
+part_after V145 Nowait true Start = Of (In phase.Pending)
+part_after V145 m true (Of Entry) = Of (In phase.Pending)
+part_after V145 m false (Of Entry) = End
+part_after V145 m go (Of (In phase.Closing)) = Of (In phase.Timers)
+part_after V145 Default true (Of (In phase.Timers)) = Of (In phase.Pending)
+part_after V145 Default false (Of (In phase.Timers)) = End
+part_after V145 Once go (Of (In phase.Timers)) = End
+part_after V145 Nowait go (Of (In phase.Timers)) = End
+part_after V144 m true Start = Of Entry
+part_after V144 m go (Of Entry) = Of (In phase.Pending)
+part_after V144 Default true (Of (In phase.Closing)) = Of Entry
+part_after V144 Default false (Of (In phase.Closing)) = End
+part_after V144 Once go (Of (In phase.Closing)) = Of (In phase.Timers)
+part_after V144 Nowait go (Of (In phase.Closing)) = End
+part_after V144 m go (Of (In phase.Timers)) = End
 
 -- the loop goes on: it is alive, and the stop flag is clear
 abbrev pub goes_on : State → Bool
 goes_on s = lives s && not s.stop_flag
 
--- what the line of a section sets: the timers of the entry nothing, and each section of an iteration what its word says
-abbrev pub after_section : Section → State → Lasting
-after_section Entry s = lasting s
-after_section (In word) s = after_line word s
+-- what the line of a section sets: the timers of the entry in the order of 1.45 nothing; in that of 1.44 they set the time to the clock, and
+-- the loop didn't idle; and each other section what its word says
+abbrev pub after_section : Order → Section → State → Lasting
+after_section o (In word) s = after_line o word s
+after_section V145 Entry s = lasting s
+after_section V144 Entry s = record (at_clock s) { idled = false }
 
 -- ---- sections
 
@@ -390,20 +407,20 @@ pub data Goes (p : Program) (told : Told) (names : Names) : Position → Line �
   run : {l : Line} {i : ℕ} (m : Mode)
       → slice_get p.main i ≡ Some (main.Run m)
       → l.seen ≡ seen.Run m
-      → lasting l.after ≡ after_run m l.before
+      → lasting l.after ≡ after_run (order_of p) m l.before
       → Goes p told names (Between i) l (Running m i Begun)
   -- the next section begins
   section : {l : Line} {m : Mode} {i : ℕ} {at : Standing} {w : Walk} (next : Section)
       → MayLeave l.before told at
-      → part_after m (goes_on l.before) (part_of at) ≡ Of next
+      → part_after (order_of p) m (goes_on l.before) (part_of at) ≡ Of next
       → l.seen ≡ seen.Section (word_of next)
       → Opens (word_of next) told l w
-      → lasting l.after ≡ after_section next l.before
+      → lasting l.after ≡ after_section (order_of p) next l.before
       → Goes p told names (Running m i at) l (Running m i (Within next w))
   -- the poll begins, with the timeout that the loop has then
   poll : {l : Line} {m : Mode} {i : ℕ} {at : Standing} (timeout : Option ℕ)
       → MayLeave l.before told at
-      → part_after m (goes_on l.before) (part_of at) ≡ Poll
+      → part_after (order_of p) m (goes_on l.before) (part_of at) ≡ Poll
       → PollsFor l.before m timeout
       → l.seen ≡ seen.Poll timeout
       → lasting l.after ≡ lasting l.before
@@ -411,7 +428,7 @@ pub data Goes (p : Program) (told : Told) (names : Names) : Position → Line �
   -- the run ends, and says whether the loop is alive
   ends : {l : Line} {m : Mode} {i : ℕ} {at : Standing}
       → MayLeave l.before told at
-      → part_after m (goes_on l.before) (part_of at) ≡ End
+      → part_after (order_of p) m (goes_on l.before) (part_of at) ≡ End
       → l.seen ≡ seen.End (lives l.before)
       → lasting l.after ≡ after_end l.before
       → Goes p told names (Running m i at) l (Between (i + 1))

@@ -5,13 +5,17 @@ use Rattle.uv_ids.specs.declared.id.Id.{Id}
 use Rattle.uv_ids.specs.declared.id.Var.{Var}
 use Rattle.uv_ids.specs.declared.code.Code.TheVariants.{Ok as Success}
 use Rattle.uv_ids.specs.declared.code.Answer.TheVariants as answer
+use Rattle.uv_ids.specs.declared.order.Order.TheVariants.{V144, V145}
+use Rattle.uv_ids.specs.declared.phase.Mode.{Mode}
+use Rattle.uv_ids.specs.declared.phase.Mode.TheVariants.{Default, Once as OneIteration, Nowait}
+use Rattle.uv_ids.specs.declared.phase.Phase.{Phase}
 use Rattle.uv_ids.specs.declared.phase.Phase.TheVariants as phase
 use Rattle.uv_ids.specs.declared.seen.Seen.{Seen}
 use Rattle.uv_ids.specs.declared.seen.Seen.TheVariants as seen
 use Rattle.uv_ids.specs.declared.seen.Site.{Site}
 use Rattle.uv_script.specs.declared.op.Op.{Op}
 use Rattle.uv_script.specs.declared.op.Op.TheVariants as op
-use Rattle.uv_script.specs.Program.{Program, op_at}
+use Rattle.uv_script.specs.Program.{Program, op_at, order_of}
 use Rattle.uv_model.specs.Ids.{has_some}
 use Rattle.uv_model.specs.Timeout.{deadline_of, has_passed}
 use Rattle.uv_order.specs.Line.{Line}
@@ -40,6 +44,16 @@ is_within l = true
 abbrev pub AllWithin : List Line → Type 0
 AllWithin [] = Unit {0}
 AllWithin (l ∷ ls) = (is_within l.seen ≡ true) × AllWithin ls
+
+-- a line that may stand in a run, behind its own one and before that of its end
+abbrev pub is_inside : Seen → Bool
+is_inside (seen.Run m) = false
+is_inside (seen.End alive) = false
+is_inside l = true
+
+abbrev pub AllInside : List Line → Type 0
+AllInside [] = Unit {0}
+AllInside (l ∷ ls) = (is_inside l.seen ≡ true) × AllInside ls
 
 -- the name and the id that the line of a callback says
 abbrev pub callback_of : Seen → Option (Var × Id)
@@ -88,8 +102,10 @@ pub record RefusedOrder (p : Program) (before more : List Line) : Type 0 where
       has_some (told_after p nothing_told [] before).sent ≡ false → Documented p (before ++ l ∷ m ∷ more) → ⊥
   -- a run ends, and says that the loop isn't alive, although a request waits, runs or is done
   pub forgotten_request : (l : Line) → has_request l.before ≡ true → l.seen ≡ seen.End false → Documented p (before ++ l ∷ more) → ⊥
-  -- an iteration begins although nothing is alive: no handle is active and referenced, no request is open, and none closes
-  pub still_runs : (l : Line) → lives l.before ≡ false → l.seen ≡ seen.Section phase.Pending → Documented p (before ++ l ∷ more) → ⊥
+  -- in the order of 1.45 an iteration begins although nothing is alive: no handle is active and referenced, no request is open, and none
+  -- closes (of the order of 1.44 see below)
+  pub still_runs : order_of p ≡ V145 → (l : Line) → lives l.before ≡ false → l.seen ≡ seen.Section phase.Pending →
+      Documented p (before ++ l ∷ more) → ⊥
   -- a run ends, and says that the loop is alive, although nothing is, as where the slot of a request that called back isn't freed
   pub ghost_alive : (l : Line) → lives l.before ≡ false → l.seen ≡ seen.End true → Documented p (before ++ l ∷ more) → ⊥
   -- a callback's line says another name than that under which its id was made
@@ -108,3 +124,42 @@ pub record RefusedOrder (p : Program) (before more : List Line) : Type 0 where
   pub called_again : (s a b : Line) (front mid : List Line) (v x : Var) (id : Id) → s.seen ≡ seen.Section phase.Async → AllWithin front →
       a.seen ≡ seen.Call v id → AllWithin mid → AllSilent p mid → b.seen ≡ seen.Call x id →
       Documented p (before ++ s ∷ (front ++ a ∷ (mid ++ b ∷ more))) → ⊥
+
+-- where the timers stand in a run, and what they and its line set: of a trace in the one order the other one refuses these lines
+pub record RefusedTimers (p : Program) (before more : List Line) : Type 0 where
+  -- a run has a section although nothing was alive behind its line
+  pub still_enters : (r l : Line) (mid : List Line) (m : Mode) (word : Phase) → r.seen ≡ seen.Run m → AllWithin mid → lives l.before ≡ false →
+      l.seen ≡ seen.Section word → Documented p (before ++ r ∷ (mid ++ l ∷ more)) → ⊥
+  -- the pending section stands right behind the closing section
+  pub no_timers : (c l : Line) (mid : List Line) → c.seen ≡ seen.Section phase.Closing → AllWithin mid → l.seen ≡ seen.Section phase.Pending →
+      Documented p (before ++ c ∷ (mid ++ l ∷ more)) → ⊥
+  -- in the order of 1.44: the time changes at the line of a run
+  pub refreshed : order_of p ≡ V144 → (l : Line) (m : Mode) → l.seen ≡ seen.Run m → (l.after.time ≡ l.before.time → ⊥) →
+      Documented p (before ++ l ∷ more) → ⊥
+  -- the loop idles, which is no reason not to wait there
+  pub idles : order_of p ≡ V144 → (l : Line) → l.after.idled ≡ true → Documented p (before ++ l ∷ more) → ⊥
+  -- the first iteration has no timers in front of it
+  pub no_first_timers : order_of p ≡ V144 → (r l : Line) (mid : List Line) (m : Mode) → r.seen ≡ seen.Run m → AllWithin mid →
+      l.seen ≡ seen.Section phase.Pending → Documented p (before ++ r ∷ (mid ++ l ∷ more)) → ⊥
+  -- the run ends behind the timers with which it began, be nothing alive
+  pub ends_behind_timers : order_of p ≡ V144 → (r t l : Line) (mid front : List Line) (m : Mode) (alive : Bool) → r.seen ≡ seen.Run m →
+      AllWithin mid → t.seen ≡ seen.Section phase.Timers → AllWithin front → l.seen ≡ seen.End alive →
+      Documented p (before ++ r ∷ (mid ++ t ∷ (front ++ l ∷ more))) → ⊥
+  -- default begins an iteration although nothing is alive
+  pub still_iterates : order_of p ≡ V144 → (r c l : Line) (mid front : List Line) (word : Phase) → r.seen ≡ seen.Run Default → AllInside mid →
+      c.seen ≡ seen.Section phase.Closing → AllWithin front → lives l.before ≡ false → l.seen ≡ seen.Section word →
+      Documented p (before ++ r ∷ (mid ++ c ∷ (front ++ l ∷ more))) → ⊥
+  -- once ends without its second timers
+  pub no_second_timers : order_of p ≡ V144 → (r c l : Line) (mid front : List Line) (alive : Bool) → r.seen ≡ seen.Run OneIteration →
+      AllInside mid → c.seen ≡ seen.Section phase.Closing → AllWithin front → l.seen ≡ seen.End alive →
+      Documented p (before ++ r ∷ (mid ++ c ∷ (front ++ l ∷ more))) → ⊥
+  -- nowait has a section, as timers, behind the closing one
+  pub timers_behind : order_of p ≡ V144 → (r c l : Line) (mid front : List Line) (word : Phase) → r.seen ≡ seen.Run Nowait → AllInside mid →
+      c.seen ≡ seen.Section phase.Closing → AllWithin front → l.seen ≡ seen.Section word →
+      Documented p (before ++ r ∷ (mid ++ c ∷ (front ++ l ∷ more))) → ⊥
+  -- in the order of 1.45: once or nowait begins with timers
+  pub timers_first : order_of p ≡ V145 → (r l : Line) (mid : List Line) (m : Mode) → (m ≡ Default → ⊥) → r.seen ≡ seen.Run m → AllWithin mid →
+      l.seen ≡ seen.Section phase.Timers → Documented p (before ++ r ∷ (mid ++ l ∷ more)) → ⊥
+  -- a run ends behind the closing section
+  pub ends_behind_closing : order_of p ≡ V145 → (c l : Line) (mid : List Line) (alive : Bool) → c.seen ≡ seen.Section phase.Closing →
+      AllWithin mid → l.seen ≡ seen.End alive → Documented p (before ++ c ∷ (mid ++ l ∷ more)) → ⊥

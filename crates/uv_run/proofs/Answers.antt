@@ -27,7 +27,8 @@ use Rattle.uv_live.specs.Course.{Course, stepped}
 use Rattle.uv_live.specs.Following.{Applies, StaysEnded}
 use Rattle.uv_live.specs.Settling.{is_send}
 use Rattle.uv_live.specs.Turning.{Steps}
-use Rattle.uv_run.specs.Events.{events_by, events_in, refusal_after, polls_after, hours_after, IsOfLoop, events_of_loop}
+use Rattle.uv_run.specs.Events.{events_by, events_in, refusal_after, polls_after, hours_after, events_of_loop}
+use Rattle.uv_model.specs.Steps.{IsOfLoop}
 use Rattle.uv_run.specs.Bound.{course_of, refusal_in, polls_in, hours_in, SameSends, Sends}
 use Rattle.uv_run.proofs.Counting.{count_push}
 use Rattle.uv_run.proofs.Loops.{of_loop}

@@ -14,7 +14,7 @@ use Rattle.uv_ids.specs.declared.fault.Why.TheVariants.{Ended}
 use Rattle.uv_ids.specs.declared.seen.Seen.{Seen}
 use Rattle.uv_records.specs.declared.handle.HandleRecord.{HandleRecord}
 use Rattle.uv_script.specs.declared.op.MainOp.{MainOp}
-use Rattle.uv_script.specs.Program.{Program, lines_in}
+use Rattle.uv_script.specs.Program.{Program, lines_in, order_of}
 use Rattle.uv_work.specs.declared.event.PoolEvent.{PoolEvent}
 use Rattle.uv_model.specs.declared.place.Body.{Body}
 use Rattle.uv_model.specs.declared.place.Place.{Place}
@@ -109,9 +109,10 @@ ended_run p s run (Some body) e = absurd (none_is (sym (body_moves p s run body 
 ended_at : (p : Program) (s t : State) (x : Place) → refusal_of (step.loop_step p s x) ≡ Some Ended →
     refusal_of (step.loop_step p t x) ≡ Some Ended
 ended_at p s t (Main line) e = at (slice_get p.main line) e where
-  at : (o : Option MainOp) → refusal_of (step.main_step s line o) ≡ Some Ended → refusal_of (step.main_step t line o) ≡ Some Ended
+  at : (o : Option MainOp) → refusal_of (step.main_step (order_of p) s line o) ≡ Some Ended →
+      refusal_of (step.main_step (order_of p) t line o) ≡ Some Ended
   at None f = refl
-  at (Some o) f = absurd (none_is (sym (main_moves s line o) ∙ f)) where
+  at (Some o) f = absurd (none_is (sym (main_moves (order_of p) s line o) ∙ f)) where
     none_is : ◌≡◌ {A = Option Why} None (Some Ended) → ⊥
     none_is g = cc g
 ended_at p s t (Running run) e = absurd (ended_run p s run run.body e)

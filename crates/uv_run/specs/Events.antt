@@ -51,13 +51,6 @@ abbrev pub job_by : Program → Option Seen → Option Work
 job_by p (Some (seen.Op site a)) = job_at (op_at p site) a
 job_by p l = None
 
--- a step of the loop may have appended this line: it tells of no worker, and of no cancel from outside
-abbrev pub IsOfLoop : Option Seen → Type 0
-IsOfLoop (Some (seen.Take k v id)) = ⊥
-IsOfLoop (Some (seen.Finish k v id)) = ⊥
-IsOfLoop (Some (seen.Cancel v a)) = ⊥
-IsOfLoop l = Unit {0}
-
 -- why the loop's next step would be refused after these
 unfoldable pub refusal_after : Program → List Event → Option Why
 refusal_after p es = refusal_of (next p (after p es) Loop)

@@ -10,7 +10,7 @@ use Rattle.uv_ids.specs.declared.fault.Fault.{Fault}
 use Rattle.uv_ids.specs.declared.fault.Fault.TheVariants as fault
 use Rattle.uv_ids.specs.declared.seen.Callback.TheVariants as callback
 use Rattle.uv_script.specs.declared.settings.Settings.{Settings}
-use Rattle.uv_script.specs.Grammar.{Statement, Declares, InMain, InCallback, Sizes, HasWorkers, InThread, Says, declares, in_main, runs, closes_loop, in_callback, in_call, sizes, sizes_to, has_workers, in_thread, HasRoom, IsNew, with_statement, with_said, Draft, Reads, skips, says, ReadsAll, none, one, unread, IsBadLine, Parses}
+use Rattle.uv_script.specs.Grammar.{Statement, Declares, InMain, InCallback, Sizes, HasWorkers, Orders, InThread, Says, declares, in_main, runs, closes_loop, in_callback, in_call, sizes, sizes_to, has_workers, orders, in_thread, HasRoom, IsNew, with_statement, with_said, Draft, Reads, skips, says, ReadsAll, none, one, IsBadLineFrom, ParsesFrom}
 use Rattle.uv_script.specs.Lines.{lines_of, fields_of}
 use Rattle.uv_script.specs.Program.{Program, line_count}
 use Rattle.uv_script.specs.Reading.{statement_of, has_room, is_new, IsSound, IsSaid, after_line, ReadsLine}
@@ -28,6 +28,7 @@ new_sound said (InMain op) e = tt
 new_sound said (InCallback kind v line) e = tt
 new_sound said (Sizes size) e = unsaid said.slots e
 new_sound said (HasWorkers n) e = unsaid said.workers e
+new_sound said (Orders o) e = unsaid said.order e
 new_sound said (InThread line) e = tt
 
 new_complete : (said : Settings) (s : Statement) → IsNew said s → is_new said s ≡ true
@@ -36,6 +37,7 @@ new_complete said (InMain op) h = refl
 new_complete said (InCallback kind v line) h = refl
 new_complete said (Sizes size) h = ap not h
 new_complete said (HasWorkers n) h = ap not h
+new_complete said (Orders o) h = ap not h
 new_complete said (InThread line) h = refl
 
 pub room_sound : (p : Program) (s : Statement) → has_room p s ≡ true → HasRoom p s
@@ -46,6 +48,7 @@ room_sound p (InMain op) e = ltb-true (line_count p) 65535 e
 room_sound p (InCallback kind v line) e = ltb-true (line_count p) 65535 e
 room_sound p (Sizes size) e = tt
 room_sound p (HasWorkers n) e = tt
+room_sound p (Orders o) e = tt
 room_sound p (InThread line) e = ltb-true (line_count p) 65535 e
 
 room_complete : (p : Program) (s : Statement) → HasRoom p s → has_room p s ≡ true
@@ -55,6 +58,7 @@ room_complete p (InMain op) h = lt-ltb (line_count p) 65535 h
 room_complete p (InCallback kind v line) h = lt-ltb (line_count p) 65535 h
 room_complete p (Sizes size) h = refl
 room_complete p (HasWorkers n) h = refl
+room_complete p (Orders o) h = refl
 room_complete p (InThread line) h = lt-ltb (line_count p) 65535 h
 
 -- what a line says can be added
@@ -68,6 +72,7 @@ says_sound p fields s (in_call kind name v number k rest op e declared is first 
 says_sound p fields s (sizes slots n e is fits) = fits
 says_sound p fields s (sizes_to slots last n g e is fits last_is small) = fits
 says_sound p fields s (has_workers number n e is fits) = fits
+says_sound p fields s (orders o e) = tt
 says_sound p fields s (in_thread number k name v e is few declared) = record {
   thread = few;
   declared = slice_get_within p.names v.0 name declared;
@@ -105,6 +110,7 @@ says_no_skip names line s (in_call callback.Close name v number k rest op e decl
 says_no_skip names line s (sizes slots n e is fits) = line_begins line _ _ _ e
 says_no_skip names line s (sizes_to slots last n g e is fits last_is small) = line_begins line _ _ _ e
 says_no_skip names line s (has_workers number n e is fits) = line_begins line _ _ _ e
+says_no_skip names line s (orders o e) = line_begins line _ _ _ e
 says_no_skip names line s (in_thread number k name v e is few declared) = line_begins line _ _ _ e
 
 -- a choice that gave something
@@ -157,6 +163,7 @@ distinct_push p (InMain op) distinct sound = distinct
 distinct_push p (InCallback kind v line) distinct sound = distinct
 distinct_push p (Sizes size) distinct sound = distinct
 distinct_push p (HasWorkers n) distinct sound = distinct
+distinct_push p (Orders o) distinct sound = distinct
 distinct_push p (InThread line) distinct sound = distinct
 
 pub distinct_reads : (d e : Draft) (line : List ℕ) → AreDistinct d.program.names → Reads d line e → AreDistinct e.program.names
@@ -182,10 +189,10 @@ pub said_sound : (p : Program) (s : Statement) → IsSaid p s → IsSound p s
 said_sound p s said = says_sound p (fields_of said.line) s said.says
 
 -- a line that the reader refuses is outside the grammar
-pub refused_line : (d : Draft) (before : List (List ℕ)) (line : List ℕ) → ReadsAll unread before d → after_line d line ≡ None → (e : Draft) →
-    Reads d line e → ⊥
-refused_line d before line read refused e is =
-    let wrong = after_complete d e line (distinct_all unread d before distinct_none read) is in
+pub refused_line : (s d : Draft) (before : List (List ℕ)) (line : List ℕ) → AreDistinct s.program.names → ReadsAll s before d →
+    after_line d line ≡ None → (e : Draft) → Reads d line e → ⊥
+refused_line s d before line distinct read refused e is =
+    let wrong = after_complete d e line (distinct_all s d before distinct read) is in
     none-some e (sym refused ∙ wrong)
 
 -- a text has no more lines than bytes
@@ -220,23 +227,23 @@ pub lines_step : {A : Type 0} (f : A → List ℕ) (lines : List (List ℕ)) (be
 lines_step f lines before x left after rest step =
     ap (λ l. l ++ after) (map-append f before (x ∷ [])) ∙ append_assoc (map f before) (f x ∷ []) after ∙ ap (λ l. map f before ++ l) (sym step) ∙ rest
 
-pub reads_step : {A : Type 0} (f : A → List ℕ) (d e : Draft) (before : List A) (x : A) → ReadsAll unread (map f before) d →
-    after_line d (f x) ≡ Some e → ReadsAll unread (map f (before ++ x ∷ [])) e
-reads_step f d e before x read is =
-    subst (λ (l : List (List ℕ)). ReadsAll unread l e) (sym (map-append f before (x ∷ [])))
-    (ReadsAll-push unread d e (map f before) (f x) read (after_sound d e (f x) is))
+pub reads_step : {A : Type 0} (f : A → List ℕ) (s d e : Draft) (before : List A) (x : A) → ReadsAll s (map f before) d →
+    after_line d (f x) ≡ Some e → ReadsAll s (map f (before ++ x ∷ [])) e
+reads_step f s d e before x read is =
+    subst (λ (l : List (List ℕ)). ReadsAll s l e) (sym (map-append f before (x ∷ [])))
+    (ReadsAll-push s d e (map f before) (f x) read (after_sound d e (f x) is))
 
 -- no line is left
-pub all_read : {A : Type 0} (f : A → List ℕ) (text : List ℕ) (d : Draft) (before : List A) (left : List (List ℕ)) →
-    ReadsAll unread (map f before) d → map f before ++ left ≡ lines_of text → left ≡ [] → ReadsAll unread (lines_of text) d
-all_read f text d before left read rest e =
-    subst (λ (ls : List (List ℕ)). ReadsAll unread ls d)
+pub all_read : {A : Type 0} (f : A → List ℕ) (text : List ℕ) (s d : Draft) (before : List A) (left : List (List ℕ)) →
+    ReadsAll s (map f before) d → map f before ++ left ≡ lines_of text → left ≡ [] → ReadsAll s (lines_of text) d
+all_read f text s d before left read rest e =
+    subst (λ (ls : List (List ℕ)). ReadsAll s ls d)
     (sym (append-nil (map f before)) ∙ ap (λ (ls : List (List ℕ)). map f before ++ ls) (sym e) ∙ rest) read
 
-pub bad_line : {A : Type 0} (f : A → List ℕ) (text : List ℕ) (number : ℕ) (d : Draft) (before : List A) (x : A) (left after : List (List ℕ)) →
-    ReadsAll unread (map f before) d → map f before ++ left ≡ lines_of text → left ≡ f x ∷ after → number ≡ length before + 1 →
-    after_line d (f x) ≡ None → IsBadLine text number
-bad_line f text number d before x left after read rest step count e = record {
+pub bad_line : {A : Type 0} (f : A → List ℕ) (text : List ℕ) (number : ℕ) (s d : Draft) (before : List A) (x : A) (left after : List (List ℕ)) →
+    AreDistinct s.program.names → ReadsAll s (map f before) d → map f before ++ left ≡ lines_of text → left ≡ f x ∷ after →
+    number ≡ length before + 1 → after_line d (f x) ≡ None → IsBadLineFrom s text number
+bad_line f text number s d before x left after distinct read rest step count e = record {
   before = map f before;
   line = f x;
   after = after;
@@ -244,14 +251,14 @@ bad_line f text number d before x left after read rest step count e = record {
   counted = count ∙ ap (λ n. n + 1) (sym (length-map before f));
   draft = d;
   read = read;
-  refused = refused_line d (map f before) (f x) read e;
+  refused = refused_line s d (map f before) (f x) distinct read e;
 }
 
 -- the fault of a line is the text's
-pub line_fault : {A : Type 0} (f : A → List ℕ) (text : List ℕ) (number : ℕ) (d e : Draft) (before : List A) (x : A) (left after : List (List ℕ))
-    (fault : Fault) → ReadsAll unread (map f before) d → map f before ++ left ≡ lines_of text → left ≡ f x ∷ after → number ≡ length before + 1 →
-    ReadsLine d (f x) number (Err fault) e → Parses text (Err fault)
-line_fault f text number d e before x left after (fault.Script bad) read rest step count h =
-    subst (IsBadLine text) (sym h.0) (bad_line f text number d before x left after read rest step count h.1)
-line_fault f text number d e before x left after fault.Memory read rest step count h = tt
-line_fault f text number d e before x left after _ read rest step count h = h
+pub line_fault : {A : Type 0} (f : A → List ℕ) (text : List ℕ) (number : ℕ) (s d e : Draft) (before : List A) (x : A) (left after : List (List ℕ))
+    (fault : Fault) → AreDistinct s.program.names → ReadsAll s (map f before) d → map f before ++ left ≡ lines_of text → left ≡ f x ∷ after →
+    number ≡ length before + 1 → ReadsLine d (f x) number (Err fault) e → ParsesFrom s text (Err fault)
+line_fault f text number s d e before x left after (fault.Script bad) distinct read rest step count h =
+    subst (IsBadLineFrom s text) (sym h.0) (bad_line f text number s d before x left after distinct read rest step count h.1)
+line_fault f text number s d e before x left after fault.Memory distinct read rest step count h = tt
+line_fault f text number s d e before x left after _ distinct read rest step count h = h

@@ -9,12 +9,13 @@ use Rattle.uv_ids.specs.declared.id.Var.{Var}
 use Rattle.uv_ids.specs.declared.phase.Mode.{Mode}
 use Rattle.uv_ids.specs.declared.seen.Callback.{Callback}
 use Rattle.uv_ids.specs.declared.seen.Callback.TheVariants as callback
-use Rattle.uv_ids.specs.Words.{kind_word, mode_word}
+use Rattle.uv_ids.specs.declared.order.Order.{Order}
+use Rattle.uv_ids.specs.Words.{kind_word, mode_word, order_word}
 use Rattle.uv_script.specs.declared.op.Op.{Op}
 use Rattle.uv_script.specs.declared.op.Op.TheVariants as op
 use Rattle.uv_script.specs.declared.op.MainOp.TheVariants as main
-use Rattle.uv_script.specs.Grammar.{Statement, Declares, InMain, InCallback, Sizes, HasWorkers, InThread, named_word, bare_word, IsOp, init, start, repeat, queue, queue_text, on_name, bare, callback_word, Says, declares, in_main, runs, closes_loop, in_callback, in_call, sizes, sizes_to, has_workers, in_thread}
-use Rattle.uv_script.specs.Reading.{first_of, none_left, place_of, kind_of, mode_of, init_of, timer_start_of, start_by, start_of, repeat_of, filled, text_by, queue_of, bare_op, named_op, name_alone, short_op_of, op_of, declaration_of, run_of, close_loop_of, main_by, main_of, call_of, marked, in_calls_of, in_call_of, calls_of, callback_of, last_of, size_of, workers_of, sender_of, thread_of, setting_of, statement_of}
+use Rattle.uv_script.specs.Grammar.{Statement, Declares, InMain, InCallback, Sizes, HasWorkers, Orders, InThread, named_word, bare_word, IsOp, init, start, repeat, queue, queue_text, on_name, bare, callback_word, Says, declares, in_main, runs, closes_loop, in_callback, in_call, sizes, sizes_to, has_workers, orders, in_thread}
+use Rattle.uv_script.specs.Reading.{first_of, none_left, place_of, kind_of, mode_of, version_of, init_of, timer_start_of, start_by, start_of, repeat_of, filled, text_by, queue_of, bare_op, named_op, name_alone, short_op_of, op_of, declaration_of, run_of, close_loop_of, main_by, main_of, call_of, marked, in_calls_of, in_call_of, calls_of, callback_of, last_of, size_of, workers_of, orders_of, sender_of, thread_of, setting_of, statement_of}
 use Rattle.uv_script.specs.declared.task.Task.{Task}
 use Rattle.uv_script.specs.Lines.{rest_of}
 use Rattle.uv_script.specs.TaskReading.{task_of}
@@ -23,7 +24,7 @@ use Rattle.uv_script.specs.Program.{IsSlotCount, LAST_GENERATION, IsWorkerCount}
 use Rattle.uv_script.specs.Checks.{is_name, number_of}
 use Rattle.uv_script.specs.Words.{IsName, IsNumber, IsDeclared}
 use Rattle.uv_script.proofs.OpWords.{named_op-sound, bare_op-sound}
-use Rattle.uv_script.proofs.KindWords.{kind_of-some, kind_of-sound, mode_of-some, mode_of-sound, choice_cases}
+use Rattle.uv_script.proofs.KindWords.{kind_of-some, kind_of-sound, mode_of-some, mode_of-sound, version_of-some, version_of-sound, choice_cases}
 use Rattle.uv_script.proofs.Places.{place_of-sound, place_of-finds}
 use Rattle.uv_script.proofs.TaskLemmas.{task_of-complete, task_of-sound}
 use Rattle.uv_script.proofs.Checks.{is_name_decides, number_of-sound, number_of-complete}
@@ -369,6 +370,18 @@ workers_sound names fields s e =
     (has_workers number.0.0 n.0 (ap (λ r. codes "workers" ∷ r) (a ∙ ap (λ r. number.0.0 ∷ r) none)) (number_of-sound number.0.0 n.0 n.1)
     (leb-true 1 n.0 tests.0, leb-true n.0 1024 tests.1))
 
+orders_sound : (names fields : List (List ℕ)) (s : Statement) → orders_of fields ≡ Some s → Says names (codes "order" ∷ fields) s
+unfolding orders_of
+orders_sound names fields s e =
+    let version = bound _ (first_of fields) s e in
+    let o = bound _ (version_of version.0.0) s version.2 in
+    let end = bound _ (none_left version.0.1) s o.2 in
+    let a = first_is fields version.0 version.1 in
+    let none = none_is version.0.1 end.0 end.1 in
+    let word = version_of-sound version.0.0 o.0 o.1 in
+    subst (Says names (codes "order" ∷ fields)) (same_Some _ _ end.2)
+    (orders o.0 (ap (λ r. codes "order" ∷ r) (a ∙ ap (λ r. version.0.0 ∷ r) none ∙ ap (λ w. w ∷ []) word)))
+
 says_word : (names : List (List ℕ)) (this word : List ℕ) (fields : List (List ℕ)) (s : Statement) → word ≡ this → Says names (this ∷ fields) s →
     Says names (word ∷ fields) s
 says_word names this word fields s e is = subst (λ (w : List ℕ). Says names (w ∷ fields) s) (sym e) is
@@ -407,9 +420,12 @@ setting_sound names word fields s e =
       | inl is ↦ says_word names (codes "slots") word fields s is.0 (size_sound names fields s is.1)
       | inr last ↦ elim (choice_cases word (codes "workers") _ _ (Some s) last) [
         | inl is ↦ says_word names (codes "workers") word fields s is.0 (workers_sound names fields s is.1)
-        | inr thread ↦ elim (choice_cases word (codes "thread") _ _ (Some s) thread) [
-          | inl is ↦ says_word names (codes "thread") word fields s is.0 (thread_sound names fields s is.1)
-          | inr wrong ↦ cc
+        | inr order ↦ elim (choice_cases word (codes "order") _ _ (Some s) order) [
+          | inl is ↦ says_word names (codes "order") word fields s is.0 (orders_sound names fields s is.1)
+          | inr thread ↦ elim (choice_cases word (codes "thread") _ _ (Some s) thread) [
+            | inl is ↦ says_word names (codes "thread") word fields s is.0 (thread_sound names fields s is.1)
+            | inr wrong ↦ cc
+          ]
         ]
       ]
     ]
@@ -659,6 +675,10 @@ workers_complete number n is fits =
     rw (number_of-complete number n is)
     (ap (λ b. cond b (Some (HasWorkers n)) None) (and_from (nat_le 1 n) (nat_le n 1024) (le-leb 1 n fits.0) (le-leb n 1024 fits.1)))
 
+orders_complete : (o : Order) → orders_of (order_word o ∷ []) ≡ Some (Orders o)
+unfolding orders_of
+orders_complete o = rw (version_of-some (order_word o) o refl) refl
+
 thread_complete : (names : List (List ℕ)) (number : List ℕ) (k : ℕ) (name : List ℕ) (v : Var) → AreDistinct names → IsNumber number k → k < 64 →
     IsDeclared names name v → thread_of names (number ∷ codes "send" ∷ name ∷ []) ≡ Some (InThread (record { thread = k; name = v }))
 unfolding thread_of sender_of name_alone
@@ -693,5 +713,6 @@ statement_complete names fields s distinct (sizes slots n e is fits) =
 statement_complete names fields s distinct (sizes_to slots last n g e is fits last_is small) =
     ap (statement_of names) e ∙ size_complete slots (last ∷ []) n g is fits (last_complete last g last_is small)
 statement_complete names fields s distinct (has_workers number n e is fits) = ap (statement_of names) e ∙ workers_complete number n is fits
+statement_complete names fields s distinct (orders o e) = ap (statement_of names) e ∙ orders_complete o
 statement_complete names fields s distinct (in_thread number k name v e is few declared) =
     ap (statement_of names) e ∙ thread_complete names number k name v distinct is few declared

@@ -13,10 +13,10 @@ use Rattle.uv_ids.specs.Words.{kind_word}
 use Rattle.uv_script.specs.declared.op.Op.{Op}
 use Rattle.uv_script.specs.declared.op.Op.TheVariants as op
 use Rattle.uv_script.specs.declared.op.CallbackLine.{CallbackLine}
-use Rattle.uv_script.specs.Grammar.{Statement, Declares, InMain, InCallback, Sizes, HasWorkers, InThread, named_word, bare_word, IsOp, init, start, repeat, queue, queue_text, on_name, bare, callback_word, Says, declares, in_main, runs, closes_loop, in_callback, in_call, sizes, sizes_to, has_workers, in_thread}
+use Rattle.uv_script.specs.Grammar.{Statement, Declares, InMain, InCallback, Sizes, HasWorkers, Orders, InThread, named_word, bare_word, IsOp, init, start, repeat, queue, queue_text, on_name, bare, callback_word, Says, declares, in_main, runs, closes_loop, in_callback, in_call, sizes, sizes_to, has_workers, orders, in_thread}
 use Rattle.uv_script.specs.Lines.{fields_of}
 use Rattle.uv_script.specs.Tasks.{text_of}
-use Rattle.uv_script.specs.Text.{text_or_none, name_text, task_text, op_text, call_text, front_text, callback_line, main_line, var_line, workers_line, slots_line, thread_line}
+use Rattle.uv_script.specs.Text.{text_or_none, name_text, task_text, op_text, call_text, front_text, callback_line, main_line, var_line, order_line, workers_line, slots_line, thread_line}
 use Rattle.uv_script.specs.Words.{IsDeclared}
 
 abbrev joined : List (List ℕ) → List ℕ
@@ -137,6 +137,7 @@ statement_text names (InMain o) = main_line names o
 statement_text names (InCallback kind v line) = callback_line names kind v line
 statement_text names (Sizes size) = slots_line size
 statement_text names (HasWorkers n) = workers_line n
+statement_text names (Orders o) = order_line o
 statement_text names (InThread line) = thread_line names line
 
 -- all but the size of the arena, whose last generation may be left out
@@ -179,6 +180,7 @@ says_exact names fields s kept (in_call kind name v number k rest o e declared i
 says_exact names fields s kept (sizes slots n e is fits) = absurd kept
 says_exact names fields s kept (sizes_to slots last n g e is fits last_is small) = absurd kept
 says_exact names fields s kept (has_workers number n e is fits) = ap joined e ∙ ap (λ digits. codes "workers " ++ digits) is.is
+says_exact names fields s kept (orders o e) = ap joined e
 says_exact names fields s kept (in_thread number k name v e is few declared) =
     let a = is.is in
     let b = named names name v declared in
@@ -225,5 +227,6 @@ says_more names more fields s other (in_call kind name v number k rest o e decla
 says_more names more fields s other (sizes slots n e is fits) = sizes slots n e is fits
 says_more names more fields s other (sizes_to slots last n g e is fits last_is small) = sizes_to slots last n g e is fits last_is small
 says_more names more fields s other (has_workers number n e is fits) = has_workers number n e is fits
+says_more names more fields s other (orders o e) = orders o e
 says_more names more fields s other (in_thread number k name v e is few declared) =
     in_thread number k name v e is few (declared_more names more name v declared)

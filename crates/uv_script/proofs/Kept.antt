@@ -3,7 +3,7 @@ use Rattle.std.proofs.Common.{◌≡◌, ℕ, ◌+◌, ◌<◌, [], ◌∷◌, l
 use Rattle.std.proofs.lemmas.List.Elements.{Contains-get_or}
 use Rattle.std.proofs.lemmas.List.Sums.{sum_by_push, sum_by-set}
 use Rattle.std.proofs.lemmas.Option.{unwrap_or-slice_get}
-use Rattle.uv_script.specs.Grammar.{Statement, Declares, InMain, InCallback, Sizes, HasWorkers, InThread, HasRoom, with_statement, WasRead, IsReadScript, blank}
+use Rattle.uv_script.specs.Grammar.{Statement, Declares, InMain, InCallback, Sizes, HasWorkers, Orders, InThread, HasRoom, with_statement, WasRead, IsReadScript, blank}
 use Rattle.uv_script.specs.Program.{Program, no_callbacks, callbacks_of, with_line, callback_count, line_count, with_workers, IsWorkerCount, IsThreadLine, IsWhole}
 use Rattle.uv_script.specs.Reading.{IsSound, IsSaid}
 use Rattle.uv_script.proofs.AfterLines.{says_sound, said_sound}
@@ -31,6 +31,7 @@ added (InMain o) = 1
 added (InCallback kind v line) = 1
 added (Sizes size) = 0
 added (HasWorkers n) = 0
+added (Orders o) = 0
 added (InThread line) = 1
 
 count_statement : (p : Program) (s : Statement) → AreWritten p → IsSound p s → line_count (with_statement p s) ≡ line_count p + added s
@@ -45,6 +46,7 @@ count_statement p (InCallback kind v line) is sound =
     omega (arith, sum, here, count_more kind c line)
 count_statement p (Sizes size) is sound = omega arith
 count_statement p (HasWorkers n) is sound = omega arith
+count_statement p (Orders o) is sound = omega arith
 count_statement p (InThread line) is sound = omega (arith, length-append p.threads (line ∷ []))
 
 -- one more line

@@ -1,4 +1,4 @@
--- Words of kinds and modes.
+-- Words of kinds, modes and orders.
 use Rattle.std.proofs.Common.{◌≡◌, ◌⊎◌, inl, inr, ℕ, cond, List, Some, None, ap, sym, ◌∙◌}
 use Rattle.std.specs.Prelude.{codes}
 use Rattle.std.specs.Str.{bytes_eq}
@@ -9,8 +9,10 @@ use Rattle.uv_ids.specs.declared.phase.Kind.{Kind}
 use Rattle.uv_ids.specs.declared.phase.Kind.TheVariants as kind
 use Rattle.uv_ids.specs.declared.phase.Mode.{Mode}
 use Rattle.uv_ids.specs.declared.phase.Mode.TheVariants as mode
-use Rattle.uv_ids.specs.Words.{kind_word, IsNoKind, mode_word, IsNoMode}
-use Rattle.uv_script.specs.Reading.{kind_of, mode_of}
+use Rattle.uv_ids.specs.declared.order.Order.{Order}
+use Rattle.uv_ids.specs.declared.order.Order.TheVariants as order
+use Rattle.uv_ids.specs.Words.{kind_word, IsNoKind, mode_word, IsNoMode, order_word, IsNoOrder}
+use Rattle.uv_script.specs.Reading.{kind_of, mode_of, version_of}
 
 -- a choice by a word
 pub choice_cases : {A : Type 0} (word this : List ℕ) (x y z : A) → cond (bytes_eq word this) x y ≡ z → ((word ≡ this) × (x ≡ z)) ⊎ (y ≡ z)
@@ -88,5 +90,25 @@ mode_of-sound word m e =
           | inl is ↦ is.0 ∙ ap mode_word (same_Some _ _ is.1)
           | inr wrong ↦ cc
         ]
+      ]
+    ]
+
+pub version_of-some : (word : List ℕ) (o : Order) → word ≡ order_word o → version_of word ≡ Some o
+unfolding version_of
+version_of-some word order.V144 e = ap version_of e
+version_of-some word order.V145 e = ap version_of e
+
+pub version_of-none : (word : List ℕ) → IsNoOrder word → version_of word ≡ None
+unfolding version_of
+version_of-none word none = choice_other word (codes "1.44") _ _ (none order.V144) ∙ choice_other word (codes "1.45") _ _ (none order.V145)
+
+pub version_of-sound : (word : List ℕ) (o : Order) → version_of word ≡ Some o → word ≡ order_word o
+unfolding version_of
+version_of-sound word o e =
+    elim (choice_cases word (codes "1.44") _ _ (Some o) e) [
+      | inl is ↦ is.0 ∙ ap order_word (same_Some _ _ is.1)
+      | inr last ↦ elim (choice_cases word (codes "1.45") _ _ (Some o) last) [
+        | inl is ↦ is.0 ∙ ap order_word (same_Some _ _ is.1)
+        | inr wrong ↦ cc
       ]
     ]

@@ -16,21 +16,23 @@ use Rattle.std.proofs.lemmas.Str.Parse.{numerals_by_value, tells_all_ascii_digit
 use Rattle.uv_ids.specs.declared.fault.Fault.{Fault}
 use Rattle.uv_ids.specs.declared.fault.Fault.TheVariants as fault
 use Rattle.uv_ids.specs.declared.id.Var.{Var}
+use Rattle.uv_ids.specs.declared.order.Order.{Order}
+use Rattle.uv_ids.specs.declared.order.Order.TheVariants as order
 use Rattle.uv_ids.specs.declared.seen.Callback.{Callback}
 use Rattle.uv_ids.specs.declared.seen.Callback.TheVariants as callback
 use Rattle.uv_script.specs.declared.op.MainOp.{MainOp}
 use Rattle.uv_script.specs.declared.op.CallbackLine.{CallbackLine}
 use Rattle.uv_script.specs.declared.size.ArenaSize.{ArenaSize}
 use Rattle.uv_ids.specs.declared.thread_line.ThreadLine.{ThreadLine}
-use Rattle.uv_script.specs.Grammar.{Declares, InMain, InCallback, Sizes, HasWorkers, InThread, declares, sizes_to, has_workers, Draft, Reads, skips, says, ReadsAll, none, one, unread, WasRead, IsScript, Parses}
+use Rattle.uv_script.specs.Grammar.{Declares, InMain, InCallback, Sizes, HasWorkers, Orders, InThread, declares, sizes_to, has_workers, orders, Draft, Reads, skips, says, ReadsAll, none, one, unread, WasRead, IsScript, Parses}
 use Rattle.uv_script.specs.Laws.{IsBack, IsReadBack}
 use Rattle.uv_script.specs.Lines.{lines_of, fields_of, IsLine}
 use Rattle.uv_script.specs.Program.{Program, Callbacks, no_callbacks, callbacks_of, lines_of as lines_in_callbacks, with_line, callback_count, line_count, IsWorkerCount}
-use Rattle.uv_script.specs.Text.{workers_line, slots_line, var_line, main_line, callback_line, name_lines, callback_lines, thread_line, script_lines, lines_text, script_text}
+use Rattle.uv_script.specs.Text.{order_line, workers_line, slots_line, var_line, main_line, callback_line, name_lines, callback_lines, thread_line, script_lines, lines_text, script_text}
 use Rattle.uv_script.specs.Words.{IsLetter, IsDigit, IsName, IsNumber}
 use Rattle.uv_script.proofs.AfterLines.{with_one}
 use Rattle.uv_script.proofs.Agrees.{AreDistinct}
-use Rattle.uv_script.proofs.Checks.{within}
+use Rattle.uv_script.proofs.Checks.{within, is_line_decides}
 use Rattle.uv_script.proofs.Cuts.{fields-cut, fields-last, lines_append, AreNot}
 use Rattle.uv_script.proofs.Exact.{two_parts}
 use Rattle.uv_script.proofs.OneReading.{one_script, no_bad_line}
@@ -76,7 +78,11 @@ printable_more front text e h = All-append (λ b. (32 ≤ b) × (b ≤ 126)) fro
 pub is_number : (n : ℕ) → n < 2 ^ 64 → IsNumber (decimal n) n
 is_number n h = record { is = refl; fits = h }
 
--- the number of workers, and the size of the arena
+-- the order of a run's phases, the number of workers, and the size of the arena
+order_read : (d : Draft) (o : Order) → d.said.order ≡ false → Reads d (order_line o) (with_one d (Orders o))
+order_read d order.V144 unsaid = says (Orders order.V144) ((is_line_decides (order_line order.V144)).0 refl) (orders order.V144 refl) unsaid tt
+order_read d order.V145 unsaid = says (Orders order.V145) ((is_line_decides (order_line order.V145)).0 refl) (orders order.V145 refl) unsaid tt
+
 workers_read : (d : Draft) (n : ℕ) → IsWorkerCount n → d.said.workers ≡ false → Reads d (workers_line n) (with_one d (HasWorkers n))
 workers_read d n fits unsaid =
     let small : n < 2 ^ 64 = omega (arith, fits.1) in
@@ -140,7 +146,7 @@ blanks_same (x ∷ xs) (y ∷ ys) e = ap (λ cs. no_callbacks ∷ cs) (blanks_sa
 
 -- a script whose settings were said
 abbrev pub settled : Program → Draft
-settled p = record { program = p; said = record { slots = true; workers = true } }
+settled p = record { program = p; said = record { slots = true; workers = true; order = true } }
 
 -- lines behind them
 abbrev ReadsOn : Program → List (List ℕ) → Program → Type 0
@@ -150,8 +156,16 @@ lines_on : (p q r : Program) (xs ys : List (List ℕ)) → ReadsOn p xs q → Re
 lines_on p q r xs ys first second = reads_on (settled p) (settled q) (settled r) xs ys first second
 
 -- the script of these names alone
-abbrev declared : ArenaSize → ℕ → List (List ℕ) → Program
-declared size workers names = record { names = names; main = []; callbacks = blanks names; size = size; workers = workers; threads = [] }
+abbrev declared : ArenaSize → ℕ → Order → List (List ℕ) → Program
+declared size workers o names = record {
+  names = names;
+  main = [];
+  callbacks = blanks names;
+  size = size;
+  workers = workers;
+  order = o;
+  threads = [];
+}
 
 pub name_unspaced : (name : List ℕ) → IsName name → AreNot 32 name
 name_unspaced name is = subst (AreNot 32) (sym is.is) (by is.first is.rest is.letter is.others)
@@ -172,17 +186,18 @@ fresh_name before after name distinct (k, inside, is) =
     distinct k (length before) name inside (omega arith)
     (get_or_append_left before (name ∷ after) name k inside ∙ is ∙ sym (get_or-append_seam before name after name))
 
-names_read : (size : ArenaSize) (workers : ℕ) (before names : List (List ℕ)) →
+names_read : (size : ArenaSize) (workers : ℕ) (o : Order) (before names : List (List ℕ)) →
     ((name : List ℕ) → Contains names name → IsName name × IsLine (var_line name)) → AreDistinct (before ++ names) →
     length before + length names ≤ 4096 →
-    ReadsOn (declared size workers before) (map var_line names) (declared size workers (before ++ names))
-names_read size workers before [] each distinct few =
-    subst (λ (ns : List (List ℕ)). ReadsOn (declared size workers before) [] (declared size workers ns)) (sym (append-nil before)) none
-names_read size workers before (name ∷ names) each distinct few =
-    let p = declared size workers before in
+    ReadsOn (declared size workers o before) (map var_line names) (declared size workers o (before ++ names))
+names_read size workers o before [] each distinct few =
+    subst (λ (ns : List (List ℕ)). ReadsOn (declared size workers o before) [] (declared size workers o ns)) (sym (append-nil before)) none
+names_read size workers o before (name ∷ names) each distinct few =
+    let p = declared size workers o before in
     let here = each name (contains_first name names) in
     let none_counted = blanks_sum before in
-    let first : Reads (settled p) (var_line name) (settled (record p { names = before ++ name ∷ []; callbacks = blanks before ++ no_callbacks ∷ [] })) =
+    let first : Reads (settled p) (var_line name)
+    (settled (record p { names = before ++ name ∷ []; callbacks = blanks before ++ no_callbacks ∷ [] })) =
     says (Declares name) here.1
     (declares name (ap (λ r. codes "var" ∷ r) (fields-last name (name_unspaced name here.0))) here.0 (fresh_name before names name distinct)) tt
     (omega (arith, none_counted, few), omega (arith, few)) in
@@ -190,9 +205,9 @@ names_read size workers before (name ∷ names) each distinct few =
     (λ (cs : List Callbacks). Reads (settled p) (var_line name) (settled (record p { names = before ++ name ∷ []; callbacks = cs })))
     (sym (blanks_push before name)) first in
     let same = append_assoc before (name ∷ []) names in
-    let rest = names_read size workers (before ++ name ∷ []) names (λ x h. each x (contains_later name x names h))
+    let rest = names_read size workers o (before ++ name ∷ []) names (λ x h. each x (contains_later name x names h))
     (subst AreDistinct (sym same) distinct) (omega (arith, length-append before (name ∷ []), few)) in
-    subst (λ (ns : List (List ℕ)). ReadsOn p (map var_line (name ∷ names)) (declared size workers ns)) same (one onto rest)
+    subst (λ (ns : List (List ℕ)). ReadsOn p (map var_line (name ∷ names)) (declared size workers o ns)) same (one onto rest)
 
 -- the main program
 main_read : (p : Program) (ops : List MainOp) → ((o : MainOp) → Contains ops o → IsWritten p.names (InMain o)) →
@@ -358,12 +373,14 @@ lines_back (line ∷ lines) h = lines_append line (lines_text lines) (line_unfed
 pub lines_read_back : (p : Program) → AreWritten p → ReadsAll unread (script_lines p) (settled p)
 unfolding blanks
 lines_read_back p is =
-    let workers = workers_read unread p.workers is.workers refl in
-    let slots = slots_read (with_one unread (HasWorkers p.workers)) p.size is.size refl in
-    let first = declared p.size p.workers [] in
-    let named = declared p.size p.workers p.names in
+    let order_first = order_read unread p.order refl in
+    let ordered = with_one unread (Orders p.order) in
+    let workers = workers_read ordered p.workers is.workers refl in
+    let slots = slots_read (with_one ordered (HasWorkers p.workers)) p.size is.size refl in
+    let first = declared p.size p.workers p.order [] in
+    let named = declared p.size p.workers p.order p.names in
     let few = is.few in
-    let names = names_read p.size p.workers [] p.names is.names is.distinct (omega (arith, is.few_names)) in
+    let names = names_read p.size p.workers p.order [] p.names is.names is.distinct (omega (arith, is.few_names)) in
     let main = main_read named p.main is.main (omega (arith, blanks_sum p.names)) in
     let all = with_callbacks p p.callbacks in
     let callbacks = subst
@@ -373,7 +390,7 @@ lines_read_back p is =
     let front = lines_on first named (with_callbacks p (blanks p.names)) _ _ names main in
     let middle = lines_on first (with_callbacks p (blanks p.names)) all _ _ front callbacks in
     let rest = lines_on first all p _ _ middle threads in
-    one workers (one slots rest)
+    one order_first (one workers (one slots rest))
 
 pub text_makes : (p : Program) → AreWritten p → IsScript (script_text p) p
 unfolding script_text

@@ -4,7 +4,7 @@ use Rattle.uv_script.specs.Grammar.{Draft, ReadsAll, none, unread}
 use Rattle.uv_script.specs.Laws.{HasReading}
 use Rattle.uv_script.specs.Lines.{lines_of}
 use Rattle.uv_script.specs.Reading.{after_line}
-use Rattle.uv_script.proofs.AfterLines.{after_sound, refused_line, ReadsAll-push}
+use Rattle.uv_script.proofs.AfterLines.{after_sound, refused_line, distinct_none, ReadsAll-push}
 
 -- from the script of the lines before these on
 reading_from : (text : List ℕ) (d : Draft) (before lines : List (List ℕ)) → lines_of text ≡ before ++ lines → ReadsAll unread before d →
@@ -27,7 +27,7 @@ reading_from text d before (line ∷ rest) e read = at (after_line d line) refl
           counted = refl;
           draft = d;
           read = read;
-          refused = refused_line d before line read f;
+          refused = refused_line unread d before line distinct_none read f;
         },
       )
 

@@ -3,8 +3,8 @@ use Rattle.std.proofs.Common.{◌≡◌, ℕ, ◌+◌, ◌<◌, List, [], ◌∷
 use Rattle.std.specs.Prelude.{codes}
 use Rattle.std.proofs.Math.Seq.{drop-length, drop-cons}
 use Rattle.std.proofs.lemmas.Option.{slice_get-get_or}
-use Rattle.uv_script.specs.Program.{Program, arena_size, worker_count}
-use Rattle.uv_script.specs.Text.{text_or_none, name_text, workers_line, slots_line, var_line, main_line, name_lines, callback_lines, thread_line, lines_text, script_text}
+use Rattle.uv_script.specs.Program.{Program}
+use Rattle.uv_script.specs.Text.{text_or_none, name_text, setting_lines, var_line, main_line, name_lines, callback_lines, thread_line, lines_text, script_text}
 
 pub lines_text-append : (xs ys : List (List ℕ)) → lines_text (xs ++ ys) ≡ lines_text xs ++ lines_text ys
 lines_text-append [] ys = refl
@@ -31,10 +31,13 @@ pub lines_end : {A : Type 0} (f : A → List ℕ) (xs : List A) (i : ℕ) (start
 lines_end f xs i start text at_end all =
     sym (append-nil text) ∙ ap (λ l. text ++ lines_text (map f l)) (sym (ap (λ n. drop n xs) at_end ∙ drop-length xs)) ∙ all
 
--- two lines
-pub two_lines : (text a b : List ℕ) → text ++ a ++ 10 ∷ [] ++ b ++ 10 ∷ [] ≡ text ++ lines_text (a ∷ b ∷ [])
-two_lines text a b =
-    append_assoc (text ++ a ++ 10 ∷ []) b (10 ∷ []) ∙ append_assoc (text ++ a) (10 ∷ []) (b ++ 10 ∷ []) ∙ append_assoc text a (10 ∷ (b ++ 10 ∷ []))
+-- three lines
+pub three_lines : (text a b c : List ℕ) → text ++ a ++ 10 ∷ [] ++ b ++ 10 ∷ [] ++ c ++ 10 ∷ [] ≡ text ++ lines_text (a ∷ b ∷ c ∷ [])
+three_lines text a b c =
+    sym (append-nil (text ++ a ++ 10 ∷ [] ++ b ++ 10 ∷ [] ++ c ++ 10 ∷ []))
+    ∙ line_more (text ++ a ++ 10 ∷ [] ++ b ++ 10 ∷ []) c []
+    ∙ line_more (text ++ a ++ 10 ∷ []) b (c ∷ [])
+    ∙ line_more text a (b ∷ c ∷ [])
 
 -- the texts of three lists of lines
 pub three_lists : (text : List ℕ) (xs ys zs : List (List ℕ)) →
@@ -79,12 +82,12 @@ callbacks_end p i start text at_end all =
 
 -- the texts of a script's parts
 pub whole_text : (text : List ℕ) (p : Program) →
-    text ++ lines_text (workers_line (worker_count p) ∷ slots_line (arena_size p) ∷ []) ++ lines_text (map var_line p.names)
-    ++ lines_text (map (main_line p.names) p.main) ++ lines_text (callback_lines p 0 p.names) ++ lines_text (map (thread_line p.names) p.threads)
+    text ++ lines_text (setting_lines p) ++ lines_text (map var_line p.names) ++ lines_text (map (main_line p.names) p.main)
+    ++ lines_text (callback_lines p 0 p.names) ++ lines_text (map (thread_line p.names) p.threads)
     ≡ text ++ script_text p
 unfolding script_text
 whole_text text p =
-    let settings = workers_line (worker_count p) ∷ slots_line (arena_size p) ∷ [] in
+    let settings = setting_lines p in
     let names = map var_line p.names in
     let main = map (main_line p.names) p.main in
     let callbacks = callback_lines p 0 p.names in

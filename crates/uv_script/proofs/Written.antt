@@ -7,13 +7,14 @@ use Rattle.std.proofs.lemmas.List.Elements.{Contains-push_cases}
 use Rattle.std.proofs.lemmas.List.Sums.{sum_by_push, sum_by-set}
 use Rattle.std.proofs.lemmas.Option.{unwrap_or-slice_get}
 use Rattle.uv_ids.specs.declared.id.Var.{Var}
+use Rattle.uv_ids.specs.declared.order.Order.{Order}
 use Rattle.uv_ids.specs.declared.seen.Callback.{Callback}
 use Rattle.uv_ids.specs.declared.seen.Callback.TheVariants as callback
 use Rattle.uv_script.specs.declared.op.MainOp.{MainOp}
 use Rattle.uv_script.specs.declared.op.CallbackLine.{CallbackLine}
 use Rattle.uv_script.specs.declared.size.ArenaSize.{ArenaSize}
 use Rattle.uv_ids.specs.declared.thread_line.ThreadLine.{ThreadLine}
-use Rattle.uv_script.specs.Grammar.{Statement, Declares, InMain, InCallback, Sizes, HasWorkers, InThread, Says, declares, in_main, runs, closes_loop, in_callback, in_call, sizes, sizes_to, has_workers, in_thread, HasRoom, with_statement, Draft, Reads, skips, says, ReadsAll, none, one, blank, unread, Makes}
+use Rattle.uv_script.specs.Grammar.{Statement, Declares, InMain, InCallback, Sizes, HasWorkers, Orders, InThread, Says, declares, in_main, runs, closes_loop, in_callback, in_call, sizes, sizes_to, has_workers, orders, in_thread, HasRoom, with_statement, Draft, Reads, skips, says, ReadsAll, none, one, blank, unread, Makes}
 use Rattle.uv_script.specs.Lines.{fields_of, IsLine}
 use Rattle.uv_script.specs.Program.{Program, Callbacks, no_callbacks, callbacks_of, lines_of, with_line, lines_in, callback_count, line_count, IsSlotCount, IsWorkerCount}
 use Rattle.uv_script.specs.Reading.{IsSound}
@@ -84,6 +85,7 @@ says_last names fields s (in_call kind name v number k rest o e declared is firs
 says_last names fields s (sizes slots n e is fits) = omega arith
 says_last names fields s (sizes_to slots last n g e is fits last_is small) = small
 says_last names fields s (has_workers number n e is fits) = tt
+says_last names fields s (orders o e) = tt
 says_last names fields s (in_thread number k name v e is few declared) = tt
 
 -- a line of a callback to which one was added is the added one, or was there
@@ -128,6 +130,21 @@ set_workers n p fits is = record {
   few = is.few;
   size = is.size;
   workers = fits;
+  threads = is.threads;
+}
+
+-- another order
+set_order : (o : Order) (p : Program) → AreWritten p → AreWritten (record p { order = o })
+set_order o p is = record {
+  names = is.names;
+  distinct = is.distinct;
+  few_names = is.few_names;
+  main = is.main;
+  callbacks = is.callbacks;
+  each = is.each;
+  few = is.few;
+  size = is.size;
+  workers = is.workers;
   threads = is.threads;
 }
 
@@ -257,6 +274,7 @@ module _ (p : Program) (is : AreWritten p) where
     threads = is.threads;
   }
   after_statement (HasWorkers n) sound last room new = set_workers n p sound is
+  after_statement (Orders o) sound last room new = set_order o p is
   after_statement (InThread line) sound last room new = after_thread line (new tt) room
 
 pub after_said : (p : Program) (line : List ℕ) (s : Statement) → AreWritten p → IsLine line → Says p.names (fields_of line) s → HasRoom p s →

@@ -5,10 +5,11 @@ use Rattle.uv_ids.specs.declared.id.Var.{Var}
 use Rattle.uv_ids.specs.declared.phase.Kind.{Kind}
 use Rattle.uv_ids.specs.declared.seen.Callback.{Callback}
 use Rattle.uv_ids.specs.declared.seen.Callback.TheVariants as callback
+use Rattle.uv_ids.specs.declared.order.Order.{Order}
 use Rattle.uv_ids.specs.declared.phase.Mode.{Mode}
 use Rattle.uv_ids.specs.declared.fault.Fault.{Fault}
 use Rattle.uv_ids.specs.declared.fault.Fault.TheVariants as fault
-use Rattle.uv_ids.specs.Words.{kind_word, mode_word}
+use Rattle.uv_ids.specs.Words.{kind_word, mode_word, order_word}
 use Rattle.uv_script.specs.declared.op.Op.{Op}
 use Rattle.uv_script.specs.declared.op.Op.TheVariants as op
 use Rattle.uv_script.specs.declared.op.MainOp.{MainOp}
@@ -19,7 +20,7 @@ use Rattle.uv_script.specs.declared.settings.Settings.{Settings}
 use Rattle.uv_script.specs.declared.task.Task.{Task}
 use Rattle.uv_ids.specs.declared.thread_line.ThreadLine.{ThreadLine}
 use Rattle.uv_script.specs.Lines.{lines_of, fields_of, IsLine, IsSkipped}
-use Rattle.uv_script.specs.Program.{Program, no_callbacks, callbacks_of, with_line, line_count, IsSlotCount, LAST_GENERATION, IsWorkerCount, DEFAULT_SIZE, DEFAULT_WORKERS, IsCounted}
+use Rattle.uv_script.specs.Program.{Program, no_callbacks, callbacks_of, with_line, line_count, IsSlotCount, LAST_GENERATION, IsWorkerCount, DEFAULT_SIZE, DEFAULT_WORKERS, DEFAULT_ORDER, IsCounted}
 use Rattle.uv_script.specs.Tasks.{text_of}
 use Rattle.uv_script.specs.Words.{IsName, IsNumber, IsDeclared}
 
@@ -35,6 +36,8 @@ pub data Statement : Type 0 where
   Sizes : ArenaSize → Statement
   -- `workers n`
   HasWorkers : ℕ → Statement
+  -- `order VERSION`
+  Orders : Order → Statement
   -- `thread k send NAME`
   InThread : ThreadLine → Statement
 
@@ -106,6 +109,7 @@ pub data Says (names : List (List ℕ)) (fields : List (List ℕ)) : Statement �
       g < 2 ^ 32 → Says names fields (Sizes (record { slots = n; last_generation = g }))
   has_workers : (number : List ℕ) (n : ℕ) → fields ≡ codes "workers" ∷ number ∷ [] → IsNumber number n → IsWorkerCount n →
       Says names fields (HasWorkers n)
+  orders : (o : Order) → fields ≡ codes "order" ∷ order_word o ∷ [] → Says names fields (Orders o)
   in_thread : (number : List ℕ) (k : ℕ) (name : List ℕ) (v : Var) → fields ≡ codes "thread" ∷ number ∷ codes "send" ∷ name ∷ [] →
       IsNumber number k → k < 64 → IsDeclared names name v → Says names fields (InThread (record { thread = k; name = v }))
 
@@ -116,12 +120,14 @@ HasRoom p (InMain op) = line_count p < 65535
 HasRoom p (InCallback kind v line) = line_count p < 65535
 HasRoom p (Sizes size) = Unit {0}
 HasRoom p (HasWorkers n) = Unit {0}
+HasRoom p (Orders o) = Unit {0}
 HasRoom p (InThread line) = line_count p < 65535
 
 -- a setting is said once at most
 abbrev pub IsNew : Settings → Statement → Type 0
 IsNew said (Sizes size) = said.slots ≡ false
 IsNew said (HasWorkers n) = said.workers ≡ false
+IsNew said (Orders o) = said.order ≡ false
 IsNew said _ = Unit {0}
 
 -- the script with what one more line says
@@ -131,12 +137,14 @@ with_statement p (InMain op) = record p { main = p.main ++ op ∷ [] }
 with_statement p (InCallback kind v line) = record p { callbacks = slice_set p.callbacks v.0 (with_line kind (callbacks_of p v) line) }
 with_statement p (Sizes size) = record p { size = size }
 with_statement p (HasWorkers n) = record p { workers = n }
+with_statement p (Orders o) = record p { order = o }
 with_statement p (InThread line) = record p { threads = p.threads ++ line ∷ [] }
 
 -- which settings are said with one more line
 abbrev pub with_said : Settings → Statement → Settings
 with_said said (Sizes size) = record said { slots = true }
 with_said said (HasWorkers n) = record said { workers = true }
+with_said said (Orders o) = record said { order = true }
 with_said said _ = said
 
 -- a script as far as it was read: what its lines make, and which settings they said
@@ -157,16 +165,32 @@ pub data ReadsAll : Draft → List (List ℕ) → Draft → Type 0 where
 
 -- the script of no line
 abbrev pub blank : Program
-blank = record { names = []; main = []; callbacks = []; size = DEFAULT_SIZE; workers = DEFAULT_WORKERS; threads = [] }
+blank = record {
+  names = [];
+  main = [];
+  callbacks = [];
+  size = DEFAULT_SIZE;
+  workers = DEFAULT_WORKERS;
+  order = DEFAULT_ORDER;
+  threads = [];
+}
 
 -- before the first line
 abbrev pub unread : Draft
-unread = record { program = blank; said = record { slots = false; workers = false } }
+unread = record { program = blank; said = record { slots = false; workers = false; order = false } }
+
+-- before the first line of a text that takes no line `order`: the order counts as said
+abbrev pub order_said : Draft
+order_said = record { program = blank; said = record { slots = false; workers = false; order = true } }
+
+-- these lines go on from a draft, and then the script is this one
+pub record MakesFrom (d : Draft) (lines : List (List ℕ)) (p : Program) : Type 0 where
+  pub said : Settings
+  pub read : ReadsAll d lines (record { program = p; said = said })
 
 -- these lines are the script
-pub record Makes (lines : List (List ℕ)) (p : Program) : Type 0 where
-  pub said : Settings
-  pub read : ReadsAll unread lines (record { program = p; said = said })
+abbrev pub Makes : List (List ℕ) → Program → Type 0
+Makes lines p = MakesFrom unread lines p
 
 -- the script was read from some lines
 pub record WasRead (p : Program) : Type 0 where
@@ -182,20 +206,28 @@ pub record IsReadScript (lines : ℕ) (p : Program) : Type 0 where
 abbrev pub IsScript : List ℕ → Program → Type 0
 IsScript text p = Makes (lines_of text) p
 
--- the text's first line outside the grammar, from 1: those before it are a script, and it takes that nowhere
-pub record IsBadLine (text : List ℕ) (number : ℕ) : Type 0 where
+-- the first line of the text, from 1, with which it can't go on from a draft: those before it do, and it goes on nowhere
+pub record IsBadLineFrom (d : Draft) (text : List ℕ) (number : ℕ) : Type 0 where
   pub before : List (List ℕ)
   pub line : List ℕ
   pub after : List (List ℕ)
   pub lines_are : lines_of text ≡ before ++ line ∷ after
   pub counted : number ≡ length before + 1
   pub draft : Draft
-  pub read : ReadsAll unread before draft
-  pub refused : (d : Draft) → Reads draft line d → ⊥
+  pub read : ReadsAll d before draft
+  pub refused : (e : Draft) → Reads draft line e → ⊥
 
--- what may be answered to a text: its script, or its first bad line; or want of memory
+-- the text's first line outside the grammar, from 1
+abbrev pub IsBadLine : List ℕ → ℕ → Type 0
+IsBadLine text number = IsBadLineFrom unread text number
+
+-- what may be answered to a text that goes on from a draft: its script, or its first bad line; or want of memory
+abbrev pub ParsesFrom : Draft → List ℕ → Result Program Fault → Type 0
+ParsesFrom d text (Ok p) = MakesFrom d (lines_of text) p
+ParsesFrom d text (Err (fault.Script line)) = IsBadLineFrom d text line
+ParsesFrom d text (Err fault.Memory) = Unit {0}
+ParsesFrom d text (Err _) = ⊥
+
+-- and to a text
 abbrev pub Parses : List ℕ → Result Program Fault → Type 0
-Parses text (Ok p) = IsScript text p
-Parses text (Err (fault.Script line)) = IsBadLine text line
-Parses text (Err fault.Memory) = Unit {0}
-Parses text (Err _) = ⊥
+Parses text r = ParsesFrom unread text r

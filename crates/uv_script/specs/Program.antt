@@ -1,6 +1,8 @@
 -- A script, as its parts.
 use Rattle.std.specs.Prelude.{◌≡◌, ℕ, ◌+◌, ◌<◌, ◌≤◌, ◌==◌, Bool, true, List, [], ◌∷◌, ◌++◌, Option, Some, None, option_map, unwrap_or, slice_get, length, sum_by, All}
 use Rattle.uv_ids.specs.declared.id.Var.{Var}
+use Rattle.uv_ids.specs.declared.order.Order.{Order}
+use Rattle.uv_ids.specs.declared.order.Order.TheVariants as orders
 use Rattle.uv_ids.specs.declared.seen.Callback.{Callback}
 use Rattle.uv_ids.specs.declared.seen.Callback.TheVariants as callback
 use Rattle.uv_ids.specs.declared.seen.Site.{Site}
@@ -32,6 +34,8 @@ pub record Program : Type 0 where
   pub size : ArenaSize
   -- how many workers the thread pool has
   pub workers : ℕ
+  -- where the timers stand in an iteration of the loop
+  pub order : Order
   -- the lines of the senders' threads, as they came
   pub threads : List ThreadLine
 
@@ -108,12 +112,20 @@ IsWorkerCount n = (1 ≤ n) × (n ≤ 1024)
 abbrev pub with_workers : ℕ → Program → Program
 with_workers n p = record p { workers = n }
 
+-- the order of a run's phases where no line says it: that of libuv from 1.45 on (own)
+abbrev pub DEFAULT_ORDER : Order
+DEFAULT_ORDER = orders.V145
+
+-- the order of the phases of the script's runs
+abbrev pub order_of : Program → Order
+order_of p = p.order
+
 -- a line of a sender's thread, where there are so many names: threads have numbers below 64 (own), and the name is declared
 pub record IsThreadLine (names : ℕ) (line : ThreadLine) : Type 0 where
   pub thread : line.thread < 64
   pub declared : line.name.0 < names
 
--- the lines that count: all but `workers`, `slots`, empty ones and comments
+-- the lines that count: all but `order`, `workers`, `slots`, empty ones and comments
 abbrev pub line_count : Program → ℕ
 line_count p = length p.names + length p.main + sum_by callback_count p.callbacks + length p.threads
 

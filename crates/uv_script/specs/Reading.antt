@@ -9,13 +9,15 @@ use Rattle.uv_ids.specs.declared.seen.Callback.{Callback}
 use Rattle.uv_ids.specs.declared.seen.Callback.TheVariants as callback
 use Rattle.uv_ids.specs.declared.phase.Mode.{Mode}
 use Rattle.uv_ids.specs.declared.phase.Mode.TheVariants as mode
+use Rattle.uv_ids.specs.declared.order.Order.{Order}
+use Rattle.uv_ids.specs.declared.order.Order.TheVariants as order
 use Rattle.uv_ids.specs.declared.fault.Fault.{Fault}
 use Rattle.uv_ids.specs.declared.fault.Fault.TheVariants as fault
 use Rattle.uv_script.specs.declared.op.Op.{Op}
 use Rattle.uv_script.specs.declared.op.Op.TheVariants as op
 use Rattle.uv_script.specs.declared.op.MainOp.TheVariants as main
 use Rattle.uv_script.specs.declared.settings.Settings.{Settings}
-use Rattle.uv_script.specs.Grammar.{Statement, Declares, InMain, InCallback, Sizes, HasWorkers, InThread, Says, Draft, with_statement, with_said}
+use Rattle.uv_script.specs.Grammar.{Statement, Declares, InMain, InCallback, Sizes, HasWorkers, Orders, InThread, Says, Draft, with_statement, with_said}
 use Rattle.uv_script.specs.Lines.{fields_of, rest_of, IsLine}
 use Rattle.uv_script.specs.Program.{Program, line_count, IsSlotCount, LAST_GENERATION, IsWorkerCount, IsThreadLine}
 use Rattle.uv_script.specs.Checks.{is_line, is_skipped, is_name, number_of}
@@ -54,6 +56,13 @@ mode_of word =
     if bytes_eq word (codes "default") then Some mode.Default
     else if bytes_eq word (codes "once") then Some mode.Once
     else if bytes_eq word (codes "nowait") then Some mode.Nowait
+    else None
+
+-- the order of a version of libuv
+unfoldable pub version_of : List ℕ → Option Order
+version_of word =
+    if bytes_eq word (codes "1.44") then Some order.V144
+    else if bytes_eq word (codes "1.45") then Some order.V145
     else None
 
 -- ops, behind their words
@@ -256,6 +265,14 @@ workers_of fields = do
   end ← none_left number.1
   if nat_le 1 n && nat_le n 1024 then Some (HasWorkers n) else None
 
+-- what stands behind `order`
+unfoldable pub orders_of : List (List ℕ) → Option Statement
+orders_of fields = do
+  version ← first_of fields
+  o ← version_of version.0
+  end ← none_left version.1
+  Some (Orders o)
+
 -- what stands behind the number of a thread and the word of what it does
 unfoldable pub sender_of : List (List ℕ) → ℕ → List (List ℕ) → Option Statement
 sender_of names k fields = do
@@ -270,11 +287,12 @@ thread_of names fields = do
   word ← first_of number.1
   if bytes_eq word.0 (codes "send") then sender_of names k word.1 else None
 
--- what stands behind the word of a line that says what the loop runs on: how large it is, and which threads there are
+-- what stands behind the word of a line that says what the loop runs on: how large it is, which threads there are, and its order
 unfoldable pub setting_of : List (List ℕ) → List ℕ → List (List ℕ) → Option Statement
 setting_of names word fields =
     if bytes_eq word (codes "slots") then size_of fields
     else if bytes_eq word (codes "workers") then workers_of fields
+    else if bytes_eq word (codes "order") then orders_of fields
     else if bytes_eq word (codes "thread") then thread_of names fields
     else None
 
@@ -296,12 +314,14 @@ has_room p (InMain op) = nat_lt (line_count p) 65535
 has_room p (InCallback kind v line) = nat_lt (line_count p) 65535
 has_room p (Sizes size) = true
 has_room p (HasWorkers n) = true
+has_room p (Orders o) = true
 has_room p (InThread line) = nat_lt (line_count p) 65535
 
 -- whether a setting is said for the first time
 abbrev pub is_new : Settings → Statement → Bool
 is_new said (Sizes size) = not said.slots
 is_new said (HasWorkers n) = not said.workers
+is_new said (Orders o) = not said.order
 is_new said _ = true
 
 -- what a statement needs beside room
@@ -311,6 +331,7 @@ IsSound p (InMain op) = Unit {0}
 IsSound p (InCallback kind v line) = v.0 < length p.names
 IsSound p (Sizes size) = IsSlotCount size.slots
 IsSound p (HasWorkers n) = IsWorkerCount n
+IsSound p (Orders o) = Unit {0}
 IsSound p (InThread line) = IsThreadLine (length p.names) line
 
 -- some line says this

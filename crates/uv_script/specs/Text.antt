@@ -3,7 +3,8 @@ use Rattle.std.specs.Prelude.{ℕ, ◌+◌, List, [], ◌∷◌, ◌++◌, map, 
 use Rattle.uv_ids.specs.declared.id.Var.{Var}
 use Rattle.uv_ids.specs.declared.seen.Callback.{Callback}
 use Rattle.uv_ids.specs.declared.seen.Callback.TheVariants as callback
-use Rattle.uv_ids.specs.Words.{kind_word, mode_word}
+use Rattle.uv_ids.specs.declared.order.Order.{Order}
+use Rattle.uv_ids.specs.Words.{kind_word, mode_word, order_word}
 use Rattle.uv_script.specs.declared.op.Op.{Op}
 use Rattle.uv_script.specs.declared.op.Op.TheVariants as op
 use Rattle.uv_script.specs.declared.op.MainOp.{MainOp}
@@ -11,7 +12,7 @@ use Rattle.uv_script.specs.declared.op.MainOp.TheVariants as main
 use Rattle.uv_script.specs.declared.op.CallbackLine.{CallbackLine}
 use Rattle.uv_script.specs.declared.size.ArenaSize.{ArenaSize}
 use Rattle.uv_ids.specs.declared.thread_line.ThreadLine.{ThreadLine}
-use Rattle.uv_script.specs.Program.{Program, lines_in, arena_size, worker_count}
+use Rattle.uv_script.specs.Program.{Program, lines_in, arena_size, worker_count, order_of}
 use Rattle.uv_script.specs.Tasks.{text_of}
 
 abbrev pub text_or_none : Option (List ℕ) → List ℕ
@@ -52,8 +53,11 @@ op_text names op.Now = codes "now"
 op_text names op.IsAlive = codes "alive"
 op_text names op.Timeout = codes "timeout"
 
--- the lines of a script, in their order: the number of workers, the size of the arena, the names, the main program, and then for each
--- name the lines of its callbacks, and last what threads send
+-- the lines of a script, in their order: the order of a run's phases, the number of workers, the size of the arena, the names, the main
+-- program, and then for each name the lines of its callbacks, and last what threads send
+
+abbrev pub order_line : Order → List ℕ
+order_line o = codes "order " ++ order_word o
 
 abbrev pub workers_line : ℕ → List ℕ
 workers_line n = codes "workers " ++ decimal n
@@ -94,9 +98,12 @@ callback_lines p n (name ∷ names) = name_lines p (record { 0 = n }) ++ callbac
 abbrev pub thread_line : List (List ℕ) → ThreadLine → List ℕ
 thread_line names line = codes "thread " ++ decimal line.thread ++ codes " send " ++ name_text names line.name
 
+abbrev pub setting_lines : Program → List (List ℕ)
+setting_lines p = order_line (order_of p) ∷ workers_line (worker_count p) ∷ slots_line (arena_size p) ∷ []
+
 abbrev pub script_lines : Program → List (List ℕ)
-script_lines p = workers_line (worker_count p) ∷ slots_line (arena_size p) ∷
-    map var_line p.names ++ map (main_line p.names) p.main ++ callback_lines p 0 p.names ++ map (thread_line p.names) p.threads
+script_lines p = setting_lines p
+    ++ map var_line p.names ++ map (main_line p.names) p.main ++ callback_lines p 0 p.names ++ map (thread_line p.names) p.threads
 
 -- each line with its line feed
 abbrev pub lines_text : List (List ℕ) → List ℕ

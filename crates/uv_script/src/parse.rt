@@ -1,6 +1,6 @@
 //! Reading a script's text.
 ghost use Rattle.std.specs.Prelude.{◌≡◌, ℕ, List};
-ghost use Rattle.uv_script.specs.Grammar.{IsScript, Parses};
+ghost use Rattle.uv_script.specs.Grammar.{IsScript, Parses, ParsesFrom, blank, order_said};
 ghost use Rattle.uv_script.specs.Laws.{HasReading, HasOneScript, HasNoBadLine, HasOneBadLine, IsReadBack};
 ghost use Rattle.uv_script.specs.Program.{Program};
 ghost use Rattle.uv_script.specs.Reading.{ReadsLine};
@@ -33,11 +33,32 @@ impl Script {
     pub fn parse(alloc: Global, text: &[u8]) -> Result<Script, Fault>
         ensures { Parses text.now result }
     {
-        let mut script = Script::blank(alloc);
-        let mut settings = Settings {
+        let none_said = Settings {
             slots: false,
             workers: false,
+            order: false,
         };
+        Script::parse_from(alloc, none_said, text)
+    }
+
+    /// The script of a text that takes no line `order`, since it is of a time when there was none. Else as `parse`.
+    pub fn parse_without_order(alloc: Global, text: &[u8]) -> Result<Script, Fault>
+        ensures { ParsesFrom order_said text.now result }
+    {
+        let order_said = Settings {
+            slots: false,
+            workers: false,
+            order: true,
+        };
+        Script::parse_from(alloc, order_said, text)
+    }
+
+    /// The script of a text, where these settings count as said before its first line.
+    fn parse_from(alloc: Global, said: Settings, text: &[u8]) -> Result<Script, Fault>
+        ensures { ParsesFrom (record { program = blank; said = said }) text.now result }
+    {
+        let mut script = Script::blank(alloc);
+        let mut settings = said;
         let mut number = 0;
         for line in Lines::of(text) {
             number += 1;

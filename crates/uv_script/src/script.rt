@@ -3,7 +3,7 @@ ghost use Rattle.std.specs.Prelude.{◌≡◌, slice_get, length, OnOk, All};
 ghost use Rattle.uv_script.specs.Grammar.{Declares, InMain, InCallback, InThread, Sizes, HasRoom, WasRead, with_statement, blank};
 ghost use Rattle.uv_script.specs.Reading.{has_room, IsSound, IsSaid};
 ghost use Rattle.uv_script.specs.Said.{said};
-ghost use Rattle.uv_script.specs.Program.{lines_in, op_at, arena_size, worker_count, with_workers, IsWorkerCount, IsThreadLine, IsWhole};
+ghost use Rattle.uv_script.specs.Program.{lines_in, op_at, arena_size, worker_count, order_of, with_workers, IsWorkerCount, IsThreadLine, IsWhole};
 
 use crate::names::Names;
 use crate::op::{CallbackLine, Callbacks, MainOp, Op};
@@ -11,7 +11,7 @@ use crate::size::ArenaSize;
 use crate::statement::Statement;
 use std::alloc::{AllocError, Global};
 use std::marker::Model;
-use uv_ids::{Callback, Site, ThreadLine, Var};
+use uv_ids::{Callback, Order, Site, ThreadLine, Var};
 
 /// A script that was read.
 #[derive(Drop)]
@@ -21,8 +21,9 @@ pub struct Script {
     callbacks: Vec<Callbacks>,
     size: ArenaSize,
     workers: u16,
+    order: Order,
     threads: Vec<ThreadLine>,
-    /// How many lines count: all but `workers`, `slots`, empty ones and comments.
+    /// How many lines count: all but `order`, `workers`, `slots`, empty ones and comments.
     lines: usize,
 }
 
@@ -32,6 +33,9 @@ const MAX_NAMES: usize = 4096;
 
 /// How many workers the thread pool has where no line says it, as in libuv.
 const DEFAULT_WORKERS: u16 = 4;
+
+/// The order of a run's phases where no line says it.
+const DEFAULT_ORDER: Order = Order::V145;
 
 impl Model for Script {
     ghost use Rattle.uv_script.specs.Program.{Program};
@@ -45,6 +49,7 @@ impl Model for Script {
       callbacks = script.callbacks.items;
       size = script.size;
       workers = script.workers;
+      order = script.order;
       threads = script.threads.items;
     } };
 
@@ -54,6 +59,7 @@ impl Model for Script {
       callbacks = script.callbacks.items;
       size = script.size;
       workers = script.workers;
+      order = script.order;
       threads = script.threads.items;
     }) };
 }
@@ -69,6 +75,7 @@ impl Script {
             callbacks: Vec::new(alloc),
             size: ArenaSize::by_default(),
             workers: DEFAULT_WORKERS,
+            order: DEFAULT_ORDER,
             threads: Vec::new(alloc),
             lines: 0,
         }
@@ -84,6 +91,7 @@ impl Script {
             Statement::InCallback(_, _, _) => self.lines < MAX_LINES,
             Statement::Sizes(_) => true,
             Statement::HasWorkers(_) => true,
+            Statement::Orders(_) => true,
             Statement::InThread(_) => self.lines < MAX_LINES,
         }
     }
@@ -104,6 +112,10 @@ impl Script {
             }
             Statement::HasWorkers(workers) => {
                 self.workers = workers;
+                Ok(())
+            }
+            Statement::Orders(order) => {
+                self.order = order;
                 Ok(())
             }
             Statement::InThread(line) => self.push_thread(line),
@@ -194,6 +206,13 @@ impl Script {
         ensures within { IsWorkerCount result }
     {
         self.workers
+    }
+
+    /// The order of a run's phases: as the line `order` says, else that of libuv from 1.45 on.
+    pub fn order(&self) -> Order
+        ensures { result ≡ order_of self.now }
+    {
+        self.order
     }
 
     /// The lines of the senders' threads, as they came.

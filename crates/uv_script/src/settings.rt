@@ -13,6 +13,8 @@ pub struct Settings {
     pub slots: bool,
     /// `workers n`
     pub workers: bool,
+    /// `order VERSION`
+    pub order: bool,
 }
 
 impl Settings {
@@ -26,6 +28,7 @@ impl Settings {
             Statement::InCallback(_, _, _) => true,
             Statement::Sizes(_) => !self.slots,
             Statement::HasWorkers(_) => !self.workers,
+            Statement::Orders(_) => !self.order,
             Statement::InThread(_) => true,
         }
     }
@@ -44,6 +47,10 @@ impl Settings {
             },
             Statement::HasWorkers(_) => Settings {
                 workers: true,
+                ..self
+            },
+            Statement::Orders(_) => Settings {
+                order: true,
                 ..self
             },
             Statement::InThread(_) => self,

@@ -1,7 +1,7 @@
 //! What the lines of a script say, one at a time.
 ghost use Rattle.std.specs.Prelude.{◌≡◌, Some, option_map};
 ghost use Rattle.uv_script.specs.Lines.{fields_of};
-ghost use Rattle.uv_script.specs.Reading.{none_left, kind_of, mode_of, init_of, timer_start_of, start_of, repeat_of, text_by, queue_of, bare_op, named_op, name_alone, short_op_of, op_of, declaration_of, run_of, main_of, main_by, close_loop_of, call_of, marked, in_calls_of, in_call_of, callback_of, last_of, size_of, workers_of, sender_of, thread_of, setting_of, statement_of};
+ghost use Rattle.uv_script.specs.Reading.{none_left, kind_of, mode_of, init_of, timer_start_of, start_of, repeat_of, text_by, queue_of, bare_op, named_op, name_alone, short_op_of, op_of, declaration_of, run_of, main_of, main_by, close_loop_of, call_of, marked, in_calls_of, in_call_of, callback_of, last_of, size_of, workers_of, orders_of, sender_of, thread_of, setting_of, statement_of};
 ghost use Rattle.uv_script.specs.Said.{said};
 ghost use Rattle.uv_script.specs.TaskReading.{task_of};
 
@@ -11,7 +11,7 @@ use crate::op::{CallbackLine, MainOp, Op};
 use crate::size::ArenaSize;
 use crate::task::Task;
 use crate::words::{is_name, number};
-use uv_ids::{Callback, Kind, Mode, ThreadLine, Var, is};
+use uv_ids::{Callback, Kind, Mode, Order, ThreadLine, Var, is};
 
 /// What a line says.
 #[derive(Drop)]
@@ -26,6 +26,8 @@ pub(crate) enum Statement<'a> {
     Sizes(ArenaSize),
     /// `workers n`
     HasWorkers(u16),
+    /// `order VERSION`
+    Orders(Order),
     /// `thread k send NAME`
     InThread(ThreadLine),
 }
@@ -233,7 +235,7 @@ pub(crate) fn statement_in<'a>(names: &Names, line: &'a [u8]) -> Option<Statemen
     }
 }
 
-/// A line that says what the loop runs on: how large it is, and which threads there are.
+/// A line that says what the loop runs on: how large it is, which threads there are, and its order.
 #[tactic(auto, unfolding(crate::specs::Reading::setting_of))]
 fn setting<'a>(names: &Names, word: &[u8], fields: Fields<'a>) -> Option<Statement<'a>>
     ensures { option_map said result ≡ setting_of names.now word.now fields.entry }
@@ -242,6 +244,8 @@ fn setting<'a>(names: &Names, word: &[u8], fields: Fields<'a>) -> Option<Stateme
         size(fields)
     } else if is(word, b"workers") {
         workers(fields)
+    } else if is(word, b"order") {
+        orders(fields)
     } else if is(word, b"thread") {
         thread(names, fields)
     } else {
@@ -412,6 +416,15 @@ fn workers<'a>(mut fields: Fields<'a>) -> Option<Statement<'a>>
     } else {
         None
     }
+}
+
+#[tactic(auto, unfolding(crate::specs::Reading::orders_of))]
+fn orders<'a>(mut fields: Fields<'a>) -> Option<Statement<'a>>
+    ensures { option_map said result ≡ orders_of fields.entry }
+{
+    let order = Order::from_word(fields.next()?)?;
+    none_left(fields)?;
+    Some(Statement::Orders(order))
 }
 
 /// A line of a thread, from the name that it sends on.

@@ -1,11 +1,11 @@
 //! The text of a script's parts.
-ghost use Rattle.std.specs.Prelude.{◌≡◌, ◌++◌, ◌∷◌, [], map, decimal, OnOk, IfOk, IfErr};
+ghost use Rattle.std.specs.Prelude.{◌≡◌, ◌++◌, map, decimal, OnOk, IfOk, IfErr};
 ghost use Rattle.uv_ids.specs.declared.fault.Fault.TheVariants.{Memory};
 ghost use Rattle.uv_script.specs.Grammar.{WasRead};
 ghost use Rattle.uv_script.specs.Laws.{IsReadBack};
-ghost use Rattle.uv_script.specs.Program.{arena_size, worker_count};
+ghost use Rattle.uv_script.specs.Program.{arena_size, worker_count, order_of};
 ghost use Rattle.uv_script.specs.declared.op.Op.TheVariants.{Start, Queue};
-ghost use Rattle.uv_script.specs.Text.{op_text, name_text, task_text, workers_line, slots_line, var_line, main_line, call_text, front_text, callback_line, name_lines, callback_lines, thread_line, lines_text, script_text};
+ghost use Rattle.uv_script.specs.Text.{op_text, name_text, task_text, order_line, workers_line, slots_line, setting_lines, var_line, main_line, call_text, front_text, callback_line, name_lines, callback_lines, thread_line, lines_text, script_text};
 
 use crate::names::Names;
 use crate::op::{CallbackLine, MainOp, Op};
@@ -242,9 +242,9 @@ impl Names {
 }
 
 impl Script {
-    /// The script as a text, which says how large the arena is and how many workers there are: the lines `workers` and
-    /// `slots`, the names, the main program, for each name the lines of its callbacks, and last the lines of threads, as
-    /// they came. Such a text is read back as this very script.
+    /// The script as a text, which says all settings: the lines `order`, `workers` and `slots`, the names, the main program,
+    /// for each name the lines of its callbacks, and last the lines of threads, as they came. Such a text is read back as
+    /// this very script.
     pub fn text(&self) -> Result<Vec<u8>, Fault>
         ensures text { IfOk result (λ text. text.items ≡ script_text self.now) }
         ensures err { IfErr result (λ fault. fault ≡ Memory) }
@@ -269,6 +269,14 @@ impl Script {
         Ok(())
     }
 
+    /// Writes the order of a run's phases.
+    fn push_order(&self, text: &mut Vec<u8>) -> Result<(), AllocError>
+        ensures { OnOk result (text.new.items ≡ text.old.items ++ order_line (order_of self.now)) }
+    {
+        text.extend_from_slice(b"order ")?;
+        text.extend_from_slice(self.order().word().as_bytes())
+    }
+
     /// Writes how many workers there are.
     fn push_workers(&self, text: &mut Vec<u8>) -> Result<(), AllocError>
         ensures { OnOk result (text.new.items ≡ text.old.items ++ workers_line (worker_count self.now)) }
@@ -288,11 +296,12 @@ impl Script {
         push_number(text, size.last_generation as u64)
     }
 
-    /// Writes the lines of both.
+    /// Writes the lines of all settings.
     fn push_settings(&self, text: &mut Vec<u8>) -> Result<(), AllocError>
-        ensures { OnOk result (text.new.items
-            ≡ text.old.items ++ lines_text (workers_line (worker_count self.now) ∷ slots_line (arena_size self.now) ∷ [])) }
+        ensures { OnOk result (text.new.items ≡ text.old.items ++ lines_text (setting_lines self.now)) }
     {
+        self.push_order(text)?;
+        text.extend_from_slice(b"\n")?;
         self.push_workers(text)?;
         text.extend_from_slice(b"\n")?;
         self.push_slots(text)?;

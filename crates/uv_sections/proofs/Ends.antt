@@ -23,7 +23,7 @@ use Rattle.uv_model.specs.State.{State, with_id, front_request}
 use Rattle.uv_order.specs.Active.{IsTimer, has_id}
 use Rattle.uv_order.specs.Reached.{IsReached}
 use Rattle.uv_step.specs.declared.content.Content.{Content}
-use Rattle.uv_step.specs.declared.content.Content.TheVariants.{Handle}
+use Rattle.uv_step.specs.declared.content.Content.TheVariants.{Handle, Request as Asked}
 use Rattle.uv_step.specs.declared.record.Record.{Record}
 use Rattle.uv_step.specs.Content.{handle_in, request_in}
 use Rattle.uv_step.specs.Does.{FirstIs, closed_by, ended_by}
@@ -59,8 +59,8 @@ module _ (r : Record Place) (h k : Held Place) (last : ℕ) (so : h.image.arena.
 
   -- ---- a request
 
-  module _ (q : Request) (u : CollectUndo Content) (is : r.change ≡ ended_by u)
-      (c : IsCollected request_in (working_of i) (working_of j) d q u) where
+  module _ (q : Request) (u : CollectUndo) (is : r.change ≡ ended_by q u)
+      (c : IsCollected request_in Asked (working_of i) (working_of j) d q u) where
     off_done : (l : ListName) → arena.members j.arena l ≡ without eqb (arena.members i.arena l) d.slot
     off_done l = elim (list_is l name.DoneYet) [
       | inl e ↦ subst (λ x. arena.members j.arena x ≡ without eqb (arena.members i.arena x) d.slot) (sym e) (c.yet ∙ sym c.first.after)
@@ -81,9 +81,9 @@ module _ (r : Record Place) (h k : Held Place) (last : ℕ) (so : h.image.arena.
           request = asks.request;
           front = ap (front_request s) (front_there i s name.DoneYet d st c.first) ∙ ap (λ o. with_id d (model.request_in o)) asks.there;
           same = asks.same;
-          stands = stands_then i j s t st (ended_keeps u r h k recorded is)
+          stands = stands_then i j s t st (ended_keeps q u r h k recorded is)
               (sections_kept s a s.idle s.prepare s.check s.async s.closing (record s.done { yet = drop 1 s.done.yet }) s.time)
-              (ended_time u r h k recorded is ∙ st.time)
+              (ended_time q u r h k recorded is ∙ st.time)
               (freed_slots i s st j.arena last d name.DoneYet c.first freed_done off_done)
               (freed_lists i s st j.arena last d name.DoneYet c.first freed_done off_done t (beside_done_yet s a (drop 1 s.done.yet)) refl)
               (freed_timers i s st j.arena last d name.DoneYet c.first freed_done off_done reached no_timer)
@@ -92,8 +92,8 @@ module _ (r : Record Place) (h k : Held Place) (last : ℕ) (so : h.image.arena.
 
   -- ---- a handle
 
-  module _ (e : Id) (q : HandleRecord) (f : FirstIs i.arena name.ClosingYet e q) (v : Content) (u : TakeUndo Content)
-      (is : r.change ≡ closed_by u) (c : IsTaken handle_in Handle (counted_of i) (counted_of j) d v u) where
+  module _ (e : Id) (q : HandleRecord) (f : FirstIs i.arena name.ClosingYet e q) (g : HandleRecord) (u : TakeUndo)
+      (is : r.change ≡ closed_by g u) (c : IsTaken handle_in Handle (counted_of i) (counted_of j) d (Handle g) u) where
     one : d ≡ e
     one = first_one i.arena name.ClosingYet e d f.first c.first
 
@@ -121,9 +121,9 @@ module _ (r : Record Place) (h k : Held Place) (last : ℕ) (so : h.image.arena.
         let t : State = record s { arena = a; closing = record s.closing { yet = drop 1 s.closing.yet } } in
         record {
           front = front_is i s st name.ClosingYet e (Some q) f.first f.handle;
-          stands = stands_then i j s t st (closed_keeps u r h k recorded is)
+          stands = stands_then i j s t st (closed_keeps g u r h k recorded is)
               (sections_kept s a s.idle s.prepare s.check s.async (record s.closing { yet = drop 1 s.closing.yet }) s.done s.time)
-              (closed_time u r h k recorded is ∙ st.time)
+              (closed_time g u r h k recorded is ∙ st.time)
               (freed_slots i s st j.arena last e name.ClosingYet f.first freed_closing off_closing)
               (freed_lists i s st j.arena last e name.ClosingYet f.first freed_closing off_closing t
               (beside_closing_yet s a (drop 1 s.closing.yet)) refl)

@@ -2,6 +2,7 @@
 use Rattle.std.proofs.Common.{◌≡◌, ◌++◌, ◌∷◌, [], ℕ, List, Option, Some, None, map, refl, sym, ap, ◌∙◌, subst}
 use Rattle.uv_ids.specs.declared.id.Id.{Id}
 use Rattle.uv_ids.specs.declared.due.Due.{Due}
+use Rattle.uv_records.specs.declared.handle.HandleRecord.{HandleRecord}
 use Rattle.uv_records.specs.declared.lists.ListName.{ListName}
 use Rattle.uv_records.specs.Slots as plain
 use Rattle.uv_records.specs.Walks.{Walk}
@@ -15,6 +16,7 @@ use Rattle.uv_handle.specs.declared.undo.TakeUndo.{TakeUndo}
 use Rattle.uv_heap.specs.declared.entry.Entry.{Entry}
 use Rattle.uv_heap.specs.Array.{IsHeap, SlotsDiffer}
 use Rattle.uv_heap.specs.Order.{IsInOrder}
+use Rattle.uv_work.specs.Requests.{Request}
 use Rattle.uv_requests.specs.declared.undo.CollectUndo.{CollectUndo}
 use Rattle.uv_requests.specs.Working.{id_in}
 use Rattle.uv_model.specs.declared.content.Content as content
@@ -91,17 +93,17 @@ pub polled_keeps : (u : Polled) → Keeps (change.Polled u)
 polled_keeps u r h k recorded is = values_kept h.image k.image (change_back r (change.Polled u) h k recorded is) recorded.place
 
 -- a request or a closing handle is freed
-pub ended_keeps : (u : CollectUndo Content) → Keeps (ended_by u)
-ended_keeps u r h k recorded is = values_kept h.image k.image (change_back r (ended_by u) h k recorded is) recorded.place
+pub ended_keeps : (q : Request) (u : CollectUndo) → Keeps (ended_by q u)
+ended_keeps q u r h k recorded is = values_kept h.image k.image (change_back r (ended_by q u) h k recorded is) recorded.place
 
-pub ended_time : (u : CollectUndo Content) → KeepsTime (ended_by u)
-ended_time u r h k recorded is = ap (λ (q : Image Place). q.times.time) (change_back r (ended_by u) h k recorded is)
+pub ended_time : (q : Request) (u : CollectUndo) → KeepsTime (ended_by q u)
+ended_time q u r h k recorded is = ap (λ (i : Image Place). i.times.time) (change_back r (ended_by q u) h k recorded is)
 
-pub closed_keeps : (u : TakeUndo Content) → Keeps (closed_by u)
-closed_keeps u r h k recorded is = values_kept h.image k.image (change_back r (closed_by u) h k recorded is) recorded.place
+pub closed_keeps : (q : HandleRecord) (u : TakeUndo) → Keeps (closed_by q u)
+closed_keeps q u r h k recorded is = values_kept h.image k.image (change_back r (closed_by q u) h k recorded is) recorded.place
 
-pub closed_time : (u : TakeUndo Content) → KeepsTime (closed_by u)
-closed_time u r h k recorded is = ap (λ (q : Image Place). q.times.time) (change_back r (closed_by u) h k recorded is)
+pub closed_time : (q : HandleRecord) (u : TakeUndo) → KeepsTime (closed_by q u)
+closed_time q u r h k recorded is = ap (λ (i : Image Place). i.times.time) (change_back r (closed_by q u) h k recorded is)
 
 -- a handle moves on in its section, and is woken or not
 woken_or : (place : Place) (t : link.Place) (x : ℕ) (w : Option RecordUndo) (j : Image Place) → (a : arena.Image Content) × (active : ℕ)

@@ -4,9 +4,10 @@ ghost use Rattle.uv_records.specs.declared.lists.ListName.TheVariants.{ClosingYe
 ghost use Rattle.uv_records.specs.Lists.{yet_of};
 ghost use Rattle.uv_records.specs.Walks.{all_yet};
 ghost use Rattle.uv_arena.specs.Image.{members};
+ghost use Rattle.uv_script.specs.Program.{order_of};
 ghost use Rattle.uv_script.specs.declared.op.MainOp.TheVariants.{Run as run_line};
 ghost use Rattle.uv_model.specs.State.{State, watched, with_watched, refreshed};
-ghost use Rattle.uv_model.specs.Next.{stage_of, begin_walk, begin_closing, begin_done, begin_timers, main_step, is_default};
+ghost use Rattle.uv_model.specs.Next.{stage_of, begin_walk, begin_closing, begin_done, main_step, refreshes};
 ghost use Rattle.uv_step.specs.Fit.{IsFit};
 ghost use Rattle.uv_step.specs.Image.{held};
 ghost use Rattle.uv_step.specs.Undo.{Recorded};
@@ -14,9 +15,10 @@ ghost use Rattle.uv_stands.specs.Doing.{Returns, Goes};
 ghost use Rattle.uv_stands.specs.Stands.{StandsFor};
 
 use crate::standing::stand_in;
-use uv_ids::{Mode, Phase, Seen};
-use uv_model::{Place, Run, Stage, TimersOf, Timing};
+use uv_ids::{Mode, Order, Phase, Seen};
+use uv_model::{Place, Run, Stage};
 use uv_records::WatcherKind;
+use uv_script::Script;
 use uv_step::Memory;
 
 /// The place of a section that walks handles of a kind.
@@ -112,39 +114,30 @@ fn refresh(memory: &mut Memory<Place>)
     memory.update_time();
 }
 
-/// Begins the timers of an iteration, with the time refreshed.
-pub fn begin_timers(memory: &mut Memory<Place>, run: Run) -> Seen
-    requires fit { IsFit (held memory.old).image }
-    ensures returns { Returns memory.new.step_record (held memory.old) (held memory.new) }
-    ensures goes { Goes (λ s. begin_timers s run) (held memory.old).image (held memory.new).image (Some result) }
-{
-    refresh(memory);
-    let stage = Stage::Timers(TimersOf::Iteration, Timing::Collecting);
-    stand_in(memory, run, stage);
-    Seen::Section(Phase::Timers)
-}
-
-/// The loop's time is that of the clock in a default run, and stays in another one.
-fn refresh_in(memory: &mut Memory<Place>, mode: Mode)
+/// The loop's time is that of the clock in a default run in the order of 1.45, and stays in another one.
+fn refresh_in(memory: &mut Memory<Place>, order: Order, mode: Mode)
     requires fit { IsFit (held memory.old).image }
     ensures recorded { Recorded memory.new.step_record (held memory.old) (held memory.new) }
     ensures stands { (s : State) → StandsFor (held memory.old).image s
-        → StandsFor (held memory.new).image (if is_default mode then refreshed s else s) }
+        → StandsFor (held memory.new).image (if refreshes order mode then refreshed s else s) }
 {
-    match mode {
-        Mode::Default => refresh(memory),
-        Mode::Once | Mode::Nowait => memory.step_record = memory.pass(),
+    match order {
+        Order::V144 => memory.step_record = memory.pass(),
+        Order::V145 => match mode {
+            Mode::Default => refresh(memory),
+            Mode::Once | Mode::Nowait => memory.step_record = memory.pass(),
+        },
     }
 }
 
 /// Begins a run of a line of the main program (uv_run).
-pub fn begin_run(memory: &mut Memory<Place>, line: usize, mode: Mode) -> Seen
+pub fn begin_run(memory: &mut Memory<Place>, script: &Script, line: usize, mode: Mode) -> Seen
     requires fit { IsFit (held memory.old).image }
     ensures returns { Returns memory.new.step_record (held memory.old) (held memory.new) }
-    ensures goes { Goes (λ s. main_step s line (Some (run_line mode)))
+    ensures goes { Goes (λ s. main_step (order_of script.now) s line (Some (run_line mode)))
         (held memory.old).image (held memory.new).image (Some result) }
 {
-    refresh_in(memory, mode);
+    refresh_in(memory, script.order(), mode);
     let run = Run {
         mode,
         line,

@@ -1,12 +1,9 @@
-//! Iterations begin, and runs end.
+//! How a run goes on from a turn: timers begin, or the pending section, or the run ends.
 ghost use Rattle.std.specs.Prelude.{◌≡◌, ◌<◌, ◌^◌, Some, false};
 ghost use Rattle.uv_model.specs.State.{State};
-ghost use Rattle.uv_ids.specs.declared.phase.Phase.TheVariants as phase;
-ghost use Rattle.uv_model.specs.declared.place.Stage.TheVariants.{Timers as timers};
-ghost use Rattle.uv_model.specs.declared.place.TimersOf.TheVariants.{Entry as entry};
-ghost use Rattle.uv_model.specs.declared.place.Timing.TheVariants.{Collecting as collecting};
-ghost use Rattle.uv_model.specs.Next.{begins, new_iteration, ends, goes, enter, leave_timers};
-ghost use Rattle.uv_model.specs.Ids.{has_some};
+ghost use Rattle.uv_script.specs.Program.{order_of};
+ghost use Rattle.uv_model.specs.declared.place.Way.TheVariants.{ToTimers as to_timers, ToPending as to_pending};
+ghost use Rattle.uv_model.specs.Next.{ends, goes, goes_by, idled_at, idled_then, time_at, turns};
 ghost use Rattle.uv_step.specs.Fit.{IsFit};
 ghost use Rattle.uv_step.specs.Image.{held};
 ghost use Rattle.uv_step.specs.Undo.{Recorded};
@@ -14,33 +11,12 @@ ghost use Rattle.uv_stands.specs.Doing.{OfEach, Returns, Goes};
 ghost use Rattle.uv_stands.specs.Stands.{StandsFor};
 
 use crate::standing::{stand_at, stand_in};
-use uv_ids::{Mode, Phase, Seen};
-use uv_model::{Place, Run, Stage, TimersOf, Timing};
+use uv_ids::{Order, Phase, Seen};
+use uv_model::{Place, Run, Stage, TimersOf, Timing, Turn, Way, way};
 use uv_records::ListName;
+use uv_script::Script;
 use uv_stands::{has_members, is_alive};
 use uv_step::Memory;
-
-/// Keeps whether an idle handle is active.
-fn note_idle(memory: &mut Memory<Place>)
-    requires fit { IsFit (held memory.old).image }
-    ensures recorded { Recorded memory.new.step_record (held memory.old) (held memory.new) }
-    ensures stands { OfEach (held memory.old).image
-        (λ s. StandsFor (held memory.new).image (record s { idled = has_some s.idle.list })) }
-{
-    let idled = has_members(memory, ListName::Idle);
-    memory.set_idled(idled);
-}
-
-/// An iteration begins, and keeps whether an idle handle is active.
-pub fn new_iteration(memory: &mut Memory<Place>, run: Run) -> Seen
-    requires fit { IsFit (held memory.old).image }
-    ensures returns { Returns memory.new.step_record (held memory.old) (held memory.new) }
-    ensures goes { Goes (λ s. new_iteration s run) (held memory.old).image (held memory.new).image (Some result) }
-{
-    note_idle(memory);
-    stand_in(memory, run, Stage::Pending);
-    Seen::Section(Phase::Pending)
-}
 
 /// Clears the stop flag.
 fn clear_stop(memory: &mut Memory<Place>)
@@ -72,48 +48,82 @@ fn goes(memory: &Memory<Place>) -> bool
     is_alive(memory) && !memory.stop_flag
 }
 
-/// The timers that are due at the entry of a default run.
-fn enter_timers(memory: &mut Memory<Place>, run: Run) -> Seen
+/// The loop's time, and whether it idled, as these timers begin.
+fn set_for_timers(memory: &mut Memory<Place>, order: Order, part: TimersOf)
+    requires fit { IsFit (held memory.old).image }
+    ensures recorded { Recorded memory.new.step_record (held memory.old) (held memory.new) }
+    ensures stands { (s : State) → StandsFor (held memory.old).image s
+        → StandsFor (held memory.new).image (record s { time = time_at order part s; idled = idled_at order part s }) }
+{
+    match (order, part) {
+        (Order::V144, TimersOf::Entry) => memory.begin_iteration(),
+        (Order::V145, TimersOf::Entry) => memory.step_record = memory.pass(),
+        (_, TimersOf::Iteration) => memory.update_time(),
+    }
+}
+
+/// Timers begin.
+fn begin_timers(memory: &mut Memory<Place>, order: Order, run: Run, part: TimersOf) -> Seen
     requires fit { IsFit (held memory.old).image }
     ensures returns { Returns memory.new.step_record (held memory.old) (held memory.new) }
-    ensures goes { Goes (λ s. begins s run (timers entry collecting) phase.Timers)
-        (held memory.old).image (held memory.new).image (Some result) }
+    ensures goes { Goes (λ s. goes_by order s run (to_timers part)) (held memory.old).image (held memory.new).image (Some result) }
 {
-    memory.step_record = memory.pass();
-    let stage = Stage::Timers(TimersOf::Entry, Timing::Collecting);
+    set_for_timers(memory, order, part);
+    let stage = Stage::Timers(part, Timing::Collecting);
     stand_in(memory, run, stage);
     Seen::Section(Phase::Timers)
 }
 
-/// Enters a run: in default the timers that are due run first.
-pub fn enter(memory: &mut Memory<Place>, run: Run) -> Seen
+/// Whether the loop idled, as the pending section begins: in the order of 1.45 it keeps whether an idle handle is active.
+fn note_idle(memory: &mut Memory<Place>, order: Order)
     requires fit { IsFit (held memory.old).image }
-    requires line { run.line < 2 ^ 63 }
-    ensures returns { Returns memory.new.step_record (held memory.old) (held memory.new) }
-    ensures goes { Goes (λ s. enter s run) (held memory.old).image (held memory.new).image (Some result) }
+    ensures recorded { Recorded memory.new.step_record (held memory.old) (held memory.new) }
+    ensures stands { OfEach (held memory.old).image
+        (λ s. StandsFor (held memory.new).image (record s { idled = idled_then order s })) }
 {
-    if !goes(memory) {
-        return end_run(memory, run);
-    }
-    match run.mode {
-        Mode::Default => enter_timers(memory, run),
-        Mode::Once | Mode::Nowait => new_iteration(memory, run),
+    match order {
+        Order::V144 => memory.step_record = memory.pass(),
+        Order::V145 => {
+            let idled = has_members(memory, ListName::Idle);
+            memory.set_idled(idled);
+        }
     }
 }
 
-/// Leaves the timers: from the entry the first iteration begins, and in default one iteration after another.
-pub fn leave_timers(memory: &mut Memory<Place>, run: Run, part: TimersOf) -> Seen
+/// The pending section begins.
+fn begin_pending(memory: &mut Memory<Place>, order: Order, run: Run) -> Seen
+    requires fit { IsFit (held memory.old).image }
+    ensures returns { Returns memory.new.step_record (held memory.old) (held memory.new) }
+    ensures goes { Goes (λ s. goes_by order s run to_pending) (held memory.old).image (held memory.new).image (Some result) }
+{
+    note_idle(memory, order);
+    stand_in(memory, run, Stage::Pending);
+    Seen::Section(Phase::Pending)
+}
+
+/// The run goes on so.
+fn go_by(memory: &mut Memory<Place>, order: Order, run: Run, way: Way) -> Seen
     requires fit { IsFit (held memory.old).image }
     requires line { run.line < 2 ^ 63 }
     ensures returns { Returns memory.new.step_record (held memory.old) (held memory.new) }
-    ensures goes { Goes (λ s. leave_timers s run part) (held memory.old).image (held memory.new).image (Some result) }
+    ensures goes { Goes (λ s. goes_by order s run way) (held memory.old).image (held memory.new).image (Some result) }
 {
-    let iterates = match part {
-        TimersOf::Entry => true,
-        TimersOf::Iteration => run.mode == Mode::Default,
-    };
-    if iterates && goes(memory) {
-        return new_iteration(memory, run);
+    match way {
+        Way::ToTimers(part) => begin_timers(memory, order, run, part),
+        Way::ToPending => begin_pending(memory, order, run),
+        Way::ToEnd => end_run(memory, run),
     }
-    end_run(memory, run)
+}
+
+/// The run goes on from a turn, in the order of the script.
+pub fn turn(memory: &mut Memory<Place>, script: &Script, run: Run, turn: Turn) -> Seen
+    requires fit { IsFit (held memory.old).image }
+    requires line { run.line < 2 ^ 63 }
+    ensures returns { Returns memory.new.step_record (held memory.old) (held memory.new) }
+    ensures goes { Goes (λ s. turns (order_of script.now) s run turn) (held memory.old).image (held memory.new).image (Some result) }
+{
+    let order = script.order();
+    let going = goes(memory);
+    let way = way(order, run.mode, going, turn);
+    go_by(memory, order, run, way)
 }

@@ -12,9 +12,9 @@ mod standing;
 mod timers;
 mod walking;
 
-pub use beginning::{begin_closing, begin_done, begin_run, begin_timers, begin_walk};
+pub use beginning::{begin_closing, begin_done, begin_run, begin_walk};
 pub use calling::begin_body;
-pub use iterating::{end_run, enter, leave_timers, new_iteration};
+pub use iterating::{end_run, turn};
 pub use polling::begin_poll;
 pub use sections::{in_async, in_check, in_closing, in_done, in_idle, in_prepare};
 pub use standing::stand_at;

@@ -1,5 +1,5 @@
 //! What a section does next: it calls its front, or is over.
-ghost use Rattle.std.specs.Prelude.{◌≡◌, Some, []};
+ghost use Rattle.std.specs.Prelude.{◌≡◌, ◌<◌, ◌^◌, Some, []};
 ghost use Rattle.uv_records.specs.declared.lists.ListName.TheVariants.{PrepareYet, CheckYet, AsyncYet, ClosingYet};
 ghost use Rattle.uv_records.specs.declared.lists.WatcherKind.TheVariants.{Idle as idle, Prepare as prepare, Check as check};
 ghost use Rattle.uv_arena.specs.Image.{members};
@@ -9,12 +9,13 @@ ghost use Rattle.uv_step.specs.Image.{held};
 ghost use Rattle.uv_stands.specs.Doing.{Returns, Goes};
 ghost use Rattle.uv_stands.specs.Ready.{IsReady};
 
-use crate::beginning::{begin_closing, begin_timers, begin_walk};
+use crate::beginning::{begin_closing, begin_walk};
 use crate::freeing::{close_front, collect_request};
+use crate::iterating::turn;
 use crate::polling::begin_poll;
 use crate::walking::{walk, walk_async};
 use uv_ids::Seen;
-use uv_model::{Place, Run};
+use uv_model::{Place, Run, Turn};
 use uv_records::WatcherKind;
 use uv_script::Script;
 use uv_step::Memory;
@@ -34,17 +35,18 @@ pub fn in_done(memory: &mut Memory<Place>, script: &Script, run: Run) -> Seen
     }
 }
 
-/// Goes on in the closing section: the close callback of the front of the closing handles is called, or the timers begin.
+/// Goes on in the closing section: the close callback of the front of the closing handles is called, or the section is over.
 pub fn in_closing(memory: &mut Memory<Place>, script: &Script, run: Run) -> Seen
     requires ready { IsReady (held memory.old) }
     requires last { (held memory.old).image.arena.last ≡ (arena_size script.now).last_generation }
+    requires line { run.line < 2 ^ 63 }
     ensures returns { Returns memory.new.step_record (held memory.old) (held memory.new) }
     ensures goes { Goes (λ s. close_front script.now s run)
         (held memory.old).image (held memory.new).image (Some result) }
 {
     match close_front(memory, script, run) {
         Some(called) => called,
-        None => begin_timers(memory, run),
+        None => turn(memory, script, run, Turn::BehindClosing),
     }
 }
 

@@ -8,10 +8,10 @@ ghost use Rattle.uv_stands.specs.Ready.{IsReady};
 ghost use Rattle.uv_timing.specs.Section.{CollectsNone, FiresNone};
 
 use crate::calling::begin_body;
-use crate::iterating::leave_timers;
+use crate::iterating::turn;
 use crate::standing::stand_in;
 use uv_ids::{Callback, Id, Seen};
-use uv_model::{Place, Run, Stage, TimersOf, Timing};
+use uv_model::{Place, Run, Stage, TimersOf, Timing, Turn};
 use uv_script::Script;
 use uv_step::Memory;
 use uv_timing::{collect_timer, fire_timer};
@@ -48,7 +48,7 @@ fn fire(memory: &mut Memory<Place>, script: &Script, run: Run, part: TimersOf) -
 {
     match call_timer(memory, script, run, part) {
         Some(called) => called,
-        None => leave_timers(memory, run, part),
+        None => turn(memory, script, run, Turn::Behind(part)),
     }
 }
 

@@ -1,5 +1,5 @@
 //! What stands, and what was taken back.
-ghost use Rattle.std.specs.Prelude.{◌≡◌, ◌≤◌, ◌<◌, ◌-◌, [], IfOk, IfErr, OnOk, IfSome, IfNone, length, ◌++◌, min, option_to_list};
+ghost use Rattle.std.specs.Prelude.{◌≡◌, ◌≤◌, ◌<◌, ◌-◌, [], IfOk, IfErr, OnOk, OnErr, IfSome, IfNone, length, ◌++◌, min, option_to_list};
 ghost use Rattle.uv_ids.specs.declared.fault.Fault.TheVariants.{Memory};
 ghost use Rattle.uv_model.specs.After.{STEPS, lines};
 ghost use Rattle.uv_order.specs.Once.{Once};
@@ -105,9 +105,10 @@ impl<M: Machine> Session<M> {
     }
 
     /// Takes the last steps back. `Refused(Range)` where fewer stand, with nothing changed; want of memory may leave some of
-    /// them taken back.
+    /// them taken back. It takes no memory of its own.
     pub fn back(&mut self, n: usize) -> Result<(), Fault>
-        ensures { MovesBack self.old n result self.new }
+        ensures moves { MovesBack self.old n result self.new }
+        ensures memory { IfErr result (λ fault. fault ≡ Memory → M.BackWantsMemory) }
     {
         if n > self.standing {
             return Err(Fault::Refused(Why::Range));
@@ -123,6 +124,7 @@ impl<M: Machine> Session<M> {
         requires { 0 < length self.old.standing }
         ensures ok { OnOk result (self.new ≡ moved_back 1 self.old) }
         ensures err { IfErr result (λ fault. (fault ≡ Memory) × (self.new ≡ self.old)) }
+        ensures memory { OnErr result M.BackWantsMemory }
     {
         self.machine.back()?;
         self.standing -= 1;
@@ -200,7 +202,8 @@ impl<M: Machine> Session<M> {
     /// Goes back to the last step that matches a break, but for the present one, and answers how many steps stand then.
     /// `Refused(Range)` where none does, with nothing changed; want of memory may leave some of the steps taken back.
     pub fn back_to_break(&mut self) -> Result<usize, Fault>
-        ensures { GoesToBreak self.old result self.new }
+        ensures moves { GoesToBreak self.old result self.new }
+        ensures memory { IfErr result (λ fault. fault ≡ Memory → M.BackWantsMemory) }
     {
         match self.last_break() {
             Some(step) => {

@@ -105,7 +105,7 @@ work_collected room a b r d u w c =
     (λ l o. c.others l (other l name.Ready (λ q. q) o) ∙ without_none (members i l) d.slot (absent i r w d none l o))
 
 -- a handle is freed
-pub work_freed : (a b : Counted Content) (r : Running) (d : Id) (h : HandleRecord) (v : Content) (u : TakeUndo Content) → Work a.arena r
+pub work_freed : (a b : Counted Content) (r : Running) (d : Id) (h : HandleRecord) (v : Content) (u : TakeUndo) → Work a.arena r
     → record_at handle_in a.arena d ≡ Some h → IsTaken handle_in Handle a b d v u → Work b.arena r
 work_freed a b r d h v u w there c =
     let none = alone a.arena d h there in

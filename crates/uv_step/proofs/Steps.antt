@@ -1,5 +1,5 @@
 -- Each step leaves a record that gives back the very image from before it.
-use Rattle.std.proofs.Common.{◌≡◌, ℕ, Bool, true, false, List, Option, Some, refl, sym, ap, ◌∙◌, subst}
+use Rattle.std.proofs.Common.{◌≡◌, ℕ, Bool, true, false, List, Option, Some, option_and_then, refl, sym, ap, ◌∙◌, subst}
 use Rattle.uv_ids.specs.declared.id.Id.{Id}
 use Rattle.uv_ids.specs.declared.id.Var.{Var}
 use Rattle.uv_ids.specs.declared.code.Code.{Code}
@@ -20,7 +20,7 @@ use Rattle.uv_handle.specs.declared.undo.ListUndo.{ListUndo}
 use Rattle.uv_handle.specs.declared.undo.DelistUndo.{DelistUndo}
 use Rattle.uv_handle.specs.declared.undo.TakeUndo.{TakeUndo}
 use Rattle.uv_arena.specs.declared.undo.SpliceUndo.{SpliceUndo}
-use Rattle.uv_handle.specs.Counted.{counted, record_at, alive_count, add_undone, CanUndoAdd}
+use Rattle.uv_handle.specs.Counted.{Counted, counted, record_at, alive_count, add_undone, CanUndoAdd}
 use Rattle.uv_handle.specs.Changes.{IsTaken, IsAdded, IsChanged, IsEnlisted, IsDelisted, Did}
 use Rattle.uv_heap.specs.Array.{Heap}
 use Rattle.uv_timer.specs.declared.change.Times.{Times}
@@ -49,11 +49,11 @@ use Rattle.uv_step.specs.declared.content.Content.{Content}
 use Rattle.uv_step.specs.declared.content.Content.TheVariants.{Handle, Request as Asked}
 use Rattle.uv_step.specs.declared.record.Change.TheVariants as change
 use Rattle.uv_step.specs.declared.record.Record.{Record}
-use Rattle.uv_step.specs.Content.{handle_in, request_in}
+use Rattle.uv_step.specs.Content.{handle_in, request_in, only_handle}
 use Rattle.uv_step.specs.Image.{Image, Held, counted_of, timed_of, with_counted, with_timed, with_working}
 use Rattle.uv_step.specs.Undo.{Recorded}
 use Rattle.uv_step.specs.Fit.{IsFit}
-use Rattle.uv_step.specs.Does.{changed, moved_by, closed_by, ended_by, FirstIs}
+use Rattle.uv_step.specs.Does.{By, changed, moved_by, closed_by, ended_by, FirstIs}
 use Rattle.uv_step.proofs.Rows.{recorded, delist_back, timer_back, moved_back, walk_back}
 use Rattle.uv_step.proofs.Alone.{OfRequests}
 use Rattle.uv_step.proofs.Counting.{count_moved, count_pushed, count_unlinked, count_reopened, count_queued, count_freed}
@@ -66,6 +66,13 @@ first_there i l d e h f g =
     let slot : d.slot ≡ e.slot = cc (f.first.is, g.is) in
     let one : d ≡ e = sym (listed_id i d g.listed.held) ∙ ap (id_in i) slot ∙ listed_id i e f.first.listed.held in
     ap (record_at handle_in i) one ∙ f.handle
+
+-- what was freed is the handle that was the first
+pub taken_handle : (a b : Counted Content) (d e : Id) (h : HandleRecord) (v : Content) (u : TakeUndo) → FirstIs a.arena name.ClosingYet e h
+    → IsTaken handle_in Handle a b d v u → IsTaken handle_in Handle a b d (Handle h) u
+taken_handle a b d e h v u f c =
+    let there = first_there a.arena name.ClosingYet d e h f c.first in
+    subst (λ x. IsTaken handle_in Handle a b d x u) (only_handle v h (sym (ap (option_and_then handle_in) c.was) ∙ there)) c
 
 module _ {P : Type 0} where
   abbrev at : Image P → ℕ → Held P
@@ -233,14 +240,21 @@ module _ {P : Type 0} where
       recorded (change.Walked u) r i j room room refl is (walk_back u j ∙ ap (λ q. with_counted q j) c.undone) c.can_undo fit
       (record { counts = c.counts; work = work_walked (counted_of i) (counted k m) i.running d h w pending u fit.work there c }) refl
 
-  pub freed : (i : Image P) (k : arena.Image Content) (m room : ℕ) (r : Record P) (d e : Id) (h : HandleRecord) (v : Content) (u : TakeUndo Content)
+  pub freed_does : (a b : Counted Content) (r : Record P) (place : P) (d e : Id) (h : HandleRecord) (v : Content) (u : TakeUndo)
+      → FirstIs a.arena name.ClosingYet e h → IsTaken handle_in Handle a b d v u → r ≡ changed place (closed_by h u)
+      → (g : HandleRecord) × By (closed_by g) (λ w. IsTaken handle_in Handle a b d (Handle g) w) r.change
+  freed_does a b r place d e h v u f c is =
+      (h, record { undo = u; is = ap (λ (q : Record P). q.change) is; does = taken_handle a b d e h v u f c })
+
+  pub freed : (i : Image P) (k : arena.Image Content) (m room : ℕ) (r : Record P) (d e : Id) (h : HandleRecord) (v : Content) (u : TakeUndo)
       → IsFit i → FirstIs i.arena name.ClosingYet e h → IsTaken handle_in Handle (counted i.arena i.active) (counted k m) d v u
-      → r ≡ changed i.place (closed_by u) → Recorded r (at i room) (at (record i { arena = k; active = m }) room)
-  freed i k m room r d e h v u fit f c is =
+      → r ≡ changed i.place (closed_by h u) → Recorded r (at i room) (at (record i { arena = k; active = m }) room)
+  freed i k m room r d e h v u fit f taken is =
       let j = record i { arena = k; active = m } in
-      let there = first_there i.arena name.ClosingYet d e h f c.first in
-      recorded (closed_by u) r i j room room refl is (ap (λ q. with_counted q j) c.undone) c.can_undo fit
-      (record { counts = c.counts; work = work_freed (counted_of i) (counted k m) i.running d h v u fit.work there c }) refl
+      let there = first_there i.arena name.ClosingYet d e h f taken.first in
+      let c = taken_handle (counted i.arena i.active) (counted k m) d e h v u f taken in
+      recorded (closed_by h u) r i j room room refl is (ap (λ q. with_counted q j) c.undone) c.can_undo fit
+      (record { counts = c.counts; work = work_freed (counted_of i) (counted k m) i.running d h (Handle h) u fit.work there c }) refl
 
   -- slots move from one list to another
   pub spliced : (i : Image P) (k : arena.Image Content) (room : ℕ) (r : Record P) (u : SpliceUndo) → IsFit i → IsWork request_in (working k i.running)
@@ -313,12 +327,12 @@ module _ {P : Type 0} where
       }) refl
 
   pub ended : (i : Image P) (k : arena.Image Content) (q : Running) (room : ℕ) (r : Record P) (d : Id) (asked : Request)
-      (u : collecting.CollectUndo Content) → IsFit i
-      → requests.IsCollected request_in (working i.arena i.running) (working k q) d asked u → r ≡ changed i.place (ended_by u)
+      (u : collecting.CollectUndo) → IsFit i
+      → requests.IsCollected request_in Asked (working i.arena i.running) (working k q) d asked u → r ≡ changed i.place (ended_by asked u)
       → Recorded r (at i room) (at (record i { arena = k; running = q }) room)
   ended i k q room r d asked u fit c is =
       let j = record i { arena = k; running = q } in
-      recorded (ended_by u) r i j room room refl is (ap (λ z. with_working z j) c.undone) c.can_undo fit
+      recorded (ended_by asked u) r i j room room refl is (ap (λ z. with_working z j) c.undone) c.can_undo fit
       (record { counts = fit.counts ∙ sym (count_freed i.arena k d asked c.was c.plain); work = c.work }) refl
 
   pub begun_done : (i : Image P) (k : arena.Image Content) (room : ℕ) (r : Record P) (u : SpliceUndo) → IsFit i

@@ -17,6 +17,7 @@ use Rattle.uv_handle.specs.declared.undo.TakeUndo.{TakeUndo}
 use Rattle.uv_timer.specs.declared.undo.CollectUndo.{CollectUndo}
 use Rattle.uv_requests.specs.declared.undo.CollectUndo as collecting
 use Rattle.uv_timer.specs.Changes.{becoming}
+use Rattle.uv_work.specs.Requests.{Request}
 use Rattle.uv_timer.specs.Timed.{Timed, with_arena}
 use Rattle.uv_timer.specs.Timers.{IsRescheduled}
 use Rattle.uv_step.specs.declared.content.Content.{Content}
@@ -33,15 +34,15 @@ use Rattle.uv_step.specs.Content.{handle_in}
 abbrev pub changed : {P : Type 0} → P → Change → Record P
 changed place c = record { place = place; naming = unnamed; change = c }
 
--- the changes whose tokens lie in parts
+-- the changes whose tokens lie in parts, or beside what a slot held
 abbrev pub moved_by : CollectUndo → Change
 moved_by u = change.Moved u.pushed u.timer
 
-abbrev pub closed_by : TakeUndo Content → Change
-closed_by u = change.Closed u.unlinked u.active u.removed
+abbrev pub closed_by : HandleRecord → TakeUndo → Change
+closed_by h u = change.Closed u h
 
-abbrev pub ended_by : collecting.CollectUndo Content → Change
-ended_by u = change.Ended u.unlinked u.count u.removed
+abbrev pub ended_by : Request → collecting.CollectUndo → Change
+ended_by r u = change.Ended u r
 
 -- a change of this kind, of whose token this holds
 pub record By {U : Type 0} (kind : U → Change) (F : U → Type 0) (c : Change) : Type 0 where

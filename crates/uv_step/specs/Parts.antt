@@ -49,9 +49,9 @@ pub data Part (P : Type 0) : Type 0 where
   Held : ℕ → Content → Part P
   -- a request was open
   WasOpen : Id → Part P
-  -- a slot was taken, or freed
+  -- a slot was taken, or freed, which held this
   Taken : InsertUndo → Part P
-  Freed : RemoveUndo Content → Part P
+  Freed : RemoveUndo → Content → Part P
   -- a slot was put on a list, or taken off its place there; or two lists changed places
   PutOn : ℕ → Part P
   TakenOff : Place → Part P
@@ -82,7 +82,7 @@ module _ {P : Type 0} where
   undo (Held x v) i = record i { arena = set_undone x v i.arena }
   undo (WasOpen d) i = record i { arena = reopened_in request_in Asked d i.arena }
   undo (Taken u) i = record i { arena = insert_undone u i.arena }
-  undo (Freed u) i = record i { arena = remove_undone u i.arena }
+  undo (Freed u v) i = record i { arena = remove_undone u v i.arena }
   undo (PutOn x) i = record i { arena = push_undone x i.arena }
   undo (TakenOff t) i = record i { arena = unlink_undone t i.arena }
   undo (Moved u) i = record i { arena = splice_undone u i.arena }
@@ -133,6 +133,7 @@ module _ {P : Type 0} where
   change_parts (change.Clock n) = Clock n ∷ []
   change_parts (change.Stop b) = Stop b ∷ []
   change_parts (change.Idled b) = Idled b ∷ []
+  change_parts (change.Iterated n b) = Time n ∷ Idled b ∷ []
   change_parts (change.Added u) = Taken u.added.inserted ∷ Active u.added.active ∷ put_parts u.listed u.added.inserted.slot
   change_parts (change.Edited u) = edit_parts u
   change_parts (change.Enlisted u) = edit_parts u.changed ++ PutOn u.pushed.slot ∷ []
@@ -142,12 +143,12 @@ module _ {P : Type 0} where
   change_parts (change.Begun u) = Moved u ∷ []
   change_parts (change.Polled u) = Time u.time ∷ Moved u.spliced ∷ []
   change_parts (change.Walked u) = TakenOff u.unlinked ∷ PutOn u.pushed.slot ∷ woken_parts u.woken
-  change_parts (change.Closed t n u) = TakenOff t ∷ Freed u ∷ Active n ∷ []
+  change_parts (change.Closed u h) = TakenOff u.unlinked ∷ Freed u.removed (Handle h) ∷ Active u.active ∷ []
   change_parts (change.Queued u) = Taken u.inserted ∷ PutOn u.inserted.slot ∷ Open u.count ∷ []
   change_parts (change.Taken u) = TakenOff u.unlinked ∷ Ran u.worker None ∷ []
   change_parts (change.Finished u) = WasOpen u.id ∷ PutOn u.id.slot ∷ Ran u.worker (Some u.id) ∷ []
   change_parts (change.Cancelled u) = TakenOff u.unlinked ∷ WasOpen u.id ∷ PutOn u.id.slot ∷ []
-  change_parts (change.Ended t n u) = TakenOff t ∷ Freed u ∷ Open n ∷ []
+  change_parts (change.Ended u r) = TakenOff u.unlinked ∷ Freed u.removed (Asked r) ∷ Open u.count ∷ []
 
   abbrev pub naming_parts : Naming → List (Part P)
   naming_parts naming.Same = []

@@ -38,6 +38,7 @@ module _ {P : Type 0} where
   CanUndo room (change.Clock n) i = Unit {0}
   CanUndo room (change.Stop b) i = Unit {0}
   CanUndo room (change.Idled b) i = Unit {0}
+  CanUndo room (change.Iterated n b) i = Unit {0}
   CanUndo room (change.Added u) i = CanUndoAdded i u
   CanUndo room (change.Edited u) i = CanUndoRecord handle_in Handle (counted_of i) u
   CanUndo room (change.Enlisted u) i = CanUndoEnlist handle_in Handle (counted_of i) u
@@ -47,12 +48,12 @@ module _ {P : Type 0} where
   CanUndo room (change.Begun u) i = CanUndoSplice i.arena u
   CanUndo room (change.Polled u) i = CanUndoSplice i.arena u.spliced
   CanUndo room (change.Walked u) i = CanUndoWalk handle_in Handle (counted_of i) u
-  CanUndo room (change.Closed t n u) i = CanUndoTake handle_in (counted_of i) (record { unlinked = t; removed = u; active = n })
+  CanUndo room (change.Closed u h) i = CanUndoTake handle_in (counted_of i) u (Handle h)
   CanUndo room (change.Queued u) i = work.CanUndoQueue request_in (working_of i) u
   CanUndo room (change.Taken u) i = work.CanUndoTake request_in (working_of i) u
   CanUndo room (change.Finished u) i = work.CanUndoFinish request_in Asked (working_of i) u
   CanUndo room (change.Cancelled u) i = work.CanUndoCancel request_in Asked (working_of i) u
-  CanUndo room (change.Ended t n u) i = work.CanUndoCollect request_in (working_of i) (record { unlinked = t; removed = u; count = n })
+  CanUndo room (change.Ended u r) i = work.CanUndoCollect request_in Asked (working_of i) u r
 
   -- the name is one of the loop's
   abbrev pub CanRename : Naming → Image P → Type 0

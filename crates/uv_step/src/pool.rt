@@ -125,16 +125,14 @@ impl<P: Copy> Memory<P> {
     pub fn end_request(&mut self) -> Option<(Id, RequestRecord)>
         requires fit { IsFit (held self.old).image }
         ensures recorded { IfSome result (λ _. Recorded self.new.step_record (held self.old) (held self.new)) }
-        ensures does { IfSome result (λ r. By ended_by (λ u. IsCollected request_in
+        ensures does { IfSome result (λ r. By (ended_by r.1) (λ u. IsCollected request_in asked
             (working_of (held self.old).image) (working_of (held self.new).image) r.0 r.1 u) self.new.step_record.change) }
         ensures none { IfNone result ((members (held self.old).image.arena DoneYet ≡ []) × Untouched self.old self.new) }
     {
         match self.requests.collect(&mut self.slots) {
             None => None,
             Some(ended) => {
-                let undo = ended.2;
-                let change = Change::Ended(undo.unlinked, undo.count, undo.removed);
-                self.step_record = self.record(change);
+                self.step_record = self.record(Change::Ended(ended.2, ended.1));
                 Some((ended.0, ended.1))
             }
         }

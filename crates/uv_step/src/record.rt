@@ -2,13 +2,14 @@
 ghost use Rattle.std.specs.Prelude.{◌≡◌};
 ghost use Rattle.uv_step.specs.Parts.{was_bound};
 
-use crate::content::Content;
-use uv_arena::{Place, PushUndo, RemoveUndo, SpliceUndo};
+use uv_arena::{PushUndo, SpliceUndo};
 use uv_handle::{AddUndo, DelistUndo, ListUndo, RecordUndo};
 use uv_ids::{Callback, Id, Var};
+use uv_records::HandleRecord;
 use uv_requests::{CancelUndo, FinishUndo, QueueUndo};
 use uv_timer::TimerUndo;
 use uv_watch::WalkUndo;
+use uv_work::RequestRecord;
 
 /// A new handle: its slot and the count from before, and whether it was put on a list.
 #[derive(Clone, Copy)]
@@ -49,8 +50,8 @@ impl Naming {
     }
 }
 
-/// What takes a change back that a step did to the rest of the memory, by the kind of change. The largest kinds have their parts in
-/// the variant, the small ones first: as a struct each would take a word more.
+/// What takes a change back that a step did to the rest of the memory, by the kind of change. The largest kind has its parts in the
+/// variant, the small one first: as a struct it would take a word more.
 #[derive(Clone, Copy)]
 pub enum Change {
     /// Nothing was changed.
@@ -63,6 +64,8 @@ pub enum Change {
     Stop(bool),
     /// Whether an idle handle was active as the iteration began, as it was.
     Idled(bool),
+    /// The loop's time, and whether an idle handle was active as the iteration began, as they were.
+    Iterated(u64, bool),
     /// A handle was made.
     Added(Added),
     /// A handle got another record.
@@ -81,8 +84,8 @@ pub enum Change {
     Polled(Polled),
     /// A watcher was called.
     Walked(WalkUndo),
-    /// A closing handle was freed: where it stood on its list, and how many handles were active and referenced.
-    Closed(Place, u32, RemoveUndo<Content>),
+    /// A closing handle was freed, which had this record.
+    Closed(uv_handle::TakeUndo, HandleRecord),
     /// A request was queued.
     Queued(QueueUndo),
     /// A worker took a request.
@@ -91,8 +94,8 @@ pub enum Change {
     Finished(FinishUndo),
     /// A request was cancelled.
     Cancelled(CancelUndo),
-    /// A request that was done was freed: where it stood on its list, and how many requests were open.
-    Ended(Place, u32, RemoveUndo<Content>),
+    /// A request that was done was freed, which was this.
+    Ended(uv_requests::CollectUndo, RequestRecord),
 }
 
 /// What takes one step back: where the loop stood, what became of a name, and the change of the rest.

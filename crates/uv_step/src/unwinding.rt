@@ -14,9 +14,11 @@ use crate::record::{Added, Change, Naming, Record};
 use uv_arena::PushUndo;
 use uv_handle::{DelistUndo, ListUndo, RecordUndo};
 use uv_ids::{Id, Var};
+use uv_records::HandleRecord;
 use uv_requests::{CancelUndo, FinishUndo, QueueUndo};
 use uv_timer::{CollectUndo, TimerUndo, undo_collect_one, undo_reschedule};
 use uv_watch::{WalkUndo, undo_take};
+use uv_work::RequestRecord;
 
 impl<P: Copy> Memory<P> {
     /// Gives back the very memory from before the step of this record.
@@ -74,6 +76,10 @@ impl<P: Copy> Memory<P> {
             Change::Clock(clock) => self.clock = clock,
             Change::Stop(stop) => self.stop_flag = stop,
             Change::Idled(idled) => self.idled = idled,
+            Change::Iterated(time, idled) => {
+                self.idled = idled;
+                self.times.time = time;
+            }
             Change::Added(undo) => self.undo_added(undo),
             Change::Edited(undo) => self.undo_edited(undo),
             Change::Enlisted(undo) => self.undo_enlisted(undo),
@@ -86,20 +92,12 @@ impl<P: Copy> Memory<P> {
                 self.times.time = undo.time;
             }
             Change::Walked(undo) => self.undo_walked(undo),
-            Change::Closed(unlinked, active, removed) => self.undo_closed(uv_handle::TakeUndo {
-                unlinked,
-                removed,
-                active,
-            }),
+            Change::Closed(undo, handle) => self.undo_closed(undo, handle),
             Change::Queued(undo) => self.undo_queued(undo),
             Change::Taken(undo) => self.undo_taken(undo),
             Change::Finished(undo) => self.undo_finished(undo),
             Change::Cancelled(undo) => self.undo_cancelled(undo),
-            Change::Ended(unlinked, count, removed) => self.undo_ended(uv_requests::CollectUndo {
-                unlinked,
-                removed,
-                count,
-            }),
+            Change::Ended(undo, request) => self.undo_ended(undo, request),
         }
     }
 
@@ -176,12 +174,14 @@ impl<P: Copy> Memory<P> {
         undo_take(&mut self.handles, &mut self.slots, undo);
     }
 
-    fn undo_closed(&mut self, undo: uv_handle::TakeUndo<Content>)
-        requires { CanUndo (held self.old).room (closed_by undo) (held self.old).image }
-        ensures image { (held self.new).image ≡ unwind_parts (change_parts (closed_by undo)) (held self.old).image }
+    fn undo_closed(&mut self, undo: uv_handle::TakeUndo, handle: HandleRecord)
+        requires { CanUndo (held self.old).room (closed_by handle undo) (held self.old).image }
+        ensures image { (held self.new).image ≡ unwind_parts (change_parts (closed_by handle undo)) (held self.old).image }
         ensures room { (held self.new).room ≡ (held self.old).room }
     {
-        self.handles.undo_take_closing(&mut self.slots, undo);
+        let content = Content::Handle(handle);
+        self.handles
+            .undo_take_closing(&mut self.slots, undo, content);
     }
 
     fn undo_queued(&mut self, undo: QueueUndo)
@@ -216,11 +216,11 @@ impl<P: Copy> Memory<P> {
         self.requests.undo_cancel(&mut self.slots, undo);
     }
 
-    fn undo_ended(&mut self, undo: uv_requests::CollectUndo<Content>)
-        requires { CanUndo (held self.old).room (ended_by undo) (held self.old).image }
-        ensures image { (held self.new).image ≡ unwind_parts (change_parts (ended_by undo)) (held self.old).image }
+    fn undo_ended(&mut self, undo: uv_requests::CollectUndo, request: RequestRecord)
+        requires { CanUndo (held self.old).room (ended_by request undo) (held self.old).image }
+        ensures image { (held self.new).image ≡ unwind_parts (change_parts (ended_by request undo)) (held self.old).image }
         ensures room { (held self.new).room ≡ (held self.old).room }
     {
-        self.requests.undo_collect(&mut self.slots, undo);
+        self.requests.undo_collect(&mut self.slots, undo, request);
     }
 }

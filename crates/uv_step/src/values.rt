@@ -1,5 +1,5 @@
 //! The clock, the loop's time, what names are bound to and how often they were called, and where the loop stands.
-ghost use Rattle.std.specs.Prelude.{◌≡◌, ◌<◌, ◌+◌, ◌^◌, ◌-◌, length, Option, Some, None, IfOk, IfErr};
+ghost use Rattle.std.specs.Prelude.{◌≡◌, ◌<◌, ◌+◌, ◌^◌, ◌-◌, length, Option, Some, None, false, IfOk, IfErr};
 ghost use Rattle.uv_step.specs.declared.record.Naming.TheVariants.{Same as same};
 ghost use Rattle.uv_step.specs.Names.{count_of, named, binding, calling};
 ghost use Rattle.uv_step.specs.Image.{held, standing};
@@ -55,6 +55,21 @@ impl<P: Copy> Memory<P> {
     {
         let change = Change::Idled(self.idled);
         self.idled = idled;
+        self.step_record = self.record(change);
+    }
+
+    /// The loop's time is that of the clock, and no idle handle counts as active as the iteration begins.
+    pub fn begin_iteration(&mut self)
+        requires fit { IsFit (held self.old).image }
+        ensures recorded { Recorded self.new.step_record (held self.old) (held self.new) }
+        ensures image { (held self.new).image ≡ record (held self.old).image {
+          times = record (held self.old).image.times { time = (held self.old).image.clock };
+          idled = false;
+        } }
+    {
+        let change = Change::Iterated(self.times.time, self.idled);
+        self.times.time = self.clock;
+        self.idled = false;
         self.step_record = self.record(change);
     }
 

@@ -112,16 +112,15 @@ impl<P: Copy> Memory<P> {
     pub fn end_handle(&mut self) -> Option<Id>
         requires fit { IsFit (held self.old).image }
         ensures recorded { IfSome result (λ _. Recorded self.new.step_record (held self.old) (held self.new)) }
-        ensures does { IfSome result (λ id. By closed_by (λ u. (v : Content) × IsTaken handle_in handle
-            (counted_of (held self.old).image) (counted_of (held self.new).image) id v u) self.new.step_record.change) }
+        ensures does { IfSome result (λ id. (h : HandleRecord) × By (closed_by h) (λ u. IsTaken handle_in handle
+            (counted_of (held self.old).image) (counted_of (held self.new).image) id (handle h) u) self.new.step_record.change) }
         ensures none { IfNone result (NoHandleFirst (held self.old).image.arena ClosingYet × Untouched self.old self.new) }
     {
-        self.first_handle(ListName::ClosingYet)?;
+        let first = self.first_handle(ListName::ClosingYet)?;
         match self.handles.take_closing(&mut self.slots) {
             None => None,
             Some((id, _, undo)) => {
-                let change = Change::Closed(undo.unlinked, undo.active, undo.removed);
-                self.step_record = self.record(change);
+                self.step_record = self.record(Change::Closed(undo, first.1));
                 Some(id)
             }
         }

@@ -73,9 +73,9 @@ unfolding script_part steps_part calls_part recording_text script_text
 whole p es =
     let steps = map (step_line p.names) es in
     let calls = callback_lines p es in
-    regrouped (codes "uvt 1\n" ++ lines_text (script_lines p)) (codes "begin\n")
+    regrouped (codes "uvt 2\n" ++ lines_text (script_lines p)) (codes "begin\n")
     (lines_text steps) (codes "calls\n") (lines_text calls) (codes "end\n")
-    ∙ sym (cut_in_four (codes "uvt 1" ∷ script_lines p) (codes "begin" ∷ steps) (codes "calls" ∷ calls) (codes "end" ∷ []))
+    ∙ sym (cut_in_four (codes "uvt 2" ∷ script_lines p) (codes "begin" ∷ steps) (codes "calls" ∷ calls) (codes "end" ∷ []))
 
 -- the three parts one after another
 pub recorded : (old : List ℕ) (p : Program) (es : List Event) {a b c : List ℕ} → a ≡ old ++ script_part p → b ≡ a ++ steps_part p es →

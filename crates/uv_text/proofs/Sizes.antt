@@ -23,7 +23,7 @@ use Rattle.uv_script.specs.declared.op.MainOp.{MainOp}
 use Rattle.uv_script.specs.declared.op.MainOp.TheVariants as main
 use Rattle.uv_script.specs.declared.op.CallbackLine.{CallbackLine}
 use Rattle.uv_script.specs.declared.task.Task.{Task}
-use Rattle.uv_script.specs.Program.{Program, arena_size}
+use Rattle.uv_script.specs.Program.{Program, arena_size, order_of}
 use Rattle.uv_script.specs.Tasks.{text_of}
 use Rattle.uv_records.specs.declared.handle.HandleRecord.{HandleRecord}
 use Rattle.uv_records.specs.declared.slot.Slot.{Slot}
@@ -47,7 +47,10 @@ use Rattle.uv_model.specs.declared.place.Run.{Run}
 use Rattle.uv_model.specs.declared.place.Stage.{Stage}
 use Rattle.uv_model.specs.declared.place.Stage.TheVariants.{Entry, Pending, Idle, Prepare, Poll, Done, Async, Check, Closing, Timers}
 use Rattle.uv_model.specs.declared.place.TimersOf.{TimersOf}
-use Rattle.uv_model.specs.declared.place.TimersOf.TheVariants as timers_of
+use Rattle.uv_model.specs.declared.place.Turn.{Turn}
+use Rattle.uv_model.specs.declared.place.Turn.TheVariants.{AtEntry, Behind, BehindClosing}
+use Rattle.uv_model.specs.declared.place.Way.{Way}
+use Rattle.uv_model.specs.declared.place.Way.TheVariants.{ToTimers, ToPending, ToEnd}
 use Rattle.uv_model.specs.declared.place.Timing.{Timing}
 use Rattle.uv_model.specs.declared.place.Timing.TheVariants.{Collecting, Firing}
 use Rattle.uv_model.specs.declared.place.Place.{Place}
@@ -60,7 +63,7 @@ use Rattle.uv_model.specs.State.{State, named, with_handle, with_id, with_named,
 use Rattle.uv_model.specs.Timers.{stopped, started, restarted}
 use Rattle.uv_model.specs.Ops as ops
 use Rattle.uv_model.specs.Ops.{do_op}
-use Rattle.uv_model.specs.Next.{Next, Moves, Refuses, next, loop_step, main_step, run_step, body_step, stage_step, take, next_work, finish, work_of, collect_request, timers, first_due, fire, leave_timers, enter, calls, may_leave, is_default, goes, begin_walk, after_walk, front_moved, walk, walk_async, close_front, LATEST}
+use Rattle.uv_model.specs.Next.{Next, Moves, Refuses, next, loop_step, main_step, run_step, body_step, stage_step, take, next_work, finish, work_of, collect_request, timers, first_due, fire, way, goes_by, turns, refreshes, calls, may_leave, goes, begin_walk, after_walk, front_moved, walk, walk_async, close_front, LATEST}
 use Rattle.uv_model.specs.After.{IsMove}
 use Rattle.uv_model.proofs.Counting.{if_keeps}
 use Rattle.uv_model.proofs.Found.{found_both}
@@ -315,19 +318,19 @@ module _ (p : Program) (m k : ℕ) where
   called : (s : State) (run : Run) (kind : Callback) (v : Var) (l : Seen) → Sized m k s → Shows l → Stays m k (calls p s run kind v l)
   called s run kind v l h shows = (renamed m k s v (record (named s v) { calls = counted kind (named s v).calls }) h, shows)
 
-  entered : (s : State) (run : Run) → Sized m k s → Stays m k (enter s run)
-  entered s run h = if_keeps (Stays m k) (goes s) _ _ (if_keeps (Stays m k) (is_default run.mode) _ _ (h, tt) (h, tt)) (h, tt)
-
-  left : (s : State) (run : Run) (part : TimersOf) → Sized m k s → Stays m k (leave_timers s run part)
-  left s run timers_of.Entry h = if_keeps (Stays m k) (goes s) _ _ (h, tt) (h, tt)
-  left s run timers_of.Iteration h = if_keeps (Stays m k) (is_default run.mode && goes s) _ _ (h, tt) (h, tt)
+  turned : (s : State) (run : Run) (turn : Turn) → Sized m k s → Stays m k (turns (order_of p) s run turn)
+  turned s run turn h = by (way (order_of p) run.mode (goes s) turn) where
+    by : (w : Way) → Stays m k (goes_by (order_of p) s run w)
+    by (ToTimers part) = (h, tt)
+    by ToPending = (h, tt)
+    by ToEnd = (h, tt)
 
   fired : (s : State) (run : Run) (part : TimersOf) → CanStep s → Sized m k s → Stays m k (fire p s run part)
   fired s run part able h = found_both (front s s.ready) _ _ (Stays m k)
       (λ t e. let u = record s { ready = drop 1 s.ready } in
       called (restarted u t.0 t.1) (record run { stage = Timers part Firing }) callback.Handle t.1.name (seen.Call t.1.name t.0)
       (restarts m k u t.0 t.1 h) (short s s.ready t e able h))
-      (λ e. left s run part h)
+      (λ e. turned s run (Behind part) h)
 
   timed : (s : State) (run : Run) (part : TimersOf) (timing : Timing) → CanStep s → Sized m k s → Stays m k (timers p s run part timing)
   timed s run part Collecting able h = found_both (first_due s s.timers) _ _ (Stays m k)
@@ -363,7 +366,7 @@ module _ (p : Program) (m k : ℕ) where
       (λ t e. let last = (arena_size p).last_generation in
       let u = record s { arena = freed last t.0 s.arena; closing = record s.closing { yet = drop 1 s.closing.yet } } in
       called u run callback.Close t.1.name (seen.Closed t.1.name t.0) (frees m k s last t.0 h) (short s s.closing.yet t e able h))
-      (λ e. (h, tt))
+      (λ e. turned s run BehindClosing h)
 
   ends_with : (o : Outcome) → IsEnding o → IfSome (digest_in o) IsDigest
   ends_with Open h = tt
@@ -382,7 +385,7 @@ module _ (p : Program) (m k : ℕ) where
       (λ e. begun s run watcher.Async h)
 
   staged : (s : State) (run : Run) (stage : Stage) → CanStep s → Sized m k s → Stays m k (stage_step p s run stage)
-  staged s run Entry able h = entered s run h
+  staged s run Entry able h = turned s run AtEntry h
   staged s run Pending able h = begun s run watcher.Idle h
   staged s run Idle able h = walks s run watcher.Idle able h
   staged s run Prepare able h = walks s run watcher.Prepare able h
@@ -401,9 +404,9 @@ module _ (p : Program) (m k : ℕ) where
   ran s run None able h = staged s run run.stage able h
   ran s run (Some body) able h = bodied s run body _ h
 
-  in_main : (s : State) (line : ℕ) (x : Option MainOp) → Sized m k s → Stays m k (main_step s line x)
+  in_main : (s : State) (line : ℕ) (x : Option MainOp) → Sized m k s → Stays m k (main_step (order_of p) s line x)
   in_main s line None h = tt
-  in_main s line (Some (main.Run mode)) h = (if_keeps (Sized m k) (is_default mode) (refreshed s) s h h, tt)
+  in_main s line (Some (main.Run mode)) h = (if_keeps (Sized m k) (refreshes (order_of p) mode) (refreshed s) s h h, tt)
   in_main s line (Some (main.Op op)) h = (op_sized m k s op h, tt)
 
   looped : (s : State) (place : Place) → CanStep s → Sized m k s → Stays m k (loop_step p s place)

@@ -37,7 +37,7 @@ callback_lines p es = map (line_text p) (callbacks p es)
 -- the lines of a recording
 abbrev pub recording_lines : Program → List Event → List (List ℕ)
 recording_lines p es =
-    codes "uvt 1" ∷ script_lines p ++ codes "begin" ∷ map (step_line p.names) es
+    codes "uvt 2" ∷ script_lines p ++ codes "begin" ∷ map (step_line p.names) es
     ++ codes "calls" ∷ callback_lines p es ++ codes "end" ∷ []
 
 -- the text of a recording
@@ -48,7 +48,7 @@ recording_text p es = lines_text (recording_lines p es)
 
 -- the first line, the script and the line `begin`
 unfoldable pub script_part : Program → List ℕ
-script_part p = codes "uvt 1\n" ++ script_text p ++ codes "begin\n"
+script_part p = codes "uvt 2\n" ++ script_text p ++ codes "begin\n"
 
 -- the steps and the line `calls`
 unfoldable pub steps_part : Program → List Event → List ℕ

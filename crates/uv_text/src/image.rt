@@ -1,5 +1,5 @@
 //! The text of how a machine's memory lies.
-ghost use Rattle.std.specs.Prelude.{◌≡◌, ◌++◌, IfOk, IfErr, IfSome, OnOk};
+ghost use Rattle.std.specs.Prelude.{◌≡◌, ◌++◌, IfOk, IfErr, IfSome, IfNone, OnOk, false};
 ghost use Rattle.std.specs.List.{flat_map};
 ghost use Rattle.uv_ids.specs.declared.fault.Fault.TheVariants.{Memory};
 ghost use Rattle.uv_text.specs.Image.{or_dash, link_line, links_from, ends_line, named_ends, entry_text, heap_line, place_text, places_line, counts_line, layout_text, image_text, IsImageText, PutsImage};
@@ -15,6 +15,7 @@ use uv_session::Session;
 /// The text of a session's state, and of how the memory lies that stands for it; none of a machine without one memory.
 pub fn image_text<M: Machine>(alloc: Global, session: &Session<M>) -> Result<Option<Vec<u8>>, Fault>
     ensures text { IfOk result (λ image. IfSome image (λ text. IsImageText session.now text.items)) }
+    ensures none { IfOk result (λ image. IfNone image M.MayHaveNoLayout) }
     ensures err { IfErr result (λ fault. fault ≡ Memory) }
 {
     let Some(layout) = session.machine().layout()? else {
@@ -29,6 +30,7 @@ pub fn image_text<M: Machine>(alloc: Global, session: &Session<M>) -> Result<Opt
 /// no one memory: then the text is as it was.
 pub fn push_image<M: Machine>(text: &mut Vec<u8>, session: &Session<M>) -> Result<bool, Fault>
     ensures text { IfOk result (λ lies. PutsImage session.now lies text.old.items text.new.items) }
+    ensures none { IfOk result (λ lies. lies ≡ false → M.MayHaveNoLayout) }
     ensures err { IfErr result (λ fault. fault ≡ Memory) }
 {
     let Some(layout) = session.machine().layout()? else {

@@ -43,7 +43,7 @@ fn push_script(text: &mut Vec<u8>, script: &Script) -> Result<(), AllocError>
     let Ok(of_script) = script.text() else {
         return Err(AllocError);
     };
-    text.extend_from_slice(b"uvt 1\n")?;
+    text.extend_from_slice(b"uvt 2\n")?;
     text.extend_from_slice(of_script.as_slice())?;
     text.extend_from_slice(b"begin\n")
 }

@@ -1,20 +1,21 @@
 //! The phases of a run, and one step.
 ghost use Rattle.std.specs.Prelude.{◌≡◌, ◌<◌, ◌+◌, ◌^◌, IfOk, IfSome, OnErr, length, slice_get, drop, None, Some};
-ghost use Rattle.uv_script.specs.Program.{lines_in};
+ghost use Rattle.uv_script.specs.Program.{lines_in, order_of};
 ghost use Rattle.uv_model.specs.State.{named};
 ghost use Rattle.uv_model.specs.Bounds.{CanStep, AreBelow};
 ghost use Rattle.uv_model.specs.Handing.{job_run};
 ghost use Rattle.uv_ids.specs.declared.event.Event.TheVariants.{Finish};
-ghost use Rattle.uv_model.specs.Next.{Moves, begins, new_iteration, ends, goes, enter, begin_poll, poll, begin_timers, leave_timers, calls, call, fire, first_due, collect, timers, stage_step, body_step, main_step, sent_to, tick, next};
+ghost use Rattle.uv_model.specs.Next.{Moves, begins, ends, goes, goes_by, turns, begin_poll, poll, calls, call, fire, first_due, collect, timers, stage_step, body_step, main_step, sent_to, tick, next};
 ghost use Rattle.uv_model.specs.Steps.{Steps, Falls};
 
 use crate::bodies::body_from;
 use crate::machine::Outcome;
 use crate::named::Named;
-use crate::place::{Body, Place, Run, Stage, TimersOf, Timing};
+use crate::place::{Body, Place, Run, Stage, TimersOf, Timing, Turn, Way};
 use crate::state::LoopState;
+use crate::turns::way;
 use std::alloc::AllocError;
-use uv_ids::{Callback, Event, Fault, Id, Mode, Phase, Seen, Site, Var, Why};
+use uv_ids::{Callback, Event, Fault, Id, Mode, Order, Phase, Seen, Site, Var, Why};
 use uv_records::{HandleRecord, WatcherKind};
 use uv_script::{MainOp, Script};
 use uv_work::WorkResult;
@@ -46,14 +47,6 @@ impl LoopState {
         self.is_alive() && !self.stop_flag
     }
 
-    /// Begins an iteration, and keeps whether an idle handle is active.
-    fn new_iteration(&mut self, run: Run) -> Outcome
-        ensures { new_iteration self.old run ≡ Moves self.new result.seen }
-    {
-        self.idled = self.idle.any_listed();
-        self.begin(run, Stage::Pending, Phase::Pending)
-    }
-
     /// Ends the run, and clears the stop flag.
     fn end(&mut self, run: Run) -> Outcome
         requires { run.line < 2 ^ 63 }
@@ -65,22 +58,50 @@ impl LoopState {
         seen(Seen::End(alive))
     }
 
-    /// From the entry of a run: a default run goes to the timers that are due.
-    fn enter(&mut self, run: Run) -> Outcome
-        requires { run.line < 2 ^ 63 }
-        ensures { enter self.old run ≡ Moves self.new result.seen }
+    /// Begins timers, with the time and the idling as the order says.
+    fn begin_timers(&mut self, order: Order, run: Run, part: TimersOf) -> Outcome
+        ensures { goes_by order self.old run (Way.ToTimers part) ≡ Moves self.new result.seen }
     {
-        if !self.goes() {
-            self.end(run)
-        } else if matches!(run.mode, Mode::Default) {
-            self.begin(
-                run,
-                Stage::Timers(TimersOf::Entry, Timing::Collecting),
-                Phase::Timers,
-            )
-        } else {
-            self.new_iteration(run)
+        match (order, part) {
+            (Order::V145, TimersOf::Entry) => {}
+            (Order::V144, TimersOf::Entry) => {
+                self.refresh();
+                self.idled = false;
+            }
+            (_, TimersOf::Iteration) => self.refresh(),
         }
+        self.begin(run, Stage::Timers(part, Timing::Collecting), Phase::Timers)
+    }
+
+    /// Begins the pending section. In the order of 1.45 it keeps whether an idle handle is active.
+    fn begin_pending(&mut self, order: Order, run: Run) -> Outcome
+        ensures { goes_by order self.old run Way.ToPending ≡ Moves self.new result.seen }
+    {
+        if matches!(order, Order::V145) {
+            self.idled = self.idle.any_listed();
+        }
+        self.begin(run, Stage::Pending, Phase::Pending)
+    }
+
+    /// Goes on so.
+    fn go_by(&mut self, order: Order, run: Run, way: Way) -> Outcome
+        requires { run.line < 2 ^ 63 }
+        ensures { goes_by order self.old run way ≡ Moves self.new result.seen }
+    {
+        match way {
+            Way::ToTimers(part) => self.begin_timers(order, run, part),
+            Way::ToPending => self.begin_pending(order, run),
+            Way::ToEnd => self.end(run),
+        }
+    }
+
+    /// Goes on from a turn.
+    pub(super) fn turn(&mut self, order: Order, run: Run, turn: Turn) -> Outcome
+        requires { run.line < 2 ^ 63 }
+        ensures { turns order self.old run turn ≡ Moves self.new result.seen }
+    {
+        let way = way(order, run.mode, self.goes(), turn);
+        self.go_by(order, run, way)
     }
 
     /// Begins the poll.
@@ -106,34 +127,6 @@ impl LoopState {
             return Err(Why::Blocked);
         }
         Ok(self.begin_done(run))
-    }
-
-    /// Begins the timers of an iteration.
-    pub(super) fn begin_timers(&mut self, run: Run) -> Outcome
-        ensures { begin_timers self.old run ≡ Moves self.new result.seen }
-    {
-        self.refresh();
-        self.begin(
-            run,
-            Stage::Timers(TimersOf::Iteration, Timing::Collecting),
-            Phase::Timers,
-        )
-    }
-
-    /// From the timers to the next iteration, or to the end of the run.
-    fn leave_timers(&mut self, run: Run, part: TimersOf) -> Outcome
-        requires { run.line < 2 ^ 63 }
-        ensures { leave_timers self.old run part ≡ Moves self.new result.seen }
-    {
-        let iterates = match part {
-            TimersOf::Entry => true,
-            TimersOf::Iteration => matches!(run.mode, Mode::Default),
-        };
-        if iterates && self.goes() {
-            self.new_iteration(run)
-        } else {
-            self.end(run)
-        }
     }
 
     /// Begins a callback, with its line: one call more of its name.
@@ -174,7 +167,7 @@ impl LoopState {
         ensures err { OnErr result (self.new ≡ self.old) }
     {
         let Some((id, handle)) = self.front(&self.ready) else {
-            return Ok(self.leave_timers(run, part));
+            return Ok(self.turn(script.order(), run, Turn::Behind(part)));
         };
         if handle.repeat != 0 {
             self.start_stopped(id, handle, handle.repeat, handle.repeat)?;
@@ -247,7 +240,7 @@ impl LoopState {
         ensures { Steps (stage_step script.now self.old run run.stage) self.old result self.new }
     {
         match run.stage {
-            Stage::Entry => Ok(self.enter(run)),
+            Stage::Entry => Ok(self.turn(script.order(), run, Turn::AtEntry)),
             Stage::Pending => Ok(self.begin_walk(run, WatcherKind::Idle)),
             Stage::Idle => self.in_walk(script, run, WatcherKind::Idle),
             Stage::Prepare => self.in_walk(script, run, WatcherKind::Prepare),
@@ -285,11 +278,11 @@ impl LoopState {
     fn in_main(&mut self, script: &Script, line: usize) -> Result<Outcome, Fault>
         requires able { CanStep self.old }
         requires line { line < 2 ^ 63 }
-        ensures { Steps (main_step self.old line (slice_get script.now.main line)) self.old result self.new }
+        ensures { Steps (main_step (order_of script.now) self.old line (slice_get script.now.main line)) self.old result self.new }
     {
         match script.main_op(line) {
             None => Err(Fault::Refused(Why::Ended)),
-            Some(MainOp::Run(mode)) => Ok(self.begin_run(mode, line)),
+            Some(MainOp::Run(mode)) => Ok(self.begin_run(script.order(), mode, line)),
             Some(MainOp::Op(op)) => {
                 let Ok(answer) = self.do_op(op) else {
                     return Err(Fault::Memory);
@@ -300,11 +293,11 @@ impl LoopState {
         }
     }
 
-    /// Begins a run (uv_run). In default the time is refreshed first.
-    fn begin_run(&mut self, mode: Mode, line: usize) -> Outcome
-        ensures { main_step self.old line (Some (MainOp.Run mode)) ≡ Moves self.new result.seen }
+    /// Begins a run (uv_run). In the order of 1.45 the time is refreshed first in default.
+    fn begin_run(&mut self, order: Order, mode: Mode, line: usize) -> Outcome
+        ensures { main_step order self.old line (Some (MainOp.Run mode)) ≡ Moves self.new result.seen }
     {
-        if matches!(mode, Mode::Default) {
+        if matches!((order, mode), (Order::V145, Mode::Default)) {
             self.refresh();
         }
         self.place = Place::Running(Run {

@@ -1,6 +1,7 @@
 //! Why a step is to be refused. It is found before anything is changed, and before memory is asked for.
 ghost use Rattle.std.specs.Prelude.{◌≡◌, ◌+◌, ◌≤◌, IfSome, IfNone, slice_get, None, Some};
 ghost use Rattle.uv_ids.specs.declared.event.Event.TheVariants.{Finish};
+ghost use Rattle.uv_script.specs.Program.{order_of};
 ghost use Rattle.uv_model.specs.Next.{main_step, run_step, next_work, take, work_of, finish, cancels, sent_to, tick, next, LATEST};
 ghost use Rattle.uv_model.specs.After.{refusal_of};
 ghost use Rattle.uv_model.specs.Handing.{job_run, RefusesResult};
@@ -37,7 +38,7 @@ impl LoopState {
     /// The main program has an end.
     #[tactic(auto, using(crate::proofs::Refusals::main_moves))]
     fn main_refusal(&self, script: &Script, line: usize) -> Option<Why>
-        ensures { result ≡ refusal_of (main_step self.now line (slice_get script.now.main line)) }
+        ensures { result ≡ refusal_of (main_step (order_of script.now) self.now line (slice_get script.now.main line)) }
     {
         match script.main_op(line) {
             None => Some(Why::Ended),

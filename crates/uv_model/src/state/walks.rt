@@ -8,7 +8,7 @@ ghost use Rattle.uv_model.specs.Next.{Moves, stage_of, begin_walk, begin_closing
 ghost use Rattle.uv_model.specs.Steps.{Steps};
 
 use crate::machine::Outcome;
-use crate::place::{Place, Run, Stage};
+use crate::place::{Place, Run, Stage, Turn};
 use crate::state::LoopState;
 use crate::walked::Walked;
 use std::alloc::AllocError;
@@ -191,12 +191,13 @@ impl LoopState {
     /// Frees the slot of the front of the closing handles and calls it, or leaves the section. Without memory nothing changes.
     #[tactic(auto, using(crate::proofs::Walks::walks))]
     fn close_front(&mut self, script: &Script, run: Run) -> Result<Outcome, AllocError>
-        requires { CanStep self.old }
+        requires able { CanStep self.old }
+        requires line { run.line < 2 ^ 63 }
         ensures ok { IfOk result (λ outcome. close_front script.now self.old run ≡ Moves self.new outcome.seen) }
         ensures err { OnErr result (self.new ≡ self.old) }
     {
         let Some((id, handle)) = self.front(self.closing.yet()) else {
-            return Ok(self.begin_timers(run));
+            return Ok(self.turn(script.order(), run, Turn::BehindClosing));
         };
         self.arena.release(id, script.arena_size().last_generation)?;
         self.closing.take_front();
@@ -206,7 +207,8 @@ impl LoopState {
 
     /// Goes on in the closing section.
     pub(super) fn in_closing(&mut self, script: &Script, run: Run) -> Result<Outcome, Fault>
-        requires { CanStep self.old }
+        requires able { CanStep self.old }
+        requires line { run.line < 2 ^ 63 }
         ensures { Steps (close_front script.now self.old run) self.old result self.new }
     {
         match self.close_front(script, run) {

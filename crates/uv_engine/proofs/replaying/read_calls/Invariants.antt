@@ -1,7 +1,7 @@
 use Rattle.std.proofs.Common.{◌≡◌, ◌+◌, ◌≤◌, List, length}
 use Rattle.uv_ids.specs.declared.event.Event.{Event}
 use Rattle.uv_engine.specs.Input.{left, size, EndIsSeen}
-use Rattle.uv_engine.specs.Taking.{SpendsBudget}
+use Rattle.uv_engine.specs.Taking.{SpendsBudget, SpendsGiven}
 use Rattle.uv_engine.proofs.Replays.{CallsSo}
 use Rattle.uv_engine.proofs.replaying.read_calls.Given as goal
 
@@ -20,6 +20,7 @@ invariant-lines g l = record {
   few : l.input.taken + size l.input.input ≤ l.initial.input.taken + size l.initial.input.input;
   budget : g.R.Source.Tells → SpendsBudget l.initial.input.input (g.R.Source.remaining l.initial.reader)
       l.input.input (g.R.Source.remaining l.reader);
+  given : SpendsGiven l.initial.input.input (g.R.Source.given l.initial.reader) l.input.input (g.R.Source.given l.reader);
   none_failed : g.R.Source.failures l.reader ≡ g.R.Source.failures l.initial.reader;
 }
 

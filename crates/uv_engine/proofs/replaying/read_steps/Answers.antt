@@ -17,6 +17,7 @@ lines-init g c = record {
   parted = refl;
   few = omega arith;
   budget = λ reads. refl;
+  given = λ few. refl;
   none_failed = refl;
 }
 
@@ -57,6 +58,9 @@ lines-preserved g c = record {
       let smaller = rw c.in-Some.is at c.in_ok-line.ensures.size in
       omega (arith, count, smaller, c.lines.invariant.few);
   budget = λ reads. omega (arith, c.lines.invariant.budget reads, c.in_ok-line.ensures.budget reads);
+  given = λ few.
+      let same = c.lines.invariant.given few in
+      omega (arith, same, c.in_ok-line.ensures.given (omega (arith, same, few)));
   none_failed = c.in_ok-line.ensures.reader ∙ c.lines.invariant.none_failed;
 }
 

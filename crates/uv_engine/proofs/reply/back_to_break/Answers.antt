@@ -4,5 +4,5 @@ use Rattle.uv_engine.proofs.reply.back_to_break.Goals as goal
 
 pub returns-in-Ok-clause-session : goal.returns-in-Ok-clause-session
 returns-in-Ok-clause-session g c =
-    let after = break_after-found c.args.session.now c.back_to_break.new.self c.in-Ok.length c.in-Ok.ensures.0 c.in-Ok.ensures.1 in
+    let after = break_after-found c.args.session.now c.back_to_break.new.self c.in-Ok.length c.in-Ok.ensures.moves.0 c.in-Ok.ensures.moves.1 in
     search rules

@@ -19,6 +19,9 @@ lines-preserved g c = record {
       let taken = rw c.in-Some.is at (c.in_ok-line.ensures.line reads) in
       can_go_on _ (c.lines.invariant.text reads) taken (c.is_begin.ensures.other c.if-is_begin.false) c.in_ok-push_line.ensures;
   budget = λ reads. omega (arith, c.lines.invariant.budget reads, c.in_ok-line.ensures.budget reads);
+  given = λ few.
+      let same = c.lines.invariant.given few in
+      omega (arith, same, c.in_ok-line.ensures.given (omega (arith, same, few)));
   size_is =
       let smaller = rw c.in-Some.is at c.in_ok-line.ensures.size in
       omega (arith, smaller, c.lines.invariant.size_is);

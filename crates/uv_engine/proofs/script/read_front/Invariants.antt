@@ -1,6 +1,6 @@
 use Rattle.std.proofs.Common.{◌≡◌, ◌≤◌}
 use Rattle.uv_engine.specs.Input.{left, size, EndIsSeen}
-use Rattle.uv_engine.specs.Taking.{SpendsBudget}
+use Rattle.uv_engine.specs.Taking.{SpendsBudget, SpendsGiven}
 use Rattle.uv_engine.proofs.Starting.{CanBegin}
 use Rattle.uv_engine.proofs.script.read_front.Given as goal
 
@@ -11,6 +11,7 @@ invariant-lines g l = record {
   text : g.R.Source.Tells → CanBegin (left l.initial.input (g.R.Source.remaining l.initial.reader)) l.text.items
       (left l.input (g.R.Source.remaining l.reader));
   budget : g.R.Source.Tells → SpendsBudget l.initial.input (g.R.Source.remaining l.initial.reader) l.input (g.R.Source.remaining l.reader);
+  given : SpendsGiven l.initial.input (g.R.Source.given l.initial.reader) l.input (g.R.Source.given l.reader);
   size_is : size l.input ≤ size l.initial.input;
   none_failed : g.R.Source.failures l.reader ≡ g.R.Source.failures l.initial.reader;
 }

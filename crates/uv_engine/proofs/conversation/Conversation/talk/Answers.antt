@@ -77,6 +77,9 @@ lines-preserved g c = record {
       can_write (can_answer before asks other (c.in_ok-answer.ensures.text tells) c.in_ok-answer.ensures.session)
       (c.in_ok-spill.ensures.text tells);
   budget = λ reads. omega (arith, c.lines.invariant.budget reads, c.in_ok-line.ensures.budget reads);
+  given = λ few.
+      let same = c.lines.invariant.given few in
+      omega (arith, same, c.in_ok-line.ensures.given (omega (arith, same, few)));
   none_read_failed = c.in_ok-line.ensures.reader ∙ c.lines.invariant.none_read_failed;
   none_write_failed = c.in_ok-spill.ensures.writer ∙ c.in_ok-answer.ensures.writer ∙ c.in_ok-write_if_waiting.ensures.writer
       ∙ c.lines.invariant.none_write_failed;

@@ -1,7 +1,7 @@
 use Rattle.std.proofs.Common.{◌≡◌}
 use Rattle.uv_script.specs.Lines.{lines_of}
 use Rattle.uv_engine.specs.Input.{left, size, EndIsSeen}
-use Rattle.uv_engine.specs.Taking.{SpendsBudget}
+use Rattle.uv_engine.specs.Taking.{SpendsBudget, SpendsGiven}
 use Rattle.uv_engine.proofs.Talking.{CanTalkOn}
 use Rattle.uv_engine.proofs.conversation.Conversation.talk.Given as goal
 
@@ -14,6 +14,7 @@ invariant-lines g l = record {
       (lines_of (left l.input (g.R.Source.remaining l.reader))) l.self.session
       (g.W.Sink.written l.initial.writer) (g.W.Sink.written l.writer) l.self.text.items;
   budget : g.R.Source.Tells → SpendsBudget l.initial.input (g.R.Source.remaining l.initial.reader) l.input (g.R.Source.remaining l.reader);
+  given : SpendsGiven l.initial.input (g.R.Source.given l.initial.reader) l.input (g.R.Source.given l.reader);
   none_read_failed : g.R.Source.failures l.reader ≡ g.R.Source.failures l.initial.reader;
   none_write_failed : g.W.Sink.failures l.writer ≡ g.W.Sink.failures l.initial.writer;
 }

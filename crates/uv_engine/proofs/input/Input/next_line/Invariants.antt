@@ -1,6 +1,6 @@
 use Rattle.std.proofs.Common.{◌≡◌, true}
 use Rattle.uv_engine.specs.Input.{left, size, turns_left, EndIsSeen}
-use Rattle.uv_engine.specs.Taking.{SpendsBudget}
+use Rattle.uv_engine.specs.Taking.{SpendsBudget, SpendsGiven}
 use Rattle.uv_engine.proofs.input.Input.next_line.Given as goal
 
 -- what is left stays
@@ -10,6 +10,7 @@ invariant-loop-text g l = record {
   end : g.R.Source.Tells → EndIsSeen l.self (g.R.Source.remaining l.reader);
   size_is : size l.self ≡ size l.initial.self;
   budget : g.R.Source.Tells → SpendsBudget l.initial.self (g.R.Source.remaining l.initial.reader) l.self (g.R.Source.remaining l.reader);
+  given : SpendsGiven l.initial.self (g.R.Source.given l.initial.reader) l.self (g.R.Source.given l.reader);
   ended : l.initial.self.ended ≡ true → l.self.ended ≡ true;
   none_failed : g.R.Source.failures l.reader ≡ g.R.Source.failures l.initial.reader;
 }

@@ -12,12 +12,12 @@ returns-in_default-clause-read g c = λ reads.
     let same = rw c.in_default.is at c.in_ok-line.ensures.none in
     rw c.missing.ensures (bad_end Start _ _ _ (ap (λ (n : ℕ). n + 1) same) none_left tt)
 
-pub returns-then-is_version-clause-read : goal.returns-then-is_version-clause-read
-returns-then-is_version-clause-read g c = λ reads.
+pub returns-in-Some-of_line-clause-read : goal.returns-in-Some-of_line-clause-read
+returns-in-Some-of_line-clause-read g c = λ reads.
     let taken = rw c.in-Some.is at (c.in_ok-line.ensures.line reads) in
     let count = rw c.in-Some.is at c.in_ok-line.ensures.taken in
-    version_read _ _ _ c.in-Some.line.text.items _ c.in-Some.line.fed count taken
-    (sym c.as_slice.ensures.value ∙ c.is_version.ensures.is c.if-is_version.true)
+    version_read c.in-Some-of_line.version _ _ _ c.in-Some.line.text.items _ c.in-Some.line.fed count taken
+    (sym c.as_slice.ensures.value ∙ c.in-Some-of_line.ensures.some)
 
 pub returns-clause-read : goal.returns-clause-read
 returns-clause-read g c = λ reads.
@@ -25,7 +25,7 @@ returns-clause-read g c = λ reads.
     let count = rw c.in-Some.is at c.in_ok-line.ensures.taken in
     rw c.bad.ensures
     (version_bad _ _ _ c.in-Some.line.text.items _ c.in-Some.line.fed count taken
-    (λ e. c.is_version.ensures.other c.if-is_version.false (c.as_slice.ensures.value ∙ e)))
+    (λ v e. c.in-None.ensures.none v (c.as_slice.ensures.value ∙ e)))
 
 pub returns-in_err-line-clause-budget : goal.returns-in_err-line-clause-budget
 returns-in_err-line-clause-budget g c =

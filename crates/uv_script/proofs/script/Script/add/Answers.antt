@@ -1,6 +1,6 @@
 use Rattle.std.proofs.Common.{refl, subst, rules}
 use Rattle.uv_script.specs.declared.statement.Statement.{Statement}
-use Rattle.uv_script.specs.Grammar.{Declares, InCallback, Sizes, HasWorkers, HasRoom, IsReadScript}
+use Rattle.uv_script.specs.Grammar.{Declares, InCallback, Sizes, HasWorkers, Orders, HasRoom, IsReadScript}
 use Rattle.uv_script.specs.Reading.{IsSaid}
 use Rattle.uv_script.specs.Said.{said}
 use Rattle.uv_script.proofs.AfterLines.{said_sound}
@@ -23,6 +23,15 @@ invariant_of-self-in-HasWorkers c =
     uncounted_more self.inside.lines p _ (HasWorkers c.in-HasWorkers.workers) refl is
     (subst (λ (s : Statement). IsSaid p (said s)) c.in-HasWorkers.is c.requires.said)
     (subst (λ (s : Statement). HasRoom p (said s)) c.in-HasWorkers.is c.requires.room) (search rules)
+
+pub invariant_of-self-in-Orders : goal.invariant_of-self-in-Orders
+invariant_of-self-in-Orders c =
+    let p = c.args.self.now in
+    let self = c.self-in-Orders in
+    let is = subst (IsReadScript self.inside.lines) self.view_is self.invariant in
+    uncounted_more self.inside.lines p _ (Orders c.in-Orders.order) refl is
+    (subst (λ (s : Statement). IsSaid p (said s)) c.in-Orders.is c.requires.said)
+    (subst (λ (s : Statement). HasRoom p (said s)) c.in-Orders.is c.requires.room) (search rules)
 
 pub declare-requires-clause-sound : goal.declare-requires-clause-sound
 declare-requires-clause-sound c =

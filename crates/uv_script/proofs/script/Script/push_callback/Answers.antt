@@ -26,5 +26,6 @@ invariant_of-self-2 c =
       callbacks = slice_set all v.0 (line i);
       size = c.self.inside.size;
       workers = c.self.inside.workers;
+      order = c.self.inside.order;
       threads = c.self.inside.threads.items;
     })

@@ -1,14 +1,15 @@
 use Rattle.std.proofs.Common.{◌+◌, [], ◌∷◌, refl, ap, sym, ◌∙◌, subst, arith, length-append}
-use Rattle.uv_script.specs.Grammar.{Draft, ReadsAll, none, unread}
+use Rattle.uv_script.specs.Grammar.{Draft, ReadsAll, none, blank}
 use Rattle.uv_script.specs.Program.{Program}
-use Rattle.uv_script.proofs.AfterLines.{line_number, lines_step, reads_step, all_read, line_fault}
-use Rattle.uv_script.proofs.script.Script.parse.Goals as goal
+use Rattle.uv_script.proofs.AfterLines.{distinct_none, line_number, lines_step, reads_step, all_read, line_fault}
+use Rattle.uv_script.proofs.script.Script.parse_from.Goals as goal
 
 pub loop-line-init : goal.loop-line-init
 loop-line-init c = record {
   can = tt;
   finite = tt;
-  read = subst (λ (p : Program). ReadsAll unread [] (record { program = p; said = unread.said })) (sym c.blank-script.ensures) none;
+  read = subst (λ (p : Program). ReadsAll (record { program = blank; said = c.args.said }) [] (record { program = p; said = c.args.said }))
+      (sym c.blank-script.ensures) none;
   counted = refl;
   rest = c.into_iter-line-iterator.ensures.into_iter_gives ∙ c.of-line-items.ensures;
 }
@@ -23,12 +24,13 @@ overflow_add-number c =
 pub loop-line-preserved : goal.loop-line-preserved
 loop-line-preserved c =
     let loop = c.loop-line in
+    let start : Draft = record { program = blank; said = c.args.said } in
     let before : Draft = record { program = loop.script; said = loop.settings } in
     let after : Draft = record { program = c.read_line.new.self; said = c.read_line.new.settings } in
     record {
       can = tt;
       finite = tt;
-      read = reads_step (λ line. line.now) before after loop.yielded c.in-Some.line loop.invariant.read c.in-Ok.ensures;
+      read = reads_step (λ line. line.now) start before after loop.yielded c.in-Some.line loop.invariant.read c.in-Ok.ensures;
       counted = ap (λ n. n + 1) loop.invariant.counted ∙ sym (length-append loop.yielded (c.in-Some.line ∷ []));
       rest = lines_step (λ line. line.now) _ loop.yielded c.in-Some.line loop.line-iterator c.next.new.self loop.invariant.rest
           c.in-Some.ensures.steps;
@@ -37,17 +39,19 @@ loop-line-preserved c =
 pub returns : goal.returns
 returns c =
     let loop = c.loop-line in
+    let start : Draft = record { program = blank; said = c.args.said } in
     let d : Draft = record { program = loop.script; said = loop.settings } in
     record {
       said = loop.settings;
-      read = all_read (λ line. line.now) c.args.text.now d loop.yielded _ loop.invariant.read loop.invariant.rest c.in-None.ensures.steps.0;
+      read = all_read (λ line. line.now) c.args.text.now start d loop.yielded _ loop.invariant.read loop.invariant.rest c.in-None.ensures.steps.0;
     }
 
 pub returns-in-Err : goal.returns-in-Err
 returns-in-Err c =
     let loop = c.loop-line in
+    let start : Draft = record { program = blank; said = c.args.said } in
     let before : Draft = record { program = loop.script; said = loop.settings } in
     let after : Draft = record { program = c.read_line.new.self; said = c.read_line.new.settings } in
     line_fault (λ line. line.now) c.args.text.now
-    (loop.number + 1) before after loop.yielded c.in-Some.line loop.line-iterator c.next.new.self c.in-Err.fault
-    loop.invariant.read loop.invariant.rest c.in-Some.ensures.steps (ap (λ n. n + 1) loop.invariant.counted) c.in-Err.ensures
+    (loop.number + 1) start before after loop.yielded c.in-Some.line loop.line-iterator c.next.new.self c.in-Err.fault
+    distinct_none loop.invariant.read loop.invariant.rest c.in-Some.ensures.steps (ap (λ n. n + 1) loop.invariant.counted) c.in-Err.ensures

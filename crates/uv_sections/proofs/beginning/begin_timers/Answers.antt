@@ -1,5 +1,0 @@
-use Rattle.std.proofs.Common.{refl}
-use Rattle.uv_sections.proofs.beginning.begin_timers.Goals as goal
-
-pub returns-clause-goes : goal.returns-clause-goes
-returns-clause-goes c s h reached = (_, refl, c.stand_in.ensures.stands _ (c.refresh.ensures.stands s h))

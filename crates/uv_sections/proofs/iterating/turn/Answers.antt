@@ -1,0 +1,19 @@
+use Rattle.std.proofs.Common.{Bool, ap, sym, ◌∙◌}
+use Rattle.uv_ids.specs.declared.order.Order.{Order}
+use Rattle.uv_model.specs.declared.place.Way.{Way}
+use Rattle.uv_model.specs.Next.{goes_by, turns, way}
+use Rattle.uv_script.specs.Program.{order_of}
+use Rattle.uv_sections.proofs.iterating.turn.Goals as goal
+
+pub returns-clause-goes : goal.returns-clause-goes
+returns-clause-goes c s h reached =
+    let run = c.args.run in
+    let order = order_of c.args.script.now in
+    let q = c.go_by.ensures.goes s h reached in (
+      q.0,
+      ap (λ (g : Bool). goes_by order s run (way order run.mode g c.args.turn)) (c.goes-going.ensures s h reached)
+          ∙ ap (λ (o : Order). goes_by order s run (way o run.mode c.goes-going.result c.args.turn)) (sym c.order-order.ensures)
+          ∙ ap (λ (w : Way). goes_by order s run w) (sym c.way-way.ensures)
+          ∙ ap (λ (o : Order). goes_by o s run c.way-way.result) (sym c.order-order.ensures) ∙ q.1,
+      q.2,
+    )
