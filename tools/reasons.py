@@ -11,7 +11,7 @@ REASONS = {
     'long': 'a line has at most 256 bytes, and this one has {0}',
     'byte': 'it has a byte that no line may have: {0}',
     'space': 'fields are separated by one space, and no line begins or ends with one',
-    'word': 'no line begins with `{0}`; the first word is slots, workers, var, main, on, after, closed, thread or begin',
+    'word': 'no line begins with `{0}`; the first word is order, slots, workers, var, main, on, after, closed, thread or begin',
     'few': 'something is missing: the line has the form `{0}`',
     'many': '`{0}` is too much: the line has the form `{1}`',
     'name': '`{0}` is no name: a lower case letter, and then up to 31 lower case letters, digits or _',
@@ -24,13 +24,15 @@ REASONS = {
     'main': '`{0}` is an op of the main program alone: `main {0} ..`',
     'mode': '`{0}` is no mode: default, once or nowait',
     'kind': '`{0}` is no kind of handle: timer, idle, prepare, check or async',
+    'version': '`{0}` is no version of an order: 1.44 or 1.45',
+    'old': 'a recording that begins with `uvt 1` has no line `order`: its runs are in the order of 1.45',
     'call': '`{0}` says no call: @ and a number from 1 to 4294967295, once in a line',
     'text': 'TEXT has 1 to 64 bytes, and this one has {0}',
     'sends': 'a thread only sends: `thread K send NAME`',
     'names': 'a script has at most 4096 names',
-    'lines': 'a script has at most 65535 lines, not counting slots, workers, comments and empty ones',
+    'lines': 'a script has at most 65535 lines, not counting order, slots, workers, comments and empty ones',
     'begin': 'the line `begin` is missing, which ends the script',
-    'version': 'a recording begins with the line `uvt 1`',
+    'format': 'a recording begins with the line `uvt 1` or `uvt 2`',
     'step': 'between `begin` and `calls` each line is a step: loop, take K, finish K, cancel NAME, send NAME or tick MS',
     'callback': 'behind `calls` each line begins with `call `, `after ` or `closed `, and the last one is `end`',
     'calls': 'the line `calls` is missing, which ends the steps',
@@ -46,7 +48,8 @@ OPS = {
 }
 MAIN_OPS = {'run': 'MODE', 'closeloop': ''}
 STEPS = {'loop': '', 'take': 'K', 'finish': 'K', 'cancel': 'NAME', 'send': 'NAME', 'tick': 'MS'}
-WORDS = {'KIND': ('timer', 'idle', 'prepare', 'check', 'async'), 'MODE': ('default', 'once', 'nowait')}
+WORDS = {'KIND': ('timer', 'idle', 'prepare', 'check', 'async'), 'MODE': ('default', 'once', 'nowait'), 'VERSION': ('1.44', '1.45')}
+SETTINGS = {'order': 'VERSION', 'slots': 'N [G]', 'workers': 'N'}
 RANGES = {'workers N': (1, 1024), 'slots N': (1, 65535), 'slots G': (0, 4294967295), 'ROUNDS': (1, 1000), 'thread K': (0, 63), 'K': (0, 65535)}
 
 
@@ -63,7 +66,7 @@ class Why(Exception):
 class Context(NamedTuple):
     """What the lines before a line say of it, each with the number of its own line."""
     names: Dict[str, int]
-    once: Dict[str, int]  # slots and workers
+    once: Dict[str, int]  # order, slots and workers
     later: Dict[str, int]  # names that are declared only behind it
     counted: int
 
@@ -77,7 +80,7 @@ def context(lines: List[bytes], number: int) -> Context:
         words = line.decode('ascii', 'replace').split(' ')
         if words[0] == 'var' and len(words) == 2 and at != number:
             (names if at < number else later).setdefault(words[1], at)
-        if at < number and words[0] in ('slots', 'workers'):
+        if at < number and words[0] in SETTINGS:
             once.setdefault(words[0], at)
         elif at < number and line and not line.startswith(b'#'):
             counted += 1
@@ -199,8 +202,8 @@ def of_script_line(line: bytes, found: Context) -> None:
     callback = re.match('(on|after|closed) [^ ]* @[^ ]* ', text)
     words = split(text, 3 if callback else 2 if re.match('(on|after|closed) ', text) else 1)
     first = words[0]
-    if first in ('slots', 'workers'):
-        of_words(words[1:], 'N [G]' if first == 'slots' else 'N', first, found)
+    if first in SETTINGS:
+        of_words(words[1:], SETTINGS[first], first, found)
         if first in found.once:
             raise Why('second', first, found.once[first])
     elif first == 'var':
@@ -227,11 +230,13 @@ def of_script(lines: List[bytes], number: int, wants_begin: bool = True) -> None
 
 def of_recording(lines: List[bytes], number: int) -> None:
     if number == 1:
-        raise Why('version')
+        raise Why('format')
     before = lines[:number - 1]
     script = lines[:lines.index(b'begin') + 1] if b'begin' in lines else lines
     if b'begin' not in before:
         of_script([b''] + script[1:], number)
+        if lines[0] == b'uvt 1' and script[number - 1].startswith(b'order '):
+            raise Why('old')
     elif b'end' in before:
         raise Why('behind')
     elif b'calls' in before:

@@ -53,6 +53,7 @@ class Program:
     slots: int = 1024
     last_generation: int = 2**32 - 1
     workers: int = 4
+    order: str = "1.45"
     steps: list[tuple[int, list[str]]] = field(default_factory=list)
     ways: list[str] = field(default_factory=list)
     limit: int = 10**9
@@ -70,6 +71,8 @@ class Program:
             case ["slots", count, *last]:
                 self.slots = int(count)
                 self.last_generation = int(last[0]) if last else self.last_generation
+            case ["order", version]:
+                self.order = version
             case ["workers", count]:
                 self.workers = int(count)
             case ["on" | "after" | "closed" as body, name, *op]:

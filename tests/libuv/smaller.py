@@ -10,7 +10,7 @@ from model import Program
 def is_needed(lines: list[str], at: int) -> bool:
     """Whether the rest would be no script without this line."""
     words = lines[at].split(" ")
-    if words[0] in ("begin", "limit", "workers", "undisturbed"):
+    if words[0] in ("begin", "limit", "workers", "order", "undisturbed"):
         return True
     return words[0] == "var" and any(words[1] in it.split(" ")[1:] for it in lines[:at] + lines[at + 1 :])
 

@@ -90,7 +90,8 @@ def script(draw):
     """A script's lines, its names with the kind for which each is meant, and how many workers it has."""
     names = {name: draw.choice(KINDS + ['timer', 'request', 'request']) for name in draw.sample(NAMES, draw.randint(2, 6))}
     workers = draw.choice([None, 1, 1, 2, 3, 1024])
-    head = [] if workers is None else ['workers %d' % workers]
+    order = draw.choice([None, '1.44', '1.45'])
+    head = ([] if order is None else ['order ' + order]) + ([] if workers is None else ['workers %d' % workers])
     slots = draw.choice([None, None, 1, 2, 3, 4, 6, 65535])
     if slots:
         last = draw.choice(['', '', ' 0', ' 1', ' 2', ' 4294967295'])

@@ -85,10 +85,10 @@ def try_files(check: Check, uvt: str, folder: str) -> None:
     closed = subprocess.run(['sh', '-c', 'exec "$@" <&-', 'sh', uvt, 'debug', script], stdout=subprocess.PIPE, stderr=subprocess.PIPE)
     same(check, 'debug FILE with a closed input', (closed.returncode, closed.stdout, closed.stderr), (0, b'init t timer = 0.0\n', b''))
     status, output, errors = run([uvt, 'live', script])
-    check('live FILE', (status, errors) == (0, b'') and output.startswith(b'uvt 1\nworkers 4\n'), 'got %r' % ((status, output, errors),))
+    check('live FILE', (status, errors) == (0, b'') and output.startswith(b'uvt 2\norder 1.45\nworkers 4\n'), 'got %r' % ((status, output, errors),))
     for words in (['live', '--workers', '3', script], ['live', script, '--workers', '3'], ['live', '--workers=3', script]):
         status, output, errors = run([uvt] + words)
-        check('live with workers and FILE', (status, errors) == (0, b'') and output.startswith(b'uvt 1\nworkers 3\n'), 'got %r' % errors)
+        check('live with workers and FILE', (status, errors) == (0, b'') and output.startswith(b'uvt 2\norder 1.45\nworkers 3\n'), 'got %r' % errors)
 
 
 # The rest of the rows of reasons.py, each with the whole sentence: the command's word, its input, the bad line, the row, the sentence.
@@ -107,8 +107,12 @@ TOLD = [
     ('live', b'workers 0\n', 1, 'range', b'`0` is out of range: N is 1 to 1024'),
     ('debug', b'var a\nvar a\nbegin\n', 2, 'twice', b'`a` is declared already, in line 1'),
     ('debug', b'let a\nbegin\n', 1, 'word',
-     b'no line begins with `let`; the first word is slots, workers, var, main, on, after, closed, thread or begin'),
-    ('replay', b'uvt 2\nbegin\ncalls\nend\n', 1, 'version', b'a recording begins with the line `uvt 1`'),
+     b'no line begins with `let`; the first word is order, slots, workers, var, main, on, after, closed, thread or begin'),
+    ('replay', b'uvt 3\nbegin\ncalls\nend\n', 1, 'format', b'a recording begins with the line `uvt 1` or `uvt 2`'),
+    ('replay', b'uvt 1\norder 1.45\nbegin\ncalls\nend\n', 2, 'old',
+     b'a recording that begins with `uvt 1` has no line `order`: its runs are in the order of 1.45'),
+    ('replay', b'uvt 2\norder 1.43\nbegin\ncalls\nend\n', 2, 'version', b'`1.43` is no version of an order: 1.44 or 1.45'),
+    ('debug', b'order 1.44\n# once\norder 1.44\nbegin\n', 3, 'second', b'a second `order`: a script has it once at most, and line 1 is the first'),
     ('replay', b'uvt 1\nvar A\nbegin\ncalls\nend\n', 2, 'name',
      b'`A` is no name: a lower case letter, and then up to 31 lower case letters, digits or _'),
     ('replay', b'uvt 1\nvar a\n', 3, 'begin', b'the line `begin` is missing, which ends the script'),

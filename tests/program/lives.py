@@ -47,8 +47,8 @@ def try_run(uvt, seed):
     if ended.returncode or ended.stderr:
         return 'status %d, errors %r' % (ended.returncode, ended.stderr)
     lines = ended.stdout.decode().splitlines()
-    if lines[:2] != ['uvt 1', 'workers %d' % workers_of(text, asked)]:
-        return 'it begins with %r' % lines[:2]
+    if lines[:3] != ['uvt 2', 'order 1.45', 'workers %d' % workers_of(text, asked)]:
+        return 'it begins with %r' % lines[:3]
     steps, calls = lines[lines.index('begin') + 1:lines.index('calls')], lines[lines.index('calls') + 1:]
     done = sum(line.startswith('after ') and not line.endswith(' ECANCELED') for line in calls)
     takes, finishes, sends = (sum(line.startswith(word) for line in steps) for word in ('take ', 'finish ', 'send '))

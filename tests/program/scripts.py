@@ -23,13 +23,14 @@ LIMITS = [
     ('a name of 33 bytes', b'var ' + 33 * b'a', 1, 'name'),
     ('4096 names', lines(4096, lambda number: b'var n%d\n' % number), None, None),
     ('4097 names', lines(4097, lambda number: b'var n%d\n' % number), 4097, 'names'),
-    ('65535 lines, and some that do not count', lines(65535, lambda number: b'main run once\n') + b'\n# none\nslots 9\nworkers 9\n', None, None),
+    ('65535 lines, and some that do not count',
+     lines(65535, lambda number: b'main run once\n') + b'\n# none\nslots 9\norder 1.44\nworkers 9\n', None, None),
     ('65535 lines, many of them of threads',
      b'var a\n' + lines(65534, lambda number: b'thread %d send a\n' % (number % 64)) + b'workers 9\n', None, None),
     ('65536 lines, many of them of threads',
      b'var a\n' + lines(65534, lambda number: b'thread %d send a\n' % (number % 64)) + b'workers 9\nthread 0 send a\n', 65537, 'lines'),
     ('65536 lines, and some that do not count',
-     lines(65535, lambda number: b'main run once\n') + b'\n# none\nslots 9\nworkers 9\nmain run once\n', 65540, 'lines'),
+     lines(65535, lambda number: b'main run once\n') + b'\n# none\nslots 9\norder 1.44\nworkers 9\nmain run once\n', 65541, 'lines'),
 ]
 
 # Commands at a limit, and what they are answered.
@@ -39,48 +40,50 @@ COMMANDS = [
      256 * b'break ok\n' + b'refused limit\nbreak ok\nbreak ok\n'),
 ]
 
-# A script, and its text: workers, slots, names, the main program, of each name its `on`, `after` and `closed` lines, and the
+# A script, and its text: order, workers, slots, names, the main program, of each name its `on`, `after` and `closed` lines, and the
 # `thread` lines as they came.
 TEXTS = [
-    (b'', b'workers 4\nslots 1024 4294967295\n'),
-    (b'slots 7\nvar a\nworkers 2\nmain run default', b'workers 2\nslots 7 4294967295\nvar a\nmain run default\n'),
-    (b'slots 1 4294967295\nworkers 1024', b'workers 1024\nslots 1 4294967295\n'),
-    (b'workers 1\nslots 65535 0', b'workers 1\nslots 65535 0\n'),
+    (b'', b'order 1.45\nworkers 4\nslots 1024 4294967295\n'),
+    (b'order 1.45', b'order 1.45\nworkers 4\nslots 1024 4294967295\n'),
+    (b'var a\nworkers 3\nmain run once\n# late\norder 1.44', b'order 1.44\nworkers 3\nslots 1024 4294967295\nvar a\nmain run once\n'),
+    (b'slots 7\nvar a\nworkers 2\nmain run default', b'order 1.45\nworkers 2\nslots 7 4294967295\nvar a\nmain run default\n'),
+    (b'slots 1 4294967295\nworkers 1024', b'order 1.45\nworkers 1024\nslots 1 4294967295\n'),
+    (b'workers 1\nslots 65535 0', b'order 1.45\nworkers 1\nslots 65535 0\n'),
     (b'var w\n# a comment\nclosed w now\nmain queue w 2  a \nvar t\non t @3 start t 5 0\nslots 65535 0\n\n'
      b'after w @1 cancel w\nmain run once\non w alive\non t close t\nmain closeloop\nafter w queue w 1000',
-     b'workers 4\nslots 65535 0\nvar w\nvar t\nmain queue w 2  a \nmain run once\nmain closeloop\n'
+     b'order 1.45\nworkers 4\nslots 65535 0\nvar w\nvar t\nmain queue w 2  a \nmain run once\nmain closeloop\n'
      b'on w alive\nafter w @1 cancel w\nafter w queue w 1000\nclosed w now\non t @3 start t 5 0\non t close t\n'),
     (b'# two timers\n\nvar tick\nmain init tick timer\nvar a_1\nmain start tick 5 18446744073709551615\n'
      b'on tick @4294967295 stop tick\non a_1 start tick 0 0\non tick init a_1 timer\n'
      b'main run default\nmain run once\nmain run nowait\nmain stop a_1',
-     b'workers 4\nslots 1024 4294967295\nvar tick\nvar a_1\nmain init tick timer\nmain start tick 5 18446744073709551615\n'
+     b'order 1.45\nworkers 4\nslots 1024 4294967295\nvar tick\nvar a_1\nmain init tick timer\nmain start tick 5 18446744073709551615\n'
      b'main run default\nmain run once\nmain run nowait\nmain stop a_1\n'
      b'on tick @4294967295 stop tick\non tick init a_1 timer\non a_1 start tick 0 0\n'),
     # the ops of watchers, of references and of the loop, in the main program
     (b'var i\nvar t\nmain init i idle\nmain start i\nmain again t\nmain repeat t 18446744073709551615\nmain due t\nmain ref i\n'
      b'main unref i\nmain hasref i\nmain active i\nmain stoploop\nmain updatetime\nmain now\nmain alive\nmain timeout',
-     b'workers 4\nslots 1024 4294967295\nvar i\nvar t\nmain init i idle\nmain start i\nmain again t\n'
+     b'order 1.45\nworkers 4\nslots 1024 4294967295\nvar i\nvar t\nmain init i idle\nmain start i\nmain again t\n'
      b'main repeat t 18446744073709551615\nmain due t\nmain ref i\nmain unref i\nmain hasref i\nmain active i\nmain stoploop\n'
      b'main updatetime\nmain now\nmain alive\nmain timeout\n'),
     # the same in a callback, some in one call only
     (b'var i\nvar t\non i init t prepare\non i init t check\non i @7 start i\non i @1 again t\non i repeat t 0\non i @2 due t\n'
      b'on i ref t\non i unref t\non i hasref t\non i active t\non i stoploop\non i @3 updatetime\non i now\non i @4 alive\n'
      b'on i timeout\non i @5 stop i',
-     b'workers 4\nslots 1024 4294967295\nvar i\nvar t\non i init t prepare\non i init t check\non i @7 start i\non i @1 again t\n'
+     b'order 1.45\nworkers 4\nslots 1024 4294967295\nvar i\nvar t\non i init t prepare\non i init t check\non i @7 start i\non i @1 again t\n'
      b'on i repeat t 0\non i @2 due t\non i ref t\non i unref t\non i hasref t\non i active t\non i stoploop\n'
      b'on i @3 updatetime\non i now\non i @4 alive\non i timeout\non i @5 stop i\n'),
     # requests in the main program and in callbacks; the text of one may hold spaces anywhere
     (b'var v\nvar w\nmain queue w 1\nmain queue v 1000 abc\nmain queue v 1  x\nmain queue v 2 a  b \nmain queue v 3  \n'
      b'main queue w 7 # 3456789 123456789 123456789 123456789 123456789 1234567890123~\n'
      b'main cancel w\nclosed w stop v\nafter w queue v 1 on\non w stop w\nafter w @2 cancel v\nafter w cancel w',
-     b'workers 4\nslots 1024 4294967295\nvar v\nvar w\nmain queue w 1\nmain queue v 1000 abc\nmain queue v 1  x\n'
+     b'order 1.45\nworkers 4\nslots 1024 4294967295\nvar v\nvar w\nmain queue w 1\nmain queue v 1000 abc\nmain queue v 1  x\n'
      b'main queue v 2 a  b \nmain queue v 3  \n'
      b'main queue w 7 # 3456789 123456789 123456789 123456789 123456789 1234567890123~\nmain cancel w\n'
      b'on w stop w\nafter w queue v 1 on\nafter w @2 cancel v\nafter w cancel w\nclosed w stop v\n'),
     # lines of threads stay in the order in which they came, and say the same twice
     (b'var b\nthread 63 send b\nvar a\nthread 0 send a\nmain init a async\nthread 0 send b\non a close a\nthread 63 send b\n'
      b'# a comment\nthread 9 send a\nworkers 3',
-     b'workers 3\nslots 1024 4294967295\nvar b\nvar a\nmain init a async\non a close a\nthread 63 send b\nthread 0 send a\n'
+     b'order 1.45\nworkers 3\nslots 1024 4294967295\nvar b\nvar a\nmain init a async\non a close a\nthread 63 send b\nthread 0 send a\n'
      b'thread 0 send b\nthread 63 send b\nthread 9 send a\n'),
 ]
 
@@ -92,4 +95,4 @@ def begun(script):
 
 def recorded(text):
     """What `record` shows of a script before any step."""
-    return b'uvt 1\n' + text + b'begin\ncalls\nend\n'
+    return b'uvt 2\n' + text + b'begin\ncalls\nend\n'

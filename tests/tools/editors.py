@@ -52,7 +52,8 @@ def try_manifest(check) -> None:
     gives = found["contributes"]
     language, grammar, debugger = gives["languages"][0], gives["grammars"][0], gives["debuggers"][0]
     check("vscode, the files of the language", language["extensions"] == [".uvt", ".live", ".rec"], language)
-    check("vscode, a recording's first line", re.search(language["firstLine"], "uvt 1") and COMMON.fullmatch(language["firstLine"]))
+    first = language["firstLine"]
+    check("vscode, a recording's first line", all(re.search(first, it) for it in ("uvt 1", "uvt 2")) and COMMON.fullmatch(first))
     named = [grammar["language"], gives["breakpoints"][0]["language"], *debugger["languages"]]
     check("vscode, the language is one", set(named) == {language["id"]}, named)
     for path in (language["configuration"], grammar["path"]):
@@ -145,13 +146,15 @@ def try_grammar(check, grammar: dict) -> None:
 
 
 # Lines that are none, by the rules of scripts and of commands, with one declared name, `a`. The program refuses them too.
-WRONG_LINES = ["main strat a 1 0", "main init a tmier", "on a run default", "on a closeloop", "main start a 1", "var A", "main  now", "main now ",
-               "workers", "slots", "after a @ now", "thread 0 close a", "uvt 2", "main", "on now", "main queue a", "main repeat a", "loop",
+WRONG_LINES = ["order", "order 1.43", "order 1.44 1.45",
+               "main strat a 1 0", "main init a tmier", "on a run default", "on a closeloop", "main start a 1", "var A", "main  now", "main now ",
+               "workers", "slots", "after a @ now", "thread 0 close a", "uvt 3", "main", "on now", "main queue a", "main repeat a", "loop",
                "main run", "main run forever", "main stoploop a", "slots 1 2 3", " # a space in front", "on a @2", "main queue a 5  " + "x" * 64]
 WRONG_COMMANDS = ["lop", "loop x", "break code EBUZY", "break section timer", "rback 1", "step", "tick", "take", "send", "break", "break call",
                   "main now", "begin", "state now", "finish", "cancel", "forward", "back"]
 # And one of each kind that is.
 RIGHT_LINES = [
+    "order 1.44", "order 1.45",
     "slots 5", "slots 5 2", "workers 3", "var b", "thread 3 send a", "main run once", "main run nowait", "main run default", "main closeloop",
     *(f"{front} {op}" for front in ("main", "on a", "after a @2", "closed a @13") for op in (
         "init a timer", "init a idle", "init a prepare", "init a check", "init a async", "start a 5 10", "start a", "stop a", "again a",

@@ -144,6 +144,9 @@ bool read_line(Script *script, const char *line) {
         return read_name(script, rest);
     if ((rest = behind(line, "workers")))
         return sscanf(rest, "%zu", &script->workers) == 1;
+    // (the library has its own order)
+    if ((rest = behind(line, "order")))
+        return strcmp(rest, "1.44") == 0 || strcmp(rest, "1.45") == 0;
     if ((rest = behind(line, "slots")))
         return sscanf(rest, "%zu %" SCNu32, &script->slots, &script->last_generation) >= 1;
     if ((rest = behind(line, "main")))
