@@ -64,7 +64,7 @@ const REPLAY: &[&str] = &["uvt", "replay"];
 const LIVE: &[&str] = &["uvt", "live"];
 
 /// The call at a place of the list.
-pub fn call(place: u32) -> Call {
+pub fn call_at(place: u32) -> Call {
     match place {
         0 => bad(&["uvt"]),
         1 => bad(&["uvt", "debug", "replay"]),

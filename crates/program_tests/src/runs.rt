@@ -1,5 +1,5 @@
 //! Calls of the program over a reader and writers in memory.
-use crate::calls::{CALLS, Call, call};
+use crate::calls::{CALLS, Call, call_at};
 use std::alloc::Global;
 use std::collections::VecDeque;
 use std::sync::Wait;
@@ -39,7 +39,7 @@ fn ends_so<H: Threads + Wait + Sync>(rt: &H, alloc: Global, call: Call) -> bool 
 #[test]
 fn each_call_ends_with_its_status_and_its_texts(rt: HostRuntime) -> Result<(), Fail> {
     for place in 0..CALLS {
-        assert!(&rt; ends_so(&rt, rt.alloc(), call(place)), "call {place}");
+        assert!(&rt; ends_so(&rt, rt.alloc(), call_at(place)), "call {place}");
     }
     Ok(())
 }
