@@ -79,8 +79,8 @@ fn splice(slots: &mut Slots<u64>, from: ListName, to: ListName) {
 
 /// Frees a slot, takes it again, and takes both back: what it held, and the id that it had in between.
 fn there_and_back(slots: &mut Slots<u64>, id: Id, content: u64) -> Option<(u64, Id)>
-    requires { on_list slots.old id ≡ false }
-    ensures { slots.new ≡ slots.old }
+    requires { on_list slots.old.image id ≡ false }
+    ensures { slots.new.image ≡ slots.old.image }
 {
     match slots.remove(id) {
         None => None,
@@ -165,5 +165,47 @@ fn lists_read_both_ways(rt: HostRuntime) -> Result<(), Fail> {
     let mut slots = listed(rt.alloc())?;
     read(&rt, &mut slots);
     move_all(&rt, &mut slots);
+    Ok(())
+}
+
+/// Takes a slot, and takes that back: its id.
+fn insert_and_back(slots: &mut Slots<u64>, content: u64) -> Option<Id>
+    ensures { slots.new.image ≡ slots.old.image }
+{
+    match slots.insert(content) {
+        Err(_) => None,
+        Ok(made) => {
+            slots.undo_insert(made.1);
+            Some(made.0)
+        }
+    }
+}
+
+/// The last slot of the first piece, and then the first one of the second, which is taken back and taken again.
+fn cross<R: Abort>(rt: &R, slots: &mut Slots<u64>) {
+    assert!(rt; insert_and_back(slots, 70) == Some(live(1023)));
+    assert!(rt; slots.insert(71).ok().map(|made| made.0) == Some(live(1023)));
+    assert!(rt; insert_and_back(slots, 72) == Some(live(1024)));
+    assert!(rt; slots.used() == 1024 && slots.next_free() == Some(live(1024)));
+    assert!(rt; slots.insert(73).ok().map(|made| made.0) == Some(live(1024)));
+    assert!(rt; slots.get(live(1023)) == Some(71) && slots.get(live(1024)) == Some(73));
+    assert!(rt; slots.get(FIRST) == Some(0));
+}
+
+#[test]
+fn goes_on_in_the_second_piece(rt: HostRuntime) -> Result<(), Fail> {
+    let mut slots = Slots::new(rt.alloc(), 2000, 9)?;
+    for content in 0u64..1023 {
+        assert!(rt; slots.insert(content).is_ok());
+    }
+    cross(&rt, &mut slots);
+    Ok(())
+}
+
+#[test]
+fn sixteen_million_slots_begin_without_a_piece(rt: HostRuntime) -> Result<(), Fail> {
+    let mut slots = Slots::new(rt.alloc(), 16_777_215, 9)?;
+    assert!(rt; slots.used() == 0 && slots.capacity() == 16_777_215);
+    assert!(rt; insert_and_back(&mut slots, 70) == Some(FIRST));
     Ok(())
 }

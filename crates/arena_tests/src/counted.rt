@@ -25,9 +25,9 @@ impl Model for Counted {
 
     ghost Value = { spec.Counted Content };
 
-    ghost view = { λ c. spec.counted c.slots c.handles };
+    ghost view = { λ c. spec.counted c.slots.image c.handles };
 
-    ghost invariant = { λ c. spec.IsCounted handle_in (spec.counted c.slots c.handles) };
+    ghost invariant = { λ c. spec.IsCounted handle_in (spec.counted c.slots.image c.handles) };
 }
 
 impl Counted {

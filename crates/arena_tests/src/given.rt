@@ -18,7 +18,7 @@ pub fn id(slot: u32) -> Id {
 
 /// Puts a request in a slot, which is no handle.
 pub fn put_request(slots: &mut Slots<Content>, name: u32) -> Option<Id>
-    ensures { alive_count handle_in slots.new ≡ alive_count handle_in slots.old }
+    ensures { alive_count handle_in slots.new.image ≡ alive_count handle_in slots.old.image }
 {
     match RequestRecord::new(Var(name), 1, b"") {
         None => None,
@@ -27,7 +27,7 @@ pub fn put_request(slots: &mut Slots<Content>, name: u32) -> Option<Id>
 }
 
 fn put(slots: &mut Slots<Content>, request: RequestRecord) -> Option<Id>
-    ensures { alive_count handle_in slots.new ≡ alive_count handle_in slots.old }
+    ensures { alive_count handle_in slots.new.image ≡ alive_count handle_in slots.old.image }
 {
     match slots.insert(Content::Request(request)) {
         Ok((id, inserted)) => {

@@ -58,12 +58,12 @@ fn names_go_and_come_back(alloc: Global) -> Result<bool, AllocError> {
     let mut right = is_named(&memory, 0, None, 0);
     if let Some(bound) = bind(&mut memory, Var(1), id) {
         right = right && is_named(&memory, 7, Some(id), 0);
-        memory.unwind(bound);
+        memory.unwind(&bound);
     }
     right = right && is_named(&memory, 0, None, 0);
     if let Some(called) = count(&mut memory, Var(1)) {
         right = right && is_named(&memory, 0, None, 1);
-        memory.unwind(called);
+        memory.unwind(&called);
     }
     Ok(right && is_named(&memory, 0, None, 0))
 }

@@ -1,8 +1,9 @@
 //! Each call once, at a number and at a record with an enum inside.
 ghost use Rattle.std.specs.Prelude.{◌≡◌};
 
+use std::process::Abort;
 use std::test::Fail;
-use uv_raw::RawRow;
+use uv_raw::{Pieces, RawRow};
 
 #[derive(Clone, Copy, PartialEq, Eq)]
 enum Content {
@@ -77,4 +78,59 @@ fn keeps_records(rt: HostRuntime) -> Result<(), Fail> {
 #[test]
 fn refuses_too_much(rt: HostRuntime) {
     assert!(rt; RawRow::<u64>::new(rt.alloc(), 1 << 60).is_err());
+}
+
+/// Adds an item, where there may be one more.
+fn add(pieces: &mut Pieces<u64>, item: u64) -> bool {
+    if pieces.len() >= pieces.capacity() || pieces.reserve().is_err() {
+        return false;
+    }
+    pieces.push(item);
+    true
+}
+
+fn at(pieces: &Pieces<u64>, index: usize) -> Option<u64> {
+    if index < pieces.len() {
+        Some(pieces.get(index))
+    } else {
+        None
+    }
+}
+
+/// Writes an item where there is one, and reads the old one.
+fn put(pieces: &mut Pieces<u64>, index: usize, item: u64) -> Option<u64> {
+    if index < pieces.len() {
+        Some(pieces.set(index, item))
+    } else {
+        None
+    }
+}
+
+fn take(pieces: &mut Pieces<u64>) -> Option<u64> {
+    if pieces.len() > 0 {
+        Some(pieces.pop())
+    } else {
+        None
+    }
+}
+
+/// A row of 1,025 items, of which the last one is taken off and put on again.
+fn cross<R: Abort>(rt: &R, pieces: &mut Pieces<u64>) {
+    assert!(rt; !pieces.has_room() && add(pieces, 1024) && !add(pieces, 1025));
+    assert!(rt; at(pieces, 0) == Some(0) && at(pieces, 1023) == Some(1023));
+    assert!(rt; put(pieces, 1024, 7) == Some(1024) && at(pieces, 1024) == Some(7));
+    assert!(rt; at(pieces, 0) == Some(0));
+    assert!(rt; take(pieces) == Some(7) && pieces.has_room() && add(pieces, 8));
+    assert!(rt; at(pieces, 1024) == Some(8));
+}
+
+#[test]
+fn goes_on_in_the_next_piece(rt: HostRuntime) -> Result<(), Fail> {
+    let mut pieces = Pieces::new(rt.alloc(), 1025)?;
+    assert!(rt; !pieces.has_room() && take(&mut pieces).is_none());
+    for item in 0u64..1024 {
+        assert!(rt; add(&mut pieces, item));
+    }
+    cross(&rt, &mut pieces);
+    Ok(())
 }

@@ -17,7 +17,7 @@ read (Handle r) = Some r
 read (Request n) = None
 
 abbrev pub all : Parts → Timed Content
-all p = timed p.slots p.handles p.heap p.times
+all p = timed p.slots.image p.handles p.heap p.times
 
 abbrev pub undone : Token → Timed Content → Timed Content
 undone (Timer u) t = timer_undone read make u t

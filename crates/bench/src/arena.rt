@@ -1,7 +1,11 @@
 //! The arena's calls and their undos.
-ghost use Rattle.std.specs.Prelude.{◌≡◌};
+
+mod batch;
+mod kinds;
 
 use crate::figures::{BATCH, Row, STRIDE, Total, Watch};
+use batch::batch;
+use kinds::{CONTENT, Content, Inserts, Pushes, Removals, Splices, Unlinks};
 use std::alloc::Global;
 use std::rt::Clock;
 use uv_arena::Slots;
@@ -11,11 +15,6 @@ use uv_records::ListName;
 /// How often a batch of changes is made and taken back.
 const ROUNDS: u32 = 200;
 
-/// What a slot holds: as large as a request.
-type Content = [u64; 14];
-
-const CONTENT: Content = [7; 14];
-
 /// What each kind of call took, and its undo.
 #[derive(Clone, Copy)]
 struct Totals {
@@ -24,90 +23,6 @@ struct Totals {
     push: Total,
     unlink: Total,
     splice: Total,
-}
-
-fn insert_and_back(clock: &impl Clock, watch: &mut Watch, slots: &mut Slots<Content>, left: u32)
-    ensures { slots.new ≡ slots.old }
-{
-    if left == 0 {
-        return watch.turn(clock);
-    }
-    match slots.insert(CONTENT) {
-        Err(_) => watch.fail(),
-        Ok(made) => {
-            insert_and_back(clock, watch, slots, left - 1);
-            slots.undo_insert(made.1);
-        }
-    }
-}
-
-fn remove_and_back(clock: &impl Clock, watch: &mut Watch, slots: &mut Slots<Content>, ids: &[Id])
-    ensures { slots.new ≡ slots.old }
-{
-    let Some((id, others)) = ids.split_first() else {
-        return watch.turn(clock);
-    };
-    if slots.on_list(*id) {
-        return watch.fail();
-    }
-    match slots.remove(*id) {
-        None => watch.fail(),
-        Some(freed) => {
-            remove_and_back(clock, watch, slots, others);
-            slots.undo_remove(freed.1, freed.0);
-        }
-    }
-}
-
-fn push_and_back(clock: &impl Clock, watch: &mut Watch, slots: &mut Slots<Content>, ids: &[Id])
-    ensures { slots.new ≡ slots.old }
-{
-    let Some((id, others)) = ids.split_first() else {
-        return watch.turn(clock);
-    };
-    if slots.get(*id).is_none() || slots.on_list(*id) {
-        return watch.fail();
-    }
-    let pushed = slots.push_front(ListName::Idle, *id);
-    push_and_back(clock, watch, slots, others);
-    slots.undo_push(pushed);
-}
-
-fn unlink_and_back(clock: &impl Clock, watch: &mut Watch, slots: &mut Slots<Content>, ids: &[Id])
-    ensures { slots.new ≡ slots.old }
-{
-    let Some((id, others)) = ids.split_first() else {
-        return watch.turn(clock);
-    };
-    if !slots.on_list(*id) {
-        return watch.fail();
-    }
-    let place = slots.unlink(*id);
-    unlink_and_back(clock, watch, slots, others);
-    slots.undo_unlink(place);
-}
-
-fn splice_and_back(
-    clock: &impl Clock,
-    watch: &mut Watch,
-    slots: &mut Slots<Content>,
-    from: ListName,
-    to: ListName,
-    left: u32,
-)
-    ensures { slots.new ≡ slots.old }
-{
-    if left == 0 {
-        return watch.turn(clock);
-    }
-    match slots.first(to) {
-        Some(_) => watch.fail(),
-        None => {
-            let moved = slots.splice(from, to);
-            splice_and_back(clock, watch, slots, to, from, left - 1);
-            slots.undo_splice(moved);
-        }
-    }
 }
 
 /// Takes so many slots: the last ones' ids go into `last`.
@@ -170,113 +85,79 @@ fn free(slots: &mut Slots<Content>, ids: &[Id]) {
     }
 }
 
-/// A round of the calls on slots that are on no list, and of splices.
-fn round_of_loose(
-    clock: &impl Clock,
-    watch: &mut Watch,
-    slots: &mut Slots<Content>,
-    loose: &[Id],
-    batch: u32,
-    totals: &mut Totals,
-) {
-    watch.start(clock);
-    remove_and_back(clock, watch, slots, loose);
-    totals.remove.add(watch.end(clock), batch);
-    watch.start(clock);
-    push_and_back(clock, watch, slots, loose);
-    totals.push.add(watch.end(clock), batch);
-    watch.start(clock);
-    splice_and_back(
-        clock,
-        watch,
-        slots,
-        ListName::Idle,
-        ListName::IdleYet,
-        batch,
-    );
-    totals.splice.add(watch.end(clock), batch);
-}
-
-/// The rounds in an arena with a long idle list and with slots on no list.
-fn rounds(
-    clock: &impl Clock,
-    watch: &mut Watch,
-    slots: &mut Slots<Content>,
-    loose: &[Id],
-    batch: u32,
-    totals: &mut Totals,
-) {
-    let mut on_list = [id(0); BATCH as usize];
-    let on_list = &mut on_list[..batch.min(BATCH) as usize];
-    listed(slots, on_list);
-    for _ in 0..ROUNDS {
-        round_of_loose(clock, watch, slots, loose, batch, totals);
-        watch.start(clock);
-        unlink_and_back(clock, watch, slots, on_list);
-        totals.unlink.add(watch.end(clock), batch);
-    }
+fn count(ids: &[Id]) -> u32 {
+    u32::try_from(ids.len()).unwrap_or(0)
 }
 
 /// The rounds of inserts, in an arena with free slots.
 fn inserts(
     clock: &impl Clock,
     watch: &mut Watch,
+    alloc: Global,
     slots: &mut Slots<Content>,
-    batch: u32,
-    insert: &mut Total,
+    ids: &[Id],
+    totals: &mut Totals,
 ) {
     for _ in 0..ROUNDS {
-        watch.start(clock);
-        insert_and_back(clock, watch, slots, batch);
-        insert.add(watch.end(clock), batch);
+        let lap = batch::<Inserts>(clock, watch, alloc, slots, ids);
+        totals.insert.add(lap, count(ids));
     }
 }
 
-/// What inserts take: an arena with so many slots on the idle list, and as many free ones as there are ids.
-fn measure_inserts(
+/// The rounds of the calls on slots that are on no list, and of splices.
+fn loose_rounds(
     clock: &impl Clock,
     watch: &mut Watch,
     alloc: Global,
-    size: u32,
-    batch: u32,
-    ids: &mut [Id],
-    insert: &mut Total,
+    slots: &mut Slots<Content>,
+    loose: &[Id],
+    totals: &mut Totals,
 ) {
-    match Slots::new(alloc, size.saturating_add(batch), 9) {
-        Ok(mut slots) => {
-            fill(watch, &mut slots, size, ids);
-            list(watch, &mut slots, size);
-            free(&mut slots, ids);
-            inserts(clock, watch, &mut slots, batch, insert);
-        }
-        Err(_) => watch.fail_memory(),
+    let calls = count(loose);
+    for _ in 0..ROUNDS {
+        let lap = batch::<Removals>(clock, watch, alloc, slots, loose);
+        totals.remove.add(lap, calls);
+        let lap = batch::<Pushes>(clock, watch, alloc, slots, loose);
+        totals.push.add(lap, calls);
+        let lap = batch::<Splices>(clock, watch, alloc, slots, loose);
+        totals.splice.add(lap, calls);
     }
 }
 
-/// What the other calls take: an arena with so many slots on the idle list, and as many more on no list as there are loose ids.
-/// Whether the list is as before.
-fn measure_others(
+/// The rounds of unlinkings, of slots on the idle list.
+fn listed_rounds(
     clock: &impl Clock,
     watch: &mut Watch,
     alloc: Global,
-    size: u32,
-    batch: u32,
-    loose: &mut [Id],
+    slots: &mut Slots<Content>,
+    on_list: &[Id],
+    totals: &mut Totals,
+) {
+    for _ in 0..ROUNDS {
+        let lap = batch::<Unlinks>(clock, watch, alloc, slots, on_list);
+        totals.unlink.add(lap, count(on_list));
+    }
+}
+
+/// What all calls take, in an arena with so many slots on the idle list, and as many more on no list as there are loose ids; then
+/// these are freed, for the inserts. Whether the list is as before.
+fn measure_in(
+    clock: &impl Clock,
+    watch: &mut Watch,
+    alloc: Global,
+    slots: &mut Slots<Content>,
+    loose: &[Id],
     totals: &mut Totals,
 ) -> bool {
-    match Slots::new(alloc, size.saturating_add(batch), 9) {
-        Ok(mut slots) => {
-            fill(watch, &mut slots, size, loose);
-            list(watch, &mut slots, size);
-            let first = slots.first(ListName::Idle);
-            rounds(clock, watch, &mut slots, loose, batch, totals);
-            slots.first(ListName::Idle) == first
-        }
-        Err(_) => {
-            watch.fail_memory();
-            false
-        }
-    }
+    let first = slots.first(ListName::Idle);
+    let mut on_list = [id(0); BATCH as usize];
+    let on_list = &mut on_list[..loose.len().min(BATCH as usize)];
+    listed(slots, on_list);
+    loose_rounds(clock, watch, alloc, slots, loose, totals);
+    listed_rounds(clock, watch, alloc, slots, on_list, totals);
+    free(slots, loose);
+    inserts(clock, watch, alloc, slots, loose, totals);
+    slots.first(ListName::Idle) == first
 }
 
 /// What each call and its undo takes in an arena of this size; and whether the list is as before.
@@ -294,10 +175,19 @@ pub fn measure(
         splice: Total::new(),
     };
     let batch = BATCH.min(size);
-    let mut ids = [id(0); BATCH as usize];
-    let ids = &mut ids[..batch as usize];
-    measure_inserts(clock, watch, alloc, size, batch, ids, &mut totals.insert);
-    let as_before = measure_others(clock, watch, alloc, size, batch, ids, &mut totals);
+    let mut loose = [id(0); BATCH as usize];
+    let loose = &mut loose[..batch as usize];
+    let as_before = match Slots::new(alloc, size.saturating_add(batch), 9) {
+        Ok(mut slots) => {
+            fill(watch, &mut slots, size, loose);
+            list(watch, &mut slots, size);
+            measure_in(clock, watch, alloc, &mut slots, loose, &mut totals)
+        }
+        Err(_) => {
+            watch.fail_memory();
+            false
+        }
+    };
     let rows = [
         totals.insert.row("insert"),
         totals.remove.row("remove"),

@@ -16,9 +16,9 @@ abbrev pub read : Content → Option HandleRecord
 read (Handle r) = Some r
 read (Request n) = None
 
--- all that calls change: the heap's room is no part of it
+-- all that calls change: the arena's pieces and the heap's room are no part of it
 abbrev pub all : Parts → Timed Content
-all p = timed p.slots p.handles p.heap p.times
+all p = timed p.slots.image p.handles p.heap p.times
 
 abbrev pub undone : Token → Timed Content → Timed Content
 undone (Added u) t = record t { handles = add_undone read u t.handles }

@@ -29,7 +29,7 @@ impl Model for Arena {
 
     ghost Value = { Image ℕ };
 
-    ghost view = { λ a. a.slots };
+    ghost view = { λ a. a.slots.image };
 }
 
 impl Subject for Arena {

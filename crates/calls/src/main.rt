@@ -1,16 +1,20 @@
 //! Random calls beside a plain model of the standard library's collections, and then all of them taken back one by one: of the
-//! arena, of the timers and of the requests, in turn. `calls CALLS SLOTS`.
+//! arena, of the timers and of the requests, in turn. `calls CALLS SLOTS`. Then an arena's second piece is made, for which there may be no
+//! memory: `tests/refused-allocations/run` runs it so.
 #![tactic(auto)]
 
 mod arena;
+mod pieces;
 mod play;
 mod requests;
 mod score;
 mod seen;
 mod subject;
 mod timers;
+mod turns;
 
 use crate::score::Score;
+use crate::turns::Turns;
 use std::io::Eprint;
 use std::rt::Env;
 use std::{env, io};
@@ -38,6 +42,16 @@ fn main(rt: HostRuntime) -> io::Result<()> {
         calls,
         slots,
         requests::tried(alloc, calls, slots),
+    )?;
+    let mut turns = Turns::new(rt.stdin());
+    let is_right = pieces::tried(&rt, alloc, &mut turns)?;
+    println!(rt;
+        "pieces: {}",
+        if is_right {
+            "as they must"
+        } else {
+            "not as they must"
+        }
     )
 }
 

@@ -37,9 +37,9 @@ impl Model for Working {
 
     ghost Value = { Working Held };
 
-    ghost view = { λ w. working w.slots w.requests };
+    ghost view = { λ w. working w.slots.image w.requests };
 
-    ghost invariant = { λ w. IsWork asked (working w.slots w.requests) };
+    ghost invariant = { λ w. IsWork asked (working w.slots.image w.requests) };
 }
 
 impl Subject for Working {

@@ -6,9 +6,8 @@ use Rattle.uv_raw.specs.Row.{row}
 use Rattle.uv_arena.specs.declared.links.Links.{Links}
 use Rattle.uv_records.specs.declared.lists.Ends.{Ends}
 use Rattle.uv_arena.specs.declared.links.Cell.{Cell}
-use Rattle.uv_arena.specs.declared.memory.Memory.{Memory}
 use Rattle.uv_arena.specs.Chains.{Chains, link, loose, first, IsSegment, Stands}
-use Rattle.uv_arena.specs.Image.{no_ends, chains, chain, grown, shrunk, Fits, AreFit, IsLinked, IsSound, name_at, fresh_image, held_slots}
+use Rattle.uv_arena.specs.Image.{Memory, no_ends, chains, chain, grown, shrunk, Fits, AreFit, IsLinked, IsSound, name_at, fresh_image, held_slots}
 use Rattle.uv_arena.proofs.Walk.{walked, stands_walked}
 
 pub get_more : {A : Type 0} (xs : List A) (z : A) (j : ℕ) (x : A) → slice_get xs j ≡ Some x → slice_get (xs ++ z ∷ []) j ≡ Some x

@@ -8,9 +8,8 @@ use Rattle.uv_records.specs.Lists.{number}
 use Rattle.uv_records.specs.Slots as plain
 use Rattle.uv_records.specs.Walks.{without}
 use Rattle.uv_arena.specs.declared.links.Cell.{Cell}
-use Rattle.uv_arena.specs.declared.memory.Memory.{Memory}
 use Rattle.uv_arena.specs.Chains.{IsIn, IsApart}
-use Rattle.uv_arena.specs.Image.{Image, FREE, name_at, chain, links_in, links_at, held_slots, held, on_list, IsSound}
+use Rattle.uv_arena.specs.Image.{Image, Memory, FREE, name_at, chain, links_in, links_at, held_slots, held, on_list, IsSound}
 use Rattle.uv_arena.proofs.Lists.{in_right}
 use Rattle.uv_arena.proofs.Memories.{or_none, placed, member_tells}
 use Rattle.uv_arena.proofs.Names.{number_apart, number_below}

@@ -8,9 +8,8 @@ use Rattle.uv_records.specs.declared.slot.Slot.{Slot}
 use Rattle.uv_arena.specs.declared.links.Links.{Links}
 use Rattle.uv_arena.specs.declared.links.Place.{Place}
 use Rattle.uv_arena.specs.declared.links.Cell.{Cell}
-use Rattle.uv_arena.specs.declared.memory.Memory.{Memory}
 use Rattle.uv_arena.specs.Chains.{Chains, link, loose, each, first, last, IsIn, IsSegment, Stands, list_of, head_of, tail_of, new_links, new_ends, relinked}
-use Rattle.uv_arena.specs.Image.{IsBelow, IsWithin, with_links, chains, chain, relinked_memory, put_in, taken_out, edit_at, edited, links_in, links_at, head_at, tail_at, Fits, AreFit, IsLinked, held_slots}
+use Rattle.uv_arena.specs.Image.{Memory, IsBelow, IsWithin, with_links, chains, chain, relinked_memory, put_in, taken_out, edit_at, edited, links_in, links_at, head_at, tail_at, Fits, AreFit, IsLinked, held_slots}
 use Rattle.uv_arena.proofs.Each.{get-each, length-each, get-each_back, each-each, each-agree, each-same, set-as}
 use Rattle.uv_arena.proofs.Lists.{last_is_in, first_is_in, in_left, in_right, segment_tells, segment_right, split_at}
 use Rattle.uv_arena.proofs.Relinking.{eqb_no, own_links, same_list}

@@ -10,9 +10,8 @@ use Rattle.uv_records.specs.Walks.{without}
 use Rattle.uv_arena.specs.declared.links.Links.{Links}
 use Rattle.uv_arena.specs.declared.links.Place.{Place}
 use Rattle.uv_arena.specs.declared.links.Cell.{Cell}
-use Rattle.uv_arena.specs.declared.memory.Memory.{Memory}
 use Rattle.uv_arena.specs.Chains.{link, loose, first, last, IsApart}
-use Rattle.uv_arena.specs.Image.{Image, FREE, IsWithin, list_or_first, name_at, chain, links_in, links_at, place_at, put_in, taken_out, with_links, in_memory, front_place, back_place, members, held_slots, plain_slots, held, on_list, IsSound, AreFit}
+use Rattle.uv_arena.specs.Image.{Image, Memory, FREE, IsWithin, list_or_first, name_at, chain, links_in, links_at, place_at, put_in, taken_out, with_links, in_memory, front_place, back_place, members, held_slots, plain_slots, held, on_list, IsSound, AreFit}
 use Rattle.uv_arena.specs.Undo.{push_undone, unlink_undone}
 use Rattle.uv_arena.specs.Calls.{IsPushed, IsUnlinked}
 use Rattle.uv_arena.proofs.Memories.{place_of, put_made, take_made, placed, head_is, tail_is, slots_relinked, length_relinked, own_relinked, list_relinked, others_fit, fit_relinked, all_fit, member_tells}

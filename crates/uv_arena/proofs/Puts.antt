@@ -7,8 +7,7 @@ use Rattle.uv_arena.specs.declared.links.Place.{Place}
 use Rattle.uv_arena.specs.declared.links.Cell.{Cell}
 use Rattle.uv_arena.specs.Chains.{each, is_at, none_or, new_ends}
 use Rattle.uv_raw.specs.Row.{row}
-use Rattle.uv_arena.specs.declared.memory.Memory.{Memory}
-use Rattle.uv_arena.specs.Image.{no_ends, with_links, with_cells, with_ends, relinked_cells}
+use Rattle.uv_arena.specs.Image.{Memory, no_ends, with_links, with_cells, with_ends, relinked_cells}
 use Rattle.uv_arena.proofs.Each.{set-as, each-each, each-same, each-agree}
 use Rattle.uv_arena.proofs.Relinking.{eqb_no}
 

@@ -1,14 +1,17 @@
 -- What holds after each call that changes the arena: the lists and the slots, what stays, and that the call can be taken back.
-use Rattle.std.specs.Prelude.{◌≡◌, ◌≢◌, ℕ, true, false, eqb, List, [], ◌∷◌, ◌++◌, Option, Some, None, is_some}
+use Rattle.std.specs.Prelude.{◌≡◌, ◌≢◌, ℕ, ◌+◌, ◌<◌, ◌≤◌, nat_lt, if◌then◌else◌, length, true, false, eqb, List, [], ◌∷◌, ◌++◌, Option, Some, None, is_some}
 use Rattle.uv_ids.specs.declared.id.Id.{Id}
 use Rattle.uv_records.specs.declared.lists.ListName.{ListName}
 use Rattle.uv_records.specs.Walks.{without}
 use Rattle.uv_records.specs.Slots.{next_free, taken, freed, with_held}
+use Rattle.uv_raw.specs.Pieced.{PIECE}
+use Rattle.uv_arena.specs.declared.arena.InsertFault.{InsertFault}
+use Rattle.uv_arena.specs.declared.arena.InsertFault.TheVariants.{Full, Memory}
 use Rattle.uv_arena.specs.declared.links.Place.{Place}
 use Rattle.uv_arena.specs.declared.undo.InsertUndo.{InsertUndo}
 use Rattle.uv_arena.specs.declared.undo.RemoveUndo.{RemoveUndo}
 use Rattle.uv_arena.specs.declared.undo.SpliceUndo.{SpliceUndo}
-use Rattle.uv_arena.specs.Image.{Image, members, plain_slots, held, on_list}
+use Rattle.uv_arena.specs.Image.{Image, Arena, members, plain_slots, held, on_list}
 use Rattle.uv_arena.specs.Undo.{insert_undone, remove_undone, set_undone, push_undone, unlink_undone, splice_undone, CanUndoInsert, CanUndoRemove, CanUndoSet, CanUndoPush, CanUndoUnlink, CanUndoSplice}
 
 -- the slot of an id
@@ -16,7 +19,27 @@ abbrev pub slot_of : Option Id → Option ℕ
 slot_of None = None
 slot_of (Some d) = Some d.slot
 
+-- the room once the next slot has a piece: one that is free has its piece
+abbrev pub room_with_next : List ℕ → ℕ → ℕ → ℕ
+room_with_next [] used room = if nat_lt used room then room else room + PIECE
+room_with_next (n ∷ ns) used room = room
+
 module _ {X : Type 0} where
+  -- no slot is free, and the piece of the next unused one isn't there
+  pub record LacksPiece (a : Arena X) : Type 0 where
+    pub free : (plain_slots a.image).free ≡ []
+    pub unused : 0 < (plain_slots a.image).unused
+    pub room : a.room ≤ length (plain_slots a.image).slots
+
+  -- why nothing is inserted: no slot is free or unused, or there is no memory for the piece that is wanted
+  abbrev pub RefusesInsert : InsertFault → Arena X → Type 0
+  RefusesInsert Full a = next_free (plain_slots a.image) ≡ None
+  RefusesInsert Memory a = LacksPiece a
+
+  -- the room after an insert
+  abbrev pub room_after : Arena X → ℕ
+  room_after a = room_with_next (plain_slots a.image).free (length (plain_slots a.image).slots) a.room
+
   -- what is held under the id now was put there, in the slot that was next
   pub record IsInserted (old new : Image X) (v : X) (d : Id) (u : InsertUndo) : Type 0 where
     pub next : next_free (plain_slots old) ≡ Some d

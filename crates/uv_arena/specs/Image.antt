@@ -1,7 +1,7 @@
 -- The image of the arena: all that its memory holds, and what the calls make of it.
 use Rattle.std.specs.Prelude.{◌≡◌, ℕ, ◌-◌, ◌<◌, ◌≤◌, ◌^◌, ◌⊎◌, Bool, ◌&&◌, cond, eqb, List, [], ◌∷◌, ◌++◌, map, length, take, replicate, Option, Some, None, is_some, slice_get, slice_index_or}
 use Rattle.uv_ids.specs.declared.id.Id.{Id}
-use Rattle.uv_raw.specs.Row.{row}
+use Rattle.uv_raw.specs.Row.{Row, row}
 use Rattle.uv_records.specs.declared.slot.Slot.{Slot}
 use Rattle.uv_records.specs.declared.lists.ListName.{ListName}
 use Rattle.uv_records.specs.Lists.{number}
@@ -10,16 +10,27 @@ use Rattle.uv_arena.specs.declared.links.Links.{Links}
 use Rattle.uv_records.specs.declared.lists.Ends.{Ends}
 use Rattle.uv_arena.specs.declared.links.Place.{Place}
 use Rattle.uv_arena.specs.declared.links.Cell.{Cell}
-use Rattle.uv_arena.specs.declared.memory.Memory.{Memory}
+use Rattle.uv_arena.specs.declared.memory.Memory as there
 use Rattle.uv_arena.specs.Chains.{Chains, link, loose, each, new_links, new_ends, Stands, list_of, head_of, tail_of}
 
+pub record Memory (X : Type 0) : Type 0 where
+  -- the slots that were ever used with their links, and how many there may be
+  pub row : Row (Cell X)
+  -- the ends of the chains
+  pub ends : List Ends
+
 pub record Image (X : Type 0) : Type 0 where
-  -- the slots that were ever used with their links, how many there may be, and the ends of the chains
   pub memory : Memory X
   -- which chain each list is, by the list's number
   pub names : List ℕ
   -- the last generation, at which a slot that is freed is retired
   pub last : ℕ
+
+-- what an arena shows: its image, and its room, how many slots the pieces that are there can hold, also past the last one. An undo
+-- keeps the pieces, so the room is no part of the image
+pub record Arena (X : Type 0) : Type 0 where
+  pub image : Image X
+  pub room : ℕ
 
 -- the chain of the free slots; the others are the lists, each under some name
 abbrev pub FREE : ℕ
@@ -53,6 +64,10 @@ list_or_first None = 0
 list_or_first (Some k) = k
 
 module _ {X : Type 0} where
+  -- the memory as it lies in the pieces
+  abbrev pub memory_of : there.Memory X → Memory X
+  memory_of m = record { row = m.row.row; ends = m.ends }
+
   -- ---- one write, at each index
 
   abbrev pub with_links : Links → Cell X → Cell X
@@ -201,3 +216,7 @@ fresh_image X capacity last = record {
   names = 0 ∷ 1 ∷ 2 ∷ 3 ∷ 4 ∷ 5 ∷ 6 ∷ 7 ∷ 8 ∷ 9 ∷ 10 ∷ 11 ∷ 12 ∷ 13 ∷ [];
   last = last;
 }
+
+-- and without a piece
+abbrev pub fresh_arena : (X : Type 0) → ℕ → ℕ → Arena X
+fresh_arena X capacity last = record { image = fresh_image X capacity last; room = 0 }

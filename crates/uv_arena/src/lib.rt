@@ -1,5 +1,5 @@
-//! The slots of handles and requests in one allocation, each on at most one doubly linked list, and every change with an undo
-//! that gives back the very links that stood before.
+//! The slots of handles and requests in pieces that never move, each on at most one doubly linked list, and every change with an
+//! undo that gives back the very links that stood before.
 #![tactic(auto)]
 
 mod arena;
@@ -7,6 +7,6 @@ mod links;
 mod memory;
 mod undo;
 
-pub use arena::{Full, Slots};
+pub use arena::{InsertFault, Slots};
 pub use links::{Cell, Links, Place};
 pub use undo::{InsertUndo, PushUndo, RemoveUndo, SpliceUndo};

@@ -1,24 +1,27 @@
-//! The slots with their links in one row, and the ends of the chains: relinking one place.
-ghost use Rattle.std.specs.Prelude.{◌≡◌, ◌<◌, ℕ, cond, eqb, length, Option, None, Some};
+//! The slots with their links in pieces, and the ends of the chains: relinking one place.
+ghost use Rattle.std.specs.Prelude.{◌≡◌, ◌<◌, ◌≤◌, ℕ, cond, eqb, length, Option, None, Some, OnOk, OnErr};
+ghost use Rattle.uv_raw.specs.Pieced.{room_after};
 ghost use Rattle.uv_arena.specs.Chains.{each, is_at, none_or, link, loose};
-ghost use Rattle.uv_arena.specs.Image.{with_links, with_cells, with_ends, relinked_memory, IsBelow, IsWithin, put_in, taken_out, edited, links_at, slot_at, head_at, tail_at, place_at, grown, shrunk};
+ghost use Rattle.uv_arena.specs.Image.{memory_of, with_links, with_cells, with_ends, relinked_memory, IsBelow, IsWithin, put_in, taken_out, edited, links_at, slot_at, head_at, tail_at, place_at, grown, shrunk};
 
 use crate::links::{Cell, LOOSE, Links, Place};
-use uv_raw::RawRow;
+use std::alloc::AllocError;
+use uv_raw::Pieces;
 use uv_records::{Ends, Slot};
 
 /// The slots that were ever used with their links, and the ends of the fifteen chains.
 #[derive(Drop)]
 pub(crate) struct Memory<T: Copy> {
-    pub(crate) row: RawRow<Cell<T>>,
+    pub(crate) row: Pieces<Cell<T>>,
     pub(crate) ends: [Ends; 15],
 }
 
 impl<T: Copy> Memory<T> {
     fn set_next(&mut self, at: u32, next: Option<u32>)
-        requires { at < length self.old.row.items }
-        ensures { self.new ≡ with_cells (λ j c. with_links
-            (record { list = c.links.list; prev = c.links.prev; next = cond (eqb at j) next c.links.next }) c) self.old }
+        requires { at < length self.old.row.row.items }
+        ensures memory { memory_of self.new ≡ with_cells (λ j c. with_links
+            (record { list = c.links.list; prev = c.links.prev; next = cond (eqb at j) next c.links.next }) c) (memory_of self.old) }
+        ensures room { self.new.row.room ≡ self.old.row.room }
     {
         let cell = self.row.get(at as usize);
         let links = Links { next, ..cell.links };
@@ -26,9 +29,10 @@ impl<T: Copy> Memory<T> {
     }
 
     fn set_prev(&mut self, at: u32, prev: Option<u32>)
-        requires { at < length self.old.row.items }
-        ensures { self.new ≡ with_cells (λ j c. with_links
-            (record { list = c.links.list; prev = cond (eqb at j) prev c.links.prev; next = c.links.next }) c) self.old }
+        requires { at < length self.old.row.row.items }
+        ensures memory { memory_of self.new ≡ with_cells (λ j c. with_links
+            (record { list = c.links.list; prev = cond (eqb at j) prev c.links.prev; next = c.links.next }) c) (memory_of self.old) }
+        ensures room { self.new.row.room ≡ self.old.row.room }
     {
         let cell = self.row.get(at as usize);
         let links = Links { prev, ..cell.links };
@@ -36,8 +40,9 @@ impl<T: Copy> Memory<T> {
     }
 
     fn set_links(&mut self, at: u32, links: Links)
-        requires { at < length self.old.row.items }
-        ensures { self.new ≡ with_cells (λ j c. with_links (cond (eqb at j) links c.links) c) self.old }
+        requires { at < length self.old.row.row.items }
+        ensures memory { memory_of self.new ≡ with_cells (λ j c. with_links (cond (eqb at j) links c.links) c) (memory_of self.old) }
+        ensures room { self.new.row.room ≡ self.old.row.room }
     {
         let cell = self.row.get(at as usize);
         self.row.set(at as usize, Cell { links, ..cell });
@@ -46,7 +51,8 @@ impl<T: Copy> Memory<T> {
     fn set_head(&mut self, list: u8, head: Option<u32>)
         requires list { list < 15 }
         requires all { length self.old.ends ≡ 15 }
-        ensures { self.new ≡ with_ends (λ j e. cond (eqb list j) (record { head = head; tail = e.tail }) e) self.old }
+        ensures memory { memory_of self.new ≡ with_ends (λ j e. cond (eqb list j) (record { head = head; tail = e.tail }) e) (memory_of self.old) }
+        ensures room { self.new.row.room ≡ self.old.row.room }
     {
         self.ends[list as usize].head = head;
     }
@@ -54,7 +60,8 @@ impl<T: Copy> Memory<T> {
     fn set_tail(&mut self, list: u8, tail: Option<u32>)
         requires list { list < 15 }
         requires all { length self.old.ends ≡ 15 }
-        ensures { self.new ≡ with_ends (λ j e. cond (eqb list j) (record { head = e.head; tail = tail }) e) self.old }
+        ensures memory { memory_of self.new ≡ with_ends (λ j e. cond (eqb list j) (record { head = e.head; tail = tail }) e) (memory_of self.old) }
+        ensures room { self.new.row.room ≡ self.old.row.room }
     {
         self.ends[list as usize].tail = tail;
     }
@@ -63,10 +70,12 @@ impl<T: Copy> Memory<T> {
     fn relink_before(&mut self, place: Place, next: Option<u32>)
         requires list { place.list < 15 }
         requires all { length self.old.ends ≡ 15 }
-        requires before { IsBelow place.before (length self.old.row.items) }
-        ensures { self.new ≡ with_ends (λ j e. cond (eqb place.list j) (record { head = none_or place.before next e.head; tail = e.tail }) e)
+        requires before { IsBelow place.before (length self.old.row.row.items) }
+        ensures memory { memory_of self.new ≡ with_ends (λ j e. cond (eqb place.list j)
+            (record { head = none_or place.before next e.head; tail = e.tail }) e)
             (with_cells (λ j c. with_links
-            (record { list = c.links.list; prev = c.links.prev; next = cond (is_at place.before j) next c.links.next }) c) self.old) }
+            (record { list = c.links.list; prev = c.links.prev; next = cond (is_at place.before j) next c.links.next }) c) (memory_of self.old)) }
+        ensures room { self.new.row.room ≡ self.old.row.room }
     {
         match place.before {
             Some(at) => self.set_next(at, next),
@@ -78,10 +87,12 @@ impl<T: Copy> Memory<T> {
     fn relink_after(&mut self, place: Place, prev: Option<u32>)
         requires list { place.list < 15 }
         requires all { length self.old.ends ≡ 15 }
-        requires after { IsBelow place.after (length self.old.row.items) }
-        ensures { self.new ≡ with_ends (λ j e. cond (eqb place.list j) (record { head = e.head; tail = none_or place.after prev e.tail }) e)
+        requires after { IsBelow place.after (length self.old.row.row.items) }
+        ensures memory { memory_of self.new ≡ with_ends (λ j e. cond (eqb place.list j)
+            (record { head = e.head; tail = none_or place.after prev e.tail }) e)
             (with_cells (λ j c. with_links
-            (record { list = c.links.list; prev = cond (is_at place.after j) prev c.links.prev; next = c.links.next }) c) self.old) }
+            (record { list = c.links.list; prev = cond (is_at place.after j) prev c.links.prev; next = c.links.next }) c) (memory_of self.old)) }
+        ensures room { self.new.row.room ≡ self.old.row.room }
     {
         match place.after {
             Some(at) => self.set_prev(at, prev),
@@ -92,8 +103,9 @@ impl<T: Copy> Memory<T> {
     /// Writes the next of the slot before, the previous of the slot after, and the slot's own links.
     fn relink(&mut self, place: Place, next: Option<u32>, prev: Option<u32>, own: Links)
         requires all { length self.old.ends ≡ 15 }
-        requires within { IsWithin place (length self.old.row.items) }
-        ensures { self.new ≡ relinked_memory place next prev own self.old }
+        requires within { IsWithin place (length self.old.row.row.items) }
+        ensures memory { memory_of self.new ≡ relinked_memory place next prev own (memory_of self.old) }
+        ensures room { self.new.row.room ≡ self.old.row.room }
     {
         self.relink_before(place, next);
         self.relink_after(place, prev);
@@ -103,8 +115,9 @@ impl<T: Copy> Memory<T> {
     /// Puts a slot in a place.
     pub(crate) fn put(&mut self, place: Place)
         requires all { length self.old.ends ≡ 15 }
-        requires within { IsWithin place (length self.old.row.items) }
-        ensures { self.new ≡ put_in place self.old }
+        requires within { IsWithin place (length self.old.row.row.items) }
+        ensures memory { memory_of self.new ≡ put_in place (memory_of self.old) }
+        ensures room { self.new.row.room ≡ self.old.row.room }
     {
         let own = Links {
             list: Some(place.list),
@@ -117,16 +130,18 @@ impl<T: Copy> Memory<T> {
     /// Takes a slot out of a place.
     pub(crate) fn take(&mut self, place: Place)
         requires all { length self.old.ends ≡ 15 }
-        requires within { IsWithin place (length self.old.row.items) }
-        ensures { self.new ≡ taken_out place self.old }
+        requires within { IsWithin place (length self.old.row.row.items) }
+        ensures memory { memory_of self.new ≡ taken_out place (memory_of self.old) }
+        ensures room { self.new.row.room ≡ self.old.row.room }
     {
         self.relink(place, place.after, place.before, LOOSE);
     }
 
     /// Writes what a slot holds.
     pub(crate) fn edit(&mut self, at: u32, slot: Slot<T>)
-        requires { at < length self.old.row.items }
-        ensures { self.new ≡ edited at slot self.old }
+        requires { at < length self.old.row.row.items }
+        ensures memory { memory_of self.new ≡ edited at slot (memory_of self.old) }
+        ensures room { self.new.row.room ≡ self.old.row.room }
     {
         let cell = self.row.get(at as usize);
         self.row.set(at as usize, Cell { slot, ..cell });
@@ -134,16 +149,16 @@ impl<T: Copy> Memory<T> {
 
     /// The links of a slot.
     pub(crate) fn links(&self, at: u32) -> Links
-        requires { at < length self.now.row.items }
-        ensures { result ≡ links_at self.now at }
+        requires { at < length self.now.row.row.items }
+        ensures { result ≡ links_at (memory_of self.now) at }
     {
         self.row.get(at as usize).links
     }
 
     /// What a slot holds.
     pub(crate) fn slot(&self, at: u32) -> Slot<T>
-        requires { at < length self.now.row.items }
-        ensures { result ≡ slot_at self.now at }
+        requires { at < length self.now.row.row.items }
+        ensures { result ≡ slot_at (memory_of self.now) at }
     {
         self.row.get(at as usize).slot
     }
@@ -152,7 +167,7 @@ impl<T: Copy> Memory<T> {
     pub(crate) fn head(&self, list: u8) -> Option<u32>
         requires list { list < 15 }
         requires all { length self.now.ends ≡ 15 }
-        ensures { result ≡ head_at self.now list }
+        ensures { result ≡ head_at (memory_of self.now) list }
     {
         self.ends[list as usize].head
     }
@@ -161,15 +176,15 @@ impl<T: Copy> Memory<T> {
     pub(crate) fn tail(&self, list: u8) -> Option<u32>
         requires list { list < 15 }
         requires all { length self.now.ends ≡ 15 }
-        ensures { result ≡ tail_at self.now list }
+        ensures { result ≡ tail_at (memory_of self.now) list }
     {
         self.ends[list as usize].tail
     }
 
     /// Where a slot stands.
     pub(crate) fn place(&self, at: u32) -> Place
-        requires { at < length self.now.row.items }
-        ensures { result ≡ place_at self.now at }
+        requires { at < length self.now.row.row.items }
+        ensures { result ≡ place_at (memory_of self.now) at }
     {
         let links = self.links(at);
         Place {
@@ -180,10 +195,23 @@ impl<T: Copy> Memory<T> {
         }
     }
 
-    /// Puts this in the next slot that was never used.
+    /// Makes the piece of the next slot that was never used, if it isn't there.
+    pub(crate) fn reserve(&mut self) -> Result<(), AllocError>
+        requires { length self.old.row.row.items < self.old.row.row.capacity }
+        ensures memory { memory_of self.new ≡ memory_of self.old }
+        ensures ok { OnOk result (self.new.row.room ≡ room_after self.old.row) }
+        ensures there { OnOk result (length self.new.row.row.items < self.new.row.room) }
+        ensures err { OnErr result ((self.new.row.room ≡ self.old.row.room) × (self.old.row.room ≤ length self.old.row.row.items)) }
+    {
+        self.row.reserve()
+    }
+
+    /// Puts this in the next slot that was never used, whose piece is there.
     pub(crate) fn grow(&mut self, content: T)
-        requires { length self.old.row.items < self.old.row.capacity }
-        ensures { self.new ≡ grown content self.old }
+        requires within { length self.old.row.row.items < self.old.row.row.capacity }
+        requires room { length self.old.row.row.items < self.old.row.room }
+        ensures memory { memory_of self.new ≡ grown content (memory_of self.old) }
+        ensures room { self.new.row.room ≡ self.old.row.room }
     {
         self.row.push(Cell {
             slot: Slot {
@@ -196,8 +224,9 @@ impl<T: Copy> Memory<T> {
 
     /// Makes the last slot unused again.
     pub(crate) fn shrink(&mut self)
-        requires { 0 < length self.old.row.items }
-        ensures { self.new ≡ shrunk self.old }
+        requires { 0 < length self.old.row.row.items }
+        ensures memory { memory_of self.new ≡ shrunk (memory_of self.old) }
+        ensures room { self.new.row.room ≡ self.old.row.room }
     {
         self.row.pop();
     }

@@ -52,10 +52,10 @@ module _ {X : Type 0} (read : X → Option HandleRecord) (make : HandleRecord �
     pub content_is : held i d ≡ Some (make old)
     content_is = let x = content_of read i d old there in x.1 ∙ ap Some (only_that x.0 old x.2)
 
-    pub set_done : (j : Image X) (new : X) (o : Option X) → IfNone o ((held i d ≡ None) × (j ≡ i))
+    pub set_done : (Same : Type 0) (j : Image X) (new : X) (o : Option X) → IfNone o ((held i d ≡ None) × Same)
         → IfSome o (λ was. (held i d ≡ Some was) × IsSet i j d new was) → IsSet i j d new (make old)
-    set_done j new None none some = cc (none.0, content_is)
-    set_done j new (Some was) none some = let same : was ≡ make old = cc (some.0, content_is) in subst (IsSet i j d new) same some.1
+    set_done Same j new None none some = cc (none.0, content_is)
+    set_done Same j new (Some was) none some = let same : was ≡ make old = cc (some.0, content_is) in subst (IsSet i j d new) same some.1
 
     change_count : (j : Image X) (n : ℕ) (new : HandleRecord) → n ≡ alive_count read i → IsSet i j d (make new) (make old)
         → alive_count read j + one_if (keeps_alive old) ≡ n + one_if (keeps_alive new)

@@ -21,10 +21,10 @@ use uv_records::{HandleRecord, ListName};
 
 /// The record of a handle. ESTALE if nothing is held under the id, EKIND if it is no handle.
 pub fn handle_at<T: HoldsHandle>(slots: &Slots<T>, id: Id) -> Result<HandleRecord, Code>
-    ensures ok { IfOk result (λ h. (record_at T.held_record slots.now id ≡ Some h)
-        × ((why : HandleRecord → Option Code) → refusal why (found T.held_record slots.now id) ≡ why h)) }
-    ensures err { IfErr result (λ code. (why : HandleRecord → Option Code) → refusal why (found T.held_record slots.now id) ≡ Some code) }
-    ensures none { IfErr result (λ code. record_at T.held_record slots.now id ≡ None) }
+    ensures ok { IfOk result (λ h. (record_at T.held_record slots.now.image id ≡ Some h)
+        × ((why : HandleRecord → Option Code) → refusal why (found T.held_record slots.now.image id) ≡ why h)) }
+    ensures err { IfErr result (λ code. (why : HandleRecord → Option Code) → refusal why (found T.held_record slots.now.image id) ≡ Some code) }
+    ensures none { IfErr result (λ code. record_at T.held_record slots.now.image id ≡ None) }
 {
     match slots.get(id) {
         None => Err(Code::Estale),
@@ -53,11 +53,12 @@ impl Handles {
         id: Id,
         referenced: bool,
     ) -> Result<RecordUndo, Code>
-        requires { IsCounted T.held_record (counted slots.old self.old) }
+        requires { IsCounted T.held_record (counted slots.old.image self.old) }
         ensures ok { IfOk result (λ u. Did T.held_record T.of_record no_refusal (referenced_as referenced)
-            (counted slots.old self.old) (counted slots.new self.new) id u) }
+            (counted slots.old.image self.old) (counted slots.new.image self.new) id u) }
         ensures err { IfErr result (λ code. Refused T.held_record T.of_record no_refusal
-            (counted slots.old self.old) (counted slots.new self.new) id code) }
+            (counted slots.old.image self.old) (counted slots.new.image self.new) id code) }
+        ensures pieces { slots.new.room ≡ slots.old.room }
     {
         match handle_at(slots, id) {
             Err(code) => Err(code),
@@ -72,11 +73,12 @@ impl Handles {
         id: Id,
         active: bool,
     ) -> Result<RecordUndo, Code>
-        requires { IsCounted T.held_record (counted slots.old self.old) }
+        requires { IsCounted T.held_record (counted slots.old.image self.old) }
         ensures ok { IfOk result (λ u. Did T.held_record T.of_record no_refusal (active_as active)
-            (counted slots.old self.old) (counted slots.new self.new) id u) }
+            (counted slots.old.image self.old) (counted slots.new.image self.new) id u) }
         ensures err { IfErr result (λ code. Refused T.held_record T.of_record no_refusal
-            (counted slots.old self.old) (counted slots.new self.new) id code) }
+            (counted slots.old.image self.old) (counted slots.new.image self.new) id code) }
+        ensures pieces { slots.new.room ≡ slots.old.room }
     {
         match handle_at(slots, id) {
             Err(code) => Err(code),
@@ -86,11 +88,13 @@ impl Handles {
 
     /// Closes a handle that is on no list: it goes to the front of the closing list (uv_close).
     pub fn close<T: HoldsHandle>(&mut self, slots: &mut Slots<T>, id: Id) -> Result<ListUndo, Code>
-        requires counts { IsCounted T.held_record (counted slots.old self.old) }
-        requires loose { refusal close_refusal (found T.held_record slots.old id) ≡ None → on_list slots.old id ≡ false }
-        ensures ok { IfOk result (λ u. IsClosed T.held_record T.of_record (counted slots.old self.old) (counted slots.new self.new) id u) }
+        requires counts { IsCounted T.held_record (counted slots.old.image self.old) }
+        requires loose { refusal close_refusal (found T.held_record slots.old.image id) ≡ None → on_list slots.old.image id ≡ false }
+        ensures ok { IfOk result (λ u. IsClosed T.held_record T.of_record (counted slots.old.image self.old)
+            (counted slots.new.image self.new) id u) }
         ensures err { IfErr result (λ code. Refused T.held_record T.of_record close_refusal
-            (counted slots.old self.old) (counted slots.new self.new) id code) }
+            (counted slots.old.image self.old) (counted slots.new.image self.new) id code) }
+        ensures pieces { slots.new.room ≡ slots.old.room }
     {
         match handle_at(slots, id) {
             Err(code) => Err(code),
@@ -103,18 +107,20 @@ impl Handles {
 
     /// Begins the closing section: the whole closing list has yet to be closed.
     pub fn begin_closing<T: HoldsHandle>(&self, slots: &mut Slots<T>) -> SpliceUndo
-        requires counts { IsCounted T.held_record (counted slots.old self.now) }
-        requires empty { members slots.old ClosingYet ≡ [] }
-        ensures spliced { IsSpliced slots.old slots.new Closing ClosingYet result }
-        ensures counts { IsCounted T.held_record (counted slots.new self.now) }
+        requires counts { IsCounted T.held_record (counted slots.old.image self.now) }
+        requires empty { members slots.old.image ClosingYet ≡ [] }
+        ensures spliced { IsSpliced slots.old.image slots.new.image Closing ClosingYet result }
+        ensures counts { IsCounted T.held_record (counted slots.new.image self.now) }
+        ensures pieces { slots.new.room ≡ slots.old.room }
     {
         slots.splice(ListName::Closing, ListName::ClosingYet)
     }
 
     /// Takes the beginning of the closing section back.
     pub fn undo_begin_closing<T: HoldsHandle>(&self, slots: &mut Slots<T>, undo: SpliceUndo)
-        requires { CanUndoSplice slots.old undo }
-        ensures { slots.new ≡ splice_undone undo slots.old }
+        requires { CanUndoSplice slots.old.image undo }
+        ensures undone { slots.new.image ≡ splice_undone undo slots.old.image }
+        ensures pieces { slots.new.room ≡ slots.old.room }
     {
         slots.undo_splice(undo);
     }
@@ -125,9 +131,12 @@ impl Handles {
         &mut self,
         slots: &mut Slots<T>,
     ) -> Option<(Id, T, TakeUndo)>
-        requires { IsCounted T.held_record (counted slots.old self.old) }
-        ensures none { IfNone result ((members slots.old ClosingYet ≡ []) × (counted slots.new self.new ≡ counted slots.old self.old)) }
-        ensures some { IfSome result (λ r. IsTaken T.held_record T.of_record (counted slots.old self.old) (counted slots.new self.new) r.0 r.1 r.2) }
+        requires { IsCounted T.held_record (counted slots.old.image self.old) }
+        ensures none { IfNone result ((members slots.old.image ClosingYet ≡ [])
+            × (counted slots.new.image self.new ≡ counted slots.old.image self.old)) }
+        ensures some { IfSome result (λ r. IsTaken T.held_record T.of_record (counted slots.old.image self.old)
+            (counted slots.new.image self.new) r.0 r.1 r.2) }
+        ensures pieces { slots.new.room ≡ slots.old.room }
     {
         match slots.first(ListName::ClosingYet) {
             None => None,
@@ -137,10 +146,11 @@ impl Handles {
 
     /// Takes a handle off its list, and frees its slot.
     fn release<T: HoldsHandle>(&mut self, slots: &mut Slots<T>, id: Id) -> (Id, T, TakeUndo)
-        requires counts { IsCounted T.held_record (counted slots.old self.old) }
-        requires first { IsFirst slots.old ClosingYet id }
+        requires counts { IsCounted T.held_record (counted slots.old.image self.old) }
+        requires first { IsFirst slots.old.image ClosingYet id }
         ensures id { result.0 ≡ id }
-        ensures taken { IsTaken T.held_record T.of_record (counted slots.old self.old) (counted slots.new self.new) id result.1 result.2 }
+        ensures taken { IsTaken T.held_record T.of_record (counted slots.old.image self.old) (counted slots.new.image self.new) id result.1 result.2 }
+        ensures pieces { slots.new.room ≡ slots.old.room }
     {
         slots.is_sound();
         let unlinked = slots.unlink(id);
@@ -166,8 +176,9 @@ impl Handles {
         undo: TakeUndo,
         content: T,
     )
-        requires { CanUndoTake T.held_record (counted slots.old self.old) undo content }
-        ensures { counted slots.new self.new ≡ take_undone T.held_record undo content (counted slots.old self.old) }
+        requires { CanUndoTake T.held_record (counted slots.old.image self.old) undo content }
+        ensures undone { counted slots.new.image self.new ≡ take_undone T.held_record undo content (counted slots.old.image self.old) }
+        ensures pieces { slots.new.room ≡ slots.old.room }
     {
         slots.undo_remove(undo.removed, content);
         slots.undo_unlink(undo.unlinked);

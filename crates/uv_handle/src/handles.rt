@@ -1,20 +1,18 @@
 //! The count of active referenced handles, and the changes of records that keep it.
-ghost use Rattle.std.specs.Prelude.{◌≡◌, ◌≢◌, ℕ, ◌+◌, Option, Some, None, IfOk, IfErr, IfSome};
+ghost use Rattle.std.specs.Prelude.{◌≡◌, ◌≢◌, ℕ, ◌+◌, ◌≤◌, Option, Some, None, IfOk, IfErr, IfSome};
 ghost use Rattle.uv_ids.specs.declared.id.Id.{Id};
 ghost use Rattle.uv_records.specs.declared.handle.HandleRecord.{HandleRecord};
 ghost use Rattle.uv_records.specs.Handles.{inited};
 ghost use Rattle.uv_records.specs.Count.{one_if};
-ghost use Rattle.uv_records.specs.Slots.{next_free};
-ghost use Rattle.uv_arena.specs.Image.{plain_slots};
 ghost use Rattle.uv_arena.specs.Undo.{set_undone};
-ghost use Rattle.uv_arena.specs.Calls.{IsInserted, IsSet};
+ghost use Rattle.uv_arena.specs.Calls.{IsInserted, IsSet, RefusesInsert};
 ghost use Rattle.uv_handle.specs.Changes.{IsAdded, IsChanged};
 ghost use Rattle.uv_handle.specs.Counted.{counted, record_at, found, IsCounted, Fits32, record_undone, CanUndoRecord, add_undone, CanUndoAdd};
 
 use crate::content::HoldsHandle;
 use crate::undo::{AddUndo, RecordUndo};
 use std::marker::Model;
-use uv_arena::{Full, Slots};
+use uv_arena::{InsertFault, Slots};
 use uv_ids::{Id, Kind, Var};
 use uv_records::HandleRecord;
 
@@ -53,11 +51,12 @@ impl Handles {
         slots: &mut Slots<T>,
         name: Var,
         kind: Kind,
-    ) -> Result<(Id, AddUndo), Full>
-        requires { IsCounted T.held_record (counted slots.old self.old) }
+    ) -> Result<(Id, AddUndo), InsertFault>
+        requires { IsCounted T.held_record (counted slots.old.image self.old) }
         ensures ok { IfOk result (λ r. IsAdded T.held_record T.of_record
-            (counted slots.old self.old) (counted slots.new self.new) name kind r.0 r.1) }
-        ensures full { IfErr result (λ _. (next_free (plain_slots slots.old) ≡ None) × (slots.new ≡ slots.old) × (self.new ≡ self.old)) }
+            (counted slots.old.image self.old) (counted slots.new.image self.new) name kind r.0 r.1) }
+        ensures err { IfErr result (λ fault. RefusesInsert fault slots.old × (slots.new ≡ slots.old) × (self.new ≡ self.old)) }
+        ensures pieces { slots.old.room ≤ slots.new.room }
     {
         let handle = HandleRecord::new(name, kind);
         let active = self.active;
@@ -67,14 +66,15 @@ impl Handles {
                 self.active = recounted(active, false, handle.keeps_alive());
                 Ok((id, AddUndo { inserted, active }))
             }
-            Err(full) => Err(full),
+            Err(fault) => Err(fault),
         }
     }
 
     /// Takes a new handle back.
     pub fn undo_add<T: HoldsHandle>(&mut self, slots: &mut Slots<T>, undo: AddUndo)
-        requires { CanUndoAdd T.held_record (counted slots.old self.old) undo }
-        ensures { counted slots.new self.new ≡ add_undone T.held_record undo (counted slots.old self.old) }
+        requires { CanUndoAdd T.held_record (counted slots.old.image self.old) undo }
+        ensures undone { counted slots.new.image self.new ≡ add_undone T.held_record undo (counted slots.old.image self.old) }
+        ensures pieces { slots.new.room ≡ slots.old.room }
     {
         slots.undo_insert(undo.inserted);
         self.active = undo.active;
@@ -88,9 +88,11 @@ impl Handles {
         old: HandleRecord,
         new: HandleRecord,
     ) -> RecordUndo
-        requires found { record_at T.held_record slots.old id ≡ Some old }
-        requires counts { IsCounted T.held_record (counted slots.old self.old) }
-        ensures { IsChanged T.held_record T.of_record (counted slots.old self.old) (counted slots.new self.new) id old new result }
+        requires found { record_at T.held_record slots.old.image id ≡ Some old }
+        requires counts { IsCounted T.held_record (counted slots.old.image self.old) }
+        ensures changed { IsChanged T.held_record T.of_record (counted slots.old.image self.old)
+            (counted slots.new.image self.new) id old new result }
+        ensures pieces { slots.new.room ≡ slots.old.room }
     {
         slots.is_sound();
         let active = self.active;
@@ -106,8 +108,9 @@ impl Handles {
 
     /// Takes a change of a record back.
     pub fn undo_change<T: HoldsHandle>(&mut self, slots: &mut Slots<T>, undo: RecordUndo)
-        requires { CanUndoRecord T.held_record T.of_record (counted slots.old self.old) undo }
-        ensures { counted slots.new self.new ≡ record_undone T.held_record T.of_record undo (counted slots.old self.old) }
+        requires { CanUndoRecord T.held_record T.of_record (counted slots.old.image self.old) undo }
+        ensures undone { counted slots.new.image self.new ≡ record_undone T.held_record T.of_record undo (counted slots.old.image self.old) }
+        ensures pieces { slots.new.room ≡ slots.old.room }
     {
         slots.undo_set(undo.slot, T::of(undo.old));
         self.active = undo.active;

@@ -21,10 +21,12 @@ impl Handles {
         new: HandleRecord,
         list: ListName,
     ) -> ListUndo
-        requires found { record_at T.held_record slots.old id ≡ Some old }
-        requires counts { IsCounted T.held_record (counted slots.old self.old) }
-        requires loose { on_list slots.old id ≡ false }
-        ensures { IsEnlisted T.held_record T.of_record (counted slots.old self.old) (counted slots.new self.new) id old new list result }
+        requires found { record_at T.held_record slots.old.image id ≡ Some old }
+        requires counts { IsCounted T.held_record (counted slots.old.image self.old) }
+        requires loose { on_list slots.old.image id ≡ false }
+        ensures enlisted { IsEnlisted T.held_record T.of_record (counted slots.old.image self.old)
+            (counted slots.new.image self.new) id old new list result }
+        ensures pieces { slots.new.room ≡ slots.old.room }
     {
         let changed = self.change(slots, id, old, new);
         let pushed = slots.push_front(list, id);
@@ -33,8 +35,9 @@ impl Handles {
 
     /// Takes back that a handle got another record and was put on a list, as a close does.
     pub fn undo_enlist<T: HoldsHandle>(&mut self, slots: &mut Slots<T>, undo: ListUndo)
-        requires { CanUndoEnlist T.held_record T.of_record (counted slots.old self.old) undo }
-        ensures { counted slots.new self.new ≡ enlist_undone T.held_record T.of_record undo (counted slots.old self.old) }
+        requires { CanUndoEnlist T.held_record T.of_record (counted slots.old.image self.old) undo }
+        ensures undone { counted slots.new.image self.new ≡ enlist_undone T.held_record T.of_record undo (counted slots.old.image self.old) }
+        ensures pieces { slots.new.room ≡ slots.old.room }
     {
         slots.undo_push(undo.pushed);
         self.undo_change(slots, undo.changed);
@@ -49,9 +52,11 @@ impl Handles {
         new: HandleRecord,
         leaves: bool,
     ) -> DelistUndo
-        requires found { record_at T.held_record slots.old id ≡ Some old }
-        requires counts { IsCounted T.held_record (counted slots.old self.old) }
-        ensures { IsDelisted T.held_record T.of_record (counted slots.old self.old) (counted slots.new self.new) id old new leaves result }
+        requires found { record_at T.held_record slots.old.image id ≡ Some old }
+        requires counts { IsCounted T.held_record (counted slots.old.image self.old) }
+        ensures delisted { IsDelisted T.held_record T.of_record (counted slots.old.image self.old)
+            (counted slots.new.image self.new) id old new leaves result }
+        ensures pieces { slots.new.room ≡ slots.old.room }
     {
         if leaves && slots.on_list(id) {
             let place = slots.unlink(id);
@@ -71,8 +76,9 @@ impl Handles {
 
     /// Takes back that a handle got another record and was taken off its list, as a stop does.
     pub fn undo_delist<T: HoldsHandle>(&mut self, slots: &mut Slots<T>, undo: DelistUndo)
-        requires { CanUndoDelist T.held_record T.of_record (counted slots.old self.old) undo }
-        ensures { counted slots.new self.new ≡ delist_undone T.held_record T.of_record undo (counted slots.old self.old) }
+        requires { CanUndoDelist T.held_record T.of_record (counted slots.old.image self.old) undo }
+        ensures undone { counted slots.new.image self.new ≡ delist_undone T.held_record T.of_record undo (counted slots.old.image self.old) }
+        ensures pieces { slots.new.room ≡ slots.old.room }
     {
         self.undo_change(slots, undo.changed);
         if let Some(place) = undo.unlinked {

@@ -55,7 +55,8 @@ module _ {X : Type 0} (s : plain.Slots X) (d e : Id) (v : X) (there : plain.held
       ]
 
 module _ {X : Type 0} (read : X → Option Request) (make : Request → X) (only_that : (t : X) (r : Request) → read t ≡ Some r → t ≡ make r)
-    (i a j : Image X) (d : Id) (from : Request) (v : X) (t : Place) (u : RemoveUndo) (r : Running) (s : IsSound i) (w : IsWork read (working i r)) (there : request_in read i d ≡ Some from) (f : IsFirst i EndedYet d) (un : IsUnlinked i a d t)
+    (i a j : Image X) (d : Id) (from : Request) (v : X) (t : Place) (u : RemoveUndo) (r : Running) (s : IsSound i) (w : IsWork read (working i r))
+    (there : request_in read i d ≡ Some from) (f : IsFirst i EndedYet d) (un : IsUnlinked i a d t)
     (rem : IsRemoved a j d v u) where
   abbrev P : ℕ → Type 0
   P x = x ≢ d.slot

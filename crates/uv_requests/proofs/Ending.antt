@@ -29,10 +29,10 @@ module _ {X : Type 0} (read : X → Option Request) (make : Request → X) (give
     pub content_is : held i d ≡ Some (make from)
     content_is = let x = content_of read i d from there in x.1 ∙ ap Some (only_that x.0 from x.2)
 
-    pub set_done : (j : Image X) (new : X) (o : Option X) → IfNone o ((held i d ≡ None) × (j ≡ i))
+    pub set_done : (Same : Type 0) (j : Image X) (new : X) (o : Option X) → IfNone o ((held i d ≡ None) × Same)
         → IfSome o (λ was. (held i d ≡ Some was) × IsSet i j d new was) → IsSet i j d new (make from)
-    set_done j new None none some = cc (none.0, content_is)
-    set_done j new (Some was) none some = let same : was ≡ make from = cc (some.0, content_is) in subst (IsSet i j d new) same some.1
+    set_done Same j new None none some = cc (none.0, content_is)
+    set_done Same j new (Some was) none some = let same : was ≡ make from = cc (some.0, content_is) in subst (IsSet i j d new) same some.1
 
   module _ (a k j : Image X) (d : Id) (from : Request) (o : Outcome) (opened : is_open from.outcome ≡ true)
       (set : IsSet a k d (make (ended o from)) (make from)) (p : IsPushed k j Ended d (members k Ended ++ d.slot ∷ [])) where

@@ -4,7 +4,7 @@ use Rattle.std.specs.List.{list_any}
 use Rattle.uv_ids.specs.declared.id.Id.{Id}
 use Rattle.uv_arena.specs.Chains.{IsIn}
 use Rattle.uv_work.specs.Ids.{same_id}
-use Rattle.uv_work.specs.Pool.{Pool, Done, waits, runs, is_done, without, busy, size, after_queue, taken_by, after_take, finished_by, after_finish, after_cancel, collected_from, after_collect}
+use Rattle.uv_work.specs.Pool.{Pool, Done, waits, runs, is_done, without, size, after_queue, taken_by, after_take, finished_by, after_finish, after_cancel, collected_from, after_collect}
 use Rattle.uv_work.proofs.Counts.{busy_set_some, busy_set_none}
 use Rattle.uv_work.proofs.Replays.{same_itself, same_when}
 

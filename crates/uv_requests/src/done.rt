@@ -18,17 +18,19 @@ use uv_work::RequestRecord;
 impl Requests {
     /// Begins the done section: all that are done have yet to be called back.
     pub fn begin<T: HoldsWork>(&self, slots: &mut Slots<T>) -> SpliceUndo
-        requires work { IsWork T.held_request (working slots.old self.now) }
-        requires empty { members slots.old DoneYet ≡ [] }
-        ensures { IsBegun T.held_request (working slots.old self.now) (working slots.new self.now) result }
+        requires work { IsWork T.held_request (working slots.old.image self.now) }
+        requires empty { members slots.old.image DoneYet ≡ [] }
+        ensures begun { IsBegun T.held_request (working slots.old.image self.now) (working slots.new.image self.now) result }
+        ensures pieces { slots.new.room ≡ slots.old.room }
     {
         slots.splice(ListName::Done, ListName::DoneYet)
     }
 
     /// Takes the beginning of the done section back.
     pub fn undo_begin<T: HoldsWork>(&self, slots: &mut Slots<T>, undo: SpliceUndo)
-        requires { CanUndoBegin T.held_request (working slots.old self.now) undo }
-        ensures { working slots.new self.now ≡ begin_undone undo (working slots.old self.now) }
+        requires { CanUndoBegin T.held_request (working slots.old.image self.now) undo }
+        ensures undone { working slots.new.image self.now ≡ begin_undone undo (working slots.old.image self.now) }
+        ensures pieces { slots.new.room ≡ slots.old.room }
     {
         slots.undo_splice(undo);
     }
@@ -39,10 +41,12 @@ impl Requests {
         &mut self,
         slots: &mut Slots<T>,
     ) -> Option<(Id, RequestRecord, CollectUndo)>
-        requires { IsWork T.held_request (working slots.old self.old) }
-        ensures none { IfNone result ((members slots.old DoneYet ≡ []) × (working slots.new self.new ≡ working slots.old self.old)) }
+        requires { IsWork T.held_request (working slots.old.image self.old) }
+        ensures none { IfNone result ((members slots.old.image DoneYet ≡ [])
+            × (working slots.new.image self.new ≡ working slots.old.image self.old)) }
         ensures some { IfSome result (λ r. IsCollected T.held_request T.of_request
-            (working slots.old self.old) (working slots.new self.new) r.0 r.1 r.2) }
+            (working slots.old.image self.old) (working slots.new.image self.new) r.0 r.1 r.2) }
+        ensures pieces { slots.new.room ≡ slots.old.room }
     {
         match slots.first(ListName::DoneYet) {
             None => None,
@@ -59,12 +63,14 @@ impl Requests {
         id: Id,
         request: RequestRecord,
     ) -> (Id, RequestRecord, CollectUndo)
-        requires work { IsWork T.held_request (working slots.old self.old) }
-        requires first { IsFirst slots.old DoneYet id }
-        requires found { request_in T.held_request slots.old id ≡ Some request }
+        requires work { IsWork T.held_request (working slots.old.image self.old) }
+        requires first { IsFirst slots.old.image DoneYet id }
+        requires found { request_in T.held_request slots.old.image id ≡ Some request }
         ensures id { result.0 ≡ id }
         ensures request { result.1 ≡ request }
-        ensures collected { IsCollected T.held_request T.of_request (working slots.old self.old) (working slots.new self.new) id request result.2 }
+        ensures collected { IsCollected T.held_request T.of_request (working slots.old.image self.old)
+            (working slots.new.image self.new) id request result.2 }
+        ensures pieces { slots.new.room ≡ slots.old.room }
     {
         slots.is_sound();
         let count = self.open_requests();
@@ -90,8 +96,9 @@ impl Requests {
         undo: CollectUndo,
         request: RequestRecord,
     )
-        requires { CanUndoCollect T.held_request T.of_request (working slots.old self.old) undo request }
-        ensures { working slots.new self.new ≡ collect_undone T.of_request undo request (working slots.old self.old) }
+        requires { CanUndoCollect T.held_request T.of_request (working slots.old.image self.old) undo request }
+        ensures undone { working slots.new.image self.new ≡ collect_undone T.of_request undo request (working slots.old.image self.old) }
+        ensures pieces { slots.new.room ≡ slots.old.room }
     {
         slots.undo_remove(undo.removed, T::of(request));
         slots.undo_unlink(undo.unlinked);

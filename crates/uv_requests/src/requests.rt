@@ -29,7 +29,7 @@ impl Model for Requests {
 }
 
 impl Requests {
-    /// Those of an arena without requests, with so many workers. No other call takes memory.
+    /// Those of an arena without requests, with so many workers. Of the other calls `queue` alone may take memory, for its slot.
     pub fn new(alloc: Global, workers: u16) -> Result<Requests, AllocError>
         ensures { IfOk result (λ r. r ≡ idle_workers workers) }
     {
@@ -82,9 +82,9 @@ pub fn fresh_requests<T: HoldsWork>()
 
 /// The record of a request. ESTALE if nothing is held under the id, EKIND if it is a handle.
 pub fn request_at<T: HoldsWork>(slots: &Slots<T>, id: Id) -> Result<RequestRecord, Code>
-    ensures ok { IfOk result (λ r. request_in T.held_request slots.now id ≡ Some r) }
-    ensures err { IfErr result (λ code. (waits : Bool) → cancel_refusal (found T.held_request slots.now id) waits ≡ Some code) }
-    ensures none { IfErr result (λ code. request_in T.held_request slots.now id ≡ None) }
+    ensures ok { IfOk result (λ r. request_in T.held_request slots.now.image id ≡ Some r) }
+    ensures err { IfErr result (λ code. (waits : Bool) → cancel_refusal (found T.held_request slots.now.image id) waits ≡ Some code) }
+    ensures none { IfErr result (λ code. request_in T.held_request slots.now.image id ≡ None) }
 {
     match slots.get(id) {
         None => Err(Code::Estale),
@@ -97,8 +97,9 @@ pub fn request_at<T: HoldsWork>(slots: &Slots<T>, id: Id) -> Result<RequestRecor
 
 /// A request that was finished or cancelled is open again.
 pub(crate) fn reopen<T: HoldsWork>(slots: &mut Slots<T>, id: Id)
-    requires { CanReopen T.of_request (request_in T.held_request slots.old id) id.slot slots.old }
-    ensures { slots.new ≡ reopened_in T.held_request T.of_request id slots.old }
+    requires { CanReopen T.of_request (request_in T.held_request slots.old.image id) id.slot slots.old.image }
+    ensures reopened { slots.new.image ≡ reopened_in T.held_request T.of_request id slots.old.image }
+    ensures pieces { slots.new.room ≡ slots.old.room }
 {
     match request_at(slots, id) {
         Ok(request) => slots.undo_set(id.slot, T::of(request.reopened())),

@@ -1,7 +1,7 @@
 //! Requests are queued, and cancelled while they wait.
-ghost use Rattle.std.specs.Prelude.{◌≡◌, Option, Some, None, IfOk, IfErr, true};
-ghost use Rattle.uv_records.specs.Slots.{next_free};
-ghost use Rattle.uv_arena.specs.Image.{plain_slots, on_list};
+ghost use Rattle.std.specs.Prelude.{◌≡◌, ◌≤◌, Option, Some, None, IfOk, IfErr, true};
+ghost use Rattle.uv_arena.specs.Image.{on_list};
+ghost use Rattle.uv_arena.specs.Calls.{RefusesInsert};
 ghost use Rattle.uv_work.specs.Requests.{is_open, reopened, cancel_refusal};
 ghost use Rattle.uv_work.specs.Pool.{waits};
 ghost use Rattle.uv_requests.specs.Working.{working, found, request_in, pool_of, IsWork};
@@ -11,7 +11,7 @@ ghost use Rattle.uv_requests.specs.Calls.{IsQueued, IsCancelled};
 use crate::content::HoldsWork;
 use crate::requests::{Requests, reopen, request_at};
 use crate::undo::{CancelUndo, QueueUndo};
-use uv_arena::{Full, PushUndo, Slots};
+use uv_arena::{InsertFault, PushUndo, Slots};
 use uv_ids::{Code, Id};
 use uv_records::ListName;
 use uv_work::RequestRecord;
@@ -22,16 +22,16 @@ impl Requests {
         &mut self,
         slots: &mut Slots<T>,
         request: RequestRecord,
-    ) -> Result<(Id, QueueUndo), Full>
-        requires { IsWork T.held_request (working slots.old self.old) }
+    ) -> Result<(Id, QueueUndo), InsertFault>
+        requires { IsWork T.held_request (working slots.old.image self.old) }
         ensures ok { IfOk result (λ r. IsQueued T.held_request T.of_request
-            (working slots.old self.old) (working slots.new self.new) (reopened request) r.0 r.1) }
-        ensures full { IfErr result (λ _. (next_free (plain_slots slots.old) ≡ None)
-            × (working slots.new self.new ≡ working slots.old self.old)) }
+            (working slots.old.image self.old) (working slots.new.image self.new) (reopened request) r.0 r.1) }
+        ensures err { IfErr result (λ fault. RefusesInsert fault slots.old × (slots.new ≡ slots.old) × (self.new ≡ self.old)) }
+        ensures pieces { slots.old.room ≤ slots.new.room }
     {
         let count = self.open_requests();
         match slots.insert(T::of(request.reopened())) {
-            Err(full) => Err(full),
+            Err(fault) => Err(fault),
             Ok((id, inserted)) => {
                 slots.push_back(ListName::Waiting, id);
                 slots.is_sound();
@@ -43,8 +43,9 @@ impl Requests {
 
     /// Takes a queue back.
     pub fn undo_queue<T: HoldsWork>(&mut self, slots: &mut Slots<T>, undo: QueueUndo)
-        requires { CanUndoQueue T.held_request (working slots.old self.old) undo }
-        ensures { working slots.new self.new ≡ queue_undone undo (working slots.old self.old) }
+        requires { CanUndoQueue T.held_request (working slots.old.image self.old) undo }
+        ensures undone { working slots.new.image self.new ≡ queue_undone undo (working slots.old.image self.old) }
+        ensures pieces { slots.new.room ≡ slots.old.room }
     {
         slots.undo_push(PushUndo {
             slot: undo.inserted.slot,
@@ -56,11 +57,12 @@ impl Requests {
     /// Cancels a request that waits: it is done, behind those that are done already (uv_cancel). One that a worker took is EBUSY,
     /// and so is one that was cancelled already (own).
     pub fn cancel<T: HoldsWork>(&self, slots: &mut Slots<T>, id: Id) -> Result<CancelUndo, Code>
-        requires { IsWork T.held_request (working slots.old self.now) }
+        requires { IsWork T.held_request (working slots.old.image self.now) }
         ensures ok { IfOk result (λ u. IsCancelled T.held_request T.of_request
-            (working slots.old self.now) (working slots.new self.now) id u) }
-        ensures err { IfErr result (λ code. (cancel_refusal (found T.held_request slots.old id)
-            (waits (pool_of T.held_request (working slots.old self.now)).waiting id) ≡ Some code) × (slots.new ≡ slots.old)) }
+            (working slots.old.image self.now) (working slots.new.image self.now) id u) }
+        ensures err { IfErr result (λ code. (cancel_refusal (found T.held_request slots.old.image id)
+            (waits (pool_of T.held_request (working slots.old.image self.now)).waiting id) ≡ Some code) × (slots.new ≡ slots.old)) }
+        ensures pieces { slots.new.room ≡ slots.old.room }
     {
         slots.is_sound();
         match request_at(slots, id) {
@@ -81,11 +83,12 @@ impl Requests {
         id: Id,
         request: RequestRecord,
     ) -> CancelUndo
-        requires work { IsWork T.held_request (working slots.old self.now) }
-        requires found { request_in T.held_request slots.old id ≡ Some request }
+        requires work { IsWork T.held_request (working slots.old.image self.now) }
+        requires found { request_in T.held_request slots.old.image id ≡ Some request }
         requires opened { is_open request.outcome ≡ true }
-        requires listed { on_list slots.old id ≡ true }
-        ensures { IsCancelled T.held_request T.of_request (working slots.old self.now) (working slots.new self.now) id result }
+        requires listed { on_list slots.old.image id ≡ true }
+        ensures cancelled { IsCancelled T.held_request T.of_request (working slots.old.image self.now) (working slots.new.image self.now) id result }
+        ensures pieces { slots.new.room ≡ slots.old.room }
     {
         slots.is_sound();
         let unlinked = slots.unlink(id);
@@ -96,8 +99,9 @@ impl Requests {
 
     /// Takes a cancel back.
     pub fn undo_cancel<T: HoldsWork>(&self, slots: &mut Slots<T>, undo: CancelUndo)
-        requires { CanUndoCancel T.held_request T.of_request (working slots.old self.now) undo }
-        ensures { working slots.new self.now ≡ cancel_undone T.held_request T.of_request undo (working slots.old self.now) }
+        requires { CanUndoCancel T.held_request T.of_request (working slots.old.image self.now) undo }
+        ensures undone { working slots.new.image self.now ≡ cancel_undone T.held_request T.of_request undo (working slots.old.image self.now) }
+        ensures pieces { slots.new.room ≡ slots.old.room }
     {
         slots.undo_push(PushUndo { slot: undo.id.slot });
         reopen(slots, undo.id);

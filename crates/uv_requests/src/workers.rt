@@ -23,11 +23,11 @@ impl Requests {
         slots: &Slots<T>,
         worker: u16,
     ) -> Result<(Id, RequestRecord), Why>
-        requires { IsWork T.held_request (working slots.now self.now) }
+        requires { IsWork T.held_request (working slots.now.image self.now) }
         ensures idle { IfOk result (λ r. slice_get self.now.workers worker ≡ Some None) }
-        ensures first { IfOk result (λ r. IsFirst slots.now Waiting r.0) }
-        ensures request { IfOk result (λ r. request_in T.held_request slots.now r.0 ≡ Some r.1) }
-        ensures err { IfErr result (λ why. RefusesTake T.held_request (working slots.now self.now) worker why) }
+        ensures first { IfOk result (λ r. IsFirst slots.now.image Waiting r.0) }
+        ensures request { IfOk result (λ r. request_in T.held_request slots.now.image r.0 ≡ Some r.1) }
+        ensures err { IfErr result (λ why. RefusesTake T.held_request (working slots.now.image self.now) worker why) }
     {
         match self.running(worker) {
             None => Err(Why::NoWorker),
@@ -49,10 +49,11 @@ impl Requests {
         slots: &mut Slots<T>,
         worker: u16,
     ) -> Result<(Id, TakeUndo), Why>
-        requires { IsWork T.held_request (working slots.old self.old) }
-        ensures ok { IfOk result (λ r. IsTaken T.held_request (working slots.old self.old) (working slots.new self.new) worker r.0 r.1) }
-        ensures err { IfErr result (λ why. RefusesTake T.held_request (working slots.old self.old) worker why
-            × (working slots.new self.new ≡ working slots.old self.old)) }
+        requires { IsWork T.held_request (working slots.old.image self.old) }
+        ensures ok { IfOk result (λ r. IsTaken T.held_request (working slots.old.image self.old) (working slots.new.image self.new) worker r.0 r.1) }
+        ensures err { IfErr result (λ why. RefusesTake T.held_request (working slots.old.image self.old) worker why
+            × (working slots.new.image self.new ≡ working slots.old.image self.old)) }
+        ensures pieces { slots.new.room ≡ slots.old.room }
     {
         match self.next_work(slots, worker) {
             Err(why) => Err(why),
@@ -61,11 +62,12 @@ impl Requests {
     }
 
     fn start<T: HoldsWork>(&mut self, slots: &mut Slots<T>, worker: u16, id: Id) -> (Id, TakeUndo)
-        requires work { IsWork T.held_request (working slots.old self.old) }
+        requires work { IsWork T.held_request (working slots.old.image self.old) }
         requires idle { slice_get self.old.workers worker ≡ Some None }
-        requires first { IsFirst slots.old Waiting id }
+        requires first { IsFirst slots.old.image Waiting id }
         ensures id { result.0 ≡ id }
-        ensures taken { IsTaken T.held_request (working slots.old self.old) (working slots.new self.new) worker id result.1 }
+        ensures taken { IsTaken T.held_request (working slots.old.image self.old) (working slots.new.image self.new) worker id result.1 }
+        ensures pieces { slots.new.room ≡ slots.old.room }
     {
         slots.is_sound();
         let unlinked = slots.unlink(id);
@@ -75,8 +77,9 @@ impl Requests {
 
     /// Takes a take back.
     pub fn undo_take<T: HoldsWork>(&mut self, slots: &mut Slots<T>, undo: TakeUndo)
-        requires { CanUndoTake T.held_request (working slots.old self.old) undo }
-        ensures { working slots.new self.new ≡ take_undone undo (working slots.old self.old) }
+        requires { CanUndoTake T.held_request (working slots.old.image self.old) undo }
+        ensures undone { working slots.new.image self.new ≡ take_undone undo (working slots.old.image self.old) }
+        ensures pieces { slots.new.room ≡ slots.old.room }
     {
         slots.undo_unlink(undo.unlinked);
         self.set_running(undo.worker, None);
@@ -88,10 +91,10 @@ impl Requests {
         slots: &Slots<T>,
         worker: u16,
     ) -> Result<(Id, RequestRecord), Why>
-        requires { IsWork T.held_request (working slots.now self.now) }
+        requires { IsWork T.held_request (working slots.now.image self.now) }
         ensures runs { IfOk result (λ r. slice_get self.now.workers worker ≡ Some (Some r.0)) }
-        ensures request { IfOk result (λ r. request_in T.held_request slots.now r.0 ≡ Some r.1) }
-        ensures err { IfErr result (λ why. (job : Work) → RefusesFinish T.held_request (working slots.now self.now) worker job why) }
+        ensures request { IfOk result (λ r. request_in T.held_request slots.now.image r.0 ≡ Some r.1) }
+        ensures err { IfErr result (λ why. (job : Work) → RefusesFinish T.held_request (working slots.now.image self.now) worker job why) }
     {
         match self.running(worker) {
             None => Err(Why::NoWorker),
@@ -111,11 +114,12 @@ impl Requests {
         worker: u16,
         work: WorkResult,
     ) -> Result<(Id, FinishUndo), Why>
-        requires { IsWork T.held_request (working slots.old self.old) }
+        requires { IsWork T.held_request (working slots.old.image self.old) }
         ensures ok { IfOk result (λ r. IsFinished T.held_request T.of_request
-            (working slots.old self.old) (working slots.new self.new) worker r.0 work.job work.digest r.1) }
-        ensures err { IfErr result (λ why. RefusesFinish T.held_request (working slots.old self.old) worker work.job why
-            × (working slots.new self.new ≡ working slots.old self.old)) }
+            (working slots.old.image self.old) (working slots.new.image self.new) worker r.0 work.job work.digest r.1) }
+        ensures err { IfErr result (λ why. RefusesFinish T.held_request (working slots.old.image self.old) worker work.job why
+            × (working slots.new.image self.new ≡ working slots.old.image self.old)) }
+        ensures pieces { slots.new.room ≡ slots.old.room }
     {
         match self.work_of(slots, worker) {
             Err(why) => Err(why),
@@ -137,13 +141,14 @@ impl Requests {
         request: RequestRecord,
         work: WorkResult,
     ) -> (Id, FinishUndo)
-        requires work { IsWork T.held_request (working slots.old self.old) }
+        requires work { IsWork T.held_request (working slots.old.image self.old) }
         requires runs { slice_get self.old.workers worker ≡ Some (Some id) }
-        requires found { request_in T.held_request slots.old id ≡ Some request }
+        requires found { request_in T.held_request slots.old.image id ≡ Some request }
         requires job { job_of id request ≡ work.job }
         ensures id { result.0 ≡ id }
         ensures finished { IsFinished T.held_request T.of_request
-            (working slots.old self.old) (working slots.new self.new) worker id work.job work.digest result.1 }
+            (working slots.old.image self.old) (working slots.new.image self.new) worker id work.job work.digest result.1 }
+        ensures pieces { slots.new.room ≡ slots.old.room }
     {
         slots.is_sound();
         let _ = slots.set(id, T::of(request.finished(work)));
@@ -154,8 +159,9 @@ impl Requests {
 
     /// Takes a finish back.
     pub fn undo_finish<T: HoldsWork>(&mut self, slots: &mut Slots<T>, undo: FinishUndo)
-        requires { CanUndoFinish T.held_request T.of_request (working slots.old self.old) undo }
-        ensures { working slots.new self.new ≡ finish_undone T.held_request T.of_request undo (working slots.old self.old) }
+        requires { CanUndoFinish T.held_request T.of_request (working slots.old.image self.old) undo }
+        ensures undone { working slots.new.image self.new ≡ finish_undone T.held_request T.of_request undo (working slots.old.image self.old) }
+        ensures pieces { slots.new.room ≡ slots.old.room }
     {
         slots.undo_push(PushUndo { slot: undo.id.slot });
         reopen(slots, undo.id);

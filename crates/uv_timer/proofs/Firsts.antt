@@ -6,7 +6,7 @@ use Rattle.uv_records.specs.declared.handle.HandleRecord.{HandleRecord}
 use Rattle.uv_records.specs.declared.lists.ListName.TheVariants.{Ready}
 use Rattle.uv_records.specs.Slots.{id_of}
 use Rattle.uv_arena.specs.Calls.{IsFirst}
-use Rattle.uv_arena.specs.Image.{Image, slot_in, slot_at, members, held}
+use Rattle.uv_arena.specs.Image.{Image, slot_in, slot_at, held}
 use Rattle.uv_arena.proofs.Lookups.{is_there}
 use Rattle.uv_handle.specs.Counted.{record_at}
 use Rattle.uv_heap.specs.declared.entry.Entry.{Entry}

@@ -28,14 +28,15 @@ pub fn start<T: HoldsHandle>(
     timeout: u64,
     repeat: u64,
 ) -> Result<TimerUndo, Code>
-    requires counts { IsCounted T.held_record (counted slots.old handles.old) }
-    requires set { (h : HandleRecord) → record_at T.held_record slots.old id ≡ Some h → start_timer_refusal h ≡ None
+    requires counts { IsCounted T.held_record (counted slots.old.image handles.old) }
+    requires set { (h : HandleRecord) → record_at T.held_record slots.old.image id ≡ Some h → start_timer_refusal h ≡ None
         → CanSet id.slot heap.old times.old }
     ensures ok { IfOk result (λ u. IsStarted T.held_record T.of_record heap.new.room
-        (timed slots.old handles.old heap.old times.old) (timed slots.new handles.new heap.new times.new) id timeout repeat u) }
+        (timed slots.old.image handles.old heap.old times.old) (timed slots.new.image handles.new heap.new times.new) id timeout repeat u) }
     ensures err { IfErr result (λ code. Refused T.held_record start_timer_refusal
-        (timed slots.old handles.old heap.old times.old) (timed slots.new handles.new heap.new times.new) id code) }
+        (timed slots.old.image handles.old heap.old times.old) (timed slots.new.image handles.new heap.new times.new) id code) }
     ensures room { heap.new.room ≡ heap.old.room }
+    ensures pieces { slots.new.room ≡ slots.old.room }
 {
     match handle_at(slots, id) {
         Err(code) => Err(code),
@@ -57,12 +58,13 @@ pub fn stop<T: HoldsHandle>(
     times: &mut Times,
     id: Id,
 ) -> Result<TimerUndo, Code>
-    requires { IsCounted T.held_record (counted slots.old handles.old) }
+    requires { IsCounted T.held_record (counted slots.old.image handles.old) }
     ensures ok { IfOk result (λ u. IsStopped T.held_record T.of_record heap.new.room
-        (timed slots.old handles.old heap.old times.old) (timed slots.new handles.new heap.new times.new) id u) }
+        (timed slots.old.image handles.old heap.old times.old) (timed slots.new.image handles.new heap.new times.new) id u) }
     ensures err { IfErr result (λ code. Refused T.held_record stop_refusal
-        (timed slots.old handles.old heap.old times.old) (timed slots.new handles.new heap.new times.new) id code) }
+        (timed slots.old.image handles.old heap.old times.old) (timed slots.new.image handles.new heap.new times.new) id code) }
     ensures room { heap.new.room ≡ heap.old.room }
+    ensures pieces { slots.new.room ≡ slots.old.room }
 {
     match handle_at(slots, id) {
         Err(code) => Err(code),
@@ -82,14 +84,15 @@ pub fn again<T: HoldsHandle>(
     times: &mut Times,
     id: Id,
 ) -> Result<TimerUndo, Code>
-    requires counts { IsCounted T.held_record (counted slots.old handles.old) }
-    requires set { (h : HandleRecord) → record_at T.held_record slots.old id ≡ Some h → again_refusal h ≡ None → h.repeat ≢ 0
+    requires counts { IsCounted T.held_record (counted slots.old.image handles.old) }
+    requires set { (h : HandleRecord) → record_at T.held_record slots.old.image id ≡ Some h → again_refusal h ≡ None → h.repeat ≢ 0
         → CanSet id.slot heap.old times.old }
     ensures ok { IfOk result (λ u. IsStartedAgain T.held_record T.of_record heap.new.room
-        (timed slots.old handles.old heap.old times.old) (timed slots.new handles.new heap.new times.new) id u) }
+        (timed slots.old.image handles.old heap.old times.old) (timed slots.new.image handles.new heap.new times.new) id u) }
     ensures err { IfErr result (λ code. Refused T.held_record again_refusal
-        (timed slots.old handles.old heap.old times.old) (timed slots.new handles.new heap.new times.new) id code) }
+        (timed slots.old.image handles.old heap.old times.old) (timed slots.new.image handles.new heap.new times.new) id code) }
     ensures room { heap.new.room ≡ heap.old.room }
+    ensures pieces { slots.new.room ≡ slots.old.room }
 {
     match handle_at(slots, id) {
         Err(code) => Err(code),
@@ -110,11 +113,12 @@ pub fn set_repeat<T: HoldsHandle>(
     id: Id,
     repeat: u64,
 ) -> Result<RecordUndo, Code>
-    requires { IsCounted T.held_record (counted slots.old handles.old) }
+    requires { IsCounted T.held_record (counted slots.old.image handles.old) }
     ensures ok { IfOk result (λ u. Did T.held_record T.of_record timer_refusal (repeating repeat)
-        (counted slots.old handles.old) (counted slots.new handles.new) id u) }
+        (counted slots.old.image handles.old) (counted slots.new.image handles.new) id u) }
     ensures err { IfErr result (λ code. RefusedRecord T.held_record T.of_record timer_refusal
-        (counted slots.old handles.old) (counted slots.new handles.new) id code) }
+        (counted slots.old.image handles.old) (counted slots.new.image handles.new) id code) }
+    ensures pieces { slots.new.room ≡ slots.old.room }
 {
     match handle_at(slots, id) {
         Err(code) => Err(code),
@@ -131,16 +135,17 @@ pub fn undo_set_repeat<T: HoldsHandle>(
     slots: &mut Slots<T>,
     undo: RecordUndo,
 )
-    requires { CanUndoRecord T.held_record T.of_record (counted slots.old handles.old) undo }
-    ensures { counted slots.new handles.new ≡ record_undone T.held_record T.of_record undo (counted slots.old handles.old) }
+    requires { CanUndoRecord T.held_record T.of_record (counted slots.old.image handles.old) undo }
+    ensures undone { counted slots.new.image handles.new ≡ record_undone T.held_record T.of_record undo (counted slots.old.image handles.old) }
+    ensures pieces { slots.new.room ≡ slots.old.room }
 {
     handles.undo_change(slots, undo);
 }
 
 /// In how many ms a timer is due (uv_timer_get_due_in).
 pub fn due_in<T: HoldsHandle>(slots: &Slots<T>, times: &Times, id: Id) -> Result<u64, Code>
-    ensures ok { IfOk result (λ n. IsDueIn T.held_record slots.now times.now id n) }
-    ensures err { IfErr result (λ code. refusal timer_refusal (found T.held_record slots.now id) ≡ Some code) }
+    ensures ok { IfOk result (λ n. IsDueIn T.held_record slots.now.image times.now id n) }
+    ensures err { IfErr result (λ code. refusal timer_refusal (found T.held_record slots.now.image id) ≡ Some code) }
 {
     match handle_at(slots, id) {
         Err(code) => Err(code),

@@ -22,13 +22,14 @@ pub fn reschedule<T: HoldsHandle>(
     id: Id,
     change: Change,
 ) -> TimerUndo
-    requires found { record_at T.held_record slots.old id ≡ Some change.from }
-    requires counts { IsCounted T.held_record (counted slots.old handles.old) }
+    requires found { record_at T.held_record slots.old.image id ≡ Some change.from }
+    requires counts { IsCounted T.held_record (counted slots.old.image handles.old) }
     requires room { IfSome change.due (λ _. id.slot < heap.old.room) }
     requires starts { IfSome change.due (λ _. times.old.next_start < 2 ^ 64 - 1) }
     ensures changed { IsRescheduled T.held_record T.of_record heap.new.room
-        (timed slots.old handles.old heap.old times.old) (timed slots.new handles.new heap.new times.new) id change result }
+        (timed slots.old.image handles.old heap.old times.old) (timed slots.new.image handles.new heap.new times.new) id change result }
     ensures room { heap.new.room ≡ heap.old.room }
+    ensures pieces { slots.new.room ≡ slots.old.room }
 {
     let removed = unhook(heap, id.slot);
     let delisted = handles.delist(slots, id, change.from, change.to, change.leaves);
@@ -48,10 +49,11 @@ pub fn undo_reschedule<T: HoldsHandle>(
     times: &mut Times,
     undo: TimerUndo,
 )
-    requires { CanUndoTimer T.held_record T.of_record heap.old.room (timed slots.old handles.old heap.old times.old) undo }
-    ensures undone { timed slots.new handles.new heap.new times.new
-        ≡ timer_undone T.held_record T.of_record undo (timed slots.old handles.old heap.old times.old) }
+    requires { CanUndoTimer T.held_record T.of_record heap.old.room (timed slots.old.image handles.old heap.old times.old) undo }
+    ensures undone { timed slots.new.image handles.new heap.new times.new
+        ≡ timer_undone T.held_record T.of_record undo (timed slots.old.image handles.old heap.old times.old) }
     ensures room { heap.new.room ≡ heap.old.room }
+    ensures pieces { slots.new.room ≡ slots.old.room }
 {
     undo_hook(heap, times, undo.set);
     handles.undo_delist(slots, undo.delisted);

@@ -26,13 +26,14 @@ pub fn collect_one<T: HoldsHandle>(
     heap: &mut TimerHeap,
     times: &mut Times,
 ) -> Option<(Id, CollectUndo)>
-    requires { IsCounted T.held_record (counted slots.old handles.old) }
-    ensures which { option_map (λ r. r.0) result ≡ first_due T.held_record slots.old heap.old.array times.old.time }
-    ensures none { IfNone result (NoneIsDue T.held_record slots.old heap.old.array times.old.time
-        × (timed slots.new handles.new heap.new times.new ≡ timed slots.old handles.old heap.old times.old)) }
+    requires { IsCounted T.held_record (counted slots.old.image handles.old) }
+    ensures which { option_map (λ r. r.0) result ≡ first_due T.held_record slots.old.image heap.old.array times.old.time }
+    ensures none { IfNone result (NoneIsDue T.held_record slots.old.image heap.old.array times.old.time
+        × (timed slots.new.image handles.new heap.new times.new ≡ timed slots.old.image handles.old heap.old times.old)) }
     ensures some { IfSome result (λ r. IsCollected T.held_record T.of_record heap.new.room
-        (timed slots.old handles.old heap.old times.old) (timed slots.new handles.new heap.new times.new) r.0 r.1) }
+        (timed slots.old.image handles.old heap.old times.old) (timed slots.new.image handles.new heap.new times.new) r.0 r.1) }
     ensures room { heap.new.room ≡ heap.old.room }
+    ensures pieces { slots.new.room ≡ slots.old.room }
 {
     match first_due(slots, heap, times.time) {
         None => None,
@@ -46,9 +47,9 @@ fn first_due<T: HoldsHandle>(
     heap: &TimerHeap,
     time: u64,
 ) -> Option<(Id, HandleRecord)>
-    ensures which { option_map (λ r. r.0) result ≡ first_due T.held_record slots.now heap.now.array time }
-    ensures none { IfNone result (NoneIsDue T.held_record slots.now heap.now.array time) }
-    ensures some { IfSome result (λ r. IsDue T.held_record slots.now heap.now.array time r.0 r.1) }
+    ensures which { option_map (λ r. r.0) result ≡ first_due T.held_record slots.now.image heap.now.array time }
+    ensures none { IfNone result (NoneIsDue T.held_record slots.now.image heap.now.array time) }
+    ensures some { IfSome result (λ r. IsDue T.held_record slots.now.image heap.now.array time r.0 r.1) }
 {
     match heap.least() {
         None => None,
@@ -64,8 +65,8 @@ fn first_due<T: HoldsHandle>(
 
 /// The handle that a slot holds, if it holds one.
 fn handle_in<T: HoldsHandle>(slots: &Slots<T>, slot: u32) -> Option<(Id, HandleRecord)>
-    ensures none { IfNone result (record_at T.held_record slots.now (id_of slot (slot_at slots.now.memory slot)) ≡ None) }
-    ensures some { IfSome result (λ r. (r.0.slot ≡ slot) × (record_at T.held_record slots.now r.0 ≡ Some r.1)) }
+    ensures none { IfNone result (record_at T.held_record slots.now.image (id_of slot (slot_at slots.now.image.memory slot)) ≡ None) }
+    ensures some { IfSome result (λ r. (r.0.slot ≡ slot) × (record_at T.held_record slots.now.image r.0 ≡ Some r.1)) }
 {
     match slots.id_in(slot) {
         None => None,
@@ -85,11 +86,12 @@ fn collect<T: HoldsHandle>(
     id: Id,
     handle: HandleRecord,
 ) -> CollectUndo
-    requires counts { IsCounted T.held_record (counted slots.old handles.old) }
-    requires due { IsDue T.held_record slots.old heap.old.array times.old.time id handle }
+    requires counts { IsCounted T.held_record (counted slots.old.image handles.old) }
+    requires due { IsDue T.held_record slots.old.image heap.old.array times.old.time id handle }
     ensures collected { IsCollected T.held_record T.of_record heap.new.room
-        (timed slots.old handles.old heap.old times.old) (timed slots.new handles.new heap.new times.new) id result }
+        (timed slots.old.image handles.old heap.old times.old) (timed slots.new.image handles.new heap.new times.new) id result }
     ensures room { heap.new.room ≡ heap.old.room }
+    ensures pieces { slots.new.room ≡ slots.old.room }
 {
     let change = Change::collecting(handle);
     let timer = reschedule(handles, slots, heap, times, id, change);
@@ -105,10 +107,11 @@ pub fn undo_collect_one<T: HoldsHandle>(
     times: &mut Times,
     undo: CollectUndo,
 )
-    requires { CanUndoCollect T.held_record T.of_record heap.old.room (timed slots.old handles.old heap.old times.old) undo }
-    ensures undone { timed slots.new handles.new heap.new times.new
-        ≡ collect_undone T.held_record T.of_record undo (timed slots.old handles.old heap.old times.old) }
+    requires { CanUndoCollect T.held_record T.of_record heap.old.room (timed slots.old.image handles.old heap.old times.old) undo }
+    ensures undone { timed slots.new.image handles.new heap.new times.new
+        ≡ collect_undone T.held_record T.of_record undo (timed slots.old.image handles.old heap.old times.old) }
     ensures room { heap.new.room ≡ heap.old.room }
+    ensures pieces { slots.new.room ≡ slots.old.room }
 {
     slots.undo_push(undo.pushed);
     undo_reschedule(handles, slots, heap, times, undo.timer);
@@ -122,15 +125,16 @@ pub fn fire_one<T: HoldsHandle>(
     heap: &mut TimerHeap,
     times: &mut Times,
 ) -> Option<(Id, TimerUndo)>
-    requires counts { IsCounted T.held_record (counted slots.old handles.old) }
-    requires set { (d : Id) (h : HandleRecord) → IsFirst slots.old Ready d → record_at T.held_record slots.old d ≡ Some h → h.repeat ≢ 0
+    requires counts { IsCounted T.held_record (counted slots.old.image handles.old) }
+    requires set { (d : Id) (h : HandleRecord) → IsFirst slots.old.image Ready d → record_at T.held_record slots.old.image d ≡ Some h → h.repeat ≢ 0
         → CanSet d.slot heap.old times.old }
-    ensures which { option_map (λ r. r.0) result ≡ first_ready T.held_record slots.old }
-    ensures none { IfNone result (NoneIsReady T.held_record slots.old
-        × (timed slots.new handles.new heap.new times.new ≡ timed slots.old handles.old heap.old times.old)) }
+    ensures which { option_map (λ r. r.0) result ≡ first_ready T.held_record slots.old.image }
+    ensures none { IfNone result (NoneIsReady T.held_record slots.old.image
+        × (timed slots.new.image handles.new heap.new times.new ≡ timed slots.old.image handles.old heap.old times.old)) }
     ensures some { IfSome result (λ r. IsFired T.held_record T.of_record heap.new.room
-        (timed slots.old handles.old heap.old times.old) (timed slots.new handles.new heap.new times.new) r.0 r.1) }
+        (timed slots.old.image handles.old heap.old times.old) (timed slots.new.image handles.new heap.new times.new) r.0 r.1) }
     ensures room { heap.new.room ≡ heap.old.room }
+    ensures pieces { slots.new.room ≡ slots.old.room }
 {
     match slots.first(ListName::Ready) {
         None => None,

@@ -16,16 +16,18 @@ use uv_records::WatcherKind;
 
 /// Begins a section: the whole list is yet to run.
 pub fn begin<T: HoldsHandle>(slots: &mut Slots<T>, kind: WatcherKind) -> SpliceUndo
-    requires { members slots.old (yet_of kind) ≡ [] }
-    ensures { IsBegun slots.old slots.new kind result }
+    requires { members slots.old.image (yet_of kind) ≡ [] }
+    ensures begun { IsBegun slots.old.image slots.new.image kind result }
+    ensures pieces { slots.new.room ≡ slots.old.room }
 {
     slots.splice(kind.list(), kind.yet())
 }
 
 /// Takes the beginning of a section back.
 pub fn undo_begin<T: HoldsHandle>(slots: &mut Slots<T>, undo: SpliceUndo)
-    requires { CanUndoSplice slots.old undo }
-    ensures { slots.new ≡ splice_undone undo slots.old }
+    requires { CanUndoSplice slots.old.image undo }
+    ensures undone { slots.new.image ≡ splice_undone undo slots.old.image }
+    ensures pieces { slots.new.room ≡ slots.old.room }
 {
     slots.undo_splice(undo);
 }
@@ -37,10 +39,12 @@ pub fn take<T: HoldsHandle>(
     slots: &mut Slots<T>,
     kind: WatcherKind,
 ) -> Option<(Id, bool, WalkUndo)>
-    requires { IsCounted T.held_record (counted slots.old handles.old) }
-    ensures none { IfNone result ((members slots.old (yet_of kind) ≡ []) × (counted slots.new handles.new ≡ counted slots.old handles.old)) }
+    requires { IsCounted T.held_record (counted slots.old.image handles.old) }
+    ensures none { IfNone result ((members slots.old.image (yet_of kind) ≡ [])
+        × (counted slots.new.image handles.new ≡ counted slots.old.image handles.old)) }
     ensures some { IfSome result (λ r. IsMovedOn T.held_record T.of_record
-        (counted slots.old handles.old) (counted slots.new handles.new) kind r.0 r.1 r.2) }
+        (counted slots.old.image handles.old) (counted slots.new.image handles.new) kind r.0 r.1 r.2) }
+    ensures pieces { slots.new.room ≡ slots.old.room }
 {
     match slots.first(kind.yet()) {
         None => None,
@@ -54,10 +58,12 @@ fn move_on<T: HoldsHandle>(
     kind: WatcherKind,
     id: Id,
 ) -> (Id, bool, WalkUndo)
-    requires counts { IsCounted T.held_record (counted slots.old handles.old) }
-    requires first { IsFirst slots.old (yet_of kind) id }
+    requires counts { IsCounted T.held_record (counted slots.old.image handles.old) }
+    requires first { IsFirst slots.old.image (yet_of kind) id }
     ensures id { result.0 ≡ id }
-    ensures moved { IsMovedOn T.held_record T.of_record (counted slots.old handles.old) (counted slots.new handles.new) kind id result.1 result.2 }
+    ensures moved { IsMovedOn T.held_record T.of_record (counted slots.old.image handles.old)
+        (counted slots.new.image handles.new) kind id result.1 result.2 }
+    ensures pieces { slots.new.room ≡ slots.old.room }
 {
     let unlinked = slots.unlink(id);
     let pushed = slots.push_back(kind.list(), id);
@@ -77,8 +83,10 @@ fn wake<T: HoldsHandle>(
     kind: WatcherKind,
     id: Id,
 ) -> (bool, Option<RecordUndo>)
-    requires { IsCounted T.held_record (counted slots.old handles.old) }
-    ensures { IsWoken T.held_record T.of_record (counted slots.old handles.old) (counted slots.new handles.new) kind id result.0 result.1 }
+    requires { IsCounted T.held_record (counted slots.old.image handles.old) }
+    ensures woken { IsWoken T.held_record T.of_record (counted slots.old.image handles.old)
+        (counted slots.new.image handles.new) kind id result.0 result.1 }
+    ensures pieces { slots.new.room ≡ slots.old.room }
 {
     if kind != WatcherKind::Async {
         return (false, None);
@@ -98,8 +106,9 @@ fn wake<T: HoldsHandle>(
 
 /// Takes one step of a walk back.
 pub fn undo_take<T: HoldsHandle>(handles: &mut Handles, slots: &mut Slots<T>, undo: WalkUndo)
-    requires { CanUndoWalk T.held_record T.of_record (counted slots.old handles.old) undo }
-    ensures { counted slots.new handles.new ≡ walk_undone T.held_record T.of_record undo (counted slots.old handles.old) }
+    requires { CanUndoWalk T.held_record T.of_record (counted slots.old.image handles.old) undo }
+    ensures undone { counted slots.new.image handles.new ≡ walk_undone T.held_record T.of_record undo (counted slots.old.image handles.old) }
+    ensures pieces { slots.new.room ≡ slots.old.room }
 {
     if let Some(woken) = undo.woken {
         handles.undo_change(slots, woken);

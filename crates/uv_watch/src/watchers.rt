@@ -20,10 +20,12 @@ pub fn start<T: HoldsHandle>(
     slots: &mut Slots<T>,
     id: Id,
 ) -> Result<Option<ListUndo>, Code>
-    requires { IsCounted T.held_record (counted slots.old handles.old) }
-    ensures ok { IfOk result (λ o. Starts T.held_record T.of_record (counted slots.old handles.old) (counted slots.new handles.new) id o) }
+    requires { IsCounted T.held_record (counted slots.old.image handles.old) }
+    ensures ok { IfOk result (λ o. Starts T.held_record T.of_record (counted slots.old.image handles.old)
+        (counted slots.new.image handles.new) id o) }
     ensures err { IfErr result (λ code. Refused T.held_record T.of_record start_watcher_refusal
-        (counted slots.old handles.old) (counted slots.new handles.new) id code) }
+        (counted slots.old.image handles.old) (counted slots.new.image handles.new) id code) }
+    ensures pieces { slots.new.room ≡ slots.old.room }
 {
     match handle_at(slots, id) {
         Err(code) => Err(code),
@@ -46,12 +48,13 @@ fn enlist<T: HoldsHandle>(
     id: Id,
     handle: HandleRecord,
 ) -> ListUndo
-    requires counts { IsCounted T.held_record (counted slots.old handles.old) }
-    requires found { record_at T.held_record slots.old id ≡ Some handle }
+    requires counts { IsCounted T.held_record (counted slots.old.image handles.old) }
+    requires found { record_at T.held_record slots.old.image id ≡ Some handle }
     requires allowed { start_watcher_refusal handle ≡ None }
     requires inactive { handle.active ≡ false }
-    requires loose { on_list slots.old id ≡ false }
-    ensures { IsStarted T.held_record T.of_record (counted slots.old handles.old) (counted slots.new handles.new) id result }
+    requires loose { on_list slots.old.image id ≡ false }
+    ensures started { IsStarted T.held_record T.of_record (counted slots.old.image handles.old) (counted slots.new.image handles.new) id result }
+    ensures pieces { slots.new.room ≡ slots.old.room }
 {
     match WatcherKind::from_kind(handle.kind) {
         Some(kind) => handles.enlist(slots, id, handle, handle.activated(), kind.list()),
@@ -61,8 +64,9 @@ fn enlist<T: HoldsHandle>(
 
 /// Takes a start back.
 pub fn undo_start<T: HoldsHandle>(handles: &mut Handles, slots: &mut Slots<T>, undo: ListUndo)
-    requires { CanUndoEnlist T.held_record T.of_record (counted slots.old handles.old) undo }
-    ensures { counted slots.new handles.new ≡ enlist_undone T.held_record T.of_record undo (counted slots.old handles.old) }
+    requires { CanUndoEnlist T.held_record T.of_record (counted slots.old.image handles.old) undo }
+    ensures undone { counted slots.new.image handles.new ≡ enlist_undone T.held_record T.of_record undo (counted slots.old.image handles.old) }
+    ensures pieces { slots.new.room ≡ slots.old.room }
 {
     handles.undo_enlist(slots, undo);
 }
@@ -73,11 +77,12 @@ pub fn stop<T: HoldsHandle>(
     slots: &mut Slots<T>,
     id: Id,
 ) -> Result<DelistUndo, Code>
-    requires { IsCounted T.held_record (counted slots.old handles.old) }
+    requires { IsCounted T.held_record (counted slots.old.image handles.old) }
     ensures ok { IfOk result (λ u. (h : HandleRecord) × (stop_refusal h ≡ None) × IsStopped T.held_record T.of_record
-        (counted slots.old handles.old) (counted slots.new handles.new) id h u) }
+        (counted slots.old.image handles.old) (counted slots.new.image handles.new) id h u) }
     ensures err { IfErr result (λ code. Refused T.held_record T.of_record stop_refusal
-        (counted slots.old handles.old) (counted slots.new handles.new) id code) }
+        (counted slots.old.image handles.old) (counted slots.new.image handles.new) id code) }
+    ensures pieces { slots.new.room ≡ slots.old.room }
 {
     match handle_at(slots, id) {
         Err(code) => Err(code),
@@ -96,17 +101,20 @@ pub fn halt<T: HoldsHandle>(
     id: Id,
     handle: HandleRecord,
 ) -> DelistUndo
-    requires counts { IsCounted T.held_record (counted slots.old handles.old) }
-    requires found { record_at T.held_record slots.old id ≡ Some handle }
-    ensures { IsStopped T.held_record T.of_record (counted slots.old handles.old) (counted slots.new handles.new) id handle result }
+    requires counts { IsCounted T.held_record (counted slots.old.image handles.old) }
+    requires found { record_at T.held_record slots.old.image id ≡ Some handle }
+    ensures stopped { IsStopped T.held_record T.of_record (counted slots.old.image handles.old)
+        (counted slots.new.image handles.new) id handle result }
+    ensures pieces { slots.new.room ≡ slots.old.room }
 {
     handles.delist(slots, id, handle, handle.stopped(), !handle.closing)
 }
 
 /// Takes a stop back.
 pub fn undo_stop<T: HoldsHandle>(handles: &mut Handles, slots: &mut Slots<T>, undo: DelistUndo)
-    requires { CanUndoDelist T.held_record T.of_record (counted slots.old handles.old) undo }
-    ensures { counted slots.new handles.new ≡ delist_undone T.held_record T.of_record undo (counted slots.old handles.old) }
+    requires { CanUndoDelist T.held_record T.of_record (counted slots.old.image handles.old) undo }
+    ensures undone { counted slots.new.image handles.new ≡ delist_undone T.held_record T.of_record undo (counted slots.old.image handles.old) }
+    ensures pieces { slots.new.room ≡ slots.old.room }
 {
     handles.undo_delist(slots, undo);
 }
@@ -117,11 +125,12 @@ pub fn send<T: HoldsHandle>(
     slots: &mut Slots<T>,
     id: Id,
 ) -> Result<RecordUndo, Code>
-    requires { IsCounted T.held_record (counted slots.old handles.old) }
+    requires { IsCounted T.held_record (counted slots.old.image handles.old) }
     ensures ok { IfOk result (λ u. Did T.held_record T.of_record send_refusal sent
-        (counted slots.old handles.old) (counted slots.new handles.new) id u) }
+        (counted slots.old.image handles.old) (counted slots.new.image handles.new) id u) }
     ensures err { IfErr result (λ code. Refused T.held_record T.of_record send_refusal
-        (counted slots.old handles.old) (counted slots.new handles.new) id code) }
+        (counted slots.old.image handles.old) (counted slots.new.image handles.new) id code) }
+    ensures pieces { slots.new.room ≡ slots.old.room }
 {
     match handle_at(slots, id) {
         Err(code) => Err(code),
@@ -134,8 +143,9 @@ pub fn send<T: HoldsHandle>(
 
 /// Takes a send back.
 pub fn undo_send<T: HoldsHandle>(handles: &mut Handles, slots: &mut Slots<T>, undo: RecordUndo)
-    requires { CanUndoRecord T.held_record T.of_record (counted slots.old handles.old) undo }
-    ensures { counted slots.new handles.new ≡ record_undone T.held_record T.of_record undo (counted slots.old handles.old) }
+    requires { CanUndoRecord T.held_record T.of_record (counted slots.old.image handles.old) undo }
+    ensures undone { counted slots.new.image handles.new ≡ record_undone T.held_record T.of_record undo (counted slots.old.image handles.old) }
+    ensures pieces { slots.new.room ≡ slots.old.room }
 {
     handles.undo_change(slots, undo);
 }

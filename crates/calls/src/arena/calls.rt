@@ -5,7 +5,7 @@ ghost use Rattle.calls.specs.Arena.{undone, CanUndo};
 use super::plain::Plain;
 use crate::score::Score;
 use crate::seen::LISTS;
-use uv_arena::{InsertUndo, Place, PushUndo, RemoveUndo, Slots, SpliceUndo};
+use uv_arena::{InsertFault, InsertUndo, Place, PushUndo, RemoveUndo, Slots, SpliceUndo};
 use uv_ids::Id;
 use uv_records::ListName;
 
@@ -23,8 +23,8 @@ pub enum Token {
 
 /// Takes a call back.
 pub fn undo(slots: &mut Slots<u64>, token: Token)
-    requires { CanUndo token slots.old }
-    ensures { slots.new ≡ undone token slots.old }
+    requires { CanUndo token slots.old.image }
+    ensures { slots.new.image ≡ undone token slots.old.image }
 {
     match token {
         Token::Inserted(inserted) => slots.undo_insert(inserted),
@@ -50,8 +50,8 @@ fn list_of(number: u64) -> ListName {
 
 /// One call by a number, of the arena and of the model: what takes it back.
 pub fn call(slots: &mut Slots<u64>, plain: &mut Plain, number: u64, score: &mut Score) -> Token
-    ensures undone { undone result slots.new ≡ slots.old }
-    ensures can_undo { CanUndo result slots.new }
+    ensures undone { undone result slots.new.image ≡ slots.old.image }
+    ensures can_undo { CanUndo result slots.new.image }
 {
     let id = plain.pick(number >> 8);
     let list = list_of(number >> 4);
@@ -71,8 +71,8 @@ pub fn call(slots: &mut Slots<u64>, plain: &mut Plain, number: u64, score: &mut 
 }
 
 fn insert(slots: &mut Slots<u64>, plain: &mut Plain, content: u64, score: &mut Score) -> Token
-    ensures undone { undone result slots.new ≡ slots.old }
-    ensures can_undo { CanUndo result slots.new }
+    ensures undone { undone result slots.new.image ≡ slots.old.image }
+    ensures can_undo { CanUndo result slots.new.image }
 {
     let expected = plain.insert(content, score);
     match slots.insert(content) {
@@ -80,16 +80,20 @@ fn insert(slots: &mut Slots<u64>, plain: &mut Plain, content: u64, score: &mut S
             score.note(expected == Some(made.0));
             Token::Inserted(made.1)
         }
-        Err(_) => {
+        Err(InsertFault::Full) => {
             score.note(expected.is_none());
+            Token::Nothing
+        }
+        Err(InsertFault::Memory) => {
+            score.note_memory(false);
             Token::Nothing
         }
     }
 }
 
 fn remove(slots: &mut Slots<u64>, plain: &mut Plain, id: Id, score: &mut Score) -> Token
-    ensures undone { undone result slots.new ≡ slots.old }
-    ensures can_undo { CanUndo result slots.new }
+    ensures undone { undone result slots.new.image ≡ slots.old.image }
+    ensures can_undo { CanUndo result slots.new.image }
 {
     if slots.on_list(id) {
         return Token::Nothing;
@@ -115,8 +119,8 @@ fn push(
     front: bool,
     score: &mut Score,
 ) -> Token
-    ensures undone { undone result slots.new ≡ slots.old }
-    ensures can_undo { CanUndo result slots.new }
+    ensures undone { undone result slots.new.image ≡ slots.old.image }
+    ensures can_undo { CanUndo result slots.new.image }
 {
     if slots.get(id).is_none() || slots.on_list(id) {
         return Token::Nothing;
@@ -130,8 +134,8 @@ fn push(
 }
 
 fn unlink(slots: &mut Slots<u64>, plain: &mut Plain, id: Id) -> Token
-    ensures undone { undone result slots.new ≡ slots.old }
-    ensures can_undo { CanUndo result slots.new }
+    ensures undone { undone result slots.new.image ≡ slots.old.image }
+    ensures can_undo { CanUndo result slots.new.image }
 {
     if !slots.on_list(id) {
         return Token::Nothing;
@@ -141,8 +145,8 @@ fn unlink(slots: &mut Slots<u64>, plain: &mut Plain, id: Id) -> Token
 }
 
 fn splice(slots: &mut Slots<u64>, plain: &mut Plain, from: ListName, to: ListName) -> Token
-    ensures undone { undone result slots.new ≡ slots.old }
-    ensures can_undo { CanUndo result slots.new }
+    ensures undone { undone result slots.new.image ≡ slots.old.image }
+    ensures can_undo { CanUndo result slots.new.image }
 {
     match slots.first(to) {
         Some(_) => Token::Nothing,

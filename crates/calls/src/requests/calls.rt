@@ -7,7 +7,7 @@ ghost use Rattle.calls.specs.Requests.{undone, CanUndo};
 use super::held::Held;
 use super::plain::Plain;
 use crate::score::Score;
-use uv_arena::{Slots, SpliceUndo};
+use uv_arena::{InsertFault, Slots, SpliceUndo};
 use uv_ids::{Id, Var};
 use uv_records::ListName;
 use uv_requests::{CancelUndo, CollectUndo, FinishUndo, QueueUndo, Requests, TakeUndo, request_at};
@@ -27,8 +27,8 @@ pub enum Token {
 
 /// Takes a call back.
 pub fn undo(slots: &mut Slots<Held>, requests: &mut Requests, token: Token)
-    requires { CanUndo token (working slots.old requests.old) }
-    ensures { working slots.new requests.new ≡ undone token (working slots.old requests.old) }
+    requires { CanUndo token (working slots.old.image requests.old) }
+    ensures { working slots.new.image requests.new ≡ undone token (working slots.old.image requests.old) }
 {
     match token {
         Token::Queued(queued) => requests.undo_queue(slots, queued),
@@ -49,10 +49,10 @@ pub fn call(
     number: u64,
     score: &mut Score,
 ) -> Token
-    requires { IsWork asked (working slots.old requests.old) }
-    ensures undone { undone result (working slots.new requests.new) ≡ working slots.old requests.old }
-    ensures can_undo { CanUndo result (working slots.new requests.new) }
-    ensures work { IsWork asked (working slots.new requests.new) }
+    requires { IsWork asked (working slots.old.image requests.old) }
+    ensures undone { undone result (working slots.new.image requests.new) ≡ working slots.old.image requests.old }
+    ensures can_undo { CanUndo result (working slots.new.image requests.new) }
+    ensures work { IsWork asked (working slots.new.image requests.new) }
 {
     let worker = u16::try_from((number >> 8) % 9).unwrap_or(0);
     match number % 8 {
@@ -75,10 +75,10 @@ fn queue(
     number: u64,
     score: &mut Score,
 ) -> Token
-    requires { IsWork asked (working slots.old requests.old) }
-    ensures undone { undone result (working slots.new requests.new) ≡ working slots.old requests.old }
-    ensures can_undo { CanUndo result (working slots.new requests.new) }
-    ensures work { IsWork asked (working slots.new requests.new) }
+    requires { IsWork asked (working slots.old.image requests.old) }
+    ensures undone { undone result (working slots.new.image requests.new) ≡ working slots.old.image requests.old }
+    ensures can_undo { CanUndo result (working slots.new.image requests.new) }
+    ensures work { IsWork asked (working slots.new.image requests.new) }
 {
     let name = u32::try_from((number >> 8) % 100).unwrap_or(0);
     match RequestRecord::new(Var(name), 1, b"abc") {
@@ -91,8 +91,12 @@ fn queue(
                 plain.queue(id, score);
                 Token::Queued(undo)
             }
-            Err(_) => {
+            Err(InsertFault::Full) => {
                 score.note(plain.is_full());
+                Token::Nothing
+            }
+            Err(InsertFault::Memory) => {
+                score.note_memory(false);
                 Token::Nothing
             }
         },
@@ -106,10 +110,10 @@ fn take(
     worker: u16,
     score: &mut Score,
 ) -> Token
-    requires { IsWork asked (working slots.old requests.old) }
-    ensures undone { undone result (working slots.new requests.new) ≡ working slots.old requests.old }
-    ensures can_undo { CanUndo result (working slots.new requests.new) }
-    ensures work { IsWork asked (working slots.new requests.new) }
+    requires { IsWork asked (working slots.old.image requests.old) }
+    ensures undone { undone result (working slots.new.image requests.new) ≡ working slots.old.image requests.old }
+    ensures can_undo { CanUndo result (working slots.new.image requests.new) }
+    ensures work { IsWork asked (working slots.new.image requests.new) }
 {
     let expected = plain.take(worker);
     match requests.take(slots, worker) {
@@ -146,10 +150,10 @@ fn finish(
     worker: u16,
     score: &mut Score,
 ) -> Token
-    requires { IsWork asked (working slots.old requests.old) }
-    ensures undone { undone result (working slots.new requests.new) ≡ working slots.old requests.old }
-    ensures can_undo { CanUndo result (working slots.new requests.new) }
-    ensures work { IsWork asked (working slots.new requests.new) }
+    requires { IsWork asked (working slots.old.image requests.old) }
+    ensures undone { undone result (working slots.new.image requests.new) ≡ working slots.old.image requests.old }
+    ensures can_undo { CanUndo result (working slots.new.image requests.new) }
+    ensures work { IsWork asked (working slots.new.image requests.new) }
 {
     match result(slots, requests, worker) {
         None => Token::Nothing,
@@ -173,10 +177,10 @@ fn cancel(
     id: Id,
     score: &mut Score,
 ) -> Token
-    requires { IsWork asked (working slots.old requests.old) }
-    ensures undone { undone result (working slots.new requests.new) ≡ working slots.old requests.old }
-    ensures can_undo { CanUndo result (working slots.new requests.new) }
-    ensures work { IsWork asked (working slots.new requests.new) }
+    requires { IsWork asked (working slots.old.image requests.old) }
+    ensures undone { undone result (working slots.new.image requests.new) ≡ working slots.old.image requests.old }
+    ensures can_undo { CanUndo result (working slots.new.image requests.new) }
+    ensures work { IsWork asked (working slots.new.image requests.new) }
 {
     match requests.cancel(slots, id) {
         Ok(undo) => {
@@ -196,10 +200,10 @@ fn begin(
     plain: &mut Plain,
     score: &mut Score,
 ) -> Token
-    requires { IsWork asked (working slots.old requests.old) }
-    ensures undone { undone result (working slots.new requests.new) ≡ working slots.old requests.old }
-    ensures can_undo { CanUndo result (working slots.new requests.new) }
-    ensures work { IsWork asked (working slots.new requests.new) }
+    requires { IsWork asked (working slots.old.image requests.old) }
+    ensures undone { undone result (working slots.new.image requests.new) ≡ working slots.old.image requests.old }
+    ensures can_undo { CanUndo result (working slots.new.image requests.new) }
+    ensures work { IsWork asked (working slots.new.image requests.new) }
 {
     match slots.first(ListName::DoneYet) {
         Some(_) => Token::Nothing,
@@ -216,10 +220,10 @@ fn collect(
     plain: &mut Plain,
     score: &mut Score,
 ) -> Token
-    requires { IsWork asked (working slots.old requests.old) }
-    ensures undone { undone result (working slots.new requests.new) ≡ working slots.old requests.old }
-    ensures can_undo { CanUndo result (working slots.new requests.new) }
-    ensures work { IsWork asked (working slots.new requests.new) }
+    requires { IsWork asked (working slots.old.image requests.old) }
+    ensures undone { undone result (working slots.new.image requests.new) ≡ working slots.old.image requests.old }
+    ensures can_undo { CanUndo result (working slots.new.image requests.new) }
+    ensures work { IsWork asked (working slots.new.image requests.new) }
 {
     let expected = plain.collect();
     match requests.collect(slots) {

@@ -6,6 +6,7 @@ ghost use Rattle.calls.specs.Timers.{all, read, Answers};
 use super::parts::{Parts, Token};
 use super::plain::Plain;
 use crate::score::Score;
+use uv_arena::InsertFault;
 use uv_ids::{Id, Kind, Var};
 use uv_records::ListName;
 use uv_timer::{again, collect_one, due_in, fire_one, set_repeat, start, stop};
@@ -54,8 +55,12 @@ fn add(parts: &mut Parts, plain: &mut Plain, number: u64, score: &mut Score) -> 
             plain.add(name, kind, Some(id), score);
             Token::Added(added)
         }
-        Err(_) => {
+        Err(InsertFault::Full) => {
             plain.add(name, kind, None, score);
+            Token::Nothing
+        }
+        Err(InsertFault::Memory) => {
+            score.note_memory(false);
             Token::Nothing
         }
     }

@@ -14,11 +14,13 @@ use uv_records::ListName;
 impl<T: Copy> Slots<T> {
     /// Puts the slot of an id, which is on no list, at the front of one.
     pub fn push_front(&mut self, list: ListName, id: Id) -> PushUndo
-        requires held { is_some (held self.old id) ≡ true }
-        requires loose { on_list self.old id ≡ false }
+        requires held { is_some (held self.old.image id) ≡ true }
+        requires loose { on_list self.old.image id ≡ false }
         ensures token { result.slot ≡ id.slot }
-        ensures image { self.new ≡ in_memory (put_in (front_place (name_at self.old.names (number list)) id.slot self.old.memory)) self.old }
-        ensures pushed { IsPushed self.old self.new list id (id.slot ∷ members self.old list) }
+        ensures image { self.new.image
+            ≡ in_memory (put_in (front_place (name_at self.old.image.names (number list)) id.slot self.old.image.memory)) self.old.image }
+        ensures pushed { IsPushed self.old.image self.new.image list id (id.slot ∷ members self.old.image list) }
+        ensures room { self.new.room ≡ self.old.room }
     {
         self.is_sound();
         let place = self.front_place(self.chain(list), id.slot);
@@ -28,11 +30,13 @@ impl<T: Copy> Slots<T> {
 
     /// Puts the slot of an id, which is on no list, at the end of one.
     pub fn push_back(&mut self, list: ListName, id: Id) -> PushUndo
-        requires held { is_some (held self.old id) ≡ true }
-        requires loose { on_list self.old id ≡ false }
+        requires held { is_some (held self.old.image id) ≡ true }
+        requires loose { on_list self.old.image id ≡ false }
         ensures token { result.slot ≡ id.slot }
-        ensures image { self.new ≡ in_memory (put_in (back_place (name_at self.old.names (number list)) id.slot self.old.memory)) self.old }
-        ensures pushed { IsPushed self.old self.new list id (members self.old list ++ id.slot ∷ []) }
+        ensures image { self.new.image
+            ≡ in_memory (put_in (back_place (name_at self.old.image.names (number list)) id.slot self.old.image.memory)) self.old.image }
+        ensures pushed { IsPushed self.old.image self.new.image list id (members self.old.image list ++ id.slot ∷ []) }
+        ensures room { self.new.room ≡ self.old.room }
     {
         self.is_sound();
         let place = self.back_place(self.chain(list), id.slot);
@@ -42,10 +46,11 @@ impl<T: Copy> Slots<T> {
 
     /// Takes the slot of an id off its list; the place where it stood.
     pub fn unlink(&mut self, id: Id) -> Place
-        requires { on_list self.old id ≡ true }
-        ensures token { result ≡ place_at self.old.memory id.slot }
-        ensures image { self.new ≡ in_memory (taken_out result) self.old }
-        ensures unlinked { IsUnlinked self.old self.new id result }
+        requires { on_list self.old.image id ≡ true }
+        ensures token { result ≡ place_at self.old.image.memory id.slot }
+        ensures image { self.new.image ≡ in_memory (taken_out result) self.old.image }
+        ensures unlinked { IsUnlinked self.old.image self.new.image id result }
+        ensures room { self.new.room ≡ self.old.room }
     {
         self.is_sound();
         let place = self.place(id.slot);
@@ -55,10 +60,11 @@ impl<T: Copy> Slots<T> {
 
     /// Moves all that is on one list to another one, which is empty. Takes as long for a long list as for a short one.
     pub fn splice(&mut self, from: ListName, to: ListName) -> SpliceUndo
-        requires { members self.old to ≡ [] }
+        requires { members self.old.image to ≡ [] }
         ensures token { result ≡ record { from = from; to = to } }
-        ensures image { self.new ≡ spliced from to self.old }
-        ensures spliced { IsSpliced self.old self.new from to result }
+        ensures image { self.new.image ≡ spliced from to self.old.image }
+        ensures spliced { IsSpliced self.old.image self.new.image from to result }
+        ensures room { self.new.room ≡ self.old.room }
     {
         self.is_sound();
         self.exchange(from, to);
@@ -67,7 +73,8 @@ impl<T: Copy> Slots<T> {
 
     /// Two lists change places.
     pub(super) fn exchange(&mut self, from: ListName, to: ListName)
-        ensures { self.new ≡ spliced from to self.old }
+        ensures image { self.new.image ≡ spliced from to self.old.image }
+        ensures room { self.new.room ≡ self.old.room }
     {
         self.names
             .swap(from.number() as usize, to.number() as usize);

@@ -17,7 +17,7 @@ use uv_records::ListName;
 impl<T: Copy> Slots<T> {
     /// The id that the next insert gives. None where no slot is free or unused.
     pub fn next_free(&self) -> Option<Id>
-        ensures { result ≡ next_free (plain_slots self.now) }
+        ensures { result ≡ next_free (plain_slots self.now.image) }
     {
         self.is_sound();
         match self.head(FREE) {
@@ -27,8 +27,8 @@ impl<T: Copy> Slots<T> {
     }
 
     fn next_unused(&self) -> Option<Id>
-        requires { head_at self.now.memory FREE ≡ None }
-        ensures { result ≡ next_free (plain_slots self.now) }
+        requires { head_at self.now.image.memory FREE ≡ None }
+        ensures { result ≡ next_free (plain_slots self.now.image) }
     {
         self.is_sound();
         let slot = self.used();
@@ -44,8 +44,8 @@ impl<T: Copy> Slots<T> {
 
     /// The first of a list.
     pub fn first(&self, list: ListName) -> Option<Id>
-        ensures none { IfNone result (members self.now list ≡ []) }
-        ensures some { IfSome result (λ d. IsFirst self.now list d) }
+        ensures none { IfNone result (members self.now.image list ≡ []) }
+        ensures some { IfSome result (λ d. IsFirst self.now.image list d) }
     {
         self.is_sound();
         match self.head(self.chain(list)) {
@@ -56,8 +56,8 @@ impl<T: Copy> Slots<T> {
 
     /// The last of a list.
     pub fn last(&self, list: ListName) -> Option<Id>
-        ensures none { IfNone result (members self.now list ≡ []) }
-        ensures some { IfSome result (λ d. IsLast self.now list d) }
+        ensures none { IfNone result (members self.now.image list ≡ []) }
+        ensures some { IfSome result (λ d. IsLast self.now.image list d) }
     {
         self.is_sound();
         match self.tail(self.chain(list)) {
@@ -68,10 +68,10 @@ impl<T: Copy> Slots<T> {
 
     /// The one after an id on its list. None at the list's end, and for an id that is on no list or that nothing is held under.
     pub fn next(&self, id: Id) -> Option<Id>
-        ensures off { on_list self.now id ≡ false → result ≡ None }
-        ensures next { on_list self.now id ≡ true
-            → (l : ListName) (us : List ℕ) (vs : List ℕ) → members self.now l ≡ us ++ id.slot ∷ vs → slot_of result ≡ first vs None }
-        ensures listed { IfSome result (λ d. IsListed self.now d) }
+        ensures off { on_list self.now.image id ≡ false → result ≡ None }
+        ensures next { on_list self.now.image id ≡ true
+            → (l : ListName) (us : List ℕ) (vs : List ℕ) → members self.now.image l ≡ us ++ id.slot ∷ vs → slot_of result ≡ first vs None }
+        ensures listed { IfSome result (λ d. IsListed self.now.image d) }
     {
         self.is_sound();
         let slot = self.links_on_list(id)?.next?;
@@ -80,10 +80,10 @@ impl<T: Copy> Slots<T> {
 
     /// The one before an id on its list. None at the list's front, and for an id that is on no list or that nothing is held under.
     pub fn prev(&self, id: Id) -> Option<Id>
-        ensures off { on_list self.now id ≡ false → result ≡ None }
-        ensures prev { on_list self.now id ≡ true
-            → (l : ListName) (us : List ℕ) (vs : List ℕ) → members self.now l ≡ us ++ id.slot ∷ vs → slot_of result ≡ last None us }
-        ensures listed { IfSome result (λ d. IsListed self.now d) }
+        ensures off { on_list self.now.image id ≡ false → result ≡ None }
+        ensures prev { on_list self.now.image id ≡ true
+            → (l : ListName) (us : List ℕ) (vs : List ℕ) → members self.now.image l ≡ us ++ id.slot ∷ vs → slot_of result ≡ last None us }
+        ensures listed { IfSome result (λ d. IsListed self.now.image d) }
     {
         self.is_sound();
         let slot = self.links_on_list(id)?.prev?;
@@ -92,24 +92,24 @@ impl<T: Copy> Slots<T> {
 
     /// Whether something is held under an id, and is on a list.
     pub fn on_list(&self, id: Id) -> bool
-        ensures value { result ≡ on_list self.now id }
-        ensures apart { is_some (held self.now id) ≡ true → result ≡ false
-            → (l : ListName) → without eqb (members self.now l) id.slot ≡ members self.now l }
+        ensures value { result ≡ on_list self.now.image id }
+        ensures apart { is_some (held self.now.image id) ≡ true → result ≡ false
+            → (l : ListName) → without eqb (members self.now.image l) id.slot ≡ members self.now.image l }
     {
         self.is_sound();
         self.is_linked(id)
     }
 
     fn is_linked(&self, id: Id) -> bool
-        ensures { result ≡ on_list self.now id }
+        ensures { result ≡ on_list self.now.image id }
     {
         self.links_on_list(id).is_some()
     }
 
     /// The links of an id. None where it is on no list, or nothing is held under it.
     fn links_on_list(&self, id: Id) -> Option<Links>
-        ensures none { IfNone result (on_list self.now id ≡ false) }
-        ensures some { IfSome result (λ links. (on_list self.now id ≡ true) × (links ≡ links_at self.now.memory id.slot)) }
+        ensures none { IfNone result (on_list self.now.image id ≡ false) }
+        ensures some { IfSome result (λ links. (on_list self.now.image id ≡ true) × (links ≡ links_at self.now.image.memory id.slot)) }
     {
         let _content = self.get(id)?;
         let links = self.links_or_loose(id.slot);
@@ -118,7 +118,7 @@ impl<T: Copy> Slots<T> {
     }
 
     fn links_or_loose(&self, slot: u32) -> Links
-        ensures { result ≡ links_at self.now.memory slot }
+        ensures { result ≡ links_at self.now.image.memory slot }
     {
         if slot < self.used() {
             self.links(slot)
@@ -129,7 +129,7 @@ impl<T: Copy> Slots<T> {
 
     /// The first free slot.
     pub fn first_free(&self) -> Option<u32>
-        ensures { result ≡ first (chain self.now.memory FREE) None }
+        ensures { result ≡ first (chain self.now.image.memory FREE) None }
     {
         self.is_sound();
         self.head(FREE)
@@ -137,7 +137,7 @@ impl<T: Copy> Slots<T> {
 
     /// Whether a slot is on the free list.
     pub fn is_free(&self, slot: u32) -> bool
-        ensures { result ≡ list_any (λ n. n == slot) (chain self.now.memory FREE) }
+        ensures { result ≡ list_any (λ n. n == slot) (chain self.now.image.memory FREE) }
     {
         self.is_sound();
         if slot >= self.used() {
@@ -151,7 +151,7 @@ impl<T: Copy> Slots<T> {
 
     /// The last free slot.
     pub fn last_free(&self) -> Option<u32>
-        ensures { result ≡ last None (chain self.now.memory FREE) }
+        ensures { result ≡ last None (chain self.now.image.memory FREE) }
     {
         self.is_sound();
         self.tail(FREE)
@@ -159,8 +159,8 @@ impl<T: Copy> Slots<T> {
 
     /// The id of what a slot holds. None if it holds nothing.
     pub fn id_in(&self, slot: u32) -> Option<Id>
-        ensures none { IfNone result ((d : Id) → d.slot ≡ slot → held self.now d ≡ None) }
-        ensures some { IfSome result (λ d. (d ≡ id_of slot (slot_at self.now.memory slot)) × (is_some (held self.now d) ≡ true)) }
+        ensures none { IfNone result ((d : Id) → d.slot ≡ slot → held self.now.image d ≡ None) }
+        ensures some { IfSome result (λ d. (d ≡ id_of slot (slot_at self.now.image.memory slot)) × (is_some (held self.now.image d) ≡ true)) }
     {
         if slot >= self.used() {
             return None;
@@ -174,8 +174,8 @@ impl<T: Copy> Slots<T> {
 
     /// The id of what a slot that was used holds.
     fn id_at(&self, slot: u32) -> Id
-        requires { slot < length self.now.memory.row.items }
-        ensures { result ≡ record { slot = slot; generation = (slot_at self.now.memory slot).generation } }
+        requires { slot < length self.now.image.memory.row.items }
+        ensures { result ≡ record { slot = slot; generation = (slot_at self.now.image.memory slot).generation } }
     {
         Id {
             slot,

@@ -10,8 +10,9 @@ use uv_records::Slot;
 impl<T: Copy> Slots<T> {
     /// Takes an insert back.
     pub fn undo_insert(&mut self, undo: InsertUndo)
-        requires { CanUndoInsert self.old undo }
-        ensures { self.new ≡ insert_undone undo self.old }
+        requires { CanUndoInsert self.old.image undo }
+        ensures undone { self.new.image ≡ insert_undone undo self.old.image }
+        ensures room { self.new.room ≡ self.old.room }
     {
         if undo.fresh {
             self.shrink();
@@ -30,8 +31,9 @@ impl<T: Copy> Slots<T> {
 
     /// Takes a removal back: the slot holds this again, which it held before.
     pub fn undo_remove(&mut self, undo: RemoveUndo, content: T)
-        requires { CanUndoRemove self.old undo content }
-        ensures { self.new ≡ remove_undone undo content self.old }
+        requires { CanUndoRemove self.old.image undo content }
+        ensures undone { self.new.image ≡ remove_undone undo content self.old.image }
+        ensures room { self.new.room ≡ self.old.room }
     {
         let generation = self.slot_at(undo.slot).generation;
         let content = Some(content);
@@ -57,8 +59,9 @@ impl<T: Copy> Slots<T> {
 
     /// Takes a change of what a slot holds back: the old content.
     pub fn undo_set(&mut self, slot: u32, content: T)
-        requires { CanUndoSet self.old slot content }
-        ensures { self.new ≡ set_undone slot content self.old }
+        requires { CanUndoSet self.old.image slot content }
+        ensures undone { self.new.image ≡ set_undone slot content self.old.image }
+        ensures room { self.new.room ≡ self.old.room }
     {
         let generation = self.slot_at(slot).generation;
         self.edit(
@@ -72,8 +75,9 @@ impl<T: Copy> Slots<T> {
 
     /// Takes a push back.
     pub fn undo_push(&mut self, undo: PushUndo)
-        requires { CanUndoPush self.old undo.slot }
-        ensures { self.new ≡ push_undone undo.slot self.old }
+        requires { CanUndoPush self.old.image undo.slot }
+        ensures undone { self.new.image ≡ push_undone undo.slot self.old.image }
+        ensures room { self.new.room ≡ self.old.room }
     {
         let place = self.place(undo.slot);
         self.take(place);
@@ -81,16 +85,18 @@ impl<T: Copy> Slots<T> {
 
     /// Takes an unlinking back: the place where the slot stood.
     pub fn undo_unlink(&mut self, place: Place)
-        requires { CanUndoUnlink self.old place }
-        ensures { self.new ≡ unlink_undone place self.old }
+        requires { CanUndoUnlink self.old.image place }
+        ensures undone { self.new.image ≡ unlink_undone place self.old.image }
+        ensures room { self.new.room ≡ self.old.room }
     {
         self.put(place);
     }
 
     /// Takes a splice back.
     pub fn undo_splice(&mut self, undo: SpliceUndo)
-        requires { CanUndoSplice self.old undo }
-        ensures { self.new ≡ splice_undone undo self.old }
+        requires { CanUndoSplice self.old.image undo }
+        ensures undone { self.new.image ≡ splice_undone undo self.old.image }
+        ensures room { self.new.room ≡ self.old.room }
     {
         self.exchange(undo.from, undo.to);
     }

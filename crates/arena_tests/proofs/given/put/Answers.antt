@@ -6,5 +6,6 @@ use Rattle.arena_tests.proofs.given.put.Goals as goal
 
 pub returns-in-Ok : goal.returns-in-Ok
 returns-in-Ok c =
-    let more = count_inserted handle_in c.args.slots.now c.insert.new.self (Request c.args.request) c.in-Ok.id c.in-Ok.inserted c.in-Ok.ensures.ok in
+    let more = count_inserted handle_in c.args.slots.now.image c.insert.new.self.image
+    (Request c.args.request) c.in-Ok.id c.in-Ok.inserted c.in-Ok.ensures.ok in
     omega (arith, more)

@@ -6,7 +6,8 @@ use Rattle.uv_timer.proofs.section.collect.Goals as goal
 
 pub returns-clause-collected : goal.returns-clause-collected
 returns-clause-collected g c =
-    let H = g.T.HoldsHandle in let i = c.args.slots.now in let k = c.reschedule-timer.new.slots in let j = c.push_back-pushed.new.self in
+    let H = g.T.HoldsHandle in let i = c.args.slots.now.image in let k = c.reschedule-timer.new.slots.image in
+    let j = c.push_back-pushed.new.self.image in
     let n = c.args.handles.now in let m = c.reschedule-timer.new.handles in let a = c.args.heap.now in let b = c.reschedule-timer.new.heap in
     let s = c.args.times.now in let t = c.reschedule-timer.new.times in let d = c.args.id in let h = c.args.handle in
     let u = c.reschedule-timer.result in

@@ -21,4 +21,4 @@ reschedule-requires-clause-starts g c =
 
 pub returns-in-Ok-clause-which : goal.returns-in-Ok-clause-which
 returns-in-Ok-clause-which g c =
-    ready_is g.T.HoldsHandle.held_record c.args.slots.now c.in-Some.id c.in-Ok.handle c.in-Some.ensures.some c.in-Ok.ensures.ok.0
+    ready_is g.T.HoldsHandle.held_record c.args.slots.now.image c.in-Some.id c.in-Ok.handle c.in-Some.ensures.some c.in-Ok.ensures.ok.0

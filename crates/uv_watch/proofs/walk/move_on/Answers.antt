@@ -8,8 +8,9 @@ use Rattle.uv_watch.proofs.walk.move_on.Goals as goal
 
 pub returns-clause-moved : goal.returns-clause-moved
 returns-clause-moved g c =
-    let H = g.T.HoldsHandle in let i = c.args.slots.now in let k = c.unlink-unlinked.new.self in let l = c.push_back-pushed.new.self in
-    let j = c.wake-pending.new.slots in
+    let H = g.T.HoldsHandle in let i = c.args.slots.now.image in let k = c.unlink-unlinked.new.self.image in
+    let l = c.push_back-pushed.new.self.image in
+    let j = c.wake-pending.new.slots.image in
     let n = c.args.handles.now in let m = c.wake-pending.new.handles in let d = c.args.id in let w = c.args.kind in
     let t = c.unlink-unlinked.result in let b = c.wake-pending.result.0 in let u = c.wake-pending.result.1 in
     let unlinked = c.unlink-unlinked.ensures.unlinked in
@@ -21,4 +22,4 @@ returns-clause-moved g c =
       woken = c.wake-pending.result.1;
     }))
     (sym c.push_back-pushed.ensures.token)
-    (moved_done H.held_record H.of_record i k l j n m w d t b u c.requires.first unlinked pushed c.wake-pending.ensures)
+    (moved_done H.held_record H.of_record i k l j n m w d t b u c.requires.first unlinked pushed c.wake-pending.ensures.woken)

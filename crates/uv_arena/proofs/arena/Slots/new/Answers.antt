@@ -1,5 +1,5 @@
 use Rattle.std.proofs.Common.{sym, subst, arith}
-use Rattle.uv_raw.specs.Row.{Row}
+use Rattle.uv_raw.specs.Pieced.{Pieced}
 use Rattle.uv_arena.specs.declared.links.Cell.{Cell}
 use Rattle.uv_arena.specs.Image.{fresh_image, IsSound}
 use Rattle.uv_arena.proofs.Fresh.{fresh_sound}
@@ -8,8 +8,8 @@ use Rattle.uv_arena.proofs.arena.Slots.new.Goals as goal
 pub invariant_of-result : goal.invariant_of-result
 invariant_of-result g c =
     let start = fresh_image g.row.T.Denot c.args.capacity c.args.last_generation in
-    subst (λ (r : Row (Cell g.row.T.Denot)). IsSound (record {
-      memory = record { row = r; ends = start.memory.ends };
+    subst (λ (p : Pieced (Cell g.row.T.Denot)). IsSound (record {
+      memory = record { row = p.row; ends = start.memory.ends };
       names = start.names;
       last =
           start.last;

@@ -6,22 +6,22 @@ use Rattle.uv_arena.proofs.arena.Slots.push_back.Goals as goal
 
 pub put-requires-clause-within : goal.put-requires-clause-within
 put-requires-clause-within g c =
-    let v = c.args.self.now in
+    let v = c.args.self.now.image in
     let is = c.back_place-place.ensures ∙ ap (λ k. back_place k c.args.id.slot v.memory) c.chain.ensures.name in
     subst (λ p. IsWithin p (length v.memory.row.items)) (sym is)
     (put_back v c.is_sound.ensures c.args.list c.args.id c.requires.held c.requires.loose).within
 
 pub put-requires-clause-sound : goal.put-requires-clause-sound
 put-requires-clause-sound g c =
-    let v = c.args.self.now in
+    let v = c.args.self.now.image in
     let is = c.back_place-place.ensures ∙ ap (λ k. back_place k c.args.id.slot v.memory) c.chain.ensures.name in
     subst (λ p. IsSound (in_memory (put_in p) v)) (sym is)
     (put_back v c.is_sound.ensures c.args.list c.args.id c.requires.held c.requires.loose).sound
 
 pub returns-clause-pushed : goal.returns-clause-pushed
 returns-clause-pushed g c =
-    let v = c.args.self.now in
+    let v = c.args.self.now.image in
     let is = c.back_place-place.ensures ∙ ap (λ k. back_place k c.args.id.slot v.memory) c.chain.ensures.name in
-    subst (λ j. IsPushed v j c.args.list c.args.id (members v c.args.list ++ c.args.id.slot ∷ [])) (sym (c.put.ensures
+    subst (λ j. IsPushed v j c.args.list c.args.id (members v c.args.list ++ c.args.id.slot ∷ [])) (sym (c.put.ensures.image
     ∙ ap (λ p. in_memory (put_in p) v) is))
     (put_back v c.is_sound.ensures c.args.list c.args.id c.requires.held c.requires.loose).pushed

@@ -9,7 +9,7 @@ use Rattle.uv_handle.proofs.handles.Handles.add.Goals as goal
 
 pub recounted-self-inside-requires : goal.recounted-self-inside-requires
 recounted-self-inside-requires g c =
-    let H = g.T.HoldsHandle in let K = g.met.T.HoldsHandle in let i = c.args.slots.now in let j = c.insert.new.self in
+    let H = g.T.HoldsHandle in let K = g.met.T.HoldsHandle in let i = c.args.slots.now.image in let j = c.insert.new.self.image in
     let h = inited c.args.name c.args.kind in
     let ins = subst (λ x. IsInserted i j x c.in-Ok.id c.in-Ok.inserted) (c.of.ensures ∙ ap H.of_record c.new-handle.ensures) c.in-Ok.ensures.ok in
     subst (λ b. Fits32 c.self.inside.active 0 (one_if b)) (sym (c.keeps_alive.ensures ∙ ap keeps_alive c.new-handle.ensures))
@@ -18,7 +18,8 @@ recounted-self-inside-requires g c =
 
 pub returns-in-Ok-clause-ok : goal.returns-in-Ok-clause-ok
 returns-in-Ok-clause-ok g c =
-    let H = g.T.HoldsHandle in let K = g.met.T.HoldsHandle in let i = c.args.slots.now in let j = c.insert.new.self in let n = c.self.inside.active in
+    let H = g.T.HoldsHandle in let K = g.met.T.HoldsHandle in let i = c.args.slots.now.image in let j = c.insert.new.self.image in
+    let n = c.self.inside.active in
     let ins = subst (λ x. IsInserted i j x c.in-Ok.id c.in-Ok.inserted) (c.of.ensures ∙ ap H.of_record c.new-handle.ensures) c.in-Ok.ensures.ok in
     let m = c.recounted-self-inside.result in
     let count = subst (λ b. m + 0 ≡ n + one_if b) (c.keeps_alive.ensures ∙ ap keeps_alive c.new-handle.ensures) c.recounted-self-inside.ensures in

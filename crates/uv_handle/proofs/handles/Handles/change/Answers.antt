@@ -8,10 +8,10 @@ use Rattle.uv_handle.proofs.handles.Handles.change.Goals as goal
 
 pub recounted-self-inside-requires : goal.recounted-self-inside-requires
 recounted-self-inside-requires g c =
-    let H = g.T.HoldsHandle in let K = g.met.T.HoldsHandle in let i = c.args.slots.now in let j = c.set.new.self in let d = c.args.id in
+    let H = g.T.HoldsHandle in let K = g.met.T.HoldsHandle in let i = c.args.slots.now.image in let j = c.set.new.self.image in let d = c.args.id in
     let was = c.args.old in let found = c.requires.found in let x = c.of.result in let r = c.set.result in
     let none = c.set.ensures.none in let some = c.set.ensures.some in
-    let done = set_done H.held_record H.of_record K.gives_back K.only_that i d was found j x r none some in
+    let done = set_done H.held_record H.of_record K.gives_back K.only_that i d was found _ j x r none some in
     let set = subst (λ x. IsSet i j d x (H.of_record c.args.old)) c.of.ensures done in
     subst (λ (b : Bool × Bool). Fits32 c.self.inside.active (one_if b.0) (one_if b.1)) (λ k. (
       sym c.keeps_alive.ensures k,
@@ -20,13 +20,13 @@ recounted-self-inside-requires g c =
     (change_fits H.held_record H.of_record K.gives_back K.only_that i d c.args.old c.requires.found j c.self.inside.active c.args.new
     (c.self.view_is ∙ c.requires.counts) set c.is_sound-2.ensures)
 
-pub returns : goal.returns
-returns g c =
-    let H = g.T.HoldsHandle in let K = g.met.T.HoldsHandle in let i = c.args.slots.now in let j = c.set.new.self in let d = c.args.id in
+pub returns-clause-changed : goal.returns-clause-changed
+returns-clause-changed g c =
+    let H = g.T.HoldsHandle in let K = g.met.T.HoldsHandle in let i = c.args.slots.now.image in let j = c.set.new.self.image in let d = c.args.id in
     let n = c.self.inside.active in
     let was = c.args.old in let found = c.requires.found in let x = c.of.result in let r = c.set.result in
     let none = c.set.ensures.none in let some = c.set.ensures.some in
-    let done = set_done H.held_record H.of_record K.gives_back K.only_that i d was found j x r none some in
+    let done = set_done H.held_record H.of_record K.gives_back K.only_that i d was found _ j x r none some in
     let set = subst (λ x. IsSet i j d x (H.of_record c.args.old)) c.of.ensures done in
     let m = c.recounted-self-inside.result in
     let count = subst (λ (b : Bool × Bool). m + one_if b.0 ≡ n + one_if b.1) (λ k. (

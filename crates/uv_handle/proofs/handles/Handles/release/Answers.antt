@@ -7,7 +7,7 @@ use Rattle.uv_handle.proofs.handles.Handles.release.Goals as goal
 
 pub set_count-requires : goal.set_count-requires
 set_count-requires g c =
-    let H = g.T.HoldsHandle in let i = c.args.slots.now in let k = c.unlink-unlinked.new.self in let j = c.remove.new.self in
+    let H = g.T.HoldsHandle in let i = c.args.slots.now.image in let k = c.unlink-unlinked.new.self.image in let j = c.remove.new.self.image in
     let n = c.args.self.now in let v = c.in-Some.freed.0 in let t = c.unlink-unlinked.result in let u = c.in-Some.freed.1 in
     let unlinked = c.unlink-unlinked.ensures.unlinked in
     subst (λ (r : ℕ × Bool). Fits32 r.0 (one_if r.1) 0) (λ l. (sym c.active_referenced-active.ensures l, sym c.keeps_alive.ensures l))
@@ -15,7 +15,7 @@ set_count-requires g c =
 
 pub returns-clause-taken : goal.returns-clause-taken
 returns-clause-taken g c =
-    let H = g.T.HoldsHandle in let i = c.args.slots.now in let k = c.unlink-unlinked.new.self in let j = c.remove.new.self in
+    let H = g.T.HoldsHandle in let i = c.args.slots.now.image in let k = c.unlink-unlinked.new.self.image in let j = c.remove.new.self.image in
     let n = c.args.self.now in let m = c.set_count.new.self in
     let d = c.args.id in let v = c.in-Some.freed.0 in let t = c.unlink-unlinked.result in let u = c.in-Some.freed.1 in
     let unlinked = c.unlink-unlinked.ensures.unlinked in

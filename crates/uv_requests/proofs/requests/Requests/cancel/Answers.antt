@@ -5,7 +5,7 @@ use Rattle.uv_requests.proofs.requests.Requests.cancel.Goals.{else-is_open-via-t
 
 pub returns-else-is_open-clause-err : goal.returns-else-is_open-clause-err
 returns-else-is_open-clause-err g c =
-    let H = g.T.HoldsWork in let i = c.args.slots.now in let r = c.args.self.now in let d = c.args.id in let from = c.in-Ok.request in
+    let H = g.T.HoldsWork in let i = c.args.slots.now.image in let r = c.args.self.now in let d = c.args.id in let from = c.in-Ok.request in
     let s = c.is_sound.ensures in
     elim c.else-is_open.branch [
       | else-is_open-via-then-is_open+else-on_list w ↦ (

@@ -3,4 +3,4 @@ use Rattle.uv_requests.proofs.requests.Requests.next_work.Goals as goal
 
 pub unreachable-unreachable : goal.unreachable-unreachable
 unreachable-unreachable g c =
-    waiting_is_held g.T.HoldsWork.held_request c.args.slots.now _ c.in-Some.id c.requires c.in-Some.ensures.some c.in-Err.ensures.none
+    waiting_is_held g.T.HoldsWork.held_request c.args.slots.now.image _ c.in-Some.id c.requires c.in-Some.ensures.some c.in-Err.ensures.none
