@@ -52,8 +52,9 @@ fn steps() -> &'static [Event] {
     STEPS_TAKEN
 }
 
-fn opened<M: Machine>(alloc: Global) -> Result<Session<M>, Fault> {
-    let script = Script::parse(alloc, SCRIPT)?;
+/// A session of the script of this text.
+pub fn opened<M: Machine>(alloc: Global, text: &[u8]) -> Result<Session<M>, Fault> {
+    let script = Script::parse(alloc, text)?;
     let machine = M::begin(alloc, script)?;
     Ok(Session::new(alloc, machine, STEPS))
 }
@@ -61,7 +62,7 @@ fn opened<M: Machine>(alloc: Global) -> Result<Session<M>, Fault> {
 /// A session of the script.
 pub fn begun<M: Machine>(alloc: Global) -> Option<Session<M>> {
     for _ in 0..TRIES {
-        if let Ok(session) = opened(alloc) {
+        if let Ok(session) = opened(alloc, SCRIPT) {
             return Some(session);
         }
     }
@@ -69,7 +70,7 @@ pub fn begun<M: Machine>(alloc: Global) -> Option<Session<M>> {
 }
 
 /// How the session's memory lies.
-fn image<M: Machine>(alloc: Global, session: &Session<M>) -> Option<Vec<u8>> {
+pub fn image<M: Machine>(alloc: Global, session: &Session<M>) -> Option<Vec<u8>> {
     for _ in 0..TRIES {
         if let Ok(image) = image_text(alloc, session) {
             return image;

@@ -16,13 +16,18 @@ impl<I: Read> Turns<I> {
 
     /// Says what is wanted, and waits until it is done: for the end of a line.
     pub fn wait<R: Print>(&mut self, rt: &R, wanted: &str) -> io::Result<()> {
-        println!(rt; "{wanted}")?;
+        self.asks(rt, wanted).map(|_| ())
+    }
+
+    /// Asks whether something is wanted: any answer but an empty line says so.
+    pub fn asks<R: Print>(&mut self, rt: &R, question: &str) -> io::Result<bool> {
+        println!(rt; "{question}")?;
         let mut byte = [0];
-        for _ in 0..100 {
+        for read in 0..100 {
             if self.input.read(&mut byte)? == 0 || byte[0] == b'\n' {
-                return Ok(());
+                return Ok(read > 0);
             }
         }
-        Ok(())
+        Ok(true)
     }
 }

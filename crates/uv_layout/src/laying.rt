@@ -68,7 +68,7 @@ fn slot_in(id: Option<Id>) -> Option<u32>
 
 /// A list with its first and last slot.
 fn laid_list(slots: &Slots<Content>, list: ListName) -> ListEnds
-    ensures { result ≡ shown_ends slots.now list }
+    ensures { result ≡ shown_ends slots.now.image list }
 {
     let ends = Ends {
         head: slot_in(slots.first(list)),
@@ -79,7 +79,7 @@ fn laid_list(slots: &Slots<Content>, list: ListName) -> ListEnds
 
 /// All lists with their first and last slots.
 fn laid_lists(slots: &Slots<Content>, alloc: Global) -> Result<Vec<ListEnds>, AllocError>
-    ensures { IfOk result (λ lists. lists.items ≡ map (shown_ends slots.now) all_lists) }
+    ensures { IfOk result (λ lists. lists.items ≡ map (shown_ends slots.now.image) all_lists) }
 {
     let mut lists = Vec::new(alloc);
     for list in &ListName::all() {
@@ -90,7 +90,7 @@ fn laid_lists(slots: &Slots<Content>, alloc: Global) -> Result<Vec<ListEnds>, Al
 
 /// The first and the last free slot.
 fn free_ends(slots: &Slots<Content>) -> Ends
-    ensures { result ≡ ends_of (chain slots.now.memory FREE) }
+    ensures { result ≡ ends_of (chain slots.now.image.memory FREE) }
 {
     Ends {
         head: slots.first_free(),

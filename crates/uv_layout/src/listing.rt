@@ -15,7 +15,7 @@ pub fn listed_ids(
     list: ListName,
     alloc: Global,
 ) -> Result<Vec<Id>, AllocError>
-    ensures { IfOk result (λ ids. ids.items ≡ map (id_in slots.now) (members slots.now list)) }
+    ensures { IfOk result (λ ids. ids.items ≡ map (id_in slots.now.image) (members slots.now.image list)) }
 {
     let mut ids = Vec::new(alloc);
     let mut next = slots.first(list);
@@ -28,7 +28,7 @@ pub fn listed_ids(
 
 /// The numbers of the free slots, front first.
 pub fn free_slots(slots: &Slots<Content>, alloc: Global) -> Result<Vec<u32>, AllocError>
-    ensures { IfOk result (λ free. free.items ≡ (plain_slots slots.now).free) }
+    ensures { IfOk result (λ free. free.items ≡ (plain_slots slots.now.image).free) }
 {
     slots.is_sound();
     let mut free = Vec::new(alloc);

@@ -24,6 +24,7 @@ use Rattle.uv_step.specs.Trail.{unwound, DropsOne}
 use Rattle.uv_step.specs.Undo.{CanUnwind}
 use Rattle.uv_step.specs.Fit.{IsFit}
 use Rattle.uv_step.proofs.Trails.{unwound-push, begins_same}
+use Rattle.uv_step.proofs.Rooms.{unwind_still}
 use Rattle.uv_stands.specs.Stands.{StandsFor}
 use Rattle.uv_stands.specs.Doing.{Returns, OfEach}
 use Rattle.uv_order.proofs.Reaching.{reached}
@@ -78,15 +79,27 @@ stand_pop p s room i (x ∷ rs) (y ∷ es) r e l h =
       ),
     )
 
+-- it stands where there is more room
+stand_still : (p : Program) (s : State) (room more : ℕ) (i : Image Place) (rs : List (Record Place)) (es : List Event) → room ≤ more
+    → StandFrom p s room i rs es → StandFrom p s more i rs es
+stand_still p s room more i [] [] grown h = h
+stand_still p s room more i [] (e ∷ es) grown h = absurd h
+stand_still p s room more i (r ∷ rs) [] grown h = absurd h
+stand_still p s room more i (r ∷ rs) (e ∷ es) grown h = (
+  h.0,
+  unwind_still room more grown r (unwound rs i) h.1,
+  h.2,
+  stand_still p (state_of s (next p s e)) room more i rs es grown h.3,
+)
+
 -- ---- what a loop keeps
 
-pub course_begins : (p : Program) (h : Held Place) → IsFit h.image → (arena_size p).slots ≤ h.room → h.image ≡ first_image p
+pub course_begins : (p : Program) (h : Held Place) → IsFit h.image → h.image ≡ first_image p
     → StandsFor (first_image p) (state.fresh p) → IsCourse p [] [] [] h
-course_begins p h fit room is stands = record {
+course_begins p h fit is stands = record {
   few = omega arith;
   seen_is = sym (seen_by-nil p);
   fit = fit;
-  room = room;
   begins = is;
   stand = subst (λ i. StandsFor i (state.fresh p)) (sym is) stands;
 }
@@ -99,6 +112,18 @@ course_stands p es seen rs h c = stand_end p (state.fresh p) h.room h.image rs e
 pub course_length : (p : Program) (es : List Event) (seen : List (Option Seen)) (rs : List (Record Place)) (h : Held Place) → IsCourse p es seen rs h
     → length rs ≡ length es
 course_length p es seen rs h c = stand_length p (state.fresh p) h.room h.image rs es c.stand
+
+-- the heap has more room, and nothing else changed
+pub course_roomier : (p : Program) (es : List Event) (seen : List (Option Seen)) (rs : List (Record Place)) (h k : Held Place)
+    → k.image ≡ h.image → h.room ≤ k.room → IsCourse p es seen rs h → IsCourse p es seen rs k
+course_roomier p es seen rs h k same grown c = record {
+  few = c.few;
+  seen_is = c.seen_is;
+  fit = subst (λ i. IsFit i) (sym same) c.fit;
+  begins = ap (λ i. unwound rs i) same ∙ c.begins;
+  stand = subst (λ i. StandFrom p (state.fresh p) k.room i rs es) (sym same)
+      (stand_still p (state.fresh p) h.room k.room h.image rs es grown c.stand);
+}
 
 is_move : (n : Next) (t : State) (line : Option Seen) → n ≡ Moves t line → IsMove n
 is_move n t line h = rw h tt
@@ -115,7 +140,6 @@ course_added p es seen rs h k r e t line few c d moves stands =
       few = omega (arith, few, length-append es (e ∷ []));
       seen_is = sym (seen_by-moves p es e t line moves ∙ ap (λ ls. ls ++ line ∷ []) (sym c.seen_is));
       fit = d.fit;
-      room = subst (λ n. (arena_size p).slots ≤ n) (sym d.room) c.room;
       begins = begins_same rs r h.image k.image d.back ∙ c.begins;
       stand = stand_push p (state.fresh p) k.room h.image k.image rs es r e before d.back d.can (is_move _ t line moves)
           (subst (λ (n : Next). StandsFor k.image (state_of s n)) (sym moves) stands);
@@ -148,7 +172,6 @@ course_dropped p es seen rs qs h r split c =
         few = omega (arith, c.few, short, long);
         seen_is = ap (take n) c.seen_is ∙ sym (seen_by-take p n es);
         fit = rest.0.fit;
-        room = c.room;
         begins = sym (unwound-push qs r h.image) ∙ ap (λ xs. unwound xs h.image) (sym split) ∙ c.begins;
         stand = rest.1;
       },
@@ -156,16 +179,16 @@ course_dropped p es seen rs qs h r split c =
     )
 
 -- the same steps, held elsewhere
-course_same : (p : Program) (es fs : List Event) (seen lines : List (Option Seen)) (rs qs : List (Record Place)) (h : Held Place)
+pub course_same : (p : Program) (es fs : List Event) (seen lines : List (Option Seen)) (rs qs : List (Record Place)) (h : Held Place)
     → fs ≡ es → lines ≡ seen → qs ≡ rs → IsCourse p es seen rs h → IsCourse p fs lines qs h
 course_same p es fs seen lines rs qs h a b d c =
     subst (λ xs. IsCourse p xs lines qs h) (sym a) (subst (λ xs. IsCourse p es xs qs h) (sym b) (subst (λ xs. IsCourse p es seen xs h) (sym d) c))
 
 -- the loop of a script that has taken no step
 pub course_new : (p : Program) (es : List Event) (seen : List (Option Seen)) (rs : List (Record Place)) (h : Held Place) → es ≡ [] → seen ≡ []
-    → rs ≡ [] → IsFit h.image → (arena_size p).slots ≤ h.room → h.image ≡ first_image p
+    → rs ≡ [] → IsFit h.image → h.image ≡ first_image p
     → StandsFor (first_image p) (state.fresh p) → IsCourse p es seen rs h
-course_new p es seen rs h a b d fit room is stands = course_same p [] es [] seen [] rs h a b d (course_begins p h fit room is stands)
+course_new p es seen rs h a b d fit is stands = course_same p [] es [] seen [] rs h a b d (course_begins p h fit is stands)
 
 pub course_moved : (p : Program) (es fs : List Event) (seen lines : List (Option Seen)) (rs qs : List (Record Place)) (h k : Held Place)
     (r : Record Place) (e : Event) (line : Option Seen) → fs ≡ es ++ e ∷ [] → lines ≡ seen ++ line ∷ [] → qs ≡ rs ++ r ∷ []
@@ -186,11 +209,16 @@ course_shorter p es fs seen lines rs qs h k r split a b image room c =
 
 -- ---- what callers see
 
-abbrev course : Program → List Event → List (Record Place) → Held Place → Course
-course p es rs h = record { program = p; standing = es; walk = record { image = h.image; records = rs } }
+abbrev course : Program → List Event → List (Record Place) → Held Place → ℕ → Course
+course p es rs h n = record { program = p; standing = es; walk = record { image = h.image; records = rs }; pieces = n }
+
+pub course_seen : (p : Program) (es : List Event) (rs : List (Record Place)) (h k : Held Place) (w : Course) {n : ℕ} → k.image ≡ h.image
+    → course p es rs h n ≡ w → course p es rs k n ≡ w
+course_seen p es rs h k w {n} image same =
+    (λ l. record { program = p; standing = es; walk = record { image = image l; records = rs }; pieces = n }) ∙ same
 
 module _ (p : Program) (es : List Event) (seen : List (Option Seen)) (rs : List (Record Place)) (h : Held Place) (w : Course)
-    (same : course p es rs h ≡ w) (c : IsCourse p es seen rs h) where
+    {n : ℕ} (same : course p es rs h n ≡ w) (c : IsCourse p es seen rs h) where
   pub seen_stands : StandsFor w.walk.image (after w.program w.standing)
   seen_stands = subst (λ (x : Course). StandsFor x.walk.image (after x.program x.standing)) same (course_stands p es seen rs h c)
 
@@ -255,16 +283,17 @@ module _ (p : Program) (es : List Event) (seen : List (Option Seen)) (rs : List 
         subst (λ (x : Course). Answers STEPS x.program x.standing e (Err (fault.Refused why)) fs) same
         (few, is, refuses (after p es) (course_stands p es seen rs h c) (reached p es))
 
-  pub drops : (fs : List Event) (qs : List (Record Place)) (r : Record Place) (j : Image Place) → rs ≡ qs ++ r ∷ [] → fs ≡ take (length qs) es
-      → j ≡ unwind r h.image
+  pub drops : (fs : List Event) (qs : List (Record Place)) (r : Record Place) (j : Image Place) (m : ℕ) → rs ≡ qs ++ r ∷ []
+      → fs ≡ take (length qs) es → j ≡ unwind r h.image → m ≡ n
       → (0 < length w.standing) × (fs ≡ take (length w.standing - 1) w.standing) × DropsOne w.walk (record { image = j; records = qs })
-  drops fs qs r j split is back =
+      × (m ≡ w.pieces)
+  drops fs qs r j m split is back kept =
       let long = (course_dropped p es seen rs qs h r split c).2 in
       let less : length qs ≡ length es - 1 = omega (arith, long) in
       let some : 0 < length es = omega (arith, long) in
       subst (λ (x : Course). (0 < length x.standing) × (fs ≡ take (length x.standing - 1) x.standing)
-      × DropsOne x.walk (record { image = j; records = qs })) same
-      (some, is ∙ ap (λ n. take n es) less, record { dropped = r; records = split; back = back })
+      × DropsOne x.walk (record { image = j; records = qs }) × (m ≡ x.pieces)) same
+      (some, is ∙ ap (λ k. take k es) less, record { dropped = r; records = split; back = back }, kept)
 
 -- a finish with the result of the job that the worker runs is the event
 pub answers_event : (p : Program) (es : List Event) (k : ℕ) (job : Work) (r : Result Outcome Fault) (fs : List Event)

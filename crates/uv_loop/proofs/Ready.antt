@@ -1,5 +1,5 @@
 -- What each step of the loop finds in the memory: it follows from the steps that stand.
-use Rattle.std.proofs.Common.{◌≡◌, ◌<◌, ◌^◌, ℕ, List, slice_get, Option, unwrap_or, refl, sym, ap, ◌∙◌, subst, arith}
+use Rattle.std.proofs.Common.{◌≡◌, ◌<◌, ◌≤◌, ◌^◌, ℕ, List, length, slice_get, true, Option, Result, Ok, Err, OnOk, is_ok, unwrap_or, refl, sym, ap, ◌∙◌, subst, arith}
 use Rattle.uv_ids.specs.declared.event.Event.{Event}
 use Rattle.uv_ids.specs.declared.seen.Seen.{Seen}
 use Rattle.uv_ids.specs.declared.seen.Callback.{Callback}
@@ -29,6 +29,11 @@ use Rattle.uv_loop.proofs.Clear.{is_clear}
 use Rattle.uv_loop.proofs.Lasts.{unwound_limits}
 use Rattle.uv_loop.proofs.Courses.{course_stands}
 
+-- what an answer says that is no fault
+pub granted : {T E P : Type 0} (r : Result T E) → OnOk r P → is_ok r ≡ true → P
+granted (Ok x) p e = p
+granted (Err x) p e = cc
+
 -- a count of a name that is small is small in the memory
 count_below : (m : ℕ) (k : Callback) (n : bound.Named) → AreBelow m n.calls → count_of k (named_of n).calls < m
 count_below m callback.Handle n b = b.0
@@ -36,16 +41,14 @@ count_below m callback.After n b = b.1
 count_below m callback.Close n b = b.2
 
 module _ (p : Program) (es : List Event) (seen : List (Option Seen)) (rs : List (Record Place)) (h : Held Place) (c : IsCourse p es seen rs h) where
-  pub course_ready : IsReady h
-  course_ready =
+  pub course_ready : length h.image.arena.memory.row.items ≤ h.room → IsReady h
+  course_ready room =
       let s = after p es in
       let stands : StandsFor h.image s = course_stands p es seen rs h c in
       let able : CanStep s = after_able p es (let few = c.few in omega (arith, few)) in
-      let size : h.image.arena.memory.row.capacity ≡ (arena_size p).slots =
-      sym (ap (λ (n : ℕ × ℕ). n.1) (unwound_limits rs h.image)) ∙ ap (λ (i : Image Place). i.arena.memory.row.capacity) c.begins in
       record {
         fit = c.fit;
-        room = (let room = c.room in omega (arith, room, size));
+        room = room;
         starts = (let small = able.small.starts in let same = stands.next_start in omega (arith, small, same));
         time = (let small = able.small.time in let same = stands.time in omega (arith, small, same));
         line = subst (λ q. line_of q < 2 ^ 63) (sym stands.place) able.small.line;

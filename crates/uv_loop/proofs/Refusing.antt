@@ -1,5 +1,5 @@
 -- What a step of the loop does, by where the memory stands.
-use Rattle.std.proofs.Common.{◌≡◌, ℕ, slice_get, Option, Some, None, IfNone, sym, ap, ◌∙◌}
+use Rattle.std.proofs.Common.{◌≡◌, ℕ, slice_get, Option, Some, None, Result, Ok, Err, IfOk, IfNone, sym, ap, ◌∙◌}
 use Rattle.uv_ids.specs.declared.seen.Seen.{Seen}
 use Rattle.uv_ids.specs.declared.fault.Why.{Why}
 use Rattle.uv_ids.specs.declared.event.Event.TheVariants.{Loop}
@@ -30,6 +30,12 @@ module _ (p : Program) (i : Image Place) (s : State) (h : StandsFor i s) where
 pub turns_by : (f g : State → Next) (r : Record Place) (h k : Held Place) (line : Option Seen)
     → ((s : State) → StandsFor h.image s → g s ≡ f s) → Turns f r h k line → Turns g r h k line
 turns_by f g r h k line same t = (t.0, λ s stands reached. let q = t.1 s stands reached in (q.0, same s stands ∙ q.1, q.2))
+
+-- the same where it may want memory
+pub turns_where : {E : Type 0} (f g : State → Next) (r : Record Place) (h k : Held Place) (o : Result (Option Seen) E)
+    → ((s : State) → StandsFor h.image s → g s ≡ f s) → IfOk o (λ line. Turns f r h k line) → IfOk o (λ line. Turns g r h k line)
+turns_where f g r h k (Ok line) same t = turns_by f g r h k line same t
+turns_where f g r h k (Err fault) same t = tt
 
 -- a step is refused so, or taken, by why it is refused
 pub refuses_by : (n : Next) (why : Why) → refusal_of n ≡ Some why → n ≡ Refuses why

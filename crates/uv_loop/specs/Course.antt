@@ -19,11 +19,13 @@ use Rattle.uv_step.specs.Fit.{IsFit}
 use Rattle.uv_stands.specs.Stands.{StandsFor}
 use Rattle.uv_stands.specs.Doing.{Goes}
 
--- what a loop is seen as: its script, its standing steps, and the memory with a record for each of them
+-- what a loop is seen as: its script, its standing steps, the memory with a record for each of them, and for how many slots there are
+-- pieces, which are no part of the memory's image
 pub record Course : Type 0 where
   pub program : Program
   pub standing : List Event
   pub walk : Walk Place
+  pub pieces : ℕ
 
 -- the memory in which a script begins
 abbrev pub first_image : Program → Image Place
@@ -47,8 +49,6 @@ pub record IsCourse (p : Program) (es : List Event) (seen : List (Option Seen)) 
   pub few : length es ≤ STEPS
   pub seen_is : seen ≡ seen_by p es
   pub fit : IsFit h.image
-  -- the heap has room for the timer of each slot
-  pub room : (arena_size p).slots ≤ h.room
   -- unwinding all records, the last one first, gives the memory in which the script begins
   pub begins : unwound rs h.image ≡ first_image p
   pub stand : StandFrom p (state.fresh p) h.room h.image rs es
@@ -58,7 +58,8 @@ abbrev pub Adds : Result Outcome Fault → Course → Course → Type 0
 Adds (Ok outcome) old new = AddsOne old.walk new.walk
 Adds (Err fault) old new = new ≡ old
 
--- the last step is taken back by its record, which is dropped; false comes only where no step stands
+-- the last step is taken back by its record, which is dropped, and the pieces stay; false comes only where no step stands
 abbrev pub Drops : Bool → Course → Course → Type 0
 Drops true old new = (0 < length old.standing) × (new.standing ≡ take (length old.standing - 1) old.standing) × DropsOne old.walk new.walk
+    × (new.pieces ≡ old.pieces)
 Drops false old new = (old.standing ≡ []) × (new ≡ old)

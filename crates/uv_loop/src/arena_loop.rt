@@ -1,5 +1,5 @@
 //! The loop over one memory.
-ghost use Rattle.std.specs.Prelude.{◌≡◌, ◌≤◌, IfOk, length};
+ghost use Rattle.std.specs.Prelude.{◌≡◌, IfOk, length};
 ghost use Rattle.uv_script.specs.Program.{arena_size};
 ghost use Rattle.uv_model.specs.After.{after};
 ghost use Rattle.uv_step.specs.Fit.{IsFit};
@@ -18,27 +18,21 @@ use uv_step::{Memory, Record};
 // A record of a step has at most 31 words.
 const _: () = prove!(std::mem::size_of::<Record<Place>>() <= 248);
 
-/// The memory in which a script begins. The heap has room for the timer of each slot from the first, so no step of the loop wants
-/// memory for it.
+/// The memory in which a script begins.
 pub(crate) fn fresh_memory(alloc: Global, script: &Script) -> Result<Memory<Place>, AllocError>
     ensures image { IfOk result (λ m. (held m).image ≡ first_image script.now) }
     ensures fit { IfOk result (λ m. IsFit (held m).image) }
-    ensures room { IfOk result (λ m. (arena_size script.now).slots ≤ (held m).room) }
 {
     let size = script.arena_size();
     let names = script.names().len();
-    let mut memory = Memory::new(
+    Memory::new(
         alloc,
         Place::Main(0),
         names,
         size.slots,
         size.last_generation,
         script.workers(),
-    )?;
-    if size.slots > 0 {
-        memory.reserve(size.slots - 1)?;
-    }
-    Ok(memory)
+    )
 }
 
 /// A loop over one memory, with a record for each of its steps that takes the step back.
@@ -61,6 +55,7 @@ impl Model for ArenaLoop {
       program = a.script;
       standing = events_of a.steps.seen.items;
       walk = record { image = (held a.memory).image; records = a.steps.records.items };
+      pieces = a.memory.slots.room;
     } };
 
     ghost invariant = { λ a. IsCourse a.script (events_of a.steps.seen.items) a.steps.seen.items a.steps.records.items (held a.memory) };

@@ -1,13 +1,15 @@
 //! The ops of bodies and of the main program.
-ghost use Rattle.std.specs.Prelude.{◌≡◌, ◌<◌, ◌^◌, None, Some, IfSome, is_some, true, slice_get};
+ghost use Rattle.std.specs.Prelude.{◌≡◌, ◌<◌, ◌^◌, None, Some, IfSome, IfOk, IfErr, is_some, true, slice_get};
 ghost use Rattle.uv_script.specs.Program.{Program, lines_in, order_of};
 ghost use Rattle.uv_model.specs.declared.place.Body.{Body};
 ghost use Rattle.uv_model.specs.Next.{body_step, main_step};
 ghost use Rattle.uv_step.specs.Image.{held};
 ghost use Rattle.uv_stands.specs.Doing.{Returns};
 ghost use Rattle.uv_stands.specs.Ready.{IsReady};
+ghost use Rattle.uv_ops.specs.Wanting.{WantsPiece};
 ghost use Rattle.uv_loop.specs.Turning.{Turns, PerformsAt};
 
+use std::alloc::AllocError;
 use uv_ids::{Answer, Seen, Site};
 use uv_model::{Body, Place, Run, body_from};
 use uv_ops::perform;
@@ -16,14 +18,15 @@ use uv_sections::{begin_run, stand_at};
 use uv_step::Memory;
 
 /// Does an op, after which the loop is at this place.
-fn perform_at(memory: &mut Memory<Place>, op: Op, place: Place) -> Answer
+fn perform_at(memory: &mut Memory<Place>, op: Op, place: Place) -> Result<Answer, AllocError>
     requires ready { IsReady (held memory.old) }
-    ensures returns { Returns memory.new.step_record (held memory.old) (held memory.new) }
-    ensures performs { PerformsAt op place (held memory.old).image (held memory.new).image result }
+    ensures returns { IfOk result (λ _. Returns memory.new.step_record (held memory.old) (held memory.new)) }
+    ensures performs { IfOk result (λ answer. PerformsAt op place (held memory.old).image (held memory.new).image answer) }
+    ensures memory { IfErr result (λ _. WantsPiece memory.old memory.new) }
 {
-    let answer = perform(memory, op);
+    let answer = perform(memory, op)?;
     stand_at(memory, place);
-    answer
+    Ok(answer)
 }
 
 /// The body under way is over.
@@ -52,41 +55,47 @@ pub(crate) fn in_body(
     script: &Script,
     run: Run,
     body: Body,
-) -> Option<Seen>
+) -> Result<Option<Seen>, AllocError>
     requires ready { IsReady (held memory.old) }
-    ensures turns { Turns
+    ensures turns { IfOk result (λ line. Turns
         (λ s. body_step script.now s run body (slice_get (lines_in script.now body.callback body.name) body.next))
-        memory.new.step_record (held memory.old) (held memory.new) result }
+        memory.new.step_record (held memory.old) (held memory.new) line) }
+    ensures memory { IfErr result (λ _. WantsPiece memory.old memory.new) }
 {
     match line_of(script, body) {
         None => {
             leave_body(memory, run);
-            None
+            Ok(None)
         }
         Some(line) => {
             let rest = body_from(script, body.callback, body.name, body.call, body.next + 1);
             let place = Place::Running(Run { body: rest, ..run });
-            let answer = perform_at(memory, line.op, place);
+            let answer = perform_at(memory, line.op, place)?;
             let site = Site::In(body.callback, body.name, body.next);
-            Some(Seen::Op(site, answer))
+            Ok(Some(Seen::Op(site, answer)))
         }
     }
 }
 
 /// The main program does its next line.
-pub(crate) fn in_main(memory: &mut Memory<Place>, script: &Script, line: usize) -> Option<Seen>
+pub(crate) fn in_main(
+    memory: &mut Memory<Place>,
+    script: &Script,
+    line: usize,
+) -> Result<Option<Seen>, AllocError>
     requires ready { IsReady (held memory.old) }
     requires line { line < 2 ^ 63 }
     requires may { is_some (slice_get script.now.main line) ≡ true }
-    ensures turns { Turns (λ s. main_step (order_of script.now) s line (slice_get script.now.main line))
-        memory.new.step_record (held memory.old) (held memory.new) result }
+    ensures turns { IfOk result (λ seen. Turns (λ s. main_step (order_of script.now) s line (slice_get script.now.main line))
+        memory.new.step_record (held memory.old) (held memory.new) seen) }
+    ensures memory { IfErr result (λ _. WantsPiece memory.old memory.new) }
 {
     match script.main_op(line) {
         None => unreachable!(),
-        Some(MainOp::Run(mode)) => Some(begin_run(memory, script, line, mode)),
+        Some(MainOp::Run(mode)) => Ok(Some(begin_run(memory, script, line, mode))),
         Some(MainOp::Op(op)) => {
-            let answer = perform_at(memory, op, Place::Main(line + 1));
-            Some(Seen::Op(Site::Main(line), answer))
+            let answer = perform_at(memory, op, Place::Main(line + 1))?;
+            Ok(Some(Seen::Op(Site::Main(line), answer)))
         }
     }
 }

@@ -1,28 +1,31 @@
 //! The loop does its next step.
-ghost use Rattle.std.specs.Prelude.{◌≡◌, ◌<◌, ◌^◌};
+ghost use Rattle.std.specs.Prelude.{◌≡◌, ◌<◌, ◌^◌, IfOk, IfErr};
 ghost use Rattle.uv_ids.specs.declared.event.Event.TheVariants.{Loop};
 ghost use Rattle.uv_model.specs.Next.{run_step, next};
 ghost use Rattle.uv_script.specs.Program.{arena_size};
 ghost use Rattle.uv_step.specs.Image.{held};
 ghost use Rattle.uv_stands.specs.Ready.{IsReady};
+ghost use Rattle.uv_ops.specs.Wanting.{WantsPiece};
 ghost use Rattle.uv_loop.specs.Acting.{MayAt, MayIn};
 ghost use Rattle.uv_loop.specs.Begins.{IsClear, IsClearIn};
 ghost use Rattle.uv_loop.specs.Turning.{Turns};
 
 use crate::bodies::{in_body, in_main};
 use crate::staging::in_stage;
+use std::alloc::AllocError;
 use uv_ids::Seen;
 use uv_model::{Place, Run};
 use uv_script::Script;
 use uv_step::Memory;
 
 /// The loop does its next step.
-pub(crate) fn turn(memory: &mut Memory<Place>, script: &Script) -> Option<Seen>
+pub(crate) fn turn(memory: &mut Memory<Place>, script: &Script) -> Result<Option<Seen>, AllocError>
     requires ready { IsReady (held memory.old) }
     requires last { (held memory.old).image.arena.last ≡ (arena_size script.now).last_generation }
     requires clear { IsClear (held memory.old).image }
     requires may { MayAt script.now (held memory.old).image.place (held memory.old).image }
-    ensures turns { Turns (λ s. next script.now s Loop) memory.new.step_record (held memory.old) (held memory.new) result }
+    ensures turns { IfOk result (λ line. Turns (λ s. next script.now s Loop) memory.new.step_record (held memory.old) (held memory.new) line) }
+    ensures memory { IfErr result (λ _. WantsPiece memory.old memory.new) }
 {
     match memory.place {
         Place::Main(line) => in_main(memory, script, line),
@@ -31,16 +34,18 @@ pub(crate) fn turn(memory: &mut Memory<Place>, script: &Script) -> Option<Seen>
 }
 
 /// The run under way goes on.
-fn in_run(memory: &mut Memory<Place>, script: &Script, run: Run) -> Option<Seen>
+fn in_run(memory: &mut Memory<Place>, script: &Script, run: Run) -> Result<Option<Seen>, AllocError>
     requires ready { IsReady (held memory.old) }
     requires last { (held memory.old).image.arena.last ≡ (arena_size script.now).last_generation }
     requires line { run.line < 2 ^ 63 }
     requires clear { IsClearIn run.body run.stage (held memory.old).image.arena }
     requires may { MayIn run.body run.stage (held memory.old).image }
-    ensures turns { Turns (λ s. run_step script.now s run run.body) memory.new.step_record (held memory.old) (held memory.new) result }
+    ensures turns { IfOk result (λ line. Turns (λ s. run_step script.now s run run.body)
+        memory.new.step_record (held memory.old) (held memory.new) line) }
+    ensures memory { IfErr result (λ _. WantsPiece memory.old memory.new) }
 {
     match run.body {
-        None => in_stage(memory, script, run),
+        None => Ok(in_stage(memory, script, run)),
         Some(body) => in_body(memory, script, run, body),
     }
 }

@@ -65,8 +65,13 @@ impl Machine for ArenaLoop {
         if self.steps.reserve().is_err() {
             return Err(Fault::Memory);
         }
-        let seen = act(&mut self.memory, &self.script, event);
-        self.steps.push(seen, self.memory.step_record);
+        if self.memory.reserve().is_err() {
+            return Err(Fault::Memory);
+        }
+        let Ok(seen) = act(&mut self.memory, &self.script, event) else {
+            return Err(Fault::Memory);
+        };
+        self.steps.push(seen, &self.memory.step_record);
         Ok(Outcome { seen })
     }
 
@@ -91,7 +96,7 @@ impl Machine for ArenaLoop {
         }
         let line = finish_work(&mut self.memory, worker, id, request, work);
         let seen = Some(line);
-        self.steps.push(seen, self.memory.step_record);
+        self.steps.push(seen, &self.memory.step_record);
         Ok(Outcome { seen })
     }
 
@@ -102,10 +107,11 @@ impl Machine for ArenaLoop {
         ensures ok { IsOk result }
         ensures drops { IfOk result (λ was. Drops was self.old self.new) }
     {
-        let Some(step_record) = self.steps.pop() else {
+        let Some(step_record) = self.steps.last() else {
             return Ok(false);
         };
         self.memory.unwind(step_record);
+        self.steps.drop_last();
         Ok(true)
     }
 

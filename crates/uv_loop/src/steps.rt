@@ -1,5 +1,5 @@
 //! The steps that stand.
-ghost use Rattle.std.specs.Prelude.{◌≡◌, ◌++◌, ◌∷◌, [], OnOk, IfSome, IfNone, length, take};
+ghost use Rattle.std.specs.Prelude.{◌≡◌, ◌-◌, ◌++◌, ◌∷◌, [], OnOk, IfSome, IfNone, length, take};
 ghost use Rattle.uv_loop.specs.Taken.{HasRoom, AreSame, IsOneMore};
 
 use std::alloc::{AllocError, Global};
@@ -36,23 +36,30 @@ impl<P: Copy> Steps<P> {
     }
 
     /// One more. It takes no memory.
-    pub(crate) fn push(&mut self, line: Option<Seen>, step_record: Record<P>)
+    pub(crate) fn push(&mut self, line: Option<Seen>, step_record: &Record<P>)
         requires { HasRoom self.old }
-        ensures { IsOneMore self.old self.new line step_record }
+        ensures { IsOneMore self.old self.new line step_record.now }
     {
         self.seen.push_reserved(line);
-        self.records.push_reserved(step_record);
+        self.records.push_reserved(*step_record);
     }
 
-    /// The last one goes: what takes it back.
-    pub(crate) fn pop(&mut self) -> Option<Record<P>>
-        ensures some { IfSome result (λ r. self.old.records.items ≡ self.new.records.items ++ r ∷ []) }
-        ensures seen { IfSome result (λ r. self.new.seen.items ≡ take (length self.new.records.items) self.old.seen.items) }
-        ensures none { IfNone result ((self.old.records.items ≡ []) × AreSame self.old self.new) }
+    /// What takes the last one back, if there is one.
+    pub(crate) fn last(&self) -> Option<&Record<P>>
+        ensures some { IfSome result (λ r. self.now.records.items
+            ≡ take (length self.now.records.items - 1) self.now.records.items ++ r.now ∷ []) }
+        ensures none { IfNone result (self.now.records.items ≡ []) }
     {
-        let step_record = self.records.pop()?;
-        let shorter = self.records.len();
+        self.records.last()
+    }
+
+    /// The last one goes.
+    pub(crate) fn drop_last(&mut self)
+        ensures records { self.new.records.items ≡ take (length self.old.records.items - 1) self.old.records.items }
+        ensures seen { self.new.seen.items ≡ take (length self.new.records.items) self.old.seen.items }
+    {
+        let shorter = self.records.len().saturating_sub(1);
+        self.records.truncate(shorter);
         self.seen.truncate(shorter);
-        Some(step_record)
     }
 }

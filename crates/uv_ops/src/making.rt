@@ -1,12 +1,15 @@
 //! Handles are made and requests queued, and names bound to them.
-ghost use Rattle.std.specs.Prelude.{◌≡◌};
+ghost use Rattle.std.specs.Prelude.{◌≡◌, IfOk, IfErr};
 ghost use Rattle.uv_script.specs.declared.op.Op.TheVariants as op;
 ghost use Rattle.uv_script.specs.Tasks.{text_of};
 ghost use Rattle.uv_work.specs.Requests.{queued};
 ghost use Rattle.uv_step.specs.Image.{held};
 ghost use Rattle.uv_stands.specs.Doing.{Performs, Returns};
 ghost use Rattle.uv_stands.specs.Ready.{IsReady};
+ghost use Rattle.uv_ops.specs.Wanting.{WantsPiece};
 
+use std::alloc::AllocError;
+use uv_arena::InsertFault;
 use uv_ids::{Answer, Code, Kind, Var};
 use uv_model::Place;
 use uv_script::Task;
@@ -14,25 +17,28 @@ use uv_stands::{bind_name, is_live};
 use uv_step::Memory;
 use uv_work::RequestRecord;
 
-/// Makes a handle, to which the name is bound (uv_timer_init and the like).
-pub fn init(memory: &mut Memory<Place>, name: Var, kind: Kind) -> Answer
+/// Makes a handle, to which the name is bound (uv_timer_init and the like). Where there is no memory for its slot it makes none, and the
+/// answer isn't that there is no slot.
+pub fn init(memory: &mut Memory<Place>, name: Var, kind: Kind) -> Result<Answer, AllocError>
     requires { IsReady (held memory.old) }
-    ensures returns { Returns memory.new.step_record (held memory.old) (held memory.new) }
-    ensures performs { Performs (op.Init name kind) (held memory.old).image (held memory.new).image result }
+    ensures returns { IfOk result (λ _. Returns memory.new.step_record (held memory.old) (held memory.new)) }
+    ensures performs { IfOk result (λ answer. Performs (op.Init name kind) (held memory.old).image (held memory.new).image answer) }
+    ensures memory { IfErr result (λ _. WantsPiece memory.old memory.new) }
 {
     if is_live(memory, name) {
         memory.step_record = memory.pass();
-        return Answer::Code(Code::Ebound);
+        return Ok(Answer::Code(Code::Ebound));
     }
     match memory.init(name, kind) {
-        Err(_) => {
+        Err(InsertFault::Memory) => Err(AllocError),
+        Err(InsertFault::Full) => {
             memory.step_record = memory.pass();
-            Answer::Code(Code::Efull)
+            Ok(Answer::Code(Code::Efull))
         }
         Ok(id) => {
             memory.slots.is_sound();
             bind_name(memory, name, id);
-            Answer::Id(id)
+            Ok(Answer::Id(id))
         }
     }
 }
@@ -47,26 +53,28 @@ fn request_of(name: Var, task: &Task) -> RequestRecord
     }
 }
 
-/// Asks a worker to do a task, for which the name is bound to a request (uv_queue_work).
-pub fn queue(memory: &mut Memory<Place>, name: Var, task: Task) -> Answer
+/// Asks a worker to do a task, for which the name is bound to a request (uv_queue_work). It wants memory as `init` does.
+pub fn queue(memory: &mut Memory<Place>, name: Var, task: Task) -> Result<Answer, AllocError>
     requires { IsReady (held memory.old) }
-    ensures returns { Returns memory.new.step_record (held memory.old) (held memory.new) }
-    ensures performs { Performs (op.Queue name task) (held memory.old).image (held memory.new).image result }
+    ensures returns { IfOk result (λ _. Returns memory.new.step_record (held memory.old) (held memory.new)) }
+    ensures performs { IfOk result (λ answer. Performs (op.Queue name task) (held memory.old).image (held memory.new).image answer) }
+    ensures memory { IfErr result (λ _. WantsPiece memory.old memory.new) }
 {
     if is_live(memory, name) {
         memory.step_record = memory.pass();
-        return Answer::Code(Code::Ebound);
+        return Ok(Answer::Code(Code::Ebound));
     }
     let request = request_of(name, &task);
     match memory.queue(request) {
-        Err(_) => {
+        Err(InsertFault::Memory) => Err(AllocError),
+        Err(InsertFault::Full) => {
             memory.step_record = memory.pass();
-            Answer::Code(Code::Efull)
+            Ok(Answer::Code(Code::Efull))
         }
         Ok(id) => {
             memory.slots.is_sound();
             bind_name(memory, name, id);
-            Answer::Id(id)
+            Ok(Answer::Id(id))
         }
     }
 }

@@ -1,5 +1,5 @@
 -- The front of a list, in the memory and in the state.
-use Rattle.std.proofs.Common.{◌≡◌, [], map, Option, Some, None, option_map, option_and_then, refl, sym, ap, ◌∙◌}
+use Rattle.std.proofs.Common.{◌≡◌, [], map, Option, Some, None, option_map, option_and_then, inl, inr, refl, sym, ap, ◌∙◌}
 use Rattle.uv_ids.specs.declared.id.Id.{Id}
 use Rattle.uv_records.specs.declared.handle.HandleRecord.{HandleRecord}
 use Rattle.uv_records.specs.declared.lists.ListName.{ListName}
@@ -15,6 +15,7 @@ use Rattle.uv_model.specs.Content as model
 use Rattle.uv_model.specs.State.{State, with_id, handle, front, front_request}
 use Rattle.uv_model.specs.Queries.{members}
 use Rattle.uv_step.specs.Content.{handle_in}
+use Rattle.uv_step.specs.Does.{NoHandleFirst}
 use Rattle.uv_step.specs.Image.{Image}
 use Rattle.uv_stands.specs.Contents.{content_of}
 use Rattle.uv_stands.specs.Stands.{StandsFor}
@@ -37,3 +38,8 @@ module _ (i : Image Place) (s : State) (h : StandsFor i s) where
 
     pub front_is : (d : Id) (o : Option HandleRecord) → IsFirst i.arena l d → record_at handle_in i.arena d ≡ o → front s (members s l) ≡ with_id d o
     front_is d o first e = ap (front s) (front_there i s l d h first) ∙ ap (with_id d) (handle_there d ∙ e)
+
+    -- it is empty, or its front is no handle
+    pub none_first : NoHandleFirst i.arena l → front s (members s l) ≡ None
+    none_first (inl e) = ap (front s) (h.lists l ∙ ap (map (id_in i.arena)) e)
+    none_first (inr f) = front_is f.0 None f.1 f.2

@@ -1,5 +1,5 @@
 -- The front of those that a section has yet to run moves to the end of its list: what the memory stands for then.
-use Rattle.std.proofs.Common.{◌≡◌, ◌≢◌, ◌++◌, ◌∷◌, [], ℕ, Bool, true, false, map, drop, Some, refl, sym, ap, ◌∙◌}
+use Rattle.std.proofs.Common.{◌≡◌, ◌≢◌, ◌++◌, ◌∷◌, [], ℕ, Bool, true, false, map, drop, Some, None, refl, sym, ap, ◌∙◌}
 use Rattle.std.proofs.lemmas.List.{map-set, map-append}
 use Rattle.uv_ids.specs.declared.id.Id.{Id}
 use Rattle.uv_records.specs.declared.handle.HandleRecord.{HandleRecord}
@@ -30,7 +30,7 @@ use Rattle.uv_step.specs.declared.content.Content.TheVariants.{Handle}
 use Rattle.uv_step.specs.declared.record.Change.TheVariants as change
 use Rattle.uv_step.specs.declared.record.Record.{Record}
 use Rattle.uv_step.specs.Content.{handle_in}
-use Rattle.uv_step.specs.Does.{FirstIs}
+use Rattle.uv_step.specs.Does.{FirstIs, NoHandleFirst}
 use Rattle.uv_step.specs.Image.{Image, Held, counted_of}
 use Rattle.uv_step.specs.Undo.{Recorded}
 use Rattle.uv_stands.specs.Contents.{slot_of, slots_of}
@@ -39,7 +39,7 @@ use Rattle.uv_stands.proofs.Holding.{ids_kept}
 use Rattle.uv_stands.proofs.Lists.{Listed, all_but_two, beside_lists}
 use Rattle.uv_stands.proofs.Pools.{ids_moved, front_there, first_one}
 use Rattle.uv_sections.specs.Moved.{HandleMoved, moved_state}
-use Rattle.uv_sections.proofs.Firsts.{front_is}
+use Rattle.uv_sections.proofs.Firsts.{front_is, none_first}
 use Rattle.uv_sections.proofs.Keeping.{KeepsState, walked_keeps, walked_time, all_timers, listed_as, stands_then}
 use Rattle.uv_sections.proofs.Watched.{list_is, yet_is, list_now, yet_now, others_stay, arena_stays, time_stays, state_stays}
 
@@ -49,6 +49,11 @@ calls_all watcher.Idle r ne = refl
 calls_all watcher.Prepare r ne = refl
 calls_all watcher.Check r ne = refl
 calls_all watcher.Async r ne = absurd (ne refl)
+
+-- none is yet to run
+pub none_moves : (i : Image Place) (s : State) → StandsFor i s → (w : WatcherKind) → NoHandleFirst i.arena (yet_of w)
+    → front s (watched s w).yet ≡ None
+none_moves i s h w none = ap (front s) (sym (yet_is s w)) ∙ none_first i s h (yet_of w) none
 
 module _ (r : Record Place) (h k : Held Place) (recorded : Recorded r h k) (sound : IsSound k.image.arena) (w : WatcherKind) (e : Id) (pending : Bool)
     (u : WalkUndo) (is : r.change ≡ change.Walked u) (c : IsMovedOn handle_in Handle (counted_of h.image) (counted_of k.image) w e pending u) where

@@ -11,7 +11,6 @@ ghost use Rattle.uv_stands.specs.Ready.{IsReady};
 ghost use Rattle.uv_sections.specs.Moved.{HandleMoved};
 
 use crate::calling::begin_body;
-use crate::fronts::front_handle;
 use crate::standing::stand_in;
 use uv_ids::{Callback, Id, Seen};
 use uv_model::{Place, Run, Stage};
@@ -29,15 +28,12 @@ fn move_on(memory: &mut Memory<Place>, kind: WatcherKind) -> Option<(Id, HandleR
     ensures same { IfNone result (held memory.new ≡ held memory.old) }
     ensures none { IfNone result (OfEach (held memory.old).image (λ s. front s (watched s kind).yet ≡ None)) }
 {
-    match front_handle(memory, kind.yet()) {
+    match memory.walk(kind) {
         None => None,
-        Some((id, handle)) => match memory.walk(kind) {
-            None => None,
-            Some((_, pending)) => {
-                memory.slots.is_sound();
-                Some((id, handle, pending))
-            }
-        },
+        Some((id, handle, pending)) => {
+            memory.slots.is_sound();
+            Some((id, handle, pending))
+        }
     }
 }
 

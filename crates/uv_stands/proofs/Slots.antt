@@ -3,7 +3,7 @@ use Rattle.std.proofs.Common.{◌≡◌, ℕ, zero, suc, ◌+◌, ◌<◌, ◌||
 use Rattle.std.specs.List.{list_any}
 use Rattle.uv_records.specs.declared.slot.Slot.{Slot}
 use Rattle.uv_arena.specs.declared.links.Cell.{Cell}
-use Rattle.uv_arena.specs.declared.memory.Memory.{Memory}
+use Rattle.uv_arena.specs.Image.{Memory}
 use Rattle.uv_arena.specs.Image.{held_slots, slot_at, slot_in}
 use Rattle.uv_step.specs.declared.content.Content.{Content}
 use Rattle.uv_records.specs.Slots as plain

@@ -1,5 +1,5 @@
--- What each step of the loop finds in the memory: its numbers fit their types and can go on, and the heap has room for every slot.
-use Rattle.std.specs.Prelude.{◌≡◌, ◌<◌, ◌≤◌, ◌^◌, ℕ, Some, None, false}
+-- What each step of the loop finds in the memory: its numbers fit their types and can go on, and the heap has room for every used slot.
+use Rattle.std.specs.Prelude.{◌≡◌, ◌<◌, ◌≤◌, ◌^◌, ℕ, Some, None, false, length}
 use Rattle.uv_ids.specs.declared.id.Id.{Id}
 use Rattle.uv_ids.specs.declared.seen.Callback.{Callback}
 use Rattle.uv_records.specs.declared.handle.HandleRecord.{HandleRecord}
@@ -15,8 +15,8 @@ use Rattle.uv_step.specs.Names.{named, count_of}
 
 pub record IsReady (h : Held Place) : Type 0 where
   pub fit : IsFit h.image
-  -- the heap has room for the timer of each slot
-  pub room : h.image.arena.memory.row.capacity ≤ h.room
+  -- the heap has room for the timer of each slot that is used
+  pub room : length h.image.arena.memory.row.items ≤ h.room
   pub starts : h.image.times.next_start < 2 ^ 63
   pub time : h.image.times.time < 2 ^ 63
   pub line : line_of h.image.place < 2 ^ 63

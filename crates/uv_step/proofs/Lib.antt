@@ -5,3 +5,4 @@ pub mod Fits
 pub mod Rows
 pub mod Steps
 pub mod Trails
+pub mod Rooms

@@ -60,7 +60,7 @@ use Rattle.uv_step.proofs.Counting.{count_moved, count_pushed, count_unlinked, c
 use Rattle.uv_step.proofs.Fits.{work_changed, work_delisted, work_pushed, work_enlisted, work_collected, work_walked, work_freed, work_spliced, other, list_not, yet_not}
 
 -- two firsts of one list are one
-first_there : (i : arena.Image Content) (l : ListName) (d e : Id) (h : HandleRecord) → FirstIs i l e h → IsFirst i l d
+pub first_there : (i : arena.Image Content) (l : ListName) (d e : Id) (h : HandleRecord) → FirstIs i l e h → IsFirst i l d
     → record_at handle_in i d ≡ Some h
 first_there i l d e h f g =
     let slot : d.slot ≡ e.slot = cc (f.first.is, g.is) in

@@ -42,7 +42,7 @@ module _ {P : Type 0} where
   image_of m = record {
     place = m.place;
     names = m.names.items;
-    arena = m.slots;
+    arena = m.slots.image;
     active = m.handles;
     running = m.requests;
     heap = m.heap.array;
@@ -55,9 +55,9 @@ module _ {P : Type 0} where
   abbrev pub held : Memory P → Held P
   held m = record { image = image_of m; room = m.heap.room }
 
-  -- nothing of it changed, and what takes the last step back is the same
+  -- nothing of it changed, what takes the last step back is the same, and so is how many slots there is memory for
   abbrev pub Untouched : Memory P → Memory P → Type 0
-  Untouched old new = (held new ≡ held old) × (new.step_record ≡ old.step_record)
+  Untouched old new = (held new ≡ held old) × (new.step_record ≡ old.step_record) × (new.slots.room ≡ old.slots.room)
 
   -- what the calls of handles see and change
   abbrev pub counted_of : Image P → Counted Content

@@ -1,9 +1,8 @@
 //! Handles are made, changed and closed.
-ghost use Rattle.std.specs.Prelude.{◌≡◌, Option, Some, None, IfOk, IfErr};
+ghost use Rattle.std.specs.Prelude.{◌≡◌, ◌≤◌, Option, Some, None, IfOk, IfErr};
 ghost use Rattle.uv_records.specs.Handles.{referenced_as, repeating, sent};
 ghost use Rattle.uv_records.specs.Refusals.{refusal, no_refusal, timer_refusal, send_refusal, close_refusal};
-ghost use Rattle.uv_records.specs.Slots.{next_free};
-ghost use Rattle.uv_arena.specs.Image.{plain_slots};
+ghost use Rattle.uv_arena.specs.Calls.{RefusesInsert};
 ghost use Rattle.uv_handle.specs.Counted.{found, record_at};
 ghost use Rattle.uv_handle.specs.Changes.{Did};
 ghost use Rattle.uv_step.specs.declared.content.Content.TheVariants.{Handle as handle};
@@ -16,7 +15,7 @@ ghost use Rattle.uv_step.specs.Does.{By, IsMade, IsShut, changed, moved_by};
 
 use crate::memory::Memory;
 use crate::record::{Added, Change};
-use uv_arena::Full;
+use uv_arena::InsertFault;
 use uv_handle::handle_at;
 use uv_ids::{Code, Id, Kind, Var};
 use uv_records::{HandleRecord, ListName};
@@ -24,16 +23,18 @@ use uv_timer::{reschedule, set_repeat};
 use uv_watch::send;
 
 impl<P: Copy> Memory<P> {
-    /// Makes a handle (uv_timer_init and the like). An async one goes to the end of its list.
-    pub fn init(&mut self, name: Var, kind: Kind) -> Result<Id, Full>
+    /// Makes a handle (uv_timer_init and the like). An async one goes to the end of its list. It takes memory where the piece of the
+    /// handle's slot isn't there yet, before it changes anything.
+    pub fn init(&mut self, name: Var, kind: Kind) -> Result<Id, InsertFault>
         requires fit { IsFit (held self.old).image }
         ensures recorded { IfOk result (λ _. Recorded self.new.step_record (held self.old) (held self.new)) }
         ensures made { IfOk result (λ id. By added (λ u. IsMade
             (counted_of (held self.old).image) (counted_of (held self.new).image) name kind id u) self.new.step_record.change) }
-        ensures full { IfErr result (λ _. (next_free (plain_slots (held self.old).image.arena) ≡ None) × Untouched self.old self.new) }
+        ensures pieces { self.old.slots.room ≤ self.new.slots.room }
+        ensures err { IfErr result (λ fault. RefusesInsert fault self.old.slots × Untouched self.old self.new) }
     {
         match self.handles.add(&mut self.slots, name, kind) {
-            Err(full) => Err(full),
+            Err(fault) => Err(fault),
             Ok((id, added)) => {
                 if kind == Kind::Async {
                     self.slots.push_back(ListName::Async, id);

@@ -1,5 +1,5 @@
 //! The memory of a loop.
-ghost use Rattle.std.specs.Prelude.{◌≡◌, ◌<◌, ◌≤◌, IfOk, OnOk, OnErr};
+ghost use Rattle.std.specs.Prelude.{◌≡◌, ◌<◌, ◌≤◌, IfOk, OnOk, OnErr, length};
 ghost use Rattle.uv_arena.specs.Image.{IsSound};
 ghost use Rattle.uv_heap.specs.Array.{IsHeap, SlotsDiffer};
 ghost use Rattle.uv_step.specs.Image.{held, fresh};
@@ -77,15 +77,21 @@ impl<P: Copy> Memory<P> {
         })
     }
 
-    /// Makes room on the heap for the timer of a slot. No other call takes memory.
-    pub fn reserve(&mut self, slot: u32) -> Result<(), AllocError>
+    /// Makes room on the heap for the timer of each slot that is used. Room stays, so where no slot was used for the first time
+    /// since, it is there.
+    pub fn reserve(&mut self) -> Result<(), AllocError>
         ensures image { (held self.new).image ≡ (held self.old).image }
+        ensures pieces { self.new.slots.room ≡ self.old.slots.room }
         ensures same { self.new.step_record ≡ self.old.step_record }
-        ensures ok { OnOk result (slot < (held self.new).room) }
+        ensures ok { OnOk result (length (held self.new).image.arena.memory.row.items ≤ (held self.new).room) }
         ensures kept { (held self.old).room ≤ (held self.new).room }
-        ensures wanted { OnErr result ((held self.old).room ≤ slot) }
+        ensures wanted { OnErr result ((held self.old).room < length (held self.old).image.arena.memory.row.items) }
     {
-        match self.heap.reserve(slot) {
+        let used = self.slots.used();
+        if used == 0 {
+            return Ok(());
+        }
+        match self.heap.reserve(used - 1) {
             Ok(()) => Ok(()),
             Err(_) => Err(AllocError),
         }

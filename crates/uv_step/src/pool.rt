@@ -1,8 +1,8 @@
 //! Requests are queued, taken, finished, cancelled, and called back.
-ghost use Rattle.std.specs.Prelude.{◌≡◌, Option, Some, None, IfOk, IfErr, IfSome, IfNone, []};
+ghost use Rattle.std.specs.Prelude.{◌≡◌, ◌≤◌, Option, Some, None, IfOk, IfErr, IfSome, IfNone, []};
 ghost use Rattle.uv_records.specs.declared.lists.ListName.TheVariants.{DoneYet};
-ghost use Rattle.uv_records.specs.Slots.{next_free};
-ghost use Rattle.uv_arena.specs.Image.{plain_slots, members};
+ghost use Rattle.uv_arena.specs.Calls.{RefusesInsert};
+ghost use Rattle.uv_arena.specs.Image.{members};
 ghost use Rattle.uv_work.specs.Requests.{reopened, cancel_refusal};
 ghost use Rattle.uv_work.specs.Pool.{waits};
 ghost use Rattle.uv_requests.specs.Working.{found, pool_of};
@@ -17,22 +17,24 @@ ghost use Rattle.uv_step.specs.Does.{By, ended_by};
 
 use crate::memory::Memory;
 use crate::record::{Change, Polled};
-use uv_arena::Full;
+use uv_arena::InsertFault;
 use uv_ids::{Code, Id, Why};
 use uv_work::{RequestRecord, WorkResult};
 
 impl<P: Copy> Memory<P> {
-    /// Puts a request in a slot, open, behind those that wait (uv_queue_work).
-    pub fn queue(&mut self, request: RequestRecord) -> Result<Id, Full>
+    /// Puts a request in a slot, open, behind those that wait (uv_queue_work). It takes memory where the slot's piece isn't there yet,
+    /// before it changes anything.
+    pub fn queue(&mut self, request: RequestRecord) -> Result<Id, InsertFault>
         requires { IsFit (held self.old).image }
         ensures recorded { IfOk result (λ _. Recorded self.new.step_record (held self.old) (held self.new)) }
         ensures does { IfOk result (λ id. By queued (λ u. IsQueued request_in asked
             (working_of (held self.old).image) (working_of (held self.new).image) (reopened request) id u) self.new.step_record.change) }
-        ensures full { IfErr result (λ _. (next_free (plain_slots (held self.old).image.arena) ≡ None) × Untouched self.old self.new) }
+        ensures pieces { self.old.slots.room ≤ self.new.slots.room }
+        ensures err { IfErr result (λ fault. RefusesInsert fault self.old.slots × Untouched self.old self.new) }
     {
         self.slots.is_sound();
         match self.requests.queue(&mut self.slots, request) {
-            Err(full) => Err(full),
+            Err(fault) => Err(fault),
             Ok((id, undo)) => {
                 self.step_record = self.record(Change::Queued(undo));
                 Ok(id)

@@ -22,15 +22,16 @@ use uv_work::RequestRecord;
 
 impl<P: Copy> Memory<P> {
     /// Gives back the very memory from before the step of this record.
-    pub fn unwind(&mut self, step_record: Record<P>)
-        requires { CanUnwind (held self.old).room step_record (held self.old).image }
-        ensures image { (held self.new).image ≡ unwind step_record (held self.old).image }
+    pub fn unwind(&mut self, step_record: &Record<P>)
+        requires { CanUnwind (held self.old).room step_record.now (held self.old).image }
+        ensures image { (held self.new).image ≡ unwind step_record.now (held self.old).image }
         ensures fit { IsFit (held self.new).image }
         ensures room { (held self.new).room ≡ (held self.old).room }
+        ensures pieces { self.new.slots.room ≡ self.old.slots.room }
     {
         self.place = step_record.place;
         self.unname(step_record.naming);
-        self.undo(step_record.change);
+        self.undo(&step_record.change);
     }
 
     /// What became of a name is undone.
@@ -38,6 +39,7 @@ impl<P: Copy> Memory<P> {
         requires { CanRename naming (held self.old).image }
         ensures image { (held self.new).image ≡ unwind_parts (naming_parts naming) (held self.old).image }
         ensures room { (held self.new).room ≡ (held self.old).room }
+        ensures pieces { self.new.slots.room ≡ self.old.slots.room }
     {
         match naming {
             Naming::Same => {}
@@ -59,18 +61,20 @@ impl<P: Copy> Memory<P> {
         requires { name.0 < length (held self.old).image.names }
         ensures image { (held self.new).image ≡ undo (bound name id) (held self.old).image }
         ensures room { (held self.new).room ≡ (held self.old).room }
+        ensures pieces { self.new.slots.room ≡ self.old.slots.room }
     {
         let calls = self.names[name.0 as usize].calls;
         self.names[name.0 as usize] = Named { id, calls };
     }
 
     /// A change is undone.
-    fn undo(&mut self, change: Change)
-        requires { CanUndo (held self.old).room change (held self.old).image }
-        ensures image { (held self.new).image ≡ unwind_parts (change_parts change) (held self.old).image }
+    fn undo(&mut self, change: &Change)
+        requires { CanUndo (held self.old).room change.now (held self.old).image }
+        ensures image { (held self.new).image ≡ unwind_parts (change_parts change.now) (held self.old).image }
         ensures room { (held self.new).room ≡ (held self.old).room }
+        ensures pieces { self.new.slots.room ≡ self.old.slots.room }
     {
-        match change {
+        match *change {
             Change::Nothing => {}
             Change::Time(time) => self.times.time = time,
             Change::Clock(clock) => self.clock = clock,
@@ -105,6 +109,7 @@ impl<P: Copy> Memory<P> {
         requires { CanUndo (held self.old).room (change.Added undo) (held self.old).image }
         ensures image { (held self.new).image ≡ unwind_parts (change_parts (change.Added undo)) (held self.old).image }
         ensures room { (held self.new).room ≡ (held self.old).room }
+        ensures pieces { self.new.slots.room ≡ self.old.slots.room }
     {
         if undo.listed {
             self.slots.undo_push(PushUndo {
@@ -118,6 +123,7 @@ impl<P: Copy> Memory<P> {
         requires { CanUndo (held self.old).room (change.Edited undo) (held self.old).image }
         ensures image { (held self.new).image ≡ unwind_parts (change_parts (change.Edited undo)) (held self.old).image }
         ensures room { (held self.new).room ≡ (held self.old).room }
+        ensures pieces { self.new.slots.room ≡ self.old.slots.room }
     {
         self.handles.undo_change(&mut self.slots, undo);
     }
@@ -126,6 +132,7 @@ impl<P: Copy> Memory<P> {
         requires { CanUndo (held self.old).room (change.Enlisted undo) (held self.old).image }
         ensures image { (held self.new).image ≡ unwind_parts (change_parts (change.Enlisted undo)) (held self.old).image }
         ensures room { (held self.new).room ≡ (held self.old).room }
+        ensures pieces { self.new.slots.room ≡ self.old.slots.room }
     {
         self.handles.undo_enlist(&mut self.slots, undo);
     }
@@ -134,6 +141,7 @@ impl<P: Copy> Memory<P> {
         requires { CanUndo (held self.old).room (change.Delisted undo) (held self.old).image }
         ensures image { (held self.new).image ≡ unwind_parts (change_parts (change.Delisted undo)) (held self.old).image }
         ensures room { (held self.new).room ≡ (held self.old).room }
+        ensures pieces { self.new.slots.room ≡ self.old.slots.room }
     {
         self.handles.undo_delist(&mut self.slots, undo);
     }
@@ -142,6 +150,7 @@ impl<P: Copy> Memory<P> {
         requires { CanUndo (held self.old).room (change.Timer undo) (held self.old).image }
         ensures image { (held self.new).image ≡ unwind_parts (change_parts (change.Timer undo)) (held self.old).image }
         ensures room { (held self.new).room ≡ (held self.old).room }
+        ensures pieces { self.new.slots.room ≡ self.old.slots.room }
     {
         undo_reschedule(
             &mut self.handles,
@@ -156,6 +165,7 @@ impl<P: Copy> Memory<P> {
         requires { CanUndo (held self.old).room (moved_by undo) (held self.old).image }
         ensures image { (held self.new).image ≡ unwind_parts (change_parts (moved_by undo)) (held self.old).image }
         ensures room { (held self.new).room ≡ (held self.old).room }
+        ensures pieces { self.new.slots.room ≡ self.old.slots.room }
     {
         undo_collect_one(
             &mut self.handles,
@@ -170,6 +180,7 @@ impl<P: Copy> Memory<P> {
         requires { CanUndo (held self.old).room (change.Walked undo) (held self.old).image }
         ensures image { (held self.new).image ≡ unwind_parts (change_parts (change.Walked undo)) (held self.old).image }
         ensures room { (held self.new).room ≡ (held self.old).room }
+        ensures pieces { self.new.slots.room ≡ self.old.slots.room }
     {
         undo_take(&mut self.handles, &mut self.slots, undo);
     }
@@ -178,6 +189,7 @@ impl<P: Copy> Memory<P> {
         requires { CanUndo (held self.old).room (closed_by handle undo) (held self.old).image }
         ensures image { (held self.new).image ≡ unwind_parts (change_parts (closed_by handle undo)) (held self.old).image }
         ensures room { (held self.new).room ≡ (held self.old).room }
+        ensures pieces { self.new.slots.room ≡ self.old.slots.room }
     {
         let content = Content::Handle(handle);
         self.handles
@@ -188,6 +200,7 @@ impl<P: Copy> Memory<P> {
         requires { CanUndo (held self.old).room (change.Queued undo) (held self.old).image }
         ensures image { (held self.new).image ≡ unwind_parts (change_parts (change.Queued undo)) (held self.old).image }
         ensures room { (held self.new).room ≡ (held self.old).room }
+        ensures pieces { self.new.slots.room ≡ self.old.slots.room }
     {
         self.requests.undo_queue(&mut self.slots, undo);
     }
@@ -196,6 +209,7 @@ impl<P: Copy> Memory<P> {
         requires { CanUndo (held self.old).room (change.Taken undo) (held self.old).image }
         ensures image { (held self.new).image ≡ unwind_parts (change_parts (change.Taken undo)) (held self.old).image }
         ensures room { (held self.new).room ≡ (held self.old).room }
+        ensures pieces { self.new.slots.room ≡ self.old.slots.room }
     {
         self.requests.undo_take(&mut self.slots, undo);
     }
@@ -204,6 +218,7 @@ impl<P: Copy> Memory<P> {
         requires { CanUndo (held self.old).room (change.Finished undo) (held self.old).image }
         ensures image { (held self.new).image ≡ unwind_parts (change_parts (change.Finished undo)) (held self.old).image }
         ensures room { (held self.new).room ≡ (held self.old).room }
+        ensures pieces { self.new.slots.room ≡ self.old.slots.room }
     {
         self.requests.undo_finish(&mut self.slots, undo);
     }
@@ -212,6 +227,7 @@ impl<P: Copy> Memory<P> {
         requires { CanUndo (held self.old).room (change.Cancelled undo) (held self.old).image }
         ensures image { (held self.new).image ≡ unwind_parts (change_parts (change.Cancelled undo)) (held self.old).image }
         ensures room { (held self.new).room ≡ (held self.old).room }
+        ensures pieces { self.new.slots.room ≡ self.old.slots.room }
     {
         self.requests.undo_cancel(&mut self.slots, undo);
     }
@@ -220,6 +236,7 @@ impl<P: Copy> Memory<P> {
         requires { CanUndo (held self.old).room (ended_by request undo) (held self.old).image }
         ensures image { (held self.new).image ≡ unwind_parts (change_parts (ended_by request undo)) (held self.old).image }
         ensures room { (held self.new).room ≡ (held self.old).room }
+        ensures pieces { self.new.slots.room ≡ self.old.slots.room }
     {
         self.requests.undo_collect(&mut self.slots, undo, request);
     }

@@ -76,21 +76,22 @@ impl<P: Copy> Memory<P> {
         self.step_record = self.record(Change::Begun(undo));
     }
 
-    /// Moves the front of those yet to run to the end of its list: its id, and whether a callback was due by a send. None, and
-    /// nothing changed, where there is none.
-    pub fn walk(&mut self, kind: WatcherKind) -> Option<(Id, bool)>
+    /// Moves the front of those yet to run to the end of its list: its id, its record as it was, and whether a callback was due by a
+    /// send. None, and nothing changed, where there is none.
+    pub fn walk(&mut self, kind: WatcherKind) -> Option<(Id, HandleRecord, bool)>
         requires fit { IsFit (held self.old).image }
         ensures recorded { IfSome result (λ _. Recorded self.new.step_record (held self.old) (held self.new)) }
+        ensures front { IfSome result (λ r. FirstIs (held self.old).image.arena (yet_of kind) r.0 r.1) }
         ensures does { IfSome result (λ r. By walked (λ u. IsMovedOn handle_in handle
-            (counted_of (held self.old).image) (counted_of (held self.new).image) kind r.0 r.1 u) self.new.step_record.change) }
+            (counted_of (held self.old).image) (counted_of (held self.new).image) kind r.0 r.2 u) self.new.step_record.change) }
         ensures none { IfNone result (NoHandleFirst (held self.old).image.arena (yet_of kind) × Untouched self.old self.new) }
     {
-        self.first_handle(kind.yet())?;
+        let front = self.first_handle(kind.yet())?;
         match uv_watch::take(&mut self.handles, &mut self.slots, kind) {
             None => None,
             Some((id, pending, undo)) => {
                 self.step_record = self.record(Change::Walked(undo));
-                Some((id, pending))
+                Some((id, front.1, pending))
             }
         }
     }

@@ -33,7 +33,7 @@ fn in_order(heap: &TimerHeap, alloc: Global) -> Result<Vec<Entry>, AllocError>
 
 /// The ids of these entries.
 fn ids_of(slots: &Slots<Content>, entries: &[Entry], alloc: Global) -> Result<Vec<Id>, AllocError>
-    ensures { IfOk result (λ ids. ids.items ≡ ids_of slots.now entries.now) }
+    ensures { IfOk result (λ ids. ids.items ≡ ids_of slots.now.image entries.now) }
 {
     let mut ids = Vec::new(alloc);
     for entry in entries {
@@ -44,7 +44,7 @@ fn ids_of(slots: &Slots<Content>, entries: &[Entry], alloc: Global) -> Result<Ve
 
 /// The id that a slot has, whatever it holds.
 fn id_in(slots: &Slots<Content>, slot: u32) -> Id
-    ensures { result ≡ id_in slots.now slot }
+    ensures { result ≡ id_in slots.now.image slot }
 {
     let generation = if slot < slots.used() {
         slots.slot_at(slot).generation

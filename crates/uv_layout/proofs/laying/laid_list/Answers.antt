@@ -7,7 +7,7 @@ returns c = λ q. record {
   list = c.args.list;
   ends =
       record {
-        head = (c.slot_in.ensures ∙ first_is c.args.slots.now c.args.list c.first.result c.first.ensures.none c.first.ensures.some) q;
-        tail = (c.slot_in-2.ensures ∙ last_is c.args.slots.now c.args.list c.last.result c.last.ensures.none c.last.ensures.some) q;
+        head = (c.slot_in.ensures ∙ first_is c.args.slots.now.image c.args.list c.first.result c.first.ensures.none c.first.ensures.some) q;
+        tail = (c.slot_in-2.ensures ∙ last_is c.args.slots.now.image c.args.list c.last.result c.last.ensures.none c.last.ensures.some) q;
       };
 }

@@ -1,14 +1,16 @@
-use Rattle.std.proofs.Common.{ap}
+use Rattle.std.proofs.Common.{ap, subst}
+use Rattle.uv_arena.specs.Calls.{RefusesInsert}
 use Rattle.uv_model.specs.Ops.{with_new}
 use Rattle.uv_step.specs.Image.{held, image_of}
 use Rattle.uv_ops.proofs.Made.{make_full}
 use Rattle.uv_ops.proofs.Inits.{inits_by}
 use Rattle.uv_ops.proofs.making.init.Goals as goal
 
-pub returns-in-Err-clause-performs : goal.returns-in-Err-clause-performs
-returns-in-Err-clause-performs c =
+pub returns-in-Err-Full-clause-performs : goal.returns-in-Err-Full-clause-performs
+returns-in-Err-Full-clause-performs c =
     make_full (image_of c.args.memory.now) c.args.name (λ s. with_new s c.args.name c.args.kind) c.if-is_live.ensures (image_of c.init.new.self)
-    (ap (λ h. h.image) c.in-Err.ensures.full.1.0) c.in-Err.ensures.full.0
+    (ap (λ h. h.image) c.in-Err-Full.ensures.err.1.0)
+    (subst (λ fault. RefusesInsert fault c.args.memory.now.slots) c.in-Err-Full.field-0-is c.in-Err-Full.ensures.err.0)
 
 pub returns-in-Ok-clause-performs : goal.returns-in-Ok-clause-performs
 returns-in-Ok-clause-performs c =

@@ -1,4 +1,5 @@
-use Rattle.std.proofs.Common.{ap}
+use Rattle.std.proofs.Common.{ap, subst}
+use Rattle.uv_arena.specs.Calls.{RefusesInsert}
 use Rattle.uv_work.specs.Requests.{reopened}
 use Rattle.uv_model.specs.Ops.{with_queued}
 use Rattle.uv_step.specs.Image.{held, image_of}
@@ -6,10 +7,11 @@ use Rattle.uv_ops.proofs.Made.{make_full}
 use Rattle.uv_ops.proofs.Queues.{queues}
 use Rattle.uv_ops.proofs.making.queue.Goals as goal
 
-pub returns-in-Err-clause-performs : goal.returns-in-Err-clause-performs
-returns-in-Err-clause-performs c =
+pub returns-in-Err-Full-clause-performs : goal.returns-in-Err-Full-clause-performs
+returns-in-Err-Full-clause-performs c =
     make_full (image_of c.args.memory.now) c.args.name (λ s. with_queued s c.args.name c.args.task) c.if-is_live.ensures
-    (image_of c.queue.new.self) (ap (λ h. h.image) c.in-Err.ensures.full.1.0) c.in-Err.ensures.full.0
+    (image_of c.queue.new.self) (ap (λ h. h.image) c.in-Err-Full.ensures.err.1.0)
+    (subst (λ fault. RefusesInsert fault c.args.memory.now.slots) c.in-Err-Full.field-0-is c.in-Err-Full.ensures.err.0)
 
 pub returns-in-Ok-clause-performs : goal.returns-in-Ok-clause-performs
 returns-in-Ok-clause-performs c =

@@ -5,20 +5,20 @@ use Rattle.uv_stands.proofs.pending.any_pending.Goals as goal
 
 pub returns-then-pends : goal.returns-then-pends
 returns-then-pends c =
-    let i = c.args.memory.now.slots in
+    let i = c.args.memory.now.slots.image in
     quiet_here i c.args.list c.in-Some.id (subst (λ o. IsQuiet i c.args.list o) c.in-Some.is c.loop-next.invariant)
     (sym c.pends.ensures ∙ c.if-pends.true)
 
 pub loop-next-smaller : goal.loop-next-smaller
 loop-next-smaller c =
-    let i = c.args.memory.now.slots in
+    let i = c.args.memory.now.slots.image in
     let quiet = subst (λ o. IsQuiet i c.args.list o) c.in-Some.is c.loop-next.invariant in
     subst (λ o. left (members i c.args.list) c.next-next.result < left (members i c.args.list) o) (sym c.in-Some.is)
     (fewer i c.args.list c.is_sound.ensures c.in-Some.id c.next-next.result quiet (c.next-next.ensures.next quiet.walked.listed.listed))
 
 pub loop-next-preserved : goal.loop-next-preserved
 loop-next-preserved c =
-    let i = c.args.memory.now.slots in
+    let i = c.args.memory.now.slots.image in
     let quiet = subst (λ o. IsQuiet i c.args.list o) c.in-Some.is c.loop-next.invariant in
     quiet_goes i c.args.list c.in-Some.id c.next-next.result quiet (sym c.pends.ensures ∙ c.if-pends.false)
     (c.next-next.ensures.next quiet.walked.listed.listed) c.next-next.ensures.listed

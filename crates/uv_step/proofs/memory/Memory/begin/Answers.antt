@@ -3,5 +3,5 @@ use Rattle.uv_step.proofs.Steps.{begun}
 use Rattle.uv_step.proofs.memory.Memory.begin.Goals as goal
 
 pub returns-clause-recorded : goal.returns-clause-recorded
-returns-clause-recorded g c = begun (image_of c.args.self.now) c.begin-undo.new.slots _ _ _ _ c.requires.fit c.begin-undo.ensures
+returns-clause-recorded g c = begun (image_of c.args.self.now) c.begin-undo.new.slots.image _ _ _ _ c.requires.fit c.begin-undo.ensures.begun
     c.record-self.ensures

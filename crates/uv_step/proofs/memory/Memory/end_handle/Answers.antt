@@ -4,7 +4,7 @@ use Rattle.uv_step.proofs.memory.Memory.end_handle.Goals as goal
 
 pub returns-in-Some-clause-recorded : goal.returns-in-Some-clause-recorded
 returns-in-Some-clause-recorded g c =
-    freed (image_of c.args.self.now) c.take_closing.new.slots c.take_closing.new.self _ _ _ _ _ _ _ c.requires.fit c.in_ok-first.ensures.some
+    freed (image_of c.args.self.now) c.take_closing.new.slots.image c.take_closing.new.self _ _ _ _ _ _ _ c.requires.fit c.in_ok-first.ensures.some
     c.in-Some.ensures.some c.record-self.ensures
 
 pub returns-in-Some-clause-does : goal.returns-in-Some-clause-does

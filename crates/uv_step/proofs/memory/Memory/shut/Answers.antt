@@ -11,7 +11,7 @@ use Rattle.uv_step.proofs.Steps.{shut}
 use Rattle.uv_step.proofs.memory.Memory.shut.Goals as goal
 
 pub returns-clause-recorded : goal.returns-clause-recorded
-returns-clause-recorded g c = shut (image_of c.args.self.now) c.reschedule-timer.new.slots c.push_front-pushed.new.self
+returns-clause-recorded g c = shut (image_of c.args.self.now) c.reschedule-timer.new.slots.image c.push_front-pushed.new.self.image
     c.reschedule-timer.new.handles _ c.reschedule-timer.new.heap c.reschedule-timer.new.times _ _ _ _ _ c.requires.fit
     c.reschedule-timer.ensures.room c.reschedule-timer.ensures.changed c.push_front-pushed.ensures.pushed c.push_front-pushed.ensures.token
     c.record-self.ensures
@@ -23,9 +23,9 @@ returns-clause-does g c = record {
   does = record {
     from = c.args.before;
     allowed = c.requires.allowed;
-    mid = c.reschedule-timer.new.slots;
+    mid = c.reschedule-timer.new.slots.image;
     changed = subst (λ (to : HandleRecord). IsRescheduled handle_in Handle c.reschedule-timer.new.heap.room (timed_of (image_of c.args.self.now))
-        (timed c.reschedule-timer.new.slots c.reschedule-timer.new.handles c.reschedule-timer.new.heap c.reschedule-timer.new.times) c.args.id
+        (timed c.reschedule-timer.new.slots.image c.reschedule-timer.new.handles c.reschedule-timer.new.heap c.reschedule-timer.new.times) c.args.id
         (becoming c.args.before to None) c.reschedule-timer.result) c.closed.ensures c.reschedule-timer.ensures.changed;
     listed = c.push_front-pushed.ensures.pushed;
   };

@@ -7,21 +7,21 @@ use Rattle.uv_step.proofs.memory.Memory.unwind.Goals as goal
 
 pub unname-requires : goal.unname-requires
 unname-requires g c =
-    (can_stand c.args.self.now.heap.room c.args.step_record (image_of c.args.self.now) c.args.step_record.place c.requires).naming
+    (can_stand c.args.self.now.heap.room c.args.step_record.now (image_of c.args.self.now) c.args.step_record.now.place c.requires).naming
 
 pub undo-requires : goal.undo-requires
 undo-requires g c =
-    subst (λ room. CanUndo room c.args.step_record.change (image_of c.unname.new.self)) (sym c.unname.ensures.room)
-    (subst (λ i. CanUndo c.args.self.now.heap.room c.args.step_record.change i) (sym c.unname.ensures.image) c.requires.change)
+    subst (λ room. CanUndo room c.args.step_record.now.change (image_of c.unname.new.self)) (sym c.unname.ensures.room)
+    (subst (λ i. CanUndo c.args.self.now.heap.room c.args.step_record.now.change i) (sym c.unname.ensures.image) c.requires.change)
 
 pub returns-clause-image : goal.returns-clause-image
 returns-clause-image g c =
-    unwound_by c.args.step_record (image_of c.args.self.now) (image_of c.unname.new.self)
+    unwound_by c.args.step_record.now (image_of c.args.self.now) (image_of c.unname.new.self)
     (image_of c.undo.new.self) c.unname.ensures.image c.undo.ensures.image
 
 pub returns-clause-fit : goal.returns-clause-fit
 returns-clause-fit g c =
-    let back = unwound_by c.args.step_record (image_of c.args.self.now) (image_of c.unname.new.self)
+    let back = unwound_by c.args.step_record.now (image_of c.args.self.now) (image_of c.unname.new.self)
     (image_of c.undo.new.self) c.unname.ensures.image c.undo.ensures.image in
     subst (λ k. IsFit k) (sym back) c.requires.fit
 

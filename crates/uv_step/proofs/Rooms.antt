@@ -1,0 +1,54 @@
+-- What can be taken back can be where the heap has more room.
+use Rattle.std.proofs.Common.{◌<◌, ◌≤◌, ℕ, List, Option, Some, None, arith}
+use Rattle.uv_heap.specs.declared.entry.Entry.{Entry}
+use Rattle.uv_heap.specs.declared.undo.RemoveUndo.{RemoveUndo}
+use Rattle.uv_timer.specs.Timed.{Timed, CanPutBack, CanUndoTimer, CanUndoCollect}
+use Rattle.uv_timer.specs.declared.undo.TimerUndo.{TimerUndo}
+use Rattle.uv_timer.specs.declared.undo.CollectUndo.{CollectUndo}
+use Rattle.uv_step.specs.declared.content.Content.{Content}
+use Rattle.uv_step.specs.declared.content.Content.TheVariants.{Handle}
+use Rattle.uv_step.specs.declared.record.Change.{Change}
+use Rattle.uv_step.specs.declared.record.Change.TheVariants as change
+use Rattle.uv_step.specs.declared.record.Record.{Record}
+use Rattle.uv_step.specs.Content.{handle_in}
+use Rattle.uv_step.specs.Image.{Image}
+use Rattle.uv_step.specs.Undo.{CanUndo, CanUnwind}
+
+module _ (room more : ℕ) (grown : room ≤ more) where
+  put_back_still : (u : Option RemoveUndo) (es : List Entry) → CanPutBack room u es → CanPutBack more u es
+  put_back_still None es c = tt
+  put_back_still (Some u) es c = record { put_back = c.put_back; has_room = (let has = c.has_room in omega (arith, has, grown)) }
+
+  timer_still : (t : Timed Content) (u : TimerUndo) → CanUndoTimer handle_in Handle room t u → CanUndoTimer handle_in Handle more t u
+  timer_still t u c = record { set = c.set; removed = put_back_still u.removed _ c.removed; delisted = c.delisted }
+
+  collect_still : (t : Timed Content) (u : CollectUndo) → CanUndoCollect handle_in Handle room t u → CanUndoCollect handle_in Handle more t u
+  collect_still t u c = record { pushed = c.pushed; timer = timer_still _ u.timer c.timer }
+
+  module _ {P : Type 0} where
+    undo_still : (x : Change) (i : Image P) → CanUndo room x i → CanUndo more x i
+    undo_still change.Nothing i c = c
+    undo_still (change.Time n) i c = c
+    undo_still (change.Clock n) i c = c
+    undo_still (change.Stop b) i c = c
+    undo_still (change.Idled b) i c = c
+    undo_still (change.Iterated n b) i c = c
+    undo_still (change.Added u) i c = c
+    undo_still (change.Edited u) i c = c
+    undo_still (change.Enlisted u) i c = c
+    undo_still (change.Delisted u) i c = c
+    undo_still (change.Timer u) i c = timer_still _ u c
+    undo_still (change.Moved put t) i c = collect_still _ (record { timer = t; pushed = put }) c
+    undo_still (change.Begun u) i c = c
+    undo_still (change.Polled u) i c = c
+    undo_still (change.Walked u) i c = c
+    undo_still (change.Closed u h) i c = c
+    undo_still (change.Queued u) i c = c
+    undo_still (change.Taken u) i c = c
+    undo_still (change.Finished u) i c = c
+    undo_still (change.Cancelled u) i c = c
+    undo_still (change.Ended u r) i c = c
+
+    -- a record that may be unwound may be where there is more room
+    pub unwind_still : (r : Record P) (i : Image P) → CanUnwind room r i → CanUnwind more r i
+    unwind_still r i c = record { naming = c.naming; change = undo_still r.change _ c.change; fit = c.fit }
