@@ -1,9 +1,10 @@
 -- Text that is gathered and written, a piece at a time.
-use Rattle.std.proofs.Common.{◌≡◌, ℕ, List, [], ◌++◌, Result, Ok, Err, OnOk, refl, ap, sym, ◌∙◌, append_assoc, append-nil, suc, ◌<◌, length, drop, get_or, drop-cons, arith}
+use Rattle.std.proofs.Common.{◌≡◌, ℕ, List, [], ◌++◌, Result, Ok, Err, OnOk, refl, ap, sym, subst, ◌∙◌, append_assoc, append-nil, zero, suc, ◌+◌, ◌-◌, ◌<◌, length, drop, get_or, drop-cons, arith}
 use Rattle.std.specs.List.{flat_map}
 use Rattle.std.proofs.lemmas.List.{append_cancel_left}
 use Rattle.uv_ids.specs.declared.fault.Fault.{Fault}
-use Rattle.uv_text.specs.Image.{Puts}
+use Rattle.uv_text.specs.Parts.{parts_from, in_parts}
+use Rattle.uv_text.proofs.Wholes.{next_part}
 use Rattle.uv_engine.specs.Sink.{CutShort}
 use Rattle.uv_engine.specs.Gather.{Grown, CutOff, Gathered, Gathers, GathersOne}
 
@@ -57,9 +58,6 @@ gathers_text w t text u e = (grown_none w, ap (λ (xs : List ℕ). w ++ xs) e �
 pub one_text : {Is : List ℕ → Type 0} {w t : List ℕ} (text : List ℕ) {u : List ℕ} → Is text → u ≡ t ++ text → GathersOne Is (Ok tt) w t w u
 one_text {Is} {w} {t} text {u} h e = record { text = text; is = h; gathers = gathers_text w t text u e }
 
-pub put_text : {Is : List ℕ → Type 0} {w t u : List ℕ} → Puts Is t u → GathersOne Is (Ok tt) w t w u
-put_text {Is} {w} {t} {u} h = one_text h.text h.is h.put
-
 -- there was no memory to gather it
 pub one_fault : {Is : List ℕ → Type 0} {f : Fault} {w t : List ℕ} (text : List ℕ) {u : List ℕ} → Is text → GathersOne Is (Err f) w t w u
 one_fault {Is} {f} {w} {t} text {u} h = record {
@@ -72,6 +70,32 @@ one_fault {Is} {f} {w} {t} text {u} h = record {
 pub line_next : {A : Type 0} (f : A → List ℕ) (xs : List A) {i : ℕ} (d : A) {old all w t : List ℕ} → i < length xs
     → Gathered old all w t (flat_map f (drop i xs)) → Gathered old all w t (f (get_or xs i d) ++ flat_map f (drop (suc i) xs))
 line_next f xs {i} d {old} {all} {w} {t} l h = rw (drop-cons xs i d l) at h
+
+-- a text under another name
+pub gathers_same : (r : Result (Unit {0}) Fault) (w t v u : List ℕ) {x y : List ℕ} → x ≡ y → Gathers r w t x v u → Gathers r w t y v u
+gathers_same r w t v u {x} {y} e h = subst (λ (z : List ℕ). Gathers r w t z v u) e h
+
+-- a text, and behind it another one
+pub gathers_then : (r : Result (Unit {0}) Fault) (w t x mid between y v u : List ℕ) → Gathers (Ok tt) w t x mid between → Gathers r mid between y v u
+    → Gathers r w t (x ++ y) v u
+gathers_then (Ok done) w t x mid between y v u h k =
+    (grown_more w mid v h.0 k.0, k.1 ∙ ap (λ (xs : List ℕ). xs ++ y) h.1 ∙ append_assoc (w ++ t) x y)
+gathers_then (Err f) w t x mid between y v u h k = record {
+  grown = grown_more w mid v h.0 k.grown;
+  rest = k.rest;
+  whole = k.whole ∙ ap (λ (xs : List ℕ). xs ++ y) h.1 ∙ append_assoc (w ++ t) x y;
+}
+
+-- in a loop over the parts of a text: nothing was gathered yet, and a part of those that are left is the next
+pub first_part : (f : ℕ → List ℕ) (k : ℕ) (w t : List ℕ) → Gathered w ((w ++ t) ++ in_parts f k) w t (parts_from f zero (k - zero))
+unfolding in_parts
+first_part f k w t =
+    let all : k ≡ k - zero = omega arith in
+    subst (λ (n : ℕ). Gathered w ((w ++ t) ++ parts_from f zero k) w t (parts_from f zero n)) all (gathered_none w t (parts_from f zero k))
+
+pub part_next : (f : ℕ → List ℕ) (k i : ℕ) {old all w t : List ℕ} → i < k → Gathered old all w t (parts_from f i (k - i))
+    → Gathered old all w t (f i ++ parts_from f (i + 1) (k - (i + 1)))
+part_next f k i {old} {all} {w} {t} l h = subst (λ (x : List ℕ). Gathered old all w t x) (next_part f i k l) h
 
 -- what was cut off with nothing to come is cut short
 pub short_of_cut : {w t v : List ℕ} → CutOff w ((w ++ t) ++ []) v → CutShort w t v

@@ -1,7 +1,6 @@
 pub mod Text
 pub mod Replies
 pub mod Gathers
-pub mod Images
 pub mod Loops
 pub mod Talking
 pub mod Starting

@@ -9,12 +9,12 @@ ghost use Rattle.uv_engine.specs.Reply.{loop_text, loop_after, trace_text};
 ghost use Rattle.uv_engine.specs.Out.{Prints, command_after, IsAnswer, asked_after};
 
 use crate::conversation::Conversation;
-use crate::reply::{add_break, back_to_break, clear_breaks, go_back, go_forward, show_image, tell};
+use crate::reply::{add_break, back_to_break, clear_breaks, go_back, go_forward, tell};
 use crate::sink::{Sink, write_out};
 use uv_ids::{Event, Fault, Seen};
 use uv_model::Machine;
 use uv_script::Script;
-use uv_text::{Asked, Command, push_recording, push_seen, push_state};
+use uv_text::{Asked, Command, push_seen};
 
 /// How much text is gathered before it is written, in bytes.
 const FULL: usize = 8192;
@@ -104,9 +104,9 @@ impl<M: Machine> Conversation<M> {
             Command::AddBreak(at) => Ok(add_break(&mut self.session, &mut self.text, at)?),
             Command::ClearBreaks => Ok(clear_breaks(&mut self.session, &mut self.text)?),
             Command::BackToBreak => Ok(back_to_break(&mut self.session, &mut self.text)?),
-            Command::State => Ok(push_state(&mut self.text, &self.session)?),
-            Command::Image => Ok(show_image(&self.session, &mut self.text)?),
-            Command::Record => Ok(push_recording(&mut self.text, &self.session)?),
+            Command::State => self.show_state(writer),
+            Command::Image => self.show_image(writer),
+            Command::Record => self.show_recording(writer),
             Command::Quit => Ok(()),
         }
     }

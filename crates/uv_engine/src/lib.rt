@@ -11,6 +11,7 @@ mod replaying;
 mod reply;
 mod rerun;
 mod script;
+mod showing;
 mod sink;
 mod source;
 mod verdict;

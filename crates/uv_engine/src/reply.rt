@@ -1,16 +1,14 @@
 //! What a session answers to one command, as text.
 ghost use Rattle.std.specs.Prelude.{◌≡◌, ◌<◌, ◌++◌, [], length, IfOk, OnOk, codes};
-ghost use Rattle.uv_text.specs.Image.{Puts};
 ghost use Rattle.uv_engine.specs.Reply.{reply, reply_text, reply_after, may_follow, appended_text, break_text, at_text, back_text, back_after, forward_text, forward_after, add_text, add_after, last_break, break_back_text, break_back_after};
 ghost use Rattle.uv_engine.specs.Steps.{last_seen};
-ghost use Rattle.uv_engine.specs.Out.{PrintsImage};
 
 use std::alloc::AllocError;
 use uv_ids::{Event, Fault, Seen};
 use uv_model::Machine;
 use uv_script::{Script, push_number};
 use uv_session::{Break, Session, Stop};
-use uv_text::{push_image, push_seen};
+use uv_text::push_seen;
 
 fn push_appended(text: &mut Vec<u8>, script: &Script, seen: Option<Seen>) -> Result<(), AllocError>
     ensures { OnOk result (text.new.items ≡ text.old.items ++ appended_text script.now seen) }
@@ -21,7 +19,7 @@ fn push_appended(text: &mut Vec<u8>, script: &Script, seen: Option<Seen>) -> Res
     }
 }
 
-fn push_refused(text: &mut Vec<u8>, why: &str) -> Result<(), AllocError>
+pub(crate) fn push_refused(text: &mut Vec<u8>, why: &str) -> Result<(), AllocError>
     ensures { OnOk result (text.new.items ≡ text.old.items ++ (codes "refused " ++ why.now ++ codes "\n")) }
 {
     text.extend_from_slice(b"refused ")?;
@@ -161,21 +159,6 @@ pub(crate) fn back_to_break<M: Machine>(
     match session.back_to_break() {
         Ok(length) => push_break(text, length),
         Err(Fault::Refused(why)) => push_refused(text, why.word()),
-        Err(_) => Err(AllocError),
-    }
-}
-
-/// How the memory lies, of a machine that has one.
-#[tactic(auto, using(crate::proofs::Images::images))]
-pub(crate) fn show_image<M: Machine>(
-    session: &Session<M>,
-    text: &mut Vec<u8>,
-) -> Result<(), AllocError>
-    ensures { OnOk result (Puts (PrintsImage session.now) text.old.items text.new.items) }
-{
-    match push_image(text, session) {
-        Ok(true) => Ok(()),
-        Ok(false) => push_refused(text, "image"),
         Err(_) => Err(AllocError),
     }
 }

@@ -33,7 +33,12 @@ pub(crate) struct Outside<'a> {
     board: &'a Board,
     seat: LoopSeat,
     senders: Vec<Sender<'a>>,
+    /// The names that some thread sends to, in their order.
+    names: Vec<Var>,
+    /// Whether no send may come any more: no sender's thread is left, and every word was absorbed since.
+    quiet: bool,
     pub ghost seated: { seat.board ≡ board.now.board },
+    pub ghost known: { All (λ v. v.0 < names_of board.now.board) names.items },
     pub ghost ours: { All (λ h. h.promise.0.now.board ≡ board.now.board) senders.items },
 }
 
@@ -65,6 +70,18 @@ fn has_line(lines: &[ThreadLine], thread: u8) -> bool {
     lines.iter().any(|line| line.thread == thread)
 }
 
+/// Absorbs the word of a name, and answers whether a send stood in it.
+fn absorb(board: &Board, seat: &mut LoopSeat, name: Var) -> Result<bool, Fault>
+    requires seat { seat.old.board ≡ board.now.board }
+    requires name { name.0 < names_of board.now.board }
+    ensures { seat.new.board ≡ seat.old.board }
+{
+    if seat.count(name) >= MOST_ABSORBED {
+        return Err(Fault::Limit);
+    }
+    Ok(board.absorb(seat, name))
+}
+
 impl<'a> Outside<'a> {
     /// No thread is started yet.
     pub(crate) fn new(alloc: Global, board: &'a Board, seat: LoopSeat) -> Outside<'a>
@@ -75,6 +92,31 @@ impl<'a> Outside<'a> {
             board,
             seat,
             senders: Vec::new(alloc),
+            names: Vec::new(alloc),
+            quiet: false,
+        }
+    }
+
+    /// Notes the names that some thread sends to.
+    pub(crate) fn note_names<S: Follower>(&mut self, session: &S) -> Result<(), Fault>
+        requires { names_of self.old.board.now.board ≡ (S.plan session.now).names }
+        ensures { self.new.board.now.board ≡ self.old.board.now.board }
+    {
+        'names: for v in 0..session.name_count() {
+            if session.lines_to(Var(v)) > 0 {
+                self.note_name(Var(v))?;
+            }
+        }
+        Ok(())
+    }
+
+    fn note_name(&mut self, name: Var) -> Result<(), Fault>
+        requires { name.0 < names_of self.old.board.now.board }
+        ensures { self.new.board.now.board ≡ self.old.board.now.board }
+    {
+        match self.names.push(name) {
+            Ok(()) => Ok(()),
+            Err(_) => Err(Fault::Memory),
         }
     }
 
@@ -88,6 +130,7 @@ impl<'a> Outside<'a> {
         requires { AreNamed (names_of self.old.board.now.board) lines.now }
         ensures { self.new.board.now.board ≡ self.old.board.now.board }
     {
+        self.quiet = false;
         'threads: for thread in 0..MOST_SENDERS {
             if has_line(lines, thread) {
                 self.start_one(scope, gate, thread, lines)?;
@@ -122,29 +165,24 @@ impl<'a> Outside<'a> {
         }
     }
 
-    /// Absorbs the word of a name, and answers whether a send stood in it.
-    fn absorb(&mut self, name: Var) -> Result<bool, Fault>
-        requires { name.0 < names_of self.old.board.now.board }
-        ensures { self.new.board.now.board ≡ self.old.board.now.board }
-    {
-        if self.seat.count(name) >= MOST_ABSORBED {
-            return Err(Fault::Limit);
-        }
-        Ok(self.board.absorb(&mut self.seat, name))
-    }
-
-    /// Absorbs every word, in the order of the names, and records a send for each that one stood in.
+    /// Absorbs every word that a send may stand in, in the order of the names, and records a send for each that one stood in. Where no
+    /// send may come any more none is looked at, so that a poll costs no more for all the names that were sent to before it.
     pub(crate) fn absorb_all<S: Follower>(&mut self, session: &mut S) -> Result<(), Fault>
         requires polling { S.polling session.old ≡ true }
         requires names { names_of self.old.board.now.board ≡ (S.plan session.old).names }
         ensures board { self.new.board.now.board ≡ self.old.board.now.board }
         ensures plan { S.plan session.new ≡ S.plan session.old }
     {
-        'names: for v in 0..session.name_count() {
-            if self.absorb(Var(v))? {
-                session.send(Var(v))?;
+        if self.quiet {
+            return Ok(());
+        }
+        'names: for n in 0..self.names.len() {
+            let name = self.names[n];
+            if absorb(self.board, &mut self.seat, name)? {
+                session.send(name)?;
             }
         }
+        self.quiet = self.senders.is_empty();
         Ok(())
     }
 

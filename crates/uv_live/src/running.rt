@@ -192,7 +192,10 @@ fn within<
     };
     let mut shifts: Vec<Shift<L>> = Vec::new(alloc);
     let started = match start_workers(rt, alloc, scope, book, gate, &mut crew) {
-        Ok(()) => outside.start(scope, gate, lines),
+        Ok(()) => match outside.note_names(&session) {
+            Ok(()) => outside.start(scope, gate, lines),
+            Err(fault) => Err(fault),
+        },
         Err(fault) => Err(fault),
     };
     let halt = match started {

@@ -11,6 +11,7 @@ use Rattle.uv_ids.specs.declared.fault.Fault.TheVariants as fault
 use Rattle.uv_ids.specs.declared.seen.Callback.TheVariants as callback
 use Rattle.uv_script.specs.declared.settings.Settings.{Settings}
 use Rattle.uv_script.specs.Grammar.{Statement, Declares, InMain, InCallback, Sizes, HasWorkers, Orders, InThread, Says, declares, in_main, runs, closes_loop, in_callback, in_call, sizes, sizes_to, has_workers, orders, in_thread, HasRoom, IsNew, with_statement, with_said, Draft, Reads, skips, says, ReadsAll, none, one, IsBadLineFrom, ParsesFrom}
+use Rattle.uv_script.specs.Limits.{MOST_NAMES, MOST_LINES}
 use Rattle.uv_script.specs.Lines.{lines_of, fields_of}
 use Rattle.uv_script.specs.Program.{Program, line_count}
 use Rattle.uv_script.specs.Reading.{statement_of, has_room, is_new, IsSound, IsSaid, after_line, ReadsLine}
@@ -42,24 +43,24 @@ new_complete said (InThread line) h = refl
 
 pub room_sound : (p : Program) (s : Statement) → has_room p s ≡ true → HasRoom p s
 room_sound p (Declares name) e =
-    let tests = and_parts (nat_lt (line_count p) 65535) (nat_lt (length p.names) 4096) e in
-    (ltb-true (line_count p) 65535 tests.0, ltb-true (length p.names) 4096 tests.1)
-room_sound p (InMain op) e = ltb-true (line_count p) 65535 e
-room_sound p (InCallback kind v line) e = ltb-true (line_count p) 65535 e
+    let tests = and_parts (nat_lt (line_count p) MOST_LINES) (nat_lt (length p.names) MOST_NAMES) e in
+    (ltb-true (line_count p) MOST_LINES tests.0, ltb-true (length p.names) MOST_NAMES tests.1)
+room_sound p (InMain op) e = ltb-true (line_count p) MOST_LINES e
+room_sound p (InCallback kind v line) e = ltb-true (line_count p) MOST_LINES e
 room_sound p (Sizes size) e = tt
 room_sound p (HasWorkers n) e = tt
 room_sound p (Orders o) e = tt
-room_sound p (InThread line) e = ltb-true (line_count p) 65535 e
+room_sound p (InThread line) e = ltb-true (line_count p) MOST_LINES e
 
 room_complete : (p : Program) (s : Statement) → HasRoom p s → has_room p s ≡ true
-room_complete p (Declares name) h = and_from (nat_lt (line_count p) 65535) (nat_lt (length p.names) 4096) (lt-ltb (line_count p) 65535 h.0)
-    (lt-ltb (length p.names) 4096 h.1)
-room_complete p (InMain op) h = lt-ltb (line_count p) 65535 h
-room_complete p (InCallback kind v line) h = lt-ltb (line_count p) 65535 h
+room_complete p (Declares name) h = and_from (nat_lt (line_count p) MOST_LINES) (nat_lt (length p.names) MOST_NAMES) (lt-ltb (line_count p) MOST_LINES h.0)
+    (lt-ltb (length p.names) MOST_NAMES h.1)
+room_complete p (InMain op) h = lt-ltb (line_count p) MOST_LINES h
+room_complete p (InCallback kind v line) h = lt-ltb (line_count p) MOST_LINES h
 room_complete p (Sizes size) h = refl
 room_complete p (HasWorkers n) h = refl
 room_complete p (Orders o) h = refl
-room_complete p (InThread line) h = lt-ltb (line_count p) 65535 h
+room_complete p (InThread line) h = lt-ltb (line_count p) MOST_LINES h
 
 -- what a line says can be added
 pub says_sound : (p : Program) (fields : List (List ℕ)) (s : Statement) → Says p.names fields s → IsSound p s

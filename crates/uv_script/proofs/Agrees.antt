@@ -15,6 +15,7 @@ use Rattle.uv_script.specs.declared.op.Op.{Op}
 use Rattle.uv_script.specs.declared.op.Op.TheVariants as op
 use Rattle.uv_script.specs.declared.op.MainOp.TheVariants as main
 use Rattle.uv_script.specs.Grammar.{Statement, Declares, InMain, InCallback, Sizes, HasWorkers, Orders, InThread, named_word, bare_word, IsOp, init, start, repeat, queue, queue_text, on_name, bare, callback_word, Says, declares, in_main, runs, closes_loop, in_callback, in_call, sizes, sizes_to, has_workers, orders, in_thread}
+use Rattle.uv_script.specs.Limits.{MOST_SLOTS}
 use Rattle.uv_script.specs.Reading.{first_of, none_left, place_of, kind_of, mode_of, version_of, init_of, timer_start_of, start_by, start_of, repeat_of, filled, text_by, queue_of, bare_op, named_op, name_alone, short_op_of, op_of, declaration_of, run_of, close_loop_of, main_by, main_of, call_of, marked, in_calls_of, in_call_of, calls_of, callback_of, last_of, size_of, workers_of, orders_of, sender_of, thread_of, setting_of, statement_of}
 use Rattle.uv_script.specs.declared.task.Task.{Task}
 use Rattle.uv_script.specs.Lines.{rest_of}
@@ -349,12 +350,12 @@ size_sound names fields s e =
     let n = bound _ (number_of slots.0.0) s slots.2 in
     let g = bound _ (last_of slots.0.1) s n.2 in
     let a = first_is fields slots.0 slots.1 in
-    let p = cond_some (nat_le 1 n.0 && nat_le n.0 65535) (Sizes (record { slots = n.0; last_generation = g.0 })) s g.2 in
-    let tests = and_parts (nat_le 1 n.0) (nat_le n.0 65535) p.0 in
+    let p = cond_some (nat_le 1 n.0 && nat_le n.0 MOST_SLOTS) (Sizes (record { slots = n.0; last_generation = g.0 })) s g.2 in
+    let tests = and_parts (nat_le 1 n.0) (nat_le n.0 MOST_SLOTS) p.0 in
     subst (λ (r : List (List ℕ)). Says names (codes "slots" ∷ r) s) (sym a)
     (subst (Says names (codes "slots" ∷ slots.0.0 ∷ slots.0.1)) p.1
     (size_says names slots.0.0 slots.0.1 n.0 g.0 (number_of-sound slots.0.0 n.0 n.1)
-    (leb-true 1 n.0 tests.0, leb-true n.0 65535 tests.1) (last_sound slots.0.1 g.0 g.1)))
+    (leb-true 1 n.0 tests.0, leb-true n.0 MOST_SLOTS tests.1) (last_sound slots.0.1 g.0 g.1)))
 
 workers_sound : (names fields : List (List ℕ)) (s : Statement) → workers_of fields ≡ Some s → Says names (codes "workers" ∷ fields) s
 unfolding workers_of
@@ -667,7 +668,7 @@ unfolding size_of
 size_complete slots fields n g is fits last =
     rw (number_of-complete slots n is, last)
     (ap (λ b. cond b (Some (Sizes (record { slots = n; last_generation = g }))) None)
-    (and_from (nat_le 1 n) (nat_le n 65535) (le-leb 1 n fits.0) (le-leb n 65535 fits.1)))
+    (and_from (nat_le 1 n) (nat_le n MOST_SLOTS) (le-leb 1 n fits.0) (le-leb n MOST_SLOTS fits.1)))
 
 workers_complete : (number : List ℕ) (n : ℕ) → IsNumber number n → IsWorkerCount n → workers_of (number ∷ []) ≡ Some (HasWorkers n)
 unfolding workers_of

@@ -8,6 +8,7 @@ use Rattle.std.proofs.lemmas.List.Elements.{All-push, Contains-get_or}
 use Rattle.std.proofs.lemmas.List.Quantifiers.{all_pairs_push}
 use Rattle.std.proofs.lemmas.Slice.Eq.{bytes_eq-Decides}
 use Rattle.indexmap.specs.IndexSet.{insert_key}
+use Rattle.uv_script.specs.Limits.{MOST_NAMES}
 use Rattle.uv_script.specs.Names.{AreNames}
 use Rattle.uv_script.specs.Words.{IsName}
 
@@ -30,7 +31,7 @@ goes_last f ks k name is fresh =
     ∙ map-append f ks (k ∷ []) ∙ ap (λ n. map f ks ++ n ∷ []) is
 
 -- and they are still names
-pub AreNames-push : (names : List (List ℕ)) (name : List ℕ) → AreNames names → IsName name → (Contains names name → ⊥) → length names < 4096 →
+pub AreNames-push : (names : List (List ℕ)) (name : List ℕ) → AreNames names → IsName name → (Contains names name → ⊥) → length names < MOST_NAMES →
     AreNames (names ++ name ∷ [])
 AreNames-push names name are is fresh room = record {
   each = All-push IsName names name are.each is;

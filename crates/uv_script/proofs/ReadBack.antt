@@ -26,6 +26,7 @@ use Rattle.uv_script.specs.declared.size.ArenaSize.{ArenaSize}
 use Rattle.uv_ids.specs.declared.thread_line.ThreadLine.{ThreadLine}
 use Rattle.uv_script.specs.Grammar.{Declares, InMain, InCallback, Sizes, HasWorkers, Orders, InThread, declares, sizes_to, has_workers, orders, Draft, Reads, skips, says, ReadsAll, none, one, unread, WasRead, IsScript, Parses}
 use Rattle.uv_script.specs.Laws.{IsBack, IsReadBack}
+use Rattle.uv_script.specs.Limits.{MOST_NAMES, MOST_LINES}
 use Rattle.uv_script.specs.Lines.{lines_of, fields_of, IsLine}
 use Rattle.uv_script.specs.Program.{Program, Callbacks, no_callbacks, callbacks_of, lines_of as lines_in_callbacks, with_line, callback_count, line_count, IsWorkerCount}
 use Rattle.uv_script.specs.Text.{order_line, workers_line, slots_line, var_line, main_line, callback_line, name_lines, callback_lines, thread_line, script_lines, lines_text, script_text}
@@ -188,7 +189,7 @@ fresh_name before after name distinct (k, inside, is) =
 
 names_read : (size : ArenaSize) (workers : ℕ) (o : Order) (before names : List (List ℕ)) →
     ((name : List ℕ) → Contains names name → IsName name × IsLine (var_line name)) → AreDistinct (before ++ names) →
-    length before + length names ≤ 4096 →
+    length before + length names ≤ MOST_NAMES →
     ReadsOn (declared size workers o before) (map var_line names) (declared size workers o (before ++ names))
 names_read size workers o before [] each distinct few =
     subst (λ (ns : List (List ℕ)). ReadsOn (declared size workers o before) [] (declared size workers o ns)) (sym (append-nil before)) none
@@ -211,7 +212,7 @@ names_read size workers o before (name ∷ names) each distinct few =
 
 -- the main program
 main_read : (p : Program) (ops : List MainOp) → ((o : MainOp) → Contains ops o → IsWritten p.names (InMain o)) →
-    line_count p + length ops ≤ 65535 → ReadsOn p (map (main_line p.names) ops) (record p { main = p.main ++ ops })
+    line_count p + length ops ≤ MOST_LINES → ReadsOn p (map (main_line p.names) ops) (record p { main = p.main ++ ops })
 main_read p [] each few = subst (λ (m : List MainOp). ReadsOn p [] (record p { main = m })) (sym (append-nil p.main)) none
 main_read p (o ∷ ops) each few =
     let here = each o (contains_first o ops) in
@@ -224,7 +225,7 @@ main_read p (o ∷ ops) each few =
 
 -- what threads send
 threads_read : (p : Program) (lines : List ThreadLine) → ((line : ThreadLine) → Contains lines line → IsWritten p.names (InThread line)) →
-    line_count p + length lines ≤ 65535 → ReadsOn p (map (thread_line p.names) lines) (record p { threads = p.threads ++ lines })
+    line_count p + length lines ≤ MOST_LINES → ReadsOn p (map (thread_line p.names) lines) (record p { threads = p.threads ++ lines })
 threads_read p [] each few = subst (λ (ls : List ThreadLine). ReadsOn p [] (record p { threads = ls })) (sym (append-nil p.threads)) none
 threads_read p (line ∷ lines) each few =
     let here = each line (contains_first line lines) in
@@ -271,7 +272,7 @@ callbacks_at done later c =
 module _ (p : Program) where
   lines_read : (kind : Callback) (done later : List Callbacks) (c : Callbacks) (lines : List CallbackLine) →
       ((line : CallbackLine) → Contains lines line → IsWritten p.names (InCallback kind (place done) line)) →
-      line_count (with_callbacks p (done ++ c ∷ later)) + length lines ≤ 65535 →
+      line_count (with_callbacks p (done ++ c ∷ later)) + length lines ≤ MOST_LINES →
       ReadsOn (with_callbacks p (done ++ c ∷ later)) (map (callback_line p.names kind (place done)) lines)
       (with_callbacks p (done ++ with_lines kind c lines ∷ later))
   lines_read kind done later c [] each few =
@@ -302,7 +303,7 @@ module _ (p : Program) where
   -- all of one name
   name_read : (done later : List Callbacks) (c : Callbacks) →
       ((kind : Callback) (line : CallbackLine) → Contains (lines_in_callbacks kind c) line → IsWritten p.names (InCallback kind (place done) line)) →
-      line_count (with_callbacks p (done ++ c ∷ later)) ≤ 65535 →
+      line_count (with_callbacks p (done ++ c ∷ later)) ≤ MOST_LINES →
       ReadsOn (with_callbacks p (done ++ no_callbacks ∷ later)) (own_lines (place done) c) (with_callbacks p (done ++ c ∷ later))
   unfolding with_lines own_lines
   name_read done later c each few =
@@ -334,7 +335,7 @@ module _ (p : Program) where
       let next : length (done ++ c ∷ []) ≡ length done + 1 = length-append done (c ∷ []) in
       let count = is.few in
       let whole = ap (sum_by callback_count) e in
-      let few : line_count (with_callbacks p (done ++ c ∷ blanks cs)) ≤ 65535 =
+      let few : line_count (with_callbacks p (done ++ c ∷ blanks cs)) ≤ MOST_LINES =
       omega (arith, sum_seam done cs c, sum_seam done (blanks cs) c, blanks_sum cs) in
       let first = name_read done (blanks cs) c
       (λ kind line h. is.callbacks kind v line (subst (λ (x : Callbacks). Contains (lines_in_callbacks kind x) line) (sym own) h)) few in

@@ -15,6 +15,7 @@ use Rattle.uv_script.specs.declared.op.CallbackLine.{CallbackLine}
 use Rattle.uv_script.specs.declared.size.ArenaSize.{ArenaSize}
 use Rattle.uv_ids.specs.declared.thread_line.ThreadLine.{ThreadLine}
 use Rattle.uv_script.specs.Grammar.{Statement, Declares, InMain, InCallback, Sizes, HasWorkers, Orders, InThread, Says, declares, in_main, runs, closes_loop, in_callback, in_call, sizes, sizes_to, has_workers, orders, in_thread, HasRoom, with_statement, Draft, Reads, skips, says, ReadsAll, none, one, blank, unread, Makes}
+use Rattle.uv_script.specs.Limits.{MOST_NAMES, MOST_LINES}
 use Rattle.uv_script.specs.Lines.{fields_of, IsLine}
 use Rattle.uv_script.specs.Program.{Program, Callbacks, no_callbacks, callbacks_of, lines_of, with_line, lines_in, callback_count, line_count, IsSlotCount, IsWorkerCount}
 use Rattle.uv_script.specs.Reading.{IsSound}
@@ -36,12 +37,12 @@ pub record IsSize (size : ArenaSize) : Type 0 where
 pub record AreWritten (p : Program) : Type 0 where
   pub names : (name : List ℕ) → Contains p.names name → IsName name × IsLine (var_line name)
   pub distinct : AreDistinct p.names
-  pub few_names : length p.names ≤ 4096
+  pub few_names : length p.names ≤ MOST_NAMES
   pub main : (o : MainOp) → Contains p.main o → IsWritten p.names (InMain o)
   pub callbacks : (kind : Callback) (v : Var) (line : CallbackLine) → Contains (lines_in p kind v) line →
       IsWritten p.names (InCallback kind v line)
   pub each : length p.callbacks ≡ length p.names
-  pub few : line_count p ≤ 65535
+  pub few : line_count p ≤ MOST_LINES
   pub size : IsSize p.size
   pub workers : IsWorkerCount p.workers
   pub threads : (line : ThreadLine) → Contains p.threads line → IsWritten p.names (InThread line)

@@ -19,6 +19,7 @@ use Rattle.uv_script.specs.declared.size.ArenaSize.{ArenaSize}
 use Rattle.uv_script.specs.declared.settings.Settings.{Settings}
 use Rattle.uv_script.specs.declared.task.Task.{Task}
 use Rattle.uv_ids.specs.declared.thread_line.ThreadLine.{ThreadLine}
+use Rattle.uv_script.specs.Limits.{MOST_NAMES, MOST_LINES}
 use Rattle.uv_script.specs.Lines.{lines_of, fields_of, IsLine, IsSkipped}
 use Rattle.uv_script.specs.Program.{Program, no_callbacks, callbacks_of, with_line, line_count, IsSlotCount, LAST_GENERATION, IsWorkerCount, DEFAULT_SIZE, DEFAULT_WORKERS, DEFAULT_ORDER, IsCounted}
 use Rattle.uv_script.specs.Tasks.{text_of}
@@ -115,13 +116,13 @@ pub data Says (names : List (List ℕ)) (fields : List (List ℕ)) : Statement �
 
 -- there is room for one more line, and for one more name; lines of settings don't count
 abbrev pub HasRoom : Program → Statement → Type 0
-HasRoom p (Declares name) = (line_count p < 65535) × (length p.names < 4096)
-HasRoom p (InMain op) = line_count p < 65535
-HasRoom p (InCallback kind v line) = line_count p < 65535
+HasRoom p (Declares name) = (line_count p < MOST_LINES) × (length p.names < MOST_NAMES)
+HasRoom p (InMain op) = line_count p < MOST_LINES
+HasRoom p (InCallback kind v line) = line_count p < MOST_LINES
 HasRoom p (Sizes size) = Unit {0}
 HasRoom p (HasWorkers n) = Unit {0}
 HasRoom p (Orders o) = Unit {0}
-HasRoom p (InThread line) = line_count p < 65535
+HasRoom p (InThread line) = line_count p < MOST_LINES
 
 -- a setting is said once at most
 abbrev pub IsNew : Settings → Statement → Type 0

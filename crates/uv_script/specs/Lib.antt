@@ -1,5 +1,6 @@
 pub mod TaskFields
 pub mod Tasks
+pub mod Limits
 pub mod Program
 pub mod Lines
 pub mod Fields

@@ -12,6 +12,7 @@ use Rattle.uv_script.specs.declared.op.MainOp.{MainOp}
 use Rattle.uv_script.specs.declared.op.MainOp.TheVariants as main
 use Rattle.uv_script.specs.declared.op.CallbackLine.{CallbackLine}
 use Rattle.uv_script.specs.declared.size.ArenaSize.{ArenaSize}
+use Rattle.uv_script.specs.Limits.{MOST_SLOTS, MOST_LINES}
 use Rattle.uv_ids.specs.declared.thread_line.ThreadLine.{ThreadLine}
 
 -- the lines of a name's callbacks
@@ -92,9 +93,9 @@ DEFAULT_SIZE = record { slots = 1024; last_generation = LAST_GENERATION }
 abbrev pub arena_size : Program → ArenaSize
 arena_size p = p.size
 
--- an arena has 1 to 65535 slots (own)
+-- an arena has a slot at least
 abbrev pub IsSlotCount : ℕ → Type 0
-IsSlotCount n = (1 ≤ n) × (n ≤ 65535)
+IsSlotCount n = (1 ≤ n) × (n ≤ MOST_SLOTS)
 
 -- how many workers the thread pool has where no line says it, as in libuv
 abbrev pub DEFAULT_WORKERS : ℕ
@@ -129,11 +130,11 @@ pub record IsThreadLine (names : ℕ) (line : ThreadLine) : Type 0 where
 abbrev pub line_count : Program → ℕ
 line_count p = length p.names + length p.main + sum_by callback_count p.callbacks + length p.threads
 
--- what every script meets, beside what its names do: each name has its callbacks, there are at most 65535 lines, its arena has 1 to
--- 65535 slots, its thread pool 1 to 1024 workers, and each line of a thread sends a declared name
+-- what every script meets, beside what its names do: each name has its callbacks, lines, slots and workers are within their limits, and each
+-- line of a thread sends a declared name
 pub record IsWhole (p : Program) : Type 0 where
   pub callbacks : length p.callbacks ≡ length p.names
-  pub few : line_count p ≤ 65535
+  pub few : line_count p ≤ MOST_LINES
   pub slots : IsSlotCount (arena_size p).slots
   pub workers : IsWorkerCount (worker_count p)
   pub threads : All (IsThreadLine (length p.names)) p.threads

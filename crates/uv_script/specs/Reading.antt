@@ -18,6 +18,7 @@ use Rattle.uv_script.specs.declared.op.Op.TheVariants as op
 use Rattle.uv_script.specs.declared.op.MainOp.TheVariants as main
 use Rattle.uv_script.specs.declared.settings.Settings.{Settings}
 use Rattle.uv_script.specs.Grammar.{Statement, Declares, InMain, InCallback, Sizes, HasWorkers, Orders, InThread, Says, Draft, with_statement, with_said}
+use Rattle.uv_script.specs.Limits.{MOST_SLOTS, MOST_NAMES, MOST_LINES}
 use Rattle.uv_script.specs.Lines.{fields_of, rest_of, IsLine}
 use Rattle.uv_script.specs.Program.{Program, line_count, IsSlotCount, LAST_GENERATION, IsWorkerCount, IsThreadLine}
 use Rattle.uv_script.specs.Checks.{is_line, is_skipped, is_name, number_of}
@@ -255,7 +256,7 @@ size_of fields = do
   slots ← first_of fields
   n ← number_of slots.0
   g ← last_of slots.1
-  if nat_le 1 n && nat_le n 65535 then Some (Sizes (record { slots = n; last_generation = g })) else None
+  if nat_le 1 n && nat_le n MOST_SLOTS then Some (Sizes (record { slots = n; last_generation = g })) else None
 
 -- what stands behind `workers`
 unfoldable pub workers_of : List (List ℕ) → Option Statement
@@ -309,13 +310,13 @@ statement_of names fields = do
 
 -- whether there is room for one more line, and for one more name
 abbrev pub has_room : Program → Statement → Bool
-has_room p (Declares name) = nat_lt (line_count p) 65535 && nat_lt (length p.names) 4096
-has_room p (InMain op) = nat_lt (line_count p) 65535
-has_room p (InCallback kind v line) = nat_lt (line_count p) 65535
+has_room p (Declares name) = nat_lt (line_count p) MOST_LINES && nat_lt (length p.names) MOST_NAMES
+has_room p (InMain op) = nat_lt (line_count p) MOST_LINES
+has_room p (InCallback kind v line) = nat_lt (line_count p) MOST_LINES
 has_room p (Sizes size) = true
 has_room p (HasWorkers n) = true
 has_room p (Orders o) = true
-has_room p (InThread line) = nat_lt (line_count p) 65535
+has_room p (InThread line) = nat_lt (line_count p) MOST_LINES
 
 -- whether a setting is said for the first time
 abbrev pub is_new : Settings → Statement → Bool

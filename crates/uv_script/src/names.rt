@@ -1,5 +1,6 @@
 //! The names that a script declares.
 ghost use Rattle.std.specs.Prelude.{◌≡◌, ◌↔◌, ◌<◌, ◌++◌, ◌∷◌, [], length, slice_get, option_map, Contains, IfSome, IfNone, IsTrue, OnOk, OnErr};
+ghost use Rattle.uv_script.specs.Limits.{MOST_NAMES};
 ghost use Rattle.uv_script.specs.Reading.{place_of};
 ghost use Rattle.uv_script.specs.Names.{AreNames};
 ghost use Rattle.uv_script.specs.Words.{IsDeclared, IsName};
@@ -40,7 +41,7 @@ impl Names {
     pub(crate) fn declare(&mut self, alloc: Global, name: &[u8]) -> Result<(), AllocError>
         requires name { IsName name.now }
         requires fresh { Contains self.old name.now → ⊥ }
-        requires room { length self.old < 4096 }
+        requires room { length self.old < MOST_NAMES }
         ensures ok { OnOk result (self.new ≡ self.old ++ name.now ∷ []) }
         ensures err { OnErr result (self.new ≡ self.old) }
     {
@@ -49,7 +50,7 @@ impl Names {
         Ok(())
     }
 
-    /// How many names there are, at most 4096.
+    /// How many names there are.
     pub fn len(&self) -> usize
         ensures len { result ≡ length self.now }
         ensures known { AreNames self.now }

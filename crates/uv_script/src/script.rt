@@ -5,6 +5,7 @@ ghost use Rattle.uv_script.specs.Reading.{has_room, IsSound, IsSaid};
 ghost use Rattle.uv_script.specs.Said.{said};
 ghost use Rattle.uv_script.specs.Program.{lines_in, op_at, arena_size, worker_count, order_of, with_workers, IsWorkerCount, IsThreadLine, IsWhole};
 
+use crate::limits::{MOST_LINES, MOST_NAMES};
 use crate::names::Names;
 use crate::op::{CallbackLine, Callbacks, MainOp, Op};
 use crate::size::ArenaSize;
@@ -26,10 +27,6 @@ pub struct Script {
     /// How many lines count: all but `order`, `workers`, `slots`, empty ones and comments.
     lines: usize,
 }
-
-const MAX_LINES: usize = 65_535;
-
-const MAX_NAMES: usize = 4096;
 
 /// How many workers the thread pool has where no line says it, as in libuv.
 const DEFAULT_WORKERS: u16 = 4;
@@ -86,13 +83,13 @@ impl Script {
         ensures { result ≡ has_room self.now (said statement.now) }
     {
         match statement {
-            Statement::Declares(_) => self.lines < MAX_LINES && self.names.len() < MAX_NAMES,
-            Statement::InMain(_) => self.lines < MAX_LINES,
-            Statement::InCallback(_, _, _) => self.lines < MAX_LINES,
+            Statement::Declares(_) => self.lines < MOST_LINES && self.names.len() < MOST_NAMES,
+            Statement::InMain(_) => self.lines < MOST_LINES,
+            Statement::InCallback(_, _, _) => self.lines < MOST_LINES,
             Statement::Sizes(_) => true,
             Statement::HasWorkers(_) => true,
             Statement::Orders(_) => true,
-            Statement::InThread(_) => self.lines < MAX_LINES,
+            Statement::InThread(_) => self.lines < MOST_LINES,
         }
     }
 

@@ -5,7 +5,7 @@ ghost use Rattle.uv_script.specs.Program.{DEFAULT_SIZE};
 /// The arena that the slots of handles are taken from.
 #[derive(Clone, Copy, PartialEq, Eq)]
 pub struct ArenaSize {
-    /// How many slots it has, 1 to 65535.
+    /// How many slots it has; from a script, one at least.
     pub slots: u32,
     /// The generation at which a slot that is freed is retired.
     pub last_generation: u32,

@@ -5,6 +5,7 @@ ghost use Rattle.uv_script.specs.Reading.{none_left, kind_of, mode_of, init_of, 
 ghost use Rattle.uv_script.specs.Said.{said};
 ghost use Rattle.uv_script.specs.TaskReading.{task_of};
 
+use crate::limits::MOST_SLOTS;
 use crate::lines::Fields;
 use crate::names::Names;
 use crate::op::{CallbackLine, MainOp, Op};
@@ -395,7 +396,7 @@ fn size<'a>(mut fields: Fields<'a>) -> Option<Statement<'a>>
 {
     let slots = number(fields.next()?)?;
     let last_generation = last_generation(fields)?;
-    if 1 <= slots && slots <= 65_535 {
+    if 1 <= slots && slots <= MOST_SLOTS as u64 {
         Some(Statement::Sizes(ArenaSize {
             slots: slots as u32,
             last_generation,

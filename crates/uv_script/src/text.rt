@@ -255,8 +255,8 @@ impl Script {
         Ok(text)
     }
 
-    /// Writes all lines.
-    fn push_lines(&self, text: &mut Vec<u8>) -> Result<(), AllocError>
+    /// Writes the text of the script at the end of a text.
+    pub fn push_lines(&self, text: &mut Vec<u8>) -> Result<(), AllocError>
         ensures text { OnOk result (text.new.items ≡ text.old.items ++ script_text self.now) }
         ensures read { WasRead self.now }
     {

@@ -2,6 +2,7 @@ pub mod Commands
 pub mod Pieces
 pub mod Showing
 pub mod Recordings
+pub mod Wholes
 pub mod StepLines
 pub mod Sizes
 pub mod Printed

@@ -1,15 +1,12 @@
 -- A text that is written a piece at a time.
-use Rattle.std.proofs.Common.{◌≡◌, ℕ, ◌+◌, ◌<◌, ◌≤◌, List, [], ◌∷◌, ◌++◌, length, take, drop, get_or, refl, ap, sym, ◌∙◌, append_assoc, append-nil, add-one, drop-cons, take_all}
+use Rattle.std.proofs.Common.{◌≡◌, ℕ, ◌+◌, ◌<◌, ◌≤◌, List, [], ◌∷◌, ◌++◌, length, take, get_or, ap, sym, ◌∙◌, append_assoc, append-nil, add-one, take_all}
 use Rattle.std.proofs.lemmas.List.{take_more}
 use Rattle.std.proofs.lemmas.Grind.{flat_map-append}
 use Rattle.std.specs.List.{flat_map}
-use Rattle.std.specs.Prelude.{slice_get}
 use Rattle.uv_script.specs.Program.{Program}
-use Rattle.uv_model.specs.declared.layout.LaidSlot.{LaidSlot}
-use Rattle.uv_model.specs.State.{State, named}
+use Rattle.uv_model.specs.State.{State}
 use Rattle.uv_model.specs.Queries.{run_by}
-use Rattle.uv_text.specs.State.{name_line, names_upto, slot_or_none, slots_upto, run_text, runs_upto}
-use Rattle.uv_text.specs.Image.{link_line, links_from}
+use Rattle.uv_text.specs.State.{run_text, runs_upto}
 
 -- one more piece behind those before it
 pub one_more : (upto : ℕ → List ℕ) (n : ℕ) (start text piece : List ℕ) → upto (n + 1) ≡ upto n ++ piece → text ≡ start ++ upto n →
@@ -34,23 +31,8 @@ pub each_end : {A : Type 0} (f : A → List ℕ) (xs : List A) (i : ℕ) (start 
     text ≡ start ++ flat_map f (take i xs) → text ≡ start ++ flat_map f xs
 each_end f xs i start text ended all = all ∙ ap (λ ys. start ++ flat_map f ys) (take_all i xs ended)
 
--- one more name
-pub names_upto-more : (p : Program) (s : State) (n : ℕ) →
-    names_upto p s (n + 1) ≡ names_upto p s n ++ name_line p (record { 0 = n }) (named s (record { 0 = n }))
-names_upto-more p s n = ap (names_upto p s) (add-one n)
-
--- one more slot
-pub slots_upto-more : (p : Program) (s : State) (n : ℕ) →
-    slots_upto p s (n + 1) ≡ slots_upto p s n ++ slot_or_none p s n (slice_get s.arena.slots n)
-slots_upto-more p s n = ap (slots_upto p s) (add-one n)
-
 -- one more worker
 pub runs_upto-more : (p : Program) (s : State) (n : ℕ) → runs_upto p s (n + 1) ≡ runs_upto p s n ++ run_text p s n (run_by s n)
 runs_upto-more p s n = ap (runs_upto p s) (add-one n)
 
--- a slot of those that are left is the next
-pub links_from-drop : (x : ℕ) (slots : List LaidSlot) (c : LaidSlot) → x < length slots → c ≡ get_or slots x c →
-    links_from x (drop x slots) ≡ link_line x c ++ links_from (x + 1) (drop (x + 1) slots)
-links_from-drop x slots c within is = rw (drop-cons slots x c within) (rw (← is) (rw add-one refl))
-
-pub ruleset pieces = (flat_map-more, names_upto-more, slots_upto-more, runs_upto-more, links_from-drop)
+pub ruleset pieces = (flat_map-more, runs_upto-more)

@@ -1,12 +1,12 @@
 -- What a machine answers when it is asked how its memory lies.
-use Rattle.std.proofs.Common.{◌≡◌, ℕ, List, ◌++◌, Option, Some, IfSome, refl, subst}
+use Rattle.std.proofs.Common.{◌≡◌, ℕ, List, Option, Some, IfSome, subst}
 use Rattle.uv_ids.specs.declared.event.Event.{Event}
 use Rattle.uv_script.specs.Program.{Program}
 use Rattle.uv_model.specs.declared.layout.Layout.{Layout}
 use Rattle.uv_model.specs.Layout.{LiesFor}
 use Rattle.uv_model.specs.After.{after}
 use Rattle.uv_session.specs.Shown.{Shown}
-use Rattle.uv_text.specs.Image.{image_text, IsImageText, Puts}
+use Rattle.uv_text.specs.Image.{image_text, IsImageText}
 
 -- it lies for the state of the session whose machine it is
 lies_for : (s : Shown) (p : Program) (events : List Event) (l : Layout) (o : Option Layout) → p ≡ s.program → events ≡ s.standing → o ≡ Some l →
@@ -18,8 +18,3 @@ lies_for s p events l o a b e h =
 pub is_image : (s : Shown) {p : Program} {events : List Event} (l : Layout) {o : Option Layout} {text : List ℕ} → p ≡ s.program
     → events ≡ s.standing → o ≡ Some l → IfSome o (λ l. LiesFor l (after p events)) → text ≡ image_text s l → IsImageText s text
 is_image s {p} {events} l {o} {text} a b e h k = record { layout = l; lies = lies_for s p events l o a b e h; is = k }
-
-pub puts_image : (s : Shown) {p : Program} {events : List Event} (l : Layout) {o : Option Layout} {old new : List ℕ} → p ≡ s.program
-    → events ≡ s.standing → o ≡ Some l → IfSome o (λ l. LiesFor l (after p events)) → new ≡ old ++ image_text s l → Puts (IsImageText s) old new
-puts_image s {p} {events} l {o} {old} {new} a b e h k =
-    record { text = image_text s l; is = is_image s l a b e h refl; put = k }

@@ -1,6 +1,6 @@
--- What a state keeps of its lists: as many names and workers as the script has, no more slots than 65535, and a digest of 32 bytes in each
--- request that was finished. So a step that is taken can be written as a line, and so can each callback.
-use Rattle.std.proofs.Common.{◌≡◌, ℕ, suc, zero, ◌+◌, ◌<◌, ◌≤◌, ◌^◌, List, [], ◌∷◌, ◌++◌, length, drop, Bool, true, false, Option, Some, None, IfSome, Result, Ok, Err, All, slice_get, slice_set, option_and_then, nat_le, nat_lt, ◌==◌, ◌&&◌, refl, ap, subst, ◌∙◌, arith, length-append, length-set, cond, if◌then◌else◌}
+-- What a state keeps of its lists: as many names and workers as the script has, no more slots than a script may ask for, and a digest of
+-- 32 bytes in each request that was finished. So a step that is taken can be written as a line, and so can each callback.
+use Rattle.std.proofs.Common.{◌≡◌, ℕ, suc, zero, ◌+◌, ◌<◌, ◌≤◌, ◌^◌, List, [], ◌∷◌, ◌++◌, length, drop, Bool, true, false, Option, Some, None, IfSome, Result, Ok, Err, All, slice_get, slice_set, option_and_then, nat_le, nat_lt, ◌==◌, refl, ap, subst, ◌∙◌, arith, length-append, length-set, cond, if◌then◌else◌}
 use Rattle.std.specs.List.{list_any}
 use Rattle.std.proofs.lemmas.Grind.{elements}
 use Rattle.std.proofs.lemmas.Bool.{cond_both, leb-true, ltb-true}
@@ -23,6 +23,7 @@ use Rattle.uv_script.specs.declared.op.MainOp.{MainOp}
 use Rattle.uv_script.specs.declared.op.MainOp.TheVariants as main
 use Rattle.uv_script.specs.declared.op.CallbackLine.{CallbackLine}
 use Rattle.uv_script.specs.declared.task.Task.{Task}
+use Rattle.uv_script.specs.Limits.{MOST_SLOTS}
 use Rattle.uv_script.specs.Program.{Program, arena_size, order_of}
 use Rattle.uv_script.specs.Tasks.{text_of}
 use Rattle.uv_records.specs.declared.handle.HandleRecord.{HandleRecord}
@@ -87,7 +88,7 @@ AreContents slots = All (λ (slot : Slot Content). IsContent slot.content) slots
 pub record IsSized (names workers : ℕ) (bound : List Named) (running : List (Option Id)) (arena : Slots Content) : Type 0 where
   pub names_are : length bound ≡ names
   pub workers_are : length running ≡ workers
-  pub few : length arena.slots + arena.unused ≤ 65535
+  pub few : length arena.slots + arena.unused ≤ MOST_SLOTS
   pub contents : AreContents arena.slots
 
 abbrev pub Sized : ℕ → ℕ → State → Type 0
@@ -96,7 +97,7 @@ Sized m k s = IsSized m k s.names s.running s.arena
 -- ---- what the lines of callbacks show
 
 pub record IsShort (id : Id) : Type 0 where
-  pub slot : id.slot < 65535
+  pub slot : id.slot < MOST_SLOTS
   pub generation : id.generation < 2 ^ 31
 
 abbrev pub Shows : Seen → Type 0

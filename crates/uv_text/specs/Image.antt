@@ -1,5 +1,5 @@
 -- The text of how the memory lies that stands for a session's state.
-use Rattle.std.specs.Prelude.{◌≡◌, ℕ, ◌+◌, List, [], ◌∷◌, ◌++◌, Bool, true, false, Option, Some, None, codes}
+use Rattle.std.specs.Prelude.{◌≡◌, ℕ, ◌+◌, ◌-◌, ◌==◌, nat_lt, List, [], ◌∷◌, ◌++◌, length, Option, Some, None, slice_get, if◌then◌else◌, codes}
 use Rattle.std.specs.List.{flat_map}
 use Rattle.uv_records.specs.declared.lists.Ends.{Ends}
 use Rattle.uv_heap.specs.declared.entry.Entry.{Entry}
@@ -64,6 +64,34 @@ layout_text l =
     links_from 0 l.slots.items ++ ends_line (codes "free") l.free ++ flat_map named_ends l.lists.items ++ heap_line l.heap.items
     ++ places_line l.slots.items ++ counts_line l.active l.opened
 
+-- the same in parts, as it is written: a line for each slot, and what stands behind them
+
+-- the line of a slot
+abbrev pub link_part : ℕ → Option LaidSlot → List ℕ
+link_part x (Some c) = link_line x c
+link_part x None = []
+
+-- how many parts stand behind these lines
+abbrev pub LAYOUT_PARTS : ℕ
+LAYOUT_PARTS = 5
+
+-- one of these
+unfoldable pub rest_part : Layout → ℕ → List ℕ
+rest_part l n =
+    if n == 0 then ends_line (codes "free") l.free
+    else if n == 1 then flat_map named_ends l.lists.items
+    else if n == 2 then heap_line l.heap.items
+    else if n == 3 then places_line l.slots.items
+    else counts_line l.active l.opened
+
+unfoldable pub layout_part : Layout → ℕ → List ℕ
+layout_part l n =
+    if nat_lt n (length l.slots.items) then link_part n (slice_get l.slots.items n)
+    else rest_part l (n - length l.slots.items)
+
+abbrev pub layout_parts : Layout → ℕ
+layout_parts l = length l.slots.items + LAYOUT_PARTS
+
 -- the state, and how the memory lies
 abbrev pub image_text : Shown → Layout → List ℕ
 image_text s l = state_text s ++ layout_text l
@@ -73,14 +101,3 @@ pub record IsImageText (s : Shown) (text : List ℕ) : Type 0 where
   pub layout : Layout
   pub lies : LiesFor layout (after s.program s.standing)
   pub is : text ≡ image_text s layout
-
--- a text of this kind was put behind a text
-pub record Puts (Is : List ℕ → Type 0) (old new : List ℕ) : Type 0 where
-  pub text : List ℕ
-  pub is : Is text
-  pub put : new ≡ old ++ text
-
--- the text of a memory was put behind a text, or nothing was
-abbrev pub PutsImage : Shown → Bool → List ℕ → List ℕ → Type 0
-PutsImage s true old new = Puts (IsImageText s) old new
-PutsImage s false old new = new ≡ old

@@ -1,3 +1,4 @@
+pub mod Parts
 pub mod Trace
 pub mod Commands
 pub mod Reading

@@ -1,5 +1,5 @@
 -- The text of a recording: a script, the steps that stand, and the callbacks that they called.
-use Rattle.std.specs.Prelude.{ℕ, List, [], ◌∷◌, ◌++◌, map, Bool, true, false, Option, Some, None, if◌then◌else◌, codes, decimal}
+use Rattle.std.specs.Prelude.{ℕ, ◌+◌, ◌-◌, ◌*◌, ◌==◌, nat_le, List, [], ◌∷◌, ◌++◌, length, map, Bool, true, false, Option, Some, None, slice_get, if◌then◌else◌, codes, decimal}
 use Rattle.std.specs.List.{filter}
 use Rattle.uv_ids.specs.declared.event.Event.{Event}
 use Rattle.uv_ids.specs.declared.event.Event.TheVariants.{Loop, Take, Finish, Cancel, Send, Tick}
@@ -7,7 +7,7 @@ use Rattle.uv_ids.specs.declared.seen.Seen.{Seen}
 use Rattle.uv_ids.specs.declared.seen.Seen.TheVariants as seen
 use Rattle.uv_script.specs.Program.{Program}
 use Rattle.uv_script.specs.Text.{name_text, script_lines, lines_text, script_text}
-use Rattle.uv_model.specs.After.{lines}
+use Rattle.uv_model.specs.After.{lines, seen_by}
 use Rattle.uv_text.specs.Trace.{line_text, seen_text}
 
 -- a step, as a recording has it
@@ -44,21 +44,33 @@ recording_lines p es =
 unfoldable pub recording_text : Program → List Event → List ℕ
 recording_text p es = lines_text (recording_lines p es)
 
--- ---- the same a part at a time, as it is written
+-- ---- the same in parts, as it is written: the script, a line for each step, the line `calls`, the line of each step that called a callback,
+-- and the line `end`
 
 -- the first line, the script and the line `begin`
 unfoldable pub script_part : Program → List ℕ
 script_part p = codes "uvt 2\n" ++ script_text p ++ codes "begin\n"
 
--- the steps and the line `calls`
-unfoldable pub steps_part : Program → List Event → List ℕ
-steps_part p es = lines_text (map (step_line p.names) es) ++ codes "calls\n"
-
--- the callbacks and the line `end`
-unfoldable pub calls_part : Program → List Event → List ℕ
-calls_part p es = lines_text (callback_lines p es) ++ codes "end\n"
+abbrev pub step_part : List (List ℕ) → Option Event → List ℕ
+step_part names (Some e) = step_line names e ++ codes "\n"
+step_part names None = []
 
 -- the line of a callback, if the step called one
 abbrev pub called_text : Program → Option Seen → List ℕ
 called_text p None = []
 called_text p (Some l) = if is_callback l then seen_text p l else []
+
+abbrev pub called_part : Program → Option (Option Seen) → List ℕ
+called_part p (Some l) = called_text p l
+called_part p None = []
+
+unfoldable pub recording_part : Program → List Event → ℕ → List ℕ
+recording_part p es n =
+    if n == 0 then script_part p
+    else if nat_le n (length es) then step_part p.names (slice_get es (n - 1))
+    else if n == length es + 1 then codes "calls\n"
+    else if nat_le n (2 * length es + 1) then called_part p (slice_get (seen_by p es) (n - 2 - length es))
+    else codes "end\n"
+
+abbrev pub recording_parts : List Event → ℕ
+recording_parts es = 2 * length es + 3

@@ -1,5 +1,5 @@
 -- The text of a session's state.
-use Rattle.std.specs.Prelude.{ℕ, zero, suc, List, [], ◌++◌, Bool, true, false, length, Option, Some, None, slice_get, codes, decimal}
+use Rattle.std.specs.Prelude.{ℕ, zero, suc, ◌+◌, ◌-◌, ◌==◌, nat_le, List, [], ◌++◌, Bool, true, false, length, Option, Some, None, slice_get, if◌then◌else◌, codes, decimal}
 use Rattle.std.specs.List.{flat_map}
 use Rattle.uv_ids.specs.Words.{kind_word, mode_word}
 use Rattle.uv_ids.specs.declared.id.Id.{Id}
@@ -253,3 +253,45 @@ text_after p n s =
 -- the state of a session: the one after its standing steps
 abbrev pub state_text : Shown → List ℕ
 state_text s = text_after s.program (length s.standing) (after s.program s.standing)
+
+-- ---- the same in parts, as it is written: the numbers and the place, a line for each name, one for each slot, and what stands behind them
+
+-- how many parts stand behind the lines of the slots
+abbrev pub LAST_PARTS : ℕ
+LAST_PARTS = 9
+
+-- one of these
+unfoldable pub last_part : Program → State → ℕ → List ℕ
+last_part p s n =
+    if n == 0 then free_line s.arena.free
+    else if n == 1 then unused_line s.arena.unused
+    else if n == 2 then list_line p s (codes "timers") (timer_ids s)
+    else if n == 3 then members_line p s name.Ready
+    else if n == 4 then before_poll p s
+    else if n == 5 then after_poll p s
+    else if n == 6 then members_line p s name.Closing
+    else if n == 7 then members_line p s name.ClosingYet
+    else work_text p s
+
+abbrev pub name_part : Program → State → ℕ → List ℕ
+name_part p s n = name_line p (record { 0 = n }) (named s (record { 0 = n }))
+
+abbrev pub slot_part : Program → State → ℕ → List ℕ
+slot_part p s n = slot_or_none p s n (slice_get s.arena.slots n)
+
+unfoldable pub part_after : Program → ℕ → State → ℕ → List ℕ
+part_after p k s n =
+    if n == 0 then steps_line k (numbers s) ++ place_line p s.place
+    else if nat_le n (length p.names) then name_part p s (n - 1)
+    else if nat_le n (length p.names + length s.arena.slots) then slot_part p s (n - 1 - length p.names)
+    else last_part p s (n - 1 - length p.names - length s.arena.slots)
+
+abbrev pub part_count : Program → State → ℕ
+part_count p s = 1 + length p.names + length s.arena.slots + LAST_PARTS
+
+-- of a session
+abbrev pub state_part : Shown → ℕ → List ℕ
+state_part s n = part_after s.program (length s.standing) (after s.program s.standing) n
+
+abbrev pub state_parts : Shown → ℕ
+state_parts s = part_count s.program (after s.program s.standing)

@@ -1,9 +1,10 @@
 //! The text of how a machine's memory lies.
-ghost use Rattle.std.specs.Prelude.{◌≡◌, ◌++◌, IfOk, IfErr, IfSome, IfNone, OnOk, false};
+ghost use Rattle.std.specs.Prelude.{◌≡◌, ◌++◌, IfOk, IfErr, IfSome, IfNone, OnOk};
 ghost use Rattle.std.specs.List.{flat_map};
 ghost use Rattle.uv_ids.specs.declared.fault.Fault.TheVariants.{Memory};
-ghost use Rattle.uv_text.specs.Image.{or_dash, link_line, links_from, ends_line, named_ends, entry_text, heap_line, place_text, places_line, counts_line, layout_text, image_text, IsImageText, PutsImage};
+ghost use Rattle.uv_text.specs.Image.{or_dash, link_line, ends_line, named_ends, entry_text, heap_line, place_text, places_line, counts_line, rest_part, layout_part, layout_text, image_text, IsImageText};
 
+use crate::parts::{Parts, push_parts};
 use crate::state::{list_word, push_numbered, push_state};
 use std::alloc::{AllocError, Global};
 use uv_heap::Entry;
@@ -26,20 +27,6 @@ pub fn image_text<M: Machine>(alloc: Global, session: &Session<M>) -> Result<Opt
     Ok(Some(text))
 }
 
-/// Puts the text of a session's state, and of how the memory lies that stands for it, behind a text. `false` where the machine has
-/// no one memory: then the text is as it was.
-pub fn push_image<M: Machine>(text: &mut Vec<u8>, session: &Session<M>) -> Result<bool, Fault>
-    ensures text { IfOk result (λ lies. PutsImage session.now lies text.old.items text.new.items) }
-    ensures none { IfOk result (λ lies. lies ≡ false → M.MayHaveNoLayout) }
-    ensures err { IfErr result (λ fault. fault ≡ Memory) }
-{
-    let Some(layout) = session.machine().layout()? else {
-        return Ok(false);
-    };
-    push_whole(text, session, &layout)?;
-    Ok(true)
-}
-
 fn push_whole<M: Machine>(
     text: &mut Vec<u8>,
     session: &Session<M>,
@@ -51,16 +38,62 @@ fn push_whole<M: Machine>(
     push_layout(text, layout)
 }
 
-#[tactic(auto, unfolding(crate::specs::Image::layout_text))]
 fn push_layout(text: &mut Vec<u8>, layout: &Layout) -> Result<(), AllocError>
     ensures { OnOk result (text.new.items ≡ text.old.items ++ layout_text layout.now) }
 {
-    push_links(text, layout.slots.as_slice())?;
-    push_ends(text, "free", layout.free)?;
-    push_lists(text, layout.lists.as_slice())?;
-    push_heap(text, layout.heap.as_slice())?;
-    push_places(text, layout.slots.as_slice())?;
-    push_counts(text, layout.active, layout.opened)
+    push_parts(text, &LayoutParts { layout })
+}
+
+/// The text of how a memory lies in parts: it follows that of the state in an image.
+#[derive(Drop)]
+pub struct LayoutParts<'a> {
+    pub layout: &'a Layout,
+}
+
+/// How many parts stand behind the lines of the slots.
+const LAYOUT_PARTS: usize = 5;
+
+impl<'a> Parts for LayoutParts<'a> {
+    ghost use Rattle.uv_text.specs.Image.{layout_part, layout_parts};
+
+    ghost parts = { λ image. layout_parts image.layout.now };
+
+    ghost part = { λ image. layout_part image.layout.now };
+
+    fn part_count(&self) -> usize {
+        self.layout.slots.len() + LAYOUT_PARTS
+    }
+
+    fn push_part(&self, text: &mut Vec<u8>, number: usize) -> Result<(), AllocError> {
+        push_layout_part(text, self.layout, number)
+    }
+}
+
+/// The line of a slot, or a part behind these.
+#[tactic(auto, unfolding(crate::specs::Image::layout_part))]
+fn push_layout_part(text: &mut Vec<u8>, layout: &Layout, number: usize) -> Result<(), AllocError>
+    ensures { OnOk result (text.new.items ≡ text.old.items ++ layout_part layout.now number) }
+{
+    let slots = layout.slots.as_slice();
+    if number < slots.len() {
+        push_link(text, number, slots[number])
+    } else {
+        push_rest(text, layout, number - slots.len())
+    }
+}
+
+/// What stands behind the lines of the slots, a part of it.
+#[tactic(auto, unfolding(crate::specs::Image::rest_part))]
+fn push_rest(text: &mut Vec<u8>, layout: &Layout, number: usize) -> Result<(), AllocError>
+    ensures { OnOk result (text.new.items ≡ text.old.items ++ rest_part layout.now number) }
+{
+    match number {
+        0 => push_ends(text, "free", layout.free),
+        1 => push_lists(text, layout.lists.as_slice()),
+        2 => push_heap(text, layout.heap.as_slice()),
+        3 => push_places(text, layout.slots.as_slice()),
+        _ => push_counts(text, layout.active, layout.opened),
+    }
 }
 
 /// A space and a number, or a space and `-`.
@@ -81,17 +114,6 @@ fn push_link(text: &mut Vec<u8>, number: usize, slot: LaidSlot) -> Result<(), Al
     push_or_dash(text, slot.prev)?;
     push_or_dash(text, slot.next)?;
     text.extend_from_slice(b"\n")
-}
-
-/// All slots that were used.
-#[tactic(auto, using(crate::proofs::Pieces::pieces))]
-fn push_links(text: &mut Vec<u8>, slots: &[LaidSlot]) -> Result<(), AllocError>
-    ensures { OnOk result (text.new.items ≡ text.old.items ++ links_from 0 slots.now) }
-{
-    for number in 0..slots.len() {
-        push_link(text, number, slots[number])?;
-    }
-    Ok(())
 }
 
 #[tactic(auto, unfolding(crate::specs::Image::ends_line))]

@@ -4,14 +4,16 @@
 mod breaks;
 mod command;
 mod image;
+mod parts;
 mod recorded;
 mod recording;
 mod state;
 mod trace;
 
 pub use command::{Asked, Command, every_line_asks, read_command};
-pub use image::{image_text, push_image};
+pub use image::{LayoutParts, image_text};
+pub use parts::Parts;
 pub use recorded::{is_callback_line, read_step};
-pub use recording::{is_callback, push_recording, recording_text};
-pub use state::{push_state, state_text};
+pub use recording::{RecordingParts, is_callback, recording_text};
+pub use state::{StateParts, state_text};
 pub use trace::{push_line, push_seen, seen_text};

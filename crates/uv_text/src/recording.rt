@@ -1,9 +1,9 @@
 //! The text of a recording.
-ghost use Rattle.std.specs.Prelude.{◌≡◌, ◌++◌, map, IfOk, IfErr, OnOk};
+ghost use Rattle.std.specs.Prelude.{◌≡◌, ◌<◌, ◌++◌, IfOk, IfErr, OnOk, codes};
 ghost use Rattle.uv_ids.specs.declared.fault.Fault.TheVariants.{Memory};
-ghost use Rattle.uv_script.specs.Text.{lines_text};
-ghost use Rattle.uv_text.specs.Recording.{is_callback, called_text, step_line, script_part, steps_part, calls_part, recording_text};
+ghost use Rattle.uv_text.specs.Recording.{is_callback, called_text, step_line, script_part, recording_part, recording_parts, recording_text};
 
+use crate::parts::{Parts, push_parts};
 use crate::trace::push_seen;
 use std::alloc::{AllocError, Global};
 use uv_ids::{Event, Fault, Seen};
@@ -22,17 +22,58 @@ pub fn recording_text<M: Machine>(alloc: Global, session: &Session<M>) -> Result
 }
 
 /// Puts the recording of a session behind a text.
-pub fn push_recording<M: Machine>(
-    text: &mut Vec<u8>,
-    session: &Session<M>,
-) -> Result<(), AllocError>
+fn push_recording<M: Machine>(text: &mut Vec<u8>, session: &Session<M>) -> Result<(), AllocError>
     ensures { OnOk result (text.new.items ≡ text.old.items ++ recording_text session.now.program session.now.standing) }
 {
-    let machine = session.machine();
-    push_script(text, machine.script())?;
-    push_steps(text, machine.script(), session.steps())?;
-    push_calls(text, machine)?;
-    Ok(())
+    push_parts(text, &RecordingParts { session })
+}
+
+/// The recording of a session in parts. Its script is one of them.
+#[derive(Drop)]
+pub struct RecordingParts<'a, M: Machine> {
+    pub session: &'a Session<M>,
+}
+
+impl<'a, M: Machine> Parts for RecordingParts<'a, M> {
+    ghost use Rattle.uv_text.specs.Recording.{recording_part, recording_parts};
+
+    ghost parts = { λ recording. recording_parts recording.session.now.standing };
+
+    ghost part = { λ recording. recording_part recording.session.now.program recording.session.now.standing };
+
+    fn part_count(&self) -> usize {
+        2 * self.session.steps().len() + 3
+    }
+
+    fn push_part(&self, text: &mut Vec<u8>, number: usize) -> Result<(), AllocError> {
+        push_recording_part(text, self.session.machine(), self.session.steps(), number)
+    }
+}
+
+/// The script, the line of a step, the line `calls`, the line of a callback if its step called one, or the line `end`.
+#[tactic(auto, unfolding(crate::specs::Recording::recording_part))]
+fn push_recording_part<M: Machine>(
+    text: &mut Vec<u8>,
+    machine: &M,
+    steps: &[Event],
+    number: usize,
+) -> Result<(), AllocError>
+    requires steps { steps.now ≡ M.standing machine.now }
+    requires number { number < recording_parts steps.now }
+    ensures { OnOk result (text.new.items ≡ text.old.items ++ recording_part (M.program machine.now) steps.now number) }
+{
+    let script = machine.script();
+    if number == 0 {
+        push_script(text, script)
+    } else if number <= steps.len() {
+        push_step_line(text, script.names(), steps[number - 1])
+    } else if number == steps.len() + 1 {
+        text.extend_from_slice(b"calls\n")
+    } else if number <= 2 * steps.len() + 1 {
+        push_called(text, script, machine.seen(number - 1 - steps.len()))
+    } else {
+        text.extend_from_slice(b"end\n")
+    }
 }
 
 /// The first line, the script, and the line `begin`.
@@ -40,31 +81,16 @@ pub fn push_recording<M: Machine>(
 fn push_script(text: &mut Vec<u8>, script: &Script) -> Result<(), AllocError>
     ensures { OnOk result (text.new.items ≡ text.old.items ++ script_part script.now) }
 {
-    let Ok(of_script) = script.text() else {
-        return Err(AllocError);
-    };
     text.extend_from_slice(b"uvt 2\n")?;
-    text.extend_from_slice(of_script.as_slice())?;
+    script.push_lines(text)?;
     text.extend_from_slice(b"begin\n")
 }
 
-/// The steps, and the line `calls`.
-#[tactic(auto, unfolding(crate::specs::Recording::steps_part))]
-fn push_steps(text: &mut Vec<u8>, script: &Script, steps: &[Event]) -> Result<(), AllocError>
-    ensures { OnOk result (text.new.items ≡ text.old.items ++ steps_part script.now steps.now) }
+fn push_step_line(text: &mut Vec<u8>, names: &Names, step: Event) -> Result<(), AllocError>
+    ensures { OnOk result (text.new.items ≡ text.old.items ++ (step_line names.now step ++ codes "\n")) }
 {
-    push_step_lines(text, script.names(), steps)?;
-    text.extend_from_slice(b"calls\n")
-}
-
-fn push_step_lines(text: &mut Vec<u8>, names: &Names, steps: &[Event]) -> Result<(), AllocError>
-    ensures { OnOk result (text.new.items ≡ text.old.items ++ lines_text (map (step_line names.now) steps.now)) }
-{
-    for step in steps {
-        push_step(text, names, *step)?;
-        text.extend_from_slice(b"\n")?;
-    }
-    Ok(())
+    push_step(text, names, step)?;
+    text.extend_from_slice(b"\n")
 }
 
 /// A step's line, without its line feed.
@@ -94,17 +120,6 @@ fn push_step(text: &mut Vec<u8>, names: &Names, step: Event) -> Result<(), Alloc
             push_number(text, ms)
         }
     }
-}
-
-/// The callbacks, and the line `end`.
-fn push_calls<M: Machine>(text: &mut Vec<u8>, machine: &M) -> Result<(), AllocError>
-    ensures { OnOk result (text.new.items ≡ text.old.items ++ calls_part (M.program machine.now) (M.standing machine.now)) }
-{
-    for step in 0..machine.len() {
-        push_called(text, machine.script(), machine.seen(step + 1))?;
-    }
-    text.extend_from_slice(b"end\n")?;
-    Ok(())
 }
 
 /// The line of a callback, if a step called one.

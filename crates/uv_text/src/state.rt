@@ -1,13 +1,14 @@
 //! The text of a state.
-ghost use Rattle.std.specs.Prelude.{◌≡◌, ◌++◌, length, slice_get, IfOk, IfErr, OnOk, codes};
+ghost use Rattle.std.specs.Prelude.{◌≡◌, ◌<◌, ◌^◌, ◌++◌, length, slice_get, IfOk, IfErr, OnOk, codes};
 ghost use Rattle.std.specs.List.{flat_map};
 ghost use Rattle.uv_ids.specs.declared.fault.Fault.TheVariants.{Memory};
 ghost use Rattle.uv_records.specs.Slots.{held};
 ghost use Rattle.uv_model.specs.After.{after};
 ghost use Rattle.uv_model.specs.declared.place.Place.TheVariants.{Running};
-ghost use Rattle.uv_model.specs.Queries.{timer_ids};
-ghost use Rattle.uv_text.specs.State.{numbered, flagged, steps_line, timers_text, stage_text, callback_word, body_text, place_line, bound_text, counts_text, name_line, names_upto, kind_text, record_text, open_text, outcome_text, request_text, content_text, slot_line, slot_or_none, slots_upto, free_line, unused_line, holder_text, member_text, list_line, list_word, members_line, before_poll, after_poll, run_text, runs_upto, running_line, work_text, lists_text, state_text};
+ghost use Rattle.uv_model.specs.Queries.{numbers, timer_ids};
+ghost use Rattle.uv_text.specs.State.{numbered, flagged, steps_line, timers_text, stage_text, callback_word, body_text, place_line, bound_text, counts_text, name_line, name_part, kind_text, record_text, open_text, outcome_text, request_text, content_text, slot_line, slot_part, free_line, unused_line, holder_text, member_text, list_line, list_word, members_line, before_poll, after_poll, run_text, runs_upto, running_line, work_text, last_part, part_after, part_count, state_text};
 
+use crate::parts::{Parts, push_parts};
 use crate::trace::{push_id, push_timeout};
 use std::alloc::{AllocError, Global};
 use uv_ids::{Callback, Fault, Id, Kind, Var};
@@ -30,17 +31,99 @@ pub fn state_text<M: Machine>(alloc: Global, session: &Session<M>) -> Result<Vec
 }
 
 /// Puts the text of a session's state behind a text.
-pub fn push_state<M: Machine>(text: &mut Vec<u8>, session: &Session<M>) -> Result<(), AllocError>
+pub(crate) fn push_state<M: Machine>(
+    text: &mut Vec<u8>,
+    session: &Session<M>,
+) -> Result<(), AllocError>
     ensures { OnOk result (text.new.items ≡ text.old.items ++ state_text session.now) }
 {
-    let machine = session.machine();
-    push_steps(text, session.steps().len(), machine.numbers())?;
-    push_place(text, machine.script(), machine.place())?;
-    push_names(text, machine)?;
-    push_slots(text, machine)?;
-    push_free(text, machine)?;
-    push_unused(text, machine.unused())?;
-    push_lists(text, machine)
+    push_parts(text, &StateParts { session })
+}
+
+/// The text of a session's state in parts.
+#[derive(Drop)]
+pub struct StateParts<'a, M: Machine> {
+    pub session: &'a Session<M>,
+}
+
+impl<'a, M: Machine> Parts for StateParts<'a, M> {
+    ghost use Rattle.uv_text.specs.State.{state_part, state_parts};
+
+    ghost parts = { λ state. state_parts state.session.now };
+
+    ghost part = { λ state. state_part state.session.now };
+
+    fn part_count(&self) -> usize {
+        state_part_count(self.session.machine())
+    }
+
+    fn push_part(&self, text: &mut Vec<u8>, number: usize) -> Result<(), AllocError> {
+        let steps = self.session.steps().len();
+        push_state_part(text, self.session.machine(), steps, number)
+    }
+}
+
+/// How many parts stand behind the lines of the slots.
+const LAST_PARTS: usize = 9;
+
+fn state_part_count<M: Machine>(machine: &M) -> usize
+    ensures { result ≡ part_count (M.program machine.now) (after (M.program machine.now) (M.standing machine.now)) }
+{
+    1 + machine.script().names().len() + machine.used() as usize + LAST_PARTS
+}
+
+/// The numbers and the place, the line of a name or of a slot, or a part behind these.
+#[tactic(auto, unfolding(crate::specs::State::part_after))]
+fn push_state_part<M: Machine>(
+    text: &mut Vec<u8>,
+    machine: &M,
+    steps: usize,
+    number: usize,
+) -> Result<(), AllocError>
+    requires { number < part_count (M.program machine.now) (after (M.program machine.now) (M.standing machine.now)) }
+    ensures { OnOk result (text.new.items ≡ text.old.items ++ part_after
+        (M.program machine.now) steps (after (M.program machine.now) (M.standing machine.now)) number) }
+{
+    let names = machine.script().names().len();
+    let used = machine.used() as usize;
+    if number == 0 {
+        push_head(text, machine, steps)
+    } else if number <= names {
+        push_name(text, machine, number - 1)
+    } else if number <= names + used {
+        push_slot(text, machine, (number - 1 - names) as u32)
+    } else {
+        push_last(text, machine, number - 1 - names - used)
+    }
+}
+
+/// The numbers, and the place.
+fn push_head<M: Machine>(text: &mut Vec<u8>, machine: &M, steps: usize) -> Result<(), AllocError>
+    ensures { OnOk result (text.new.items ≡ text.old.items ++ (
+        steps_line steps (numbers (after (M.program machine.now) (M.standing machine.now)))
+        ++ place_line (M.program machine.now) (after (M.program machine.now) (M.standing machine.now)).place)) }
+{
+    push_steps(text, steps, machine.numbers())?;
+    push_place(text, machine.script(), machine.place())
+}
+
+/// What stands behind the lines of the slots, a part of it.
+#[tactic(auto, unfolding(crate::specs::State::last_part))]
+fn push_last<M: Machine>(text: &mut Vec<u8>, machine: &M, number: usize) -> Result<(), AllocError>
+    ensures { OnOk result (text.new.items ≡ text.old.items ++ last_part
+        (M.program machine.now) (after (M.program machine.now) (M.standing machine.now)) number) }
+{
+    match number {
+        0 => push_free(text, machine),
+        1 => push_unused(text, machine.unused()),
+        2 => push_timer_list(text, machine),
+        3 => push_members(text, machine, ListName::Ready),
+        4 => push_before_poll(text, machine),
+        5 => push_after_poll(text, machine),
+        6 => push_members(text, machine, ListName::Closing),
+        7 => push_members(text, machine, ListName::ClosingYet),
+        _ => push_work(text, machine),
+    }
 }
 
 /// A word and a number.
@@ -172,7 +255,12 @@ fn push_counts(text: &mut Vec<u8>, counts: Counts) -> Result<(), AllocError>
     push_numbered(text, " ", u64::from(counts.close))
 }
 
-fn push_name(text: &mut Vec<u8>, script: &Script, name: Var, named: Named) -> Result<(), AllocError>
+fn push_name_line(
+    text: &mut Vec<u8>,
+    script: &Script,
+    name: Var,
+    named: Named,
+) -> Result<(), AllocError>
     ensures { OnOk result (text.new.items ≡ text.old.items ++ name_line script.now name named) }
 {
     text.extend_from_slice(b"name ")?;
@@ -183,19 +271,14 @@ fn push_name(text: &mut Vec<u8>, script: &Script, name: Var, named: Named) -> Re
     text.extend_from_slice(b"\n")
 }
 
-/// All names.
-#[tactic(auto, using(crate::proofs::Pieces::pieces))]
-fn push_names<M: Machine>(text: &mut Vec<u8>, machine: &M) -> Result<(), AllocError>
-    ensures { OnOk result (text.new.items ≡ text.old.items ++ names_upto
-        (M.program machine.now) (after (M.program machine.now) (M.standing machine.now))
-        (length (M.program machine.now).names)) }
+/// A name, by its number.
+fn push_name<M: Machine>(text: &mut Vec<u8>, machine: &M, number: usize) -> Result<(), AllocError>
+    requires { number < 2 ^ 32 }
+    ensures { OnOk result (text.new.items ≡ text.old.items ++ name_part
+        (M.program machine.now) (after (M.program machine.now) (M.standing machine.now)) number) }
 {
-    let script = machine.script();
-    for number in 0..script.names().len() {
-        let name = Var(number as u32);
-        push_name(text, script, name, machine.named(name))?;
-    }
-    Ok(())
+    let name = Var(number as u32);
+    push_name_line(text, machine.script(), name, machine.named(name))
 }
 
 /// What a handle has that those of another kind have not.
@@ -302,9 +385,8 @@ fn push_slot_line(
 
 /// A slot that was used.
 fn push_slot<M: Machine>(text: &mut Vec<u8>, machine: &M, number: u32) -> Result<(), AllocError>
-    ensures { OnOk result (text.new.items ≡ text.old.items ++ slot_or_none
-        (M.program machine.now) (after (M.program machine.now) (M.standing machine.now)) number
-        (slice_get (after (M.program machine.now) (M.standing machine.now)).arena.slots number)) }
+    ensures { OnOk result (text.new.items ≡ text.old.items ++ slot_part
+        (M.program machine.now) (after (M.program machine.now) (M.standing machine.now)) number) }
 {
     let Some(slot) = machine.slot(number) else {
         return Ok(());
@@ -321,19 +403,6 @@ fn push_slot<M: Machine>(text: &mut Vec<u8>, machine: &M, number: u32) -> Result
         id,
         slot.content,
     )
-}
-
-/// All slots that were used.
-#[tactic(auto, using(crate::proofs::Pieces::pieces))]
-fn push_slots<M: Machine>(text: &mut Vec<u8>, machine: &M) -> Result<(), AllocError>
-    ensures { OnOk result (text.new.items ≡ text.old.items ++ slots_upto
-        (M.program machine.now) (after (M.program machine.now) (M.standing machine.now))
-        (length (after (M.program machine.now) (M.standing machine.now)).arena.slots)) }
-{
-    for number in 0..machine.used() {
-        push_slot(text, machine, number)?;
-    }
-    Ok(())
 }
 
 #[tactic(auto, using(crate::proofs::Pieces::pieces))]
@@ -540,18 +609,4 @@ fn push_work<M: Machine>(text: &mut Vec<u8>, machine: &M) -> Result<(), AllocErr
     push_running(text, machine)?;
     push_members(text, machine, ListName::Done)?;
     push_members(text, machine, ListName::DoneYet)
-}
-
-#[tactic(auto, unfolding(crate::specs::State::lists_text))]
-fn push_lists<M: Machine>(text: &mut Vec<u8>, machine: &M) -> Result<(), AllocError>
-    ensures { OnOk result (text.new.items ≡ text.old.items ++ lists_text
-        (M.program machine.now) (after (M.program machine.now) (M.standing machine.now))) }
-{
-    push_timer_list(text, machine)?;
-    push_members(text, machine, ListName::Ready)?;
-    push_before_poll(text, machine)?;
-    push_after_poll(text, machine)?;
-    push_members(text, machine, ListName::Closing)?;
-    push_members(text, machine, ListName::ClosingYet)?;
-    push_work(text, machine)
 }

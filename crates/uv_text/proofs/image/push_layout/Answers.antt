@@ -1,7 +1,5 @@
-use Rattle.std.proofs.Common.{rules, append_assoc}
-use Rattle.uv_text.specs.Image.{layout_text}
+use Rattle.uv_text.proofs.Wholes.{put_whole, layout_whole}
 use Rattle.uv_text.proofs.image.push_layout.Goals as goal
 
 pub returns : goal.returns
-unfolding layout_text
-returns c = search (rules, append_assoc)
+returns c = put_whole c.push_parts.result c.args.text.now.items _ (layout_whole c.args.layout.now) c.push_parts.ensures

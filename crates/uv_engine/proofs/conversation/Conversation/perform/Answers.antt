@@ -1,7 +1,6 @@
 use Rattle.std.proofs.Common.{refl}
 use Rattle.std.proofs.lemmas.Result.{err_from_is_err_and}
-use Rattle.uv_engine.specs.Out.{refused}
-use Rattle.uv_engine.proofs.Gathers.{one_text, put_text, one_fault}
+use Rattle.uv_engine.proofs.Gathers.{one_text, one_fault}
 use Rattle.uv_engine.proofs.conversation.Conversation.perform.Goals as goal
 
 pub returns-in_ok-tell-in-Step-clause-text : goal.returns-in_ok-tell-in-Step-clause-text
@@ -55,28 +54,3 @@ returns-in_err-back_to_break-in-BackToBreak-clause-text g c = λ tells.
     let p = err_from_is_err_and c.from_residual-in_err-back_to_break-in-BackToBreak.result
     c.from_residual-in_err-back_to_break-in-BackToBreak.ensures.1 in
     rw (p.1, c.in-BackToBreak.is) (one_fault _ refl)
-
-pub returns-in_ok-push_state-in-State-clause-text : goal.returns-in_ok-push_state-in-State-clause-text
-returns-in_ok-push_state-in-State-clause-text g c = λ tells. rw c.in-State.is (one_text _ refl c.in_ok-push_state-in-State.ensures)
-
-pub returns-in_err-push_state-in-State-clause-text : goal.returns-in_err-push_state-in-State-clause-text
-returns-in_err-push_state-in-State-clause-text g c = λ tells.
-    let p = err_from_is_err_and c.from_residual-in_err-push_state-in-State.result c.from_residual-in_err-push_state-in-State.ensures.1 in
-    rw (p.1, c.in-State.is) (one_fault _ refl)
-
-pub returns-in_ok-show_image-in-Image-clause-text : goal.returns-in_ok-show_image-in-Image-clause-text
-returns-in_ok-show_image-in-Image-clause-text g c = λ tells. rw c.in-Image.is (put_text c.in_ok-show_image-in-Image.ensures)
-
-pub returns-in_err-show_image-in-Image-clause-text : goal.returns-in_err-show_image-in-Image-clause-text
-returns-in_err-show_image-in-Image-clause-text g c = λ tells.
-    let p = err_from_is_err_and c.from_residual-in_err-show_image-in-Image.result c.from_residual-in_err-show_image-in-Image.ensures.1 in
-    rw (p.1, c.in-Image.is) (one_fault _ (refused refl))
-
-pub returns-in_ok-push_recording-in-Record-clause-text : goal.returns-in_ok-push_recording-in-Record-clause-text
-returns-in_ok-push_recording-in-Record-clause-text g c = λ tells. rw c.in-Record.is (one_text _ refl c.in_ok-push_recording-in-Record.ensures)
-
-pub returns-in_err-push_recording-in-Record-clause-text : goal.returns-in_err-push_recording-in-Record-clause-text
-returns-in_err-push_recording-in-Record-clause-text g c = λ tells.
-    let p = err_from_is_err_and c.from_residual-in_err-push_recording-in-Record.result
-    c.from_residual-in_err-push_recording-in-Record.ensures.1 in
-    rw (p.1, c.in-Record.is) (one_fault _ refl)

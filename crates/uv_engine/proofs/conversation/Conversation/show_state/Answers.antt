@@ -1,0 +1,7 @@
+use Rattle.uv_text.proofs.Wholes.{state_whole}
+use Rattle.uv_engine.proofs.Gathers.{gathers_same}
+use Rattle.uv_engine.proofs.conversation.Conversation.show_state.Goals as goal
+
+pub returns-clause-text : goal.returns-clause-text
+returns-clause-text g c = λ tells.
+    gathers_same c.show_parts.result _ _ _ _ (state_whole c.args.self.now.session) (c.show_parts.ensures.text tells)

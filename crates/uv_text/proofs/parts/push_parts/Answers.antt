@@ -1,0 +1,19 @@
+use Rattle.std.proofs.Common.{◌≡◌, ◌++◌, ap, ◌∙◌, arith}
+use Rattle.uv_text.specs.Parts.{parts_from, in_parts}
+use Rattle.uv_text.proofs.Pieces.{one_more}
+use Rattle.uv_text.proofs.Wholes.{parts_more}
+use Rattle.uv_text.proofs.parts.push_parts.Goals as goal
+
+pub loop-number-preserved : goal.loop-number-preserved
+loop-number-preserved g c =
+    let part = g.P.Parts.part c.args.parts.now in
+    let n = c.loop-number.number in
+    c.in_ok-push_part.ensures
+    ∙ one_more (parts_from part 0) n c.args.text.now.items c.loop-number.text.items _ (parts_more part n) c.loop-number.invariant
+
+pub returns : goal.returns
+unfolding in_parts
+returns g c =
+    let part = g.P.Parts.part c.args.parts.now in
+    let all : c.loop-number.number ≡ g.P.Parts.parts c.args.parts.now = omega (arith, c.loop-number-test.false, c.part_count-number-end.ensures) in
+    c.loop-number.invariant ∙ ap (λ n. c.args.text.now.items ++ parts_from part 0 n) all
