@@ -29,8 +29,8 @@ REASONS = {
     'call': '`{0}` says no call: @ and a number from 1 to 4294967295, once in a line',
     'text': 'TEXT has 1 to 64 bytes, and this one has {0}',
     'sends': 'a thread only sends: `thread K send NAME`',
-    'names': 'a script has at most 4096 names',
-    'lines': 'a script has at most 65535 lines, not counting order, slots, workers, comments and empty ones',
+    'names': 'a script has at most 65535 names',
+    'lines': 'a script has at most 1048575 lines, not counting order, slots, workers, comments and empty ones',
     'begin': 'the line `begin` is missing, which ends the script',
     'format': 'a recording begins with the line `uvt 1` or `uvt 2`',
     'step': 'between `begin` and `calls` each line is a step: loop, take K, finish K, cancel NAME, send NAME or tick MS',
@@ -50,7 +50,7 @@ MAIN_OPS = {'run': 'MODE', 'closeloop': ''}
 STEPS = {'loop': '', 'take': 'K', 'finish': 'K', 'cancel': 'NAME', 'send': 'NAME', 'tick': 'MS'}
 WORDS = {'KIND': ('timer', 'idle', 'prepare', 'check', 'async'), 'MODE': ('default', 'once', 'nowait'), 'VERSION': ('1.44', '1.45')}
 SETTINGS = {'order': 'VERSION', 'slots': 'N [G]', 'workers': 'N'}
-RANGES = {'workers N': (1, 1024), 'slots N': (1, 65535), 'slots G': (0, 4294967295), 'ROUNDS': (1, 1000), 'thread K': (0, 63), 'K': (0, 65535)}
+RANGES = {'workers N': (1, 1024), 'slots N': (1, 16777215), 'slots G': (0, 4294967295), 'ROUNDS': (1, 1000), 'thread K': (0, 63), 'K': (0, 65535)}
 
 
 class Why(Exception):
@@ -184,7 +184,7 @@ def of_var(words: List[str], found: Context) -> None:
     if words[1] in found.names:
         raise Why('twice', words[1], found.names[words[1]])
     of_name(words[1], found._replace(names={words[1]: 0}))
-    if len(found.names) == 4096:
+    if len(found.names) == 65535:
         raise Why('names')
 
 
@@ -216,7 +216,7 @@ def of_script_line(line: bytes, found: Context) -> None:
         of_thread(words, found)
     else:
         raise Why('word', first)
-    if found.counted >= 65535:
+    if found.counted >= 1048575:
         raise Why('lines')
 
 

@@ -92,7 +92,7 @@ def script(draw):
     workers = draw.choice([None, 1, 1, 2, 3, 1024])
     order = draw.choice([None, '1.44', '1.45'])
     head = ([] if order is None else ['order ' + order]) + ([] if workers is None else ['workers %d' % workers])
-    slots = draw.choice([None, None, 1, 2, 3, 4, 6, 65535])
+    slots = draw.choice([None, None, 1, 2, 3, 4, 6, 65535, 65536])
     if slots:
         last = draw.choice(['', '', ' 0', ' 1', ' 2', ' 4294967295'])
         head.append('slots %d%s' % (slots, last))

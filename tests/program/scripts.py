@@ -21,16 +21,16 @@ LIMITS = [
     ('a line of 257 bytes', b'#' + 256 * b'a', 1, 'long'),
     ('a name of 32 bytes', b'var ' + 32 * b'a', None, None),
     ('a name of 33 bytes', b'var ' + 33 * b'a', 1, 'name'),
-    ('4096 names', lines(4096, lambda number: b'var n%d\n' % number), None, None),
-    ('4097 names', lines(4097, lambda number: b'var n%d\n' % number), 4097, 'names'),
-    ('65535 lines, and some that do not count',
-     lines(65535, lambda number: b'main run once\n') + b'\n# none\nslots 9\norder 1.44\nworkers 9\n', None, None),
-    ('65535 lines, many of them of threads',
-     b'var a\n' + lines(65534, lambda number: b'thread %d send a\n' % (number % 64)) + b'workers 9\n', None, None),
-    ('65536 lines, many of them of threads',
-     b'var a\n' + lines(65534, lambda number: b'thread %d send a\n' % (number % 64)) + b'workers 9\nthread 0 send a\n', 65537, 'lines'),
-    ('65536 lines, and some that do not count',
-     lines(65535, lambda number: b'main run once\n') + b'\n# none\nslots 9\norder 1.44\nworkers 9\nmain run once\n', 65541, 'lines'),
+    ('65535 names', lines(65535, lambda number: b'var n%d\n' % number), None, None),
+    ('65536 names', lines(65536, lambda number: b'var n%d\n' % number), 65536, 'names'),
+    ('1048575 lines, and some that do not count',
+     lines(1048575, lambda number: b'main run once\n') + b'\n# none\nslots 9\norder 1.44\nworkers 9\n', None, None),
+    ('1048575 lines, many of them of threads',
+     b'var a\n' + lines(1048574, lambda number: b'thread %d send a\n' % (number % 64)) + b'workers 9\n', None, None),
+    ('1048576 lines, many of them of threads',
+     b'var a\n' + lines(1048574, lambda number: b'thread %d send a\n' % (number % 64)) + b'workers 9\nthread 0 send a\n', 1048577, 'lines'),
+    ('1048576 lines, and some that do not count',
+     lines(1048575, lambda number: b'main run once\n') + b'\n# none\nslots 9\norder 1.44\nworkers 9\nmain run once\n', 1048581, 'lines'),
 ]
 
 # Commands at a limit, and what they are answered.
@@ -38,6 +38,10 @@ COMMANDS = [
     ('a comment of 256 bytes, and one of 257', b'begin\n#' + 255 * b'x' + b'\n#' + 256 * b'x', b'bad command\n'),
     ('256 breaks, and one more', b'begin\n' + 257 * b'break code ok\n' + b'break clear\nbreak section poll\n',
      256 * b'break ok\n' + b'refused limit\nbreak ok\nbreak ok\n'),
+    ('the state of 65535 names', lines(65535, lambda number: b'var n%d\n' % number) + b'begin\nstate\n',
+     b'steps 0 now 0 clock 0 stop 0 next 0 idled 0\nplace main 0\n' + lines(65535, lambda number: b'name n%d none 0 0 0\n' % number)
+     + b'free\nunused 1024\ntimers\nready\nidle\nidle-yet\nprepare\nprepare-yet\ncheck\ncheck-yet\nasync\nasync-yet\n'
+     + b'closing\nclosing-yet\nwaiting\nrunning\ndone\ndone-yet\n'),
 ]
 
 # A script, and its text: order, workers, slots, names, the main program, of each name its `on`, `after` and `closed` lines, and the
@@ -48,7 +52,8 @@ TEXTS = [
     (b'var a\nworkers 3\nmain run once\n# late\norder 1.44', b'order 1.44\nworkers 3\nslots 1024 4294967295\nvar a\nmain run once\n'),
     (b'slots 7\nvar a\nworkers 2\nmain run default', b'order 1.45\nworkers 2\nslots 7 4294967295\nvar a\nmain run default\n'),
     (b'slots 1 4294967295\nworkers 1024', b'order 1.45\nworkers 1024\nslots 1 4294967295\n'),
-    (b'workers 1\nslots 65535 0', b'order 1.45\nworkers 1\nslots 65535 0\n'),
+    (b'workers 1\nslots 65536 0', b'order 1.45\nworkers 1\nslots 65536 0\n'),
+    (b'slots 16777215\norder 1.44', b'order 1.44\nworkers 4\nslots 16777215 4294967295\n'),
     (b'var w\n# a comment\nclosed w now\nmain queue w 2  a \nvar t\non t @3 start t 5 0\nslots 65535 0\n\n'
      b'after w @1 cancel w\nmain run once\non w alive\non t close t\nmain closeloop\nafter w queue w 1000',
      b'order 1.45\nworkers 4\nslots 65535 0\nvar w\nvar t\nmain queue w 2  a \nmain run once\nmain closeloop\n'

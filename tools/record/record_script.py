@@ -12,8 +12,8 @@ from dataclasses import dataclass, field
 from record_log import TIMER_OWN, WATCHERS, Event, Log
 from record_names import base_name
 
-SCRIPT_LINES = 65535
-NAMES = 4096
+SCRIPT_LINES = 1048575
+NAMES = 65535
 ID = re.compile(r"%(\d+)")
 KEEPS = ("ref", "unref")
 
