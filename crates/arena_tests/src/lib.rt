@@ -21,6 +21,8 @@ mod names;
 #[cfg(test)]
 mod raw;
 #[cfg(test)]
+mod trail;
+#[cfg(test)]
 mod watch;
 #[cfg(test)]
 mod watchers;

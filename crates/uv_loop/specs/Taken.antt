@@ -23,14 +23,14 @@ module _ {P : Type 0} where
   -- there is memory for one step more
   pub record HasRoom (steps : Steps P) : Type 0 where
     pub seen : vec_len steps.seen < vec_capacity steps.seen
-    pub records : vec_len steps.records < vec_capacity steps.records
+    pub records : 0 < steps.trail.room
 
   -- the same steps
   pub record AreSame (old new : Steps P) : Type 0 where
     pub seen : new.seen.items ≡ old.seen.items
-    pub records : new.records.items ≡ old.records.items
+    pub records : new.trail.records ≡ old.trail.records
 
   -- one step more
   pub record IsOneMore (old new : Steps P) (line : Option Seen) (step_record : Record P) : Type 0 where
     pub seen : new.seen.items ≡ old.seen.items ++ line ∷ []
-    pub records : new.records.items ≡ old.records.items ++ step_record ∷ []
+    pub records : new.trail.records ≡ old.trail.records ++ step_record ∷ []

@@ -54,11 +54,11 @@ impl Model for ArenaLoop {
     ghost view = { λ a. record {
       program = a.script;
       standing = events_of a.steps.seen.items;
-      walk = record { image = (held a.memory).image; records = a.steps.records.items };
+      walk = record { image = (held a.memory).image; records = a.steps.trail.records };
       pieces = a.memory.slots.room;
     } };
 
-    ghost invariant = { λ a. IsCourse a.script (events_of a.steps.seen.items) a.steps.seen.items a.steps.records.items (held a.memory) };
+    ghost invariant = { λ a. IsCourse a.script (events_of a.steps.seen.items) a.steps.seen.items a.steps.trail.records (held a.memory) };
 }
 
 impl ArenaLoop {

@@ -107,11 +107,11 @@ impl Machine for ArenaLoop {
         ensures ok { IsOk result }
         ensures drops { IfOk result (λ was. Drops was self.old self.new) }
     {
-        let Some(step_record) = self.steps.last() else {
+        if self.steps.is_empty() {
             return Ok(false);
-        };
-        self.memory.unwind(step_record);
-        self.steps.drop_last();
+        }
+        let step_record = self.steps.pop();
+        self.memory.unwind(&step_record);
         Ok(true)
     }
 

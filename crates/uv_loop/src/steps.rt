@@ -1,26 +1,27 @@
 //! The steps that stand.
-ghost use Rattle.std.specs.Prelude.{◌≡◌, ◌-◌, ◌++◌, ◌∷◌, [], OnOk, IfSome, IfNone, length, take};
+ghost use Rattle.std.specs.Prelude.{◌≡◌, ◌<◌, ◌++◌, ◌∷◌, [], OnOk, IsTrue, IsFalse, length, take};
 ghost use Rattle.uv_loop.specs.Taken.{HasRoom, AreSame, IsOneMore};
 
 use std::alloc::{AllocError, Global};
 use uv_ids::Seen;
 use uv_step::Record;
+use uv_trail::Trail;
 
 /// The steps that stand: what each appended to the trace, which tells its event, and what takes it back.
 #[derive(Drop)]
 pub(crate) struct Steps<P: Copy> {
     pub(crate) seen: Vec<Option<Seen>>,
-    pub(crate) records: Vec<Record<P>>,
+    pub(crate) trail: Trail<P>,
 }
 
 impl<P: Copy> Steps<P> {
     pub(crate) fn new(alloc: Global) -> Steps<P>
         ensures seen { result.seen.items ≡ [] }
-        ensures records { result.records.items ≡ [] }
+        ensures records { result.trail.records ≡ [] }
     {
         Steps {
             seen: Vec::new(alloc),
-            records: Vec::new(alloc),
+            trail: Trail::new(alloc),
         }
     }
 
@@ -29,7 +30,7 @@ impl<P: Copy> Steps<P> {
         ensures same { AreSame self.old self.new }
         ensures ok { OnOk result (HasRoom self.new) }
     {
-        if self.seen.reserve(1).is_err() || self.records.reserve(1).is_err() {
+        if self.seen.reserve(1).is_err() || self.trail.reserve().is_err() {
             return Err(AllocError);
         }
         Ok(())
@@ -41,25 +42,28 @@ impl<P: Copy> Steps<P> {
         ensures { IsOneMore self.old self.new line step_record.now }
     {
         self.seen.push_reserved(line);
-        self.records.push_reserved(*step_record);
+        self.trail.push(step_record);
     }
 
-    /// What takes the last one back, if there is one.
-    pub(crate) fn last(&self) -> Option<&Record<P>>
-        ensures some { IfSome result (λ r. self.now.records.items
-            ≡ take (length self.now.records.items - 1) self.now.records.items ++ r.now ∷ []) }
-        ensures none { IfNone result (self.now.records.items ≡ []) }
+    pub(crate) fn is_empty(&self) -> bool
+        ensures none { IsTrue result → self.now.trail.records ≡ [] }
+        ensures some { IsFalse result → 0 < length self.now.trail.records }
     {
-        self.records.last()
+        self.trail.len() == 0
     }
 
-    /// The last one goes.
-    pub(crate) fn drop_last(&mut self)
-        ensures records { self.new.records.items ≡ take (length self.old.records.items - 1) self.old.records.items }
-        ensures seen { self.new.seen.items ≡ take (length self.new.records.items) self.old.seen.items }
+    /// The last one goes: what takes it back.
+    pub(crate) fn pop(&mut self) -> Record<P>
+        requires { 0 < length self.old.trail.records }
+        ensures records { self.old.trail.records ≡ self.new.trail.records ++ result ∷ [] }
+        ensures seen { self.new.seen.items ≡ take (length self.new.trail.records) self.old.seen.items }
     {
-        let shorter = self.records.len().saturating_sub(1);
-        self.records.truncate(shorter);
-        self.seen.truncate(shorter);
+        match self.trail.pop() {
+            None => unreachable!(),
+            Some(last) => {
+                self.seen.truncate(self.trail.len());
+                last
+            }
+        }
     }
 }

@@ -7,33 +7,33 @@ use Rattle.uv_loop.proofs.machine.ArenaLoopMachine.back.Goals as goal
 
 pub unwind-requires : goal.unwind-requires
 unwind-requires c =
-    (course_dropped c.self.inside.script _ c.self.inside.steps.seen.items c.self.inside.steps.records.items
-    _ (held c.self.inside.memory) c.in-Some.step_record.now c.in-Some.ensures.some c.self.invariant).0
+    (course_dropped c.self.inside.script _ c.self.inside.steps.seen.items c.self.inside.steps.trail.records
+    _ (held c.self.inside.memory) c.pop-step_record.result c.pop-step_record.ensures.records c.self.invariant).0
 
 pub invariant_of-self : goal.invariant_of-self
 invariant_of-self c =
-    let r = c.in-Some.step_record.now in
-    let split = c.in-Some.ensures.some ∙ ap (λ rs. rs ++ r ∷ []) (sym c.drop_last.ensures.records) in
-    course_shorter c.self.inside.script _ (events_of c.drop_last.new.self.seen.items) c.self.inside.steps.seen.items
-    c.drop_last.new.self.seen.items c.self.inside.steps.records.items c.drop_last.new.self.records.items (held c.self.inside.memory)
-    (held c.unwind.new.self) r split (events_take _ _ _ c.drop_last.ensures.seen) c.drop_last.ensures.seen c.unwind.ensures.image
+    let r = c.pop-step_record.result in
+    let split = c.pop-step_record.ensures.records in
+    course_shorter c.self.inside.script _ (events_of c.pop-step_record.new.self.seen.items) c.self.inside.steps.seen.items
+    c.pop-step_record.new.self.seen.items c.self.inside.steps.trail.records c.pop-step_record.new.self.trail.records (held c.self.inside.memory)
+    (held c.unwind.new.self) r split (events_take _ _ _ c.pop-step_record.ensures.seen) c.pop-step_record.ensures.seen c.unwind.ensures.image
     c.unwind.ensures.room c.self.invariant
 
 pub returns-clause-drops : goal.returns-clause-drops
 returns-clause-drops c =
-    let r = c.in-Some.step_record.now in
-    let split = c.in-Some.ensures.some ∙ ap (λ rs. rs ++ r ∷ []) (sym c.drop_last.ensures.records) in
-    drops c.self.inside.script _ c.self.inside.steps.seen.items c.self.inside.steps.records.items
-    (held c.self.inside.memory) c.args.self.now c.self.view_is c.self.invariant (events_of c.drop_last.new.self.seen.items)
-    c.drop_last.new.self.records.items r (image_of c.unwind.new.self) _ split (events_take _ _ _ c.drop_last.ensures.seen) c.unwind.ensures.image
+    let r = c.pop-step_record.result in
+    let split = c.pop-step_record.ensures.records in
+    drops c.self.inside.script _ c.self.inside.steps.seen.items c.self.inside.steps.trail.records
+    (held c.self.inside.memory) c.args.self.now c.self.view_is c.self.invariant (events_of c.pop-step_record.new.self.seen.items)
+    c.pop-step_record.new.self.trail.records r (image_of c.unwind.new.self) _ split (events_take _ _ _ c.pop-step_record.ensures.seen) c.unwind.ensures.image
     c.unwind.ensures.pieces
 
 pub returns-clause-answer : goal.returns-clause-answer
 returns-clause-answer c =
-    let r = c.in-Some.step_record.now in
-    let split = c.in-Some.ensures.some ∙ ap (λ rs. rs ++ r ∷ []) (sym c.drop_last.ensures.records) in
-    let d = drops c.self.inside.script _ c.self.inside.steps.seen.items c.self.inside.steps.records.items
-    (held c.self.inside.memory) c.args.self.now c.self.view_is c.self.invariant (events_of c.drop_last.new.self.seen.items)
-    c.drop_last.new.self.records.items r (image_of c.unwind.new.self) _ split (events_take _ _ _ c.drop_last.ensures.seen) c.unwind.ensures.image
+    let r = c.pop-step_record.result in
+    let split = c.pop-step_record.ensures.records in
+    let d = drops c.self.inside.script _ c.self.inside.steps.seen.items c.self.inside.steps.trail.records
+    (held c.self.inside.memory) c.args.self.now c.self.view_is c.self.invariant (events_of c.pop-step_record.new.self.seen.items)
+    c.pop-step_record.new.self.trail.records r (image_of c.unwind.new.self) _ split (events_take _ _ _ c.pop-step_record.ensures.seen) c.unwind.ensures.image
     c.unwind.ensures.pieces in
     (d.0, d.1)

@@ -10,6 +10,6 @@ use Rattle.uv_loop.proofs.machine.ArenaLoopMachine.begin.Goals as goal
 pub invariant_of-result : goal.invariant_of-result
 invariant_of-result c =
     let is = c.in-Ok.ensures.image in
-    course_new c.args.script (events_of c.new.result.seen.items) c.new.result.seen.items c.new.result.records.items (held c.in-Ok.memory)
+    course_new c.args.script (events_of c.new.result.seen.items) c.new.result.seen.items c.new.result.trail.records (held c.in-Ok.memory)
     (events_same c.new.ensures.seen) c.new.ensures.seen c.new.ensures.records c.in-Ok.ensures.fit
     is (fresh_stands c.args.script (subst (λ i. IsSound i) (ap (λ i. i.arena) is) c.is_sound.ensures))

@@ -1,0 +1,10 @@
+//! The records of the steps that stand, each in as few words as its change needs: a head for each step, which holds a small change,
+//! and the larger changes in two rows of their own.
+#![tactic(auto)]
+
+mod head;
+mod medium;
+mod small;
+mod trail;
+
+pub use trail::Trail;
