@@ -1,6 +1,5 @@
 //! What no clause says: that there is memory for a record, whatever its change.
 
-use std::alloc::Global;
 use std::process::Abort;
 use std::test::Fail;
 use uv_arena::{Place, PushUndo, RemoveUndo};
@@ -78,7 +77,7 @@ fn pops(trail: &mut Trail<u64>, place: u64) -> bool {
 
 #[test]
 fn records_lie_in_rows(rt: HostRuntime) {
-    let mut trail = Trail::new(Global);
+    let mut trail = Trail::new(rt.alloc());
     assert!(rt; trail.pop().is_none());
     push(&rt, &mut trail, record(1, called()));
     push(&rt, &mut trail, record(2, edited()));

@@ -13,10 +13,10 @@ use std::alloc::{AllocError, Global};
 use std::marker::Model;
 use uv_model::Place;
 use uv_script::Script;
-use uv_step::{Memory, Record};
+use uv_step::Memory;
 
-// A record of a step has at most 31 words.
-const _: () = prove!(std::mem::size_of::<Record<Place>>() <= 248);
+// A place has at most ten words, with which the head of a record has at most 16.
+const _: () = prove!(std::mem::size_of::<Place>() <= 80);
 
 /// The memory in which a script begins.
 pub(crate) fn fresh_memory(alloc: Global, script: &Script) -> Result<Memory<Place>, AllocError>
