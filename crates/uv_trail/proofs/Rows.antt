@@ -24,8 +24,8 @@ module _ {P : Type 0} where
 
   -- steps more behind, with their changes behind those that are there
   pub records_more : (xs ys : List (Step P)) (ms ns : List Medium) (ks ls : List Change)
-    → mediums_of xs ≡ length ms → larges_of xs ≡ length ks
-    → records_of (xs ++ ys) (ms ++ ns) (ks ++ ls) ≡ records_of xs ms ks ++ records_of ys ns ls
+      → mediums_of xs ≡ length ms → larges_of xs ≡ length ks
+      → records_of (xs ++ ys) (ms ++ ns) (ks ++ ls) ≡ records_of xs ms ks ++ records_of ys ns ls
   records_more [] ys [] ns [] ls e f = refl
   records_more [] ys (m ∷ ms) ns ks ls e f = cc
   records_more [] ys [] ns (k ∷ ks) ls e f = cc
@@ -40,7 +40,7 @@ module _ {P : Type 0} where
 
   -- there are as many as there are steps
   pub records_count : (xs : List (Step P)) (ms : List Medium) (ks : List Change)
-    → mediums_of xs ≡ length ms → larges_of xs ≡ length ks → length (records_of xs ms ks) ≡ length xs
+      → mediums_of xs ≡ length ms → larges_of xs ≡ length ks → length (records_of xs ms ks) ≡ length xs
   records_count [] ms ks e f = refl
   records_count (Whole place naming c ∷ xs) ms ks e f = ap suc (records_count xs ms ks e f)
   records_count (OfMedium place naming ∷ xs) [] ks e f = cc
@@ -50,15 +50,15 @@ module _ {P : Type 0} where
 
   -- the steps with one more behind, whose change lies there
   apart : (heads hs : List (Head P)) (h : Head P) (l : Lies) → heads ≡ hs ++ h ∷ [] → lies h.change ≡ l
-    → steps_of heads ≡ steps_of hs ++ step_at h.place h.naming l ∷ []
+      → steps_of heads ≡ steps_of hs ++ step_at h.place h.naming l ∷ []
   apart heads hs h l split e =
       ap steps_of split ∙ map-append step_of hs (h ∷ []) ∙ ap (λ x. steps_of hs ++ step_at h.place h.naming x ∷ []) e
 
   -- ---- a step more that has its change beside it
 
   pub whole_more : (heads hs : List (Head P)) (h : Head P) (c : Change) (ms : List Medium) (ks : List Change)
-    → heads ≡ hs ++ h ∷ [] → lies h.change ≡ Beside c → Fits (steps_of hs) ms ks
-    → records_of (steps_of heads) ms ks ≡ records_of (steps_of hs) ms ks ++ recorded h.place h.naming c ∷ []
+      → heads ≡ hs ++ h ∷ [] → lies h.change ≡ Beside c → Fits (steps_of hs) ms ks
+      → records_of (steps_of heads) ms ks ≡ records_of (steps_of hs) ms ks ++ recorded h.place h.naming c ∷ []
   whole_more heads hs h c ms ks split e f =
       let s = Whole h.place h.naming c in
       ap (λ ss. records_of ss ms ks) (apart heads hs h (Beside c) split e)
@@ -67,7 +67,7 @@ module _ {P : Type 0} where
       ∙ records_more (steps_of hs) (s ∷ []) ms [] ks [] f.medium f.large
 
   pub whole_counts : (heads hs : List (Head P)) (h : Head P) (c : Change) → heads ≡ hs ++ h ∷ [] → lies h.change ≡ Beside c
-    → (mediums_of (steps_of heads) ≡ mediums_of (steps_of hs)) × (larges_of (steps_of heads) ≡ larges_of (steps_of hs))
+      → (mediums_of (steps_of heads) ≡ mediums_of (steps_of hs)) × (larges_of (steps_of heads) ≡ larges_of (steps_of hs))
   whole_counts heads hs h c split e =
       let s = Whole h.place h.naming c in
       let is = apart heads hs h (Beside c) split e in
@@ -78,8 +78,8 @@ module _ {P : Type 0} where
   -- ---- one that has it among the medium ones
 
   pub medium_more : (heads hs : List (Head P)) (h : Head P) (ms ns : List Medium) (m : Medium) (ks : List Change)
-    → heads ≡ hs ++ h ∷ [] → lies h.change ≡ AmongMediums → ms ≡ ns ++ m ∷ [] → Fits (steps_of hs) ns ks
-    → records_of (steps_of heads) ms ks ≡ records_of (steps_of hs) ns ks ++ recorded h.place h.naming (change_of m) ∷ []
+      → heads ≡ hs ++ h ∷ [] → lies h.change ≡ AmongMediums → ms ≡ ns ++ m ∷ [] → Fits (steps_of hs) ns ks
+      → records_of (steps_of heads) ms ks ≡ records_of (steps_of hs) ns ks ++ recorded h.place h.naming (change_of m) ∷ []
   medium_more heads hs h ms ns m ks split e rows f =
       let s = OfMedium h.place h.naming in
       ap (λ ss. records_of ss ms ks) (apart heads hs h AmongMediums split e)
@@ -88,7 +88,7 @@ module _ {P : Type 0} where
       ∙ records_more (steps_of hs) (s ∷ []) ns (m ∷ []) ks [] f.medium f.large
 
   pub medium_counts : (heads hs : List (Head P)) (h : Head P) → heads ≡ hs ++ h ∷ [] → lies h.change ≡ AmongMediums
-    → (mediums_of (steps_of heads) ≡ mediums_of (steps_of hs) + 1) × (larges_of (steps_of heads) ≡ larges_of (steps_of hs))
+      → (mediums_of (steps_of heads) ≡ mediums_of (steps_of hs) + 1) × (larges_of (steps_of heads) ≡ larges_of (steps_of hs))
   medium_counts heads hs h split e =
       let s = OfMedium h.place h.naming in
       let is = apart heads hs h AmongMediums split e in
@@ -99,8 +99,8 @@ module _ {P : Type 0} where
   -- ---- one that has it among the large ones
 
   pub large_more : (heads hs : List (Head P)) (h : Head P) (ms : List Medium) (ks ls : List Change) (c : Change)
-    → heads ≡ hs ++ h ∷ [] → lies h.change ≡ AmongLarges → ks ≡ ls ++ c ∷ [] → Fits (steps_of hs) ms ls
-    → records_of (steps_of heads) ms ks ≡ records_of (steps_of hs) ms ls ++ recorded h.place h.naming c ∷ []
+      → heads ≡ hs ++ h ∷ [] → lies h.change ≡ AmongLarges → ks ≡ ls ++ c ∷ [] → Fits (steps_of hs) ms ls
+      → records_of (steps_of heads) ms ks ≡ records_of (steps_of hs) ms ls ++ recorded h.place h.naming c ∷ []
   large_more heads hs h ms ks ls c split e rows f =
       let s = OfLarge h.place h.naming in
       ap (λ ss. records_of ss ms ks) (apart heads hs h AmongLarges split e)
@@ -109,7 +109,7 @@ module _ {P : Type 0} where
       ∙ records_more (steps_of hs) (s ∷ []) ms [] ls (c ∷ []) f.medium f.large
 
   pub large_counts : (heads hs : List (Head P)) (h : Head P) → heads ≡ hs ++ h ∷ [] → lies h.change ≡ AmongLarges
-    → (mediums_of (steps_of heads) ≡ mediums_of (steps_of hs)) × (larges_of (steps_of heads) ≡ larges_of (steps_of hs) + 1)
+      → (mediums_of (steps_of heads) ≡ mediums_of (steps_of hs)) × (larges_of (steps_of heads) ≡ larges_of (steps_of hs) + 1)
   large_counts heads hs h split e =
       let s = OfLarge h.place h.naming in
       let is = apart heads hs h AmongLarges split e in
@@ -119,5 +119,5 @@ module _ {P : Type 0} where
 
   -- there are as many records as heads
   pub as_many : (heads : List (Head P)) (ms : List Medium) (ks : List Change) → Fits (steps_of heads) ms ks
-    → length (records_of (steps_of heads) ms ks) ≡ length heads
+      → length (records_of (steps_of heads) ms ks) ≡ length heads
   as_many heads ms ks f = records_count (steps_of heads) ms ks f.medium f.large ∙ length-map (heads) step_of

@@ -27,7 +27,7 @@ impl<P: Copy> Model for Trail<P> {
     ghost view = { λ t. record {
       records = records_of (steps_of t.heads.items) t.mediums.items t.larges.items;
       room = min (vec_capacity t.heads - vec_len t.heads)
-        (min (vec_capacity t.mediums - vec_len t.mediums) (vec_capacity t.larges - vec_len t.larges));
+          (min (vec_capacity t.mediums - vec_len t.mediums) (vec_capacity t.larges - vec_len t.larges));
     } };
 
     ghost invariant = { λ t. Fits (steps_of t.heads.items) t.mediums.items t.larges.items };

@@ -32,7 +32,7 @@ invariant_of-self-in-Some-of g c =
     let more = length-append c.self.inside.mediums.items (c.in-Some-of.medium ∷ []) in
     record {
       medium = n.0 ∙ ap (λ k. k + 1) c.self.invariant.medium ∙ sym more ∙ sym (ap (λ xs. length xs) c.push_reserved-in-Some-of.ensures.items);
-      large = n.1 ∙ c.self.invariant.large
+      large = n.1 ∙ c.self.invariant.large;
     }
 
 pub returns-in-Some-of-clause-records : goal.returns-in-Some-of-clause-records
@@ -57,7 +57,7 @@ invariant_of-self-in-None-of g c =
     let more = length-append c.self.inside.larges.items (c.args.step_record.now.change ∷ []) in
     record {
       medium = n.0 ∙ c.self.invariant.medium;
-      large = n.1 ∙ ap (λ k. k + 1) c.self.invariant.large ∙ sym more ∙ sym (ap (λ xs. length xs) c.push_reserved-in-None-of.ensures.items)
+      large = n.1 ∙ ap (λ k. k + 1) c.self.invariant.large ∙ sym more ∙ sym (ap (λ xs. length xs) c.push_reserved-in-None-of.ensures.items);
     }
 
 pub returns-in-None-of-clause-records : goal.returns-in-None-of-clause-records
