@@ -36,12 +36,6 @@ module _ (r : Record Place) (h w : Held Place) (recorded : Recorded r h w) where
   abbrev pub OnlyHandles : Type 0
   OnlyHandles = w.image ≡ record h.image { arena = w.image.arena; active = w.image.active }
 
-  -- nothing differs
-  pub nothing_frame : r.change ≡ change.Nothing → w.image ≡ h.image
-  nothing_frame is =
-      let e = change_back r change.Nothing h w recorded is in
-      λ l. record (e l) { place = recorded.place l }
-
   pub enlisted_frame : (u : ListUndo) → r.change ≡ change.Enlisted u → OnlyHandles
   enlisted_frame u is = counted_frame h.image w.image r.place _ _ (change_back r (change.Enlisted u) h w recorded is) recorded.place
 

@@ -1,4 +1,3 @@
-pub mod Refusing
 pub mod Frames
 pub mod Edited
 pub mod Valued

@@ -1,10 +1,10 @@
 -- A watcher is started.
-use Rattle.std.proofs.Common.{◌≡◌, ◌≢◌, ℕ, true, false, inl, inr, ◌∷◌, map, if◌then◌else◌, Some, None, Ok, refl, sym, ap, ◌∙◌, subst}
-use Rattle.std.proofs.lemmas.Bool.{cases_Bool, false≢true}
+use Rattle.std.proofs.Common.{◌≡◌, ◌≢◌, ℕ, ◌∷◌, map, if◌then◌else◌, refl, sym, ap, ◌∙◌, subst}
 use Rattle.uv_ids.specs.declared.id.Id.{Id}
 use Rattle.uv_ids.specs.declared.id.Var.{Var}
 use Rattle.uv_ids.specs.declared.code.Code.TheVariants as code
 use Rattle.uv_ids.specs.declared.code.Answer.TheVariants as answer
+use Rattle.uv_script.specs.declared.op.Op.TheVariants as op
 use Rattle.uv_records.specs.declared.handle.HandleRecord.{HandleRecord}
 use Rattle.uv_records.specs.declared.lists.ListName.{ListName}
 use Rattle.uv_records.specs.declared.lists.ListName.TheVariants as name
@@ -12,37 +12,36 @@ use Rattle.uv_records.specs.declared.lists.WatcherKind.{WatcherKind}
 use Rattle.uv_records.specs.declared.lists.WatcherKind.TheVariants as watcher
 use Rattle.uv_records.specs.Handles.{activated}
 use Rattle.uv_records.specs.Lists.{list_of, watcher_kind}
-use Rattle.uv_records.specs.Refusals.{start_watcher_refusal}
 use Rattle.uv_records.specs.Walks.{with_first}
 use Rattle.uv_arena.specs.Image as arena
-use Rattle.uv_arena.specs.Image.{on_list, IsSound}
+use Rattle.uv_arena.specs.Image.{IsSound}
 use Rattle.uv_handle.specs.declared.undo.ListUndo.{ListUndo}
-use Rattle.uv_handle.specs.Counted.{counted, record_at}
+use Rattle.uv_handle.specs.Counted.{counted}
 use Rattle.uv_handle.specs.Changes.{IsEnlisted}
 use Rattle.uv_handle.proofs.Counts as handles
-use Rattle.uv_watch.specs.Watch.{IsActive, IsStarted}
+use Rattle.uv_watch.specs.Watch.{IsStarted}
 use Rattle.uv_requests.specs.Working.{id_in}
 use Rattle.uv_requests.proofs.Holding.{id_is}
 use Rattle.uv_model.specs.declared.place.Place.{Place}
 use Rattle.uv_model.specs.Found.{found_or}
-use Rattle.uv_model.specs.State.{State, live_handle}
-use Rattle.uv_model.specs.Ops.{on_handle, succeeds, start_watcher, watcher_started}
+use Rattle.uv_model.specs.State.{State}
+use Rattle.uv_model.specs.Ops.{succeeds, start_watcher, watcher_started}
 use Rattle.uv_model.specs.Queries.{members}
 use Rattle.uv_step.specs.declared.content.Content.{Content}
 use Rattle.uv_step.specs.declared.content.Content.TheVariants.{Handle}
-use Rattle.uv_step.specs.declared.record.Change.{Change}
 use Rattle.uv_step.specs.declared.record.Change.TheVariants as change
 use Rattle.uv_step.specs.declared.record.Record.{Record}
 use Rattle.uv_step.specs.Content.{handle_in}
-use Rattle.uv_step.specs.Does.{StartsBy}
+use Rattle.uv_step.specs.Does.{By}
 use Rattle.uv_step.specs.Image.{Image, Held, counted_of}
 use Rattle.uv_step.specs.Undo.{Recorded}
-use Rattle.uv_stands.specs.Doing.{Does}
+use Rattle.uv_stands.specs.declared.ask.Ask.TheVariants as ask
+use Rattle.uv_stands.specs.Asking.{Allows}
+use Rattle.uv_stands.specs.Doing.{Performs}
 use Rattle.uv_stands.specs.Stands.{StandsFor}
 use Rattle.uv_stands.proofs.Holding.{map_same}
 use Rattle.uv_stands.proofs.Lists.{list_stays}
-use Rattle.uv_ops.proofs.Frames.{nothing_frame, enlisted_frame}
-use Rattle.uv_ops.proofs.Refusing.{Names, allowed_on}
+use Rattle.uv_ops.proofs.Frames.{enlisted_frame}
 use Rattle.uv_ops.proofs.Relisted.{IsList, IsWalk, same_ids, relisted_stands}
 
 -- ---- the watcher was inactive
@@ -119,51 +118,18 @@ module _ (i : Image Place) (s : State) (h : StandsFor i s) (k : arena.Image Cont
 
 -- ---- what the op does
 
-module _ (r : Record Place) (h w : Held Place) (recorded : Recorded r h w) (sound : IsSound w.image.arena) (v : Var) (d : Id) (from : HandleRecord)
-    (is : Names h.image v (Ok (d, from))) (there : record_at handle_in h.image.arena d ≡ Some from)
-    (loose : start_watcher_refusal from ≡ None → from.active ≡ false → on_list h.image.arena d ≡ false) where
-  abbrev pub Starts : Type 0
-  Starts = Does (λ s. on_handle s (live_handle s v) start_watcher_refusal (start_watcher s)) h.image w.image (answer.Code code.Ok)
-
-  -- it was active: one that isn't is on no list
-  was_active : IsActive handle_in Handle (counted_of h.image) (counted_of w.image) d → from.active ≡ true
-  was_active a =
-      let one : a.from ≡ from = cc (a.there, there) in
-      elim a.active [
-        | inl e ↦ ap (λ (q : HandleRecord). q.active) (sym one) ∙ e
-        | inr on ↦ elim (cases_Bool from.active) [
-          | inl e ↦ e
-          | inr e ↦ absurd (false≢true (sym (loose (ap start_watcher_refusal (sym one) ∙ a.allowed) e) ∙ on))
-        ]
-      ]
-
-  stays_active : r.change ≡ change.Nothing → IsActive handle_in Handle (counted_of h.image) (counted_of w.image) d → Starts
-  stays_active nothing a s stands reached =
-      let one : a.from ≡ from = cc (a.there, there) in (
-        s,
-        allowed_on s v start_watcher_refusal (start_watcher s) d from (is s stands) (ap start_watcher_refusal (sym one) ∙ a.allowed)
-            ∙ ap (λ b. succeeds (if b then s else found_or (watcher_kind from.kind) (λ kind. watcher_started s kind d from) s))
-            (was_active a),
-        subst (λ q. StandsFor q s) (sym (nothing_frame r h w recorded nothing)) stands,
-      )
-
-  -- it is active now
-  is_started : (u : ListUndo) → r.change ≡ change.Enlisted u → IsStarted handle_in Handle (counted_of h.image) (counted_of w.image) d u → Starts
-  is_started u enlisted a s stands reached =
-      let one : a.from ≡ from = cc (a.enlisted.there, there) in (
-        watcher_started s a.kind d a.from,
-        allowed_on s v start_watcher_refusal (start_watcher s) d from (is s stands) (ap start_watcher_refusal (sym one) ∙ a.allowed)
-            ∙ ap (start_watcher s d) (sym one)
-            ∙ ap (λ b. succeeds (if b then s else found_or (watcher_kind a.from.kind) (λ kind. watcher_started s kind d a.from) s)) a.inactive
-            ∙ ap (λ o. succeeds (found_or o (λ kind. watcher_started s kind d a.from) s)) a.is_kind,
-        subst (λ q. StandsFor q (watcher_started s a.kind d a.from)) (sym (enlisted_frame r h w recorded u enlisted))
-            (started_stands h.image s stands w.image.arena w.image.active d a.from sound a.kind u a.enlisted),
-      )
-
-  starts_by : (c : Change) → r.change ≡ c → StartsBy (counted_of h.image) (counted_of w.image) d c → Starts
-  starts_by change.Nothing e a = stays_active e a
-  starts_by (change.Enlisted u) e a = is_started u e a
-  starts_by c e a = absurd a
-
-  pub starts : StartsBy (counted_of h.image) (counted_of w.image) d r.change → Starts
-  starts a = starts_by r.change refl a
+pub starts : (r : Record Place) (h w : Held Place) → Recorded r h w → IsSound w.image.arena → (v : Var) (d : Id) (from : HandleRecord)
+    → Allows h.image v ask.StartWatcher d from
+    → By change.Enlisted (λ u. IsStarted handle_in Handle (counted_of h.image) (counted_of w.image) d u) r.change
+    → Performs (op.StartWatcher v) h.image w.image (answer.Code code.Ok)
+starts r h w recorded sound v d from allows by s stands reached =
+    let a = by.does in
+    let one : a.from ≡ from = cc (a.enlisted.there, allows.found) in (
+      watcher_started s a.kind d a.from,
+      allows.done s stands (start_watcher s)
+          ∙ ap (start_watcher s d) (sym one)
+          ∙ ap (λ b. succeeds (if b then s else found_or (watcher_kind a.from.kind) (λ kind. watcher_started s kind d a.from) s)) a.inactive
+          ∙ ap (λ o. succeeds (found_or o (λ kind. watcher_started s kind d a.from) s)) a.is_kind,
+      subst (λ q. StandsFor q (watcher_started s a.kind d a.from)) (sym (enlisted_frame r h w recorded by.undo by.is))
+          (started_stands h.image s stands w.image.arena w.image.active d a.from sound a.kind by.undo a.enlisted),
+    )

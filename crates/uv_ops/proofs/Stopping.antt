@@ -1,6 +1,6 @@
 -- A watcher is stopped. The memory takes its slot off the list that it is on, unless it is closing; the state takes its id off each list that it
 -- could be called from.
-use Rattle.std.proofs.Common.{◌≡◌, ℕ, ◌++◌, ◌&&◌, true, false, if◌then◌else◌, eqb, List, map, Some, None, refl, sym, ap, ◌∙◌, subst}
+use Rattle.std.proofs.Common.{◌≡◌, ℕ, ◌++◌, ◌&&◌, true, false, if◌then◌else◌, eqb, List, map, Some, refl, sym, ap, ◌∙◌, subst}
 use Rattle.uv_ids.specs.declared.id.Id.{Id}
 use Rattle.uv_ids.specs.declared.code.Code.TheVariants as code
 use Rattle.uv_ids.specs.declared.code.Answer.TheVariants as answer
@@ -11,7 +11,6 @@ use Rattle.uv_records.specs.declared.lists.ListName.{ListName}
 use Rattle.uv_records.specs.declared.lists.ListName.TheVariants as name
 use Rattle.uv_records.specs.Handles as records
 use Rattle.uv_records.specs.Handles.{is_timer}
-use Rattle.uv_records.specs.Refusals.{stop_refusal}
 use Rattle.uv_records.specs.Walks.{without}
 use Rattle.uv_arena.specs.Image as arena
 use Rattle.uv_arena.specs.Image.{IsSound}
@@ -125,23 +124,14 @@ module _ (i : Image Place) (s : State) (h : StandsFor i s) (d : Id) (from : Hand
 
 -- ---- what the call does
 
-module _ (r : Record Place) (h w : Held Place) (recorded : Recorded r h w) (sound : IsSound w.image.arena) (fit : IsFit h.image) (d : Id)
-    (from : HandleRecord) (there : record_at handle_in h.image.arena d ≡ Some from) (no_timer : is_timer from.kind ≡ false) where
-  stops_with : (g : HandleRecord) (u : DelistUndo) → r.change ≡ change.Delisted u
-      → IsStopped handle_in Handle (counted_of h.image) (counted_of w.image) d g u
-      → Does (λ s. stop s d from) h.image w.image (answer.Code code.Ok)
-  stops_with g u is c s stands reached =
-      let same : g ≡ from = cc (c.there, there) in
-      let t = state_after h.image s stands d g c.there reached fit w.image.arena w.image.active u c in (
-        t,
-        ap (stop s d) (sym same)
-            ∙ stop_is h.image s stands d g c.there reached fit w.image.arena w.image.active u c
-            (ap (λ (q : HandleRecord). is_timer q.kind) same ∙ no_timer),
-        subst (λ q. StandsFor q t) (sym (delisted_frame r h w recorded u is))
-            (stopped_stands h.image s stands d g c.there reached fit w.image.arena w.image.active u c sound),
-      )
-
-  pub stops : By change.Delisted (λ u. (g : HandleRecord) × (stop_refusal g ≡ None)
-      × IsStopped handle_in Handle (counted_of h.image) (counted_of w.image) d g u) r.change
-      → Does (λ s. stop s d from) h.image w.image (answer.Code code.Ok)
-  stops by = stops_with by.does.0 by.undo by.is by.does.2
+pub stops : (r : Record Place) (h w : Held Place) → Recorded r h w → IsSound w.image.arena → IsFit h.image → (d : Id) (from : HandleRecord)
+    → is_timer from.kind ≡ false → By change.Delisted (λ u. IsStopped handle_in Handle (counted_of h.image) (counted_of w.image) d from u) r.change
+    → Does (λ s. stop s d from) h.image w.image (answer.Code code.Ok)
+stops r h w recorded sound fit d from no_timer by s stands reached =
+    let c = by.does in
+    let t = state_after h.image s stands d from c.there reached fit w.image.arena w.image.active by.undo c in (
+      t,
+      stop_is h.image s stands d from c.there reached fit w.image.arena w.image.active by.undo c no_timer,
+      subst (λ q. StandsFor q t) (sym (delisted_frame r h w recorded by.undo by.is))
+          (stopped_stands h.image s stands d from c.there reached fit w.image.arena w.image.active by.undo c sound),
+    )

@@ -1,3 +1,3 @@
-pub mod Named
+pub mod Passed
 pub mod Outside
 pub mod Wanting

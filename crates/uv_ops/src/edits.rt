@@ -1,60 +1,61 @@
 //! Ops that give a handle another record and touch no list.
-ghost use Rattle.std.specs.Prelude.{◌≡◌};
+ghost use Rattle.std.specs.Prelude.{◌≡◌, Some};
 ghost use Rattle.uv_script.specs.declared.op.Op.TheVariants as op;
+ghost use Rattle.uv_records.specs.Refusals.{no_refusal};
+ghost use Rattle.uv_handle.specs.Counted.{record_at};
+ghost use Rattle.uv_model.specs.State.{State, live_handle, with_handle};
+ghost use Rattle.uv_model.specs.Ops.{on_handle, set_referenced};
+ghost use Rattle.uv_step.specs.Content.{handle_in};
+ghost use Rattle.uv_step.specs.Fit.{IsFit};
 ghost use Rattle.uv_step.specs.Image.{held};
-ghost use Rattle.uv_stands.specs.Doing.{Performs, Returns};
-ghost use Rattle.uv_stands.specs.Ready.{IsReady};
-ghost use Rattle.uv_ops.specs.Named.{ref_op};
+ghost use Rattle.uv_stands.specs.Doing.{Does, Performs, Returns};
+ghost use Rattle.uv_stands.specs.Stands.{StandsFor};
+ghost use Rattle.uv_ops.specs.Passed.{HasPassed};
 
-use uv_ids::{Answer, Code, Var};
+use uv_ids::{Answer, Code, Id, Var};
 use uv_model::Place;
-use uv_stands::live_handle;
+use uv_records::HandleRecord;
+use uv_stands::{Ask, allowed};
 use uv_step::Memory;
 
-/// References a handle, or not (uv_ref, uv_unref).
-pub fn set_ref(memory: &mut Memory<Place>, name: Var, referenced: bool) -> Answer
-    requires { IsReady (held memory.old) }
+/// Gives a handle another record.
+pub(crate) fn edit(memory: &mut Memory<Place>, id: Id, from: HandleRecord, to: HandleRecord)
+    requires fit { IsFit (held memory.old).image }
+    requires found { record_at handle_in (held memory.old).image.arena id ≡ Some from }
     ensures returns { Returns memory.new.step_record (held memory.old) (held memory.new) }
-    ensures performs { Performs (ref_op referenced name) (held memory.old).image (held memory.new).image result }
+    ensures stands { (s : State) → StandsFor (held memory.old).image s → StandsFor (held memory.new).image (with_handle s id to) }
 {
-    match live_handle(memory, name) {
-        Err(code) => {
-            memory.step_record = memory.pass();
-            Answer::Code(code)
+    memory.edit(id, from, to);
+    memory.slots.is_sound();
+}
+
+/// References a handle, or not (uv_ref, uv_unref).
+pub(crate) fn set_ref(memory: &mut Memory<Place>, name: Var, referenced: bool) -> Answer
+    requires { HasPassed memory.old }
+    ensures returns { Returns memory.new.step_record (held memory.old) (held memory.new) }
+    ensures does { Does (λ s. on_handle s (live_handle s name) no_refusal (set_referenced s referenced))
+        (held memory.old).image (held memory.new).image result }
+{
+    match allowed(memory, name, Ask::Handle) {
+        Err(code) => Answer::Code(code),
+        Ok((id, handle)) => {
+            edit(memory, id, handle, handle.referenced_as(referenced));
+            Answer::Code(Code::Ok)
         }
-        Ok((id, _)) => match memory.set_ref(id, referenced) {
-            Err(code) => {
-                memory.step_record = memory.pass();
-                Answer::Code(code)
-            }
-            Ok(()) => {
-                memory.slots.is_sound();
-                Answer::Code(Code::Ok)
-            }
-        },
     }
 }
 
 /// Gives a timer another repeat in ms (uv_timer_set_repeat).
-pub fn set_repeat(memory: &mut Memory<Place>, name: Var, repeat: u64) -> Answer
-    requires { IsReady (held memory.old) }
+pub(crate) fn set_repeat(memory: &mut Memory<Place>, name: Var, repeat: u64) -> Answer
+    requires { HasPassed memory.old }
     ensures returns { Returns memory.new.step_record (held memory.old) (held memory.new) }
     ensures performs { Performs (op.SetRepeat name repeat) (held memory.old).image (held memory.new).image result }
 {
-    match live_handle(memory, name) {
-        Err(code) => {
-            memory.step_record = memory.pass();
-            Answer::Code(code)
+    match allowed(memory, name, Ask::Timer) {
+        Err(code) => Answer::Code(code),
+        Ok((id, handle)) => {
+            edit(memory, id, handle, handle.repeating(repeat));
+            Answer::Code(Code::Ok)
         }
-        Ok((id, _)) => match memory.set_repeat(id, repeat) {
-            Err(code) => {
-                memory.step_record = memory.pass();
-                Answer::Code(code)
-            }
-            Ok(()) => {
-                memory.slots.is_sound();
-                Answer::Code(Code::Ok)
-            }
-        },
     }
 }

@@ -13,11 +13,5 @@ mod values;
 mod watchers;
 
 pub use cancelling::cancel;
-pub use edits::{set_ref, set_repeat};
-pub use making::{init, queue};
 pub use performing::perform;
-pub use queries::{close_loop, due_in, has_ref, is_active, is_alive, is_closing, now, timeout};
 pub use sending::send;
-pub use timers::{again, close, start, stop};
-pub use values::{stop_loop, update_time};
-pub use watchers::{start_watcher, stop_watcher};

@@ -5,7 +5,7 @@ ghost use Rattle.uv_script.specs.Tasks.{text_of};
 ghost use Rattle.uv_work.specs.Requests.{queued};
 ghost use Rattle.uv_step.specs.Image.{held};
 ghost use Rattle.uv_stands.specs.Doing.{Performs, Returns};
-ghost use Rattle.uv_stands.specs.Ready.{IsReady};
+ghost use Rattle.uv_ops.specs.Passed.{HasPassed};
 ghost use Rattle.uv_ops.specs.Wanting.{WantsPiece};
 
 use std::alloc::AllocError;
@@ -19,22 +19,18 @@ use uv_work::RequestRecord;
 
 /// Makes a handle, to which the name is bound (uv_timer_init and the like). Where there is no memory for its slot it makes none, and the
 /// answer isn't that there is no slot.
-pub fn init(memory: &mut Memory<Place>, name: Var, kind: Kind) -> Result<Answer, AllocError>
-    requires { IsReady (held memory.old) }
+pub(crate) fn init(memory: &mut Memory<Place>, name: Var, kind: Kind) -> Result<Answer, AllocError>
+    requires { HasPassed memory.old }
     ensures returns { IfOk result (λ _. Returns memory.new.step_record (held memory.old) (held memory.new)) }
     ensures performs { IfOk result (λ answer. Performs (op.Init name kind) (held memory.old).image (held memory.new).image answer) }
     ensures memory { IfErr result (λ _. WantsPiece memory.old memory.new) }
 {
     if is_live(memory, name) {
-        memory.step_record = memory.pass();
         return Ok(Answer::Code(Code::Ebound));
     }
     match memory.init(name, kind) {
         Err(InsertFault::Memory) => Err(AllocError),
-        Err(InsertFault::Full) => {
-            memory.step_record = memory.pass();
-            Ok(Answer::Code(Code::Efull))
-        }
+        Err(InsertFault::Full) => Ok(Answer::Code(Code::Efull)),
         Ok(id) => {
             memory.slots.is_sound();
             bind_name(memory, name, id);
@@ -54,23 +50,19 @@ fn request_of(name: Var, task: &Task) -> RequestRecord
 }
 
 /// Asks a worker to do a task, for which the name is bound to a request (uv_queue_work). It wants memory as `init` does.
-pub fn queue(memory: &mut Memory<Place>, name: Var, task: Task) -> Result<Answer, AllocError>
-    requires { IsReady (held memory.old) }
+pub(crate) fn queue(memory: &mut Memory<Place>, name: Var, task: Task) -> Result<Answer, AllocError>
+    requires { HasPassed memory.old }
     ensures returns { IfOk result (λ _. Returns memory.new.step_record (held memory.old) (held memory.new)) }
     ensures performs { IfOk result (λ answer. Performs (op.Queue name task) (held memory.old).image (held memory.new).image answer) }
     ensures memory { IfErr result (λ _. WantsPiece memory.old memory.new) }
 {
     if is_live(memory, name) {
-        memory.step_record = memory.pass();
         return Ok(Answer::Code(Code::Ebound));
     }
     let request = request_of(name, &task);
     match memory.queue(request) {
         Err(InsertFault::Memory) => Err(AllocError),
-        Err(InsertFault::Full) => {
-            memory.step_record = memory.pass();
-            Ok(Answer::Code(Code::Efull))
-        }
+        Err(InsertFault::Full) => Ok(Answer::Code(Code::Efull)),
         Ok(id) => {
             memory.slots.is_sound();
             bind_name(memory, name, id);

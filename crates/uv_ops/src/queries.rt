@@ -8,34 +8,34 @@ ghost use Rattle.uv_stands.specs.Doing.{Performs};
 use uv_ids::{Answer, Code, Var};
 use uv_model::Place;
 use uv_records::HandleRecord;
-use uv_stands::{backend_timeout, is_in_use, live_handle};
+use uv_stands::{Ask, allowed, backend_timeout, is_in_use};
 use uv_step::Memory;
 
 /// Whether a handle is referenced (uv_has_ref).
-pub fn has_ref(memory: &Memory<Place>, name: Var) -> Answer
+pub(crate) fn has_ref(memory: &Memory<Place>, name: Var) -> Answer
     ensures { Performs (op.HasRef name) (held memory.now).image (held memory.now).image result }
 {
-    match live_handle(memory, name) {
+    match allowed(memory, name, Ask::Handle) {
         Err(code) => Answer::Code(code),
         Ok((_, handle)) => Answer::Flag(handle.referenced),
     }
 }
 
 /// Whether a handle is active (uv_is_active).
-pub fn is_active(memory: &Memory<Place>, name: Var) -> Answer
+pub(crate) fn is_active(memory: &Memory<Place>, name: Var) -> Answer
     ensures { Performs (op.IsActive name) (held memory.now).image (held memory.now).image result }
 {
-    match live_handle(memory, name) {
+    match allowed(memory, name, Ask::Handle) {
         Err(code) => Answer::Code(code),
         Ok((_, handle)) => Answer::Flag(handle.active),
     }
 }
 
 /// Whether a handle closes (uv_is_closing).
-pub fn is_closing(memory: &Memory<Place>, name: Var) -> Answer
+pub(crate) fn is_closing(memory: &Memory<Place>, name: Var) -> Answer
     ensures { Performs (op.IsClosing name) (held memory.now).image (held memory.now).image result }
 {
-    match live_handle(memory, name) {
+    match allowed(memory, name, Ask::Handle) {
         Err(code) => Answer::Code(code),
         Ok((_, handle)) => Answer::Flag(handle.closing),
     }
@@ -53,41 +53,38 @@ fn left_until_due(time: u64, handle: HandleRecord) -> u64
 }
 
 /// In how many ms a timer is due (uv_timer_get_due_in).
-pub fn due_in(memory: &Memory<Place>, name: Var) -> Answer
+pub(crate) fn due_in(memory: &Memory<Place>, name: Var) -> Answer
     ensures { Performs (op.DueIn name) (held memory.now).image (held memory.now).image result }
 {
-    match live_handle(memory, name) {
+    match allowed(memory, name, Ask::Timer) {
         Err(code) => Answer::Code(code),
-        Ok((_, handle)) => match handle.timer_refusal() {
-            Some(code) => Answer::Code(code),
-            None => Answer::Number(left_until_due(memory.times.time, handle)),
-        },
+        Ok((_, handle)) => Answer::Number(left_until_due(memory.times.time, handle)),
     }
 }
 
 /// The loop's time in ms (uv_now).
-pub fn now(memory: &Memory<Place>) -> Answer
+pub(crate) fn now(memory: &Memory<Place>) -> Answer
     ensures { Performs op.Now (held memory.now).image (held memory.now).image result }
 {
     Answer::Number(memory.times.time)
 }
 
 /// Whether the loop is alive (uv_loop_alive).
-pub fn is_alive(memory: &Memory<Place>) -> Answer
+pub(crate) fn is_alive(memory: &Memory<Place>) -> Answer
     ensures { Performs op.IsAlive (held memory.now).image (held memory.now).image result }
 {
     Answer::Flag(uv_stands::is_alive(memory))
 }
 
 /// How long a poll might wait, in ms; none is infinite (uv_backend_timeout).
-pub fn timeout(memory: &Memory<Place>) -> Answer
+pub(crate) fn timeout(memory: &Memory<Place>) -> Answer
     ensures { Performs op.Timeout (held memory.now).image (held memory.now).image result }
 {
     Answer::Timeout(backend_timeout(memory))
 }
 
 /// Whether the loop could be closed: EBUSY while a slot holds a handle or a request (uv_loop_close).
-pub fn close_loop(memory: &Memory<Place>) -> Answer
+pub(crate) fn close_loop(memory: &Memory<Place>) -> Answer
     ensures { Performs op.CloseLoop (held memory.now).image (held memory.now).image result }
 {
     let code = if is_in_use(memory) {

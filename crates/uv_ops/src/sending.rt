@@ -7,9 +7,10 @@ ghost use Rattle.uv_step.specs.Image.{held};
 ghost use Rattle.uv_stands.specs.Doing.{Performs, Returns};
 ghost use Rattle.uv_ops.specs.Outside.{Sends};
 
+use crate::edits::edit;
 use uv_ids::{Code, Var};
 use uv_model::Place;
-use uv_stands::live_handle;
+use uv_stands::{Ask, allowed};
 use uv_step::Memory;
 
 /// Has an async handle called (uv_async_send), for an op or from outside.
@@ -19,20 +20,14 @@ pub fn send(memory: &mut Memory<Place>, name: Var) -> Code
     ensures sends { Sends name (held memory.old).image (held memory.new).image result }
     ensures performs { Performs (op.Send name) (held memory.old).image (held memory.new).image (answer.Code result) }
 {
-    match live_handle(memory, name) {
+    match allowed(memory, name, Ask::Send) {
         Err(code) => {
             memory.step_record = memory.pass();
             code
         }
-        Ok((id, _)) => match memory.send(id) {
-            Err(code) => {
-                memory.step_record = memory.pass();
-                code
-            }
-            Ok(()) => {
-                memory.slots.is_sound();
-                Code::Ok
-            }
-        },
+        Ok((id, handle)) => {
+            edit(memory, id, handle, handle.sent());
+            Code::Ok
+        }
     }
 }

@@ -1,8 +1,7 @@
 //! Timers are started, and handles of each kind stopped and closed.
-ghost use Rattle.std.specs.Prelude.{◌≡◌, Some, None};
+ghost use Rattle.std.specs.Prelude.{◌≡◌, Some};
 ghost use Rattle.uv_ids.specs.declared.code.Answer.TheVariants as answer;
 ghost use Rattle.uv_ids.specs.declared.code.Code.TheVariants as code;
-ghost use Rattle.uv_records.specs.Refusals.{stop_refusal};
 ghost use Rattle.uv_script.specs.declared.op.Op.TheVariants as op;
 ghost use Rattle.uv_handle.specs.Counted.{record_at};
 ghost use Rattle.uv_model.specs.Ops.{stop};
@@ -10,68 +9,50 @@ ghost use Rattle.uv_step.specs.Content.{handle_in};
 ghost use Rattle.uv_step.specs.Image.{held};
 ghost use Rattle.uv_stands.specs.Doing.{Does, Performs, Returns};
 ghost use Rattle.uv_stands.specs.Ready.{IsReady};
+ghost use Rattle.uv_ops.specs.Passed.{HasPassed};
 
 use crate::watchers::stop_watcher;
 use uv_ids::{Answer, Code, Id, Var};
 use uv_model::Place;
 use uv_records::HandleRecord;
-use uv_stands::live_handle;
+use uv_stands::{Ask, allowed};
 use uv_step::Memory;
 use uv_timing::{close_handle, start_again, start_timer, stop_timer};
 
 /// Starts a timer; both times in ms (uv_timer_start).
-pub fn start(memory: &mut Memory<Place>, name: Var, timeout: u64, repeat: u64) -> Answer
-    requires { IsReady (held memory.old) }
+pub(crate) fn start(memory: &mut Memory<Place>, name: Var, timeout: u64, repeat: u64) -> Answer
+    requires { HasPassed memory.old }
     ensures returns { Returns memory.new.step_record (held memory.old) (held memory.new) }
     ensures performs { Performs (op.Start name timeout repeat) (held memory.old).image (held memory.new).image result }
 {
-    match live_handle(memory, name) {
-        Err(code) => {
-            memory.step_record = memory.pass();
-            Answer::Code(code)
+    match allowed(memory, name, Ask::StartTimer) {
+        Err(code) => Answer::Code(code),
+        Ok((id, handle)) => {
+            start_timer(memory, id, handle, timeout, repeat);
+            Answer::Code(Code::Ok)
         }
-        Ok((id, handle)) => match handle.start_timer_refusal() {
-            Some(code) => {
-                memory.step_record = memory.pass();
-                Answer::Code(code)
-            }
-            None => {
-                start_timer(memory, id, handle, timeout, repeat);
-                Answer::Code(Code::Ok)
-            }
-        },
     }
 }
 
 /// Stops a timer, and starts it again if it repeats (uv_timer_again).
-pub fn again(memory: &mut Memory<Place>, name: Var) -> Answer
-    requires { IsReady (held memory.old) }
+pub(crate) fn again(memory: &mut Memory<Place>, name: Var) -> Answer
+    requires { HasPassed memory.old }
     ensures returns { Returns memory.new.step_record (held memory.old) (held memory.new) }
     ensures performs { Performs (op.Again name) (held memory.old).image (held memory.new).image result }
 {
-    match live_handle(memory, name) {
-        Err(code) => {
-            memory.step_record = memory.pass();
-            Answer::Code(code)
+    match allowed(memory, name, Ask::Again) {
+        Err(code) => Answer::Code(code),
+        Ok((id, handle)) => {
+            start_again(memory, id, handle);
+            Answer::Code(Code::Ok)
         }
-        Ok((id, handle)) => match handle.again_refusal() {
-            Some(code) => {
-                memory.step_record = memory.pass();
-                Answer::Code(code)
-            }
-            None => {
-                start_again(memory, id, handle);
-                Answer::Code(Code::Ok)
-            }
-        },
     }
 }
 
-/// Stops a handle that may be stopped.
+/// Stops a handle of any kind.
 fn stop_handle(memory: &mut Memory<Place>, id: Id, handle: HandleRecord)
     requires ready { IsReady (held memory.old) }
     requires found { record_at handle_in (held memory.old).image.arena id ≡ Some handle }
-    requires allowed { stop_refusal handle ≡ None }
     ensures returns { Returns memory.new.step_record (held memory.old) (held memory.new) }
     ensures does { Does (λ s. stop s id handle) (held memory.old).image (held memory.new).image (answer.Code code.Ok) }
 {
@@ -83,49 +64,31 @@ fn stop_handle(memory: &mut Memory<Place>, id: Id, handle: HandleRecord)
 }
 
 /// Stops a handle (uv_timer_stop and the like).
-pub fn stop(memory: &mut Memory<Place>, name: Var) -> Answer
-    requires { IsReady (held memory.old) }
+pub(crate) fn stop(memory: &mut Memory<Place>, name: Var) -> Answer
+    requires { HasPassed memory.old }
     ensures returns { Returns memory.new.step_record (held memory.old) (held memory.new) }
     ensures performs { Performs (op.Stop name) (held memory.old).image (held memory.new).image result }
 {
-    match live_handle(memory, name) {
-        Err(code) => {
-            memory.step_record = memory.pass();
-            Answer::Code(code)
+    match allowed(memory, name, Ask::Stop) {
+        Err(code) => Answer::Code(code),
+        Ok((id, handle)) => {
+            stop_handle(memory, id, handle);
+            Answer::Code(Code::Ok)
         }
-        Ok((id, handle)) => match handle.stop_refusal() {
-            Some(code) => {
-                memory.step_record = memory.pass();
-                Answer::Code(code)
-            }
-            None => {
-                stop_handle(memory, id, handle);
-                Answer::Code(Code::Ok)
-            }
-        },
     }
 }
 
 /// Closes a handle (uv_close).
-pub fn close(memory: &mut Memory<Place>, name: Var) -> Answer
-    requires { IsReady (held memory.old) }
+pub(crate) fn close(memory: &mut Memory<Place>, name: Var) -> Answer
+    requires { HasPassed memory.old }
     ensures returns { Returns memory.new.step_record (held memory.old) (held memory.new) }
     ensures performs { Performs (op.Close name) (held memory.old).image (held memory.new).image result }
 {
-    match live_handle(memory, name) {
-        Err(code) => {
-            memory.step_record = memory.pass();
-            Answer::Code(code)
+    match allowed(memory, name, Ask::Close) {
+        Err(code) => Answer::Code(code),
+        Ok((id, handle)) => {
+            close_handle(memory, id, handle);
+            Answer::Code(Code::Ok)
         }
-        Ok((id, handle)) => match handle.close_refusal() {
-            Some(code) => {
-                memory.step_record = memory.pass();
-                Answer::Code(code)
-            }
-            None => {
-                close_handle(memory, id, handle);
-                Answer::Code(Code::Ok)
-            }
-        },
     }
 }

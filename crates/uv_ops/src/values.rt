@@ -10,7 +10,7 @@ use uv_model::Place;
 use uv_step::Memory;
 
 /// Has the run end before its next iteration (uv_stop).
-pub fn stop_loop(memory: &mut Memory<Place>) -> Answer
+pub(crate) fn stop_loop(memory: &mut Memory<Place>) -> Answer
     requires { IsReady (held memory.old) }
     ensures returns { Returns memory.new.step_record (held memory.old) (held memory.new) }
     ensures performs { Performs op.StopLoop (held memory.old).image (held memory.new).image result }
@@ -20,7 +20,7 @@ pub fn stop_loop(memory: &mut Memory<Place>) -> Answer
 }
 
 /// Sets the loop's time to the clock (uv_update_time).
-pub fn update_time(memory: &mut Memory<Place>) -> Answer
+pub(crate) fn update_time(memory: &mut Memory<Place>) -> Answer
     requires { IsReady (held memory.old) }
     ensures returns { Returns memory.new.step_record (held memory.old) (held memory.new) }
     ensures performs { Performs op.UpdateTime (held memory.old).image (held memory.new).image result }

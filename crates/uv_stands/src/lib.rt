@@ -1,12 +1,14 @@
 //! What it means that a loop's memory stands for a state, and what the memory says of each state that it stands for.
 #![tactic(auto)]
 
+mod ask;
 mod names;
 mod pending;
 mod queries;
 mod used;
 
-pub use names::{bind_name, bound_id, call_name, is_live, live_handle};
+pub use ask::Ask;
+pub use names::{allowed, bind_name, bound_id, call_name, is_live};
 pub use queries::{
     backend_timeout, has_members, has_pending, is_alive, is_in_use, may_leave, poll_timeout,
 };

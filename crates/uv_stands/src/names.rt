@@ -8,8 +8,10 @@ ghost use Rattle.uv_step.specs.Fit.{IsFit};
 ghost use Rattle.uv_step.specs.Image.{held};
 ghost use Rattle.uv_step.specs.Names.{named, binding, calling, count_of};
 ghost use Rattle.uv_step.specs.Undo.{CanUnwind, Extended};
+ghost use Rattle.uv_stands.specs.Asking.{Asked};
 ghost use Rattle.uv_stands.specs.Stands.{StandsFor};
 
+use crate::ask::Ask;
 use uv_handle::handle_at;
 use uv_ids::{Callback, Code, Id, Var};
 use uv_model::Place;
@@ -25,7 +27,7 @@ pub fn bound_id(memory: &Memory<Place>, name: Var) -> Option<Id>
 }
 
 /// The handle of a name, for an op on handles: ESTALE if the name isn't live, EKIND if it is a request's.
-pub fn live_handle(memory: &Memory<Place>, name: Var) -> Result<(Id, HandleRecord), Code>
+fn live_handle(memory: &Memory<Place>, name: Var) -> Result<(Id, HandleRecord), Code>
     ensures found { IfOk result (λ t. record_at handle_in (held memory.now).image.arena t.0 ≡ Some t.1) }
     ensures is { (s : State) → StandsFor (held memory.now).image s → live_handle s name ≡ result }
 {
@@ -34,6 +36,19 @@ pub fn live_handle(memory: &Memory<Place>, name: Var) -> Result<(Id, HandleRecor
         Some(id) => match handle_at(&memory.slots, id) {
             Err(code) => Err(code),
             Ok(handle) => Ok((id, handle)),
+        },
+    }
+}
+
+/// The handle of a name, for an op that asks this of it, or why the op is refused.
+pub fn allowed(memory: &Memory<Place>, name: Var, ask: Ask) -> Result<(Id, HandleRecord), Code>
+    ensures { Asked (held memory.now).image name ask result }
+{
+    match live_handle(memory, name) {
+        Err(code) => Err(code),
+        Ok((id, handle)) => match ask.refusal(handle) {
+            Some(code) => Err(code),
+            None => Ok((id, handle)),
         },
     }
 }

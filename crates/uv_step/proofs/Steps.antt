@@ -1,8 +1,7 @@
 -- Each step leaves a record that gives back the very image from before it.
-use Rattle.std.proofs.Common.{◌≡◌, ℕ, Bool, true, false, List, Option, Some, option_and_then, refl, sym, ap, ◌∙◌, subst}
+use Rattle.std.proofs.Common.{◌≡◌, ℕ, Bool, true, false, List, Some, option_and_then, refl, sym, ap, ◌∙◌, subst}
 use Rattle.uv_ids.specs.declared.id.Id.{Id}
 use Rattle.uv_ids.specs.declared.id.Var.{Var}
-use Rattle.uv_ids.specs.declared.code.Code.{Code}
 use Rattle.uv_ids.specs.declared.phase.Kind.{Kind}
 use Rattle.uv_records.specs.declared.handle.HandleRecord.{HandleRecord}
 use Rattle.uv_records.specs.declared.lists.ListName.{ListName}
@@ -21,14 +20,14 @@ use Rattle.uv_handle.specs.declared.undo.DelistUndo.{DelistUndo}
 use Rattle.uv_handle.specs.declared.undo.TakeUndo.{TakeUndo}
 use Rattle.uv_arena.specs.declared.undo.SpliceUndo.{SpliceUndo}
 use Rattle.uv_handle.specs.Counted.{Counted, counted, record_at, alive_count, add_undone, CanUndoAdd}
-use Rattle.uv_handle.specs.Changes.{IsTaken, IsAdded, IsChanged, IsEnlisted, IsDelisted, Did}
+use Rattle.uv_handle.specs.Changes.{IsTaken, IsAdded, IsChanged, IsEnlisted, IsDelisted}
 use Rattle.uv_heap.specs.Array.{Heap}
 use Rattle.uv_timer.specs.declared.change.Times.{Times}
 use Rattle.uv_timer.specs.declared.change.Change as timer
 use Rattle.uv_timer.specs.declared.undo.TimerUndo.{TimerUndo}
 use Rattle.uv_timer.specs.declared.undo.CollectUndo.{CollectUndo}
 use Rattle.uv_timer.specs.Timed.{timed, timer_undone, CanUndoTimer}
-use Rattle.uv_timer.specs.Timers.{IsRescheduled, IsStarted, IsStopped, IsStartedAgain, IsFired, IsCollected}
+use Rattle.uv_timer.specs.Timers.{IsRescheduled, IsFired, IsCollected}
 use Rattle.uv_requests.specs.Working.{Running, working, id_in, IsWork}
 use Rattle.uv_requests.proofs.Beside.{kept_by_insert}
 use Rattle.uv_requests.specs.declared.undo.QueueUndo.{QueueUndo}
@@ -88,11 +87,6 @@ module _ {P : Type 0} where
       recorded (change.Edited u) r i j room room refl is (ap (λ q. with_counted q j) c.undone) c.can_undo fit
       (record { counts = c.counts; work = work_changed (counted_of i) (counted k m) i.running d from to u fit.work there c }) refl
 
-  pub did : (i : Image P) (k : arena.Image Content) (m room : ℕ) (r : Record P) (d : Id) (why : HandleRecord → Option Code)
-      (row : HandleRecord → HandleRecord) (u : RecordUndo) → IsFit i → Did handle_in Handle why row (counted i.arena i.active) (counted k m) d u
-      → r ≡ changed i.place (change.Edited u) → Recorded r (at i room) (at (record i { arena = k; active = m }) room)
-  did i k m room r d why row u fit h is = edited i k m room r d h.from (row h.from) u fit h.there h.changed is
-
   pub enlisted : (i : Image P) (k : arena.Image Content) (m room : ℕ) (r : Record P) (d : Id) (from to : HandleRecord) (list : ListName)
       (u : ListUndo)
       → IsFit i → (OfRequests list → ⊥) → IsEnlisted handle_in Handle (counted i.arena i.active) (counted k m) d from to list u
@@ -101,13 +95,6 @@ module _ {P : Type 0} where
       let j = record i { arena = k; active = m } in
       recorded (change.Enlisted u) r i j room room refl is (ap (λ q. with_counted q j) c.undone) c.can_undo fit
       (record { counts = c.counts; work = work_enlisted (counted_of i) (counted k m) i.running d from to list u fit.work bar c }) refl
-
-  pub watched : (i : Image P) (k : arena.Image Content) (m room : ℕ) (r : Record P) (d : Id) (o : Option ListUndo) (u : ListUndo) → IsFit i
-      → watch.Starts handle_in Handle (counted i.arena i.active) (counted k m) d o → o ≡ Some u → r ≡ changed i.place (change.Enlisted u)
-      → Recorded r (at i room) (at (record i { arena = k; active = m }) room)
-  watched i k m room r d o u fit s e is =
-      let h = subst (λ q. watch.Starts handle_in Handle (counted i.arena i.active) (counted k m) d q) e s in
-      enlisted i k m room r d _ _ _ u fit (list_not h.kind) h.enlisted is
 
   pub delisted : (i : Image P) (k : arena.Image Content) (m room : ℕ) (r : Record P) (d : Id) (from to : HandleRecord) (leaves : Bool)
       (u : DelistUndo)
@@ -168,25 +155,6 @@ module _ {P : Type 0} where
         counts = s.handles.counts;
         work = work_delisted (counted_of i) (counted k m) i.running d c.from c.to c.leaves u.delisted fit.work s.handles;
       }) refl
-
-  pub started : (i : Image P) (k : arena.Image Content) (m room : ℕ) (h : Heap) (t : Times) (r : Record P) (d : Id) (timeout repeat : ℕ)
-      (u : TimerUndo)
-      → IsFit i → h.room ≡ room → IsStarted handle_in Handle h.room (timed_of i) (timed k m h t) d timeout repeat u
-      → r ≡ changed i.place (change.Timer u)
-      → Recorded r (at i room) (at (record i { arena = k; active = m; heap = h.array; times = t }) h.room)
-  started i k m room h t r d timeout repeat u fit same s is = rescheduled i k m room h t r d _ u fit same s.changed is
-
-  pub stopped_timer : (i : Image P) (k : arena.Image Content) (m room : ℕ) (h : Heap) (t : Times) (r : Record P) (d : Id) (u : TimerUndo)
-      → IsFit i → h.room ≡ room → IsStopped handle_in Handle h.room (timed_of i) (timed k m h t) d u
-      → r ≡ changed i.place (change.Timer u)
-      → Recorded r (at i room) (at (record i { arena = k; active = m; heap = h.array; times = t }) h.room)
-  stopped_timer i k m room h t r d u fit same s is = rescheduled i k m room h t r d _ u fit same s.changed is
-
-  pub started_again : (i : Image P) (k : arena.Image Content) (m room : ℕ) (h : Heap) (t : Times) (r : Record P) (d : Id) (u : TimerUndo)
-      → IsFit i → h.room ≡ room → IsStartedAgain handle_in Handle h.room (timed_of i) (timed k m h t) d u
-      → r ≡ changed i.place (change.Timer u)
-      → Recorded r (at i room) (at (record i { arena = k; active = m; heap = h.array; times = t }) h.room)
-  started_again i k m room h t r d u fit same s is = rescheduled i k m room h t r d _ u fit same s.changed is
 
   pub fired : (i : Image P) (k : arena.Image Content) (m room : ℕ) (h : Heap) (t : Times) (r : Record P) (d : Id) (u : TimerUndo)
       → IsFit i → h.room ≡ room → IsFired handle_in Handle h.room (timed_of i) (timed k m h t) d u

@@ -8,7 +8,6 @@ use Rattle.uv_records.specs.declared.handle.HandleRecord.{HandleRecord}
 use Rattle.uv_records.specs.declared.lists.ListName.{ListName}
 use Rattle.uv_records.specs.declared.lists.ListName.TheVariants.{Async, Closing}
 use Rattle.uv_records.specs.Handles.{closed}
-use Rattle.uv_records.specs.Refusals.{close_refusal}
 use Rattle.uv_arena.specs.Image as arena
 use Rattle.uv_arena.specs.Calls.{IsPushed, IsFirst}
 use Rattle.uv_handle.specs.Counted.{Counted, record_at}
@@ -23,7 +22,6 @@ use Rattle.uv_timer.specs.Timers.{IsRescheduled}
 use Rattle.uv_step.specs.declared.content.Content.{Content}
 use Rattle.uv_step.specs.declared.content.Content.TheVariants.{Handle}
 use Rattle.uv_step.specs.declared.record.Added.{Added}
-use Rattle.uv_watch.specs.Watch.{IsStarted, IsActive}
 use Rattle.uv_step.specs.declared.record.Change.{Change}
 use Rattle.uv_step.specs.declared.record.Change.TheVariants as change
 use Rattle.uv_step.specs.declared.record.Naming.TheVariants.{Same as unnamed}
@@ -66,19 +64,11 @@ pub record IsMade (old new : Counted Content) (name : Var) (kind : Kind) (d : Id
   pub listed : u.listed ≡ is_async kind
   pub joins : JoinsIf u.listed mid new.arena d
 
--- a handle that isn't closing yet is off its list and the heap, inactive and closing, and at the front of the closing list
-pub record IsShut (room : ℕ) (old new : Timed Content) (d : Id) (u : CollectUndo) : Type 0 where
-  pub from : HandleRecord
-  pub allowed : close_refusal from ≡ None
+-- a handle is off its list and the heap, inactive and closing, and at the front of the closing list
+pub record IsShut (room : ℕ) (old new : Timed Content) (d : Id) (from : HandleRecord) (u : CollectUndo) : Type 0 where
   pub mid : arena.Image Content
   pub changed : IsRescheduled handle_in Handle room old (with_arena mid new) d (becoming from (closed from) None) u.timer
   pub listed : IsPushed mid new.handles.arena Closing d (d.slot ∷ arena.members mid Closing)
-
--- a watcher is started: one that is active, or on a list, stays as it is
-abbrev pub StartsBy : Counted Content → Counted Content → Id → Change → Type 0
-StartsBy old new d change.Nothing = IsActive handle_in Handle old new d
-StartsBy old new d (change.Enlisted u) = IsStarted handle_in Handle old new d u
-StartsBy old new d c = ⊥
 
 -- the front of a list, which is a handle
 pub record FirstIs (i : arena.Image Content) (l : ListName) (d : Id) (h : HandleRecord) : Type 0 where

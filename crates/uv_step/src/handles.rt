@@ -1,10 +1,8 @@
 //! Handles are made, changed and closed.
 ghost use Rattle.std.specs.Prelude.{◌≡◌, ◌≤◌, Option, Some, None, IfOk, IfErr};
-ghost use Rattle.uv_records.specs.Handles.{referenced_as, repeating, sent};
-ghost use Rattle.uv_records.specs.Refusals.{refusal, no_refusal, timer_refusal, send_refusal, close_refusal};
 ghost use Rattle.uv_arena.specs.Calls.{RefusesInsert};
-ghost use Rattle.uv_handle.specs.Counted.{found, record_at};
-ghost use Rattle.uv_handle.specs.Changes.{Did};
+ghost use Rattle.uv_handle.specs.Counted.{record_at};
+ghost use Rattle.uv_handle.specs.Changes.{IsChanged};
 ghost use Rattle.uv_step.specs.declared.content.Content.TheVariants.{Handle as handle};
 ghost use Rattle.uv_step.specs.declared.record.Change.TheVariants.{Added as added, Edited as edited};
 ghost use Rattle.uv_step.specs.Content.{handle_in};
@@ -16,11 +14,9 @@ ghost use Rattle.uv_step.specs.Does.{By, IsMade, IsShut, changed, moved_by};
 use crate::memory::Memory;
 use crate::record::{Added, Change};
 use uv_arena::InsertFault;
-use uv_handle::handle_at;
-use uv_ids::{Code, Id, Kind, Var};
+use uv_ids::{Id, Kind, Var};
 use uv_records::{HandleRecord, ListName};
-use uv_timer::{reschedule, set_repeat};
-use uv_watch::send;
+use uv_timer::reschedule;
 
 impl<P: Copy> Memory<P> {
     /// Makes a handle (uv_timer_init and the like). An async one goes to the end of its list. It takes memory where the piece of the
@@ -49,88 +45,25 @@ impl<P: Copy> Memory<P> {
         }
     }
 
-    /// References a handle, or not (uv_ref, uv_unref).
-    pub fn set_ref(&mut self, id: Id, referenced: bool) -> Result<(), Code>
+    /// Gives a handle another record, and touches no list (uv_ref, uv_unref, uv_timer_set_repeat, uv_async_send).
+    pub fn edit(&mut self, id: Id, from: HandleRecord, to: HandleRecord)
         requires fit { IsFit (held self.old).image }
-        ensures recorded { IfOk result (λ _. Recorded self.new.step_record (held self.old) (held self.new)) }
-        ensures does { IfOk result (λ _. By edited (λ u. Did handle_in handle no_refusal (referenced_as referenced)
-            (counted_of (held self.old).image) (counted_of (held self.new).image) id u) self.new.step_record.change) }
-        ensures err { IfErr result (λ code. (refusal no_refusal (found handle_in (held self.old).image.arena id) ≡ Some code)
-            × Untouched self.old self.new) }
+        requires found { record_at handle_in (held self.old).image.arena id ≡ Some from }
+        ensures recorded { Recorded self.new.step_record (held self.old) (held self.new) }
+        ensures does { By edited (λ u. IsChanged handle_in handle
+            (counted_of (held self.old).image) (counted_of (held self.new).image) id from to u) self.new.step_record.change }
     {
-        match self.handles.set_ref(&mut self.slots, id, referenced) {
-            Err(code) => Err(code),
-            Ok(undo) => {
-                self.step_record = self.record(Change::Edited(undo));
-                Ok(())
-            }
-        }
-    }
-
-    /// Gives a timer another repeat in ms (uv_timer_set_repeat).
-    pub fn set_repeat(&mut self, id: Id, repeat: u64) -> Result<(), Code>
-        requires fit { IsFit (held self.old).image }
-        ensures recorded { IfOk result (λ _. Recorded self.new.step_record (held self.old) (held self.new)) }
-        ensures does { IfOk result (λ _. By edited (λ u. Did handle_in handle timer_refusal (repeating repeat)
-            (counted_of (held self.old).image) (counted_of (held self.new).image) id u) self.new.step_record.change) }
-        ensures err { IfErr result (λ code. (refusal timer_refusal (found handle_in (held self.old).image.arena id) ≡ Some code)
-            × Untouched self.old self.new) }
-    {
-        match set_repeat(&mut self.handles, &mut self.slots, id, repeat) {
-            Err(code) => Err(code),
-            Ok(undo) => {
-                self.step_record = self.record(Change::Edited(undo));
-                Ok(())
-            }
-        }
-    }
-
-    /// Sends to an async handle (uv_async_send).
-    pub fn send(&mut self, id: Id) -> Result<(), Code>
-        requires fit { IsFit (held self.old).image }
-        ensures recorded { IfOk result (λ _. Recorded self.new.step_record (held self.old) (held self.new)) }
-        ensures does { IfOk result (λ _. By edited (λ u. Did handle_in handle send_refusal sent
-            (counted_of (held self.old).image) (counted_of (held self.new).image) id u) self.new.step_record.change) }
-        ensures err { IfErr result (λ code. (refusal send_refusal (found handle_in (held self.old).image.arena id) ≡ Some code)
-            × Untouched self.old self.new) }
-    {
-        match send(&mut self.handles, &mut self.slots, id) {
-            Err(code) => Err(code),
-            Ok(undo) => {
-                self.step_record = self.record(Change::Edited(undo));
-                Ok(())
-            }
-        }
+        let undo = self.handles.change(&mut self.slots, id, from, to);
+        self.step_record = self.record(Change::Edited(undo));
     }
 
     /// Closes a handle: it is stopped, and goes to the front of the closing list (uv_close).
-    pub fn close(&mut self, id: Id) -> Result<(), Code>
+    pub fn close(&mut self, id: Id, from: HandleRecord)
         requires fit { IsFit (held self.old).image }
-        ensures recorded { IfOk result (λ _. Recorded self.new.step_record (held self.old) (held self.new)) }
-        ensures does { IfOk result (λ _. By moved_by (λ u. IsShut (held self.new).room
-            (timed_of (held self.old).image) (timed_of (held self.new).image) id u) self.new.step_record.change) }
-        ensures err { IfErr result (λ code. (refusal close_refusal (found handle_in (held self.old).image.arena id) ≡ Some code)
-            × Untouched self.old self.new) }
-    {
-        match handle_at(&self.slots, id) {
-            Err(code) => Err(code),
-            Ok(before) => match before.close_refusal() {
-                Some(code) => Err(code),
-                None => {
-                    self.shut(id, before);
-                    Ok(())
-                }
-            },
-        }
-    }
-
-    fn shut(&mut self, id: Id, before: HandleRecord)
-        requires fit { IsFit (held self.old).image }
-        requires found { record_at handle_in (held self.old).image.arena id ≡ Some before }
-        requires allowed { close_refusal before ≡ None }
+        requires found { record_at handle_in (held self.old).image.arena id ≡ Some from }
         ensures recorded { Recorded self.new.step_record (held self.old) (held self.new) }
         ensures does { By moved_by (λ u. IsShut (held self.new).room
-            (timed_of (held self.old).image) (timed_of (held self.new).image) id u) self.new.step_record.change }
+            (timed_of (held self.old).image) (timed_of (held self.new).image) id from u) self.new.step_record.change }
     {
         let timer = reschedule(
             &mut self.handles,
@@ -139,8 +72,8 @@ impl<P: Copy> Memory<P> {
             &mut self.times,
             id,
             uv_timer::Change {
-                from: before,
-                to: before.closed(),
+                from,
+                to: from.closed(),
                 leaves: true,
                 due: None,
             },

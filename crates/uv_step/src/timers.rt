@@ -1,10 +1,10 @@
 //! Timers are started and stopped, collected as they are due, and called.
-ghost use Rattle.std.specs.Prelude.{◌≡◌, ◌<◌, ◌^◌, ◌-◌, Option, Some, None, IfOk, IfErr, IfSome, IfNone};
+ghost use Rattle.std.specs.Prelude.{◌≡◌, ◌<◌, ◌^◌, ◌-◌, Some, None, IfSome, IfNone};
 ghost use Rattle.uv_ids.specs.declared.id.Id.{Id};
 ghost use Rattle.uv_records.specs.declared.lists.ListName.TheVariants.{Ready};
-ghost use Rattle.uv_records.specs.Refusals.{start_timer_refusal, stop_refusal, again_refusal};
 ghost use Rattle.uv_arena.specs.Calls.{IsFirst};
-ghost use Rattle.uv_timer.specs.Timers.{Refused, IsStarted, IsStopped, IsStartedAgain, IsCollected, IsFired, NoneIsDue, NoneIsReady};
+ghost use Rattle.uv_handle.specs.Counted.{record_at};
+ghost use Rattle.uv_timer.specs.Timers.{IsRescheduled, IsCollected, IsFired, NoneIsDue, NoneIsReady};
 ghost use Rattle.uv_step.specs.declared.content.Content.TheVariants.{Handle as handle};
 ghost use Rattle.uv_step.specs.declared.record.Change.TheVariants.{Timer as timer};
 ghost use Rattle.uv_step.specs.Content.{handle_in};
@@ -15,85 +15,29 @@ ghost use Rattle.uv_step.specs.Does.{By, moved_by};
 
 use crate::memory::Memory;
 use crate::record::Change;
-use uv_ids::{Code, Id};
+use uv_ids::Id;
 
 impl<P: Copy> Memory<P> {
-    /// Starts a timer (uv_timer_start). The room on the heap has to be reserved before.
-    pub fn start_timer(&mut self, id: Id, timeout: u64, repeat: u64) -> Result<(), Code>
+    /// This becomes of a timer that is started, stopped or started again (uv_timer_start, uv_timer_stop, uv_timer_again). The room on
+    /// the heap has to be reserved before.
+    pub fn reschedule(&mut self, id: Id, change: uv_timer::Change)
         requires fit { IsFit (held self.old).image }
-        requires room { id.slot < (held self.old).room }
-        requires starts { (held self.old).image.times.next_start < 2 ^ 64 - 1 }
-        ensures recorded { IfOk result (λ _. Recorded self.new.step_record (held self.old) (held self.new)) }
-        ensures does { IfOk result (λ _. By timer (λ u. IsStarted handle_in handle (held self.new).room
-            (timed_of (held self.old).image) (timed_of (held self.new).image) id timeout repeat u) self.new.step_record.change) }
-        ensures err { IfErr result (λ code. Refused handle_in start_timer_refusal
-            (timed_of (held self.old).image) (timed_of (held self.new).image) id code × Untouched self.old self.new) }
+        requires found { record_at handle_in (held self.old).image.arena id ≡ Some change.from }
+        requires room { IfSome change.due (λ _. id.slot < (held self.old).room) }
+        requires starts { IfSome change.due (λ _. (held self.old).image.times.next_start < 2 ^ 64 - 1) }
+        ensures recorded { Recorded self.new.step_record (held self.old) (held self.new) }
+        ensures does { By timer (λ u. IsRescheduled handle_in handle (held self.new).room
+            (timed_of (held self.old).image) (timed_of (held self.new).image) id change u) self.new.step_record.change }
     {
-        match uv_timer::start(
+        let undo = uv_timer::reschedule(
             &mut self.handles,
             &mut self.slots,
             &mut self.heap,
             &mut self.times,
             id,
-            timeout,
-            repeat,
-        ) {
-            Err(code) => Err(code),
-            Ok(undo) => {
-                self.step_record = self.record(Change::Timer(undo));
-                Ok(())
-            }
-        }
-    }
-
-    /// Stops a timer (uv_timer_stop).
-    pub fn stop_timer(&mut self, id: Id) -> Result<(), Code>
-        requires fit { IsFit (held self.old).image }
-        ensures recorded { IfOk result (λ _. Recorded self.new.step_record (held self.old) (held self.new)) }
-        ensures does { IfOk result (λ _. By timer (λ u. IsStopped handle_in handle (held self.new).room
-            (timed_of (held self.old).image) (timed_of (held self.new).image) id u) self.new.step_record.change) }
-        ensures err { IfErr result (λ code. Refused handle_in stop_refusal
-            (timed_of (held self.old).image) (timed_of (held self.new).image) id code × Untouched self.old self.new) }
-    {
-        match uv_timer::stop(
-            &mut self.handles,
-            &mut self.slots,
-            &mut self.heap,
-            &mut self.times,
-            id,
-        ) {
-            Err(code) => Err(code),
-            Ok(undo) => {
-                self.step_record = self.record(Change::Timer(undo));
-                Ok(())
-            }
-        }
-    }
-
-    /// Starts a timer again with its repeat (uv_timer_again). The room on the heap has to be reserved before.
-    pub fn again(&mut self, id: Id) -> Result<(), Code>
-        requires fit { IsFit (held self.old).image }
-        requires room { id.slot < (held self.old).room }
-        requires starts { (held self.old).image.times.next_start < 2 ^ 64 - 1 }
-        ensures recorded { IfOk result (λ _. Recorded self.new.step_record (held self.old) (held self.new)) }
-        ensures does { IfOk result (λ _. By timer (λ u. IsStartedAgain handle_in handle (held self.new).room
-            (timed_of (held self.old).image) (timed_of (held self.new).image) id u) self.new.step_record.change) }
-        ensures err { IfErr result (λ code. Refused handle_in again_refusal
-            (timed_of (held self.old).image) (timed_of (held self.new).image) id code × Untouched self.old self.new) }
-    {
-        match uv_timer::again(
-            &mut self.handles,
-            &mut self.slots,
-            &mut self.heap,
-            &mut self.times,
-            id,
-        ) {
-            Err(code) => Err(code),
-            Ok(undo) => {
-                self.step_record = self.record(Change::Timer(undo));
-                Ok(())
-            }
-        }
+            change,
+        );
+        self.step_record = self.record(Change::Timer(undo));
     }
 
     /// Moves the first timer, if it is due, to the end of the ready list. None, and nothing changed, where none is due.

@@ -1,68 +1,56 @@
 //! Watchers are started and stopped, and called in their sections.
-ghost use Rattle.std.specs.Prelude.{◌≡◌, Option, Some, None, IfOk, IfErr, IfSome, IfNone, []};
+ghost use Rattle.std.specs.Prelude.{◌≡◌, Some, None, IfSome, IfNone, false, []};
 ghost use Rattle.uv_records.specs.declared.handle.HandleRecord.{HandleRecord};
 ghost use Rattle.uv_records.specs.declared.lists.ListName.TheVariants.{Closing, ClosingYet};
 ghost use Rattle.uv_records.specs.Lists.{yet_of};
-ghost use Rattle.uv_records.specs.Refusals.{refusal, start_watcher_refusal, stop_refusal};
-ghost use Rattle.uv_arena.specs.Image.{members};
+ghost use Rattle.uv_records.specs.Refusals.{start_watcher_refusal};
+ghost use Rattle.uv_arena.specs.Image.{members, on_list};
 ghost use Rattle.uv_arena.specs.Calls.{IsSpliced};
-ghost use Rattle.uv_handle.specs.Counted.{found};
+ghost use Rattle.uv_handle.specs.Counted.{record_at};
 ghost use Rattle.uv_handle.specs.Changes.{IsTaken};
-ghost use Rattle.uv_watch.specs.Watch.{IsStopped, IsBegun, IsMovedOn};
+ghost use Rattle.uv_watch.specs.Watch.{IsStarted, IsStopped, IsBegun, IsMovedOn};
 ghost use Rattle.uv_step.specs.declared.content.Content.{Content};
 ghost use Rattle.uv_step.specs.declared.content.Content.TheVariants.{Handle as handle};
-ghost use Rattle.uv_step.specs.declared.record.Change.TheVariants.{Delisted as delisted, Begun as begun, Walked as walked};
+ghost use Rattle.uv_step.specs.declared.record.Change.TheVariants.{Enlisted as enlisted, Delisted as delisted, Begun as begun, Walked as walked};
 ghost use Rattle.uv_step.specs.Content.{handle_in};
 ghost use Rattle.uv_step.specs.Image.{held, Untouched, counted_of};
 ghost use Rattle.uv_step.specs.Fit.{IsFit};
 ghost use Rattle.uv_step.specs.Undo.{Recorded};
-ghost use Rattle.uv_step.specs.Does.{By, StartsBy, FirstIs, NoHandleFirst, closed_by};
+ghost use Rattle.uv_step.specs.Does.{By, FirstIs, NoHandleFirst, closed_by};
 
 use crate::memory::Memory;
 use crate::record::Change;
 use uv_handle::{HandleRecord, handle_at};
-use uv_ids::{Code, Id};
+use uv_ids::Id;
 use uv_records::{ListName, WatcherKind};
 
 impl<P: Copy> Memory<P> {
-    /// Starts an idle, prepare or check handle (uv_idle_start and the like). One that is active, or on a list, stays as it is.
-    pub fn start_watcher(&mut self, id: Id) -> Result<(), Code>
-        requires { IsFit (held self.old).image }
-        ensures recorded { IfOk result (λ _. Recorded self.new.step_record (held self.old) (held self.new)) }
-        ensures does { IfOk result (λ _. StartsBy
-            (counted_of (held self.old).image) (counted_of (held self.new).image) id self.new.step_record.change) }
-        ensures err { IfErr result (λ code. (refusal start_watcher_refusal (found handle_in (held self.old).image.arena id) ≡ Some code)
-            × Untouched self.old self.new) }
+    /// Starts an idle, prepare or check handle that is inactive and on no list: it goes to the front of its list (uv_idle_start and the
+    /// like).
+    pub fn start_watcher(&mut self, id: Id, from: HandleRecord)
+        requires fit { IsFit (held self.old).image }
+        requires found { record_at handle_in (held self.old).image.arena id ≡ Some from }
+        requires allowed { start_watcher_refusal from ≡ None }
+        requires inactive { from.active ≡ false }
+        requires loose { on_list (held self.old).image.arena id ≡ false }
+        ensures recorded { Recorded self.new.step_record (held self.old) (held self.new) }
+        ensures does { By enlisted (λ u. IsStarted handle_in handle
+            (counted_of (held self.old).image) (counted_of (held self.new).image) id u) self.new.step_record.change }
     {
-        match uv_watch::start(&mut self.handles, &mut self.slots, id) {
-            Err(code) => Err(code),
-            Ok(None) => {
-                self.step_record = self.record(Change::Nothing);
-                Ok(())
-            }
-            Ok(Some(undo)) => {
-                self.step_record = self.record(Change::Enlisted(undo));
-                Ok(())
-            }
-        }
+        let undo = uv_watch::enlist(&mut self.handles, &mut self.slots, id, from);
+        self.step_record = self.record(Change::Enlisted(undo));
     }
 
-    /// Stops an idle, prepare or check handle (uv_idle_stop and the like).
-    pub fn stop_watcher(&mut self, id: Id) -> Result<(), Code>
-        requires { IsFit (held self.old).image }
-        ensures recorded { IfOk result (λ _. Recorded self.new.step_record (held self.old) (held self.new)) }
-        ensures does { IfOk result (λ _. By delisted (λ u. (h : HandleRecord) × (stop_refusal h ≡ None) × IsStopped handle_in handle
-            (counted_of (held self.old).image) (counted_of (held self.new).image) id h u) self.new.step_record.change) }
-        ensures err { IfErr result (λ code. (refusal stop_refusal (found handle_in (held self.old).image.arena id) ≡ Some code)
-            × Untouched self.old self.new) }
+    /// Stops an idle, prepare or check handle (uv_idle_stop and the like). One that closes stays on the closing list.
+    pub fn stop_watcher(&mut self, id: Id, from: HandleRecord)
+        requires fit { IsFit (held self.old).image }
+        requires found { record_at handle_in (held self.old).image.arena id ≡ Some from }
+        ensures recorded { Recorded self.new.step_record (held self.old) (held self.new) }
+        ensures does { By delisted (λ u. IsStopped handle_in handle
+            (counted_of (held self.old).image) (counted_of (held self.new).image) id from u) self.new.step_record.change }
     {
-        match uv_watch::stop(&mut self.handles, &mut self.slots, id) {
-            Err(code) => Err(code),
-            Ok(undo) => {
-                self.step_record = self.record(Change::Delisted(undo));
-                Ok(())
-            }
-        }
+        let undo = uv_watch::halt(&mut self.handles, &mut self.slots, id, from);
+        self.step_record = self.record(Change::Delisted(undo));
     }
 
     /// Begins a section of watchers: the whole list is yet to run.

@@ -36,7 +36,7 @@ pub struct Change {
 
 impl Change {
     /// It is started.
-    pub(crate) fn starting(times: &Times, handle: HandleRecord, timeout: u64, repeat: u64) -> Change
+    pub fn starting(times: &Times, handle: HandleRecord, timeout: u64, repeat: u64) -> Change
         ensures { result ≡ starting times.now handle timeout repeat }
     {
         let due = times.due_after(timeout);
@@ -49,7 +49,7 @@ impl Change {
     }
 
     /// It is stopped. A closing one stays on the closing list.
-    pub(crate) fn stopping(handle: HandleRecord) -> Change
+    pub fn stopping(handle: HandleRecord) -> Change
         ensures { result ≡ stopping handle }
     {
         Change {
@@ -73,7 +73,7 @@ impl Change {
     }
 
     /// It is started again with its repeat, or stopped if it has none.
-    pub(crate) fn again(times: &Times, handle: HandleRecord) -> Change
+    pub fn again(times: &Times, handle: HandleRecord) -> Change
         ensures { result ≡ starting_again times.now handle }
     {
         if handle.repeat == 0 {

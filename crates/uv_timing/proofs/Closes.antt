@@ -1,6 +1,5 @@
 -- A handle is closed.
 use Rattle.std.proofs.Common.{◌≡◌, ◌≢◌, ℕ, Bool, true, false, ◌∷◌, map, Some, None, refl, sym, ap, ◌∙◌, subst, inl, inr}
-use Rattle.std.proofs.lemmas.Option.{same_Some}
 use Rattle.uv_ids.specs.declared.id.Id.{Id}
 use Rattle.uv_ids.specs.declared.code.Code.TheVariants.{Ok as success}
 use Rattle.uv_ids.specs.declared.code.Answer.TheVariants as answer
@@ -12,7 +11,6 @@ use Rattle.uv_records.specs.Refusals.{close_refusal, invalid_if}
 use Rattle.uv_arena.specs.Calls.{IsPushed}
 use Rattle.uv_arena.specs.Image as arena
 use Rattle.uv_handle.specs.Counted.{record_at}
-use Rattle.uv_timer.specs.declared.undo.CollectUndo.{CollectUndo}
 use Rattle.uv_timer.specs.declared.undo.TimerUndo.{TimerUndo}
 use Rattle.uv_timer.specs.Changes.{becoming}
 use Rattle.uv_timer.specs.Timed.{Timed, with_arena}
@@ -28,7 +26,7 @@ use Rattle.uv_step.specs.declared.content.Content.{Content}
 use Rattle.uv_step.specs.declared.content.Content.TheVariants.{Handle}
 use Rattle.uv_step.specs.declared.record.Record.{Record}
 use Rattle.uv_step.specs.Content.{handle_in}
-use Rattle.uv_step.specs.Does.{IsShut, moved_by}
+use Rattle.uv_step.specs.Does.{By, IsShut, moved_by}
 use Rattle.uv_step.specs.Fit.{IsFit}
 use Rattle.uv_step.specs.Image.{Image, Held, timed_of}
 use Rattle.uv_step.specs.Undo.{Recorded}
@@ -38,7 +36,7 @@ use Rattle.uv_stands.proofs.Holding.{map_same}
 use Rattle.uv_stands.proofs.Lists.{Listed, list_is}
 use Rattle.uv_stands.proofs.Pools.{ids_moved}
 use Rattle.uv_stands.proofs.Absent.{own_id}
-use Rattle.uv_timing.proofs.Retimed.{retimed, moved_frame, OnlyTimers, AreRetimed, IsWhole, retimed_stands, put_slots, list_left, timers_are}
+use Rattle.uv_timing.proofs.Retimed.{retimed, moved_frame, OnlyTimers, AreRetimed, IsWhole, stands_then, put_slots, list_left, timers_are}
 use Rattle.uv_timing.proofs.Stops.{ids_rescheduled}
 use Rattle.uv_timing.proofs.TakenOff.{timers_left, lists_left}
 
@@ -116,22 +114,14 @@ module _ (i : Image Place) (n : Timed Content) (mid : arena.Image Content) (room
 only_closed : (s : State) (d : Id) (h : HandleRecord) → OnlyTimers s (closed s d h)
 only_closed s d h = record { place = refl; names = refl; running = refl; time = refl; clock = refl; stop_flag = refl; idled = refl }
 
-pub close_does : (r : Record Place) (h w : Held Place) (d : Id) (from : HandleRecord) (u : CollectUndo) → IsFit h.image
-    → record_at handle_in h.image.arena d ≡ Some from → close_refusal from ≡ None
-    → IsShut w.room (timed_of h.image) (timed_of w.image) d u → Recorded r h w → r.change ≡ moved_by u → IsWhole w.image
+pub close_does : (r : Record Place) (h w : Held Place) (d : Id) (from : HandleRecord) → IsFit h.image → close_refusal from ≡ None
+    → Recorded r h w → IsWhole w.image → By moved_by (λ u. IsShut w.room (timed_of h.image) (timed_of w.image) d from u) r.change
     → Does (λ s. close s d from) h.image w.image (answer.Code success)
-close_does r h w d from u fit there allowed x recorded is whole s stands reached =
-    let i = h.image in
-    let n = timed_of w.image in
-    let same : x.from ≡ from = same_Some x.from from (sym x.changed.handles.there ∙ there) in
-    let changed = subst
-    (λ (z : HandleRecord). IsRescheduled handle_in Handle w.room (timed_of i) (with_arena x.mid n) d (becoming z (records.closed z) None) u.timer)
-    same x.changed in
-    let frame : w.image ≡ retimed i n = moved_frame r h w recorded u is in (
+close_does r h w d from fit allowed recorded whole by s stands reached =
+    let x = by.does in (
       closed s d from,
       refl,
-      subst (λ q. StandsFor q (closed s d from)) (sym frame)
-          (retimed_stands i s (closed s d from) n stands (only_closed s d from)
-          (closed_retimed i n x.mid w.room d from u.timer changed x.listed s stands reached fit (unclosed_if from.closing allowed))
-          (subst (λ q. IsWhole q) frame whole)),
+      stands_then h.image w.image s (closed s d from) (moved_frame r h w recorded by.undo by.is) whole stands (only_closed s d from)
+          (closed_retimed h.image (timed_of w.image) x.mid w.room d from by.undo.timer x.changed x.listed s stands reached fit
+          (unclosed_if from.closing allowed)),
     )

@@ -35,7 +35,7 @@ use Rattle.uv_step.specs.declared.content.Content.{Content}
 use Rattle.uv_step.specs.declared.content.Content.TheVariants.{Handle}
 use Rattle.uv_step.specs.declared.record.Record.{Record}
 use Rattle.uv_step.specs.Content.{handle_in}
-use Rattle.uv_step.specs.Does.{moved_by}
+use Rattle.uv_step.specs.Does.{By, moved_by}
 use Rattle.uv_step.specs.Fit.{IsFit}
 use Rattle.uv_step.specs.Image.{Image, Held, timed_of}
 use Rattle.uv_step.specs.Undo.{Recorded}
@@ -46,7 +46,7 @@ use Rattle.uv_stands.proofs.Lists.{Listed, all_but_one}
 use Rattle.uv_timing.specs.Section.{Collects, CollectsNone}
 use Rattle.uv_stands.proofs.Absent.{IsOn, held_handle, own_id, holds_it, absent_active}
 use Rattle.uv_timing.proofs.Entries.{cleared_first}
-use Rattle.uv_timing.proofs.Retimed.{retimed, moved_frame, OnlyTimers, AreRetimed, IsWhole, retimed_stands, put_slots, timers_are}
+use Rattle.uv_timing.proofs.Retimed.{retimed, moved_frame, OnlyTimers, AreRetimed, IsWhole, stands_then, put_slots, timers_are}
 use Rattle.uv_timing.proofs.TakenOff.{IsIts, its_timer}
 
 -- ---- the first of the order
@@ -166,19 +166,14 @@ module _ (i j : Image Place) (room : ℕ) (d : Id) (u : CollectUndo) (c : IsColl
 only_collected : (s : State) (d : Id) (h : HandleRecord) → OnlyTimers s (collected s d h)
 only_collected s d h = record { place = refl; names = refl; running = refl; time = refl; clock = refl; stop_flag = refl; idled = refl }
 
-pub timer_collects : (r : Record Place) (h w : Held Place) (d : Id) (u : CollectUndo) → IsFit h.image
-    → IsCollected handle_in Handle w.room (timed_of h.image) (timed_of w.image) d u → Recorded r h w → r.change ≡ moved_by u → IsWhole w.image
-    → Collects h.image w.image d
-timer_collects r h w d u fit c recorded is whole s stands reached =
-    let i = h.image in
-    let j = w.image in
-    let frame : j ≡ retimed i (timed_of j) = moved_frame r h w recorded u is in (
+pub timer_collects : (r : Record Place) (h w : Held Place) (d : Id) → IsFit h.image → Recorded r h w → IsWhole w.image
+    → By moved_by (λ u. IsCollected handle_in Handle w.room (timed_of h.image) (timed_of w.image) d u) r.change → Collects h.image w.image d
+timer_collects r h w d fit recorded whole by s stands reached =
+    let c = by.does in (
       c.from,
-      due_first i j w.room d u c c.is_due.handle s stands reached fit,
-      subst (λ q. StandsFor q (collected s d c.from)) (sym frame)
-          (retimed_stands i s (collected s d c.from) (timed_of j) stands (only_collected s d c.from)
-          (collected_retimed i j w.room d u c c.is_due.handle s stands reached fit)
-          (subst (λ q. IsWhole q) frame whole)),
+      due_first h.image w.image w.room d by.undo c c.is_due.handle s stands reached fit,
+      stands_then h.image w.image s (collected s d c.from) (moved_frame r h w recorded by.undo by.is) whole stands (only_collected s d c.from)
+          (collected_retimed h.image w.image w.room d by.undo c c.is_due.handle s stands reached fit),
     )
 
 -- ---- none is due

@@ -48,7 +48,7 @@ use Rattle.uv_timing.specs.Section.{Fires, FiresNone}
 use Rattle.uv_stands.proofs.Absent.{IsOn, holds_it, has_it}
 use Rattle.uv_timing.proofs.Collects.{state_handle}
 use Rattle.uv_timing.proofs.Entries.{entry_of}
-use Rattle.uv_timing.proofs.Retimed.{retimed, timer_frame, OnlyTimers, AreRetimed, IsWhole, retimed_stands, put_slots, timers_are}
+use Rattle.uv_timing.proofs.Retimed.{retimed, timer_frame, OnlyTimers, AreRetimed, IsWhole, stands_then, put_slots, timers_are}
 use Rattle.uv_timing.proofs.Starts.{due_same}
 use Rattle.uv_timing.proofs.Stops.{ids_rescheduled}
 use Rattle.uv_timing.proofs.TakenOff.{inert_cleared, timers_set}
@@ -220,16 +220,12 @@ module _ (r : Record Place) (h w : Held Place) (d : Id) (u : TimerUndo)
       → record_at handle_in w.image.arena d ≡ Some now → Fires h.image w.image d now.name
   timer_fires recorded is whole now e s stands reached =
       let i = h.image in
-      let n = timed_of w.image in
-      let t = restarted (record s { ready = drop 1 s.ready }) d c.from in
-      let frame : w.image ≡ retimed i n = timer_frame r h w recorded u is in (
+      let n = timed_of w.image in (
         c.from,
         is_front i n w.room d c.from u c.first there s stands reached,
         fired_name now e,
-        subst (λ q. StandsFor q t) (sym frame)
-            (retimed_stands i s t n stands (only_fired s d c.from)
-            (fired_retimed i n w.room d c.from u c.first there s stands reached c.changed)
-            (subst (λ q. IsWhole q) frame whole)),
+        stands_then i w.image s _ (timer_frame r h w recorded u is) whole stands (only_fired s d c.from)
+            (fired_retimed i n w.room d c.from u c.first there s stands reached c.changed),
       )
 
 -- ---- none is ready

@@ -1,5 +1,5 @@
 -- The memory after a change of one handle and of the timers, and what it stands for.
-use Rattle.std.proofs.Common.{◌≡◌, ℕ, eqb, List, map, Some, refl, sym, ap, ◌∙◌}
+use Rattle.std.proofs.Common.{◌≡◌, ℕ, eqb, List, map, Some, refl, sym, ap, ◌∙◌, subst}
 use Rattle.std.proofs.lemmas.List.{map-set}
 use Rattle.uv_ids.specs.declared.id.Id.{Id}
 use Rattle.uv_ids.specs.declared.due.Due.{Due}
@@ -102,7 +102,7 @@ pub record IsWhole (j : Image Place) : Type 0 where
   pub heap : IsHeap j.heap
   pub places : SlotsDiffer j.heap
 
-pub retimed_stands : (i : Image Place) (s t : State) (c : Timed Content) → StandsFor i s → OnlyTimers s t → AreRetimed (retimed i c) s t
+retimed_stands : (i : Image Place) (s t : State) (c : Timed Content) → StandsFor i s → OnlyTimers s t → AreRetimed (retimed i c) s t
     → IsWhole (retimed i c) → StandsFor (retimed i c) t
 retimed_stands i s t c h only now whole = record {
   place = h.place ∙ sym only.place;
@@ -122,6 +122,17 @@ retimed_stands i s t c h only now whole = record {
   active = active_fit (retimed i c) t whole.fit now.slots;
   opened = opened_fit (retimed i c) t whole.fit (h.running ∙ sym only.running) now.lists;
 }
+
+-- where the timers changed as the state's do
+pub stands_then : (i j : Image Place) (s t : State) → j ≡ retimed i (timed_of j) → IsWhole j → StandsFor i s → OnlyTimers s t
+    → AreRetimed (retimed i (timed_of j)) s t → StandsFor j t
+stands_then i j s t frame whole stands only now =
+    subst (λ q. StandsFor q t) (sym frame) (retimed_stands i s t (timed_of j) stands only now (subst (λ q. IsWhole q) frame whole))
+
+-- after a call, by what always holds of the arena and of the heap
+pub whole : (r : Record Place) (h w : Held Place) → Recorded r h w → IsSound w.image.arena → IsHeap w.image.heap → SlotsDiffer w.image.heap
+    → IsWhole w.image
+whole r h w recorded sound heap places = record { fit = recorded.fit; sound = sound; heap = heap; places = places }
 
 -- ---- slots, lists and timers where one handle has another record
 

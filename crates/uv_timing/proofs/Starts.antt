@@ -1,7 +1,6 @@
 -- A timer is started, and started again.
 use Rattle.std.proofs.Common.{◌≡◌, ℕ, ◌+◌, ◌==◌, ◌||◌, Bool, true, false, not, if◌then◌else◌, Option, Some, None, refl, sym, ap, ◌∙◌, subst}
 use Rattle.std.proofs.lemmas.List.{set-set}
-use Rattle.std.proofs.lemmas.Option.{same_Some}
 use Rattle.uv_ids.specs.declared.id.Id.{Id}
 use Rattle.uv_ids.specs.declared.due.Due.{Due}
 use Rattle.uv_ids.specs.declared.code.Code.{Code}
@@ -19,11 +18,10 @@ use Rattle.uv_arena.specs.Image.{plain_slots}
 use Rattle.uv_handle.specs.Counted.{record_at}
 use Rattle.uv_heap.specs.Order.{inserted}
 use Rattle.uv_timer.specs.declared.change.Change.{Change}
-use Rattle.uv_timer.specs.declared.change.Times.{Times}
 use Rattle.uv_timer.specs.declared.undo.TimerUndo.{TimerUndo}
 use Rattle.uv_timer.specs.Changes.{becoming, set_at, starting, stopping, starting_again}
 use Rattle.uv_timer.specs.Timed.{Timed}
-use Rattle.uv_timer.specs.Timers.{IsRescheduled, IsStarted, IsStartedAgain, cleared}
+use Rattle.uv_timer.specs.Timers.{IsRescheduled, cleared}
 use Rattle.uv_requests.specs.Working.{id_in}
 use Rattle.uv_model.specs.declared.place.Place.{Place}
 use Rattle.uv_model.specs.Queries.{members}
@@ -35,6 +33,7 @@ use Rattle.uv_step.specs.declared.record.Record.{Record}
 use Rattle.uv_step.specs.declared.content.Content.{Content}
 use Rattle.uv_step.specs.declared.content.Content.TheVariants.{Handle}
 use Rattle.uv_step.specs.Content.{handle_in}
+use Rattle.uv_step.specs.Does.{By}
 use Rattle.uv_step.specs.Fit.{IsFit}
 use Rattle.uv_step.specs.Image.{Image, Held, timed_of}
 use Rattle.uv_step.specs.Undo.{Recorded}
@@ -43,7 +42,7 @@ use Rattle.uv_stands.specs.Stands.{StandsFor}
 use Rattle.uv_stands.proofs.Lists.{beside_lists}
 use Rattle.uv_stands.proofs.Absent.{own_id}
 use Rattle.uv_timing.proofs.Entries.{entry_of}
-use Rattle.uv_timing.proofs.Retimed.{retimed, timer_frame, OnlyTimers, AreRetimed, IsWhole, retimed_stands, put_slots, list_left, timers_are}
+use Rattle.uv_timing.proofs.Retimed.{retimed, timer_frame, OnlyTimers, AreRetimed, IsWhole, stands_then, put_slots, list_left, timers_are}
 use Rattle.uv_timing.proofs.Stops.{ids_rescheduled, stopped_retimed, only_stopped}
 use Rattle.uv_timing.proofs.TakenOff.{timers_set, lists_left}
 
@@ -140,12 +139,6 @@ module _ (i : Image Place) (n : Timed Content) (room : ℕ) (d : Id) (h : Handle
       → AreRetimed (retimed i n) s (restarted (stopped s d h) d h)
   restarted_retimed x = restarted_by (h.repeat == 0) x
 
-from_again : (times : Times) (h : HandleRecord) → (starting_again times h).from ≡ h
-from_again times h = at (h.repeat == 0) where
-  at : (b : Bool) → (if b then becoming h (records.stopped h) None else starting times h h.repeat h.repeat).from ≡ h
-  at true = refl
-  at false = refl
-
 only_restarted : (s : State) (d : Id) (h : HandleRecord) → OnlyTimers s (restarted (stopped s d h) d h)
 only_restarted s d h = at (h.repeat == 0) where
   at : (b : Bool) → OnlyTimers s (if b then stopped s d h else started (stopped s d h) d h h.repeat h.repeat)
@@ -154,43 +147,30 @@ only_restarted s d h = at (h.repeat == 0) where
 
 -- ---- the ops
 
-module _ (r : Record Place) (h w : Held Place) (d : Id) (from : HandleRecord) (u : TimerUndo) (fit : IsFit h.image)
-    (there : record_at handle_in h.image.arena d ≡ Some from) (recorded : Recorded r h w) (is : r.change ≡ change.Timer u)
-    (whole : IsWhole w.image) where
-  -- where the timers change as the state's do
-  stands_then : (s t : State) → StandsFor h.image s → OnlyTimers s t → AreRetimed (retimed h.image (timed_of w.image)) s t → StandsFor w.image t
-  stands_then s t stands only now =
-      let frame : w.image ≡ retimed h.image (timed_of w.image) = timer_frame r h w recorded u is in
-      subst (λ q. StandsFor q t) (sym frame)
-      (retimed_stands h.image s t (timed_of w.image) stands only now (subst (λ q. IsWhole q) frame whole))
+module _ (r : Record Place) (h w : Held Place) (d : Id) (from : HandleRecord) (c : Change) (fit : IsFit h.image) (recorded : Recorded r h w)
+    (whole : IsWhole w.image)
+    (by : By change.Timer (λ u. IsRescheduled handle_in Handle w.room (timed_of h.image) (timed_of w.image) d c u) r.change) where
+  changed : (b : Change) → c ≡ b → IsRescheduled handle_in Handle w.room (timed_of h.image) (timed_of w.image) d b by.undo
+  changed b is = subst (λ z. IsRescheduled handle_in Handle w.room (timed_of h.image) (timed_of w.image) d z by.undo) is by.does
 
-  pub start_does : (timeout repeat : ℕ) → start_timer_refusal from ≡ None
-      → IsStarted handle_in Handle w.room (timed_of h.image) (timed_of w.image) d timeout repeat u
+  frame : w.image ≡ retimed h.image (timed_of w.image)
+  frame = timer_frame r h w recorded by.undo by.is
+
+  pub start_does : (timeout repeat : ℕ) → start_timer_refusal from ≡ None → c ≡ starting h.image.times from timeout repeat
       → Does (λ s. start s timeout repeat d from) h.image w.image (answer.Code success)
-  start_does timeout repeat allowed did s stands reached =
-      let i = h.image in
-      let n = timed_of w.image in
-      let t = started (stopped s d from) d from timeout repeat in
-      let same : did.from ≡ from = same_Some did.from from (sym did.changed.handles.there ∙ there) in
-      let changed = subst
-      (λ (z : HandleRecord). IsRescheduled handle_in Handle w.room (timed_of i) n d (starting i.times z timeout repeat) u) same did.changed in (
-        t,
-        refl,
-        stands_then s t stands (only_started s d from timeout repeat)
-            (started_retimed i n w.room d from timeout repeat u changed s stands reached fit (start_unclosed from allowed)),
-      )
+  start_does timeout repeat allowed is s stands reached = (
+    started (stopped s d from) d from timeout repeat,
+    refl,
+    stands_then h.image w.image s _ frame whole stands (only_started s d from timeout repeat)
+        (started_retimed h.image (timed_of w.image) w.room d from timeout repeat by.undo (changed _ is) s stands reached fit
+        (start_unclosed from allowed)),
+  )
 
-  pub again_does : again_refusal from ≡ None → IsStartedAgain handle_in Handle w.room (timed_of h.image) (timed_of w.image) d u
+  pub again_does : again_refusal from ≡ None → c ≡ starting_again h.image.times from
       → Does (λ s. again s d from) h.image w.image (answer.Code success)
-  again_does allowed did s stands reached =
-      let i = h.image in
-      let n = timed_of w.image in
-      let t = restarted (stopped s d from) d from in
-      let was : did.from ≡ (starting_again i.times did.from).from = sym (from_again i.times did.from) in
-      let same : did.from ≡ from = same_Some did.from from (ap Some was ∙ sym did.changed.handles.there ∙ there) in
-      let changed = subst
-      (λ (z : HandleRecord). IsRescheduled handle_in Handle w.room (timed_of i) n d (starting_again i.times z) u) same did.changed in (
-        t,
-        refl,
-        stands_then s t stands (only_restarted s d from) (restarted_retimed i n w.room d from u s stands reached fit allowed changed),
-      )
+  again_does allowed is s stands reached = (
+    restarted (stopped s d from) d from,
+    refl,
+    stands_then h.image w.image s _ frame whole stands (only_restarted s d from)
+        (restarted_retimed h.image (timed_of w.image) w.room d from by.undo s stands reached fit allowed (changed _ is)),
+  )

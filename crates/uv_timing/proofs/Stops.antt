@@ -1,6 +1,5 @@
 -- A timer is stopped.
-use Rattle.std.proofs.Common.{◌≡◌, ℕ, Bool, true, false, not, if◌then◌else◌, eqb, Some, refl, sym, ap, ◌∙◌, subst}
-use Rattle.std.proofs.lemmas.Option.{same_Some}
+use Rattle.std.proofs.Common.{◌≡◌, ℕ, Bool, true, false, not, if◌then◌else◌, eqb, Some, refl, ap, ◌∙◌, subst}
 use Rattle.uv_ids.specs.declared.id.Id.{Id}
 use Rattle.uv_ids.specs.declared.code.Code.TheVariants.{Ok as success}
 use Rattle.uv_ids.specs.declared.code.Answer.TheVariants as answer
@@ -16,7 +15,7 @@ use Rattle.uv_timer.specs.declared.change.Change.{Change}
 use Rattle.uv_timer.specs.declared.undo.TimerUndo.{TimerUndo}
 use Rattle.uv_timer.specs.Changes.{stopping}
 use Rattle.uv_timer.specs.Timed.{Timed}
-use Rattle.uv_timer.specs.Timers.{IsRescheduled, IsStopped, cleared}
+use Rattle.uv_timer.specs.Timers.{IsRescheduled, cleared}
 use Rattle.uv_requests.specs.Working.{id_in}
 use Rattle.uv_model.specs.declared.place.Place.{Place}
 use Rattle.uv_model.specs.Ids.{without_id}
@@ -30,6 +29,7 @@ use Rattle.uv_step.specs.declared.content.Content.TheVariants.{Handle}
 use Rattle.uv_step.specs.declared.record.Change.TheVariants as change
 use Rattle.uv_step.specs.declared.record.Record.{Record}
 use Rattle.uv_step.specs.Content.{handle_in}
+use Rattle.uv_step.specs.Does.{By}
 use Rattle.uv_step.specs.Fit.{IsFit}
 use Rattle.uv_step.specs.Image.{Image, Held, timed_of}
 use Rattle.uv_step.specs.Undo.{Recorded}
@@ -38,7 +38,7 @@ use Rattle.uv_stands.specs.Stands.{StandsFor}
 use Rattle.uv_stands.proofs.Holding.{ids_kept}
 use Rattle.uv_stands.proofs.Lists.{Listed, beside_lists, list_stays}
 use Rattle.uv_stands.proofs.Absent.{IsOn, timer_kind, held_handle, own_id, stays, ready_stays, not_idle, not_idle_yet, not_prepare, not_prepare_yet, not_check, not_check_yet, not_async, not_async_yet}
-use Rattle.uv_timing.proofs.Retimed.{retimed, timer_frame, OnlyTimers, AreRetimed, IsWhole, retimed_stands, put_slots, list_left, timers_are}
+use Rattle.uv_timing.proofs.Retimed.{retimed, timer_frame, OnlyTimers, AreRetimed, IsWhole, stands_then, put_slots, list_left, timers_are}
 use Rattle.uv_timing.proofs.TakenOff.{timers_left, lists_left}
 
 -- ids stay where one handle is rescheduled
@@ -118,20 +118,16 @@ module _ (i : Image Place) (n : Timed Content) (room : ℕ) (d : Id) (h : Handle
 pub only_stopped : (s : State) (d : Id) (h : HandleRecord) → OnlyTimers s (stopped s d h)
 only_stopped s d h = record { place = refl; names = refl; running = refl; time = refl; clock = refl; stop_flag = refl; idled = refl }
 
-pub stop_does : (r : Record Place) (h w : Held Place) (d : Id) (from : HandleRecord) (u : TimerUndo) → IsFit h.image
-    → record_at handle_in h.image.arena d ≡ Some from → is_timer from.kind ≡ true
-    → IsStopped handle_in Handle w.room (timed_of h.image) (timed_of w.image) d u → Recorded r h w → r.change ≡ change.Timer u → IsWhole w.image
+pub stop_does : (r : Record Place) (h w : Held Place) (d : Id) (from : HandleRecord) (c : Change) → IsFit h.image → is_timer from.kind ≡ true
+    → Recorded r h w → IsWhole w.image → c ≡ stopping from
+    → By change.Timer (λ u. IsRescheduled handle_in Handle w.room (timed_of h.image) (timed_of w.image) d c u) r.change
     → Does (λ s. stop s d from) h.image w.image (answer.Code success)
-stop_does r h w d from u fit there timer x recorded is whole s stands reached =
+stop_does r h w d from c fit timer recorded whole is by s stands reached =
     let i = h.image in
     let n = timed_of w.image in
-    let same : x.from ≡ from = same_Some x.from from (sym x.changed.handles.there ∙ there) in
-    let changed = subst (λ (z : HandleRecord). IsRescheduled handle_in Handle w.room (timed_of i) n d (stopping z) u) same x.changed in
-    let frame : w.image ≡ retimed i n = timer_frame r h w recorded u is in (
+    let changed = subst (λ z. IsRescheduled handle_in Handle w.room (timed_of i) n d z by.undo) is by.does in (
       stopped s d from,
       refl,
-      subst (λ q. StandsFor q (stopped s d from)) (sym frame)
-          (retimed_stands i s (stopped s d from) n stands (only_stopped s d from)
-          (stopped_retimed i n w.room d from u changed s stands reached fit timer)
-          (subst (λ q. IsWhole q) frame whole)),
+      stands_then i w.image s (stopped s d from) (timer_frame r h w recorded by.undo by.is) whole stands (only_stopped s d from)
+          (stopped_retimed i n w.room d from by.undo changed s stands reached fit timer),
     )

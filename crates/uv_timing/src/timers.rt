@@ -15,6 +15,7 @@ use uv_ids::Id;
 use uv_model::Place;
 use uv_records::HandleRecord;
 use uv_step::Memory;
+use uv_timer::Change;
 
 /// Stops a timer (uv_timer_stop). One that closes stays on the list of those that close.
 pub fn stop_timer(memory: &mut Memory<Place>, id: Id, handle: HandleRecord)
@@ -24,12 +25,8 @@ pub fn stop_timer(memory: &mut Memory<Place>, id: Id, handle: HandleRecord)
     ensures returns { Returns memory.new.step_record (held memory.old) (held memory.new) }
     ensures does { Does (λ s. stop s id handle) (held memory.old).image (held memory.new).image (code success) }
 {
-    match memory.stop_timer(id) {
-        Err(_) => unreachable!(),
-        Ok(()) => {
-            memory.is_sound();
-        }
-    }
+    memory.reschedule(id, Change::stopping(handle));
+    memory.is_sound();
 }
 
 /// Starts a timer (uv_timer_start): it is stopped, and then due the timeout from now.
@@ -47,12 +44,9 @@ pub fn start_timer(
     ensures does { Does (λ s. start s timeout repeat id handle) (held memory.old).image (held memory.new).image (code success) }
 {
     memory.slots.is_sound();
-    match memory.start_timer(id, timeout, repeat) {
-        Err(_) => unreachable!(),
-        Ok(()) => {
-            memory.is_sound();
-        }
-    }
+    let change = Change::starting(&memory.times, handle, timeout, repeat);
+    memory.reschedule(id, change);
+    memory.is_sound();
 }
 
 /// Starts a timer again (uv_timer_again): it is stopped, and due its repeat from now if it repeats.
@@ -64,10 +58,7 @@ pub fn start_again(memory: &mut Memory<Place>, id: Id, handle: HandleRecord)
     ensures does { Does (λ s. again s id handle) (held memory.old).image (held memory.new).image (code success) }
 {
     memory.slots.is_sound();
-    match memory.again(id) {
-        Err(_) => unreachable!(),
-        Ok(()) => {
-            memory.is_sound();
-        }
-    }
+    let change = Change::again(&memory.times, handle);
+    memory.reschedule(id, change);
+    memory.is_sound();
 }

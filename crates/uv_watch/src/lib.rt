@@ -8,4 +8,4 @@ mod watchers;
 
 pub use undo::WalkUndo;
 pub use walk::{begin, take, undo_begin, undo_take};
-pub use watchers::{halt, send, start, stop, undo_send, undo_start, undo_stop};
+pub use watchers::{enlist, halt, send, start, stop, undo_send, undo_start, undo_stop};

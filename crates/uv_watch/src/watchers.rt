@@ -42,7 +42,8 @@ pub fn start<T: HoldsHandle>(
     }
 }
 
-fn enlist<T: HoldsHandle>(
+/// Makes an idle, prepare or check handle that is inactive and on no list active, and puts it at the front of its list, as a start does.
+pub fn enlist<T: HoldsHandle>(
     handles: &mut Handles,
     slots: &mut Slots<T>,
     id: Id,

@@ -1,4 +1,5 @@
 use Rattle.uv_step.specs.Image.{held, image_of}
+use Rattle.uv_timing.proofs.Retimed.{whole}
 use Rattle.uv_timing.proofs.Collects.{timer_collects, none_collects}
 use Rattle.uv_timing.proofs.section.collect_timer.Goals as goal
 
@@ -7,11 +8,7 @@ returns-in-None-clause-none c = none_collects (image_of c.args.memory.now) c.in-
 
 pub returns-in-Some-clause-collects : goal.returns-in-Some-clause-collects
 returns-in-Some-clause-collects c =
-    timer_collects c.collect_timer.new.self.step_record (held c.args.memory.now) (held c.collect_timer.new.self) c.in-Some.id _ c.requires.ready.fit
-    c.in-Some.ensures.does.does c.in-Some.ensures.recorded c.in-Some.ensures.does.is
-    (record {
-      fit = c.in-Some.ensures.recorded.fit;
-      sound = c.is_sound.ensures.arena;
-      heap = c.is_sound.ensures.heap;
-      places = c.is_sound.ensures.places;
-    })
+    let did = c.in-Some.ensures in
+    let sound = c.is_sound.ensures in
+    timer_collects c.collect_timer.new.self.step_record (held c.args.memory.now) (held c.collect_timer.new.self) c.in-Some.id c.requires.ready.fit
+    did.recorded (whole _ _ _ did.recorded sound.arena sound.heap sound.places) did.does

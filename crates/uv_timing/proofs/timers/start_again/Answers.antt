@@ -1,15 +1,11 @@
 use Rattle.uv_step.specs.Image.{held}
+use Rattle.uv_timing.proofs.Retimed.{whole}
 use Rattle.uv_timing.proofs.Starts.{again_does}
 use Rattle.uv_timing.proofs.timers.start_again.Goals as goal
 
 pub returns-clause-does : goal.returns-clause-does
 returns-clause-does c =
-    again_does c.again.new.self.step_record (held c.args.memory.now) (held c.again.new.self) c.args.id c.args.handle _ c.requires.ready.fit
-    c.requires.found c.in-Ok.ensures.recorded c.in-Ok.ensures.does.is
-    (record {
-      fit = c.in-Ok.ensures.recorded.fit;
-      sound = c.is_sound-in-Ok.ensures.arena;
-      heap = c.is_sound-in-Ok.ensures.heap;
-      places = c.is_sound-in-Ok.ensures.places;
-    })
-    c.requires.allowed c.in-Ok.ensures.does.does
+    let did = c.reschedule.ensures in
+    let sound = c.is_sound-2.ensures in
+    again_does c.reschedule.new.self.step_record (held c.args.memory.now) (held c.reschedule.new.self) c.args.id c.args.handle _ c.requires.ready.fit
+    did.recorded (whole _ _ _ did.recorded sound.arena sound.heap sound.places) did.does c.requires.allowed c.again-change.ensures

@@ -1,7 +1,0 @@
-use Rattle.uv_step.specs.Image.{image_of}
-use Rattle.uv_step.proofs.Steps.{did}
-use Rattle.uv_step.proofs.memory.Memory.set_ref.Goals as goal
-
-pub returns-in-Ok-clause-recorded : goal.returns-in-Ok-clause-recorded
-returns-in-Ok-clause-recorded g c = did (image_of c.args.self.now) c.set_ref.new.slots.image c.set_ref.new.self _ _ _ _ _ _ c.requires.fit
-    c.in-Ok.ensures.ok c.record-self.ensures
