@@ -1,5 +1,5 @@
 -- A list walked from its head is the list.
-use Rattle.std.proofs.Common.{◌≡◌, ℕ, zero, suc, ◌≤◌, Bool, true, false, eqb, ◌||◌, List, [], ◌∷◌, length, Option, Some, None, refl, sym, ap, ◌∙◌, subst, inl, inr, arith}
+use Rattle.std.proofs.Common.{◌≡◌, ℕ, zero, suc, ◌<◌, ◌≤◌, Bool, true, false, eqb, ◌||◌, List, [], ◌∷◌, length, Option, Some, None, refl, sym, ap, ◌∙◌, subst, inl, inr, arith}
 use Rattle.std.specs.List.{IsDistinct, AllByRecursion, list_any}
 use Rattle.std.proofs.lemmas.Bool.Decides.{eqb_tells}
 use Rattle.std.proofs.lemmas.Option.{slice_get_within}
@@ -25,9 +25,13 @@ is_in q (x ∷ xs) e = elim (eqb_tells q x) [
   | inr n ↦ inr (is_in q xs (ap (λ (u : Bool). u || list_any (eqb q) xs) (sym n.0) ∙ e))
 ]
 
+-- numbers that are apart and small are few
+pub few : (xs : List ℕ) (n : ℕ) → IsApart xs → ((x : ℕ) → IsIn x xs → x < n) → length xs ≤ n
+few xs n apart below = length-le_from_distinct_below xs n (distinct xs apart) (λ q e. below q (is_in q xs e))
+
 pub short : (ls : List Links) (k : ℕ) (xs : List ℕ) → IsApart xs → IsSegment ls k None xs None → length xs ≤ length ls
-short ls k xs apart h = length-le_from_distinct_below xs (length ls) (distinct xs apart) (λ q e. let on =
-    segment_tells ls k None xs None h q (is_in q xs e) in slice_get_within ls q on.0 on.1)
+short ls k xs apart h = few xs (length ls) apart
+    (λ x m. let on = segment_tells ls k None xs None h x m in slice_get_within ls x on.0 on.1)
 
 walk_segment : (ls : List Links) (k : ℕ) (f : ℕ) (p : Option ℕ) (xs : List ℕ) → length xs ≤ f → IsSegment ls k p xs None
     → walk ls f (first xs None) ≡ xs

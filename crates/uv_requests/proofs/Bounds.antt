@@ -1,44 +1,19 @@
 -- The open requests are a number of slots.
-use Rattle.std.proofs.Common.{◌≡◌, ℕ, suc, ◌<◌, ◌≤◌, true, false, ◌||◌, eqb, List, [], ◌∷◌, ◌++◌, length, slice_get, Option, Some, None, refl, sym, ap, ◌∙◌, subst, inl, inr, arith, length-append}
-use Rattle.std.specs.List.{list_any, IsDistinct, AllByRecursion}
-use Rattle.std.proofs.lemmas.Bool.Decides.{eqb_tells}
+use Rattle.std.proofs.Common.{◌≡◌, ℕ, suc, ◌<◌, Bool, true, false, List, [], ◌∷◌, ◌++◌, length, slice_get, Option, Some, None, refl, sym, ap, ◌∙◌, subst, inl, inr, arith, length-append}
 use Rattle.std.proofs.lemmas.List.{length-map}
-use Rattle.std.proofs.lemmas.Map.Steps.{length-le_from_distinct_below}
 use Rattle.std.proofs.lemmas.Option.{slice_get_within}
 use Rattle.uv_ids.specs.declared.id.Id.{Id}
-use Rattle.uv_records.specs.declared.lists.ListName.{ListName}
 use Rattle.uv_records.specs.declared.lists.ListName.TheVariants.{Waiting, Done as Ended, DoneYet as EndedYet}
-use Rattle.uv_records.specs.Lists.{number}
 use Rattle.uv_arena.specs.Chains.{IsIn, IsApart}
-use Rattle.uv_arena.specs.Image.{name_at, members, IsSound}
+use Rattle.uv_arena.specs.Image.{Image, members, on_list, IsSound}
 use Rattle.uv_arena.proofs.Lists.{in_either, apart_join}
-use Rattle.uv_arena.proofs.Lookups.{held_tells, name_below}
-use Rattle.uv_arena.proofs.Readings.{is_member}
+use Rattle.uv_arena.proofs.Lookups.{held_tells}
+use Rattle.uv_arena.proofs.Walk.{few}
 use Rattle.uv_work.specs.Requests.{Request}
-use Rattle.uv_work.specs.Pool.{busy, size}
-use Rattle.uv_requests.specs.Working.{id_in, pool_of, Working, done_in, IsRun}
-use Rattle.uv_requests.proofs.Holding.{content_of, list_apart, one_list, one_held, loose_apart}
-
--- ---- numbers that are apart and small are few
-
-unequal : (x : ℕ) (xs : List ℕ) → (IsIn x xs → ⊥) → AllByRecursion (λ y. eqb x y ≡ false) xs
-unequal x [] n = tt
-unequal x (y ∷ ys) n = (elim (eqb_tells x y) [ inl e ↦ absurd (n (inl e.1)) | inr e ↦ e.0 ], unequal x ys (λ k. n (inr k)))
-
-distinct : (xs : List ℕ) → IsApart xs → IsDistinct eqb xs
-unfolding IsDistinct
-distinct [] h = tt
-distinct (x ∷ xs) h = (unequal x xs h.0, distinct xs h.1)
-
-is_in : (q : ℕ) (xs : List ℕ) → list_any (eqb q) xs ≡ true → IsIn q xs
-is_in q [] e = cc
-is_in q (x ∷ xs) e = elim (eqb_tells q x) [
-  | inl y ↦ inl y.1
-  | inr n ↦ inr (is_in q xs (sym (ap (λ u. u || list_any (eqb q) xs) n.0) ∙ e))
-]
-
-few : (xs : List ℕ) (n : ℕ) → IsApart xs → ((x : ℕ) → IsIn x xs → x < n) → length xs ≤ n
-few xs n a b = length-le_from_distinct_below xs n (distinct xs a) (λ q e. b q (is_in q xs e))
+use Rattle.uv_work.specs.Pool.{busy}
+use Rattle.uv_requests.specs.Working.{Working, id_in, done_in, IsHeld, IsRun, IsWork}
+use Rattle.uv_requests.proofs.Frames.{end_held}
+use Rattle.uv_requests.proofs.Holding.{content_of, held_id, one_held, not_both, member, list_apart, one_list}
 
 -- ---- the slots of the requests that run
 
@@ -69,54 +44,56 @@ run_apart (Some d ∷ ws) h = (
   run_apart ws (λ j k a b e f s. let one = h (suc j) (suc k) a b e f s in omega (arith, one)),
 )
 
-module _ {X : Type 0} (read : X → Option Request) (w : Working X) (s : IsSound w.arena) where
-  member_below : (l : ListName) (x : ℕ) → IsIn x (members w.arena l) → x < length w.arena.memory.row.items
-  member_below l x h = (is_member w.arena s (name_at w.arena.names (number l)) x (name_below w.arena s l) h).slot
+module _ {X : Type 0} (read : X → Option Request) (w : Working X) (s : IsSound w.arena) (h : IsWork read w) where
+  abbrev i : Image X
+  i = w.arena
 
-  module _ (runs : (k : ℕ) (d : Id) → slice_get w.running.workers k ≡ Some (Some d) → IsRun read w.arena d)
-      (apart : (j k : ℕ) (d : Id) → slice_get w.running.workers j ≡ Some (Some d) → slice_get w.running.workers k ≡ Some (Some d) → j ≡ k) where
-    run_below : (x : ℕ) → IsIn x (run_slots w.running.workers) → x < length w.arena.memory.row.items
-    run_below x h =
-        let r = run_of x w.running.workers h in let q = (runs r.0 r.1 r.2).request in
-        let c = content_of read w.arena r.1 q.request q.is in let t = held_tells w.arena.memory r.1 c.0 c.1 in
-        let lt = slice_get_within w.arena.memory.row.items r.1.slot t.0 t.1 in omega (arith, lt, r.3)
+  abbrev ends : List ℕ
+  ends = members i EndedYet ++ members i Ended
 
-    run_loose : (l : ListName) (x : ℕ) → IsIn x (members w.arena l) → IsIn x (run_slots w.running.workers) → ⊥
-    run_loose l x a b =
-        let r = run_of x w.running.workers b in let q = runs r.0 r.1 r.2 in
-        loose_apart read w.arena s r.1 true q.request q.loose l (subst (λ z. IsIn z (members w.arena l)) (sym r.3) a)
+  abbrev runs : List ℕ
+  runs = run_slots w.running.workers
 
-    slots_apart : SlotsApart w.running.workers
-    slots_apart j k a b e f same =
-        let one = one_held read w.arena b a true true (runs k b f).request (runs j a e).request same in
-        apart j k b (e ∙ ap (λ z. Some (Some z)) one) f
+  below : (e : Id) (o : Bool) → IsHeld read i e o → e.slot < length i.memory.row.items
+  below e o q =
+      let c = content_of read i e q.request q.is in let t = held_tells i.memory e c.0 c.1 in
+      slice_get_within i.memory.row.items e.slot t.0 t.1
 
-    -- at most as many requests are in the pool as there are slots
-    pub pool_fits : size (pool_of read w) < 4294967296
-    pool_fits =
-        let i = w.arena in let ws = w.running.workers in let wait = members i Waiting in let yet = members i EndedYet in let done = members i Ended in
-        let all = wait ++ ((yet ++ done) ++ run_slots ws) in
-        let ended = apart_join yet done (list_apart i s EndedYet) (list_apart i s Ended)
-        (λ y a b. one_list i s EndedYet Ended y a b (λ e. cc)) in
-        let rest = apart_join (yet ++ done) (run_slots ws) ended (run_apart ws slots_apart)
-        (λ y a b. elim (in_either y yet done a) [ inl m ↦ run_loose EndedYet y m b | inr m ↦ run_loose Ended y m b ]) in
-        let whole : IsApart all = apart_join wait ((yet ++ done) ++ run_slots ws) (list_apart i s Waiting) rest
-        (λ y a b. elim (in_either y (yet ++ done) (run_slots ws) b) [
-          | inl m ↦ elim (in_either y yet done m) [
-            | inl n ↦ one_list i s Waiting EndedYet y a n (λ e. cc)
-            | inr n ↦ one_list i s Waiting Ended y a n (λ e. cc)
-          ]
-          | inr m ↦ run_loose Waiting y a m
-        ]) in
-        let below : (x : ℕ) → IsIn x all → x < length i.memory.row.items = λ x h. elim (in_either x wait ((yet ++ done) ++ run_slots ws) h) [
-          | inl m ↦ member_below Waiting x m
-          | inr m ↦ elim (in_either x (yet ++ done) (run_slots ws) m) [
-            | inl n ↦ elim (in_either x yet done n) [ inl o ↦ member_below EndedYet x o | inr o ↦ member_below Ended x o ]
-            | inr n ↦ run_below x n
-          ]
-        ] in
-        let most = few all (length i.memory.row.items) whole below in
-        let one = length-append wait ((yet ++ done) ++ run_slots ws) in let two = length-append (yet ++ done) (run_slots ws) in
-        let three = run_length ws in let four = length-map wait (id_in i) in let five = length-map (yet ++ done) (done_in read i) in
-        let within = s.linked.within in let under = s.linked.few in
-        omega (arith, most, one, two, three, four, five, within, under)
+  run_in : (x : ℕ) → IsIn x runs → IsRun read i (id_in i x)
+  run_in x m =
+      let r = run_of x w.running.workers m in let q = h.running r.0 r.1 r.2 in
+      subst (IsRun read i) (sym (ap (id_in i) (sym r.3) ∙ held_id read i r.1 true q.request)) q
+
+  slots_apart : SlotsApart w.running.workers
+  slots_apart j k a b e f same =
+      let one = one_held read i b a true true (h.running k b f).request (h.running j a e).request same in
+      h.apart j k b (e ∙ ap (λ z. Some (Some z)) one) f
+
+  apart : IsApart (members i Waiting ++ (ends ++ runs))
+  apart =
+      let done = apart_join (members i EndedYet) (members i Ended) (list_apart i s EndedYet) (list_apart i s Ended)
+      (λ y a b. one_list i s EndedYet Ended y a b (λ e. cc)) in
+      let rest = apart_join ends runs done (run_apart w.running.workers slots_apart)
+      (λ y a b. not_both read i (id_in i y) (run_in y b).request (end_held h y a)) in
+      apart_join (members i Waiting) (ends ++ runs) (list_apart i s Waiting) rest (λ y a b. elim (in_either y ends runs b) [
+        | inl m ↦ not_both read i (id_in i y) (h.waiting y a) (end_held h y m)
+        | inr m ↦ let on = (member i s Waiting y a).listed in let off = (run_in y m).loose in cc
+      ])
+
+  all_below : (x : ℕ) → IsIn x (members i Waiting ++ (ends ++ runs)) → x < length i.memory.row.items
+  all_below x m = elim (in_either x (members i Waiting) (ends ++ runs) m) [
+    | inl a ↦ below (id_in i x) true (h.waiting x a)
+    | inr a ↦ elim (in_either x ends runs a) [
+      | inl b ↦ below (id_in i x) false (end_held h x b)
+      | inr b ↦ below (id_in i x) true (run_in x b).request
+    ]
+  ]
+
+  -- at most as many requests are open as there are slots
+  pub pool_fits : w.running.count < 4294967296
+  pool_fits =
+      let most = few (members i Waiting ++ (ends ++ runs)) (length i.memory.row.items) apart all_below in
+      let one = length-append (members i Waiting) (ends ++ runs) in let two = length-append ends runs in
+      let three = run_length w.running.workers in let four = length-map (members i Waiting) (id_in i) in let five = length-map ends (done_in read i) in
+      let within = s.linked.within in let under = s.linked.few in let count = h.count in
+      omega (arith, most, one, two, three, four, five, within, under, count)

@@ -1,18 +1,33 @@
 -- A request is finished or cancelled, and goes to the end of those that are done.
-use Rattle.std.proofs.Common.{◌≡◌, ◌≢◌, ℕ, true, false, [], ◌∷◌, ◌++◌, map, Option, Some, None, IfSome, IfNone, option_and_then, refl, sym, ap, ◌∙◌, subst, append_assoc}
-use Rattle.std.proofs.lemmas.List.{map-append}
+use Rattle.std.proofs.Common.{◌≡◌, ◌≢◌, ℕ, true, false, eqb, List, [], ◌∷◌, ◌++◌, map, slice_get, Option, Some, None, is_some, IfSome, IfNone, option_and_then, option_map, refl, sym, ap, ◌∙◌, subst, append_assoc, inl, inr, arith}
+use Rattle.std.proofs.lemmas.Bool.Decides.{eqb_tells}
+use Rattle.std.proofs.lemmas.List.{length-set}
+use Rattle.std.proofs.lemmas.Option.{slice_get_within}
 use Rattle.uv_ids.specs.declared.id.Id.{Id}
-use Rattle.uv_records.specs.declared.lists.ListName.TheVariants.{Done as Ended, DoneYet as EndedYet}
+use Rattle.uv_ids.specs.declared.code.Code.TheVariants.{Ebusy}
+use Rattle.uv_records.specs.declared.lists.ListName.{ListName}
+use Rattle.uv_records.specs.declared.lists.ListName.TheVariants.{Waiting, Done as Ended, DoneYet as EndedYet}
+use Rattle.uv_records.specs.Slots as plain
+use Rattle.uv_records.specs.Walks.{without as slots_without}
+use Rattle.uv_arena.specs.declared.links.Place.{Place}
 use Rattle.uv_arena.specs.Chains.{IsIn}
-use Rattle.uv_arena.specs.Image.{Image, members, held}
-use Rattle.uv_arena.specs.Undo.{set_undone, push_undone, CanUndoSet}
-use Rattle.uv_arena.specs.Calls.{IsSet, IsPushed}
-use Rattle.uv_work.specs.Requests.{Request, is_open, is_finished, ended, reopened}
+use Rattle.uv_arena.specs.Image.{Image, members, held, on_list, IsSound}
+use Rattle.uv_arena.specs.Undo.{set_undone, push_undone, unlink_undone, CanUndoSet, CanUndoUnlink}
+use Rattle.uv_arena.specs.Calls.{IsSet, IsPushed, IsUnlinked}
+use Rattle.uv_arena.proofs.Lookups.{without_none}
+use Rattle.uv_arena.proofs.Readings.{apart_from}
+use Rattle.uv_work.specs.Ids.{same_id}
+use Rattle.uv_work.specs.Work.{Work}
+use Rattle.uv_work.specs.Requests.{Request, is_open, is_finished, ended, finished, cancelled, reopened, job_of, cancel_refusal}
+use Rattle.uv_work.specs.Pool.{Pool, waits, without}
 use Rattle.uv_work.specs.declared.outcome.Outcome.{Outcome}
 use Rattle.uv_work.specs.declared.outcome.Outcome.TheVariants.{Open, Finished, Cancelled}
-use Rattle.uv_requests.specs.Working.{id_in, request_in, done_in, was_finished, IsHeld}
-use Rattle.uv_requests.specs.Undo.{reopened_by, reopened_in, CanReopen}
-use Rattle.uv_requests.proofs.Holding.{content_of, id_is, ends_same}
+use Rattle.uv_requests.specs.Working.{Running, working, found, id_in, request_in, done_in, was_finished, pool_of, IsHeld, IsRun, IsWork}
+use Rattle.uv_requests.specs.Undo.{with_run, reopened_by, reopened_in, finish_undone, cancel_undone, CanReopen}
+use Rattle.uv_requests.specs.Calls.{IsFinished, IsCancelled}
+use Rattle.uv_requests.proofs.Frames.{Leaves, pool_now, work_now, ends_stay, run_elsewhere}
+use Rattle.uv_requests.proofs.Holding.{content_of, held_id, one_held, not_both, member, list_apart, one_list}
+use Rattle.uv_requests.proofs.Rules.{set_back, set_here, set_there, not_same, none_of, waits_in, without_in, finish_rule, finish_size, cancel_rule, cancel_size}
 
 open_is : (o : Outcome) → is_open o ≡ true → o ≡ Open
 open_is Open e = refl
@@ -23,55 +38,236 @@ open_is Cancelled e = cc
 reopened_same : (r : Request) (o : Outcome) → is_open r.outcome ≡ true → reopened (ended o r) ≡ r
 reopened_same r o h = λ l. record { name = r.name; rounds = r.rounds; text = r.text; outcome = sym (open_is r.outcome h) l }
 
-module _ {X : Type 0} (read : X → Option Request) (make : Request → X) (gives_back : (r : Request) → read (make r) ≡ Some r) where
-  module _ (only_that : (t : X) (r : Request) → read t ≡ Some r → t ≡ make r) (i : Image X) (d : Id) (from : Request)
-      (there : request_in read i d ≡ Some from) where
-    pub content_is : held i d ≡ Some (make from)
-    content_is = let x = content_of read i d from there in x.1 ∙ ap Some (only_that x.0 from x.2)
+module _ {X : Type 0} {read : X → Option Request} {make : Request → X} (only_that : (t : X) (r : Request) → read t ≡ Some r → t ≡ make r)
+    (i : Image X) (d : Id) (from : Request) (there : request_in read i d ≡ Some from) where
+  pub content_is : held i d ≡ Some (make from)
+  content_is = let x = content_of read i d from there in x.1 ∙ ap Some (only_that x.0 from x.2)
 
-    pub set_done : (Same : Type 0) (j : Image X) (new : X) (o : Option X) → IfNone o ((held i d ≡ None) × Same)
-        → IfSome o (λ was. (held i d ≡ Some was) × IsSet i j d new was) → IsSet i j d new (make from)
-    set_done Same j new None none some = cc (none.0, content_is)
-    set_done Same j new (Some was) none some = let same : was ≡ make from = cc (some.0, content_is) in subst (IsSet i j d new) same some.1
+  pub set_done : (Same : Type 0) (j : Image X) (new : X) (o : Option X) → IfNone o ((held i d ≡ None) × Same)
+      → IfSome o (λ was. (held i d ≡ Some was) × IsSet i j d new was) → IsSet i j d new (make from)
+  set_done Same j new None none some = cc (none.0, content_is)
+  set_done Same j new (Some was) none some = let same : was ≡ make from = cc (some.0, content_is) in subst (IsSet i j d new) same some.1
 
-  module _ (a k j : Image X) (d : Id) (from : Request) (o : Outcome) (opened : is_open from.outcome ≡ true)
-      (set : IsSet a k d (make (ended o from)) (make from)) (p : IsPushed k j Ended d (members k Ended ++ d.slot ∷ [])) where
-    pub content_now : held j d ≡ Some (make (ended o from))
-    content_now = p.slots.contents d ∙ set.now
+-- a request that is off its list, or was on none, ends
+pub record Ends {X : Type 0} (read : X → Option Request) (make : Request → X) (a k j : Image X) (d : Id) (from : Request) (o : Outcome) : Type 0 where
+  pub gives_back : (r : Request) → read (make r) ≡ Some r
+  pub opened : is_open from.outcome ≡ true
+  pub closed : is_open o ≡ false
+  pub set : IsSet a k d (make (ended o from)) (make from)
+  pub pushed : IsPushed k j Ended d (members k Ended ++ d.slot ∷ [])
 
-    pub request_now : request_in read j d ≡ Some (ended o from)
-    request_now = ap (option_and_then read) content_now ∙ gives_back (ended o from)
+module _ {X : Type 0} {read : X → Option Request} {make : Request → X} {a k j : Image X} {d : Id} {from : Request} {o : Outcome}
+    (f : Ends read make a k j d from o) where
+  request_now : request_in read j d ≡ Some (ended o from)
+  request_now = ap (option_and_then read) (f.pushed.slots.contents d ∙ f.set.now) ∙ f.gives_back (ended o from)
 
-    pub held_now : is_open o ≡ false → IsHeld read j d false
-    held_now e = record { request = ended o from; is = request_now; outcome = e }
+  held_now : IsHeld read j d false
+  held_now = record { request = ended o from; is = request_now; outcome = f.closed }
 
-    pub done_now : done_in read j d.slot ≡ record { id = d; finished = is_finished o }
-    done_now =
-        let one = id_is j d (make (ended o from)) content_now in
-        let r : request_in read j (id_in j d.slot) ≡ Some (ended o from) = ap (request_in read j) one ∙ request_now in
-        λ l. record { id = one l; finished = was_finished (r l) }
+  done_now : done_in read j d.slot ≡ record { id = d; finished = is_finished o }
+  done_now =
+      let one = held_id read j d false held_now in
+      let r : request_in read j (id_in j d.slot) ≡ Some (ended o from) = ap (request_in read j) one ∙ request_now in
+      λ l. record { id = one l; finished = was_finished (r l) }
 
-    there_set : request_in read k d ≡ Some (ended o from)
-    there_set = ap (option_and_then read) set.now ∙ gives_back (ended o from)
+  there_set : request_in read k d ≡ Some (ended o from)
+  there_set = ap (option_and_then read) f.set.now ∙ f.gives_back (ended o from)
 
-    pub reopened_back : reopened_in read make d (push_undone d.slot j) ≡ a
-    reopened_back = ap (reopened_in read make d) p.undone ∙ ap (λ q. reopened_by make q d.slot k) there_set
-        ∙ ap (λ q. set_undone d.slot (make q) k) (reopened_same from o opened) ∙ set.undone
+  reopened_back : reopened_in read make d (push_undone d.slot j) ≡ a
+  reopened_back = ap (reopened_in read make d) f.pushed.undone ∙ ap (λ q. reopened_by make q d.slot k) there_set
+      ∙ ap (λ q. set_undone d.slot (make q) k) (reopened_same from o f.opened) ∙ f.set.undone
 
-    pub can_reopen : CanReopen make (request_in read (push_undone d.slot j) d) d.slot (push_undone d.slot j)
-    can_reopen = subst (λ z. CanReopen make (request_in read z d) d.slot z) (sym p.undone)
-        (subst (λ q. CanReopen make q d.slot k) (sym there_set)
-        (subst (λ q. CanUndoSet k d.slot (make q)) (sym (reopened_same from o opened)) set.can_undo))
+  can_reopen : CanReopen make (request_in read (push_undone d.slot j) d) d.slot (push_undone d.slot j)
+  can_reopen = subst (λ z. CanReopen make (request_in read z d) d.slot z) (sym f.pushed.undone)
+      (subst (λ q. CanReopen make q d.slot k) (sym there_set)
+      (subst (λ q. CanUndoSet k d.slot (make q)) (sym (reopened_same from o f.opened)) f.set.can_undo))
 
-    -- those that are done are one more
-    module _ (i : Image X) (contents : (e : Id) → e.slot ≢ d.slot → held j e ≡ held i e) (yet : members j EndedYet ≡ members i EndedYet)
-        (done : members j Ended ≡ members i Ended ++ d.slot ∷ [])
-        (f : (x : ℕ) → IsIn x (members i EndedYet) → (x ≢ d.slot) × IsHeld read i (id_in i x) false)
-        (g : (x : ℕ) → IsIn x (members i Ended) → (x ≢ d.slot) × IsHeld read i (id_in i x) false) where
-      pub ended_ids : map (done_in read j) (members j EndedYet ++ members j Ended)
-          ≡ map (done_in read i) (members i EndedYet ++ members i Ended) ++ record { id = d; finished = is_finished o } ∷ []
-      ended_ids =
-          let ys = members i EndedYet in let es = members i Ended in
-          (λ l. map (done_in read j) (yet l ++ done l)) ∙ ap (map (done_in read j)) (sym (append_assoc ys es (d.slot ∷ [])))
-          ∙ map-append (done_in read j) (ys ++ es) (d.slot ∷ [])
-          ∙ (λ l. ends_same read i j (λ x. x ≢ d.slot) contents ys es f g l ++ done_now l ∷ [])
+  module _ (i : Image X) (contents : (e : Id) → held a e ≡ held i e) (kept : (e : Id) → e.slot ≢ d.slot → on_list a e ≡ on_list i e)
+      (lists : (l : ListName) → members a l ≡ slots_without eqb (members i l) d.slot)
+      (stays : (l : ListName) → l ≢ Waiting → slots_without eqb (members i l) d.slot ≡ members i l) where
+    others : (l : ListName) → l ≢ Ended → members j l ≡ slots_without eqb (members i l) d.slot
+    others l n = f.pushed.others l n ∙ f.set.lists l ∙ lists l
+
+    done_list : members j Ended ≡ members i Ended ++ d.slot ∷ []
+    done_list = f.pushed.lists ∙ ap (λ xs. xs ++ d.slot ∷ []) (f.set.lists Ended ∙ lists Ended ∙ stays Ended (λ e. cc))
+
+    left : {r q : Running} {c : ℕ} {wait : List ℕ} → slots_without eqb (members i Waiting) d.slot ≡ wait
+        → ((b : ℕ) (e : Id) → slice_get q.workers b ≡ Some (Some e) → (e.slot ≢ d.slot) × (slice_get r.workers b ≡ Some (Some e)))
+        → Leaves read i j r q d c wait (members i EndedYet ++ members i Ended) false true (record { id = d; finished = is_finished o })
+    left is runs = record {
+      same = λ e n. f.pushed.slots.contents e ∙ f.set.contents e n ∙ contents e;
+      kept = λ e n. f.pushed.kept e n ∙ f.set.kept e ∙ kept e n;
+      wait_is = is;
+      ends_is = ends_stay i d (stays EndedYet (λ e. cc)) (stays Ended (λ e. cc));
+      waiting = others Waiting (λ e. cc) ∙ is;
+      ended = (λ l. (others EndedYet (λ e. cc) ∙ stays EndedYet (λ e. cc)) l ++ done_list l)
+          ∙ sym (append_assoc (members i EndedYet) (members i Ended) (d.slot ∷ []));
+      waits = λ e. cc;
+      is_done = λ e. (held_now, done_now);
+      listed = λ e s h on. absurd (not_both read j d (subst (λ z. IsHeld read j z true) (one_held read j d e false true held_now h s) h) held_now);
+      runs = λ b e g. inr (runs b e g);
+    }
+
+-- a worker finishes its request
+pub record Finishes {X : Type 0} (read : X → Option Request) (make : Request → X) (i k j : Image X) (d : Id) (from : Request) (digest : List ℕ)
+    (c : ℕ) (r : Running) : Type 0 where
+  pub gives_back : (r : Request) → read (make r) ≡ Some r
+  pub sound : IsSound i
+  pub work : IsWork read (working i r)
+  pub runs : slice_get r.workers c ≡ Some (Some d)
+  pub there : request_in read i d ≡ Some from
+  pub set : IsSet i k d (make (finished digest from)) (make from)
+  pub pushed : IsPushed k j Ended d (members k Ended ++ d.slot ∷ [])
+
+module _ {X : Type 0} {read : X → Option Request} {make : Request → X} {i k j : Image X} {d : Id} {from : Request} {digest : List ℕ} {c : ℕ}
+    {r : Running} (h : Finishes read make i k j d from digest c r) where
+  abbrev now : Running
+  now = with_run c None r
+
+  abbrev before : Pool
+  before = pool_of read (working i r)
+
+  run : IsRun read i d
+  run = h.work.running c d h.runs
+
+  opened : is_open from.outcome ≡ true
+  opened =
+      let same : run.request.request ≡ from = cc (run.request.is, h.there) in
+      subst (λ (q : Request). is_open q.outcome ≡ true) same run.request.outcome
+
+  ends : Ends read make i k j d from (Finished digest)
+  ends = record { gives_back = h.gives_back; opened = opened; closed = refl; set = h.set; pushed = h.pushed }
+
+  loose : (l : ListName) → slots_without eqb (members i l) d.slot ≡ members i l
+  loose = apart_from i h.sound d (let x = content_of read i d from h.there in ap is_some x.1) run.loose
+
+  -- what a worker runs still, it ran before, and it isn't this one
+  ran : (b : ℕ) (e : Id) → slice_get now.workers b ≡ Some (Some e) → (e.slot ≢ d.slot) × (slice_get r.workers b ≡ Some (Some e))
+  ran b e g = elim (eqb_tells b c) [
+    | inl y ↦ cc (set_here r.workers c (Some d) None h.runs, ap (slice_get now.workers) y.1, g)
+    | inr n ↦
+        let was = sym (set_there r.workers c b None n.1) ∙ g in
+        ((λ y. let one = one_held read i d e true true run.request (h.work.running b e was).request y in
+        n.1 (h.work.apart b c d (was ∙ ap (λ z. Some (Some z)) one) h.runs)), was)
+  ]
+
+  frame : Leaves read i j r now d c (members i Waiting) (members i EndedYet ++ members i Ended) false true (record { id = d; finished = true })
+  frame = left ends i (λ e. refl) (λ e n. refl) (λ l. sym (loose l)) (λ l n. loose l) (loose Waiting) ran
+
+  back : finish_undone read make (record { worker = c; id = d }) (working j now) ≡ working i r
+  back = λ l. record {
+    arena = reopened_back ends l;
+    running = record { workers = set_back r.workers c (Some d) None h.runs l; count = r.count };
+  }
+
+  pub finish_done : {asked : Work} → job_of d from ≡ asked
+      → IsFinished read make (working i r) (working j now) c d asked digest (record { worker = c; id = d })
+  finish_done job = record {
+    rule = finish_rule before c d h.runs ∙ ap Some (sym (pool_now h.work frame));
+    from = from;
+    was = h.there;
+    job = job;
+    runs = h.runs;
+    running = refl;
+    plain = h.pushed.slots.plain ∙ h.set.plain;
+    request = request_now ends;
+    done = h.pushed.lists ∙ ap (λ xs. xs ++ d.slot ∷ []) (h.set.lists Ended);
+    listed = h.pushed.listed;
+    others = λ l n. h.pushed.others l n ∙ h.set.lists l;
+    contents = frame.same;
+    kept = frame.kept;
+    work = work_now h.work frame (h.work.count ∙ sym (finish_size before c d h.runs));
+    undone = back;
+    can_undo = record {
+      worker = let within = slice_get_within r.workers c (Some d) h.runs in let long = length-set r.workers c None in omega (arith, within, long);
+      pushed = h.pushed.can_undo;
+      reopened = can_reopen ends;
+      work = subst (IsWork read) (sym back) h.work;
+    };
+  }
+
+-- a request that waits is cancelled
+pub record Cancels {X : Type 0} (read : X → Option Request) (make : Request → X) (i a k j : Image X) (d : Id) (from : Request) (t : Place)
+    (r : Running) : Type 0 where
+  pub sound : IsSound i
+  pub work : IsWork read (working i r)
+  pub there : request_in read i d ≡ Some from
+  pub listed : on_list i d ≡ true
+  pub unlinked : IsUnlinked i a d t
+  pub ends : Ends read make a k j d from Cancelled
+
+module _ {X : Type 0} {read : X → Option Request} {make : Request → X} {i a k j : Image X} {d : Id} {from : Request} {t : Place} {r : Running}
+    (h : Cancels read make i a k j d from t r) where
+  abbrev pool : Pool
+  pool = pool_of read (working i r)
+
+  abbrev rest : List ℕ
+  rest = slots_without eqb (members i Waiting) d.slot
+
+  held_open : IsHeld read i d true
+  held_open = record { request = from; is = h.there; outcome = h.ends.opened }
+
+  waited : IsIn d.slot (members i Waiting)
+  waited = h.work.listed d held_open h.listed
+
+  stay : (l : ListName) → l ≢ Waiting → slots_without eqb (members i l) d.slot ≡ members i l
+  stay l n = without_none (members i l) d.slot (λ m. one_list i h.sound l Waiting d.slot m waited n)
+
+  leaves : Leaves read i j r r d 0 rest (members i EndedYet ++ members i Ended) false true (record { id = d; finished = false })
+  leaves = left h.ends i h.unlinked.slots.contents h.unlinked.kept h.unlinked.lists stay refl
+      (λ b e g. (run_elsewhere read i d true held_open h.listed e (h.work.running b e g), g))
+
+  waits_was : waits pool.waiting d ≡ true
+  waits_was = subst (λ e. waits pool.waiting e ≡ true) (held_id read i d true held_open)
+      (waits_in (id_in i) d.slot (members i Waiting) waited)
+
+  without_was : without pool.waiting d ≡ map (id_in i) rest
+  without_was = subst (λ e. without pool.waiting e ≡ map (id_in i) rest) (held_id read i d true held_open)
+      (without_in (id_in i) d.slot (members i Waiting) (list_apart i h.sound Waiting) (λ y e. ap (λ (z : Id). z.slot) e))
+
+  cancel_back : cancel_undone read make (record { id = d; unlinked = t }) (working j r) ≡ working i r
+  cancel_back = ap (λ z. working (unlink_undone t z) r) (reopened_back h.ends) ∙ ap (λ z. working z r) h.unlinked.undone
+
+  pub cancel_done : IsCancelled read make (working i r) (working j r) d (record { id = d; unlinked = t })
+  cancel_done = record {
+    rule = cancel_rule pool d (map (id_in i) rest) waits_was without_was ∙ ap Some (sym (pool_now h.work leaves));
+    from = from;
+    was = h.there;
+    running = refl;
+    plain = h.ends.pushed.slots.plain ∙ h.ends.set.plain
+        ∙ ap (λ (q : plain.Slots X). (let z : plain.Slots X = record q { slots = plain.with_held q.slots d (make (cancelled from)) } in z))
+        h.unlinked.slots.plain;
+    request = request_now h.ends;
+    waiting = leaves.waiting;
+    done = done_list h.ends i h.unlinked.slots.contents h.unlinked.kept h.unlinked.lists stay;
+    listed = h.ends.pushed.listed;
+    others = λ l n m. others h.ends i h.unlinked.slots.contents h.unlinked.kept h.unlinked.lists stay l m ∙ stay l n;
+    contents = leaves.same;
+    kept = leaves.kept;
+    work = work_now h.work leaves (h.work.count ∙ sym (cancel_size pool d (map (id_in i) rest) waits_was without_was));
+    undone = cancel_back;
+    can_undo = record {
+      pushed = h.ends.pushed.can_undo;
+      reopened = can_reopen h.ends;
+      unlinked = subst (λ z. CanUndoUnlink z t) (sym (reopened_back h.ends)) h.unlinked.can_undo;
+      work = subst (IsWork read) (sym cancel_back) h.work;
+    };
+  }
+
+-- a request that doesn't wait is busy: one that isn't open, or is on no list
+module _ {X : Type 0} {read : X → Option Request} {i : Image X} {r : Running} (s : IsSound i) (w : IsWork read (working i r)) (d : Id)
+    (from : Request) (there : request_in read i d ≡ Some from) where
+  busy_refusal : (IsHeld read i d true → on_list i d ≡ true → ⊥)
+      → cancel_refusal (found read i d) (waits (map (id_in i) (members i Waiting)) d) ≡ Some Ebusy
+  busy_refusal n =
+      let c = content_of read i d from there in let is : found read i d ≡ Some (Some from) = ap (option_map read) c.1 ∙ ap Some c.2 in
+      let not = none_of (λ z. same_id z d) (id_in i) (members i Waiting) (λ x m. not_same (id_in i x) d (λ one.
+      n (subst (λ z. IsHeld read i z true) one (w.waiting x m)) (subst (λ z. on_list i z ≡ true) one (member i s Waiting x m).listed))) in
+      λ l. cancel_refusal (is l) (not l)
+
+  pub closed_refusal : is_open from.outcome ≡ false
+      → cancel_refusal (found read i d) (waits (map (id_in i) (members i Waiting)) d) ≡ Some Ebusy
+  closed_refusal e = busy_refusal (λ h on. not_both read i d h (record { request = from; is = there; outcome = e }))
+
+  pub loose_refusal : on_list i d ≡ false → cancel_refusal (found read i d) (waits (map (id_in i) (members i Waiting)) d) ≡ Some Ebusy
+  loose_refusal e = busy_refusal (λ h on. cc)

@@ -10,7 +10,7 @@ use Rattle.uv_work.specs.Requests.{Request}
 use Rattle.uv_requests.specs.Working.{Running, working, id_in, request_in, IsHeld, IsWork}
 use Rattle.uv_requests.proofs.Holding.{listed_id}
 
-module _ {X : Type 0} (read : X → Option Request) (i : Image X) (r : Running) (d : Id) (w : IsWork read (working i r)) where
+module _ {X : Type 0} {read : X → Option Request} {i : Image X} {r : Running} {d : Id} (w : IsWork read (working i r)) where
   is_on : (l : ListName) → IsFirst i l d → IsIn d.slot (members i l)
   is_on l f = subst (IsIn d.slot) (sym f.is) (inl refl)
 

@@ -1,14 +1,10 @@
-pub mod Begun
 pub mod Beside
 pub mod Bounds
-pub mod Cancelled
 pub mod Collected
-pub mod Cut
 pub mod Ending
-pub mod Finished
+pub mod Frames
 pub mod Fresh
 pub mod Fronts
 pub mod Holding
-pub mod Queued
+pub mod Opened
 pub mod Rules
-pub mod Taken

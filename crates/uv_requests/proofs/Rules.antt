@@ -1,11 +1,15 @@
 -- The rules of the pool, where its lists are known, and how many requests are in it.
-use Rattle.std.proofs.Common.{◌≡◌, ℕ, zero, suc, ◌+◌, ◌||◌, Bool, true, false, cond, List, [], ◌∷◌, ◌++◌, map, length, set, slice_get, Option, Some, None, refl, ap, ◌∙◌, inl, inr, arith, length-append}
+use Rattle.std.proofs.Common.{◌≡◌, ℕ, zero, suc, ◌+◌, ◌||◌, Bool, true, false, cond, if◌then◌else◌, not, eqb, List, [], ◌∷◌, ◌++◌, map, length, set, slice_get, Option, Some, None, refl, sym, ap, ◌∙◌, subst, inl, inr, arith, length-append}
 use Rattle.std.specs.List.{list_any}
+use Rattle.std.proofs.Math.Bool.{or-true}
+use Rattle.std.proofs.lemmas.Bool.Decides.{eqb_tells}
 use Rattle.uv_ids.specs.declared.id.Id.{Id}
-use Rattle.uv_arena.specs.Chains.{IsIn}
+use Rattle.uv_records.specs.Walks.{without as slots_without}
+use Rattle.uv_arena.specs.Chains.{IsIn, IsApart}
+use Rattle.uv_arena.proofs.Lookups.{without_none}
 use Rattle.uv_work.specs.Ids.{same_id}
-use Rattle.uv_work.specs.Pool.{Pool, Done, waits, runs, is_done, without, size, after_queue, taken_by, after_take, finished_by, after_finish, after_cancel, collected_from, after_collect}
-use Rattle.uv_work.proofs.Counts.{busy_set_some, busy_set_none}
+use Rattle.uv_work.specs.Pool.{Pool, Done, has, waits, runs, without, size, after_queue, taken_by, after_take, finished_by, after_finish, after_cancel, collected_from, after_collect}
+use Rattle.uv_work.proofs.Counts.{busy_set_some, busy_set_none, without_one}
 use Rattle.uv_work.proofs.Replays.{same_itself, same_when}
 
 pub not_same : (a b : Id) → (a ≡ b → ⊥) → same_id a b ≡ false
@@ -25,20 +29,24 @@ none_runs [] d h = refl
 none_runs (None ∷ ws) d h = none_runs ws d (λ k. h (suc k))
 none_runs (Some e ∷ ws) d h = ap (λ u. u || runs ws d) (not_same e d (h 0 e refl)) ∙ none_runs ws d (λ k. h (suc k))
 
-or_true : (b : Bool) → (b || true) ≡ true
-or_true true = refl
-or_true false = refl
+module _ (f : ℕ → Id) (x : ℕ) where
+  pub waits_in : (xs : List ℕ) → IsIn x xs → waits (map f xs) (f x) ≡ true
+  waits_in [] h = absurd h
+  waits_in (y ∷ ys) (inl e) = ap (λ b. b || waits (map f ys) (f x)) (ap (λ z. same_id (f z) (f x)) (sym e) ∙ same_itself (f x))
+  waits_in (y ∷ ys) (inr h) = ap (λ b. same_id (f y) (f x) || b) (waits_in ys h) ∙ or-true (same_id (f y) (f x))
 
-pub waits_at : (f : ℕ → Id) (us vs : List ℕ) (x : ℕ) → waits (map f (us ++ x ∷ vs)) (f x) ≡ true
-waits_at f [] vs x = ap (λ u. u || waits (map f vs) (f x)) (same_itself (f x))
-waits_at f (u ∷ us) vs x = ap (λ b. same_id (f u) (f x) || b) (waits_at f us vs x) ∙ or_true (same_id (f u) (f x))
-
-pub without_at : (f : ℕ → Id) (us vs : List ℕ) (x : ℕ) → ((u : ℕ) → IsIn u us → f u ≡ f x → ⊥)
-    → without (map f (us ++ x ∷ vs)) (f x) ≡ map f (us ++ vs)
-without_at f [] vs x h = ap (λ b. cond b (map f vs) (f x ∷ without (map f vs) (f x))) (same_itself (f x))
-without_at f (u ∷ us) vs x h =
-    ap (λ b. cond b (map f (us ++ x ∷ vs)) (f u ∷ without (map f (us ++ x ∷ vs)) (f x))) (not_same (f u) (f x) (h u (inl refl)))
-    ∙ ap (λ l. f u ∷ l) (without_at f us vs x (λ y k. h y (inr k)))
+  pub without_in : (xs : List ℕ) → IsApart xs → ((y : ℕ) → f y ≡ f x → y ≡ x) → without (map f xs) (f x) ≡ map f (slots_without eqb xs x)
+  without_in [] a n = refl
+  without_in (y ∷ ys) a n =
+      let rest = slots_without eqb ys x in
+      elim (eqb_tells y x) [
+        | inl e ↦
+            let all : rest ≡ ys = without_none ys x (λ h. a.0 (subst (λ z. IsIn z ys) (sym e.1) h)) in
+            ap (λ b. cond b (map f ys) (f y ∷ without (map f ys) (f x))) (ap (λ z. same_id (f z) (f x)) e.1 ∙ same_itself (f x))
+            ∙ ap (map f) (sym all) ∙ ap (λ (b : Bool). map f (if not b then y ∷ rest else rest)) (sym e.0)
+        | inr m ↦ ap (λ b. cond b (map f ys) (f y ∷ without (map f ys) (f x))) (not_same (f y) (f x) (λ e. m.1 (n y e)))
+            ∙ ap (λ l. f y ∷ l) (without_in ys a.1 n) ∙ ap (λ (b : Bool). map f (if not b then y ∷ rest else rest)) (sym m.0)
+      ]
 
 -- ---- workers
 
@@ -47,11 +55,6 @@ module _ {A : Type 0} where
   set_back [] k a b e = refl
   set_back (x ∷ xs) zero a b e = let same : a ≡ x = cc in ap (λ z. z ∷ xs) same
   set_back (x ∷ xs) (suc k) a b e = ap (λ l. x ∷ l) (set_back xs k a b e)
-
-  pub set_length : (xs : List A) (k : ℕ) (b : A) → length (set xs k b) ≡ length xs
-  set_length [] k b = refl
-  set_length (x ∷ xs) zero b = refl
-  set_length (x ∷ xs) (suc k) b = ap suc (set_length xs k b)
 
   pub set_here : (xs : List A) (k : ℕ) (a b : A) → slice_get xs k ≡ Some a → slice_get (set xs k b) k ≡ Some b
   set_here [] k a b e = cc
@@ -71,52 +74,53 @@ module _ (p : Pool) where
   abbrev pub queued : Id → Pool
   queued d = record p { waiting = p.waiting ++ d ∷ [] }
 
-  pub queue_rule : (d : Id) → waits p.waiting d ≡ false → runs p.running d ≡ false → is_done p.done d ≡ false → after_queue p d ≡ Some (queued d)
-  queue_rule d a b c = (λ l. cond (a l || (b l || c l)) None (Some (queued d)))
+  pub queue_rule : (d : Id) → has p d ≡ false → after_queue p d ≡ Some (queued d)
+  queue_rule d n = ap (λ u. cond u None (Some (queued d))) n
 
   pub queue_size : (d : Id) → size (queued d) ≡ size p + 1
   queue_size d = omega (arith, length-append p.waiting (d ∷ []))
 
-  abbrev pub taken : ℕ → Id → List Id → Pool
-  taken k d rest = record p { waiting = rest; running = set p.running k (Some d) }
+  module _ (k : ℕ) (d : Id) (rest : List Id) (idle : slice_get p.running k ≡ Some None) (first : p.waiting ≡ d ∷ rest) where
+    abbrev pub taken : Pool
+    taken = record p { waiting = rest; running = set p.running k (Some d) }
 
-  pub take_rule : (k : ℕ) (d : Id) (rest : List Id) → slice_get p.running k ≡ Some None → p.waiting ≡ d ∷ rest
-      → after_take p k d ≡ Some (taken k d rest)
-  take_rule k d rest a b = (λ l. taken_by p k d (a l) (b l)) ∙ ap (λ u. cond u (Some (taken k d rest)) None) (same_itself d)
+    pub take_rule : after_take p k d ≡ Some taken
+    take_rule = (λ l. taken_by p k d (idle l) (first l)) ∙ ap (λ u. cond u (Some taken) None) (same_itself d)
 
-  pub take_size : (k : ℕ) (d : Id) (rest : List Id) → slice_get p.running k ≡ Some None → p.waiting ≡ d ∷ rest → size (taken k d rest) ≡ size p
-  take_size k d rest a b = let more = busy_set_some p.running k d a in let less = ap length b in omega (arith, more, less)
+    pub take_size : size taken ≡ size p
+    take_size = let more = busy_set_some p.running k d idle in let less = ap length first in omega (arith, more, less)
 
-  abbrev pub done_more : Done → Pool
-  done_more m = record p { done = p.done ++ m ∷ [] }
+  module _ (k : ℕ) (d : Id) (runs : slice_get p.running k ≡ Some (Some d)) where
+    abbrev pub finished : Pool
+    finished = record p { running = set p.running k None; done = p.done ++ record { id = d; finished = true } ∷ [] }
 
-  abbrev pub finished : ℕ → Id → Pool
-  finished k d = record p { running = set p.running k None; done = p.done ++ record { id = d; finished = true } ∷ [] }
+    pub finish_rule : after_finish p k d ≡ Some finished
+    finish_rule = (λ l. finished_by p k d (runs l)) ∙ ap (λ u. cond u (Some finished) None) (same_itself d)
 
-  pub finish_rule : (k : ℕ) (d : Id) → slice_get p.running k ≡ Some (Some d) → after_finish p k d ≡ Some (finished k d)
-  finish_rule k d a = (λ l. finished_by p k d (a l)) ∙ ap (λ u. cond u (Some (finished k d)) None) (same_itself d)
+    pub finish_size : size finished ≡ size p
+    finish_size =
+        let less = busy_set_none p.running k d runs in let more = length-append p.done (record { id = d; finished = true } ∷ []) in
+        omega (arith, less, more)
 
-  pub finish_size : (k : ℕ) (d : Id) → slice_get p.running k ≡ Some (Some d) → size (finished k d) ≡ size p
-  finish_size k d a =
-      let less = busy_set_none p.running k d a in
-      let more = length-append p.done (record { id = d; finished = true } ∷ []) in
-      omega (arith, less, more)
+  module _ (d : Id) (rest : List Id) (waiting : waits p.waiting d ≡ true) (is : without p.waiting d ≡ rest) where
+    abbrev pub cancelled : Pool
+    cancelled = record p { waiting = rest; done = p.done ++ record { id = d; finished = false } ∷ [] }
 
-  abbrev pub cancelled : Id → List Id → Pool
-  cancelled d rest = record p { waiting = rest; done = p.done ++ record { id = d; finished = false } ∷ [] }
+    pub cancel_rule : after_cancel p d ≡ Some cancelled
+    cancel_rule = λ l. cond (waiting l) (Some (record p { waiting = is l; done = p.done ++ record { id = d; finished = false } ∷ [] })) None
 
-  pub cancel_rule : (d : Id) (rest : List Id) → waits p.waiting d ≡ true → without p.waiting d ≡ rest → after_cancel p d ≡ Some (cancelled d rest)
-  cancel_rule d rest a b = (λ l. cond (a l) (Some (cancelled d (b l))) None)
+    pub cancel_size : size cancelled ≡ size p
+    cancel_size =
+        let less = without_one p.waiting d waiting in let same = ap length is in
+        let more = length-append p.done (record { id = d; finished = false } ∷ []) in omega (arith, less, same, more)
 
-  pub cancel_size : (d : Id) (rest : List Id) → length rest + 1 ≡ length p.waiting → size (cancelled d rest) ≡ size p
-  cancel_size d rest a = let more = length-append p.done (record { id = d; finished = false } ∷ []) in omega (arith, a, more)
+  module _ (d : Id) (m : Done) (rest : List Done) (its : m.id ≡ d) (first : p.done ≡ m ∷ rest) where
+    abbrev pub collected : Pool
+    collected = record p { done = rest }
 
-  abbrev pub collected : List Done → Pool
-  collected rest = record p { done = rest }
+    pub collect_rule : after_collect p d ≡ Some collected
+    collect_rule = (λ l. collected_from p d (first l)) ∙ ap (λ u. cond (same_id u d) (Some collected) None) its
+        ∙ ap (λ u. cond u (Some collected) None) (same_itself d)
 
-  pub collect_rule : (d : Id) (m : Done) (rest : List Done) → m.id ≡ d → p.done ≡ m ∷ rest → after_collect p d ≡ Some (collected rest)
-  collect_rule d m rest a b = (λ l. collected_from p d (b l)) ∙ ap (λ u. cond (same_id u d) (Some (collected rest)) None) a
-      ∙ ap (λ u. cond u (Some (collected rest)) None) (same_itself d)
-
-  pub collect_size : (m : Done) (rest : List Done) → p.done ≡ m ∷ rest → size (collected rest) + 1 ≡ size p
-  collect_size m rest b = let less = ap length b in omega (arith, less)
+    pub collect_size : size collected + 1 ≡ size p
+    collect_size = let less = ap length first in omega (arith, less)

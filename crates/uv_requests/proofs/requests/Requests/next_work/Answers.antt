@@ -2,5 +2,4 @@ use Rattle.uv_requests.proofs.Fronts.{waiting_is_held}
 use Rattle.uv_requests.proofs.requests.Requests.next_work.Goals as goal
 
 pub unreachable-unreachable : goal.unreachable-unreachable
-unreachable-unreachable g c =
-    waiting_is_held g.T.HoldsWork.held_request c.args.slots.now.image _ c.in-Some.id c.requires c.in-Some.ensures.some c.in-Err.ensures.none
+unreachable-unreachable g c = waiting_is_held c.requires c.in-Some.ensures.some c.in-Err.ensures.none
