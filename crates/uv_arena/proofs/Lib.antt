@@ -1,4 +1,5 @@
 pub mod Changes
+pub mod Contents
 pub mod Each
 pub mod Fresh
 pub mod Lists

@@ -5,7 +5,7 @@ use Rattle.std.proofs.lemmas.Option.{slice_get_within}
 use Rattle.uv_ids.specs.declared.id.Id.{Id}
 use Rattle.uv_records.specs.declared.lists.ListName.TheVariants.{Waiting, Done as Ended, DoneYet as EndedYet}
 use Rattle.uv_arena.specs.Chains.{IsIn, IsApart}
-use Rattle.uv_arena.specs.Image.{Image, members, on_list, IsSound}
+use Rattle.uv_arena.specs.Image.{Image, members, IsSound}
 use Rattle.uv_arena.proofs.Lists.{in_either, apart_join}
 use Rattle.uv_arena.proofs.Lookups.{held_tells}
 use Rattle.uv_arena.proofs.Walk.{few}

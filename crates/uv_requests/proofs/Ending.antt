@@ -1,5 +1,5 @@
 -- A request is finished or cancelled, and goes to the end of those that are done.
-use Rattle.std.proofs.Common.{◌≡◌, ◌≢◌, ℕ, true, false, eqb, List, [], ◌∷◌, ◌++◌, map, slice_get, Option, Some, None, is_some, IfSome, IfNone, option_and_then, option_map, refl, sym, ap, ◌∙◌, subst, append_assoc, inl, inr, arith}
+use Rattle.std.proofs.Common.{◌≡◌, ◌≢◌, ℕ, true, false, eqb, List, [], ◌∷◌, ◌++◌, map, slice_get, Option, Some, None, is_some, option_and_then, option_map, refl, sym, ap, ◌∙◌, subst, append_assoc, inl, inr, arith}
 use Rattle.std.proofs.lemmas.Bool.Decides.{eqb_tells}
 use Rattle.std.proofs.lemmas.List.{length-set}
 use Rattle.std.proofs.lemmas.Option.{slice_get_within}
@@ -14,6 +14,7 @@ use Rattle.uv_arena.specs.Chains.{IsIn}
 use Rattle.uv_arena.specs.Image.{Image, members, held, on_list, IsSound}
 use Rattle.uv_arena.specs.Undo.{set_undone, push_undone, unlink_undone, CanUndoSet, CanUndoUnlink}
 use Rattle.uv_arena.specs.Calls.{IsSet, IsPushed, IsUnlinked}
+use Rattle.uv_arena.proofs.Contents.{content_of, set_here, set_there, set_back}
 use Rattle.uv_arena.proofs.Lookups.{without_none}
 use Rattle.uv_arena.proofs.Readings.{apart_from}
 use Rattle.uv_work.specs.Ids.{same_id}
@@ -26,8 +27,8 @@ use Rattle.uv_requests.specs.Working.{Running, working, found, id_in, request_in
 use Rattle.uv_requests.specs.Undo.{with_run, reopened_by, reopened_in, finish_undone, cancel_undone, CanReopen}
 use Rattle.uv_requests.specs.Calls.{IsFinished, IsCancelled}
 use Rattle.uv_requests.proofs.Frames.{Leaves, pool_now, work_now, ends_stay, run_elsewhere}
-use Rattle.uv_requests.proofs.Holding.{content_of, held_id, one_held, not_both, member, list_apart, one_list}
-use Rattle.uv_requests.proofs.Rules.{set_back, set_here, set_there, not_same, none_of, waits_in, without_in, finish_rule, finish_size, cancel_rule, cancel_size}
+use Rattle.uv_requests.proofs.Holding.{held_id, one_held, not_both, member, list_apart, one_list}
+use Rattle.uv_requests.proofs.Rules.{not_same, none_of, waits_in, without_in, finish_rule, finish_size, cancel_rule, cancel_size}
 
 open_is : (o : Outcome) → is_open o ≡ true → o ≡ Open
 open_is Open e = refl
@@ -37,16 +38,6 @@ open_is Cancelled e = cc
 -- an open request that ended and is open again is what it was
 reopened_same : (r : Request) (o : Outcome) → is_open r.outcome ≡ true → reopened (ended o r) ≡ r
 reopened_same r o h = λ l. record { name = r.name; rounds = r.rounds; text = r.text; outcome = sym (open_is r.outcome h) l }
-
-module _ {X : Type 0} {read : X → Option Request} {make : Request → X} (only_that : (t : X) (r : Request) → read t ≡ Some r → t ≡ make r)
-    (i : Image X) (d : Id) (from : Request) (there : request_in read i d ≡ Some from) where
-  pub content_is : held i d ≡ Some (make from)
-  content_is = let x = content_of read i d from there in x.1 ∙ ap Some (only_that x.0 from x.2)
-
-  pub set_done : (Same : Type 0) (j : Image X) (new : X) (o : Option X) → IfNone o ((held i d ≡ None) × Same)
-      → IfSome o (λ was. (held i d ≡ Some was) × IsSet i j d new was) → IsSet i j d new (make from)
-  set_done Same j new None none some = cc (none.0, content_is)
-  set_done Same j new (Some was) none some = let same : was ≡ make from = cc (some.0, content_is) in subst (IsSet i j d new) same some.1
 
 -- a request that is off its list, or was on none, ends
 pub record Ends {X : Type 0} (read : X → Option Request) (make : Request → X) (a k j : Image X) (d : Id) (from : Request) (o : Outcome) : Type 0 where
@@ -109,113 +100,115 @@ module _ {X : Type 0} {read : X → Option Request} {make : Request → X} {a k 
     }
 
 -- a worker finishes its request
-pub record Finishes {X : Type 0} (read : X → Option Request) (make : Request → X) (i k j : Image X) (d : Id) (from : Request) (digest : List ℕ)
-    (c : ℕ) (r : Running) : Type 0 where
-  pub gives_back : (r : Request) → read (make r) ≡ Some r
-  pub sound : IsSound i
-  pub work : IsWork read (working i r)
-  pub runs : slice_get r.workers c ≡ Some (Some d)
-  pub there : request_in read i d ≡ Some from
-  pub set : IsSet i k d (make (finished digest from)) (make from)
-  pub pushed : IsPushed k j Ended d (members k Ended ++ d.slot ∷ [])
-
-module _ {X : Type 0} {read : X → Option Request} {make : Request → X} {i k j : Image X} {d : Id} {from : Request} {digest : List ℕ} {c : ℕ}
-    {r : Running} (h : Finishes read make i k j d from digest c r) where
-  abbrev now : Running
-  now = with_run c None r
-
-  abbrev before : Pool
-  before = pool_of read (working i r)
-
+pub finish_done : {X : Type 0} {read : X → Option Request} {make : Request → X} {i k j : Image X} {d : Id} {from : Request} {digest : List ℕ} {c : ℕ}
+    {r : Running} {asked : Work} → ((q : Request) → read (make q) ≡ Some q) → IsSound i → IsWork read (working i r)
+    → slice_get r.workers c ≡ Some (Some d) → request_in read i d ≡ Some from → IsSet i k d (make (finished digest from)) (make from)
+    → IsPushed k j Ended d (members k Ended ++ d.slot ∷ []) → job_of d from ≡ asked
+    → IsFinished read make (working i r) (working j (with_run c None r)) c d asked digest (record { worker = c; id = d })
+finish_done {read = read} {make = make} {i = i} {k = k} {j = j} {d = d} {from = from} {digest = digest} {c = c} {r = r} gives_back s w runs there set p job = record {
+  rule = finish_rule (pool_of read (working i r)) c d runs ∙ ap Some (sym (pool_now w frame));
+  from = from;
+  was = there;
+  job = job;
+  runs = runs;
+  running = refl;
+  plain = p.slots.plain ∙ set.plain;
+  request = request_now ends;
+  done = p.lists ∙ ap (λ xs. xs ++ d.slot ∷ []) (set.lists Ended);
+  listed = p.listed;
+  others = λ l n. p.others l n ∙ set.lists l;
+  contents = frame.same;
+  kept = frame.kept;
+  work = work_now w frame (w.count ∙ sym (finish_size (pool_of read (working i r)) c d runs));
+  undone = back;
+  can_undo = record {
+    worker = let within = slice_get_within r.workers c (Some d) runs in let long = length-set r.workers c None in omega (arith, within, long);
+    pushed = p.can_undo;
+    reopened = can_reopen ends;
+    work = subst (IsWork read) (sym back) w;
+  };
+} where
   run : IsRun read i d
-  run = h.work.running c d h.runs
+  run = w.running c d runs
 
   opened : is_open from.outcome ≡ true
   opened =
-      let same : run.request.request ≡ from = cc (run.request.is, h.there) in
+      let same : run.request.request ≡ from = cc (run.request.is, there) in
       subst (λ (q : Request). is_open q.outcome ≡ true) same run.request.outcome
 
   ends : Ends read make i k j d from (Finished digest)
-  ends = record { gives_back = h.gives_back; opened = opened; closed = refl; set = h.set; pushed = h.pushed }
+  ends = record { gives_back = gives_back; opened = opened; closed = refl; set = set; pushed = p }
 
   loose : (l : ListName) → slots_without eqb (members i l) d.slot ≡ members i l
-  loose = apart_from i h.sound d (let x = content_of read i d from h.there in ap is_some x.1) run.loose
+  loose = apart_from i s d (let x = content_of read i d from there in ap is_some x.1) run.loose
 
   -- what a worker runs still, it ran before, and it isn't this one
-  ran : (b : ℕ) (e : Id) → slice_get now.workers b ≡ Some (Some e) → (e.slot ≢ d.slot) × (slice_get r.workers b ≡ Some (Some e))
+  ran : (b : ℕ) (e : Id) → slice_get (with_run c None r).workers b ≡ Some (Some e) → (e.slot ≢ d.slot) × (slice_get r.workers b ≡ Some (Some e))
   ran b e g = elim (eqb_tells b c) [
-    | inl y ↦ cc (set_here r.workers c (Some d) None h.runs, ap (slice_get now.workers) y.1, g)
+    | inl y ↦ cc (set_here r.workers c (Some d) None runs, ap (slice_get (with_run c None r).workers) y.1, g)
     | inr n ↦
-        let was = sym (set_there r.workers c b None n.1) ∙ g in
-        ((λ y. let one = one_held read i d e true true run.request (h.work.running b e was).request y in
-        n.1 (h.work.apart b c d (was ∙ ap (λ z. Some (Some z)) one) h.runs)), was)
+        let was = sym (set_there r.workers c b None n.1) ∙ g in (
+          (λ y. let one = one_held read i d e true true run.request (w.running b e was).request y in
+              n.1 (w.apart b c d (was ∙ ap (λ z. Some (Some z)) one) runs)),
+          was,
+        )
   ]
 
-  frame : Leaves read i j r now d c (members i Waiting) (members i EndedYet ++ members i Ended) false true (record { id = d; finished = true })
+  frame : Leaves read i j r (with_run c None r) d c (members i Waiting) (members i EndedYet ++ members i Ended) false true (record { id = d; finished = true })
   frame = left ends i (λ e. refl) (λ e n. refl) (λ l. sym (loose l)) (λ l n. loose l) (loose Waiting) ran
 
-  back : finish_undone read make (record { worker = c; id = d }) (working j now) ≡ working i r
+  back : finish_undone read make (record { worker = c; id = d }) (working j (with_run c None r)) ≡ working i r
   back = λ l. record {
     arena = reopened_back ends l;
-    running = record { workers = set_back r.workers c (Some d) None h.runs l; count = r.count };
-  }
-
-  pub finish_done : {asked : Work} → job_of d from ≡ asked
-      → IsFinished read make (working i r) (working j now) c d asked digest (record { worker = c; id = d })
-  finish_done job = record {
-    rule = finish_rule before c d h.runs ∙ ap Some (sym (pool_now h.work frame));
-    from = from;
-    was = h.there;
-    job = job;
-    runs = h.runs;
-    running = refl;
-    plain = h.pushed.slots.plain ∙ h.set.plain;
-    request = request_now ends;
-    done = h.pushed.lists ∙ ap (λ xs. xs ++ d.slot ∷ []) (h.set.lists Ended);
-    listed = h.pushed.listed;
-    others = λ l n. h.pushed.others l n ∙ h.set.lists l;
-    contents = frame.same;
-    kept = frame.kept;
-    work = work_now h.work frame (h.work.count ∙ sym (finish_size before c d h.runs));
-    undone = back;
-    can_undo = record {
-      worker = let within = slice_get_within r.workers c (Some d) h.runs in let long = length-set r.workers c None in omega (arith, within, long);
-      pushed = h.pushed.can_undo;
-      reopened = can_reopen ends;
-      work = subst (IsWork read) (sym back) h.work;
-    };
+    running = record { workers = set_back r.workers c (Some d) None runs l; count = r.count };
   }
 
 -- a request that waits is cancelled
-pub record Cancels {X : Type 0} (read : X → Option Request) (make : Request → X) (i a k j : Image X) (d : Id) (from : Request) (t : Place)
-    (r : Running) : Type 0 where
-  pub sound : IsSound i
-  pub work : IsWork read (working i r)
-  pub there : request_in read i d ≡ Some from
-  pub listed : on_list i d ≡ true
-  pub unlinked : IsUnlinked i a d t
-  pub ends : Ends read make a k j d from Cancelled
-
-module _ {X : Type 0} {read : X → Option Request} {make : Request → X} {i a k j : Image X} {d : Id} {from : Request} {t : Place} {r : Running}
-    (h : Cancels read make i a k j d from t r) where
-  abbrev pool : Pool
+pub cancel_done : {X : Type 0} {read : X → Option Request} {make : Request → X} {i a k j : Image X} {d : Id} {from : Request} {t : Place} {r : Running}
+    → IsSound i → IsWork read (working i r) → request_in read i d ≡ Some from → on_list i d ≡ true → IsUnlinked i a d t
+    → Ends read make a k j d from Cancelled → IsCancelled read make (working i r) (working j r) d (record { id = d; unlinked = t })
+cancel_done {X = X} {read = read} {make = make} {i = i} {a = a} {k = k} {j = j} {d = d} {from = from} {t = t} {r = r} s w there on un f = record {
+  rule = cancel_rule pool d (map (id_in i) rest) waits_was without_was ∙ ap Some (sym (pool_now w frame));
+  from = from;
+  was = there;
+  running = refl;
+  plain = f.pushed.slots.plain ∙ f.set.plain
+      ∙ ap (λ (q : plain.Slots X). (let z : plain.Slots X = record q { slots = plain.with_held q.slots d (make (cancelled from)) } in z))
+      un.slots.plain;
+  request = request_now f;
+  waiting = frame.waiting;
+  done = done_list f i un.slots.contents un.kept un.lists stay;
+  listed = f.pushed.listed;
+  others = λ l n m. others f i un.slots.contents un.kept un.lists stay l m ∙ stay l n;
+  contents = frame.same;
+  kept = frame.kept;
+  work = work_now w frame (w.count ∙ sym (cancel_size pool d (map (id_in i) rest) waits_was without_was));
+  undone = back;
+  can_undo = record {
+    pushed = f.pushed.can_undo;
+    reopened = can_reopen f;
+    unlinked = subst (λ z. CanUndoUnlink z t) (sym (reopened_back f)) un.can_undo;
+    work = subst (IsWork read) (sym back) w;
+  };
+} where
+  pool : Pool
   pool = pool_of read (working i r)
 
-  abbrev rest : List ℕ
+  rest : List ℕ
   rest = slots_without eqb (members i Waiting) d.slot
 
   held_open : IsHeld read i d true
-  held_open = record { request = from; is = h.there; outcome = h.ends.opened }
+  held_open = record { request = from; is = there; outcome = f.opened }
 
   waited : IsIn d.slot (members i Waiting)
-  waited = h.work.listed d held_open h.listed
+  waited = w.listed d held_open on
 
   stay : (l : ListName) → l ≢ Waiting → slots_without eqb (members i l) d.slot ≡ members i l
-  stay l n = without_none (members i l) d.slot (λ m. one_list i h.sound l Waiting d.slot m waited n)
+  stay l n = without_none (members i l) d.slot (λ m. one_list i s l Waiting d.slot m waited n)
 
-  leaves : Leaves read i j r r d 0 rest (members i EndedYet ++ members i Ended) false true (record { id = d; finished = false })
-  leaves = left h.ends i h.unlinked.slots.contents h.unlinked.kept h.unlinked.lists stay refl
-      (λ b e g. (run_elsewhere read i d true held_open h.listed e (h.work.running b e g), g))
+  frame : Leaves read i j r r d 0 rest (members i EndedYet ++ members i Ended) false true (record { id = d; finished = false })
+  frame = left f i un.slots.contents un.kept un.lists stay refl
+      (λ b e g. (run_elsewhere read i d true held_open on e (w.running b e g), g))
 
   waits_was : waits pool.waiting d ≡ true
   waits_was = subst (λ e. waits pool.waiting e ≡ true) (held_id read i d true held_open)
@@ -223,36 +216,10 @@ module _ {X : Type 0} {read : X → Option Request} {make : Request → X} {i a 
 
   without_was : without pool.waiting d ≡ map (id_in i) rest
   without_was = subst (λ e. without pool.waiting e ≡ map (id_in i) rest) (held_id read i d true held_open)
-      (without_in (id_in i) d.slot (members i Waiting) (list_apart i h.sound Waiting) (λ y e. ap (λ (z : Id). z.slot) e))
+      (without_in (id_in i) d.slot (members i Waiting) (list_apart i s Waiting) (λ y e. ap (λ (z : Id). z.slot) e))
 
-  cancel_back : cancel_undone read make (record { id = d; unlinked = t }) (working j r) ≡ working i r
-  cancel_back = ap (λ z. working (unlink_undone t z) r) (reopened_back h.ends) ∙ ap (λ z. working z r) h.unlinked.undone
-
-  pub cancel_done : IsCancelled read make (working i r) (working j r) d (record { id = d; unlinked = t })
-  cancel_done = record {
-    rule = cancel_rule pool d (map (id_in i) rest) waits_was without_was ∙ ap Some (sym (pool_now h.work leaves));
-    from = from;
-    was = h.there;
-    running = refl;
-    plain = h.ends.pushed.slots.plain ∙ h.ends.set.plain
-        ∙ ap (λ (q : plain.Slots X). (let z : plain.Slots X = record q { slots = plain.with_held q.slots d (make (cancelled from)) } in z))
-        h.unlinked.slots.plain;
-    request = request_now h.ends;
-    waiting = leaves.waiting;
-    done = done_list h.ends i h.unlinked.slots.contents h.unlinked.kept h.unlinked.lists stay;
-    listed = h.ends.pushed.listed;
-    others = λ l n m. others h.ends i h.unlinked.slots.contents h.unlinked.kept h.unlinked.lists stay l m ∙ stay l n;
-    contents = leaves.same;
-    kept = leaves.kept;
-    work = work_now h.work leaves (h.work.count ∙ sym (cancel_size pool d (map (id_in i) rest) waits_was without_was));
-    undone = cancel_back;
-    can_undo = record {
-      pushed = h.ends.pushed.can_undo;
-      reopened = can_reopen h.ends;
-      unlinked = subst (λ z. CanUndoUnlink z t) (sym (reopened_back h.ends)) h.unlinked.can_undo;
-      work = subst (IsWork read) (sym cancel_back) h.work;
-    };
-  }
+  back : cancel_undone read make (record { id = d; unlinked = t }) (working j r) ≡ working i r
+  back = ap (λ z. working (unlink_undone t z) r) (reopened_back f) ∙ ap (λ z. working z r) un.undone
 
 -- a request that doesn't wait is busy: one that isn't open, or is on no list
 module _ {X : Type 0} {read : X → Option Request} {i : Image X} {r : Running} (s : IsSound i) (w : IsWork read (working i r)) (d : Id)

@@ -1,6 +1,5 @@
 -- A call that changes what one slot holds, where that slot stands, and what one worker runs: all else of the requests stays.
-use Rattle.std.proofs.Common.{◌≡◌, ◌≢◌, ℕ, ◌⊎◌, Bool, true, false, eqb, eq-eqb, List, [], ◌∷◌, ◌++◌, map, slice_get, Option, Some, if◌then◌else◌, not, option_and_then, refl, sym, ap, ◌∙◌, subst, inl, inr}
-use Rattle.std.proofs.lemmas.Bool.{eqb-true}
+use Rattle.std.proofs.Common.{◌≡◌, ◌≢◌, ℕ, ◌⊎◌, Bool, true, false, eqb, List, [], ◌∷◌, ◌++◌, map, slice_get, Option, Some, not, option_and_then, refl, sym, ap, ◌∙◌, subst, inl, inr}
 use Rattle.std.proofs.lemmas.Bool.Decides.{eqb_tells}
 use Rattle.std.proofs.lemmas.List.Elements.{filter-append}
 use Rattle.uv_ids.specs.declared.id.Id.{Id}
@@ -25,11 +24,8 @@ in_plus false x xs y h = inl h
 in_plus true x xs y h = elim (in_either x xs (y ∷ []) h) [ inl m ↦ inl m | inr m ↦ elim m [ inl e ↦ inr (refl, e) | inr n ↦ absurd n ] ]
 
 plus_in : (c : Bool) (x : ℕ) (xs : List ℕ) (y : ℕ) → IsIn x xs ⊎ ((c ≡ true) × (x ≡ y)) → IsIn x (plus c xs y)
-plus_in c x xs y (inl m) = at c where
-  at : (c : Bool) → IsIn x (plus c xs y)
-  at false = m
-  at true = in_left x xs (y ∷ []) m
-plus_in c x xs y (inr (e, s)) = subst (λ b. IsIn x (plus b xs y)) (sym e) (in_right x xs (y ∷ []) (inl s))
+plus_in false x xs y h = elim h [ inl m ↦ m | inr e ↦ absurd (let no = e.0 in cc) ]
+plus_in true x xs y h = elim h [ inl m ↦ in_left x xs (y ∷ []) m | inr e ↦ in_right x xs (y ∷ []) (inl e.1) ]
 
 map_plus : {A : Type 0} (f g : ℕ → A) (c : Bool) (xs : List ℕ) (y : ℕ) (b : A) → ((x : ℕ) → IsIn x xs → f x ≡ g x) → (c ≡ true → f y ≡ b)
     → map f (plus c xs y) ≡ plus c (map g xs) b
@@ -42,22 +38,17 @@ map_plus f g true (x ∷ xs) y b h e = λ l. h x (inl refl) l ∷ map_plus f g t
 
 rest_in : (x y : ℕ) (xs : List ℕ) → IsIn x (without eqb xs y) → (x ≢ y) × IsIn x xs
 rest_in x y [] h = absurd h
-rest_in x y (z ∷ zs) h = at (eqb z y) refl h (rest_in x y zs) where
-  at : (b : Bool) → eqb z y ≡ b → IsIn x (if not b then z ∷ without eqb zs y else without eqb zs y)
-      → (IsIn x (without eqb zs y) → (x ≢ y) × IsIn x zs) → (x ≢ y) × IsIn x (z ∷ zs)
-  at true e m more = let r = more m in (r.0, inr r.1)
-  at false e (inl s) more = ((λ q. let yes = eq-eqb z y (sym s ∙ q) in cc (e, yes)), inl s)
-  at false e (inr m) more = let r = more m in (r.0, inr r.1)
+rest_in x y (z ∷ zs) h = elim (eqb_tells z y) [
+  | inl e ↦ let r = rest_in x y zs (rw e.0 at h) in (r.0, inr r.1)
+  | inr n ↦ elim (rw n.0 at h) [ inl s ↦ ((λ q. n.1 (sym s ∙ q)), inl s) | inr m ↦ let r = rest_in x y zs m in (r.0, inr r.1) ]
+]
 
 in_rest : (x y : ℕ) (xs : List ℕ) → x ≢ y → IsIn x xs → IsIn x (without eqb xs y)
 in_rest x y [] n h = absurd h
-in_rest x y (z ∷ zs) n h = at (eqb z y) refl h (in_rest x y zs n) where
-  at : (b : Bool) → eqb z y ≡ b → IsIn x (z ∷ zs) → (IsIn x zs → IsIn x (without eqb zs y))
-      → IsIn x (if not b then z ∷ without eqb zs y else without eqb zs y)
-  at true e (inl s) more = absurd (n (s ∙ eqb-true z y e))
-  at true e (inr m) more = more m
-  at false e (inl s) more = inl s
-  at false e (inr m) more = inr (more m)
+in_rest x y (z ∷ zs) n h = elim (eqb_tells z y) [
+  | inl e ↦ rw e.0 (elim h [ inl s ↦ absurd (n (s ∙ e.1)) | inr m ↦ in_rest x y zs n m ])
+  | inr k ↦ rw k.0 (elim h [ inl s ↦ inl s | inr m ↦ inr (in_rest x y zs n m) ])
+]
 
 -- ---- the frame
 
@@ -77,10 +68,9 @@ module _ {X : Type 0} (read : X → Option Request) (i j : Image X) (r q : Runni
     pub runs : (c : ℕ) (e : Id) → slice_get q.workers c ≡ Some (Some e)
         → ((c ≡ k) × (e ≡ d) × IsRun read j d) ⊎ ((e.slot ≢ d.slot) × (slice_get r.workers c ≡ Some (Some e)))
 
-module _ {X : Type 0} (i : Image X) (d : Id) where
-  pub ends_stay : without eqb (members i EndedYet) d.slot ≡ members i EndedYet → without eqb (members i Ended) d.slot ≡ members i Ended
-      → without eqb (members i EndedYet ++ members i Ended) d.slot ≡ members i EndedYet ++ members i Ended
-  ends_stay a b = filter-append (λ y. not (eqb y d.slot)) (members i EndedYet) (members i Ended) ∙ (λ l. a l ++ b l)
+pub ends_stay : {X : Type 0} (i : Image X) (d : Id) {ys es : List ℕ} → without eqb (members i EndedYet) d.slot ≡ ys
+    → without eqb (members i Ended) d.slot ≡ es → without eqb (members i EndedYet ++ members i Ended) d.slot ≡ ys ++ es
+ends_stay i d a b = filter-append (λ y. not (eqb y d.slot)) (members i EndedYet) (members i Ended) ∙ (λ l. a l ++ b l)
 
 -- what a worker runs is another slot's than one that is on a list
 pub run_elsewhere : {X : Type 0} (read : X → Option Request) (i : Image X) (d : Id) (o : Bool) → IsHeld read i d o → on_list i d ≡ true

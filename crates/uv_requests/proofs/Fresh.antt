@@ -1,9 +1,8 @@
 -- An arena without slots, and workers that run nothing.
-use Rattle.std.proofs.Common.{◌≡◌, ℕ, zero, suc, [], Option, Some, None, replicate, slice_get, refl, arith}
+use Rattle.std.proofs.Common.{◌≡◌, ℕ, zero, suc, Option, Some, None, replicate, slice_get, refl, arith}
 use Rattle.uv_ids.specs.declared.id.Id.{Id}
-use Rattle.uv_records.specs.declared.lists.ListName.{ListName}
 use Rattle.uv_arena.specs.Chains.{list_of, walk}
-use Rattle.uv_arena.specs.Image.{members, fresh_image}
+use Rattle.uv_arena.specs.Image.{fresh_image}
 use Rattle.uv_work.specs.Requests.{Request}
 use Rattle.uv_work.specs.Pool.{busy}
 use Rattle.uv_requests.specs.Working.{working, idle_workers, IsWork}
@@ -18,10 +17,6 @@ none_runs (suc n) zero d e = cc
 none_runs (suc n) (suc k) d e = none_runs n k d e
 
 module _ {X : Type 0} (read : X → Option Request) (capacity last workers : ℕ) where
-  no_members : (l : ListName) → members (fresh_image X capacity last) l ≡ []
-  unfolding list_of walk
-  no_members l = refl
-
   pub fresh_work : IsWork read (working (fresh_image X capacity last) (idle_workers workers))
   unfolding list_of walk
   fresh_work = record {

@@ -1,18 +1,19 @@
 -- What is held under ids, before and after a call.
-use Rattle.std.proofs.Common.{◌≡◌, ◌≢◌, ℕ, ◌<◌, Bool, true, false, List, [], ◌∷◌, ◌++◌, map, Option, Some, is_some, option_and_then, refl, sym, ap, ◌∙◌, subst, inl, inr, arith}
+use Rattle.std.proofs.Common.{◌≡◌, ◌≢◌, ℕ, ◌<◌, Bool, true, false, Option, Some, None, is_some, refl, sym, ap, ◌∙◌, subst, inl, inr, arith}
 use Rattle.uv_ids.specs.declared.id.Id.{Id}
 use Rattle.uv_records.specs.declared.lists.ListName.{ListName}
+use Rattle.uv_records.specs.declared.lists.ListName.TheVariants.{Waiting, DoneYet as EndedYet}
 use Rattle.uv_records.specs.Lists.{number}
 use Rattle.uv_arena.specs.declared.links.Cell.{Cell}
 use Rattle.uv_arena.specs.Chains.{IsIn, IsApart}
-use Rattle.uv_arena.specs.Image.{Image, slot_in, slot_at, name_at, members, held, on_list, IsSound}
-use Rattle.uv_arena.specs.Calls.{IsListed}
-use Rattle.uv_arena.proofs.Lists.{in_either}
+use Rattle.uv_arena.specs.Image.{Image, slot_in, slot_at, name_at, members, held, IsSound}
+use Rattle.uv_arena.specs.Calls.{IsListed, IsFirst}
+pub use Rattle.uv_arena.proofs.Contents.{content_of}
 use Rattle.uv_arena.proofs.Memories.{or_none, member_tells}
 use Rattle.uv_arena.proofs.Lookups.{held_tells, name_below, name_other}
 use Rattle.uv_arena.proofs.Readings.{is_member}
 use Rattle.uv_work.specs.Requests.{Request, is_open}
-use Rattle.uv_requests.specs.Working.{id_in, request_in, done_in, was_finished, IsHeld}
+use Rattle.uv_requests.specs.Working.{Running, working, id_in, request_in, IsHeld, IsWork}
 
 module _ {X : Type 0} where
   -- an id under which something is held is that of its slot
@@ -49,22 +50,9 @@ module _ {X : Type 0} where
       name_other i s a b ne (let one : name_at i.names (number a) ≡ name_at i.names (number b) =
       cc (ap (λ (z : Cell X). z.links.list) same, ca.2, cb.2) in one)
 
-  -- what is held on no list is a member of none
-  pub not_member : (i : Image X) → IsSound i → (d : Id) (v : X) → held i d ≡ Some v → on_list i d ≡ false → (l : ListName)
-      → IsIn d.slot (members i l) → ⊥
-  not_member i s d v e bare l h =
-      let on : on_list i d ≡ true = subst (λ z. on_list i z ≡ true) (id_is i d v e) (member i s l d.slot h).listed in cc
-
 module _ {X : Type 0} (read : X → Option Request) where
-  -- what is held under the id of a request
-  pub content_of : (i : Image X) (d : Id) (r : Request) → request_in read i d ≡ Some r → (x : X) × (held i d ≡ Some x) × (read x ≡ Some r)
-  content_of i d r e = elim (or_none (held i d)) [
-    | inl n ↦ cc (ap (option_and_then read) n, e)
-    | inr x ↦ (x.0, x.1, sym (ap (option_and_then read) x.1) ∙ e)
-  ]
-
   pub held_id : (i : Image X) (d : Id) (b : Bool) → IsHeld read i d b → id_in i d.slot ≡ d
-  held_id i d b h = let c = content_of i d h.request h.is in id_is i d c.0 c.1
+  held_id i d b h = let c = content_of read i d h.request h.is in id_is i d c.0 c.1
 
   pub one_held : (i : Image X) (d e : Id) (a b : Bool) → IsHeld read i d a → IsHeld read i e b → e.slot ≡ d.slot → e ≡ d
   one_held i d e a b g h s = sym (held_id i e b h) ∙ ap (id_in i) s ∙ held_id i d a g
@@ -76,46 +64,15 @@ module _ {X : Type 0} (read : X → Option Request) where
       let opened : is_open a.request.outcome ≡ is_open b.request.outcome = ap (λ (r : Request). is_open r.outcome) same in
       cc (opened, a.outcome, b.outcome)
 
-  -- a request that is on no list is a member of none
-  pub loose_apart : (i : Image X) → IsSound i → (d : Id) (b : Bool) → IsHeld read i d b → on_list i d ≡ false → (l : ListName)
-      → IsIn d.slot (members i l) → ⊥
-  loose_apart i s d b h bare l m = let c = content_of i d h.request h.is in not_member i s d c.0 c.1 bare l m
+  -- the first of a list is what the members of that list are
+  pub front_held : (i : Image X) (l : ListName) (d : Id) (b : Bool) → IsFirst i l d → ((x : ℕ) → IsIn x (members i l) → IsHeld read i (id_in i x) b)
+      → IsHeld read i d b
+  front_held i l d b f h = subst (λ z. IsHeld read i z b) (listed_id i d f.listed.held) (h d.slot (subst (IsIn d.slot) (sym f.is) (inl refl)))
 
-  -- a call that leaves what some slots hold as it was
-  module _ (i j : Image X) (P : ℕ → Type 0) (same : (e : Id) → P e.slot → held j e ≡ held i e) where
-    pub request_same : (e : Id) → P e.slot → request_in read j e ≡ request_in read i e
-    request_same e p = ap (option_and_then read) (same e p)
+-- so the first that waits, or that is yet to be called back, is a request
+module _ {X : Type 0} {read : X → Option Request} {i : Image X} {r : Running} {d : Id} (w : IsWork read (working i r)) where
+  pub waiting_is_held : IsFirst i Waiting d → request_in read i d ≡ None → ⊥
+  waiting_is_held f none = let h = (front_held read i Waiting d true f w.waiting).is in cc
 
-    pub held_same : (e : Id) (b : Bool) → P e.slot → IsHeld read i e b → IsHeld read j e b
-    held_same e b p h = record { request = h.request; is = request_same e p ∙ h.is; outcome = h.outcome }
-
-    pub held_before : (e : Id) (b : Bool) → P e.slot → IsHeld read j e b → IsHeld read i e b
-    held_before e b p h = record { request = h.request; is = sym (request_same e p) ∙ h.is; outcome = h.outcome }
-
-    pub id_same : (x : ℕ) (b : Bool) → P x → IsHeld read i (id_in i x) b → id_in j x ≡ id_in i x
-    id_same x b p h = let c = content_of i (id_in i x) h.request h.is in id_is j (id_in i x) c.0 (same (id_in i x) p ∙ c.1)
-
-    pub member_same : (x : ℕ) (b : Bool) → P x → IsHeld read i (id_in i x) b → IsHeld read j (id_in j x) b
-    member_same x b p h = subst (λ z. IsHeld read j z b) (sym (id_same x b p h)) (held_same (id_in i x) b p h)
-
-    pub done_same : (x : ℕ) (b : Bool) → P x → IsHeld read i (id_in i x) b → done_in read j x ≡ done_in read i x
-    done_same x b p h =
-        let e = id_same x b p h in
-        let r : request_in read j (id_in j x) ≡ request_in read i (id_in i x) = ap (request_in read j) e ∙ request_same (id_in i x) p in
-        λ l. record { id = e l; finished = was_finished (r l) }
-
-    pub ids_same : (xs : List ℕ) → ((x : ℕ) → IsIn x xs → P x × IsHeld read i (id_in i x) true) → map (id_in j) xs ≡ map (id_in i) xs
-    ids_same [] f = refl
-    ids_same (x ∷ xs) f =
-        let h = f x (inl refl) in let here = id_same x true h.0 h.1 in let rest = ids_same xs (λ y k. f y (inr k)) in λ l. here l ∷ rest l
-
-    pub dones_same : (xs : List ℕ) → ((x : ℕ) → IsIn x xs → P x × IsHeld read i (id_in i x) false)
-        → map (done_in read j) xs ≡ map (done_in read i) xs
-    dones_same [] f = refl
-    dones_same (x ∷ xs) f =
-        let h = f x (inl refl) in let here = done_same x false h.0 h.1 in let rest = dones_same xs (λ y k. f y (inr k)) in λ l. here l ∷ rest l
-
-    -- the members of the lists of those that are done
-    pub ends_same : (xs ys : List ℕ) → ((x : ℕ) → IsIn x xs → P x × IsHeld read i (id_in i x) false)
-        → ((x : ℕ) → IsIn x ys → P x × IsHeld read i (id_in i x) false) → map (done_in read j) (xs ++ ys) ≡ map (done_in read i) (xs ++ ys)
-    ends_same xs ys f g = dones_same (xs ++ ys) (λ x h. elim (in_either x xs ys h) [ inl a ↦ f x a | inr b ↦ g x b ])
+  pub yet_is_held : IsFirst i EndedYet d → request_in read i d ≡ None → ⊥
+  yet_is_held f none = let h = (front_held read i EndedYet d false f w.yet).is in cc

@@ -4,7 +4,6 @@ pub mod Collected
 pub mod Ending
 pub mod Frames
 pub mod Fresh
-pub mod Fronts
 pub mod Holding
 pub mod Opened
 pub mod Rules

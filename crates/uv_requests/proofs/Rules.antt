@@ -1,11 +1,12 @@
 -- The rules of the pool, where its lists are known, and how many requests are in it.
-use Rattle.std.proofs.Common.{◌≡◌, ℕ, zero, suc, ◌+◌, ◌||◌, Bool, true, false, cond, if◌then◌else◌, not, eqb, List, [], ◌∷◌, ◌++◌, map, length, set, slice_get, Option, Some, None, refl, sym, ap, ◌∙◌, subst, inl, inr, arith, length-append}
+use Rattle.std.proofs.Common.{◌≡◌, ℕ, suc, ◌+◌, ◌||◌, Bool, true, false, cond, eqb, List, [], ◌∷◌, ◌++◌, map, length, set, slice_get, Option, Some, None, refl, sym, ap, ◌∙◌, subst, inl, inr, arith, length-append}
 use Rattle.std.specs.List.{list_any}
 use Rattle.std.proofs.Math.Bool.{or-true}
 use Rattle.std.proofs.lemmas.Bool.Decides.{eqb_tells}
 use Rattle.uv_ids.specs.declared.id.Id.{Id}
 use Rattle.uv_records.specs.Walks.{without as slots_without}
 use Rattle.uv_arena.specs.Chains.{IsIn, IsApart}
+pub use Rattle.uv_arena.proofs.Contents.{set_back}
 use Rattle.uv_arena.proofs.Lookups.{without_none}
 use Rattle.uv_work.specs.Ids.{same_id}
 use Rattle.uv_work.specs.Pool.{Pool, Done, has, waits, runs, without, size, after_queue, taken_by, after_take, finished_by, after_finish, after_cancel, collected_from, after_collect}
@@ -38,35 +39,11 @@ module _ (f : ℕ → Id) (x : ℕ) where
   pub without_in : (xs : List ℕ) → IsApart xs → ((y : ℕ) → f y ≡ f x → y ≡ x) → without (map f xs) (f x) ≡ map f (slots_without eqb xs x)
   without_in [] a n = refl
   without_in (y ∷ ys) a n =
-      let rest = slots_without eqb ys x in
       elim (eqb_tells y x) [
-        | inl e ↦
-            let all : rest ≡ ys = without_none ys x (λ h. a.0 (subst (λ z. IsIn z ys) (sym e.1) h)) in
-            ap (λ b. cond b (map f ys) (f y ∷ without (map f ys) (f x))) (ap (λ z. same_id (f z) (f x)) e.1 ∙ same_itself (f x))
-            ∙ ap (map f) (sym all) ∙ ap (λ (b : Bool). map f (if not b then y ∷ rest else rest)) (sym e.0)
-        | inr m ↦ ap (λ b. cond b (map f ys) (f y ∷ without (map f ys) (f x))) (not_same (f y) (f x) (λ e. m.1 (n y e)))
-            ∙ ap (λ l. f y ∷ l) (without_in ys a.1 n) ∙ ap (λ (b : Bool). map f (if not b then y ∷ rest else rest)) (sym m.0)
+        | inl e ↦ rw (ap (λ z. same_id (f z) (f x)) e.1 ∙ same_itself (f x), e.0)
+            (ap (map f) (sym (without_none ys x (λ h. a.0 (subst (λ z. IsIn z ys) (sym e.1) h)))))
+        | inr m ↦ rw (not_same (f y) (f x) (λ e. m.1 (n y e)), m.0) (ap (λ l. f y ∷ l) (without_in ys a.1 n))
       ]
-
--- ---- workers
-
-module _ {A : Type 0} where
-  pub set_back : (xs : List A) (k : ℕ) (a b : A) → slice_get xs k ≡ Some a → set (set xs k b) k a ≡ xs
-  set_back [] k a b e = refl
-  set_back (x ∷ xs) zero a b e = let same : a ≡ x = cc in ap (λ z. z ∷ xs) same
-  set_back (x ∷ xs) (suc k) a b e = ap (λ l. x ∷ l) (set_back xs k a b e)
-
-  pub set_here : (xs : List A) (k : ℕ) (a b : A) → slice_get xs k ≡ Some a → slice_get (set xs k b) k ≡ Some b
-  set_here [] k a b e = cc
-  set_here (x ∷ xs) zero a b e = refl
-  set_here (x ∷ xs) (suc k) a b e = set_here xs k a b e
-
-  pub set_there : (xs : List A) (k j : ℕ) (b : A) → (j ≡ k → ⊥) → slice_get (set xs k b) j ≡ slice_get xs j
-  set_there [] k j b n = refl
-  set_there (x ∷ xs) zero zero b n = absurd (n refl)
-  set_there (x ∷ xs) zero (suc j) b n = refl
-  set_there (x ∷ xs) (suc k) zero b n = refl
-  set_there (x ∷ xs) (suc k) (suc j) b n = set_there xs k j b (λ e. n (ap suc e))
 
 -- ---- each rule, and how many are in the pool after it
 

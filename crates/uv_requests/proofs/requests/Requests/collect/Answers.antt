@@ -1,4 +1,4 @@
-use Rattle.uv_requests.proofs.Fronts.{yet_is_held}
+use Rattle.uv_requests.proofs.Holding.{yet_is_held}
 use Rattle.uv_requests.proofs.requests.Requests.collect.Goals as goal
 
 pub unreachable-unreachable : goal.unreachable-unreachable

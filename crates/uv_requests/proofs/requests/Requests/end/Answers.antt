@@ -1,20 +1,12 @@
-use Rattle.std.proofs.Common.{ap, ◌∙◌, subst}
-use Rattle.uv_arena.specs.Calls.{IsSet}
-use Rattle.uv_requests.proofs.Ending.{set_done, finish_done}
+use Rattle.uv_arena.proofs.Contents.{set_done}
+use Rattle.uv_requests.proofs.Ending.{finish_done}
 use Rattle.uv_requests.proofs.requests.Requests.end.Goals as goal
 
 pub returns-clause-finished : goal.returns-clause-finished
 returns-clause-finished g c =
-    let H = g.T.HoldsWork in let K = g.met.T.HoldsWork in let i = c.args.slots.now.image in let k = c.set.new.self.image in
-    let done = set_done K.only_that i c.args.id c.args.request c.requires.found _ k c.of.result c.set.result c.set.ensures.none c.set.ensures.some in
-    let put = subst (λ x. IsSet i k c.args.id x (H.of_request c.args.request)) (c.of.ensures ∙ ap H.of_request c.finished.ensures) done in
+    let H = g.T.HoldsWork in let K = g.met.T.HoldsWork in
+    let done = set_done H.held_request H.of_request K.only_that c.args.slots.now.image c.args.id c.args.request c.requires.found _
+    c.set.new.self.image c.of.result c.set.result c.set.ensures.none c.set.ensures.some in
     rw c.set_running.ensures
-    (finish_done (record {
-      gives_back = K.gives_back;
-      sound = c.is_sound.ensures;
-      work = c.requires.work;
-      runs = c.requires.runs;
-      there = c.requires.found;
-      set = put;
-      pushed = c.push_back.ensures.pushed;
-    }) c.requires.job)
+    (finish_done K.gives_back c.is_sound.ensures c.requires.work c.requires.runs c.requires.found (rw (c.of.ensures, c.finished.ensures) at done)
+    c.push_back.ensures.pushed c.requires.job)

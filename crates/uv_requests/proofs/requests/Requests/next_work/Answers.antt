@@ -1,4 +1,4 @@
-use Rattle.uv_requests.proofs.Fronts.{waiting_is_held}
+use Rattle.uv_requests.proofs.Holding.{waiting_is_held}
 use Rattle.uv_requests.proofs.requests.Requests.next_work.Goals as goal
 
 pub unreachable-unreachable : goal.unreachable-unreachable

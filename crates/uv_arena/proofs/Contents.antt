@@ -1,0 +1,79 @@
+-- What a slot holds, and what its content is read as.
+use Rattle.std.proofs.Common.{◌≡◌, ℕ, zero, suc, ◌+◌, Bool, true, false, eq-eqb, List, [], ◌∷◌, length, set, slice_get, Option, Some, None, IfSome, IfNone, option_and_then, refl, sym, ap, ◌∙◌, subst, inl, inr, arith}
+use Rattle.std.proofs.lemmas.Bool.Decides.{eqb_tells}
+use Rattle.std.proofs.lemmas.Grind.{elements}
+use Rattle.std.proofs.lemmas.Option.{slice_get_past}
+use Rattle.uv_ids.specs.declared.id.Id.{Id}
+use Rattle.uv_records.specs.declared.slot.Slot.{Slot}
+use Rattle.uv_records.specs.Slots as plain
+use Rattle.uv_arena.specs.Image.{Image, held}
+use Rattle.uv_arena.specs.Calls.{IsSet}
+use Rattle.uv_arena.proofs.Memories.{or_none}
+
+pub set_here : {A : Type 0} (xs : List A) (k : ℕ) (a b : A) → slice_get xs k ≡ Some a → slice_get (set xs k b) k ≡ Some b
+set_here xs k a b e = grind (arith, elements)
+
+pub set_there : {A : Type 0} (xs : List A) (k j : ℕ) (b : A) → (j ≡ k → ⊥) → slice_get (set xs k b) j ≡ slice_get xs j
+set_there xs k j b n = grind (arith, elements)
+
+pub set_back : {A : Type 0} (xs : List A) (k : ℕ) (a b : A) → slice_get xs k ≡ Some a → set (set xs k b) k a ≡ xs
+set_back [] k a b e = refl
+set_back (x ∷ xs) zero a b e = let same : a ≡ x = cc in ap (λ z. z ∷ xs) same
+set_back (x ∷ xs) (suc k) a b e = ap (λ l. x ∷ l) (set_back xs k a b e)
+
+module _ {X : Type 0} where
+  -- a slot without content holds nothing
+  by_content : (e : Id) (q : Slot X) → q.content ≡ None → plain.held_in e q ≡ None
+  by_content e q h = elim (eqb_tells q.generation e.generation) [ inl y ↦ rw y.0 h | inr n ↦ rw n.0 refl ]
+
+  -- nothing is held past the end
+  pub past_end : (slots : List (Slot X)) (e : Id) → e.slot ≡ length slots → plain.held slots e ≡ None
+  past_end slots e s = ap (option_and_then (plain.held_in e)) (slice_get_past slots e.slot (omega (arith, s)))
+
+  -- nor in the slot that is next
+  pub next_slot : (slots : List (Slot X)) (d e : Id) (unused : ℕ) (free : List ℕ) → plain.next_id slots unused free ≡ Some d
+      → plain.held slots d ≡ None → e.slot ≡ d.slot → plain.held slots e ≡ None
+  next_slot slots d e zero [] next none same = cc
+  next_slot slots d e (suc n) [] next none same = past_end slots e (same ∙ cc)
+  next_slot slots d e unused (n ∷ ns) next none same = elim (or_none (slice_get slots n)) [
+    | inl q ↦ cc (ap (option_and_then (λ (z : Slot X). Some (plain.id_of n z))) q, next)
+    | inr q ↦
+        let is : plain.id_of n q.0 ≡ d = cc (ap (option_and_then (λ (z : Slot X). Some (plain.id_of n z))) q.1, next) in
+        let at : slice_get slots d.slot ≡ Some q.0 = ap (λ (z : Id). slice_get slots z.slot) (sym is) ∙ q.1 in
+        let yes = eq-eqb q.0.generation d.generation (ap (λ (z : Id). z.generation) is) in
+        let empty : q.0.content ≡ None = rw yes at (rw at at none) in
+        ap (option_and_then (plain.held_in e)) (ap (slice_get slots) same ∙ at) ∙ by_content e q.0 empty
+  ]
+
+  -- nor in a slot that was freed
+  pub freed_slot : (s : plain.Slots X) (d e : Id) (v : X) → plain.held s.slots d ≡ Some v → e.slot ≡ d.slot → (last : ℕ)
+      → plain.held (plain.freed last d s).slots e ≡ None
+  freed_slot s d e v there same last =
+      elim (eqb_tells d.generation last) [ inl q ↦ rw q.0 (emptied d.generation) | inr q ↦ rw q.0 (emptied (d.generation + 1)) ] where
+        emptied : (g : ℕ) → plain.held (set s.slots d.slot (record { generation = g; content = None })) e ≡ None
+        emptied g = elim (or_none (slice_get s.slots d.slot)) [
+          | inl n ↦ cc (ap (option_and_then (plain.held_in d)) n, there)
+          | inr q ↦
+              let t : Slot X = record { generation = g; content = None } in
+              ap (option_and_then (plain.held_in e)) (ap (slice_get (set s.slots d.slot t)) same ∙ set_here s.slots d.slot q.0 t q.1)
+              ∙ by_content e t refl
+        ]
+
+module _ {X R : Type 0} (read : X → Option R) where
+  -- what is held under an id that is read as a record
+  pub content_of : (i : Image X) (d : Id) (r : R) → option_and_then read (held i d) ≡ Some r → (x : X) × (held i d ≡ Some x) × (read x ≡ Some r)
+  content_of i d r e = elim (or_none (held i d)) [
+    | inl n ↦ cc (ap (option_and_then read) n, e)
+    | inr x ↦ (x.0, x.1, sym (ap (option_and_then read) x.1) ∙ e)
+  ]
+
+  -- where only one content is read as it
+  module _ (make : R → X) (only_that : (t : X) (r : R) → read t ≡ Some r → t ≡ make r) (i : Image X) (d : Id) (r : R)
+      (there : option_and_then read (held i d) ≡ Some r) where
+    pub content_is : held i d ≡ Some (make r)
+    content_is = let x = content_of i d r there in x.1 ∙ ap Some (only_that x.0 r x.2)
+
+    pub set_done : (Same : Type 0) (j : Image X) (new : X) (o : Option X) → IfNone o ((held i d ≡ None) × Same)
+        → IfSome o (λ was. (held i d ≡ Some was) × IsSet i j d new was) → IsSet i j d new (make r)
+    set_done Same j new None none some = cc (none.0, content_is)
+    set_done Same j new (Some was) none some = let same : was ≡ make r = cc (some.0, content_is) in subst (IsSet i j d new) same some.1
