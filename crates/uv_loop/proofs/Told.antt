@@ -10,6 +10,7 @@ use Rattle.uv_ids.specs.declared.seen.Seen.{Seen}
 use Rattle.uv_ids.specs.declared.seen.Seen.TheVariants as seen
 use Rattle.uv_ids.specs.declared.fault.Why.{Why}
 use Rattle.uv_script.specs.Program.{Program}
+use Rattle.uv_model.specs.declared.limits.TheConstants.{LATEST}
 use Rattle.uv_model.specs.declared.place.Place.{Place}
 use Rattle.uv_model.specs.declared.request.Request.{Request}
 use Rattle.uv_model.specs.State.{State}
@@ -69,7 +70,7 @@ send_tells : (s : State) (v : Var) → Tells (Send v) (step.sent_to s v)
 send_tells s v = cond_both (nat_lt v.0 (length s.names)) _ _ (Tells (Send v)) (λ e. refl) (λ e. tt)
 
 tick_tells : (s : State) (ms : ℕ) → Tells (Tick ms) (step.tick s ms)
-tick_tells s ms = cond_both (nat_le (s.clock + ms) step.LATEST) _ _ (Tells (Tick ms)) (λ e. refl) (λ e. tt)
+tick_tells s ms = cond_both (nat_le (s.clock + ms) LATEST) _ _ (Tells (Tick ms)) (λ e. refl) (λ e. tt)
 
 next_tells : (p : Program) (s : State) (e : Event) → Tells e (next p s e)
 unfolding next

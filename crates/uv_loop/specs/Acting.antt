@@ -6,12 +6,13 @@ use Rattle.uv_ids.specs.declared.event.Event.TheVariants.{Loop, Take, Finish, Ca
 use Rattle.uv_ids.specs.declared.fault.Why.{Why}
 use Rattle.uv_script.specs.Program.{Program}
 use Rattle.uv_work.specs.Requests.{Request}
+use Rattle.uv_model.specs.declared.limits.TheConstants.{LATEST}
 use Rattle.uv_model.specs.declared.place.Body.{Body}
 use Rattle.uv_model.specs.declared.place.Place.{Place}
 use Rattle.uv_model.specs.declared.place.Place.TheVariants.{Main, Running}
 use Rattle.uv_model.specs.declared.place.Stage.{Stage}
 use Rattle.uv_model.specs.declared.place.Stage.TheVariants.{Poll}
-use Rattle.uv_model.specs.Next.{Refuses, next, may_leave, LATEST}
+use Rattle.uv_model.specs.Next.{Refuses, next, may_leave}
 use Rattle.uv_model.specs.After.{IsMove}
 use Rattle.uv_step.specs.Image.{Image}
 use Rattle.uv_stands.specs.Doing.{OfEach}

@@ -1,8 +1,8 @@
 //! What an event does that nothing refuses.
+ghost use Rattle.uv_model.specs.declared.limits.TheConstants.{LATEST};
 ghost use Rattle.std.specs.Prelude.{◌≡◌, ◌+◌, ◌≤◌, Some, IfOk, IfErr};
 ghost use Rattle.uv_ids.specs.declared.id.Id.{Id};
 ghost use Rattle.uv_ids.specs.declared.event.Event.TheVariants.{Take, Finish, Tick};
-ghost use Rattle.uv_model.specs.Next.{LATEST};
 ghost use Rattle.uv_script.specs.Program.{Program, arena_size};
 ghost use Rattle.uv_work.specs.Requests.{Request};
 ghost use Rattle.uv_step.specs.Fit.{IsFit};

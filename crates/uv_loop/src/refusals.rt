@@ -11,13 +11,10 @@ ghost use Rattle.uv_stands.specs.Doing.{OfEach};
 ghost use Rattle.uv_loop.specs.Acting.{MayBehind, MayIn, MayAt, Refusal};
 
 use uv_ids::{Event, Var, Why};
-use uv_model::{Place, Run, Stage};
+use uv_model::{LATEST, Place, Run, Stage};
 use uv_script::Script;
 use uv_stands::may_leave;
 use uv_step::Memory;
-
-/// The latest time that the clock may show, in ms.
-const LATEST: u64 = 1 << 62;
 
 /// What the clock shows so many ms later; none past its limit.
 fn later(clock: u64, ms: u64) -> Option<u64>

@@ -23,6 +23,7 @@ use Rattle.uv_script.specs.declared.op.MainOp.TheVariants as main
 use Rattle.uv_script.specs.declared.op.CallbackLine.{CallbackLine}
 use Rattle.uv_script.specs.Program.{Program, arena_size, order_of, lines_in, is_for}
 use Rattle.uv_script.specs.Tasks.{text_of}
+use Rattle.uv_model.specs.declared.limits.TheConstants.{LATEST}
 use Rattle.uv_model.specs.declared.place.Body.{Body}
 use Rattle.uv_model.specs.declared.place.Run.{Run}
 use Rattle.uv_model.specs.declared.place.Stage.{Stage}
@@ -308,10 +309,6 @@ main_step o s line (Some (main.Op op)) =
 abbrev pub loop_step : Program → State → Place → Next
 loop_step p s (Main line) = main_step (order_of p) s line (slice_get p.main line)
 loop_step p s (Running run) = run_step p s run run.body
-
--- the latest time that the clock may show, in ms
-abbrev pub LATEST : ℕ
-LATEST = 2 ^ 62
 
 -- the clock goes on
 abbrev pub tick : State → ℕ → Next

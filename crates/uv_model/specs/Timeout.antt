@@ -6,6 +6,7 @@ use Rattle.uv_ids.specs.declared.due.Due.{Due}
 use Rattle.uv_ids.specs.declared.phase.Mode.{Mode}
 use Rattle.uv_ids.specs.declared.phase.Mode.TheVariants.{Default, Once, Nowait}
 use Rattle.uv_records.specs.declared.slot.Slot.{Slot}
+use Rattle.uv_model.specs.declared.limits.TheConstants.{LONGEST_POLL}
 use Rattle.uv_model.specs.declared.content.Content.{Content}
 use Rattle.uv_model.specs.Content.{content_keeps, content_pends}
 use Rattle.uv_model.specs.Ids.{has_some}
@@ -26,10 +27,6 @@ has_pending s = list_any (λ (slot : Slot Content). content_pends slot.content) 
 -- an idle handle is active
 abbrev pub has_idle : State → Bool
 has_idle s = has_some s.idle.list || has_some s.idle.yet
-
--- the longest poll in ms (own)
-abbrev pub LONGEST_POLL : ℕ
-LONGEST_POLL = 2147483647
 
 -- how long until the first timer is due: infinite without one, 0 where it is due already
 abbrev pub until_first : ℕ → List (Due × Id) → Option ℕ

@@ -3,7 +3,7 @@ ghost use Rattle.std.specs.Prelude.{◌≡◌, ◌≤◌, IfSome};
 ghost use Rattle.uv_model.specs.Ids.{has_some};
 ghost use Rattle.uv_model.specs.Ops.{is_in_use};
 ghost use Rattle.uv_model.specs.Queries.{members};
-ghost use Rattle.uv_model.specs.Timeout.{is_alive, has_closing, has_pending, has_idle, has_passed, until_first, backend_timeout, poll_timeout, LONGEST_POLL};
+ghost use Rattle.uv_model.specs.Timeout.{is_alive, has_closing, has_pending, has_idle, has_passed, until_first, backend_timeout, poll_timeout};
 ghost use Rattle.uv_model.specs.Next.{may_leave};
 ghost use Rattle.uv_step.specs.Image.{held};
 ghost use Rattle.uv_stands.specs.Doing.{OfEach};
@@ -11,12 +11,9 @@ ghost use Rattle.uv_stands.specs.Doing.{OfEach};
 use crate::pending::any_pending;
 use crate::used::any_used;
 use uv_ids::Mode;
-use uv_model::Place;
+use uv_model::{LONGEST_POLL, Place};
 use uv_records::ListName;
 use uv_step::Memory;
-
-/// The longest poll in ms (own).
-const LONGEST_POLL: u64 = 2_147_483_647;
 
 /// Whether a list has a member.
 pub fn has_members(memory: &Memory<Place>, list: ListName) -> bool

@@ -74,14 +74,10 @@ impl<P: Copy> Memory<P> {
             (counted_of (held self.old).image) (counted_of (held self.new).image) kind r.0 r.2 u) self.new.step_record.change) }
         ensures none { IfNone result (NoHandleFirst (held self.old).image.arena (yet_of kind) × Untouched self.old self.new) }
     {
-        let front = self.first_handle(kind.yet())?;
-        match uv_watch::take(&mut self.handles, &mut self.slots, kind) {
-            None => None,
-            Some((id, pending, undo)) => {
-                self.step_record = self.record(Change::Walked(undo));
-                Some((id, front.1, pending))
-            }
-        }
+        let (id, handle) = self.first_handle(kind.yet())?;
+        let (pending, undo) = uv_watch::move_on(&mut self.handles, &mut self.slots, kind, id);
+        self.step_record = self.record(Change::Walked(undo));
+        Some((id, handle, pending))
     }
 
     /// Begins the closing section.

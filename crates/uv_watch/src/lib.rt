@@ -7,5 +7,5 @@ mod walk;
 mod watchers;
 
 pub use undo::WalkUndo;
-pub use walk::{begin, take, undo_begin, undo_take};
+pub use walk::{begin, move_on, take, undo_begin, undo_take};
 pub use watchers::{enlist, halt, send, start, stop, undo_send, undo_start, undo_stop};

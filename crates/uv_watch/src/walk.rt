@@ -48,21 +48,24 @@ pub fn take<T: HoldsHandle>(
 {
     match slots.first(kind.yet()) {
         None => None,
-        Some(id) => Some(move_on(handles, slots, kind, id)),
+        Some(id) => {
+            let (pending, undo) = move_on(handles, slots, kind, id);
+            Some((id, pending, undo))
+        }
     }
 }
 
-fn move_on<T: HoldsHandle>(
+/// Moves this one, the front of those yet to run, to the end of its list: whether a callback was due by a send.
+pub fn move_on<T: HoldsHandle>(
     handles: &mut Handles,
     slots: &mut Slots<T>,
     kind: WatcherKind,
     id: Id,
-) -> (Id, bool, WalkUndo)
+) -> (bool, WalkUndo)
     requires counts { IsCounted T.held_record (counted slots.old.image handles.old) }
     requires first { IsFirst slots.old.image (yet_of kind) id }
-    ensures id { result.0 ≡ id }
     ensures moved { IsMovedOn T.held_record T.of_record (counted slots.old.image handles.old)
-        (counted slots.new.image handles.new) kind id result.1 result.2 }
+        (counted slots.new.image handles.new) kind id result.0 result.1 }
     ensures pieces { slots.new.room ≡ slots.old.room }
 {
     let unlinked = slots.unlink(id);
@@ -73,7 +76,7 @@ fn move_on<T: HoldsHandle>(
         pushed,
         woken,
     };
-    (id, pending, undo)
+    (pending, undo)
 }
 
 /// Wakes a handle of the async section, if it waits for its callback.

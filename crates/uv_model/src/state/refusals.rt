@@ -2,18 +2,16 @@
 ghost use Rattle.std.specs.Prelude.{◌≡◌, ◌+◌, ◌≤◌, IfSome, IfNone, slice_get, None, Some};
 ghost use Rattle.uv_ids.specs.declared.event.Event.TheVariants.{Finish};
 ghost use Rattle.uv_script.specs.Program.{order_of};
-ghost use Rattle.uv_model.specs.Next.{main_step, run_step, next_work, take, work_of, finish, cancels, sent_to, tick, next, LATEST};
+ghost use Rattle.uv_model.specs.Next.{main_step, run_step, next_work, take, work_of, finish, cancels, sent_to, tick, next};
 ghost use Rattle.uv_model.specs.After.{refusal_of};
 ghost use Rattle.uv_model.specs.Handing.{job_run, RefusesResult};
 
+use crate::limits::LATEST;
 use crate::place::{Place, Run, Stage};
 use crate::state::LoopState;
 use uv_ids::{Event, Var, Why};
 use uv_script::Script;
 use uv_work::Job;
-
-/// The latest time that the clock may show, in ms.
-const LATEST: u64 = 1 << 62;
 
 impl LoopState {
     /// What the clock shows so many ms later; none past its limit.

@@ -1,13 +1,11 @@
 //! Whether the loop is alive, and how long its poll may wait.
 ghost use Rattle.std.specs.Prelude.{◌≡◌, ◌<◌, ◌≤◌, ◌^◌, IfSome};
 ghost use Rattle.uv_model.specs.Next.{may_leave};
-ghost use Rattle.uv_model.specs.Timeout.{is_alive, has_closing, has_pending, has_idle, until_first, backend_timeout, poll_timeout, deadline_of, has_passed, LONGEST_POLL};
+ghost use Rattle.uv_model.specs.Timeout.{is_alive, has_closing, has_pending, has_idle, until_first, backend_timeout, poll_timeout, deadline_of, has_passed};
 
+use crate::limits::LONGEST_POLL;
 use crate::state::LoopState;
 use uv_ids::Mode;
-
-/// The longest poll in ms (own).
-const LONGEST_POLL: u64 = 2_147_483_647;
 
 impl LoopState {
     /// Whether a handle closes whose close callback is still to come.

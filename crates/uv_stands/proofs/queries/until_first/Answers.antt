@@ -1,5 +1,5 @@
+use Rattle.uv_model.specs.declared.limits.TheConstants.{LONGEST_POLL}
 use Rattle.std.proofs.Common.{ℕ, min, Some, None, sym, ap, ◌∙◌}
-use Rattle.uv_model.specs.Timeout.{LONGEST_POLL}
 use Rattle.uv_step.specs.Image.{image_of}
 use Rattle.uv_stands.proofs.First.{first_timer}
 use Rattle.uv_stands.proofs.queries.until_first.Goals as goal
