@@ -1,12 +1,11 @@
 -- Who was sent to is on a list of async handles.
-use Rattle.std.proofs.Common.{◌≡◌, ℕ, ◌+◌, ◌<◌, suc, zero, ◌||◌, Bool, true, false, if◌then◌else◌, eqb, List, [], ◌∷◌, ◌++◌, append-nil, map, length, Option, Some, None, IfSome, option_map, option_and_then, refl, sym, ap, ◌∙◌, subst, inl, inr, arith}
+use Rattle.std.proofs.Common.{◌≡◌, ℕ, ◌<◌, suc, ◌||◌, Bool, true, false, if◌then◌else◌, eqb, List, [], ◌∷◌, ◌++◌, append-nil, map, length, Option, Some, None, IfSome, option_map, option_and_then, refl, sym, ap, ◌∙◌, subst, inl, inr, arith}
 use Rattle.std.specs.List.{list_any}
 use Rattle.std.specs.Cmp as tests
 use Rattle.std.proofs.lemmas.Bool.Decides.{eqb_tells}
 use Rattle.std.proofs.lemmas.List.{map-append, append_assoc}
 use Rattle.std.proofs.lemmas.List.Folds.{list_any-append}
 use Rattle.uv_ids.specs.declared.id.Id.{Id}
-use Rattle.uv_ids.specs.declared.phase.Kind.TheVariants as kind
 use Rattle.uv_records.specs.declared.handle.HandleRecord.{HandleRecord}
 use Rattle.uv_records.specs.declared.lists.ListName.{ListName}
 use Rattle.uv_records.specs.declared.lists.ListName.TheVariants as name
@@ -24,8 +23,7 @@ use Rattle.uv_model.specs.declared.content.Content.TheVariants as holds
 use Rattle.uv_model.specs.declared.place.Place.{Place}
 use Rattle.uv_model.specs.Content.{content_pends, handle_in}
 use Rattle.uv_model.specs.Ids.{same_id}
-use Rattle.uv_model.specs.Queries.{members}
-use Rattle.uv_model.specs.State.{State, handle}
+use Rattle.uv_model.specs.State.{State}
 use Rattle.uv_model.specs.Timeout.{has_pending}
 use Rattle.uv_order.specs.Active.{has_id}
 use Rattle.uv_order.specs.Reached.{IsReached}

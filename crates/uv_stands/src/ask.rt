@@ -1,5 +1,5 @@
 //! What an op asks of the handle of its name.
-ghost use Rattle.std.specs.Prelude.{◌≡◌, Option, Some, None};
+ghost use Rattle.std.specs.Prelude.{◌≡◌};
 ghost use Rattle.uv_stands.specs.Asking.{refusal_of};
 
 use uv_ids::Code;

@@ -1,5 +1,5 @@
 -- What can be taken back can be where the heap has more room.
-use Rattle.std.proofs.Common.{◌<◌, ◌≤◌, ℕ, List, Option, Some, None, arith}
+use Rattle.std.proofs.Common.{◌≤◌, ℕ, List, Option, Some, None, arith}
 use Rattle.uv_heap.specs.declared.entry.Entry.{Entry}
 use Rattle.uv_heap.specs.declared.undo.RemoveUndo.{RemoveUndo}
 use Rattle.uv_timer.specs.Timed.{Timed, CanPutBack, CanUndoTimer, CanUndoCollect}

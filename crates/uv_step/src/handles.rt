@@ -1,5 +1,5 @@
 //! Handles are made, changed and closed.
-ghost use Rattle.std.specs.Prelude.{◌≡◌, ◌≤◌, Option, Some, None, IfOk, IfErr};
+ghost use Rattle.std.specs.Prelude.{◌≡◌, ◌≤◌, Some, None, IfOk, IfErr};
 ghost use Rattle.uv_arena.specs.Calls.{RefusesInsert};
 ghost use Rattle.uv_handle.specs.Counted.{record_at};
 ghost use Rattle.uv_handle.specs.Changes.{IsChanged};

@@ -1,7 +1,7 @@
 use Rattle.std.proofs.Common.{Bool, ap, sym, ◌∙◌}
 use Rattle.uv_ids.specs.declared.order.Order.{Order}
 use Rattle.uv_model.specs.declared.place.Way.{Way}
-use Rattle.uv_model.specs.Next.{goes_by, turns, way}
+use Rattle.uv_model.specs.Next.{goes_by, way}
 use Rattle.uv_script.specs.Program.{order_of}
 use Rattle.uv_sections.proofs.iterating.turn.Goals as goal
 

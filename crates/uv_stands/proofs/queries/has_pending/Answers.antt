@@ -1,6 +1,4 @@
-use Rattle.std.proofs.Common.{◌||◌, sym, ap, ◌∙◌}
 use Rattle.uv_step.specs.Image.{image_of}
-use Rattle.uv_stands.specs.Pending.{pends_at}
 use Rattle.uv_stands.proofs.Waking.{pending_first, pending_second}
 use Rattle.uv_stands.proofs.queries.has_pending.Goals as goal
 
