@@ -1,17 +1,12 @@
 -- The free list is walked from its front.
-use Rattle.std.proofs.Common.{◌≡◌, ℕ, zero, suc, ◌<◌, List, [], ◌∷◌, ◌++◌, map, length, slice_get, Option, Some, None, IfSome, sym, ap, ◌∙◌, subst, arith}
+use Rattle.std.proofs.Common.{◌≡◌, ℕ, zero, suc, ◌<◌, List, [], ◌∷◌, ◌++◌, map, length, slice_get, Option, Some, None, sym, ap, ◌∙◌, subst, arith}
 use Rattle.std.proofs.lemmas.Option.{slice_get_within}
-use Rattle.std.proofs.lemmas.List.{map-append, length-map, append_assoc}
-use Rattle.uv_ids.specs.declared.id.Id.{Id}
-use Rattle.uv_records.specs.declared.lists.ListName.{ListName}
+use Rattle.std.proofs.lemmas.List.{length-map, append_assoc}
 use Rattle.uv_arena.specs.declared.links.Cell.{Cell}
 use Rattle.uv_arena.specs.declared.links.Links.{Links}
 use Rattle.uv_arena.specs.Chains.{first, last, link, IsSegment}
-use Rattle.uv_arena.specs.Calls.{slot_of, IsListed}
-use Rattle.uv_arena.specs.Image.{Image, FREE, IsSound, members, chain, chains, links_in, links_at}
+use Rattle.uv_arena.specs.Image.{Image, FREE, IsSound, chain, chains, links_in, links_at}
 use Rattle.uv_arena.proofs.Lists.{segment_right}
-use Rattle.uv_requests.specs.Working.{id_in}
-use Rattle.uv_requests.proofs.Holding.{listed_id}
 use Rattle.uv_step.specs.declared.content.Content.{Content}
 use Rattle.uv_stands.proofs.Walked.{begins_with}
 
