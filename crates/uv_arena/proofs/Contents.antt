@@ -30,34 +30,49 @@ module _ {X : Type 0} where
   pub past_end : (slots : List (Slot X)) (e : Id) → e.slot ≡ length slots → plain.held slots e ≡ None
   past_end slots e s = ap (option_and_then (plain.held_in e)) (slice_get_past slots e.slot (omega (arith, s)))
 
-  -- nor in the slot that is next
-  pub next_slot : (slots : List (Slot X)) (d e : Id) (unused : ℕ) (free : List ℕ) → plain.next_id slots unused free ≡ Some d
-      → plain.held slots d ≡ None → e.slot ≡ d.slot → plain.held slots e ≡ None
-  next_slot slots d e zero [] next none same = cc
-  next_slot slots d e (suc n) [] next none same = past_end slots e (same ∙ cc)
-  next_slot slots d e unused (n ∷ ns) next none same = elim (or_none (slice_get slots n)) [
+  -- the slot of what is held under an id
+  pub slot_tells : (slots : List (Slot X)) (d : Id) (v : X) → plain.held slots d ≡ Some v
+      → (q : Slot X) × (slice_get slots d.slot ≡ Some q) × (q.content ≡ Some v)
+  slot_tells slots d v e = elim (or_none (slice_get slots d.slot)) [
+    | inl n ↦ cc (ap (option_and_then (plain.held_in d)) n, e)
+    | inr q ↦
+        let held = rw q.1 at e in
+        elim (eqb_tells q.0.generation d.generation) [
+          | inl y ↦ (q.0, q.1, (rw y.0 at held))
+          | inr n ↦ let none = rw n.0 at held in cc none
+        ]
+  ]
+
+  -- the next slot, where it is the front of the free list, is empty
+  pub next_tells : (slots : List (Slot X)) (d : Id) (unused n : ℕ) (ns : List ℕ) → plain.next_id slots unused (n ∷ ns) ≡ Some d
+      → plain.held slots d ≡ None → (q : Slot X) × (slice_get slots d.slot ≡ Some q) × (q.content ≡ None)
+  next_tells slots d unused n ns next none = elim (or_none (slice_get slots n)) [
     | inl q ↦ cc (ap (option_and_then (λ (z : Slot X). Some (plain.id_of n z))) q, next)
     | inr q ↦
         let is : plain.id_of n q.0 ≡ d = cc (ap (option_and_then (λ (z : Slot X). Some (plain.id_of n z))) q.1, next) in
         let at : slice_get slots d.slot ≡ Some q.0 = ap (λ (z : Id). slice_get slots z.slot) (sym is) ∙ q.1 in
-        let yes = eq-eqb q.0.generation d.generation (ap (λ (z : Id). z.generation) is) in
-        let empty : q.0.content ≡ None = rw yes at (rw at at none) in
-        ap (option_and_then (plain.held_in e)) (ap (slice_get slots) same ∙ at) ∙ by_content e q.0 empty
+        let yes = eq-eqb q.0.generation d.generation (ap (λ (z : Id). z.generation) is) in (q.0, at, (rw yes at (rw at at none)))
   ]
 
-  -- nor in a slot that was freed
+  -- nor is anything held in the slot that is next
+  pub next_slot : (slots : List (Slot X)) (d e : Id) (unused : ℕ) (free : List ℕ) → plain.next_id slots unused free ≡ Some d
+      → plain.held slots d ≡ None → e.slot ≡ d.slot → plain.held slots e ≡ None
+  next_slot slots d e zero [] next none same = cc
+  next_slot slots d e (suc n) [] next none same = past_end slots e (same ∙ cc)
+  next_slot slots d e unused (n ∷ ns) next none same =
+      let q = next_tells slots d unused n ns next none in
+      ap (option_and_then (plain.held_in e)) (ap (slice_get slots) same ∙ q.1) ∙ by_content e q.0 q.2
+
+  -- nor in one that was freed
   pub freed_slot : (s : plain.Slots X) (d e : Id) (v : X) → plain.held s.slots d ≡ Some v → e.slot ≡ d.slot → (last : ℕ)
       → plain.held (plain.freed last d s).slots e ≡ None
   freed_slot s d e v there same last =
       elim (eqb_tells d.generation last) [ inl q ↦ rw q.0 (emptied d.generation) | inr q ↦ rw q.0 (emptied (d.generation + 1)) ] where
         emptied : (g : ℕ) → plain.held (set s.slots d.slot (record { generation = g; content = None })) e ≡ None
-        emptied g = elim (or_none (slice_get s.slots d.slot)) [
-          | inl n ↦ cc (ap (option_and_then (plain.held_in d)) n, there)
-          | inr q ↦
-              let t : Slot X = record { generation = g; content = None } in
-              ap (option_and_then (plain.held_in e)) (ap (slice_get (set s.slots d.slot t)) same ∙ set_here s.slots d.slot q.0 t q.1)
-              ∙ by_content e t refl
-        ]
+        emptied g =
+            let q = slot_tells s.slots d v there in let t : Slot X = record { generation = g; content = None } in
+            ap (option_and_then (plain.held_in e)) (ap (slice_get (set s.slots d.slot t)) same ∙ set_here s.slots d.slot q.0 t q.1)
+            ∙ by_content e t refl
 
 module _ {X R : Type 0} (read : X → Option R) where
   -- what is held under an id that is read as a record

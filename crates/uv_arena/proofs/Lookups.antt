@@ -9,7 +9,7 @@ use Rattle.uv_records.specs.Slots as plain
 use Rattle.uv_records.specs.Walks.{without}
 use Rattle.uv_arena.specs.declared.links.Cell.{Cell}
 use Rattle.uv_arena.specs.Chains.{IsIn, IsApart}
-use Rattle.uv_arena.specs.Image.{Image, Memory, FREE, name_at, chain, links_in, links_at, held_slots, held, on_list, IsSound}
+use Rattle.uv_arena.specs.Image.{Image, Memory, FREE, name_at, chain, links_in, links_at, held_slots, members, held, on_list, IsSound}
 use Rattle.uv_arena.proofs.Lists.{in_right}
 use Rattle.uv_arena.proofs.Memories.{or_none, placed, member_tells}
 use Rattle.uv_arena.proofs.Names.{number_apart, number_below}
@@ -123,6 +123,14 @@ module _ {X : Type 0} where
 
   pub name_other : (v : Image X) → IsSound v → (a b : ListName) → a ≢ b → name_at v.names (number a) ≢ name_at v.names (number b)
   name_other v s a b n e = n (number_apart a b (s.names.apart (number a) (number b) (number_below a) (number_below b) e))
+
+  -- a slot is on one list at the most
+  pub one_list : (v : Image X) → IsSound v → (a b : ListName) (x : ℕ) → IsIn x (members v a) → IsIn x (members v b) → a ≢ b → ⊥
+  one_list v s a b x ha hb ne =
+      let la : name_at v.names (number a) < 14 = name_below v s a in let lb : name_at v.names (number b) < 14 = name_below v s b in
+      let ca = member_tells v.memory s.linked (name_at v.names (number a)) (omega arith) x ha in
+      let cb = member_tells v.memory s.linked (name_at v.names (number b)) (omega arith) x hb in
+      name_other v s a b ne (let same : name_at v.names (number a) ≡ name_at v.names (number b) = cc (ca.1, cb.1, ca.2, cb.2) in same)
 
   -- a member of a list is held
   pub member_held : (v : Image X) → IsSound v → (k x : ℕ) → k < 14 → IsIn x (chain v.memory k)

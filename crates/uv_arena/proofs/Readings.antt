@@ -12,7 +12,7 @@ use Rattle.uv_arena.specs.Image.{Image, name_at, chains, chain, links_in, links_
 use Rattle.uv_arena.specs.Calls.{IsListed, IsFirst, IsLast}
 use Rattle.uv_arena.proofs.Lists.{in_left, in_right, first_is_in, last_is_in, segment_right}
 use Rattle.uv_arena.proofs.Memories.{get-links, head_is, tail_is, placed, member_tells}
-use Rattle.uv_arena.proofs.Lookups.{held_now, is_loose, is_on, member_held, name_below, name_other, without_none, without_one}
+use Rattle.uv_arena.proofs.Lookups.{held_now, is_loose, is_on, member_held, name_below, one_list, without_none, without_one}
 use Rattle.uv_arena.proofs.Changes.{some_first}
 
 last_none : (x : ℕ) (xs : List ℕ) (q : Option ℕ) → last q (x ∷ xs) ≡ None → ⊥
@@ -62,17 +62,13 @@ module _ {X : Type 0} where
       let k = name_at v.names (number list) in let lt : k < 14 = name_below v s list in
       let is = sym (head_is v.memory s.linked k (omega arith)) ∙ e in
       let cut = some_first (chain v.memory k) x is in let one = is_member v s k x lt (first_is_in (chain v.memory k) x is) in
-      let on = member_tells v.memory s.linked k (omega arith) x (first_is_in (chain v.memory k) x is) in
       record {
         slot = one.slot;
         first = record {
           rest = cut.0;
           is = cut.1;
           after = ap (λ l. without eqb l x) cut.1 ∙ without_one [] cut.0 x (subst IsApart cut.1 (s.linked.stands.lists k (omega arith)).apart);
-          others = λ l ne. let low : name_at v.names (number l) < 14 = name_below v s l in without_none (members v l) x (λ i.
-              let c = member_tells v.memory s.linked (name_at v.names (number l)) (omega arith) x i in
-              let same : c.0 ≡ on.0 = cc (c.1, on.1) in name_other v s l list ne (let one : name_at v.names (number l) ≡ k =
-              cc (ap (λ (z : Cell X). z.links.list) same, c.2, on.2) in one));
+          others = λ l ne. without_none (members v l) x (λ i. one_list v s l list x i (first_is_in (chain v.memory k) x is) ne);
           listed = one.listed;
         };
       }

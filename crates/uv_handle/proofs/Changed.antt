@@ -9,6 +9,7 @@ use Rattle.uv_records.specs.Count.{one_if, keeps_in}
 use Rattle.uv_arena.specs.declared.undo.InsertUndo.{InsertUndo}
 use Rattle.uv_arena.specs.Image.{Image, held, IsSound}
 use Rattle.uv_arena.specs.Calls.{IsInserted, IsSet}
+use Rattle.uv_arena.proofs.Contents.{content_is}
 use Rattle.uv_handle.specs.Counted.{counted, alive_count, record_at, Fits32}
 use Rattle.uv_handle.specs.Changes.{IsAdded, IsChanged}
 use Rattle.uv_handle.proofs.Counts.{content_of, count_below, count_changed, count_inserted}
@@ -49,19 +50,11 @@ module _ {X : Type 0} (read : X → Option HandleRecord) (make : HandleRecord �
 
   module _ (only_that : (t : X) (r : HandleRecord) → read t ≡ Some r
       → t ≡ make r) (i : Image X) (d : Id) (old : HandleRecord) (there : record_at read i d ≡ Some old) where
-    pub content_is : held i d ≡ Some (make old)
-    content_is = let x = content_of read i d old there in x.1 ∙ ap Some (only_that x.0 old x.2)
-
-    pub set_done : (Same : Type 0) (j : Image X) (new : X) (o : Option X) → IfNone o ((held i d ≡ None) × Same)
-        → IfSome o (λ was. (held i d ≡ Some was) × IsSet i j d new was) → IsSet i j d new (make old)
-    set_done Same j new None none some = cc (none.0, content_is)
-    set_done Same j new (Some was) none some = let same : was ≡ make old = cc (some.0, content_is) in subst (IsSet i j d new) same some.1
-
     change_count : (j : Image X) (n : ℕ) (new : HandleRecord) → n ≡ alive_count read i → IsSet i j d (make new) (make old)
         → alive_count read j + one_if (keeps_alive old) ≡ n + one_if (keeps_alive new)
     change_count j n new is set =
-        let c = count_changed read i j d (make new) (make old) content_is set in let one = ap kept (gives_back old) in
-        let two = ap kept (gives_back new) in omega (arith, c, one, two, is)
+        let c = count_changed read i j d (make new) (make old) (content_is read make only_that i d old there) set in
+        let one = ap kept (gives_back old) in let two = ap kept (gives_back new) in omega (arith, c, one, two, is)
 
     pub change_fits : (j : Image X) (n : ℕ) (new : HandleRecord) → n ≡ alive_count read i → IsSet i j d (make new) (make old) → IsSound j
         → Fits32 n (one_if (keeps_alive old)) (one_if (keeps_alive new))

@@ -16,10 +16,10 @@ use Rattle.uv_heap.proofs.MoveLemmas.{if_when, if_true, if_false, child_within}
 use Rattle.uv_heap.proofs.HeapOrder.{root_first}
 
 -- one, if the entry passes
-abbrev one : (Entry → Bool) → Entry → ℕ
+abbrev pub one : (Entry → Bool) → Entry → ℕ
 one p x = cond (p x) 1 0
 
-count_by-cons : (p : Entry → Bool) (x : Entry) (xs : List Entry) → count_by p (x ∷ xs) ≡ one p x + count_by p xs
+pub count_by-cons : (p : Entry → Bool) (x : Entry) (xs : List Entry) → count_by p (x ∷ xs) ≡ one p x + count_by p xs
 count_by-cons p x xs = sum_by-cons (one p) x xs
 
 -- ---- the array's entries
@@ -83,7 +83,7 @@ count_by-removed p xs i l = if_when (λ (m : Moved). count_by p m.array + one p 
         ∙ count_by-swap p xs i (length xs - 1) l (omega arith)
 
 -- ---- the list in order
-none_before_all : (a b : Entry) (xs : List Entry) → NoneBefore a xs → is_before a b ≡ false → NoneBefore b xs
+pub none_before_all : (a b : Entry) (xs : List Entry) → NoneBefore a xs → is_before a b ≡ false → NoneBefore b xs
 none_before_all a b [] h e = tt
 none_before_all a b (x ∷ xs) h e = (ranks.chain x a b h.0 e, none_before_all a b xs h.1 e)
 
@@ -151,7 +151,7 @@ pub least_first : (x : Entry) (xs : List Entry) → IsHeap (x ∷ xs) → NoneBe
 least_first x xs h = none_before_from x (x ∷ xs) (λ k l. root_first (x ∷ xs) h k k (omega arith) l)
 
 -- an entry that is there does not come before one that none comes before
-none_before_there : (e f : Entry) (xs : List Entry) → NoneBefore e xs → 0 < count_by (is_same f) xs → is_before f e ≡ false
+pub none_before_there : (e f : Entry) (xs : List Entry) → NoneBefore e xs → 0 < count_by (is_same f) xs → is_before f e ≡ false
 none_before_there e f [] h l = absurd (omega arith)
 none_before_there e f (x ∷ xs) h l = at (cases_Bool (is_same f x)) (none_before_there e f xs h.1) where
   at : (is_same f x ≡ true) ⊎ (is_same f x ≡ false) → (0 < count_by (is_same f) xs → is_before f e ≡ false) → is_before f e ≡ false
@@ -159,7 +159,7 @@ none_before_there e f (x ∷ xs) h l = at (cases_Bool (is_same f x)) (none_befor
   at (inr t) on = let no : one (is_same f) x ≡ 0 = if_false _ _ _ t in on (omega (arith, no, l, count_by-cons (is_same f) x xs))
 
 -- and comes behind one that comes before all
-before_all_there : (e f : Entry) (xs : List Entry) → IsBeforeAll e xs → 0 < count_by (is_same f) xs → is_before e f ≡ true
+pub before_all_there : (e f : Entry) (xs : List Entry) → IsBeforeAll e xs → 0 < count_by (is_same f) xs → is_before e f ≡ true
 before_all_there e f [] h l = absurd (omega arith)
 before_all_there e f (x ∷ xs) h l = at (cases_Bool (is_same f x)) (before_all_there e f xs h.1) where
   at : (is_same f x ≡ true) ⊎ (is_same f x ≡ false) → (0 < count_by (is_same f) xs → is_before e f ≡ true) → is_before e f ≡ true

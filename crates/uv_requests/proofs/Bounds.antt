@@ -7,13 +7,13 @@ use Rattle.uv_records.specs.declared.lists.ListName.TheVariants.{Waiting, Done a
 use Rattle.uv_arena.specs.Chains.{IsIn, IsApart}
 use Rattle.uv_arena.specs.Image.{Image, members, IsSound}
 use Rattle.uv_arena.proofs.Lists.{in_either, apart_join}
-use Rattle.uv_arena.proofs.Lookups.{held_tells}
+use Rattle.uv_arena.proofs.Lookups.{held_tells, one_list}
 use Rattle.uv_arena.proofs.Walk.{few}
 use Rattle.uv_work.specs.Requests.{Request}
 use Rattle.uv_work.specs.Pool.{busy}
 use Rattle.uv_requests.specs.Working.{Working, id_in, done_in, IsHeld, IsRun, IsWork}
 use Rattle.uv_requests.proofs.Frames.{end_held}
-use Rattle.uv_requests.proofs.Holding.{content_of, held_id, one_held, not_both, member, list_apart, one_list}
+use Rattle.uv_requests.proofs.Holding.{content_of, held_id, one_held, not_both, member, list_apart}
 
 -- ---- the slots of the requests that run
 

@@ -15,7 +15,7 @@ use Rattle.uv_arena.specs.Image.{Image, members, held, on_list, IsSound}
 use Rattle.uv_arena.specs.Undo.{set_undone, push_undone, unlink_undone, CanUndoSet, CanUndoUnlink}
 use Rattle.uv_arena.specs.Calls.{IsSet, IsPushed, IsUnlinked}
 use Rattle.uv_arena.proofs.Contents.{content_of, set_here, set_there, set_back}
-use Rattle.uv_arena.proofs.Lookups.{without_none}
+use Rattle.uv_arena.proofs.Lookups.{one_list, without_none}
 use Rattle.uv_arena.proofs.Readings.{apart_from}
 use Rattle.uv_work.specs.Ids.{same_id}
 use Rattle.uv_work.specs.Work.{Work}
@@ -27,7 +27,7 @@ use Rattle.uv_requests.specs.Working.{Running, working, found, id_in, request_in
 use Rattle.uv_requests.specs.Undo.{with_run, reopened_by, reopened_in, finish_undone, cancel_undone, CanReopen}
 use Rattle.uv_requests.specs.Calls.{IsFinished, IsCancelled}
 use Rattle.uv_requests.proofs.Frames.{Leaves, pool_now, work_now, ends_stay, run_elsewhere}
-use Rattle.uv_requests.proofs.Holding.{held_id, one_held, not_both, member, list_apart, one_list}
+use Rattle.uv_requests.proofs.Holding.{held_id, one_held, not_both, member, list_apart}
 use Rattle.uv_requests.proofs.Rules.{not_same, none_of, waits_in, without_in, finish_rule, finish_size, cancel_rule, cancel_size}
 
 open_is : (o : Outcome) → is_open o ≡ true → o ≡ Open

@@ -40,16 +40,6 @@ module _ {X : Type 0} where
       let lt : name_at i.names (number l) < 14 = name_below i s l in
       (s.linked.stands.lists (name_at i.names (number l)) (omega arith)).apart
 
-  -- a slot is on one list at the most
-  pub one_list : (i : Image X) → IsSound i → (a b : ListName) (x : ℕ) → IsIn x (members i a) → IsIn x (members i b) → a ≢ b → ⊥
-  one_list i s a b x ha hb ne =
-      let la : name_at i.names (number a) < 14 = name_below i s a in let lb : name_at i.names (number b) < 14 = name_below i s b in
-      let ca = member_tells i.memory s.linked (name_at i.names (number a)) (omega arith) x ha in
-      let cb = member_tells i.memory s.linked (name_at i.names (number b)) (omega arith) x hb in
-      let same : ca.0 ≡ cb.0 = cc (ca.1, cb.1) in
-      name_other i s a b ne (let one : name_at i.names (number a) ≡ name_at i.names (number b) =
-      cc (ap (λ (z : Cell X). z.links.list) same, ca.2, cb.2) in one)
-
 module _ {X : Type 0} (read : X → Option Request) where
   pub held_id : (i : Image X) (d : Id) (b : Bool) → IsHeld read i d b → id_in i d.slot ≡ d
   held_id i d b h = let c = content_of read i d h.request h.is in id_is i d c.0 c.1

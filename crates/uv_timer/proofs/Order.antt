@@ -3,19 +3,13 @@ use Rattle.std.proofs.Common.{◌≡◌, ℕ, suc, ◌+◌, ◌<◌, ◌==◌, �
 use Rattle.std.specs.List.{position_or_len}
 use Rattle.std.proofs.lemmas.List.Sums.{fails_before_first}
 use Rattle.std.proofs.lemmas.Bool.{cases_Bool, eq-eqb, eqb-true, false≢true, ltb-false}
-use Rattle.std.proofs.lemmas.List.Sums.{sum_by-cons}
 use Rattle.uv_heap.specs.declared.entry.Entry.{Entry}
 use Rattle.uv_heap.specs.Array.{no_entry, entry_at, place_in, SlotsDiffer}
 use Rattle.uv_heap.specs.Order.{is_same, IsInOrder, without}
+use Rattle.uv_heap.proofs.OrderLemmas.{one, count_by-cons}
 use Rattle.uv_heap.proofs.Ranks.{same_is, same_itself}
 use Rattle.uv_heap.proofs.MoveLemmas.{if_when, if_true, if_false}
 use Rattle.uv_timer.specs.Timers.{cleared}
-
-abbrev one : (Entry → Bool) → Entry → ℕ
-one p x = cond (p x) 1 0
-
-count_by-cons : (p : Entry → Bool) (x : Entry) (xs : List Entry) → count_by p (x ∷ xs) ≡ one p x + count_by p xs
-count_by-cons p x xs = sum_by-cons (one p) x xs
 
 record At (x : Entry) (xs : List Entry) : Type 0 where
   pub place : ℕ

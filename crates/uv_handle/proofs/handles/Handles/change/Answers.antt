@@ -1,9 +1,9 @@
 use Rattle.std.proofs.Common.{◌≡◌, ◌+◌, Bool, sym, ◌∙◌, subst}
 use Rattle.uv_records.specs.Count.{one_if}
-use Rattle.uv_arena.specs.Calls.{IsSet}
+use Rattle.uv_arena.proofs.Contents.{set_done}
 use Rattle.uv_handle.specs.Counted.{counted, Fits32}
 use Rattle.uv_handle.specs.Changes.{IsChanged}
-use Rattle.uv_handle.proofs.Changed.{set_done, change_fits, changed}
+use Rattle.uv_handle.proofs.Changed.{change_fits, changed}
 use Rattle.uv_handle.proofs.handles.Handles.change.Goals as goal
 
 pub recounted-self-inside-requires : goal.recounted-self-inside-requires
@@ -11,8 +11,8 @@ recounted-self-inside-requires g c =
     let H = g.T.HoldsHandle in let K = g.met.T.HoldsHandle in let i = c.args.slots.now.image in let j = c.set.new.self.image in let d = c.args.id in
     let was = c.args.old in let found = c.requires.found in let x = c.of.result in let r = c.set.result in
     let none = c.set.ensures.none in let some = c.set.ensures.some in
-    let done = set_done H.held_record H.of_record K.gives_back K.only_that i d was found _ j x r none some in
-    let set = subst (λ x. IsSet i j d x (H.of_record c.args.old)) c.of.ensures done in
+    let done = set_done H.held_record H.of_record K.only_that i d was found _ j x r none some in
+    let set = rw c.of.ensures at done in
     subst (λ (b : Bool × Bool). Fits32 c.self.inside.active (one_if b.0) (one_if b.1)) (λ k. (
       sym c.keeps_alive.ensures k,
       sym c.keeps_alive-2.ensures k,
@@ -26,8 +26,8 @@ returns-clause-changed g c =
     let n = c.self.inside.active in
     let was = c.args.old in let found = c.requires.found in let x = c.of.result in let r = c.set.result in
     let none = c.set.ensures.none in let some = c.set.ensures.some in
-    let done = set_done H.held_record H.of_record K.gives_back K.only_that i d was found _ j x r none some in
-    let set = subst (λ x. IsSet i j d x (H.of_record c.args.old)) c.of.ensures done in
+    let done = set_done H.held_record H.of_record K.only_that i d was found _ j x r none some in
+    let set = rw c.of.ensures at done in
     let m = c.recounted-self-inside.result in
     let count = subst (λ (b : Bool × Bool). m + one_if b.0 ≡ n + one_if b.1) (λ k. (
       c.keeps_alive.ensures k,
