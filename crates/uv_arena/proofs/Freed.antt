@@ -1,7 +1,7 @@
 -- Who is on the free list, by the links.
 use Rattle.std.proofs.Common.{◌≡◌, inl, inr, ℕ, ◌<◌, ◌≤◌, ◌==◌, ◌||◌, Bool, true, false, List, [], ◌∷◌, length, slice_get, Option, Some, None, refl, sym, ap, ◌∙◌, arith}
 use Rattle.std.specs.List.{list_any}
-use Rattle.std.proofs.lemmas.Bool.{eq-eqb}
+use Rattle.std.proofs.lemmas.Bool.{eq-eqb, false_from_ne_true}
 use Rattle.std.proofs.lemmas.Bool.Decides.{eqb_tells}
 use Rattle.std.proofs.lemmas.Option.{slice_get_within}
 use Rattle.uv_arena.specs.declared.links.Cell.{Cell}
@@ -35,20 +35,16 @@ module _ {X : Type 0} (m : Memory X) (s : IsLinked m) (x : ℕ) where
     at None g = (let none = ap (λ (z : Links). z.list) (ap links_in g) in cc (none, e))
     at (Some c) g = (s.stands.listed x c.links FREE (get-links m.row.items x c g) (sym (ap (λ (z : Links). z.list) (ap links_in g)) ∙ e)).1
 
-  unlinked : (list_any (λ n. n == x) (chain m FREE) ≡ true → ⊥) → list_any (λ n. n == x) (chain m FREE) ≡ false
-  unlinked h = at (list_any (λ n. n == x) (chain m FREE)) h where
-    at : (b : Bool) → (b ≡ true → ⊥) → b ≡ false
-    at true h = absurd (h refl)
-    at false h = refl
-
   member : list_any (λ n. n == x) (chain m FREE) ≡ true → (c : Cell X) × (slice_get m.row.items x ≡ Some c) × (c.links.list ≡ Some FREE)
   member e = member_tells m s FREE (omega arith) x (in_any (chain m FREE) x e)
 
   pub past_free : length m.row.items ≤ x → list_any (λ n. n == x) (chain m FREE) ≡ false
-  past_free l = unlinked (λ e. let c = member e in let within = slice_get_within m.row.items x c.0 c.1 in absurd (omega (arith, l, within)))
+  past_free l = false_from_ne_true (list_any (λ n. n == x) (chain m FREE))
+      (λ e. let c = member e in let within = slice_get_within m.row.items x c.0 c.1 in absurd (omega (arith, l, within)))
 
   pub other_free : ((links_at m x).list ≡ Some FREE → ⊥) → list_any (λ n. n == x) (chain m FREE) ≡ false
-  other_free h = unlinked (λ e. let c = member e in h (ap (λ (z : Links). z.list) (ap links_in c.1) ∙ c.2))
+  other_free h = false_from_ne_true (list_any (λ n. n == x) (chain m FREE))
+      (λ e. let c = member e in h (ap (λ (z : Links). z.list) (ap links_in c.1) ∙ c.2))
 
   -- the list that its links name is the free list, or another
   pub free_by : (list : ℕ) → (links_at m x).list ≡ Some list → x < length m.row.items → (list == FREE) ≡ list_any (λ n. n == x) (chain m FREE)

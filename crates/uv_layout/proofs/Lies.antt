@@ -1,5 +1,6 @@
 -- A layout that shows all of a memory lies for each state that the memory stands for.
 use Rattle.std.proofs.Common.{◌≡◌, ℕ, zero, suc, ◌<◌, ◌≤◌, ◌+◌, ◌++◌, ◌⊎◌, List, [], ◌∷◌, map, length, length-append, slice_get, Option, Some, None, option_map, IfNone, IfSome, refl, inl, inr, sym, ap, ◌∙◌, subst, arith}
+use Rattle.uv_layout.proofs.Walked.{by_links}
 use Rattle.std.proofs.lemmas.Bool.Decides.{eqb_tells}
 use Rattle.std.proofs.lemmas.List.{length-map}
 use Rattle.std.proofs.lemmas.Option.{slice_get_past, slice_get_within}
@@ -98,12 +99,6 @@ not_there [] i e = omega arith
 not_there (x ∷ xs) zero e = cc
 not_there (x ∷ xs) (suc i) e = let rest = not_there xs i e in omega (arith, rest)
 
-linked_so : (cs : List (Cell Content)) (y : ℕ) (l : Links) → slice_get (map (λ (c : Cell Content). c.links) cs) y ≡ Some l
-    → links_in (slice_get cs y) ≡ l
-linked_so [] y l e = cc
-linked_so (c ∷ cs) zero l e = let same : c.links ≡ l = cc e in same
-linked_so (c ∷ cs) (suc y) l e = linked_so cs y l e
-
 ids_slots : (a : arena.Image Content) (xs : List ℕ) → map (λ (id : Id). id.slot) (map (id_in a) xs) ≡ xs
 ids_slots a [] = refl
 ids_slots a (x ∷ xs) = ap (λ ys. x ∷ ys) (ids_slots a xs)
@@ -116,7 +111,7 @@ module _ (i : Image Place) (s : State) (h : StandsFor i s) (cs : List LaidSlot) 
   neighbours : (k x : ℕ) (p n : Option ℕ) → slice_get (chains i.arena.memory).links x ≡ Some (link k p n) → HasNeighbours (slice_get cs x) p n
   neighbours k x p n e = at (slice_get cs x) refl where
     there : links_at i.arena.memory x ≡ link k p n
-    there = linked_so i.arena.memory.row.items x (link k p n) e
+    there = by_links i.arena.memory.row.items x (link k p n) e
 
     at : (o : Option LaidSlot) → slice_get cs x ≡ o → HasNeighbours o p n
     at None q =

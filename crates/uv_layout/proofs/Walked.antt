@@ -10,7 +10,7 @@ use Rattle.uv_arena.proofs.Lists.{segment_right}
 use Rattle.uv_step.specs.declared.content.Content.{Content}
 use Rattle.uv_stands.proofs.Walked.{begins_with}
 
-by_links : (cs : List (Cell Content)) (y : ℕ) (l : Links) → slice_get (map (λ (c : Cell Content). c.links) cs) y ≡ Some l
+pub by_links : (cs : List (Cell Content)) (y : ℕ) (l : Links) → slice_get (map (λ (c : Cell Content). c.links) cs) y ≡ Some l
     → links_in (slice_get cs y) ≡ l
 by_links [] y l e = cc
 by_links (c ∷ cs) zero l e = let same : c.links ≡ l = cc e in same

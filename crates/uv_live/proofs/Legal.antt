@@ -1,5 +1,6 @@
 -- Each beginning of a log that follows the pool's rules follows them.
 use Rattle.std.proofs.Common.{◌≡◌, ◌∙◌, ℕ, List, [], ◌∷◌, ◌++◌, Option, Some, None, take, drop, length, refl, sym, subst}
+use Rattle.uv_work.proofs.Replays.{events_both}
 use Rattle.std.proofs.lemmas.List.{take-append-drop}
 use Rattle.uv_work.specs.Pool.{Pool, empty_pool, then_event, after_events, replay, IsLegal}
 use Rattle.uv_work.specs.declared.event.PoolEvent.{PoolEvent}
@@ -15,14 +16,10 @@ some_before : (o : Option Pool) (es : List PoolEvent) (p : Pool) → after_event
 some_before None es p h = absurd (let e : None ≡ Some p = sym (none_after es) ∙ h in cc)
 some_before (Some q) es p h = (q, refl)
 
-in_two : (o : Option Pool) (xs ys : List PoolEvent) → after_events o (xs ++ ys) ≡ after_events (after_events o xs) ys
-in_two o [] ys = refl
-in_two o (x ∷ xs) ys = in_two (then_event o x) xs ys
-
 legal_front : (workers : ℕ) (xs ys : List PoolEvent) → IsLegal workers (xs ++ ys) → IsLegal workers xs
 unfolding replay
 legal_front workers xs ys (p, h) =
-    some_before (after_events (Some (empty_pool workers)) xs) ys p (sym (in_two (Some (empty_pool workers)) xs ys) ∙ h)
+    some_before (after_events (Some (empty_pool workers)) xs) ys p (sym (events_both (Some (empty_pool workers)) xs ys) ∙ h)
 
 pub legal_take : (workers n : ℕ) (log : List PoolEvent) → IsLegal workers log → IsLegal workers (take n log)
 legal_take workers n log h =

@@ -1,7 +1,7 @@
 -- Each handle closes once: every op and every step of the loop appends a line that may follow those before it.
 use Rattle.std.proofs.Common.{◌≡◌, ◌⊎◌, inl, inr, ℕ, zero, suc, ◌+◌, ◌==◌, ◌||◌, List, [], ◌∷◌, ◌++◌, Bool, true, false, drop, Option, Some, None, Result, Ok, Err, length, map, slice_get, slice_set, unwrap_or, option_map, replicate, nat_le, nat_lt, refl, ap, sym, subst, ◌∙◌, arith}
-use Rattle.std.proofs.lemmas.Bool.{cond_both, both_ways, eqb-true}
-use Rattle.std.proofs.lemmas.Option.{same_Some}
+use Rattle.std.proofs.lemmas.Bool.{cond_both, both_ways, eqb-true, or_right, false_from_ne_true}
+use Rattle.std.proofs.lemmas.Option.{same_Some, none-some}
 use Rattle.uv_ids.specs.declared.id.Id.{Id}
 use Rattle.uv_ids.specs.declared.id.Var.{Var}
 use Rattle.uv_ids.specs.declared.code.Code.{Code}
@@ -78,7 +78,7 @@ use Rattle.uv_order.proofs.Working.{Working, StaysWorking, next_working, fresh_w
 use Rattle.uv_order.proofs.Keeping.{has_number, Watches, Closes, Rests, Kept, members, not_free}
 use Rattle.uv_order.proofs.KeptSteps.{FrontOf, front_of, first_of, opened, next_kept, fresh_kept, StaysKept}
 use Rattle.uv_order.proofs.Histories.{lines-history}
-use Rattle.uv_order.proofs.Sends.{SentAt, SentFollows, next_sent, sent_fresh, either_right}
+use Rattle.uv_order.proofs.Sends.{SentAt, SentFollows, next_sent, sent_fresh}
 use Rattle.uv_order.proofs.Standing as order
 use Rattle.uv_order.proofs.Standing.{Stands}
 use Rattle.uv_order.proofs.Follows.{follows, rested_at, calm_at, stands_fresh}
@@ -427,10 +427,7 @@ place_known p past s (Running run) kept work k = run_known p past s run run.body
 
 -- no request stands twice on the lists of those that wait and are run
 apart_ids : (ids : List Id) (id i : Id) → AreDistinct (id ∷ ids) → has_id ids i ≡ true → same_id id i ≡ false
-apart_ids ids id i d e = at (same_id id i) refl where
-  at : (b : Bool) → same_id id i ≡ b → b ≡ false
-  at true s = absurd (both_ways (has_id ids id) d.0 (ap (has_id ids) (same id i s) ∙ e))
-  at false s = refl
+apart_ids ids id i d e = false_from_ne_true (same_id id i) (λ s. both_ways (has_id ids id) d.0 (ap (has_id ids) (same id i s) ∙ e))
 
 take_known : (p : Program) (past : List Seen) (s : State) (n : ℕ) → Working s → KnownAt p past s →
     Follows p past (step.take s n (next_work s (slice_get s.running n)))
@@ -465,7 +462,7 @@ take_known p past s n work k = at (next_work s (slice_get s.running n)) refl whe
       fewer_wait : (u : Id × Request) (g : TakesFront s n u) (i : Id) → has_id g.front.rest i ≡ true →
           AreDistinct ((u.0 ∷ g.front.rest) ++ run_ids s.running) → (has_id s.waiting i ≡ true) × (same_id u.0 i ≡ false)
       fewer_wait u g i e d = (
-        ap (λ (ids : List Id). has_id ids i) g.front.are ∙ either_right (same_id u.0 i) (has_id g.front.rest i) e,
+        ap (λ (ids : List Id). has_id ids i) g.front.are ∙ or_right (same_id u.0 i) (has_id g.front.rest i) e,
         apart_ids (g.front.rest ++ run_ids s.running) u.0 i d (in_front g.front.rest (run_ids s.running) i e),
       )
 
@@ -566,7 +563,7 @@ pub known_fresh : (p : Program) → KnownAt p [] (fresh p)
 known_fresh p = record {
   binding = λ v id e. cc (unbound_id (length p.callbacks) v.0, e);
   made = λ id v e. cc e;
-  closing = λ id f. absurd (nothing f.handle f.holds);
+  closing = λ id f. absurd (none-some f.handle f.holds);
   closed = λ id c. cc c;
   over = λ id c. cc c;
   worked = record {
@@ -584,9 +581,6 @@ known_fresh p = record {
 } where
   nobody : (id : Id) → has_id [] id ≡ true → ⊥
   nobody id e = cc e
-
-  nothing : (h : HandleRecord) → ◌≡◌ {A = Option HandleRecord} None (Some h) → ⊥
-  nothing h e = cc e
 
   unbound_id : (n i : ℕ) → (unwrap_or (slice_get (replicate n unbound) i) unbound).id ≡ None
   unbound_id zero i = refl

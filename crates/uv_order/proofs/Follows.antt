@@ -59,7 +59,7 @@ use Rattle.uv_order.proofs.OpCases.{names_at, live_held, send_both, cancel_both}
 use Rattle.uv_order.proofs.Keeping.{Kept}
 use Rattle.uv_order.proofs.KeptSteps.{IsRestedAt, IsRestedIn}
 use Rattle.uv_order.proofs.Working.{Working, IsCalmIn, IsCalmAt}
-use Rattle.uv_order.proofs.Lives.{lives_is}
+use Rattle.uv_order.proofs.Lives.{lives_is, some_of}
 use Rattle.uv_order.proofs.Asked.{runs_work, request_turns}
 use Rattle.uv_order.proofs.Bodies.{IsBody, is_body}
 use Rattle.uv_order.proofs.OpEffects.{Effect, op_effect}
@@ -92,10 +92,6 @@ found_pending (x ∷ xs) e = at (content_pends x.content) refl (found_pending xs
   at true f more h = (record { slot = 0; generation = x.generation }, rw (eq-eqb x.generation x.generation refl) (pends_content x.content f))
   at false f more h = let r = more h in (record { slot = suc r.0.slot; generation = r.0.generation }, r.1)
 
-some_sent : (ids : List Id) (id : Id) → has_id ids id ≡ true → has_some ids ≡ true
-some_sent [] id e = cc e
-some_sent (x ∷ xs) id e = refl
-
 -- the poll is left where it may be
 pub left_poll : (p : Program) (told : Told) (s : State) (run : Run) (deadline : Option ℕ) → SentAt told.sent s → Working s → Counted p s.names told →
     NobodyLeft (rest s.ready s) → Follows p told (Running run.mode run.line (Polling deadline)) s (step.poll s run deadline)
@@ -103,7 +99,7 @@ left_poll p told s run deadline sent g c e = cond_both (may_leave s deadline) _ 
     (λ h. record {
       to = Running run.mode run.line (Within (In phase.Done) (begun_with s.done.list));
       goes = doc.section (In phase.Done) (more_or (has_passed s.clock deadline) (has_some s.done.list) (has_pending s) (has_some told.sent)
-          (λ on. let r = found_pending s.arena.slots on in some_sent told.sent r.0 (sent.are r.0 ∙ r.1)) h)
+          (λ on. let r = found_pending s.arena.slots on in some_of told.sent r.0 (sent.are r.0 ∙ r.1)) h)
           (done_next (order_of p) run.mode (doc.goes_on s)) refl
           (record { list = (refl, are_ended s e.done g); off = refl; sent = refl; body = refl }) refl;
       stands = record {

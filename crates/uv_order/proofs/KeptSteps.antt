@@ -1,7 +1,7 @@
 -- Each op and each step of the loop keeps what is kept.
 use Rattle.std.proofs.Common.{◌≡◌, inl, ℕ, ◌+◌, ◌==◌, List, [], ◌∷◌, ◌++◌, Bool, true, false, Option, Some, None, Result, Ok, Err, slice_get, drop, length, nat_le, nat_lt, refl, ap, sym, subst, ◌∙◌, append_assoc, append-nil, if◌then◌else◌}
-use Rattle.std.proofs.lemmas.Bool.{cond_both}
-use Rattle.std.proofs.lemmas.Option.{same_Some}
+use Rattle.std.proofs.lemmas.Bool.{cond_both, false_from_ne_true}
+use Rattle.std.proofs.lemmas.Option.{same_Some, none-some}
 use Rattle.uv_ids.specs.declared.order.Order.{Order}
 use Rattle.uv_ids.specs.declared.id.Id.{Id}
 use Rattle.uv_ids.specs.declared.id.Var.{Var}
@@ -209,14 +209,12 @@ fire_kept p s run part k = found_both (front s s.ready) _ _ StaysKept (λ t e. f
           let u : State = record s { ready = f.rest } in
           let kept : Kept u = front_kept s t.0 f.rest f.are k in
           cond_both (t.1.repeat == 0) u (started u t.0 t.1 t.1.repeat t.1.repeat) Kept (λ z. kept)
-          (λ z. started_kept u t.0 t.1 t.1 t.1.repeat t.1.repeat f.holds rests.kind rests.inactive rests.stays rests.kind rests.stays l.distinct.0 kept))
+          (λ z. started_kept u t.0 t.1 t.1 t.1.repeat t.1.repeat f.holds rests.kind rests.inactive rests.stays rests.kind rests.stays
+          l.distinct.0 kept))
 
 -- an active handle doesn't close
 pub opened : (h : HandleRecord) → h.active ≡ true → IsSound h → h.closing ≡ false
-opened h on sound = at h.closing refl where
-  at : (b : Bool) → h.closing ≡ b → b ≡ false
-  at true shut = absurd (on_off h on (sound.shut shut))
-  at false stays = refl
+opened h on sound = false_from_ne_true h.closing (λ shut. on_off h on (sound.shut shut))
 
 pub collected_kept : (s : State) (t : Id × HandleRecord) → FirstOf s s.timers t → Kept s → Kept (collected s t.0 t.1)
 collected_kept s t f k =
@@ -550,7 +548,7 @@ pub fresh_kept : (p : Program) → Kept (fresh p)
 fresh_kept p = record {
   sound = λ id h e. cc e;
   free = tt;
-  timers = record { each = λ key id h. absurd h; all = λ key id f. absurd (nothing f.handle f.holds); sorted = tt };
+  timers = record { each = λ key id h. absurd h; all = λ key id f. absurd (none-some f.handle f.holds); sorted = tt };
   ready = record { each = tt; distinct = tt };
   idle = none (Watches kind.Idle);
   prepare = none (Watches kind.Prepare);
@@ -558,8 +556,5 @@ fresh_kept p = record {
   async = none (Watches kind.Async);
   closing = none Closes;
 } where
-  nothing : (h : HandleRecord) → ◌≡◌ {A = Option HandleRecord} None (Some h) → ⊥
-  nothing h e = cc e
-
   none : (P : HandleRecord → Type 0) → Everyone [] P []
-  none P = record { lists = record { each = tt; distinct = tt }; all = λ id f. absurd (nothing f.handle f.holds) }
+  none P = record { lists = record { each = tt; distinct = tt }; all = λ id f. absurd (none-some f.handle f.holds) }

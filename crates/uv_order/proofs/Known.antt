@@ -1,7 +1,7 @@
 -- What the lines of a trace tell of the names and of the handles that close, and how each change of the slots keeps it.
 use Rattle.std.proofs.Common.{◌≡◌, ◌⊎◌, inl, inr, ℕ, zero, suc, ◌<◌, ◌≤◌, ◌==◌, ◌||◌, List, [], ◌∷◌, Bool, true, false, Option, Some, None, slice_get, slice_set, unwrap_or, option_map, refl, ap, sym, subst, ◌∙◌, if◌then◌else◌}
-use Rattle.std.proofs.lemmas.Bool.{both_ways, eqb-true, eq-eqb}
-use Rattle.std.proofs.lemmas.Option.{same_Some}
+use Rattle.std.proofs.lemmas.Bool.{both_ways, eqb-true, eq-eqb, or_left, or_right, or_cases, false_from_ne_true}
+use Rattle.std.proofs.lemmas.Option.{same_Some, none-some}
 use Rattle.uv_ids.specs.declared.id.Id.{Id}
 use Rattle.uv_ids.specs.declared.id.Var.{Var}
 use Rattle.uv_ids.specs.declared.code.Code.TheVariants as code
@@ -77,22 +77,16 @@ pub record Known (p : Program) (past : List Seen) (arena : Slots Content) (names
 -- a held handle that doesn't close was not closed
 pub not_closed : {waiting runs : List Id} (p : Program) (past : List Seen) (arena : Slots Content) (names : List Named) (id : Id) (h : HandleRecord) →
     held_at arena.slots id ≡ Some h → h.closing ≡ false → Known p past arena names waiting runs → was_closed p past id ≡ false
-not_closed p past arena names id h e stays k = at (was_closed p past id) refl where
+not_closed p past arena names id h e stays k = false_from_ne_true (was_closed p past id) (λ c. shut (k.closed id c)) where
   shut : IsShut arena id → ⊥
   shut (inl f) = open_shut f.handle f.fits (ap (λ (x : HandleRecord). x.closing) (same_Some _ _ (sym f.holds ∙ e)) ∙ stays)
   shut (inr g) = not_held arena.slots arena.free id (content.Handle h) g (is_held arena.slots id h e)
 
-  at : (b : Bool) → was_closed p past id ≡ b → b ≡ false
-  at true c = absurd (shut (k.closed id c))
-  at false c = refl
-
 -- a held handle has no `closed` line
 pub not_over : {waiting runs : List Id} (p : Program) (past : List Seen) (arena : Slots Content) (names : List Named) (id : Id) (h : HandleRecord) →
     held_at arena.slots id ≡ Some h → Known p past arena names waiting runs → has_closed_line past id ≡ false
-not_over p past arena names id h e k = at (has_closed_line past id) refl where
-  at : (b : Bool) → has_closed_line past id ≡ b → b ≡ false
-  at true c = absurd (not_held arena.slots arena.free id (content.Handle h) (k.over id c) (is_held arena.slots id h e))
-  at false c = refl
+not_over p past arena names id h e k = false_from_ne_true (has_closed_line past id) (λ c.
+    not_held arena.slots arena.free id (content.Handle h) (k.over id c) (is_held arena.slots id h e))
 
 -- ---- changes without a line
 
@@ -137,9 +131,6 @@ known_put p past arena names id h x e o called k = record {
   shut : (i : Id) → IsShut arena i → IsShut (record arena { slots = put arena.slots id x }) i
   shut i (inl f) = inl (fits_put arena.slots Closes id h x e (λ c. o ∙ c) i f)
   shut i (inr g) = inr (gone_put arena.slots arena.free id h x i e g)
-
-none_is_none : (h : HandleRecord) → ◌≡◌ {A = Option HandleRecord} None (Some h) → ⊥
-none_is_none h e = cc e
 
 -- ---- lines
 
@@ -209,18 +200,6 @@ idle_op p place o a e q = record {
   cancelled = λ id. rw (is_answered p place o a e) (q id).1;
 }
 
-or_right : (a b : Bool) → b ≡ true → (a || b) ≡ true
-or_right true b e = refl
-or_right false b e = e
-
-or_left : (a b : Bool) → a ≡ true → (a || b) ≡ true
-or_left true b e = refl
-or_left false b e = cc e
-
-either : (a b : Bool) → (a || b) ≡ true → (a ≡ true) ⊎ (b ≡ true)
-either true b e = inl refl
-either false b e = inr e
-
 -- a handle that doesn't close is closed
 pub known_close : {waiting runs : List Id} (p : Program) (past : List Seen) (place : Site) (v : Var) (arena : Slots Content) (names : List Named)
     (id : Id)
@@ -231,7 +210,7 @@ known_close p past place v arena names id h x e is holds shut called k = record 
   binding = λ u i f. rw said (k.binding u i f);
   made = λ i u f. rw said (k.made i u (put_names arena.slots id h x holds called i u f));
   closing = λ i f. rw closed_now (closing i f (same_id i id) refl);
-  closed = λ i c. closed i (either (is_some_id i (bound p past v)) (was_closed p past i) (sym (ap
+  closed = λ i c. closed i (or_cases (is_some_id i (bound p past v)) (was_closed p past i) (sym (ap
       (λ (o : Option Var). is_bound p past i o || was_closed p past i) closed_now) ∙ c));
   over = λ i c. gone_put arena.slots arena.free id h x i holds (k.over i c);
   worked = worked_idle p past (seen.Op place (answer.Code code.Ok)) (record arena { slots = put arena.slots id x }) _ _
@@ -334,7 +313,7 @@ known_grown p past arena more names id x grown same_asked stays called gone k = 
   later : (i : Id) → IsShut arena i → IsShut more i
   later i (inl f) = inl (record { handle = f.handle; holds = grown.others i (away f) ∙ f.holds; fits = f.fits }) where
     away : Fits arena.slots Closes i → i ≡ id → ⊥
-    away f same = none_is_none f.handle (sym grown.new ∙ ap (held_at arena.slots) (sym same) ∙ f.holds)
+    away f same = none-some f.handle (sym grown.new ∙ ap (held_at arena.slots) (sym same) ∙ f.holds)
   later i (inr g) = inr (gone i g)
 
 -- no handle changes
@@ -366,14 +345,14 @@ known_gone p past v arena more names id h n e l last others k = record {
       (emptied_turns arena.slots id (content.Handle h) n (is_held arena.slots id h e)) (λ u g. cc g) i u f);
   closing = λ i f. k.closing i (earlier i f (same_id i id) refl);
   closed = λ i c. later i (same_id i id) refl (k.closed i c);
-  over = λ i c. over i (either (same_id id i) (has_closed_line past i) c);
+  over = λ i c. over i (or_cases (same_id id i) (has_closed_line past i) c);
   worked = worked_idle p past (seen.Closed v id) (record arena { slots = emptied arena.slots id n; free = more }) _ _
       (record { queued = λ i. refl; taken = λ i. refl; finished = λ i. refl; over = λ i. refl; cancelled = λ i. refl })
       (worked_same p past arena (record arena { slots = emptied arena.slots id n; free = more }) _ _
       (same_requests arena.slots _ id _ _ (emptied_turns arena.slots id (content.Handle h) n (is_held arena.slots id h e)) refl refl) gone k.worked);
 } where
   earlier : (i : Id) → Fits (emptied arena.slots id n) Closes i → (b : Bool) → same_id i id ≡ b → Fits arena.slots Closes i
-  earlier i f true s = absurd (none_is_none f.handle (sym (emptied_same arena.slots id h n e)
+  earlier i f true s = absurd (none-some f.handle (sym (emptied_same arena.slots id h n e)
       ∙ ap (held_at (emptied arena.slots id n)) (sym (same i id s)) ∙ f.holds))
   earlier i f false s = record { handle = f.handle; holds = sym (emptied_other arena.slots id i h n e (other i id s)) ∙ f.holds; fits = f.fits }
 

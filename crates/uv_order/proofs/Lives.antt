@@ -1,8 +1,9 @@
 -- Whether the loop is alive by its lists is whether it is by what its slots hold.
 use Rattle.std.proofs.Common.{◌≡◌, ℕ, zero, suc, ◌==◌, ◌&&◌, ◌||◌, List, [], ◌∷◌, ◌++◌, Bool, true, false, Option, Some, None, refl, ap, sym, ◌∙◌, if◌then◌else◌}
+use Rattle.std.proofs.Math.Bool.{or-true, or_assoc}
 use Rattle.std.specs.Prelude.{not}
 use Rattle.std.specs.List.{list_any}
-use Rattle.std.proofs.lemmas.Bool.{eq-eqb}
+use Rattle.std.proofs.lemmas.Bool.{eq-eqb, or_left, or_right}
 use Rattle.uv_ids.specs.declared.id.Id.{Id}
 use Rattle.uv_ids.specs.declared.due.Due.{Due}
 use Rattle.uv_ids.specs.declared.phase.Mode.{Mode}
@@ -33,14 +34,6 @@ either_way true b f g = sym (f refl)
 either_way false true f g = g refl
 either_way false false f g = refl
 
-or_true : (a : Bool) → (a || true) ≡ true
-or_true true = refl
-or_true false = refl
-
-or_assoc : (a b c : Bool) → ((a || b) || c) ≡ (a || (b || c))
-or_assoc true b c = refl
-or_assoc false b c = refl
-
 -- ---- what a slot holds is a handle or a request
 
 abbrev is_asked : Option Content → Bool
@@ -55,7 +48,7 @@ one_split : (c : Option Content) (x a b : Bool) → x ≡ (a || b) → (content_
 one_split None x a b e = e
 one_split (Some (content.Handle h)) x a b e =
     ap (λ (y : Bool). keeps_alive h || y) e ∙ sym (or_assoc (keeps_alive h) a b)
-one_split (Some (content.Request r)) x a b e = sym (or_true a)
+one_split (Some (content.Request r)) x a b e = sym (or-true a)
 
 split : (slots : List (Slot Content)) → list_any (λ (slot : Slot Content). content_keeps slot.content) slots
     ≡ (list_any (λ (slot : Slot Content). is_kept_by slot.content) slots || any_asked slots)
@@ -102,11 +95,11 @@ is_any : (slots : List (Slot Content)) (n g : ℕ) (r : Request) → asked_at sl
     any_asked slots ≡ true
 is_any [] n g r e = cc e
 is_any (x ∷ xs) zero g r e = rw (asked_slot x (record { slot = zero; generation = g }) r e) refl
-is_any (x ∷ xs) (suc n) g r e = rw (is_any xs n g r e) (or_true (is_asked x.content))
+is_any (x ∷ xs) (suc n) g r e = rw (is_any xs n g r e) (or-true (is_asked x.content))
 
 -- ---- lists with members
 
-some_of : (ids : List Id) (id : Id) → has_id ids id ≡ true → has_some ids ≡ true
+pub some_of : (ids : List Id) (id : Id) → has_id ids id ≡ true → has_some ids ≡ true
 some_of [] id e = cc e
 some_of (x ∷ xs) id e = refl
 
@@ -126,12 +119,6 @@ some_runs : (running : List (Option Id)) → has_some (run_ids running) ≡ has_
 some_runs [] = refl
 some_runs (None ∷ running) = some_runs running
 some_runs (Some id ∷ running) = refl
-
-or_left : (a b : Bool) → a ≡ true → (a || b) ≡ true
-or_left a b e = rw e refl
-
-or_right : (a b : Bool) → b ≡ true → (a || b) ≡ true
-or_right a b e = rw e (or_true a)
 
 -- those of both lists are all requests that are held
 listed : (slots : List (Slot Content)) (open_ones ended : List Id) → AllAsk slots IsOpen open_ones → AllAsk slots HasEnded ended →

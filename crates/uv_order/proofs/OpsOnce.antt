@@ -1,7 +1,7 @@
 -- What happens once, by the ops: what the line of each tells, and that the handles and the requests are as it tells.
 use Rattle.std.proofs.Common.{option_map, ◌≡◌, ◌⊎◌, inl, inr, ℕ, ◌<◌, zero, suc, ◌==◌, ◌||◌, List, [], ◌∷◌, ◌++◌, Bool, true, false, Option, Some, None, length, slice_get, slice_set, if◌then◌else◌, refl, ap, sym, subst, ◌∙◌, arith}
 use Rattle.std.specs.List.{list_any}
-use Rattle.std.proofs.lemmas.Bool.{cond_both, both_ways, eq-eqb}
+use Rattle.std.proofs.lemmas.Bool.{cond_both, both_ways, eq-eqb, false_from_ne_true}
 use Rattle.std.specs.Prelude.{option_and_then}
 use Rattle.std.proofs.lemmas.Option.{same_Some}
 use Rattle.uv_ids.specs.declared.id.Id.{Id}
@@ -333,11 +333,8 @@ cancel_told p past l s t tells q e on k =
     was_queued i f none = cc (sym none ∙ ap (queued_task p past) (sym (same t.0 i f)) ∙ k.worked.queued t.0 t.1 (ap request_in e))
 
     gone : (i : Id) → has_id (without_id s.waiting t.0) i ≡ true → same_id t.0 i ≡ false
-    gone i h = at (same_id t.0 i) refl where
-      at : (b : Bool) → same_id t.0 i ≡ b → b ≡ false
-      at true f = absurd (both_ways (has_id (without_id s.waiting t.0) t.0) (without_itself s.waiting t.0)
-          (ap (has_id (without_id s.waiting t.0)) (same t.0 i f) ∙ h))
-      at false f = refl
+    gone i h = false_from_ne_true (same_id t.0 i) (λ f.
+        both_ways (has_id (without_id s.waiting t.0) t.0) (without_itself s.waiting t.0) (ap (has_id (without_id s.waiting t.0)) (same t.0 i f) ∙ h))
 
 pub cancel_op_known : (p : Program) (past : List Seen) (s : State) (v : Var) → KnownAt p past s → KnownBy p past (op.Cancel v) (do_op s (op.Cancel v))
 cancel_op_known p past s v k = cancel_both s v (KnownBy p past (op.Cancel v))

@@ -1,8 +1,9 @@
 -- Each line is the event of the thread pool that it says, by the rules of the pool.
 use Rattle.std.proofs.Common.{◌≡◌, ℕ, ◌+◌, ◌||◌, List, [], ◌∷◌, ◌++◌, map, Bool, true, false, Option, Some, None, Result, Ok, Err, drop, length, nat_le, nat_lt, slice_get, slice_set, option_map, refl, ap, sym, subst, ◌∙◌, append_assoc, append-nil}
+use Rattle.std.proofs.Math.Bool.{or_assoc, or_comm}
 use Rattle.std.specs.List.{list_any}
-use Rattle.std.proofs.lemmas.Bool.{cond_both, both_ways}
-use Rattle.std.proofs.lemmas.Option.{same_Some}
+use Rattle.std.proofs.lemmas.Bool.{cond_both, both_ways, or_right, false_from_ne_true}
+use Rattle.std.proofs.lemmas.Option.{same_Some, none-some}
 use Rattle.uv_ids.specs.declared.id.Id.{Id}
 use Rattle.uv_ids.specs.declared.id.Var.{Var}
 use Rattle.uv_ids.specs.declared.code.Code.{Code}
@@ -94,12 +95,8 @@ done_same s t [] f = refl
 done_same s t (id ∷ ids) f =
     let one : done_as t id ≡ done_as s id = ap (λ (o : Option Request). record { id = id; finished = was_finished o }) (f id (rw
     (itself id id refl) refl)) in
-    let rest = done_same s t ids (λ i h. f i (either_of (same_id id i) (has_id ids i) h)) in
+    let rest = done_same s t ids (λ i h. f i (or_right (same_id id i) (has_id ids i) h)) in
     ap (λ (d : Ended). d ∷ map (done_as t) ids) one ∙ ap (λ (ds : List Ended). done_as s id ∷ ds) rest
-  where
-    either_of : (a b : Bool) → b ≡ true → (a || b) ≡ true
-    either_of true b e = refl
-    either_of false b e = e
 
 -- no request changes, and no list of requests
 pool_same : (s t : State) → SameWork s t → pool_of t ≡ pool_of s
@@ -125,27 +122,12 @@ done_has s (x ∷ ids) id = ap (λ (b : Bool). same_id x id || b) (done_has s id
 -- an id that stands for no request is on no list of them
 off_all : (slots : List (Slot Content)) (P : Request → Type 0) (ids : List Id) (id : Id) → asked_at slots id ≡ None → AllAsk slots P ids →
     has_id ids id ≡ false
-off_all slots P ids id e k = at (has_id ids id) refl where
-  clash : (r : Request) → asked_at slots id ≡ Some r → ⊥
-  clash r f = cc (sym e ∙ f)
-
-  at : (b : Bool) → has_id ids id ≡ b → b ≡ false
-  at true h = let a = k.each id h in absurd (clash a.request a.holds)
-  at false h = refl
+off_all slots P ids id e k = false_from_ne_true (has_id ids id) (λ h. let a = k.each id h in none-some a.request (sym e ∙ a.holds))
 
 has_both : (xs ys : List Id) (id : Id) → has_id (xs ++ ys) id ≡ (has_id xs id || has_id ys id)
 has_both [] ys id = refl
 has_both (x ∷ xs) ys id = ap (λ (b : Bool). same_id x id || b) (has_both xs ys id)
-    ∙ sym (either_way (same_id x id) (has_id xs id) (has_id ys id)) where
-      either_way : (a b c : Bool) → ((a || b) || c) ≡ (a || (b || c))
-      either_way true b c = refl
-      either_way false b c = refl
-
-swapped : (a b : Bool) → (a || b) ≡ (b || a)
-swapped true true = refl
-swapped true false = refl
-swapped false true = refl
-swapped false false = refl
+    ∙ sym (or_assoc (same_id x id) (has_id xs id) (has_id ys id))
 
 -- it isn't in the pool
 not_in : (s : State) (id : Id) → asked_at s.arena.slots id ≡ None → Working s → has (pool_of s) id ≡ false
@@ -153,7 +135,7 @@ not_in s id e k =
     let opened : (has_id s.waiting id || has_id (run_ids s.running) id) ≡ false =
     sym (has_both s.waiting (run_ids s.running) id) ∙ off_all s.arena.slots IsOpen (s.waiting ++ run_ids s.running) id e k.open_ones in
     let ended : has_id (s.done.yet ++ s.done.list) id ≡ false =
-    has_both s.done.yet s.done.list id ∙ swapped (has_id s.done.yet id) (has_id s.done.list id) ∙ sym (has_both s.done.list s.done.yet id)
+    has_both s.done.yet s.done.list id ∙ or_comm (has_id s.done.yet id) (has_id s.done.list id) ∙ sym (has_both s.done.list s.done.yet id)
     ∙ off_all s.arena.slots HasEnded (s.done.list ++ s.done.yet) id e k.ended in
     rw (waits_has s.waiting id, runs_has s.running id, done_has s (s.done.yet ++ s.done.list) id, ended)
     (none_of (has_id s.waiting id) (has_id (run_ids s.running) id) opened)
@@ -177,7 +159,7 @@ apart_done : (s t : State) (id : Id) (was is : Option Content) → Turns s.arena
     map (done_as t) (s.done.yet ++ s.done.list) ≡ map (done_as s) (s.done.yet ++ s.done.list)
 apart_done s t id was is turns opened k = done_same s t (s.done.yet ++ s.done.list) (λ i h. still i h (same_id i id) refl) where
   turned_round : (i : Id) → has_id (s.done.yet ++ s.done.list) i ≡ true → has_id (s.done.list ++ s.done.yet) i ≡ true
-  turned_round i h = has_both s.done.list s.done.yet i ∙ swapped (has_id s.done.list i) (has_id s.done.yet i)
+  turned_round i h = has_both s.done.list s.done.yet i ∙ or_comm (has_id s.done.list i) (has_id s.done.yet i)
       ∙ sym (has_both s.done.yet s.done.list i) ∙ h
 
   still : (i : Id) → has_id (s.done.yet ++ s.done.list) i ≡ true → (b : Bool) → same_id i id ≡ b → request t i ≡ request s i
@@ -293,7 +275,7 @@ collected_pool s last t f k =
   where
     distinct_round : (xs ys : List Id) (x : Id) → AreDistinct (ys ++ x ∷ xs) → has_id (xs ++ ys) x ≡ false
     distinct_round xs ys x d =
-        has_both xs ys x ∙ swapped (has_id xs x) (has_id ys x) ∙ sym (has_both ys xs x) ∙ once_middle ys xs x d
+        has_both xs ys x ∙ or_comm (has_id xs x) (has_id ys x) ∙ sym (has_both ys xs x) ∙ once_middle ys xs x d
 
 -- ---- the ops
 

@@ -1,7 +1,7 @@
 -- Who was sent to, by the lines and by the handles: each step keeps that they agree.
 use Rattle.std.proofs.Common.{◌≡◌, ℕ, ◌+◌, ◌==◌, ◌||◌, List, [], ◌∷◌, ◌++◌, Bool, true, false, drop, Option, Some, None, Result, Ok, Err, length, slice_get, nat_le, nat_lt, refl, ap, sym, subst, ◌∙◌, if◌then◌else◌}
 use Rattle.std.specs.Prelude.{option_map, not}
-use Rattle.std.proofs.lemmas.Bool.{cond_both, both_ways, or_parts}
+use Rattle.std.proofs.lemmas.Bool.{cond_both, both_ways, or_parts, or_right, false_from_ne_true}
 use Rattle.std.proofs.lemmas.Option.{same_Some}
 use Rattle.uv_ids.specs.declared.id.Id.{Id}
 use Rattle.uv_ids.specs.declared.id.Var.{Var}
@@ -138,10 +138,7 @@ sent_more sent slots id h x e p q o k = record {
       rw (itself id i (sym is)) (sym (ap (pends (put slots id x)) is ∙ pends_here slots id h x e ∙ p))
   are i false s = rw (not_itself i s) (k.are i ∙ sym (pends_there slots id i h x e s)) where
     not_itself : (j : Id) → same_id j id ≡ false → same_id id j ≡ false
-    not_itself j d = at (same_id id j) refl where
-      at : (b : Bool) → same_id id j ≡ b → b ≡ false
-      at true f = absurd (other j id d (sym (same id j f)))
-      at false f = refl
+    not_itself j d = false_from_ne_true (same_id id j) (λ f. other j id d (sym (same id j f)))
 
 -- whether another one was sent to
 has_without : (ids : List Id) (x i : Id) → same_id i x ≡ false → has_id (without_id ids x) i ≡ has_id ids i
@@ -198,14 +195,13 @@ sent_same sent slots more f k = record {
 pub sent_gone : (sent : List Id) (slots : List (Slot Content)) (id : Id) (h : HandleRecord) (n : ℕ) → held_at slots id ≡ Some h →
     h.closing ≡ true → Sent sent slots → Sent sent (emptied slots id n)
 sent_gone sent slots id h n e shut k = record { are = λ i. are i (same_id i id) refl; each = λ i y l on. each i y l on (same_id i id) refl } where
-  idle : (b : Bool) → h.pending ≡ b → b ≡ false
-  idle true on = absurd (open_shut h shut (k.each id h e on).1)
-  idle false off = refl
+  idle : h.pending ≡ false
+  idle = false_from_ne_true h.pending (λ on. open_shut h shut (k.each id h e on).1)
 
   are : (i : Id) (b : Bool) → same_id i id ≡ b → has_id sent i ≡ pends (emptied slots id n) i
   are i true s =
       let is = same i id s in
-      k.are i ∙ ap (pends slots) is ∙ ap pends_in e ∙ idle h.pending refl
+      k.are i ∙ ap (pends slots) is ∙ ap pends_in e ∙ idle
       ∙ sym (ap (pends (emptied slots id n)) is ∙ ap pends_in (emptied_same slots id h n e))
   are i false s = k.are i ∙ sym (ap pends_in (emptied_other slots id i h n e (other i id s)))
 
@@ -384,10 +380,7 @@ turn_sent p told s run turn k = by (step.way (order_of p) run.mode (goes s) turn
 -- a handle that isn't an async one isn't pending
 not_pending : (sent : List Id) (slots : List (Slot Content)) (id : Id) (h : HandleRecord) (q : Kind) → held_at slots id ≡ Some h → h.kind ≡ q →
     (q ≡ kind.Async → ⊥) → Sent sent slots → h.pending ≡ false
-not_pending sent slots id h q e is apart k = at h.pending refl where
-  at : (b : Bool) → h.pending ≡ b → b ≡ false
-  at true on = absurd (apart (sym is ∙ (k.each id h e on).0))
-  at false off = refl
+not_pending sent slots id h q e is apart k = false_from_ne_true h.pending (λ on. apart (sym is ∙ (k.each id h e on).0))
 
 fire_sent : (p : Program) (told : Told) (s : State) (run : Run) (part : TimersOf) → Kept s → SentAt told.sent s →
     SentFollows p told s (step.fire p s run part)
@@ -535,22 +528,15 @@ sent_fresh p = record { are = λ id. refl; each = λ id h e. cc e }
 
 -- ---- who is left of an async section
 
-pub either_right : (a b : Bool) → b ≡ true → (a || b) ≡ true
-either_right true b e = refl
-either_right false b e = e
-
 -- what an op doesn't take off stays sent to, if it is held
 pub stays_sent : (s : State) (sent : List Id) (o : Op) (id : Id) → Kept s → has_id
     (taken_off phase.Async (names_at s) o (do_op s o).answer) id ≡ false →
     pends s.arena.slots id ≡ true → has_id sent id ≡ true → has_id (sent_by o (do_op s o).answer (names_at s) sent) id ≡ true
 stays_sent s sent (op.Init v q) id kept d on e = at (live s v) where
   new : (i : Id) → next_free s.arena ≡ Some i → same_id id i ≡ false
-  new i f = by (same_id id i) refl where
-    by : (b : Bool) → same_id id i ≡ b → b ≡ false
-    by true g =
-        let grown = (takes s.arena s.arena.free i (inited v q) refl kept.free f).0 in
-        absurd (both_ways (pends s.arena.slots id) (ap (pends s.arena.slots) (same id i g) ∙ ap pends_in grown.new) on)
-    by false g = refl
+  new i f = false_from_ne_true (same_id id i) (λ g.
+      let grown = (takes s.arena s.arena.free i (inited v q) refl kept.free f).0 in
+      both_ways (pends s.arena.slots id) (ap (pends s.arena.slots) (same id i g) ∙ ap pends_in grown.new) on)
 
   at : (t : Option (Id × Content)) → has_id (sent_by (op.Init v q) (ops.make s t (ops.with_new s v q)).answer (names_at s) sent) id ≡ true
   at t = make_both s t (ops.with_new s v q) (λ (x : ops.Done). has_id (sent_by (op.Init v q) x.answer (names_at s) sent) id ≡ true)
@@ -571,7 +557,7 @@ stays_sent s sent (op.Close v) id kept d on e =
 stays_sent s sent (op.Send v) id kept d on e = send_both s v
     (λ (c : ops.Coded). has_id (sent_by (op.Send v) (answer.Code c.code) (names_at s) sent) id ≡ true)
     (λ c no_success. subst (λ (ids : List Id). has_id ids id ≡ true) (sym (refused_send s sent v c no_success)) e)
-    (λ t f is. subst (λ (ids : List Id). has_id (ids ++ sent) id ≡ true) (sym (one_taken s v t f)) (either_right (same_id t.0 id) (has_id sent id) e))
+    (λ t f is. subst (λ (ids : List Id). has_id (ids ++ sent) id ≡ true) (sym (one_taken s v t f)) (or_right (same_id t.0 id) (has_id sent id) e))
 stays_sent s sent (op.Queue v task) id kept d on e = e
 stays_sent s sent (op.Cancel v) id kept d on e = e
 stays_sent s sent (op.Start v timeout repeat) id kept d on e = e
@@ -599,7 +585,7 @@ has_left (x ∷ ids) off id e = at (has_id off x) refl e (has_left ids off id) w
   at : (b : Bool) → has_id off x ≡ b → has_id (if not b then x ∷ left_of ids off else left_of ids off) id ≡ true →
       (has_id (left_of ids off) id ≡ true → (has_id ids id ≡ true) × (has_id off id ≡ false)) →
       ((same_id x id || has_id ids id) ≡ true) × (has_id off id ≡ false)
-  at true f g rest = let k = rest g in (either_right (same_id x id) (has_id ids id) k.0, k.1)
+  at true f g rest = let k = rest g in (or_right (same_id x id) (has_id ids id) k.0, k.1)
   at false f g rest = by (same_id x id) refl g where
     by : (c : Bool) → same_id x id ≡ c → (c || has_id (left_of ids off) id) ≡ true → ((c || has_id ids id) ≡ true) × (has_id off id ≡ false)
     by true h l = (refl, ap (has_id off) (sym (same x id h)) ∙ f)

@@ -1,5 +1,6 @@
 -- What a worker may do by the pool's rules it may do as the next step.
 use Rattle.std.proofs.Common.{◌≡◌, ℕ, List, [], ◌∷◌, ◌++◌, Bool, true, false, cond, Option, Some, None, Ok, Err, slice_get, refl, ap, sym, ◌∙◌, append_assoc}
+use Rattle.uv_work.proofs.Replays.{events_both}
 use Rattle.uv_ids.specs.declared.id.Id.{Id}
 use Rattle.uv_ids.specs.declared.event.Event.{Event}
 use Rattle.uv_ids.specs.declared.event.Event.TheVariants.{Take, Finish}
@@ -61,12 +62,8 @@ unfolding replay
 legal_after p es x h = (
   h.0,
   sym (ap (λ (o : Option Pool). after_events o (x ∷ [])) (pools p es))
-      ∙ sym (events_more (Some (empty_pool (worker_count p))) (pool_events p (lines p es)) (x ∷ [])) ∙ h.1,
+      ∙ sym (events_both (Some (empty_pool (worker_count p))) (pool_events p (lines p es)) (x ∷ [])) ∙ h.1,
 )
-  where
-    events_more : (o : Option Pool) (xs ys : List PoolEvent) → after_events o (xs ++ ys) ≡ after_events (after_events o xs) ys
-    events_more o [] ys = refl
-    events_more o (y ∷ xs) ys = events_more (then_event o y) xs ys
 
 -- a request that is open is held
 open_held : (s : State) (id : Id) → Working s → has_id (s.waiting ++ run_ids s.running) id ≡ true →

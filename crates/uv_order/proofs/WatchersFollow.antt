@@ -1,6 +1,6 @@
 -- The sections of watchers, of async handles and of closing ones: each step goes on from where the state stands.
 use Rattle.std.proofs.Common.{◌≡◌, ◌||◌, Bool, true, false, subst, List, [], ◌∷◌, ◌++◌, drop, Option, None, refl, ap, sym, ◌∙◌, append_assoc, if◌then◌else◌}
-use Rattle.std.proofs.lemmas.Bool.{cond_both, both_ways}
+use Rattle.std.proofs.lemmas.Bool.{cond_both, both_ways, or_right, false_from_ne_true}
 use Rattle.std.specs.Prelude.{not, option_map}
 use Rattle.uv_ids.specs.declared.id.Id.{Id}
 use Rattle.uv_ids.specs.declared.phase.Kind.TheVariants as kind
@@ -42,7 +42,7 @@ use Rattle.uv_order.proofs.Keeping.{Kept, Watches, Closes, members}
 use Rattle.uv_order.proofs.KeptSteps.{FrontOf, front_of, no_front}
 use Rattle.uv_order.proofs.Lives.{may_wait_is}
 use Rattle.uv_order.proofs.Counted.{Counted}
-use Rattle.uv_order.proofs.Sends.{pends, pends_in, pends_there, SentAt, either_right, pass_both, pass_off}
+use Rattle.uv_order.proofs.Sends.{pends, pends_in, pends_there, SentAt, pass_both, pass_off}
 use Rattle.uv_order.proofs.Standing.{begun_with, async_with, rest, Leaves, NobodyLeft, Follows, IsNext, async_next, async_moved, prepare_next, poll_next, check_next, closing_next, are_timers, are_active, are_closing, idle, prepare, polls, done, async, check, closing, running}
 use Rattle.uv_order.proofs.TimersFollow.{turn_follows, named_of, next_of, call_counted, its_body, called}
 
@@ -371,17 +371,14 @@ in_front s ids t f = ap (λ (is : List Id). has_id is t.0) f.are ∙ rw (itself 
 
 in_all : (s : State) (ids : List Id) (t : Id × HandleRecord) (id : Id) → FrontOf s ids t → has_id (drop 1 ids) id ≡ true → has_id ids id ≡ true
 in_all s ids t id f e = ap (λ (is : List Id). has_id is id) f.are
-    ∙ either_right (same_id t.0 id) (has_id f.rest id) (ap (λ (is : List Id). has_id is id) (sym f.behind) ∙ e)
+    ∙ or_right (same_id t.0 id) (has_id f.rest id) (ap (λ (is : List Id). has_id is id) (sym f.behind) ∙ e)
 
 apart : (s : State) (ids : List Id) (t : Id × HandleRecord) (id : Id) → FrontOf s ids t → AreDistinct ids → has_id (drop 1 ids) id ≡ true →
     same_id id t.0 ≡ false
-apart s ids t id f d e = at (same_id id t.0) refl where
-  at : (b : Bool) → same_id id t.0 ≡ b → b ≡ false
-  at true g =
-      let once : AreDistinct (t.0 ∷ f.rest) = subst AreDistinct f.are d in
-      let here : has_id f.rest t.0 ≡ true = ap (has_id f.rest) (sym (same id t.0 g)) ∙ ap (λ (is : List Id). has_id is id) (sym f.behind) ∙ e in
-      absurd (both_ways (has_id f.rest t.0) once.0 here)
-  at false g = refl
+apart s ids t id f d e = false_from_ne_true (same_id id t.0) (λ g.
+    let once : AreDistinct (t.0 ∷ f.rest) = subst AreDistinct f.are d in
+    let here : has_id f.rest t.0 ≡ true = ap (has_id f.rest) (sym (same id t.0 g)) ∙ ap (λ (is : List Id). has_id is id) (sym f.behind) ∙ e in
+    both_ways (has_id f.rest t.0) once.0 here)
 
 -- the front, where it isn't pending, wasn't sent to before the section began
 not_sent : (slots : List (Slot Content)) (w : Walk) (t : Id × HandleRecord) → t.1.pending ≡ false → pends slots t.0 ≡ t.1.pending →

@@ -1,7 +1,7 @@
 -- What the lines of a trace tell of requests, and how each change keeps it.
 use Rattle.std.proofs.Common.{◌≡◌, ◌⊎◌, inl, inr, ℕ, ◌||◌, List, ◌∷◌, Bool, true, false, Option, Some, None, option_map, refl, ap, sym, subst, ◌∙◌, if◌then◌else◌}
-use Rattle.std.proofs.lemmas.Bool.{both_ways}
-use Rattle.std.proofs.lemmas.Option.{same_Some}
+use Rattle.std.proofs.lemmas.Bool.{both_ways, or_cases, false_from_ne_true}
+use Rattle.std.proofs.lemmas.Option.{same_Some, none-some}
 use Rattle.uv_ids.specs.declared.id.Id.{Id}
 use Rattle.uv_ids.specs.declared.id.Var.{Var}
 use Rattle.uv_ids.specs.declared.code.Answer.TheVariants as answer
@@ -56,9 +56,6 @@ pub record Worked (p : Program) (past : List Seen) (arena : Slots Content) (wait
   pub cancelled : (id : Id) → has_cancel_line p past id ≡ true → queued_task p past id ≡ None → ⊥
   pub uncancelled : (id : Id) → has_id waiting id ≡ true → has_cancel_line p past id ≡ false
 
-none_is_none : {X : Type 0} (x : X) → ◌≡◌ {A = Option X} None (Some x) → ⊥
-none_is_none x e = cc e
-
 -- a held request isn't gone
 not_gone : (arena : Slots Content) (id : Id) (r : Request) → held arena.slots id ≡ Some (content.Request r) → IsGone arena.slots arena.free id → ⊥
 not_gone arena id r e g = not_held arena.slots arena.free id (content.Request r) g e
@@ -66,16 +63,9 @@ not_gone arena id r e g = not_held arena.slots arena.free id (content.Request r)
 -- so it has had no after callback
 pub not_called : (p : Program) (past : List Seen) (arena : Slots Content) (waiting runs : List Id) (id : Id) (r : Request) →
     held arena.slots id ≡ Some (content.Request r) → Worked p past arena waiting runs → has_after_line past id ≡ false
-not_called p past arena waiting runs id r e k = at (has_after_line past id) refl where
-  at : (b : Bool) → has_after_line past id ≡ b → b ≡ false
-  at true h = absurd (not_gone arena id r e (k.over id h))
-  at false h = refl
+not_called p past arena waiting runs id r e k = false_from_ne_true (has_after_line past id) (λ h. not_gone arena id r e (k.over id h))
 
 -- ---- lines
-
-either : (a b : Bool) → (a || b) ≡ true → (a ≡ true) ⊎ (b ≡ true)
-either true b e = inl refl
-either false b e = inr e
 
 -- a line that tells nothing of requests, but of the cancel of those that this says
 pub record Tells (p : Program) (l : Seen) (told : Id → Bool) : Type 0 where
@@ -101,7 +91,7 @@ worked_told p past l arena waiting runs told q were away k = record {
   waits = λ id e. same_take id ∙ k.waits id e;
   runs_now = λ id e. let r = k.runs_now id e in (same_take id ∙ r.0, same_finish id ∙ r.1);
   ended = λ id r e. ends id r.task r.outcome (k.ended id r e);
-  cancelled = λ id e f. cancelled id (either (told id) (has_cancel_line p past id) (sym (or_cancel id) ∙ e)) (sym (same_task id) ∙ f);
+  cancelled = λ id e f. cancelled id (or_cases (told id) (has_cancel_line p past id) (sym (or_cancel id) ∙ e)) (sym (same_task id) ∙ f);
   uncancelled = λ id e. or_cancel id ∙ rw (away id e, k.uncancelled id e) refl;
 } where
   or_cancel : (id : Id) → has_cancel_line p (l ∷ past) id ≡ (told id || has_cancel_line p past id)
@@ -221,7 +211,7 @@ worked_taken p past arena waiting runs rest more n v id r holds opened waits few
   queued = k.queued;
   known = k.known;
   over = k.over;
-  taken = λ i e f. taken i (either (same_id id i) (has_take_line past i) e) f;
+  taken = λ i e f. taken i (or_cases (same_id id i) (has_take_line past i) e) f;
   finished = λ i e. rw (k.finished i e) (either_true (same_id id i));
   waits = λ i e. let w = fewer i e in rw (w.1, k.waits i w.0) refl;
   runs_now = λ i e. runs_now i (most i e);
@@ -235,15 +225,14 @@ worked_taken p past arena waiting runs rest more n v id r holds opened waits few
 
   taken : (i : Id) → (same_id id i ≡ true) ⊎ (has_take_line past i ≡ true) → queued_task p past i ≡ None → ⊥
   taken i (inl s) f =
-      none_is_none r.task (sym f ∙ ap (queued_task p past) (sym (same id i s)) ∙ k.queued id r holds)
+      none-some r.task (sym f ∙ ap (queued_task p past) (sym (same id i s)) ∙ k.queued id r holds)
   taken i (inr e) f = k.taken i e f
 
-  unfinished : (b : Bool) → has_finish_line past id ≡ b → b ≡ false
-  unfinished true e = absurd (both_ways (has_take_line past id) (k.waits id waits) (k.finished id e))
-  unfinished false e = refl
+  unfinished : has_finish_line past id ≡ false
+  unfinished = false_from_ne_true (has_finish_line past id) (λ e. both_ways (has_take_line past id) (k.waits id waits) (k.finished id e))
 
   runs_now : (i : Id) → (id ≡ i) ⊎ (has_id runs i ≡ true) → ((same_id id i || has_take_line past i) ≡ true) × (has_finish_line past i ≡ false)
-  runs_now i (inl is) = (rw (itself id i is) refl, ap (has_finish_line past) (sym is) ∙ unfinished (has_finish_line past id) refl)
+  runs_now i (inl is) = (rw (itself id i is) refl, ap (has_finish_line past) (sym is) ∙ unfinished)
   runs_now i (inr e) = let was = k.runs_now i e in (rw was.0 (either_true (same_id id i)), was.1)
 
   ends : (i : Id) (y : Request) → asked_at arena.slots i ≡ Some y → (o : Outcome) → y.outcome ≡ o → EndsTrue past i y.task o →
@@ -269,7 +258,7 @@ worked_finished p past arena waiting runs few n v id on fewer k = record {
   known = k.known;
   over = k.over;
   taken = k.taken;
-  finished = λ i e. finished i (either (same_id id i) (has_finish_line past i) e);
+  finished = λ i e. finished i (or_cases (same_id id i) (has_finish_line past i) e);
   waits = k.waits;
   runs_now = λ i e. let f = fewer i e in let was = k.runs_now i f.0 in (was.0, rw (f.1, was.1) refl);
   ended = λ i y e. ends i y.task y.outcome (k.ended i y e);
@@ -320,12 +309,11 @@ worked_queued p past place v task arena more waiting runs listed id e t fresh mo
   never None f = refl
   never (Some x) f = absurd (at (k.known id x f)) where
     at : IsAsked arena id ⊎ IsGone arena.slots arena.free id → ⊥
-    at (inl a) = none_is_none a.request (sym (ap request_in t.before) ∙ a.holds)
+    at (inl a) = none-some a.request (sym (ap request_in t.before) ∙ a.holds)
     at (inr g) = fresh g
 
-  untaken : (b : Bool) → has_take_line past id ≡ b → b ≡ false
-  untaken true h = absurd (k.taken id h (never (queued_task p past id) refl))
-  untaken false h = refl
+  untaken : has_take_line past id ≡ false
+  untaken = false_from_ne_true (has_take_line past id) (λ h. k.taken id h (never (queued_task p past id) refl))
 
   still_none : (i : Id) → first_of (if same_id id i then Some task else None) (queued_task p past i) ≡ None → queued_task p past i ≡ None
   still_none i f = at (same_id id i) f where
@@ -350,16 +338,15 @@ worked_queued p past place v task arena more waiting runs listed id e t fresh mo
     at (inl a) = inl (record { request = a.request; holds = ap request_in (t.others i (other i id (turned i id ∙ s))) ∙ a.holds })
     at (inr g) = inr (gone i g)
 
-  unasked : (b : Bool) → has_cancel_line p past id ≡ b → b ≡ false
-  unasked true h = absurd (k.cancelled id h (never (queued_task p past id) refl))
-  unasked false h = refl
+  unasked : has_cancel_line p past id ≡ false
+  unasked = false_from_ne_true (has_cancel_line p past id) (λ h. k.cancelled id h (never (queued_task p past id) refl))
 
   uncancelled : (i : Id) → (id ≡ i) ⊎ (has_id waiting i ≡ true) → has_cancel_line p past i ≡ false
-  uncancelled i (inl is) = ap (has_cancel_line p past) (sym is) ∙ unasked (has_cancel_line p past id) refl
+  uncancelled i (inl is) = ap (has_cancel_line p past) (sym is) ∙ unasked
   uncancelled i (inr h) = k.uncancelled i h
 
   waits : (i : Id) → (id ≡ i) ⊎ (has_id waiting i ≡ true) → has_take_line past i ≡ false
-  waits i (inl is) = ap (has_take_line past) (sym is) ∙ untaken (has_take_line past id) refl
+  waits i (inl is) = ap (has_take_line past) (sym is) ∙ untaken
   waits i (inr h) = k.waits i h
 
   ended_now : (i : Id) (y : Request) → asked_at more.slots i ≡ Some y → (b : Bool) → same_id i id ≡ b →
@@ -379,7 +366,7 @@ pub worked_collected : (p : Program) (past : List Seen) (arena more : Slots Cont
 worked_collected p past arena more waiting runs digest v id r t now gone k = record {
   queued = λ i y e. k.queued i y (earlier i y e);
   known = λ i x e. later i (same_id i id) refl (k.known i x e);
-  over = λ i e. over i (either (same_id id i) (has_after_line past i) e);
+  over = λ i e. over i (or_cases (same_id id i) (has_after_line past i) e);
   taken = k.taken;
   finished = k.finished;
   waits = k.waits;
@@ -391,7 +378,7 @@ worked_collected p past arena more waiting runs digest v id r t now gone k = rec
   earlier : (i : Id) (y : Request) → asked_at more.slots i ≡ Some y → asked_at arena.slots i ≡ Some y
   earlier i y e = at (same_id i id) refl where
     at : (b : Bool) → same_id i id ≡ b → asked_at arena.slots i ≡ Some y
-    at true s = absurd (none_is_none y (sym (ap request_in t.here) ∙ ap (asked_at more.slots) (sym (same i id s)) ∙ e))
+    at true s = absurd (none-some y (sym (ap request_in t.here) ∙ ap (asked_at more.slots) (sym (same i id s)) ∙ e))
     at false s = sym (ap request_in (t.others i (other i id s))) ∙ e
 
   later : (i : Id) (b : Bool) → same_id i id ≡ b → IsAsked arena i ⊎ IsGone arena.slots arena.free i → IsAsked more i ⊎ IsGone more.slots more.free i

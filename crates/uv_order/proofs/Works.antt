@@ -2,7 +2,7 @@
 -- request is held.
 use Rattle.std.proofs.Common.{◌≡◌, ℕ, zero, suc, ◌||◌, List, [], ◌∷◌, ◌++◌, Bool, true, false, Option, Some, None, slice_get, slice_set, replicate, refl, ap, sym, subst, ◌∙◌, append_assoc, append-nil}
 use Rattle.std.specs.List.{list_any}
-use Rattle.std.proofs.lemmas.Bool.{both_ways, or_parts}
+use Rattle.std.proofs.lemmas.Bool.{both_ways, or_parts, false_from_ne_true}
 use Rattle.std.proofs.lemmas.Option.{same_Some}
 use Rattle.uv_ids.specs.declared.id.Id.{Id}
 use Rattle.uv_records.specs.declared.handle.HandleRecord.{HandleRecord}
@@ -16,7 +16,7 @@ use Rattle.uv_model.specs.declared.request.Request.{Request}
 use Rattle.uv_model.specs.Content.{request_in}
 use Rattle.uv_model.specs.Ids.{same_id, without_id}
 use Rattle.uv_order.specs.Active.{has_id, AreDistinct, run_ids}
-use Rattle.uv_order.proofs.IdLists.{same, other, itself, turned, has_new_middle, distinct_middle, distinct_but, without_absent}
+use Rattle.uv_order.proofs.IdLists.{same, other, itself, turned, has_new_middle, distinct_middle, distinct_but, without_absent, distinct_front}
 use Rattle.uv_order.proofs.Contents.{Turns}
 use Rattle.uv_order.proofs.Holding.{held_at, put, put_turns}
 
@@ -79,10 +79,10 @@ has_middle (x ∷ xs) ys id i d = ap (λ (b : Bool). same_id x i || b) (has_midd
 -- where none stands twice, it stands nowhere else
 pub once_middle : (xs ys : List Id) (id : Id) → AreDistinct (xs ++ id ∷ ys) → has_id (xs ++ ys) id ≡ false
 once_middle [] ys id d = d.0
-once_middle (x ∷ xs) ys id d = rw (apart (same_id x id) refl, once_middle xs ys id d.1) refl where
-  apart : (b : Bool) → same_id x id ≡ b → same_id x id ≡ false
-  apart false s = s
-  apart true s = absurd (both_ways (has_id (xs ++ id ∷ ys) x) d.0 (ap (has_id (xs ++ id ∷ ys)) (same x id s) ∙ has_new_middle xs ys id))
+once_middle (x ∷ xs) ys id d = rw (apart, once_middle xs ys id d.1) refl where
+  apart : same_id x id ≡ false
+  apart = false_from_ne_true (same_id x id) (λ s.
+      both_ways (has_id (xs ++ id ∷ ys) x) d.0 (ap (has_id (xs ++ id ∷ ys)) (same x id s) ∙ has_new_middle xs ys id))
 
 -- one that doesn't fit any more leaves
 pub less_middle : (slots more : List (Slot Content)) (P : Request → Type 0) (id : Id) (was is : Option Content) (xs ys : List Id) →
@@ -107,11 +107,10 @@ pub more_middle : (slots more : List (Slot Content)) (P : Request → Type 0) (i
 more_middle slots more P id was is r xs ys t d e f k = record {
   each = λ i h. each i h (same_id i id) refl;
   all = λ i a. all i a (same_id i id) refl;
-  distinct = distinct_middle xs ys id k.distinct (new (has_id (xs ++ ys) id) refl);
+  distinct = distinct_middle xs ys id k.distinct new;
 } where
-  new : (b : Bool) → has_id (xs ++ ys) id ≡ b → b ≡ false
-  new true h = let a = k.each id h in absurd (d a.request (sym (ap request_in t.before) ∙ a.holds) a.fits)
-  new false h = refl
+  new : has_id (xs ++ ys) id ≡ false
+  new = false_from_ne_true (has_id (xs ++ ys) id) (λ h. let a = k.each id h in d a.request (sym (ap request_in t.before) ∙ a.holds) a.fits)
 
   its : Asks more P id
   its = record { request = r; holds = ap request_in t.here ∙ e; fits = f }
@@ -176,10 +175,10 @@ splits (x ∷ ids) id e = at (same_id id x) refl e (splits ids id) where
 -- the list without it
 pub without_middle : (xs ys : List Id) (id : Id) → AreDistinct (xs ++ id ∷ ys) → without_id (xs ++ id ∷ ys) id ≡ xs ++ ys
 without_middle [] ys id d = rw (itself id id refl) (without_absent ys id d.0)
-without_middle (x ∷ xs) ys id d = rw (apart (same_id x id) refl) (ap (λ (is : List Id). x ∷ is) (without_middle xs ys id d.1)) where
-  apart : (b : Bool) → same_id x id ≡ b → same_id x id ≡ false
-  apart false s = s
-  apart true s = absurd (both_ways (has_id (xs ++ id ∷ ys) x) d.0 (ap (has_id (xs ++ id ∷ ys)) (same x id s) ∙ has_new_middle xs ys id))
+without_middle (x ∷ xs) ys id d = rw apart (ap (λ (is : List Id). x ∷ is) (without_middle xs ys id d.1)) where
+  apart : same_id x id ≡ false
+  apart = false_from_ne_true (same_id x id) (λ s.
+      both_ways (has_id (xs ++ id ∷ ys) x) d.0 (ap (has_id (xs ++ id ∷ ys)) (same x id s) ∙ has_new_middle xs ys id))
 
 -- ---- the workers
 
@@ -299,7 +298,7 @@ works_cancelled slots more waiting running done id r x t on over k =
     let all : (waiting ++ runs) ≡ s.front ++ id ∷ (s.behind ++ runs) =
     ap (λ (ids : List Id). ids ++ runs) s.are ∙ append_assoc s.front (id ∷ s.behind) runs in
     let listed : AllAsk slots IsOpen (s.front ++ id ∷ (s.behind ++ runs)) = subst (AllAsk slots IsOpen) all k.open_ones in
-    let apart : AreDistinct (s.front ++ id ∷ s.behind) = subst AreDistinct s.are (distinct_first waiting runs k.open_ones.distinct) in
+    let apart : AreDistinct (s.front ++ id ∷ s.behind) = subst AreDistinct s.are (distinct_front waiting runs k.open_ones.distinct) in
     let left : without_id waiting id ≡ s.front ++ s.behind =
     ap (λ (ids : List Id). without_id ids id) s.are ∙ without_middle s.front s.behind id apart in
     let opened = its_open slots (s.front ++ id ∷ (s.behind ++ runs)) id r (ap request_in t.before) (has_new_middle s.front (s.behind ++ runs) id)
@@ -310,13 +309,6 @@ works_cancelled slots more waiting running done id r x t on over k =
           (request_fits_not IsOpen x (λ o. open_over x o over)) listed);
       ended = ended_by slots more done id r x t opened over k.ended;
     }
-  where
-    distinct_first : (xs ys : List Id) → AreDistinct (xs ++ ys) → AreDistinct xs
-    distinct_first [] ys d = tt
-    distinct_first (z ∷ xs) ys d = (away xs ys z d.0, distinct_first xs ys d.1) where
-      away : (us vs : List Id) (i : Id) → has_id (us ++ vs) i ≡ false → has_id us i ≡ false
-      away [] vs i e = refl
-      away (u ∷ us) vs i e = let parts = or_parts (same_id u i) (has_id (us ++ vs) i) e in rw (parts.0, away us vs i parts.1) refl
 
 -- a worker takes the one that waits longest
 pub works_taken : (slots : List (Slot Content)) (id : Id) (rest : List Id) (running : List (Option Id)) (done : Walk Id) (k : ℕ) →

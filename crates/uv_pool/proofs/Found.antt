@@ -1,5 +1,6 @@
 -- What the place of a request says of the pool.
 use Rattle.std.proofs.Common.{◌+◌, ◌<◌, ◌≤◌, ◌⊎◌, length, ◌≡◌, ◌-◌, ◌||◌, ℕ, zero, suc, List, [], ◌∷◌, Bool, true, false, Option, Some, None, cond, map, set, slice_get, inl, inr, refl, ap, sym, ◌∙◌, arith}
+use Rattle.std.proofs.lemmas.Bool.{or_right}
 use Rattle.std.specs.List.{list_any}
 use Rattle.uv_ids.specs.declared.id.Id.{Id}
 use Rattle.uv_work.specs.Ids.{same_id}
@@ -108,21 +109,17 @@ waits_there r n id h =
     let t = job_test (at_number r.first r.waiting n) id h in
     wait_any r.waiting id ∙ any_some (job_is id) r.first r.waiting n t.0 t.1 t.2
 
-or_true : (a b : Bool) → b ≡ true → (a || b) ≡ true
-or_true true b h = refl
-or_true false b h = h
-
 pub has_there : (r : Rows) (p : Place) (id : Id) → id_at r p ≡ Some id → has (pool_in r) id ≡ true
 has_there r (place.Waiting n) id h = rw (waits_there r n id h) refl
 has_there r (place.Running k) id h =
     let t = job_test (slice_get r.running k) id h in
     let e : runs (pool_in r).running id ≡ true = run_any r.running id ∙ any_some (job_is id) 0 r.running k t.0 t.1 t.2 in
-    or_true (waits (pool_in r).waiting id) (runs (pool_in r).running id || is_done (pool_in r).done id) (rw e refl)
+    or_right (waits (pool_in r).waiting id) (runs (pool_in r).running id || is_done (pool_in r).done id) (rw e refl)
 has_there r (place.Done n) id h =
     let t = done_test (at_number r.collected r.done n) id h in
     let e : is_done (pool_in r).done id ≡ true = done_any r.done id ∙ any_some (done_is id) r.collected r.done n t.0 t.1 t.2 in
-    or_true (waits (pool_in r).waiting id) (runs (pool_in r).running id || is_done (pool_in r).done id)
-    (or_true (runs (pool_in r).running id) (is_done (pool_in r).done id) e)
+    or_right (waits (pool_in r).waiting id) (runs (pool_in r).running id || is_done (pool_in r).done id)
+    (or_right (runs (pool_in r).running id) (is_done (pool_in r).done id) e)
 
 -- one that stands elsewhere doesn't wait
 pub elsewhere_waits : (r : Rows) (at : Id → Option Place) (p : Place) (id : Id) → IsIndexed r at → id_at r p ≡ Some id

@@ -12,7 +12,7 @@ use Rattle.uv_arena.proofs.Walk.{few}
 use Rattle.uv_work.specs.Requests.{Request}
 use Rattle.uv_work.specs.Pool.{busy}
 use Rattle.uv_requests.specs.Working.{Working, id_in, done_in, IsHeld, IsRun, IsWork}
-use Rattle.uv_requests.proofs.Frames.{end_held}
+use Rattle.uv_requests.proofs.Beside.{end_held}
 use Rattle.uv_requests.proofs.Holding.{content_of, held_id, one_held, not_both, member, list_apart}
 
 -- ---- the slots of the requests that run
@@ -94,6 +94,6 @@ module _ {X : Type 0} (read : X → Option Request) (w : Working X) (s : IsSound
   pool_fits =
       let most = few (members i Waiting ++ (ends ++ runs)) (length i.memory.row.items) apart all_below in
       let one = length-append (members i Waiting) (ends ++ runs) in let two = length-append ends runs in
-      let three = run_length w.running.workers in let four = length-map (members i Waiting) (id_in i) in let five = length-map ends (done_in read i) in
-      let within = s.linked.within in let under = s.linked.few in let count = h.count in
+      let three = run_length w.running.workers in let four = length-map (members i Waiting) (id_in i) in
+      let five = length-map ends (done_in read i) in let within = s.linked.within in let under = s.linked.few in let count = h.count in
       omega (arith, most, one, two, three, four, five, within, under, count)

@@ -14,12 +14,11 @@ use Rattle.uv_arena.specs.Calls.{IsFirst, IsUnlinked, IsRemoved, IsSpliced}
 pub use Rattle.uv_arena.proofs.Contents.{freed_slot}
 use Rattle.uv_arena.proofs.Contents.{past_end}
 use Rattle.uv_work.specs.Requests.{Request}
-use Rattle.uv_work.specs.Pool.{Pool, Done}
+use Rattle.uv_work.specs.Pool.{Done}
 use Rattle.uv_requests.specs.Working.{Running, working, request_in, done_in, pool_of, IsWork}
 use Rattle.uv_requests.specs.Undo.{with_count, begin_undone, collect_undone}
 use Rattle.uv_requests.specs.Calls.{IsBegun, IsCollected}
-use Rattle.uv_requests.proofs.Beside.{beside}
-use Rattle.uv_requests.proofs.Frames.{Leaves, pool_now, work_now, ends_stay, run_elsewhere}
+use Rattle.uv_requests.proofs.Beside.{beside, Leaves, pool_now, work_now, ends_stay, run_elsewhere}
 use Rattle.uv_requests.proofs.Holding.{listed_id, front_held}
 use Rattle.uv_requests.proofs.Rules.{collect_rule, collect_size}
 
@@ -34,8 +33,8 @@ begin_done {read = read} {i = i} {j = j} {r = r} {u = u} w empty sp = record {
   slots = sp.slots;
   kept = sp.kept;
   work = same.1;
-  undone = back;
-  can_undo = record { spliced = sp.can_undo; work = subst (IsWork read) (sym back) w };
+  undone = ap (λ z. working z r) sp.undone;
+  can_undo = record { spliced = sp.can_undo; work = subst (IsWork read) (ap (λ z. working z r) (sym sp.undone)) w };
 } where
   none : (e : Id) → e.slot ≡ length i.memory.row.items → request_in read i e ≡ None
   none e s = ap (option_and_then read) (past_end (held_slots i.memory) e (s ∙ sym (length-map i.memory.row.items (λ c. c.slot))))
@@ -45,24 +44,21 @@ begin_done {read = read} {i = i} {j = j} {r = r} {u = u} w empty sp = record {
       (λ e s. ap (option_and_then read) (sp.slots.contents e) ∙ none e s) (sp.others Waiting (λ e. cc) (λ e. cc))
       ((λ l. sp.moved l ++ sp.rest (λ e. cc) l) ∙ append-nil (members i Ended) ∙ ap (λ ys. ys ++ members i Ended) (sym empty))
 
-  back : begin_undone u (working j r) ≡ working i r
-  back = ap (λ z. working z r) sp.undone
-
 -- a request is collected: it is off its list, and its slot is freed
-pub collect_done : {X : Type 0} {read : X → Option Request} {make : Request → X} {i a j : Image X} {d : Id} {from : Request} {t : Place} {u : RemoveUndo}
-    {r : Running} → IsWork read (working i r) → request_in read i d ≡ Some from → IsFirst i EndedYet d → IsUnlinked i a d t
+pub collect_done : {X : Type 0} {read : X → Option Request} {make : Request → X} {i a j : Image X} {d : Id} {from : Request} {t : Place}
+    {u : RemoveUndo} {r : Running} → IsWork read (working i r) → request_in read i d ≡ Some from → IsFirst i EndedYet d → IsUnlinked i a d t
     → IsRemoved a j d (make from) u
     → IsCollected read make (working i r) (working j (with_count (r.count - 1) r)) d from (record { unlinked = t; removed = u; count = r.count })
 collect_done {X = X} {read = read} {make = make} {i = i} {a = a} {j = j} {d = d} {from = from} {t = t} {u = u} {r = r} w there f un rem = record {
-  rule = collect_rule before d (done_in read i d.slot) rest (listed_id i d f.listed.held) was_done ∙ ap Some (sym (pool_now w left));
+  rule = collect_rule (pool_of read (working i r)) d (done_in read i d.slot) rest (listed_id i d f.listed.held) was_done ∙ ap Some (sym (pool_now w left));
   first = f;
   was = there;
   plain = rem.plain ∙ (λ l. plain.freed ((ap (λ (z : Image X). z.last) un.undone) l) d (un.slots.plain l));
-  yet = yet_now;
+  yet = rem.lists EndedYet ∙ un.lists EndedYet ∙ f.after;
   others = others;
   contents = left.same;
   kept = left.kept;
-  work = work_now w left (let less = collect_size before d (done_in read i d.slot) rest (listed_id i d f.listed.held) was_done in
+  work = work_now w left (let less = collect_size (pool_of read (working i r)) d (done_in read i d.slot) rest (listed_id i d f.listed.held) was_done in
       let was = w.count in omega (arith, less, was));
   undone = back;
   can_undo = record {
@@ -71,17 +67,11 @@ collect_done {X = X} {read = read} {make = make} {i = i} {a = a} {j = j} {d = d}
     work = subst (IsWork read) (sym back) w;
   };
 } where
-  before : Pool
-  before = pool_of read (working i r)
-
   rest : List Done
   rest = map (done_in read i) (f.rest ++ members i Ended)
 
   others : (l : ListName) → l ≢ EndedYet → members j l ≡ members i l
   others l n = rem.lists l ∙ un.lists l ∙ f.others l n
-
-  yet_now : members j EndedYet ≡ f.rest
-  yet_now = rem.lists EndedYet ∙ un.lists EndedYet ∙ f.after
 
   left : Leaves read i j r (with_count (r.count - 1) r) d 0 (members i Waiting) (f.rest ++ members i Ended) false false (done_in read j d.slot)
   left = record {
@@ -90,7 +80,7 @@ collect_done {X = X} {read = read} {make = make} {i = i} {a = a} {j = j} {d = d}
     wait_is = f.others Waiting (λ e. cc);
     ends_is = ends_stay i d f.after (f.others Ended (λ e. cc));
     waiting = others Waiting (λ e. cc);
-    ended = λ l. yet_now l ++ others Ended (λ e. cc) l;
+    ended = λ l. (rem.lists EndedYet ∙ un.lists EndedYet ∙ f.after) l ++ others Ended (λ e. cc) l;
     waits = λ e. cc;
     is_done = λ e. cc;
     listed = λ e s h on.
@@ -99,7 +89,7 @@ collect_done {X = X} {read = read} {make = make} {i = i} {a = a} {j = j} {d = d}
     runs = λ c e g. inr (run_elsewhere read i d false (front_held read i EndedYet d false f w.yet) f.listed.listed e (w.running c e g), g);
   }
 
-  was_done : before.done ≡ done_in read i d.slot ∷ rest
+  was_done : (pool_of read (working i r)).done ≡ done_in read i d.slot ∷ rest
   was_done = ap (λ ys. map (done_in read i) (ys ++ members i Ended)) f.is
 
   back : collect_undone make (record { unlinked = t; removed = u; count = r.count }) from (working j (with_count (r.count - 1) r)) ≡ working i r

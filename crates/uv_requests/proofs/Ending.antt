@@ -20,13 +20,13 @@ use Rattle.uv_arena.proofs.Readings.{apart_from}
 use Rattle.uv_work.specs.Ids.{same_id}
 use Rattle.uv_work.specs.Work.{Work}
 use Rattle.uv_work.specs.Requests.{Request, is_open, is_finished, ended, finished, cancelled, reopened, job_of, cancel_refusal}
-use Rattle.uv_work.specs.Pool.{Pool, waits, without}
+use Rattle.uv_work.specs.Pool.{waits, without}
 use Rattle.uv_work.specs.declared.outcome.Outcome.{Outcome}
 use Rattle.uv_work.specs.declared.outcome.Outcome.TheVariants.{Open, Finished, Cancelled}
 use Rattle.uv_requests.specs.Working.{Running, working, found, id_in, request_in, done_in, was_finished, pool_of, IsHeld, IsRun, IsWork}
 use Rattle.uv_requests.specs.Undo.{with_run, reopened_by, reopened_in, finish_undone, cancel_undone, CanReopen}
 use Rattle.uv_requests.specs.Calls.{IsFinished, IsCancelled}
-use Rattle.uv_requests.proofs.Frames.{Leaves, pool_now, work_now, ends_stay, run_elsewhere}
+use Rattle.uv_requests.proofs.Beside.{Leaves, pool_now, work_now, ends_stay, run_elsewhere}
 use Rattle.uv_requests.proofs.Holding.{held_id, one_held, not_both, member, list_apart}
 use Rattle.uv_requests.proofs.Rules.{not_same, none_of, waits_in, without_in, finish_rule, finish_size, cancel_rule, cancel_size}
 
@@ -105,70 +105,72 @@ pub finish_done : {X : Type 0} {read : X → Option Request} {make : Request →
     → slice_get r.workers c ≡ Some (Some d) → request_in read i d ≡ Some from → IsSet i k d (make (finished digest from)) (make from)
     → IsPushed k j Ended d (members k Ended ++ d.slot ∷ []) → job_of d from ≡ asked
     → IsFinished read make (working i r) (working j (with_run c None r)) c d asked digest (record { worker = c; id = d })
-finish_done {read = read} {make = make} {i = i} {k = k} {j = j} {d = d} {from = from} {digest = digest} {c = c} {r = r} gives_back s w runs there set p job = record {
-  rule = finish_rule (pool_of read (working i r)) c d runs ∙ ap Some (sym (pool_now w frame));
-  from = from;
-  was = there;
-  job = job;
-  runs = runs;
-  running = refl;
-  plain = p.slots.plain ∙ set.plain;
-  request = request_now ends;
-  done = p.lists ∙ ap (λ xs. xs ++ d.slot ∷ []) (set.lists Ended);
-  listed = p.listed;
-  others = λ l n. p.others l n ∙ set.lists l;
-  contents = frame.same;
-  kept = frame.kept;
-  work = work_now w frame (w.count ∙ sym (finish_size (pool_of read (working i r)) c d runs));
-  undone = back;
-  can_undo = record {
-    worker = let within = slice_get_within r.workers c (Some d) runs in let long = length-set r.workers c None in omega (arith, within, long);
-    pushed = p.can_undo;
-    reopened = can_reopen ends;
-    work = subst (IsWork read) (sym back) w;
-  };
-} where
-  run : IsRun read i d
-  run = w.running c d runs
+finish_done {read = read} {make = make} {i = i} {k = k} {j = j} {d = d} {from = from} {digest = digest} {c = c} {r = r} gives_back s w runs
+    there set p job = record {
+      rule = finish_rule (pool_of read (working i r)) c d runs ∙ ap Some (sym (pool_now w frame));
+      from = from;
+      was = there;
+      job = job;
+      runs = runs;
+      running = refl;
+      plain = p.slots.plain ∙ set.plain;
+      request = request_now ends;
+      done = p.lists ∙ ap (λ xs. xs ++ d.slot ∷ []) (set.lists Ended);
+      listed = p.listed;
+      others = λ l n. p.others l n ∙ set.lists l;
+      contents = frame.same;
+      kept = frame.kept;
+      work = work_now w frame (w.count ∙ sym (finish_size (pool_of read (working i r)) c d runs));
+      undone = back;
+      can_undo = record {
+        worker = let within = slice_get_within r.workers c (Some d) runs in let long = length-set r.workers c None in omega (arith, within, long);
+        pushed = p.can_undo;
+        reopened = can_reopen ends;
+        work = subst (IsWork read) (sym back) w;
+      };
+    } where
+      run : IsRun read i d
+      run = w.running c d runs
 
-  opened : is_open from.outcome ≡ true
-  opened =
-      let same : run.request.request ≡ from = cc (run.request.is, there) in
-      subst (λ (q : Request). is_open q.outcome ≡ true) same run.request.outcome
+      opened : is_open from.outcome ≡ true
+      opened = let same : run.request.request ≡ from = cc (run.request.is, there) in rw same at run.request.outcome
 
-  ends : Ends read make i k j d from (Finished digest)
-  ends = record { gives_back = gives_back; opened = opened; closed = refl; set = set; pushed = p }
+      ends : Ends read make i k j d from (Finished digest)
+      ends = record { gives_back = gives_back; opened = opened; closed = refl; set = set; pushed = p }
 
-  loose : (l : ListName) → slots_without eqb (members i l) d.slot ≡ members i l
-  loose = apart_from i s d (let x = content_of read i d from there in ap is_some x.1) run.loose
+      loose : (l : ListName) → slots_without eqb (members i l) d.slot ≡ members i l
+      loose = apart_from i s d (let x = content_of read i d from there in ap is_some x.1) run.loose
 
-  -- what a worker runs still, it ran before, and it isn't this one
-  ran : (b : ℕ) (e : Id) → slice_get (with_run c None r).workers b ≡ Some (Some e) → (e.slot ≢ d.slot) × (slice_get r.workers b ≡ Some (Some e))
-  ran b e g = elim (eqb_tells b c) [
-    | inl y ↦ cc (set_here r.workers c (Some d) None runs, ap (slice_get (with_run c None r).workers) y.1, g)
-    | inr n ↦
-        let was = sym (set_there r.workers c b None n.1) ∙ g in (
-          (λ y. let one = one_held read i d e true true run.request (w.running b e was).request y in
-              n.1 (w.apart b c d (was ∙ ap (λ z. Some (Some z)) one) runs)),
-          was,
-        )
-  ]
+      -- what a worker runs still, it ran before, and it isn't this one
+      ran : (b : ℕ) (e : Id) → slice_get (with_run c None r).workers b ≡ Some (Some e) → (e.slot ≢ d.slot) × (slice_get r.workers b ≡ Some (Some e))
+      ran b e g = elim (eqb_tells b c) [
+        | inl y ↦ cc (set_here r.workers c (Some d) None runs, ap (slice_get (with_run c None r).workers) y.1, g)
+        | inr n ↦
+            let was = sym (set_there r.workers c b None n.1) ∙ g in (
+              (λ y. let one = one_held read i d e true true run.request (w.running b e was).request y in
+                  n.1 (w.apart b c d (was ∙ ap (λ z. Some (Some z)) one) runs)),
+              was,
+            )
+      ]
 
-  frame : Leaves read i j r (with_run c None r) d c (members i Waiting) (members i EndedYet ++ members i Ended) false true (record { id = d; finished = true })
-  frame = left ends i (λ e. refl) (λ e n. refl) (λ l. sym (loose l)) (λ l n. loose l) (loose Waiting) ran
+      frame : Leaves read i j r (with_run c None r) d c (members i Waiting) (members i EndedYet ++ members i Ended) false true (record {
+        id = d;
+        finished = true;
+      })
+      frame = left ends i (λ e. refl) (λ e n. refl) (λ l. sym (loose l)) (λ l n. loose l) (loose Waiting) ran
 
-  back : finish_undone read make (record { worker = c; id = d }) (working j (with_run c None r)) ≡ working i r
-  back = λ l. record {
-    arena = reopened_back ends l;
-    running = record { workers = set_back r.workers c (Some d) None runs l; count = r.count };
-  }
+      back : finish_undone read make (record { worker = c; id = d }) (working j (with_run c None r)) ≡ working i r
+      back = λ l. record {
+        arena = reopened_back ends l;
+        running = record { workers = set_back r.workers c (Some d) None runs l; count = r.count };
+      }
 
 -- a request that waits is cancelled
-pub cancel_done : {X : Type 0} {read : X → Option Request} {make : Request → X} {i a k j : Image X} {d : Id} {from : Request} {t : Place} {r : Running}
-    → IsSound i → IsWork read (working i r) → request_in read i d ≡ Some from → on_list i d ≡ true → IsUnlinked i a d t
+pub cancel_done : {X : Type 0} {read : X → Option Request} {make : Request → X} {i a k j : Image X} {d : Id} {from : Request} {t : Place}
+    {r : Running} → IsSound i → IsWork read (working i r) → request_in read i d ≡ Some from → on_list i d ≡ true → IsUnlinked i a d t
     → Ends read make a k j d from Cancelled → IsCancelled read make (working i r) (working j r) d (record { id = d; unlinked = t })
 cancel_done {X = X} {read = read} {make = make} {i = i} {a = a} {k = k} {j = j} {d = d} {from = from} {t = t} {r = r} s w there on un f = record {
-  rule = cancel_rule pool d (map (id_in i) rest) waits_was without_was ∙ ap Some (sym (pool_now w frame));
+  rule = cancel_rule (pool_of read (working i r)) d (map (id_in i) rest) waits_was without_was ∙ ap Some (sym (pool_now w frame));
   from = from;
   was = there;
   running = refl;
@@ -182,7 +184,7 @@ cancel_done {X = X} {read = read} {make = make} {i = i} {a = a} {k = k} {j = j} 
   others = λ l n m. others f i un.slots.contents un.kept un.lists stay l m ∙ stay l n;
   contents = frame.same;
   kept = frame.kept;
-  work = work_now w frame (w.count ∙ sym (cancel_size pool d (map (id_in i) rest) waits_was without_was));
+  work = work_now w frame (w.count ∙ sym (cancel_size (pool_of read (working i r)) d (map (id_in i) rest) waits_was without_was));
   undone = back;
   can_undo = record {
     pushed = f.pushed.can_undo;
@@ -191,31 +193,25 @@ cancel_done {X = X} {read = read} {make = make} {i = i} {a = a} {k = k} {j = j} 
     work = subst (IsWork read) (sym back) w;
   };
 } where
-  pool : Pool
-  pool = pool_of read (working i r)
-
   rest : List ℕ
   rest = slots_without eqb (members i Waiting) d.slot
 
   held_open : IsHeld read i d true
   held_open = record { request = from; is = there; outcome = f.opened }
 
-  waited : IsIn d.slot (members i Waiting)
-  waited = w.listed d held_open on
-
   stay : (l : ListName) → l ≢ Waiting → slots_without eqb (members i l) d.slot ≡ members i l
-  stay l n = without_none (members i l) d.slot (λ m. one_list i s l Waiting d.slot m waited n)
+  stay l n = without_none (members i l) d.slot (λ m. one_list i s l Waiting d.slot m (w.listed d held_open on) n)
 
   frame : Leaves read i j r r d 0 rest (members i EndedYet ++ members i Ended) false true (record { id = d; finished = false })
   frame = left f i un.slots.contents un.kept un.lists stay refl
       (λ b e g. (run_elsewhere read i d true held_open on e (w.running b e g), g))
 
-  waits_was : waits pool.waiting d ≡ true
-  waits_was = subst (λ e. waits pool.waiting e ≡ true) (held_id read i d true held_open)
-      (waits_in (id_in i) d.slot (members i Waiting) waited)
+  waits_was : waits (pool_of read (working i r)).waiting d ≡ true
+  waits_was = subst (λ e. waits (pool_of read (working i r)).waiting e ≡ true) (held_id read i d true held_open)
+      (waits_in (id_in i) d.slot (members i Waiting) (w.listed d held_open on))
 
-  without_was : without pool.waiting d ≡ map (id_in i) rest
-  without_was = subst (λ e. without pool.waiting e ≡ map (id_in i) rest) (held_id read i d true held_open)
+  without_was : without (pool_of read (working i r)).waiting d ≡ map (id_in i) rest
+  without_was = subst (λ e. without (pool_of read (working i r)).waiting e ≡ map (id_in i) rest) (held_id read i d true held_open)
       (without_in (id_in i) d.slot (members i Waiting) (list_apart i s Waiting) (λ y e. ap (λ (z : Id). z.slot) e))
 
   back : cancel_undone read make (record { id = d; unlinked = t }) (working j r) ≡ working i r

@@ -2,7 +2,6 @@ pub mod Beside
 pub mod Bounds
 pub mod Collected
 pub mod Ending
-pub mod Frames
 pub mod Fresh
 pub mod Holding
 pub mod Opened

@@ -15,15 +15,14 @@ use Rattle.uv_work.specs.Requests.{Request, is_open}
 use Rattle.uv_requests.specs.Working.{Running, working, id_in, request_in, done_in, pool_of, IsHeld, IsRun, IsWork}
 use Rattle.uv_requests.specs.Undo.{with_count, with_run, queue_undone, take_undone}
 use Rattle.uv_requests.specs.Calls.{IsQueued, IsTaken}
-use Rattle.uv_requests.proofs.Beside.{elsewhere, none_waits, none_ends, not_in, none_before}
 use Rattle.uv_requests.proofs.Bounds.{pool_fits}
-use Rattle.uv_requests.proofs.Frames.{Leaves, pool_now, work_now, ends_stay, run_elsewhere}
+use Rattle.uv_requests.proofs.Beside.{Leaves, pool_now, work_now, ends_stay, run_elsewhere, elsewhere, none_waits, none_ends, not_in, none_before}
 use Rattle.uv_requests.proofs.Holding.{listed_id, one_held, front_held}
 use Rattle.uv_requests.proofs.Rules.{queue_rule, queue_size, take_rule, take_size}
 
 -- a request is put in a new slot, and behind those that wait; and its count fits
-pub queue_done : {X : Type 0} {read : X → Option Request} {make : Request → X} {i k j : Image X} {d : Id} {req : Request} {u : InsertUndo} {r : Running}
-    → ((q : Request) → read (make q) ≡ Some q) → IsWork read (working i r) → is_open req.outcome ≡ true → IsInserted i k (make req) d u
+pub queue_done : {X : Type 0} {read : X → Option Request} {make : Request → X} {i k j : Image X} {d : Id} {req : Request} {u : InsertUndo}
+    {r : Running} → ((q : Request) → read (make q) ≡ Some q) → IsWork read (working i r) → is_open req.outcome ≡ true → IsInserted i k (make req) d u
     → IsPushed k j Waiting d (members k Waiting ++ d.slot ∷ [])
     → IsQueued read make (working i r) (working j (with_count (r.count + 1) r)) req d (record { inserted = u; count = r.count })
     × (IsSound j → r.count + 1 < 4294967296)
@@ -54,7 +53,8 @@ queue_done {read = read} {make = make} {i = i} {k = k} {j = j} {d = d} {req = re
   request_now : request_in read j d ≡ Some req
   request_now = ap (option_and_then read) (p.slots.contents d ∙ put.now) ∙ gives_back req
 
-  left : Leaves read i j r (with_count (r.count + 1) r) d 0 (members i Waiting) (members i EndedYet ++ members i Ended) true false (done_in read j d.slot)
+  left : Leaves read i j r (with_count (r.count + 1) r) d 0 (members i Waiting) (members i EndedYet ++ members i Ended) true false
+      (done_in read j d.slot)
   left = record {
     same = λ e n. p.slots.contents e ∙ put.contents e n;
     kept = λ e n. p.kept e n ∙ put.kept e n;

@@ -1,5 +1,6 @@
 -- The rules of the pool, where its lists are known, and how many requests are in it.
 use Rattle.std.proofs.Common.{◌≡◌, ℕ, suc, ◌+◌, ◌||◌, Bool, true, false, cond, eqb, List, [], ◌∷◌, ◌++◌, map, length, set, slice_get, Option, Some, None, refl, sym, ap, ◌∙◌, subst, inl, inr, arith, length-append}
+use Rattle.std.proofs.lemmas.Bool.{false_from_ne_true}
 use Rattle.std.specs.List.{list_any}
 use Rattle.std.proofs.Math.Bool.{or-true}
 use Rattle.std.proofs.lemmas.Bool.Decides.{eqb_tells}
@@ -14,10 +15,7 @@ use Rattle.uv_work.proofs.Counts.{busy_set_some, busy_set_none, without_one}
 use Rattle.uv_work.proofs.Replays.{same_itself, same_when}
 
 pub not_same : (a b : Id) → (a ≡ b → ⊥) → same_id a b ≡ false
-not_same a b n = at (same_id a b) refl where
-  at : (x : Bool) → same_id a b ≡ x → same_id a b ≡ false
-  at true e = absurd (n (same_when a b e))
-  at false e = e
+not_same a b n = false_from_ne_true (same_id a b) (λ e. n (same_when a b e))
 
 -- ---- who is in the pool
 

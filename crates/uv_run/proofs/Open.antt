@@ -1,5 +1,6 @@
 -- How many requests are open by the pool's events: as many as were queued, and neither finished nor cancelled.
 use Rattle.std.proofs.Common.{◌≡◌, ◌∙◌, ℕ, zero, suc, ◌+◌, Bool, true, false, cond, List, [], ◌∷◌, ◌++◌, length, nat_lt, slice_get, slice_set, Option, Some, None, refl, sym, ap, arith, length-append}
+use Rattle.uv_live.proofs.Entered.{is_true}
 use Rattle.std.specs.List.{count_by}
 use Rattle.std.proofs.lemmas.Bool.Decides.{nat_tests}
 use Rattle.std.proofs.lemmas.List.Sums.{sum_by-cons}
@@ -15,10 +16,6 @@ use Rattle.uv_run.specs.Counts.{is_queue, is_end}
 is_it : (b : Bool) (x y : Pool) → cond b (Some x) None ≡ Some y → x ≡ y
 is_it true x y h = cc
 is_it false x y h = cc
-
-is_so : (b : Bool) (x y : Pool) → cond b (Some x) None ≡ Some y → b ≡ true
-is_so true x y h = refl
-is_so false x y h = cc
 
 is_not : (b : Bool) (x y : Pool) → cond b None (Some x) ≡ Some y → x ≡ y
 is_not true x y h = cc
@@ -60,7 +57,7 @@ finishes p q k id (Some (Some x)) r h =
 cancels : (p q : Pool) (id : Id) → after_event p (event.Cancel id) ≡ Some q → open_in p ≡ open_in q + 1
 cancels p q id h =
     let same = is_it (waits p.waiting id) _ q h in
-    let less = without_one p.waiting id (is_so (waits p.waiting id) _ q h) in
+    let less = without_one p.waiting id (is_true (waits p.waiting id) _ q h) in
     let opened : open_in p ≡ (length (without p.waiting id) + busy p.running) + 1 = omega (arith, less) in
     opened ∙ ap (λ (u : Pool). open_in u + 1) same
 

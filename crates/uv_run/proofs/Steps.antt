@@ -1,7 +1,7 @@
 -- What one step more does to what a live run sees of a session.
 use Rattle.std.proofs.Common.{◌≡◌, ℕ, ◌+◌, List, [], ◌∷◌, ◌++◌, length, nat_lt, nat_le, ◌<◌, ◌≤◌, take, Option, Some, None, Result, Ok, Err, refl, ap, sym, subst, ◌∙◌, append_assoc, append-nil, slice_get}
 use Rattle.std.proofs.lemmas.Bool.{cond_both}
-use Rattle.std.proofs.lemmas.Option.{slice_get_within}
+use Rattle.std.proofs.lemmas.Option.{slice_get_within, none-some}
 use Rattle.std.specs.Prelude.{option_to_list}
 use Rattle.std.specs.List.{flat_map}
 use Rattle.uv_ids.specs.declared.id.Id.{Id}
@@ -100,10 +100,8 @@ ended_stage s (stage.Timers part _) e = cc e
 
 ended_run : (p : Program) (s : State) (run : Run) (body : Option Body) → refusal_of (step.run_step p s run body) ≡ Some Ended → ⊥
 ended_run p s run None e = ended_stage s run.stage (sym (stage_moves p s run run.stage) ∙ e)
-ended_run p s run (Some body) e = absurd (none_is (sym (body_moves p s run body (slice_get (lines_in p body.callback body.name) body.next)) ∙ e))
-  where
-    none_is : ◌≡◌ {A = Option Why} None (Some Ended) → ⊥
-    none_is f = cc f
+ended_run p s run (Some body) e =
+    absurd (none-some Ended (sym (body_moves p s run body (slice_get (lines_in p body.callback body.name) body.next)) ∙ e))
 
 -- only the place decides whether the loop is at its end
 ended_at : (p : Program) (s t : State) (x : Place) → refusal_of (step.loop_step p s x) ≡ Some Ended →
@@ -112,9 +110,7 @@ ended_at p s t (Main line) e = at (slice_get p.main line) e where
   at : (o : Option MainOp) → refusal_of (step.main_step (order_of p) s line o) ≡ Some Ended →
       refusal_of (step.main_step (order_of p) t line o) ≡ Some Ended
   at None f = refl
-  at (Some o) f = absurd (none_is (sym (main_moves (order_of p) s line o) ∙ f)) where
-    none_is : ◌≡◌ {A = Option Why} None (Some Ended) → ⊥
-    none_is g = cc g
+  at (Some o) f = absurd (none-some Ended (sym (main_moves (order_of p) s line o) ∙ f))
 ended_at p s t (Running run) e = absurd (ended_run p s run run.body e)
 
 ended_stays : (p : Program) (s t : State) → t.place ≡ s.place → refusal_of (next p s Loop) ≡ Some Ended → refusal_of (next p t Loop) ≡ Some Ended

@@ -21,11 +21,12 @@ same_when a b h = at (a.slot == b.slot) refl (a.generation == b.generation) refl
   at true e false f h' = cc
   at false e y f h' = cc
 
-events_more : (p : Option Pool) (log : List PoolEvent) (e : PoolEvent) → after_events p (log ++ e ∷ []) ≡ then_event (after_events p log) e
-events_more p [] e = refl
-events_more p (x ∷ log) e = events_more (then_event p x) log e
+-- the events of two logs, one after the other
+pub events_both : (p : Option Pool) (log more : List PoolEvent) → after_events p (log ++ more) ≡ after_events (after_events p log) more
+events_both p [] more = refl
+events_both p (x ∷ log) more = events_both (then_event p x) log more
 
 -- one entry more
 pub replay_more : (workers : ℕ) (log : List PoolEvent) (e : PoolEvent) → replay workers (log ++ e ∷ []) ≡ then_event (replay workers log) e
 unfolding replay
-replay_more workers log e = events_more (Some (empty_pool workers)) log e
+replay_more workers log e = events_both (Some (empty_pool workers)) log (e ∷ [])
