@@ -110,8 +110,11 @@ impl Machine for ArenaLoop {
         if self.steps.is_empty() {
             return Ok(false);
         }
-        let step_record = self.steps.pop();
-        self.memory.unwind(&step_record);
+        let last = self.steps.pop();
+        match &last {
+            Some(step_record) => self.memory.unwind(step_record),
+            None => unreachable!(),
+        }
         Ok(true)
     }
 

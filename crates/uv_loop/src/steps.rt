@@ -1,5 +1,5 @@
 //! The steps that stand.
-ghost use Rattle.std.specs.Prelude.{◌≡◌, ◌<◌, ◌++◌, ◌∷◌, [], OnOk, IsTrue, IsFalse, length, take};
+ghost use Rattle.std.specs.Prelude.{◌≡◌, ◌<◌, ◌++◌, [], OnOk, IfNone, IsTrue, IsFalse, length, option_to_list, take};
 ghost use Rattle.uv_loop.specs.Taken.{HasRoom, AreSame, IsOneMore};
 
 use std::alloc::{AllocError, Global};
@@ -52,18 +52,14 @@ impl<P: Copy> Steps<P> {
         self.trail.len() == 0
     }
 
-    /// The last one goes: what takes it back.
-    pub(crate) fn pop(&mut self) -> Record<P>
-        requires { 0 < length self.old.trail.records }
-        ensures records { self.old.trail.records ≡ self.new.trail.records ++ result ∷ [] }
+    /// The last one goes, if there is one: what takes it back.
+    pub(crate) fn pop(&mut self) -> Option<Record<P>>
+        ensures records { self.old.trail.records ≡ self.new.trail.records ++ option_to_list result }
         ensures seen { self.new.seen.items ≡ take (length self.new.trail.records) self.old.seen.items }
+        ensures none { IfNone result (self.old.trail.records ≡ []) }
     {
-        match self.trail.pop() {
-            None => unreachable!(),
-            Some(last) => {
-                self.seen.truncate(self.trail.len());
-                last
-            }
-        }
+        let last = self.trail.pop();
+        self.seen.truncate(self.trail.len());
+        last
     }
 }

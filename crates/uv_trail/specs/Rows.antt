@@ -1,5 +1,5 @@
 -- Steps over two rows: which change is whose.
-use Rattle.std.specs.Prelude.{◌≡◌, ℕ, suc, List, [], ◌∷◌, map, length}
+use Rattle.std.specs.Prelude.{◌≡◌, ◌<◌, ℕ, suc, List, [], ◌∷◌, ◌++◌, map, length}
 use Rattle.uv_step.specs.declared.record.Naming.{Naming}
 use Rattle.uv_step.specs.declared.record.Change.{Change}
 use Rattle.uv_step.specs.declared.record.Record.{Record}
@@ -56,3 +56,15 @@ module _ {P : Type 0} where
   records_of (OfMedium place naming ∷ steps) (m ∷ ms) ls = recorded place naming (change_of m) ∷ records_of steps ms ls
   records_of (OfLarge place naming ∷ steps) ms [] = []
   records_of (OfLarge place naming ∷ steps) ms (l ∷ ls) = recorded place naming l ∷ records_of steps ms ls
+
+-- a change that lies there, and the two rows before it and with it
+abbrev pub Adds : Change → Lies → List Medium → List Medium → List Change → List Change → Type 0
+Adds c (Beside d) ms ns ks ls = (d ≡ c) × (ns ≡ ms) × (ls ≡ ks)
+Adds c AmongMediums ms ns ks ls = (m : Medium) × (change_of m ≡ c) × (ns ≡ ms ++ m ∷ []) × (ls ≡ ks)
+Adds c AmongLarges ms ns ks ls = (ns ≡ ms) × (ls ≡ ks ++ c ∷ [])
+
+-- where a change lies in a row, that has one
+abbrev pub HasOne : Lies → List Medium → List Change → Type 0
+HasOne (Beside c) ms ks = Unit {0}
+HasOne AmongMediums ms ks = 0 < length ms
+HasOne AmongLarges ms ks = 0 < length ks

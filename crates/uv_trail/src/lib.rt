@@ -4,6 +4,7 @@
 
 mod head;
 mod medium;
+mod rows;
 mod small;
 mod trail;
 

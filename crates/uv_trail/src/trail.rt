@@ -1,9 +1,9 @@
 //! The records of the steps that stand.
 ghost use Rattle.std.specs.Prelude.{◌≡◌, ◌<◌, ◌≤◌, ◌+◌, ◌++◌, ◌∷◌, [], OnOk, OnErr, IfNone, length, option_to_list};
 
-use crate::head::{Head, head_of};
+use crate::head::Head;
 use crate::medium::Medium;
-use crate::small::{Lies, Small};
+use crate::rows::{put, take};
 use std::alloc::{AllocError, Global};
 use std::marker::Model;
 use uv_step::{Change, Record};
@@ -77,21 +77,16 @@ impl<P: Copy> Trail<P> {
         ensures records { self.new.records ≡ self.old.records ++ step_record.now ∷ [] }
         ensures room { self.old.room ≤ self.new.room + 1 }
     {
-        match Small::of(&step_record.change) {
-            Some(small) => self.heads.push_reserved(head_of(step_record, small)),
-            None => match Medium::of(&step_record.change) {
-                Some(medium) => {
-                    self.mediums.push_reserved(medium);
-                    self.heads
-                        .push_reserved(head_of(step_record, Small::InMedium));
-                }
-                None => {
-                    self.larges.push_reserved(step_record.change);
-                    self.heads
-                        .push_reserved(head_of(step_record, Small::InLarge));
-                }
-            },
-        }
+        let change = put(
+            &mut self.mediums,
+            &mut self.larges,
+            &step_record.change,
+        );
+        self.heads.push_reserved(Head {
+            place: step_record.place,
+            naming: step_record.naming,
+            change,
+        });
     }
 
     /// The last one goes, if there is one.
@@ -101,16 +96,11 @@ impl<P: Copy> Trail<P> {
         ensures room { self.old.room ≤ self.new.room }
     {
         let head = self.heads.pop()?;
-        match head.change.lies() {
-            Lies::Beside(change) => Some(head.record(change)),
-            Lies::AmongMediums => match self.mediums.pop() {
-                Some(medium) => Some(head.record(medium.change())),
-                None => unreachable!(),
-            },
-            Lies::AmongLarges => match self.larges.pop() {
-                Some(large) => Some(head.record(large)),
-                None => unreachable!(),
-            },
-        }
+        let change = take(&mut self.mediums, &mut self.larges, head.change);
+        Some(Record {
+            place: head.place,
+            naming: head.naming,
+            change,
+        })
     }
 }

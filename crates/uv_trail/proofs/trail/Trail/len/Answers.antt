@@ -1,5 +1,5 @@
 use Rattle.std.proofs.Common.{rules, ◌≡◌, sym, ap, ◌∙◌, length}
-use Rattle.uv_trail.proofs.Rows.{as_many}
+use Rattle.uv_trail.proofs.Longer.{as_many}
 use Rattle.uv_trail.proofs.trail.Trail.len.Goals as goal
 
 pub returns : goal.returns
