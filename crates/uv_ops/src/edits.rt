@@ -10,7 +10,7 @@ ghost use Rattle.uv_step.specs.Fit.{IsFit};
 ghost use Rattle.uv_step.specs.Image.{held};
 ghost use Rattle.uv_stands.specs.Doing.{Does, Performs, Returns};
 ghost use Rattle.uv_stands.specs.Stands.{StandsFor};
-ghost use Rattle.uv_ops.specs.Passed.{HasPassed};
+ghost use Rattle.uv_ops.specs.Passed.{HasPassed, answered};
 
 use uv_ids::{Answer, Code, Id, Var};
 use uv_model::Place;
@@ -30,32 +30,28 @@ pub(crate) fn edit(memory: &mut Memory<Place>, id: Id, from: HandleRecord, to: H
 }
 
 /// References a handle, or not (uv_ref, uv_unref).
-pub(crate) fn set_ref(memory: &mut Memory<Place>, name: Var, referenced: bool) -> Answer
+pub(crate) fn set_ref(
+    memory: &mut Memory<Place>,
+    name: Var,
+    referenced: bool,
+) -> Result<Answer, Code>
     requires { HasPassed memory.old }
     ensures returns { Returns memory.new.step_record (held memory.old) (held memory.new) }
     ensures does { Does (λ s. on_handle s (live_handle s name) no_refusal (set_referenced s referenced))
-        (held memory.old).image (held memory.new).image result }
+        (held memory.old).image (held memory.new).image (answered result) }
 {
-    match allowed(memory, name, Ask::Handle) {
-        Err(code) => Answer::Code(code),
-        Ok((id, handle)) => {
-            edit(memory, id, handle, handle.referenced_as(referenced));
-            Answer::Code(Code::Ok)
-        }
-    }
+    let (id, handle) = allowed(memory, name, Ask::Handle)?;
+    edit(memory, id, handle, handle.referenced_as(referenced));
+    Ok(Answer::Code(Code::Ok))
 }
 
 /// Gives a timer another repeat in ms (uv_timer_set_repeat).
-pub(crate) fn set_repeat(memory: &mut Memory<Place>, name: Var, repeat: u64) -> Answer
+pub(crate) fn set_repeat(memory: &mut Memory<Place>, name: Var, repeat: u64) -> Result<Answer, Code>
     requires { HasPassed memory.old }
     ensures returns { Returns memory.new.step_record (held memory.old) (held memory.new) }
-    ensures performs { Performs (op.SetRepeat name repeat) (held memory.old).image (held memory.new).image result }
+    ensures performs { Performs (op.SetRepeat name repeat) (held memory.old).image (held memory.new).image (answered result) }
 {
-    match allowed(memory, name, Ask::Timer) {
-        Err(code) => Answer::Code(code),
-        Ok((id, handle)) => {
-            edit(memory, id, handle, handle.repeating(repeat));
-            Answer::Code(Code::Ok)
-        }
-    }
+    let (id, handle) = allowed(memory, name, Ask::Timer)?;
+    edit(memory, id, handle, handle.repeating(repeat));
+    Ok(Answer::Code(Code::Ok))
 }

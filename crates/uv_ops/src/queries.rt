@@ -4,6 +4,7 @@ ghost use Rattle.uv_records.specs.Dues.{due_in};
 ghost use Rattle.uv_script.specs.declared.op.Op.TheVariants as op;
 ghost use Rattle.uv_step.specs.Image.{held};
 ghost use Rattle.uv_stands.specs.Doing.{Performs};
+ghost use Rattle.uv_ops.specs.Passed.{answered};
 
 use uv_ids::{Answer, Code, Var};
 use uv_model::Place;
@@ -12,33 +13,27 @@ use uv_stands::{Ask, allowed, backend_timeout, is_in_use};
 use uv_step::Memory;
 
 /// Whether a handle is referenced (uv_has_ref).
-pub(crate) fn has_ref(memory: &Memory<Place>, name: Var) -> Answer
-    ensures { Performs (op.HasRef name) (held memory.now).image (held memory.now).image result }
+pub(crate) fn has_ref(memory: &Memory<Place>, name: Var) -> Result<Answer, Code>
+    ensures { Performs (op.HasRef name) (held memory.now).image (held memory.now).image (answered result) }
 {
-    match allowed(memory, name, Ask::Handle) {
-        Err(code) => Answer::Code(code),
-        Ok((_, handle)) => Answer::Flag(handle.referenced),
-    }
+    let (_, handle) = allowed(memory, name, Ask::Handle)?;
+    Ok(Answer::Flag(handle.referenced))
 }
 
 /// Whether a handle is active (uv_is_active).
-pub(crate) fn is_active(memory: &Memory<Place>, name: Var) -> Answer
-    ensures { Performs (op.IsActive name) (held memory.now).image (held memory.now).image result }
+pub(crate) fn is_active(memory: &Memory<Place>, name: Var) -> Result<Answer, Code>
+    ensures { Performs (op.IsActive name) (held memory.now).image (held memory.now).image (answered result) }
 {
-    match allowed(memory, name, Ask::Handle) {
-        Err(code) => Answer::Code(code),
-        Ok((_, handle)) => Answer::Flag(handle.active),
-    }
+    let (_, handle) = allowed(memory, name, Ask::Handle)?;
+    Ok(Answer::Flag(handle.active))
 }
 
 /// Whether a handle closes (uv_is_closing).
-pub(crate) fn is_closing(memory: &Memory<Place>, name: Var) -> Answer
-    ensures { Performs (op.IsClosing name) (held memory.now).image (held memory.now).image result }
+pub(crate) fn is_closing(memory: &Memory<Place>, name: Var) -> Result<Answer, Code>
+    ensures { Performs (op.IsClosing name) (held memory.now).image (held memory.now).image (answered result) }
 {
-    match allowed(memory, name, Ask::Handle) {
-        Err(code) => Answer::Code(code),
-        Ok((_, handle)) => Answer::Flag(handle.closing),
-    }
+    let (_, handle) = allowed(memory, name, Ask::Handle)?;
+    Ok(Answer::Flag(handle.closing))
 }
 
 /// In how many ms a timer is due: 0 where it is due already, and where it isn't active.
@@ -53,13 +48,11 @@ fn left_until_due(time: u64, handle: HandleRecord) -> u64
 }
 
 /// In how many ms a timer is due (uv_timer_get_due_in).
-pub(crate) fn due_in(memory: &Memory<Place>, name: Var) -> Answer
-    ensures { Performs (op.DueIn name) (held memory.now).image (held memory.now).image result }
+pub(crate) fn due_in(memory: &Memory<Place>, name: Var) -> Result<Answer, Code>
+    ensures { Performs (op.DueIn name) (held memory.now).image (held memory.now).image (answered result) }
 {
-    match allowed(memory, name, Ask::Timer) {
-        Err(code) => Answer::Code(code),
-        Ok((_, handle)) => Answer::Number(left_until_due(memory.times.time, handle)),
-    }
+    let (_, handle) = allowed(memory, name, Ask::Timer)?;
+    Ok(Answer::Number(left_until_due(memory.times.time, handle)))
 }
 
 /// The loop's time in ms (uv_now).

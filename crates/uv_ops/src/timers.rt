@@ -9,7 +9,7 @@ ghost use Rattle.uv_step.specs.Content.{handle_in};
 ghost use Rattle.uv_step.specs.Image.{held};
 ghost use Rattle.uv_stands.specs.Doing.{Does, Performs, Returns};
 ghost use Rattle.uv_stands.specs.Ready.{IsReady};
-ghost use Rattle.uv_ops.specs.Passed.{HasPassed};
+ghost use Rattle.uv_ops.specs.Passed.{HasPassed, answered};
 
 use crate::watchers::stop_watcher;
 use uv_ids::{Answer, Code, Id, Var};
@@ -20,33 +20,30 @@ use uv_step::Memory;
 use uv_timing::{close_handle, start_again, start_timer, stop_timer};
 
 /// Starts a timer; both times in ms (uv_timer_start).
-pub(crate) fn start(memory: &mut Memory<Place>, name: Var, timeout: u64, repeat: u64) -> Answer
+pub(crate) fn start(
+    memory: &mut Memory<Place>,
+    name: Var,
+    timeout: u64,
+    repeat: u64,
+) -> Result<Answer, Code>
     requires { HasPassed memory.old }
     ensures returns { Returns memory.new.step_record (held memory.old) (held memory.new) }
-    ensures performs { Performs (op.Start name timeout repeat) (held memory.old).image (held memory.new).image result }
+    ensures performs { Performs (op.Start name timeout repeat) (held memory.old).image (held memory.new).image (answered result) }
 {
-    match allowed(memory, name, Ask::StartTimer) {
-        Err(code) => Answer::Code(code),
-        Ok((id, handle)) => {
-            start_timer(memory, id, handle, timeout, repeat);
-            Answer::Code(Code::Ok)
-        }
-    }
+    let (id, handle) = allowed(memory, name, Ask::StartTimer)?;
+    start_timer(memory, id, handle, timeout, repeat);
+    Ok(Answer::Code(Code::Ok))
 }
 
 /// Stops a timer, and starts it again if it repeats (uv_timer_again).
-pub(crate) fn again(memory: &mut Memory<Place>, name: Var) -> Answer
+pub(crate) fn again(memory: &mut Memory<Place>, name: Var) -> Result<Answer, Code>
     requires { HasPassed memory.old }
     ensures returns { Returns memory.new.step_record (held memory.old) (held memory.new) }
-    ensures performs { Performs (op.Again name) (held memory.old).image (held memory.new).image result }
+    ensures performs { Performs (op.Again name) (held memory.old).image (held memory.new).image (answered result) }
 {
-    match allowed(memory, name, Ask::Again) {
-        Err(code) => Answer::Code(code),
-        Ok((id, handle)) => {
-            start_again(memory, id, handle);
-            Answer::Code(Code::Ok)
-        }
-    }
+    let (id, handle) = allowed(memory, name, Ask::Again)?;
+    start_again(memory, id, handle);
+    Ok(Answer::Code(Code::Ok))
 }
 
 /// Stops a handle of any kind.
@@ -64,31 +61,23 @@ fn stop_handle(memory: &mut Memory<Place>, id: Id, handle: HandleRecord)
 }
 
 /// Stops a handle (uv_timer_stop and the like).
-pub(crate) fn stop(memory: &mut Memory<Place>, name: Var) -> Answer
+pub(crate) fn stop(memory: &mut Memory<Place>, name: Var) -> Result<Answer, Code>
     requires { HasPassed memory.old }
     ensures returns { Returns memory.new.step_record (held memory.old) (held memory.new) }
-    ensures performs { Performs (op.Stop name) (held memory.old).image (held memory.new).image result }
+    ensures performs { Performs (op.Stop name) (held memory.old).image (held memory.new).image (answered result) }
 {
-    match allowed(memory, name, Ask::Stop) {
-        Err(code) => Answer::Code(code),
-        Ok((id, handle)) => {
-            stop_handle(memory, id, handle);
-            Answer::Code(Code::Ok)
-        }
-    }
+    let (id, handle) = allowed(memory, name, Ask::Stop)?;
+    stop_handle(memory, id, handle);
+    Ok(Answer::Code(Code::Ok))
 }
 
 /// Closes a handle (uv_close).
-pub(crate) fn close(memory: &mut Memory<Place>, name: Var) -> Answer
+pub(crate) fn close(memory: &mut Memory<Place>, name: Var) -> Result<Answer, Code>
     requires { HasPassed memory.old }
     ensures returns { Returns memory.new.step_record (held memory.old) (held memory.new) }
-    ensures performs { Performs (op.Close name) (held memory.old).image (held memory.new).image result }
+    ensures performs { Performs (op.Close name) (held memory.old).image (held memory.new).image (answered result) }
 {
-    match allowed(memory, name, Ask::Close) {
-        Err(code) => Answer::Code(code),
-        Ok((id, handle)) => {
-            close_handle(memory, id, handle);
-            Answer::Code(Code::Ok)
-        }
-    }
+    let (id, handle) = allowed(memory, name, Ask::Close)?;
+    close_handle(memory, id, handle);
+    Ok(Answer::Code(Code::Ok))
 }

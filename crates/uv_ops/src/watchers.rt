@@ -10,7 +10,7 @@ ghost use Rattle.uv_step.specs.Content.{handle_in};
 ghost use Rattle.uv_step.specs.Image.{held};
 ghost use Rattle.uv_stands.specs.Doing.{Does, Performs, Returns};
 ghost use Rattle.uv_stands.specs.Ready.{IsReady};
-ghost use Rattle.uv_ops.specs.Passed.{HasPassed};
+ghost use Rattle.uv_ops.specs.Passed.{HasPassed, answered};
 
 use uv_ids::{Answer, Code, Id, Var};
 use uv_model::Place;
@@ -19,20 +19,18 @@ use uv_stands::{Ask, allowed};
 use uv_step::Memory;
 
 /// Starts an idle, prepare or check handle, if it isn't active (uv_idle_start and the like).
-pub(crate) fn start_watcher(memory: &mut Memory<Place>, name: Var) -> Answer
+pub(crate) fn start_watcher(memory: &mut Memory<Place>, name: Var) -> Result<Answer, Code>
     requires { HasPassed memory.old }
     ensures returns { Returns memory.new.step_record (held memory.old) (held memory.new) }
-    ensures performs { Performs (op.StartWatcher name) (held memory.old).image (held memory.new).image result }
+    ensures performs { Performs (op.StartWatcher name) (held memory.old).image (held memory.new).image (answered result) }
 {
-    match allowed(memory, name, Ask::StartWatcher) {
-        Err(code) => Answer::Code(code),
-        Ok((_, handle)) if handle.active => Answer::Code(Code::Ok),
-        Ok((id, handle)) => {
-            memory.start_watcher(id, handle);
-            memory.slots.is_sound();
-            Answer::Code(Code::Ok)
-        }
+    let (id, handle) = allowed(memory, name, Ask::StartWatcher)?;
+    if handle.active {
+        return Ok(Answer::Code(Code::Ok));
     }
+    memory.start_watcher(id, handle);
+    memory.slots.is_sound();
+    Ok(Answer::Code(Code::Ok))
 }
 
 /// Stops a handle that is no timer (uv_idle_stop and the like).
