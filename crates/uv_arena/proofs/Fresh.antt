@@ -1,5 +1,6 @@
 -- An arena without slots, one slot more, and one less.
 use Rattle.std.proofs.Common.{◌≡◌, ℕ, zero, suc, ◌+◌, ◌-◌, ◌<◌, ◌^◌, ◌⊎◌, List, [], ◌∷◌, ◌++◌, length, take, replicate, slice_get, Option, Some, None, refl, sym, ap, ◌∙◌, subst, inl, inr, arith, length-append}
+use Rattle.std.proofs.lemmas.Grind.{elements}
 use Rattle.std.proofs.lemmas.List.{map-append}
 use Rattle.std.proofs.Math.Seq.{take-append_seam}
 use Rattle.uv_raw.specs.Row.{row}
@@ -11,9 +12,7 @@ use Rattle.uv_arena.specs.Image.{Memory, no_ends, chains, chain, grown, shrunk, 
 use Rattle.uv_arena.proofs.Walk.{walked, stands_walked}
 
 pub get_more : {A : Type 0} (xs : List A) (z : A) (j : ℕ) (x : A) → slice_get xs j ≡ Some x → slice_get (xs ++ z ∷ []) j ≡ Some x
-get_more [] z j x e = cc
-get_more (y ∷ ys) z zero x e = e
-get_more (y ∷ ys) z (suc j) x e = get_more ys z j x e
+get_more xs z j x e = grind (arith, elements)
 
 get_less : {A : Type 0} (xs : List A) (z : A) (j : ℕ) (x : A) → slice_get (xs ++ z ∷ []) j ≡ Some x → (slice_get xs j ≡ Some x) ⊎ (x ≡ z)
 get_less [] z zero x e = inr cc
@@ -22,15 +21,11 @@ get_less (y ∷ ys) z zero x e = inl e
 get_less (y ∷ ys) z (suc j) x e = get_less ys z j x e
 
 pub get_last : {A : Type 0} (xs : List A) (z : A) → slice_get (xs ++ z ∷ []) (length xs) ≡ Some z
-get_last [] z = refl
-get_last (y ∷ ys) z = get_last ys z
+get_last xs z = grind (arith, elements)
 
 -- other places read as before
 pub get_other : {A : Type 0} (xs : List A) (z : A) (j : ℕ) → (j ≡ length xs → ⊥) → slice_get (xs ++ z ∷ []) j ≡ slice_get xs j
-get_other [] z zero n = absurd (n refl)
-get_other [] z (suc j) n = refl
-get_other (y ∷ ys) z zero n = refl
-get_other (y ∷ ys) z (suc j) n = get_other ys z j (λ e. n (omega arith))
+get_other xs z j n = grind (arith, elements)
 
 get_same : {A : Type 0} (n j : ℕ) (x : A) → j < n → slice_get (replicate n x) j ≡ Some x
 get_same zero j x lt = absurd (omega arith)

@@ -1,5 +1,6 @@
 -- What is held under an id, and whether it is on a list.
 use Rattle.std.proofs.Common.{◌≡◌, ◌≢◌, ℕ, ◌<◌, Bool, true, false, ◌&&◌, eqb, eq-eqb, List, [], ◌∷◌, ◌++◌, slice_get, Option, Some, None, is_some, option_map, option_and_then, refl, sym, ap, ◌∙◌, inl, inr, arith, if◌then◌else◌, not}
+use Rattle.std.proofs.lemmas.Bool.{and_parts}
 use Rattle.std.proofs.lemmas.Bool.Decides.{eqb_tells}
 use Rattle.std.proofs.lemmas.Option.{slice_get-map}
 use Rattle.uv_ids.specs.declared.id.Id.{Id}
@@ -21,14 +22,6 @@ some_is (Some a) e = (a, refl)
 none_is : {A : Type 0} (o : Option A) → is_some o ≡ false → o ≡ None
 none_is None e = refl
 none_is (Some a) e = cc
-
-both_left : (a b : Bool) → (a && b) ≡ true → a ≡ true
-both_left true b e = refl
-both_left false b e = e
-
-both_right : (a b : Bool) → (a && b) ≡ true → b ≡ true
-both_right true b e = e
-both_right false b e = cc
 
 -- ---- a list without one of its members
 
@@ -104,9 +97,9 @@ module _ {X : Type 0} where
   -- a slot that is on a list is held there by its links
   pub is_on : (v : Image X) → IsSound v → (d : Id) → on_list v d ≡ true → IsThereOn v.memory d
   is_on v s d h =
-      let t = is_there v.memory d (both_left (is_some (held v d)) (is_some (links_at v.memory d.slot).list) h) in
+      let t = is_there v.memory d ((and_parts (is_some (held v d)) (is_some (links_at v.memory d.slot).list) h).0) in
       let on = some_is t.cell.links.list (ap (λ o. is_some (links_in o).list) (sym t.at)
-      ∙ both_right (is_some (held v d)) (is_some (links_at v.memory d.slot).list) h) in
+      ∙ (and_parts (is_some (held v d)) (is_some (links_at v.memory d.slot).list) h).1) in
       let lt = (placed v.memory s.linked on.0 d.slot t.cell t.at on.1).0 in
       let fit = s.fit d.slot t.cell t.at in
       let busy : on.0 ≢ FREE = λ e. cc (fit.free (on.1 ∙ ap Some e), t.holds) in

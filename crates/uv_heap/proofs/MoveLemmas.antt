@@ -225,10 +225,6 @@ raised-moved_down (suc n) xs i to p l = if_when (λ (m : Moved). raised m.place 
     ∙ ap (λ (k : ℕ). raised k (swap (swap xs i (lesser_child xs i)) (lesser_child xs i) k) k to) child.0
     ∙ ap (λ (ys : List Entry). raised i ys i to) (swap-swap xs i (lesser_child xs i) l within)) (λ _. refl)
 
-pub not_true : (b : Bool) → (b ≡ true → ⊥) → b ≡ false
-not_true true h = absurd (h refl)
-not_true false h = refl
-
 -- an entry settles up or down
 pub settled_up : (xs : List Entry) (i : ℕ) → must_rise xs i ≡ true → settled xs i ≡ moved_up i xs i
 unfolding settled

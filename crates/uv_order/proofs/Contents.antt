@@ -1,8 +1,9 @@
 -- What the slots hold, by their ids, and how one of them changes.
-use Rattle.std.proofs.Common.{◌≡◌, ℕ, zero, suc, ◌==◌, List, [], ◌∷◌, ◌++◌, Bool, true, false, cond, Option, Some, None, length, slice_get, slice_set, refl, ap, sym, ◌∙◌}
+use Rattle.std.proofs.Common.{◌≡◌, ℕ, zero, suc, ◌==◌, List, [], ◌∷◌, ◌++◌, Bool, true, false, cond, Option, Some, None, length, slice_get, slice_set, refl, ap, sym, ◌∙◌, arith}
+use Rattle.std.proofs.lemmas.Grind.{elements}
 use Rattle.std.specs.Prelude.{option_and_then}
 use Rattle.std.proofs.lemmas.Bool.{eq-eqb, eqb-true}
-use Rattle.std.proofs.lemmas.Option.{same_Some}
+use Rattle.std.proofs.lemmas.Option.{same_Some, slice_get_past}
 use Rattle.uv_ids.specs.declared.id.Id.{Id}
 use Rattle.uv_records.specs.declared.handle.HandleRecord.{HandleRecord}
 use Rattle.uv_records.specs.declared.slot.Slot.{Slot}
@@ -26,21 +27,13 @@ slot_with id c = record { generation = id.generation; content = c }
 
 pub get_set_same : (slots : List (Slot Content)) (i : ℕ) (x y : Slot Content) → slice_get slots i ≡ Some y → slice_get (slice_set slots i x) i ≡
     Some x
-get_set_same [] i x y e = cc e
-get_set_same (s ∷ slots) zero x y e = refl
-get_set_same (s ∷ slots) (suc i) x y e = get_set_same slots i x y e
+get_set_same slots i x y e = grind (arith, elements)
 
 pub get_set_other : (slots : List (Slot Content)) (i j : ℕ) (x : Slot Content) → (j ≡ i → ⊥) → slice_get (slice_set slots i x) j ≡ slice_get slots j
-get_set_other [] i j x d = refl
-get_set_other (s ∷ slots) zero zero x d = absurd (d refl)
-get_set_other (s ∷ slots) zero (suc j) x d = refl
-get_set_other (s ∷ slots) (suc i) zero x d = refl
-get_set_other (s ∷ slots) (suc i) (suc j) x d = get_set_other slots i j x (λ e. d (ap suc e))
+get_set_other slots i j x d = grind (arith, elements)
 
 pub get_push : (slots : List (Slot Content)) (x y : Slot Content) (i : ℕ) → slice_get slots i ≡ Some y → slice_get (slots ++ x ∷ []) i ≡ Some y
-get_push [] x y i e = cc e
-get_push (s ∷ slots) x y zero e = e
-get_push (s ∷ slots) x y (suc i) e = get_push slots x y i e
+get_push slots x y i e = grind (arith, elements)
 
 past_end : (slots : List (Slot Content)) (y z : Slot Content) (i : ℕ) → slice_get slots i ≡ None → slice_get (slots ++ y ∷ []) i ≡ Some z → (i ≡
     length slots) × (y ≡ z)
@@ -50,12 +43,10 @@ past_end (s ∷ slots) y z zero e f = cc e
 past_end (s ∷ slots) y z (suc i) e f = let rest = past_end slots y z i e f in (ap suc rest.0, rest.1)
 
 at_end : (slots : List (Slot Content)) (y : Slot Content) → slice_get (slots ++ y ∷ []) (length slots) ≡ Some y
-at_end [] y = refl
-at_end (s ∷ slots) y = at_end slots y
+at_end slots y = grind (arith, elements)
 
 none_at_end : (slots : List (Slot Content)) → slice_get slots (length slots) ≡ None
-none_at_end [] = refl
-none_at_end (s ∷ slots) = none_at_end slots
+none_at_end slots = slice_get_past slots (length slots) (omega arith)
 
 -- the slot of an id is there, with its generation
 pub record IsThere (slots : List (Slot Content)) (id : Id) : Type 0 where

@@ -1,5 +1,6 @@
 -- How often each name was called, as the lines tell it and as the state counts it.
 use Rattle.std.proofs.Common.{◌≡◌, inl, inr, ℕ, zero, suc, ◌+◌, ◌<◌, ◌≤◌, ◌==◌, List, [], ◌∷◌, length, Bool, true, false, Option, None, slice_get, slice_set, unwrap_or, replicate, refl, ap, sym, subst, ◌∙◌, arith}
+use Rattle.std.proofs.lemmas.Grind.{elements}
 use Rattle.std.proofs.lemmas.Bool.{eqb-true, eq-eqb, both_ways, cases_lt}
 use Rattle.uv_ids.specs.declared.id.Id.{Id}
 use Rattle.uv_ids.specs.declared.id.Var.{Var}
@@ -58,11 +59,7 @@ set_here (n ∷ names) zero x l = refl
 set_here (n ∷ names) (suc i) x l = set_here names i x (omega arith)
 
 pub set_there : (names : List Named) (i j : ℕ) (x : Named) → (j ≡ i → ⊥) → slice_get (slice_set names i x) j ≡ slice_get names j
-set_there [] i j x d = refl
-set_there (n ∷ names) zero zero x d = absurd (d refl)
-set_there (n ∷ names) zero (suc j) x d = refl
-set_there (n ∷ names) (suc i) zero x d = refl
-set_there (n ∷ names) (suc i) (suc j) x d = set_there names i j x (λ e. d (ap suc e))
+set_there names i j x d = grind (arith, elements)
 
 -- one call of a name's callback more is told, by the line of this id
 abbrev pub told_call : Callback → Var → Id → Told → Told

@@ -1,6 +1,7 @@
 -- Each line is the event of the thread pool that it says, by the rules of the pool.
 use Rattle.std.proofs.Common.{◌≡◌, ℕ, ◌+◌, ◌||◌, List, [], ◌∷◌, ◌++◌, map, Bool, true, false, Option, Some, None, Result, Ok, Err, drop, length, nat_le, nat_lt, slice_get, slice_set, option_map, refl, ap, sym, subst, ◌∙◌, append_assoc, append-nil}
-use Rattle.std.proofs.Math.Bool.{or_assoc, or_comm}
+use Rattle.std.proofs.lemmas.List.{map-append}
+use Rattle.std.proofs.Math.Bool.{or_assoc, or_comm, or-true}
 use Rattle.std.specs.List.{list_any}
 use Rattle.std.proofs.lemmas.Bool.{cond_both, both_ways, or_right, false_from_ne_true}
 use Rattle.std.proofs.lemmas.Option.{same_Some, none-some}
@@ -192,12 +193,8 @@ last_done : (s t : State) (id : Id) (b : Bool) → done_as t id ≡ record { id 
     map (done_as t) (s.done.yet ++ s.done.list) ≡ map (done_as s) (s.done.yet ++ s.done.list) →
     map (done_as t) (s.done.yet ++ (s.done.list ++ id ∷ [])) ≡ map (done_as s) (s.done.yet ++ s.done.list) ++ record { id = id; finished = b } ∷ []
 last_done s t id b e f =
-    ap (map (done_as t)) (sym (append_assoc s.done.yet s.done.list (id ∷ []))) ∙ map_more (s.done.yet ++ s.done.list)
+    ap (map (done_as t)) (sym (append_assoc s.done.yet s.done.list (id ∷ []))) ∙ map-append (done_as t) (s.done.yet ++ s.done.list) (id ∷ [])
     ∙ ap (λ (ds : List Ended). ds ++ done_as t id ∷ []) f ∙ ap (λ (d : Ended). map (done_as s) (s.done.yet ++ s.done.list) ++ d ∷ []) e
-  where
-    map_more : (ids : List Id) → map (done_as t) (ids ++ id ∷ []) ≡ map (done_as t) ids ++ done_as t id ∷ []
-    map_more [] = refl
-    map_more (x ∷ ids) = ap (λ (ds : List Ended). done_as t x ∷ ds) (map_more ids)
 
 its_outcome : (s t : State) (id : Id) (r x : Request) → Turns s.arena.slots t.arena.slots id (Some (content.Request r)) (Some (content.Request x)) →
     done_as t id ≡ record { id = id; finished = was_finished (Some x) }
@@ -244,17 +241,13 @@ finished_pool s n t f k =
     let turns = request_turns s.arena.slots t.0 t.1 x f.holds in
     let g = lets_go s.running n t.0 f.busy in
     let on : has_id (run_ids s.running) t.0 ≡ true = ap (λ (ids : List Id). has_id ids t.0) g.were ∙ has_new_middle g.front g.behind t.0 in
-    let asked = k.open_ones.each t.0 (has_both s.waiting (run_ids s.running) t.0 ∙ rw on (either_true (has_id s.waiting t.0))) in
+    let asked = k.open_ones.each t.0 (has_both s.waiting (run_ids s.running) t.0 ∙ rw on (or-true (has_id s.waiting t.0))) in
     let opened : is_open t.1.outcome ≡ true =
     ap (λ (r : Request). is_open r.outcome) (same_Some _ _ (sym (ap request_in f.holds) ∙ asked.holds)) ∙ asked.fits in
     let apart = apart_done s u t.0 (Some (content.Request t.1)) (Some (content.Request x)) turns
     (λ r h. ap (λ (y : Request). is_open y.outcome) (sym (same_Some _ _ h)) ∙ opened) k in
     rw f.busy (rw (itself t.0 t.0 refl)
     (ap Some (equal_pools _ _ _ _ _ _ refl refl (sym (last_done s u t.0 true (its_outcome s u t.0 t.1 x turns) apart)))))
-  where
-    either_true : (b : Bool) → (b || true) ≡ true
-    either_true true = refl
-    either_true false = refl
 
 -- the first of those that are done calls back
 collected_pool : (s : State) (last : ℕ) (t : Id × Request) → FrontRequest s s.done.yet t → Working s → after_event (pool_of s) (event.Collect t.0)

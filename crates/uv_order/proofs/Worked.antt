@@ -1,5 +1,6 @@
 -- What the lines of a trace tell of requests, and how each change keeps it.
 use Rattle.std.proofs.Common.{◌≡◌, ◌⊎◌, inl, inr, ℕ, ◌||◌, List, ◌∷◌, Bool, true, false, Option, Some, None, option_map, refl, ap, sym, subst, ◌∙◌, if◌then◌else◌}
+use Rattle.std.proofs.Math.Bool.{or-true}
 use Rattle.std.proofs.lemmas.Bool.{both_ways, or_cases, false_from_ne_true}
 use Rattle.std.proofs.lemmas.Option.{same_Some, none-some}
 use Rattle.uv_ids.specs.declared.id.Id.{Id}
@@ -212,17 +213,13 @@ worked_taken p past arena waiting runs rest more n v id r holds opened waits few
   known = k.known;
   over = k.over;
   taken = λ i e f. taken i (or_cases (same_id id i) (has_take_line past i) e) f;
-  finished = λ i e. rw (k.finished i e) (either_true (same_id id i));
+  finished = λ i e. rw (k.finished i e) (or-true (same_id id i));
   waits = λ i e. let w = fewer i e in rw (w.1, k.waits i w.0) refl;
   runs_now = λ i e. runs_now i (most i e);
   ended = λ i y e. ends i y e y.outcome refl (k.ended i y e);
   cancelled = k.cancelled;
   uncancelled = λ i e. k.uncancelled i (fewer i e).0;
 } where
-  either_true : (b : Bool) → (b || true) ≡ true
-  either_true true = refl
-  either_true false = refl
-
   taken : (i : Id) → (same_id id i ≡ true) ⊎ (has_take_line past i ≡ true) → queued_task p past i ≡ None → ⊥
   taken i (inl s) f =
       none-some r.task (sym f ∙ ap (queued_task p past) (sym (same id i s)) ∙ k.queued id r holds)
@@ -233,12 +230,12 @@ worked_taken p past arena waiting runs rest more n v id r holds opened waits few
 
   runs_now : (i : Id) → (id ≡ i) ⊎ (has_id runs i ≡ true) → ((same_id id i || has_take_line past i) ≡ true) × (has_finish_line past i ≡ false)
   runs_now i (inl is) = (rw (itself id i is) refl, ap (has_finish_line past) (sym is) ∙ unfinished)
-  runs_now i (inr e) = let was = k.runs_now i e in (rw was.0 (either_true (same_id id i)), was.1)
+  runs_now i (inr e) = let was = k.runs_now i e in (rw was.0 (or-true (same_id id i)), was.1)
 
   ends : (i : Id) (y : Request) → asked_at arena.slots i ≡ Some y → (o : Outcome) → y.outcome ≡ o → EndsTrue past i y.task o →
       EndsTrue (seen.Take n v id ∷ past) i y.task o
   ends i y e Open f g = tt
-  ends i y e (Finished digest) f g = (rw g.0 (either_true (same_id id i)), g.1, g.2)
+  ends i y e (Finished digest) f g = (rw g.0 (or-true (same_id id i)), g.1, g.2)
   ends i y e Cancelled f g = at (same_id id i) refl where
     clash : ◌≡◌ {A = Bool} false true → ⊥
     clash c = cc c

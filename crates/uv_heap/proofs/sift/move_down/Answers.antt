@@ -1,8 +1,8 @@
 use Rattle.std.proofs.Common.{◌≡◌, ◌<◌, ◌-◌, length, false, sym, ◌∙◌, ap, arith, refl}
-use Rattle.std.proofs.lemmas.Bool.{false≢true}
+use Rattle.std.proofs.lemmas.Bool.{false≢true, false_from_ne_true}
 use Rattle.std.proofs.lemmas.List.Edits.{length-swap}
 use Rattle.uv_heap.specs.Moves.{Moved, must_sink}
-use Rattle.uv_heap.proofs.MoveLemmas.{moved_down_more, moved_down_end, child_is, child_within, not_true}
+use Rattle.uv_heap.proofs.MoveLemmas.{moved_down_more, moved_down_end, child_is, child_within}
 use Rattle.uv_heap.proofs.sift.move_down.Goals as goal
 
 pub loop-child-smaller : goal.loop-child-smaller
@@ -26,10 +26,10 @@ loop-child-preserved c =
 
 pub returns-clause-array : goal.returns-clause-array
 returns-clause-array c =
-    let stays : must_sink c.loop-child.entries.array c.loop-child.place ≡ false = not_true _ (λ e. false≢true (c.in_default.ensures.greater.1 e)) in
+    let stays : must_sink c.loop-child.entries.array c.loop-child.place ≡ false = false_from_ne_true _ (λ e. false≢true (c.in_default.ensures.greater.1 e)) in
     ap (λ (m : Moved). m.array) (sym (moved_down_end c.loop-child.entries.array c.loop-child.place stays) ∙ c.loop-child.invariant.rest)
 
 pub returns-clause-place : goal.returns-clause-place
 returns-clause-place c =
-    let stays : must_sink c.loop-child.entries.array c.loop-child.place ≡ false = not_true _ (λ e. false≢true (c.in_default.ensures.greater.1 e)) in
+    let stays : must_sink c.loop-child.entries.array c.loop-child.place ≡ false = false_from_ne_true _ (λ e. false≢true (c.in_default.ensures.greater.1 e)) in
     ap (λ (m : Moved). m.place) (sym (moved_down_end c.loop-child.entries.array c.loop-child.place stays) ∙ c.loop-child.invariant.rest)
