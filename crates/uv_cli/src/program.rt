@@ -16,6 +16,9 @@ use uv_engine::{Sink, Source, converse, replay};
 use uv_ids::Fault;
 use uv_loop::ArenaLoop;
 
+/// The machine of the program, by whatever words it is called.
+type ProgramLoop = ArenaLoop;
+
 /// Does what the words say, of which the first is the program's own, and gives the exit status: 0 where it is done, 2 for a
 /// bad command line, a bad script or a bad recording, 3 where a recording's verdict isn't `same`, 4 for any other fault. A fault
 /// is a line on the errors, `uvt: ` and its text.
@@ -60,7 +63,7 @@ fn debug<R: Source, W: Sink, E: Write>(
     ensures reader { result ≡ 0 → R.failures reader.new ≡ R.failures reader.old }
     ensures writer { result ≡ 0 → W.failures writer.new ≡ W.failures writer.old }
 {
-    match converse::<ArenaLoop, _, _>(alloc, reader, writer) {
+    match converse::<ProgramLoop, _, _>(alloc, reader, writer) {
         Ok(_) => 0,
         Err(fault) => fail(fault, errors),
     }
@@ -77,7 +80,7 @@ fn rerun<R: Source, W: Sink, E: Write>(
     ensures reader { result ≡ 0 → R.failures reader.new ≡ R.failures reader.old }
     ensures writer { result ≡ 0 → W.failures writer.new ≡ W.failures writer.old }
 {
-    match replay::<ArenaLoop, _, _>(alloc, reader, writer) {
+    match replay::<ProgramLoop, _, _>(alloc, reader, writer) {
         Ok(()) => 0,
         Err(fault) => fail(fault, errors),
     }
@@ -97,7 +100,7 @@ fn live<H: Threads + Wait + Sync, R: Source, W: Sink, E: Write>(
     ensures reader { result ≡ 0 → R.failures reader.new ≡ R.failures reader.old }
     ensures writer { result ≡ 0 → W.failures writer.new ≡ W.failures writer.old }
 {
-    match run_live::<ArenaLoop, _, _, _>(rt, alloc, workers, reader, writer) {
+    match run_live::<ProgramLoop, _, _, _>(rt, alloc, workers, reader, writer) {
         Ok(()) => 0,
         Err(NoRecording::BadScript(line)) => {
             report(Fault::Script { line }, errors);
