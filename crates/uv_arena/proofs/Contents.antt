@@ -1,5 +1,5 @@
 -- What a slot holds, and what its content is read as.
-use Rattle.std.proofs.Common.{◌≡◌, ℕ, zero, suc, ◌+◌, Bool, true, false, eq-eqb, List, [], ◌∷◌, length, set, slice_get, Option, Some, None, IfSome, IfNone, option_and_then, refl, sym, ap, ◌∙◌, subst, inl, inr, arith}
+use Rattle.std.proofs.Common.{◌≡◌, ℕ, zero, suc, ◌+◌, eq-eqb, List, [], ◌∷◌, length, set, slice_get, Option, Some, None, IfSome, IfNone, option_and_then, refl, sym, ap, ◌∙◌, subst, inl, inr, arith}
 use Rattle.std.proofs.lemmas.Bool.Decides.{eqb_tells}
 use Rattle.std.proofs.lemmas.Grind.{elements}
 use Rattle.std.proofs.lemmas.Option.{slice_get_past}

@@ -6,7 +6,6 @@ use Rattle.uv_records.specs.declared.lists.ListName.{ListName}
 use Rattle.uv_records.specs.Lists.{number}
 use Rattle.uv_records.specs.Walks.{without}
 use Rattle.uv_arena.specs.declared.links.Links.{Links}
-use Rattle.uv_arena.specs.declared.links.Cell.{Cell}
 use Rattle.uv_arena.specs.Chains.{link, first, last, IsIn, IsApart, IsSegment}
 use Rattle.uv_arena.specs.Image.{Image, name_at, chains, chain, links_in, links_at, slot_in, slot_at, head_at, tail_at, members, held, on_list, IsSound}
 use Rattle.uv_arena.specs.Calls.{IsListed, IsFirst, IsLast}

@@ -1,5 +1,5 @@
 -- A handle is added, or gets another record.
-use Rattle.std.proofs.Common.{◌≡◌, ℕ, ◌+◌, Option, Some, None, IfSome, IfNone, option_and_then, refl, sym, ap, ◌∙◌, subst, arith}
+use Rattle.std.proofs.Common.{◌≡◌, ℕ, ◌+◌, Option, Some, option_and_then, refl, sym, ap, ◌∙◌, arith}
 use Rattle.uv_ids.specs.declared.id.Id.{Id}
 use Rattle.uv_ids.specs.declared.id.Var.{Var}
 use Rattle.uv_ids.specs.declared.phase.Kind.{Kind}
@@ -7,12 +7,12 @@ use Rattle.uv_records.specs.declared.handle.HandleRecord.{HandleRecord}
 use Rattle.uv_records.specs.Handles.{inited, keeps_alive}
 use Rattle.uv_records.specs.Count.{one_if, keeps_in}
 use Rattle.uv_arena.specs.declared.undo.InsertUndo.{InsertUndo}
-use Rattle.uv_arena.specs.Image.{Image, held, IsSound}
+use Rattle.uv_arena.specs.Image.{Image, IsSound}
 use Rattle.uv_arena.specs.Calls.{IsInserted, IsSet}
 use Rattle.uv_arena.proofs.Contents.{content_is}
 use Rattle.uv_handle.specs.Counted.{counted, alive_count, record_at, Fits32}
 use Rattle.uv_handle.specs.Changes.{IsAdded, IsChanged}
-use Rattle.uv_handle.proofs.Counts.{content_of, count_below, count_changed, count_inserted}
+use Rattle.uv_handle.proofs.Counts.{count_below, count_changed, count_inserted}
 
 module _ {X : Type 0} (read : X → Option HandleRecord) (make : HandleRecord → X) (gives_back : (r : HandleRecord) → read (make r) ≡ Some r) where
   abbrev kept : Option HandleRecord → ℕ

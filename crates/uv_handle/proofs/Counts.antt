@@ -1,5 +1,5 @@
 -- How the count of active referenced handles goes with the slots.
-use Rattle.std.proofs.Common.{◌≡◌, ℕ, zero, suc, ◌+◌, ◌<◌, ◌≤◌, ◌⊎◌, if◌then◌else◌, Bool, true, false, List, [], ◌∷◌, ◌++◌, length, set, slice_get, Option, Some, None, option_and_then, eq-eqb, refl, sym, ap, ◌∙◌, inl, inr, arith}
+use Rattle.std.proofs.Common.{◌≡◌, ℕ, zero, suc, ◌+◌, ◌<◌, ◌≤◌, Bool, true, false, List, [], ◌∷◌, ◌++◌, length, set, slice_get, Option, Some, None, sym, ap, ◌∙◌, inl, inr, arith}
 use Rattle.std.proofs.lemmas.Bool.Decides.{eqb_tells}
 use Rattle.std.proofs.lemmas.List.{length-map}
 use Rattle.uv_ids.specs.declared.id.Id.{Id}
@@ -14,7 +14,7 @@ use Rattle.uv_arena.specs.Image.{Image, held, held_slots, plain_slots, IsSound}
 use Rattle.uv_arena.specs.Calls.{IsInserted, IsRemoved, IsSet}
 pub use Rattle.uv_arena.proofs.Contents.{content_of}
 use Rattle.uv_arena.proofs.Contents.{slot_tells, next_tells}
-use Rattle.uv_handle.specs.Counted.{alive_count, record_at}
+use Rattle.uv_handle.specs.Counted.{alive_count}
 
 one_le : (b : Bool) (n m : ℕ) → n ≤ m → one_if b + n ≤ suc m
 one_le true n m le = omega (arith, le)

@@ -2,7 +2,7 @@
 use Rattle.std.proofs.Common.{◌≡◌, ◌∙◌, ℕ, List, [], ◌∷◌, ◌++◌, Option, Some, None, take, drop, length, refl, sym, subst}
 use Rattle.uv_work.proofs.Replays.{events_both}
 use Rattle.std.proofs.lemmas.List.{take-append-drop}
-use Rattle.uv_work.specs.Pool.{Pool, empty_pool, then_event, after_events, replay, IsLegal}
+use Rattle.uv_work.specs.Pool.{Pool, empty_pool, after_events, replay, IsLegal}
 use Rattle.uv_work.specs.declared.event.PoolEvent.{PoolEvent}
 use Rattle.uv_pool.specs.Contents.{Contents, pool_of}
 use Rattle.uv_pool.specs.Book.{IsReplay}

@@ -6,7 +6,7 @@ use Rattle.uv_ids.specs.declared.event.Event.{Event}
 use Rattle.uv_ids.specs.declared.event.Event.TheVariants.{Take, Finish}
 use Rattle.uv_ids.specs.declared.fault.Why.TheVariants.{NoWork, IdleWorker}
 use Rattle.uv_script.specs.Program.{Program, worker_count}
-use Rattle.uv_work.specs.Pool.{Pool, IsLegal, taken_by, finished_by, after_event, then_event, after_events, replay, empty_pool}
+use Rattle.uv_work.specs.Pool.{Pool, IsLegal, taken_by, finished_by, after_event, after_events, replay, empty_pool}
 use Rattle.uv_work.specs.declared.event.PoolEvent.{PoolEvent}
 use Rattle.uv_work.specs.declared.event.PoolEvent.TheVariants as event
 use Rattle.uv_model.specs.declared.request.Request.{Request}

@@ -16,7 +16,7 @@ use Rattle.uv_arena.proofs.Contents.{past_end}
 use Rattle.uv_work.specs.Requests.{Request}
 use Rattle.uv_work.specs.Pool.{Done}
 use Rattle.uv_requests.specs.Working.{Running, working, request_in, done_in, pool_of, IsWork}
-use Rattle.uv_requests.specs.Undo.{with_count, begin_undone, collect_undone}
+use Rattle.uv_requests.specs.Undo.{with_count, collect_undone}
 use Rattle.uv_requests.specs.Calls.{IsBegun, IsCollected}
 use Rattle.uv_requests.proofs.Beside.{beside, Leaves, pool_now, work_now, ends_stay, run_elsewhere}
 use Rattle.uv_requests.proofs.Holding.{listed_id, front_held}

@@ -10,7 +10,6 @@ use Rattle.uv_records.specs.declared.lists.ListName.TheVariants.{Waiting, Done a
 use Rattle.uv_records.specs.Slots as plain
 use Rattle.uv_records.specs.Walks.{without as slots_without}
 use Rattle.uv_arena.specs.declared.links.Place.{Place}
-use Rattle.uv_arena.specs.Chains.{IsIn}
 use Rattle.uv_arena.specs.Image.{Image, members, held, on_list, IsSound}
 use Rattle.uv_arena.specs.Undo.{set_undone, push_undone, unlink_undone, CanUndoSet, CanUndoUnlink}
 use Rattle.uv_arena.specs.Calls.{IsSet, IsPushed, IsUnlinked}
