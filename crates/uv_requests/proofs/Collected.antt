@@ -50,7 +50,8 @@ pub collect_done : {X : Type 0} {read : X → Option Request} {make : Request �
     → IsRemoved a j d (make from) u
     → IsCollected read make (working i r) (working j (with_count (r.count - 1) r)) d from (record { unlinked = t; removed = u; count = r.count })
 collect_done {X = X} {read = read} {make = make} {i = i} {a = a} {j = j} {d = d} {from = from} {t = t} {u = u} {r = r} w there f un rem = record {
-  rule = collect_rule (pool_of read (working i r)) d (done_in read i d.slot) rest (listed_id i d f.listed.held) was_done ∙ ap Some (sym (pool_now w left));
+  rule = collect_rule (pool_of read (working i r)) d (done_in read i d.slot) rest (listed_id i d f.listed.held) was_done
+      ∙ ap Some (sym (pool_now w left));
   first = f;
   was = there;
   plain = rem.plain ∙ (λ l. plain.freed ((ap (λ (z : Image X). z.last) un.undone) l) d (un.slots.plain l));
@@ -58,7 +59,8 @@ collect_done {X = X} {read = read} {make = make} {i = i} {a = a} {j = j} {d = d}
   others = others;
   contents = left.same;
   kept = left.kept;
-  work = work_now w left (let less = collect_size (pool_of read (working i r)) d (done_in read i d.slot) rest (listed_id i d f.listed.held) was_done in
+  work = work_now w left
+      (let less = collect_size (pool_of read (working i r)) d (done_in read i d.slot) rest (listed_id i d f.listed.held) was_done in
       let was = w.count in omega (arith, less, was));
   undone = back;
   can_undo = record {

@@ -26,10 +26,12 @@ loop-child-preserved c =
 
 pub returns-clause-array : goal.returns-clause-array
 returns-clause-array c =
-    let stays : must_sink c.loop-child.entries.array c.loop-child.place ≡ false = false_from_ne_true _ (λ e. false≢true (c.in_default.ensures.greater.1 e)) in
+    let stays : must_sink c.loop-child.entries.array c.loop-child.place ≡ false =
+    false_from_ne_true _ (λ e. false≢true (c.in_default.ensures.greater.1 e)) in
     ap (λ (m : Moved). m.array) (sym (moved_down_end c.loop-child.entries.array c.loop-child.place stays) ∙ c.loop-child.invariant.rest)
 
 pub returns-clause-place : goal.returns-clause-place
 returns-clause-place c =
-    let stays : must_sink c.loop-child.entries.array c.loop-child.place ≡ false = false_from_ne_true _ (λ e. false≢true (c.in_default.ensures.greater.1 e)) in
+    let stays : must_sink c.loop-child.entries.array c.loop-child.place ≡ false =
+    false_from_ne_true _ (λ e. false≢true (c.in_default.ensures.greater.1 e)) in
     ap (λ (m : Moved). m.place) (sym (moved_down_end c.loop-child.entries.array c.loop-child.place stays) ∙ c.loop-child.invariant.rest)
