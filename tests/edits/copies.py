@@ -79,31 +79,33 @@ class Room:
         write_list(folder, crates, self.names)
 
     def take(self, checked: Path) -> None:
-        """Takes what checks kept in another checkout. Raises Unready where its sources are others, or it has no such work."""
+        """Takes what checks of the same sources kept in another checkout, each crate with what it stands on."""
         if not (checked / "crates.txt").is_file():
             raise Unready(f"{checked} is no checkout: it has no crates.txt")
         theirs = Crates(checked)
         for name in self.names:
-            if name not in theirs.lines or theirs.sum(name) != self.crates.sum(name):
-                raise Unready(f"{checked} has other sources of {name}, or of what it stands on")
-            kept = checked / "crates" / name / "out"
-            if not (kept / "incremental").is_dir():
-                raise Unready(f"in {checked} nothing is kept of a check of {name}")
-            for part in ("incremental", "rlib"):
-                if (kept / part).is_dir():
-                    copy_tree(kept / part, self.folder / "crates" / name / "out" / part)
+            if name in theirs.lines and theirs.sum(name) == self.crates.sum(name):
+                kept = checked / "crates" / name / "out"
+                for part in ("incremental", "rlib"):
+                    if (kept / part).is_dir():
+                        copy_tree(kept / part, self.folder / "crates" / name / "out" / part)
 
     def check(self, at_once: int, tell: Callable[[str], None]) -> None:
-        """Checks the crates, so many at a time, and tells which are done."""
+        """Checks the crates, so many at a time, and tells which are done. Nothing is to do where all has been taken."""
+        if not any(map(self.lacks, self.names)):
+            return
         words = ["rt", "all", "check", "--jobs", str(at_once)]
-        with subprocess.Popen(words, cwd=self.folder, stdout=subprocess.PIPE, stderr=subprocess.STDOUT, text=True, errors="replace") as ran:
-            assert ran.stdout
-            line = ""
-            for line in ran.stdout:
+        ran = subprocess.Popen(words, cwd=self.folder, stdout=subprocess.PIPE, stderr=subprocess.STDOUT, text=True, errors="replace")
+        line = ""
+        try:
+            for line in ran.stdout or ():
                 name = line.removeprefix("== ").strip()
                 if line.startswith("== ") and name in self.names:
                     tell(f"{name} is checked as it stands")
-        if ran.returncode:
+        except BaseException:
+            ran.kill()
+            raise
+        if ran.wait():
             tell(f"not all crates are proved as they stand ({line.strip()})")
 
     def lacks(self, name: str) -> str | None:

@@ -12,7 +12,7 @@ class Word(Enum):
     """What became of an edit."""
 
     REFUSED = "refused"
-    LITTLE = "refused by a name alone"
+    LITTLE = "refused, which says little"
     PROVED = "NOT REFUSED"
     BAD = "BAD EDIT"
     UNTRIED = "NOT TRIED"
@@ -45,6 +45,10 @@ class Said:
         return self.status == 0 and any(it.startswith("logic=proved ") for it in self.lines()[-1:])
 
 
+# How the prover says what is wrong with a function's proof, where the goal is one that it tried by itself.
+OPEN_GOAL = re.compile(r"it is not proved that|`search` found no proof")
+# The prover tries no goal of such a function.
+NOT_COVERED = re.compile(r"^fn \S+: no proof: .*the borrow checker does not cover this function yet.*", re.M)
 POSITION = re.compile(r"(?P<note>note: )?(?:\./)?(?P<file>[^\s:]+):(?P<line>\d+):\d+:")
 # A proof file names what an edit took away, or cites a proof that does so.
 NAME_IS_GONE = re.compile(r"(?:\./)?proofs/.*(has no field|is not in scope|has no `|was not admitted)")
@@ -62,7 +66,10 @@ def is_unread(line: str, files: Iterable[str]) -> bool:
 
 
 def judged(said: Said, files: Iterable[str]) -> Verdict:
-    """What became of an edit of these files that was tried alone, by the rules of the kit's `rt must-fail`."""
+    """What became of an edit of these files that was tried alone, by the rules of the kit's `rt must-fail`.
+
+    Beyond these, one says little, too, that makes a function which the prover doesn't cover: no clause refuses that.
+    """
     lines = said.lines()
     if unread := [it for it in lines if is_unread(it, files)]:
         return Verdict(Word.BAD, f"the prover can't read the edited text, so no contract was tried: {unread[0][:200]}")
@@ -70,13 +77,17 @@ def judged(said: Said, files: Iterable[str]) -> Verdict:
         return Verdict(Word.UNTRIED, "the kept work of a library could not be used")
     if said.status == 0:
         return Verdict(Word.PROVED, "the crate is still proved with this edit")
-    if said.status != 1 or not lines[-1].startswith("logic=not-proved"):
+    if said.status != 1:
+        return Verdict(Word.UNTRIED, f"the check ended with status {said.status}: {lines[-1][:200]}")
+    if not lines[-1].startswith("logic=not-proved"):
         return Verdict(Word.BAD, f"it didn't reach the prover: {' / '.join(said.text.splitlines()[:6])[:600]}")
     told = [it for it in lines if POSITION.match(it)]
     told = [it for it in told if ": error" in it or it.startswith("note: ")] or told
     speaking = [it for it in told if not NAME_IS_GONE.match(it)]
     if told and not speaking:
-        return Verdict(Word.LITTLE, told[0][:160])
+        return Verdict(Word.LITTLE, f"only a name is gone that a proof file cites (change a value and keep the names): {told[0][:160]}")
+    if (uncovered := NOT_COVERED.search(said.text)) and not any(map(is_fault, lines)):
+        return Verdict(Word.LITTLE, f"the prover doesn't come to the contract, since it can't read the function: {uncovered[0][:300]}")
     return Verdict(Word.REFUSED, speaking[0][:160] if speaking else "")
 
 
@@ -106,7 +117,7 @@ def is_fault(line: str) -> bool:
     at = POSITION.match(line)
     if not at or NAME_IS_GONE.match(line):
         return False
-    return "it is not proved that" in line if at["note"] else line[at.end() :].startswith(" error")
+    return bool(OPEN_GOAL.search(line)) if at["note"] else line[at.end() :].startswith(" error")
 
 
 def stands_in(line: str, edit: Edit, function: str) -> bool:
