@@ -121,7 +121,7 @@ module _ {P : Type 0} where
 
   -- the heads fit the rows with the change where those before it fit the rows without it
   pub fits_more : (heads hs : List (Head P)) (h : Head P) (c : Change) (l : Lies) (ms ns : List Medium) (ks ls : List Change)
-    → heads ≡ hs ++ h ∷ [] → lies h.change ≡ l → Adds c l ms ns ks ls → Fits (steps_of hs) ms ks → Fits (steps_of heads) ns ls
+      → heads ≡ hs ++ h ∷ [] → lies h.change ≡ l → Adds c l ms ns ks ls → Fits (steps_of hs) ms ks → Fits (steps_of heads) ns ls
   fits_more heads hs h c (Beside d) ms ns ks ls split e (is, more, large) f =
       let n = whole_counts heads hs h d split e in
       record { medium = n.0 ∙ f.medium ∙ sym (ap (λ xs. length xs) more); large = n.1 ∙ f.large ∙ sym (ap (λ xs. length xs) large) }
@@ -135,7 +135,7 @@ module _ {P : Type 0} where
       record { medium = n.0 ∙ f.medium ∙ sym (ap (λ xs. length xs) more); large = n.1 ∙ ap (λ k. k + 1) f.large ∙ sym long }
 
   pub fits_less : (heads hs : List (Head P)) (h : Head P) (c : Change) (l : Lies) (ms ns : List Medium) (ks ls : List Change)
-    → heads ≡ hs ++ h ∷ [] → lies h.change ≡ l → Adds c l ms ns ks ls → Fits (steps_of heads) ns ls → Fits (steps_of hs) ms ks
+      → heads ≡ hs ++ h ∷ [] → lies h.change ≡ l → Adds c l ms ns ks ls → Fits (steps_of heads) ns ls → Fits (steps_of hs) ms ks
   fits_less heads hs h c (Beside d) ms ns ks ls split e (is, more, large) f =
       let n = whole_counts heads hs h d split e in
       record { medium = sym n.0 ∙ f.medium ∙ ap (λ xs. length xs) more; large = sym n.1 ∙ f.large ∙ ap (λ xs. length xs) large }
@@ -149,8 +149,8 @@ module _ {P : Type 0} where
       record { medium = sym n.0 ∙ f.medium ∙ ap (λ xs. length xs) more; large = omega (arith, n.1, long, f.large) }
 
   pub record_more : (heads hs : List (Head P)) (h : Head P) (c : Change) (l : Lies) (ms ns : List Medium) (ks ls : List Change)
-    → heads ≡ hs ++ h ∷ [] → lies h.change ≡ l → Adds c l ms ns ks ls → Fits (steps_of hs) ms ks
-    → records_of (steps_of heads) ns ls ≡ records_of (steps_of hs) ms ks ++ recorded h.place h.naming c ∷ []
+      → heads ≡ hs ++ h ∷ [] → lies h.change ≡ l → Adds c l ms ns ks ls → Fits (steps_of hs) ms ks
+      → records_of (steps_of heads) ns ls ≡ records_of (steps_of hs) ms ks ++ recorded h.place h.naming c ∷ []
   record_more heads hs h c (Beside d) ms ns ks ls split e (is, more, large) f =
       ap (λ xs. records_of (steps_of heads) xs ls) more ∙ ap (λ xs. records_of (steps_of heads) ms xs) large
       ∙ whole_more heads hs h d ms ks split e f ∙ ap (λ x. records_of (steps_of hs) ms ks ++ recorded h.place h.naming x ∷ []) is
@@ -162,7 +162,7 @@ module _ {P : Type 0} where
 
   -- the row where the last change lies has one
   pub there : (heads hs : List (Head P)) (h : Head P) (l : Lies) (ms : List Medium) (ks : List Change)
-    → heads ≡ hs ++ h ∷ [] → lies h.change ≡ l → Fits (steps_of heads) ms ks → HasOne l ms ks
+      → heads ≡ hs ++ h ∷ [] → lies h.change ≡ l → Fits (steps_of heads) ms ks → HasOne l ms ks
   there heads hs h (Beside c) ms ks split e f = tt
   there heads hs h AmongMediums ms ks split e f = let n = medium_counts heads hs h split e in omega (arith, n.0, f.medium)
   there heads hs h AmongLarges ms ks split e f = let n = large_counts heads hs h split e in omega (arith, n.1, f.large)

@@ -77,11 +77,7 @@ impl<P: Copy> Trail<P> {
         ensures records { self.new.records ≡ self.old.records ++ step_record.now ∷ [] }
         ensures room { self.old.room ≤ self.new.room + 1 }
     {
-        let change = put(
-            &mut self.mediums,
-            &mut self.larges,
-            &step_record.change,
-        );
+        let change = put(&mut self.mediums, &mut self.larges, &step_record.change);
         self.heads.push_reserved(Head {
             place: step_record.place,
             naming: step_record.naming,
