@@ -14,6 +14,7 @@ use Rattle.uv_script.specs.declared.op.Op.TheVariants as op
 use Rattle.uv_records.specs.declared.handle.HandleRecord.{HandleRecord}
 use Rattle.uv_records.specs.declared.lists.WatcherKind.{WatcherKind}
 use Rattle.uv_records.specs.declared.slot.Slot.{Slot}
+use Rattle.uv_records.specs.Dues.{due_in}
 use Rattle.uv_records.specs.Handles as records
 use Rattle.uv_records.specs.Handles.{inited, activated, referenced_as, repeating, is_async}
 use Rattle.uv_records.specs.Lists.{watcher_kind}
@@ -29,7 +30,7 @@ use Rattle.uv_model.specs.declared.request.Request.{Request}
 use Rattle.uv_model.specs.Found.{found_or}
 use Rattle.uv_model.specs.Ids.{same_id, without_id}
 use Rattle.uv_model.specs.State.{State, live, live_handle, live_request, named, with_named, with_handle, with_request, watched, with_watched, refreshed}
-use Rattle.uv_model.specs.Timers.{taken_off, stopped, started, restarted, due_in}
+use Rattle.uv_model.specs.Timers.{taken_off, stopped, started, restarted}
 use Rattle.uv_model.specs.Timeout.{is_alive, backend_timeout}
 
 -- the state after an op, and its answer
@@ -178,7 +179,7 @@ do_op s (op.StartWatcher v) = on_handle s (live_handle s v) start_watcher_refusa
 do_op s (op.Stop v) = on_handle s (live_handle s v) stop_refusal (stop s)
 do_op s (op.Again v) = on_handle s (live_handle s v) again_refusal (again s)
 do_op s (op.SetRepeat v n) = on_handle s (live_handle s v) timer_refusal (set_repeat s n)
-do_op s (op.DueIn v) = on_handle s (live_handle s v) timer_refusal (λ id h. says s (answer.Number (due_in s h)))
+do_op s (op.DueIn v) = on_handle s (live_handle s v) timer_refusal (λ id h. says s (answer.Number (due_in s.time h)))
 do_op s (op.Close v) = on_handle s (live_handle s v) close_refusal (close s)
 do_op s (op.Ref v) = on_handle s (live_handle s v) no_refusal (set_referenced s true)
 do_op s (op.Unref v) = on_handle s (live_handle s v) no_refusal (set_referenced s false)

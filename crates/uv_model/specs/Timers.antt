@@ -52,7 +52,3 @@ started s id h timeout repeat = with_handle
 -- a stopped timer that repeats is started again with its repeat as timeout
 abbrev pub restarted : State → Id → HandleRecord → State
 restarted s id h = if h.repeat == 0 then s else started s id h h.repeat h.repeat
-
--- in how many ms a timer is due
-abbrev pub due_in : State → HandleRecord → ℕ
-due_in s h = dues.due_in s.time h

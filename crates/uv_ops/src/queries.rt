@@ -1,6 +1,5 @@
 //! Ops that ask something, and change nothing.
 ghost use Rattle.std.specs.Prelude.{◌≡◌};
-ghost use Rattle.uv_records.specs.Dues.{due_in};
 ghost use Rattle.uv_script.specs.declared.op.Op.TheVariants as op;
 ghost use Rattle.uv_step.specs.Image.{held};
 ghost use Rattle.uv_stands.specs.Doing.{Performs};
@@ -8,7 +7,6 @@ ghost use Rattle.uv_ops.specs.Passed.{answered};
 
 use uv_ids::{Answer, Code, Var};
 use uv_model::Place;
-use uv_records::HandleRecord;
 use uv_stands::{Ask, allowed, backend_timeout, is_in_use};
 use uv_step::Memory;
 
@@ -36,23 +34,12 @@ pub(crate) fn is_closing(memory: &Memory<Place>, name: Var) -> Result<Answer, Co
     Ok(Answer::Flag(handle.closing))
 }
 
-/// In how many ms a timer is due: 0 where it is due already, and where it isn't active.
-fn left_until_due(time: u64, handle: HandleRecord) -> u64
-    ensures { result ≡ due_in time handle }
-{
-    if handle.active {
-        handle.due.at.saturating_sub(time)
-    } else {
-        0
-    }
-}
-
 /// In how many ms a timer is due (uv_timer_get_due_in).
 pub(crate) fn due_in(memory: &Memory<Place>, name: Var) -> Result<Answer, Code>
     ensures { Performs (op.DueIn name) (held memory.now).image (held memory.now).image (answered result) }
 {
     let (_, handle) = allowed(memory, name, Ask::Timer)?;
-    Ok(Answer::Number(left_until_due(memory.times.time, handle)))
+    Ok(Answer::Number(handle.due_in(memory.times.time)))
 }
 
 /// The loop's time in ms (uv_now).

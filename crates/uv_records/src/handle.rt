@@ -1,5 +1,6 @@
 //! The record of a handle, and what the ops make of it.
 ghost use Rattle.std.specs.Prelude.{◌≡◌};
+ghost use Rattle.uv_records.specs.Dues.{due_in, due_after};
 ghost use Rattle.uv_records.specs.Handles.{
   no_due,
   inited,
@@ -42,6 +43,17 @@ pub struct HandleRecord {
     pub due: Due,
     /// A timer's repeat in ms, and 0 for none.
     pub repeat: u64,
+}
+
+/// When a timer is due that is started at this time, with this start number and this timeout in ms: no later than the largest time
+/// (uv_timer_start).
+pub fn due_after(time: u64, start: u64, timeout: u64) -> Due
+    ensures { result ≡ due_after time start timeout }
+{
+    Due {
+        at: time.saturating_add(timeout),
+        start,
+    }
 }
 
 impl HandleRecord {
@@ -151,6 +163,17 @@ impl HandleRecord {
         HandleRecord {
             pending: false,
             ..self
+        }
+    }
+
+    /// In how many ms a timer is due (uv_timer_get_due_in): 0 where it is due already, and where it isn't active.
+    pub fn due_in(self, time: u64) -> u64
+        ensures { result ≡ due_in time self }
+    {
+        if self.active {
+            self.due.at.saturating_sub(time)
+        } else {
+            0
         }
     }
 

@@ -7,6 +7,6 @@ mod lists;
 mod refusals;
 mod slot;
 
-pub use handle::HandleRecord;
+pub use handle::{HandleRecord, due_after};
 pub use lists::{Ends, ListName, WatcherKind};
 pub use slot::Slot;

@@ -1,28 +1,16 @@
 //! What becomes of a timer, and the times that this is reckoned by.
 ghost use Rattle.std.specs.Prelude.{◌≡◌};
-ghost use Rattle.uv_records.specs.Dues.{due_after};
 ghost use Rattle.uv_timer.specs.Changes.{starting, stopping, collecting, starting_again, firing};
 
 use uv_handle::HandleRecord;
 use uv_ids::Due;
+use uv_records::due_after;
 
 /// The loop's cached time in ms (uv_now), and the number that the next start of a timer draws.
 #[derive(Clone, Copy, PartialEq, Eq)]
 pub struct Times {
     pub time: u64,
     pub next_start: u64,
-}
-
-impl Times {
-    /// When a timer is due that is started now, with this timeout in ms. At the latest at the largest time.
-    pub fn due_after(&self, timeout: u64) -> Due
-        ensures { result ≡ due_after self.now.time self.now.next_start timeout }
-    {
-        Due {
-            at: self.time.saturating_add(timeout),
-            start: self.next_start,
-        }
-    }
 }
 
 /// What becomes of a timer: its record, whether it leaves its list, and when it is due, if it is set.
@@ -39,7 +27,7 @@ impl Change {
     pub fn starting(times: &Times, handle: HandleRecord, timeout: u64, repeat: u64) -> Change
         ensures { result ≡ starting times.now handle timeout repeat }
     {
-        let due = times.due_after(timeout);
+        let due = due_after(times.time, times.next_start, timeout);
         Change {
             from: handle,
             to: handle.begun_at(due, repeat),

@@ -1,7 +1,6 @@
 //! The ops on timers.
 ghost use Rattle.std.specs.Prelude.{◌≡◌, ◌≢◌, Option, Some, None, IfOk, IfErr};
 ghost use Rattle.uv_records.specs.declared.handle.HandleRecord.{HandleRecord};
-ghost use Rattle.uv_records.specs.Dues.{due_in};
 ghost use Rattle.uv_records.specs.Handles.{repeating};
 ghost use Rattle.uv_records.specs.Refusals.{refusal, timer_refusal, start_timer_refusal, stop_refusal, again_refusal};
 ghost use Rattle.uv_handle.specs.Counted.{counted, record_at, found, IsCounted, record_undone, CanUndoRecord};
@@ -151,13 +150,7 @@ pub fn due_in<T: HoldsHandle>(slots: &Slots<T>, times: &Times, id: Id) -> Result
         Err(code) => Err(code),
         Ok(handle) => match handle.timer_refusal() {
             Some(code) => Err(code),
-            None => {
-                if handle.active {
-                    Ok(handle.due.at.saturating_sub(times.time))
-                } else {
-                    Ok(0)
-                }
-            }
+            None => Ok(handle.due_in(times.time)),
         },
     }
 }

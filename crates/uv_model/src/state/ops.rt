@@ -182,7 +182,7 @@ impl LoopState {
         };
         match handle.timer_refusal() {
             Some(code) => Answer::Code(code),
-            None => Answer::Number(self.due_in(handle)),
+            None => Answer::Number(handle.due_in(self.time)),
         }
     }
 

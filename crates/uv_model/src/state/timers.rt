@@ -1,7 +1,7 @@
 //! The timers: the ordered map of those that are active, and the ready list.
 ghost use Rattle.std.specs.Prelude.{◌≡◌, ◌<◌, ◌+◌, ◌&&◌, ◌^◌, OnOk, OnErr, true, if◌then◌else◌};
 ghost use Rattle.uv_records.specs.Handles.{is_timer};
-ghost use Rattle.uv_model.specs.Timers.{without_timer, taken_off, stopped, started, restarted, due_after, due_in};
+ghost use Rattle.uv_model.specs.Timers.{without_timer, taken_off, stopped, started, restarted};
 ghost use Rattle.uv_model.specs.Bounds.{StartsBefore};
 
 use crate::ids::remove_id;
@@ -9,7 +9,7 @@ use crate::state::LoopState;
 use std::alloc::AllocError;
 use std::collections::BTreeMap;
 use uv_ids::{Due, Id};
-use uv_records::HandleRecord;
+use uv_records::{HandleRecord, due_after};
 
 /// Takes a timer off the order, if it is active.
 fn remove_timer(timers: &mut BTreeMap<Due, Id>, handle: HandleRecord)
@@ -22,27 +22,6 @@ fn remove_timer(timers: &mut BTreeMap<Due, Id>, handle: HandleRecord)
 }
 
 impl LoopState {
-    /// When a timer is due that is started now (uv_timer_start).
-    fn due_after(&self, timeout: u64) -> Due
-        ensures { result ≡ due_after self.now timeout }
-    {
-        Due {
-            at: self.time.saturating_add(timeout),
-            start: self.next_start,
-        }
-    }
-
-    /// In how many ms a timer is due (uv_timer_get_due_in).
-    pub(super) fn due_in(&self, handle: HandleRecord) -> u64
-        ensures { result ≡ due_in self.now handle }
-    {
-        if handle.active {
-            handle.due.at.saturating_sub(self.time)
-        } else {
-            0
-        }
-    }
-
     /// Takes a handle off the order of timers, and off each list.
     pub(super) fn take_off(&mut self, id: Id, handle: HandleRecord)
         ensures { self.new ≡ taken_off self.old id handle }
@@ -75,7 +54,7 @@ impl LoopState {
         ensures ok { OnOk result (self.new ≡ started self.old id handle timeout repeat) }
         ensures err { OnErr result (self.new ≡ self.old) }
     {
-        let due = self.due_after(timeout);
+        let due = due_after(self.time, self.next_start, timeout);
         self.timers.insert(due, id)?;
         self.next_start += 1;
         self.set_handle(id, handle.begun_at(due, repeat));
@@ -98,7 +77,7 @@ impl LoopState {
         ensures ok { OnOk result (self.new ≡ started (stopped self.old id handle) id handle timeout repeat) }
         ensures err { OnErr result (self.new ≡ self.old) }
     {
-        let due = self.due_after(timeout);
+        let due = due_after(self.time, self.next_start, timeout);
         self.timers.insert(due, id)?;
         self.take_off(id, handle);
         self.next_start += 1;
