@@ -9,7 +9,7 @@ use std::sync::Wait;
 use std::sync::ledger::{Blank, Ledger};
 use std::thread::{Threads, join, map_indices};
 use std::time::Instant;
-use uv_ids::{Fault, Id, Why};
+use uv_ids::{Fault, Id, MOST_ROUNDS, Why};
 use uv_pool::{Desk, Gate, LockedBook, PoolBook, worker};
 use uv_work::{Job, WorkResult};
 
@@ -42,7 +42,7 @@ impl Load {
             slot,
             generation: 0,
         };
-        Job::new(id, b"", self.rounds.min(1000) as u16)
+        Job::new(id, b"", self.rounds.min(u32::from(MOST_ROUNDS)) as u16)
     }
 }
 

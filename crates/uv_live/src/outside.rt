@@ -6,12 +6,9 @@ ghost use Rattle.uv_live.specs.Course.{AreNamed};
 use crate::follower::Follower;
 use std::alloc::Global;
 use std::thread::{Promise, PromisedHandle, Scope, Threads};
-use uv_ids::{Fault, ThreadLine, Var};
+use uv_ids::{Fault, MOST_SENDERS, ThreadLine, Var};
 use uv_pool::Gate;
 use uv_wake::{Board, LoopSeat, SenderSeat};
-
-/// How many numbers a sender thread may have (own).
-const MOST_SENDERS: u8 = 64;
 
 /// The count of a name past which its word is absorbed no more (own). No run comes so far.
 const MOST_ABSORBED: u64 = 1 << 62;

@@ -19,12 +19,9 @@ use std::sync::Wait;
 use std::sync::ledger::{Blank, Ledger};
 use std::thread;
 use std::thread::{Scope, Threads};
-use uv_ids::{Fault, ThreadLine, Why};
+use uv_ids::{Fault, MOST_SENDERS, ThreadLine, Why};
 use uv_pool::{Gate, LockedBook, PoolBook, Shift};
 use uv_wake::{Board, LoopSeat};
-
-/// As many senders' seats as a board gives: one for each number of a sender thread.
-const SEATS: u64 = 64;
 
 /// Lets the clock go on up to the poll's deadline. `Stalled` where there is none, or where the clock doesn't go on.
 fn pass_time<S: Follower, C: Clock>(session: &mut S, clock: &mut C) -> Result<(), Fault>
@@ -309,7 +306,7 @@ fn live_over<
         Err(fault) => return Err(fault),
     };
     let names = session.name_count() as usize;
-    let (board, seat) = match Board::new(alloc, names, SEATS) {
+    let (board, seat) = match Board::new(alloc, names, MOST_SENDERS as u64) {
         Ok(both) => both,
         Err(fault) => return Err(fault),
     };

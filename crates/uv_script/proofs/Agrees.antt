@@ -11,6 +11,7 @@ use Rattle.uv_ids.specs.declared.seen.Callback.{Callback}
 use Rattle.uv_ids.specs.declared.seen.Callback.TheVariants as callback
 use Rattle.uv_ids.specs.declared.order.Order.{Order}
 use Rattle.uv_ids.specs.Words.{kind_word, mode_word, order_word}
+use Rattle.uv_ids.specs.declared.limits.TheConstants.{MOST_SENDERS}
 use Rattle.uv_script.specs.declared.op.Op.{Op}
 use Rattle.uv_script.specs.declared.op.Op.TheVariants as op
 use Rattle.uv_script.specs.declared.op.MainOp.TheVariants as main
@@ -394,9 +395,10 @@ unfolding sender_of
 sender_sound names number k fields s is e =
     let v = bound _ (name_alone names fields) s e in
     let name = name_alone_sound names fields v.0 v.1 in
-    let p = cond_some (nat_lt k 64) (InThread (record { thread = k; name = v.0 })) s v.2 in
+    let p = cond_some (nat_lt k MOST_SENDERS) (InThread (record { thread = k; name = v.0 })) s v.2 in
     subst (Says names (codes "thread" ∷ number ∷ codes "send" ∷ fields)) p.1
-    (in_thread number k name.name v.0 (ap (λ r. codes "thread" ∷ number ∷ codes "send" ∷ r) name.alone) is (ltb-true k 64 p.0) name.declared)
+    (in_thread number k name.name v.0 (ap (λ r. codes "thread" ∷ number ∷ codes "send" ∷ r) name.alone) is
+    (ltb-true k MOST_SENDERS p.0) name.declared)
 
 thread_sound : (names fields : List (List ℕ)) (s : Statement) → thread_of names fields ≡ Some s → Says names (codes "thread" ∷ fields) s
 unfolding thread_of
@@ -680,12 +682,12 @@ orders_complete : (o : Order) → orders_of (order_word o ∷ []) ≡ Some (Orde
 unfolding orders_of
 orders_complete o = rw (version_of-some (order_word o) o refl) refl
 
-thread_complete : (names : List (List ℕ)) (number : List ℕ) (k : ℕ) (name : List ℕ) (v : Var) → AreDistinct names → IsNumber number k → k < 64 →
-    IsDeclared names name v → thread_of names (number ∷ codes "send" ∷ name ∷ []) ≡ Some (InThread (record { thread = k; name = v }))
+thread_complete : (names : List (List ℕ)) (number : List ℕ) (k : ℕ) (name : List ℕ) (v : Var) → AreDistinct names → IsNumber number k →
+    k < MOST_SENDERS → IsDeclared names name v → thread_of names (number ∷ codes "send" ∷ name ∷ []) ≡ Some (InThread (record { thread = k; name = v }))
 unfolding thread_of sender_of name_alone
 thread_complete names number k name v distinct is few declared =
     rw (number_of-complete number k is, place_complete names name v distinct declared)
-    (ap (λ b. cond b (Some (InThread (record { thread = k; name = v }))) None) (lt-ltb k 64 few))
+    (ap (λ b. cond b (Some (InThread (record { thread = k; name = v }))) None) (lt-ltb k MOST_SENDERS few))
 
 -- a callback's line, by its word
 by_word : (names : List (List ℕ)) (kind : Callback) (fields : List (List ℕ))

@@ -4,6 +4,7 @@ use Rattle.std.proofs.Math.Seq.{take-append_seam}
 use Rattle.std.proofs.Props.{props}
 use Rattle.std.proofs.lemmas.Bool.{and_from, both_ways, le-leb}
 use Rattle.std.proofs.lemmas.Option.{same_Some}
+use Rattle.uv_ids.specs.declared.limits.TheConstants.{LONGEST_TEXT, MOST_ROUNDS}
 use Rattle.uv_script.specs.declared.task.Task.{Task}
 use Rattle.uv_script.specs.TaskFields.{IsRoundCount, IsPadded, padded}
 use Rattle.uv_script.specs.TaskReading.{is_task, rounds_within, text_within, made, task_of}
@@ -40,16 +41,16 @@ within : (rounds : ℕ) (text : List ℕ) (t : Task) → IsTask rounds text t �
 within rounds text t is =
     let rounds_are = is.rounds_are in
     let length_is = ap length (sym is.text_is) ∙ length-text_of t in
-    and_from (nat_le 1 rounds && nat_le rounds 1000) (nat_le (length text) 64)
-    (and_from (nat_le 1 rounds) (nat_le rounds 1000) (le-leb 1 rounds (omega (arith, rounds_are, t.rounds_fit.some)))
-    (le-leb rounds 1000 (omega (arith, rounds_are, t.rounds_fit.few))))
-    (le-leb (length text) 64 (omega (arith, length_is, t.padded.fits)))
+    and_from (nat_le 1 rounds && nat_le rounds MOST_ROUNDS) (nat_le (length text) LONGEST_TEXT)
+    (and_from (nat_le 1 rounds) (nat_le rounds MOST_ROUNDS) (le-leb 1 rounds (omega (arith, rounds_are, t.rounds_fit.some)))
+    (le-leb rounds MOST_ROUNDS (omega (arith, rounds_are, t.rounds_fit.few))))
+    (le-leb (length text) LONGEST_TEXT (omega (arith, length_is, t.padded.fits)))
 
 pub task_of-complete : (rounds : ℕ) (text : List ℕ) (t : Task) → IsTask rounds text t → task_of rounds text ≡ Some t
 unfolding task_of
 task_of-complete rounds text t is = by (is_task rounds text) refl where
   by : (fits : Bool) (e : is_task rounds text ≡ fits) → made rounds text fits e ≡ Some t
-  by true e = ap Some (same_task _ t (sym is.rounds_are) (take-append_seam text (replicate (64 - length text) 0) ∙ sym is.text_is))
+  by true e = ap Some (same_task _ t (sym is.rounds_are) (take-append_seam text (replicate (LONGEST_TEXT - length text) 0) ∙ sym is.text_is))
   by false e = absurd (both_ways (is_task rounds text) e (within rounds text t is))
 
 pub task_of-sound : (rounds : ℕ) (text : List ℕ) (t : Task) → task_of rounds text ≡ Some t → IsTask rounds text t
@@ -58,12 +59,12 @@ task_of-sound rounds text t = by (is_task rounds text) refl where
   by : (fits : Bool) (e : is_task rounds text ≡ fits) → made rounds text fits e ≡ Some t → IsTask rounds text t
   by true e is = subst (IsTask rounds text) (same_Some _ _ is) (record {
     rounds_are = refl;
-    text_is = take-append_seam text (replicate (64 - length text) 0);
+    text_is = take-append_seam text (replicate (LONGEST_TEXT - length text) 0);
   })
   by false e is = cc
 
 -- outside the limits there is no task
-pub task_of-none : (rounds : ℕ) (text : List ℕ) → (rounds ≡ 0) ⊎ (1000 < rounds) ⊎ (64 < length text) → task_of rounds text ≡ None
+pub task_of-none : (rounds : ℕ) (text : List ℕ) → (rounds ≡ 0) ⊎ (MOST_ROUNDS < rounds) ⊎ (LONGEST_TEXT < length text) → task_of rounds text ≡ None
 unfolding task_of
 task_of-none rounds text outside = by (is_task rounds text) refl where
   by : (fits : Bool) (e : is_task rounds text ≡ fits) → made rounds text fits e ≡ None

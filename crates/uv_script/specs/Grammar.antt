@@ -10,6 +10,7 @@ use Rattle.uv_ids.specs.declared.phase.Mode.{Mode}
 use Rattle.uv_ids.specs.declared.fault.Fault.{Fault}
 use Rattle.uv_ids.specs.declared.fault.Fault.TheVariants as fault
 use Rattle.uv_ids.specs.Words.{kind_word, mode_word, order_word}
+use Rattle.uv_ids.specs.declared.limits.TheConstants.{MOST_SENDERS}
 use Rattle.uv_script.specs.declared.op.Op.{Op}
 use Rattle.uv_script.specs.declared.op.Op.TheVariants as op
 use Rattle.uv_script.specs.declared.op.MainOp.{MainOp}
@@ -112,7 +113,7 @@ pub data Says (names : List (List ℕ)) (fields : List (List ℕ)) : Statement �
       Says names fields (HasWorkers n)
   orders : (o : Order) → fields ≡ codes "order" ∷ order_word o ∷ [] → Says names fields (Orders o)
   in_thread : (number : List ℕ) (k : ℕ) (name : List ℕ) (v : Var) → fields ≡ codes "thread" ∷ number ∷ codes "send" ∷ name ∷ [] →
-      IsNumber number k → k < 64 → IsDeclared names name v → Says names fields (InThread (record { thread = k; name = v }))
+      IsNumber number k → k < MOST_SENDERS → IsDeclared names name v → Says names fields (InThread (record { thread = k; name = v }))
 
 -- there is room for one more line, and for one more name; lines of settings don't count
 abbrev pub HasRoom : Program → Statement → Type 0

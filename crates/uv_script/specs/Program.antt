@@ -7,6 +7,7 @@ use Rattle.uv_ids.specs.declared.seen.Callback.{Callback}
 use Rattle.uv_ids.specs.declared.seen.Callback.TheVariants as callback
 use Rattle.uv_ids.specs.declared.seen.Site.{Site}
 use Rattle.uv_ids.specs.declared.seen.Site.TheVariants as site
+use Rattle.uv_ids.specs.declared.limits.TheConstants.{MOST_SENDERS}
 use Rattle.uv_script.specs.declared.op.Op.{Op}
 use Rattle.uv_script.specs.declared.op.MainOp.{MainOp}
 use Rattle.uv_script.specs.declared.op.MainOp.TheVariants as main
@@ -123,7 +124,7 @@ order_of p = p.order
 
 -- a line of a sender's thread, where there are so many names: threads have numbers below 64 (own), and the name is declared
 pub record IsThreadLine (names : ℕ) (line : ThreadLine) : Type 0 where
-  pub thread : line.thread < 64
+  pub thread : line.thread < MOST_SENDERS
   pub declared : line.name.0 < names
 
 -- the lines that count: all but `order`, `workers`, `slots`, empty ones and comments

@@ -13,6 +13,7 @@ use Rattle.uv_ids.specs.declared.order.Order.{Order}
 use Rattle.uv_ids.specs.declared.order.Order.TheVariants as order
 use Rattle.uv_ids.specs.declared.fault.Fault.{Fault}
 use Rattle.uv_ids.specs.declared.fault.Fault.TheVariants as fault
+use Rattle.uv_ids.specs.declared.limits.TheConstants.{MOST_SENDERS}
 use Rattle.uv_script.specs.declared.op.Op.{Op}
 use Rattle.uv_script.specs.declared.op.Op.TheVariants as op
 use Rattle.uv_script.specs.declared.op.MainOp.TheVariants as main
@@ -278,7 +279,7 @@ orders_of fields = do
 unfoldable pub sender_of : List (List ℕ) → ℕ → List (List ℕ) → Option Statement
 sender_of names k fields = do
   v ← name_alone names fields
-  if nat_lt k 64 then Some (InThread (record { thread = k; name = v })) else None
+  if nat_lt k MOST_SENDERS then Some (InThread (record { thread = k; name = v })) else None
 
 -- what stands behind `thread`: a thread only sends
 unfoldable pub thread_of : List (List ℕ) → List (List ℕ) → Option Statement

@@ -4,27 +4,28 @@ use Rattle.std.proofs.Common.{refl, sym, ap, arith, length-append}
 use Rattle.std.proofs.lemmas.List.{length-replicate}
 use Rattle.std.proofs.Math.Seq.{take-append_seam}
 use Rattle.std.proofs.lemmas.Bool.{and_parts, leb-true}
+use Rattle.uv_ids.specs.declared.limits.TheConstants.{LONGEST_TEXT, MOST_ROUNDS}
 use Rattle.uv_script.specs.declared.task.Task.{Task}
 use Rattle.uv_script.specs.TaskFields.{IsRoundCount, IsPadded, padded}
 
 -- the limits of a task
 abbrev pub is_task : ℕ → List ℕ → Bool
-is_task rounds text = (nat_le 1 rounds && nat_le rounds 1000) && nat_le (length text) 64
+is_task rounds text = (nat_le 1 rounds && nat_le rounds MOST_ROUNDS) && nat_le (length text) LONGEST_TEXT
 
 pub rounds_within : (rounds : ℕ) (text : List ℕ) → is_task rounds text ≡ true → IsRoundCount rounds
 rounds_within rounds text e =
-    let tests = and_parts (nat_le 1 rounds && nat_le rounds 1000) (nat_le (length text) 64) e in
-    let both = and_parts (nat_le 1 rounds) (nat_le rounds 1000) tests.0 in
-    record { some = leb-true 1 rounds both.0; few = leb-true rounds 1000 both.1 }
+    let tests = and_parts (nat_le 1 rounds && nat_le rounds MOST_ROUNDS) (nat_le (length text) LONGEST_TEXT) e in
+    let both = and_parts (nat_le 1 rounds) (nat_le rounds MOST_ROUNDS) tests.0 in
+    record { some = leb-true 1 rounds both.0; few = leb-true rounds MOST_ROUNDS both.1 }
 
 pub text_within : (rounds : ℕ) (text : List ℕ) → is_task rounds text ≡ true → IsPadded (length text) (padded text)
 text_within rounds text e =
-    let tests = and_parts (nat_le 1 rounds && nat_le rounds 1000) (nat_le (length text) 64) e in
-    let fits = leb-true (length text) 64 tests.1 in
+    let tests = and_parts (nat_le 1 rounds && nat_le rounds MOST_ROUNDS) (nat_le (length text) LONGEST_TEXT) e in
+    let fits = leb-true (length text) LONGEST_TEXT tests.1 in
     record {
       fits = fits;
-      whole = omega (arith, length-append text (replicate (64 - length text) 0), length-replicate {A = ℕ} (64 - length text) 0);
-      text = ap padded (sym (take-append_seam text (replicate (64 - length text) 0)));
+      whole = omega (arith, length-append text (replicate (LONGEST_TEXT - length text) 0), length-replicate {A = ℕ} (LONGEST_TEXT - length text) 0);
+      text = ap padded (sym (take-append_seam text (replicate (LONGEST_TEXT - length text) 0)));
     }
 
 -- the task of so many rounds over a text

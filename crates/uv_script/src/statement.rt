@@ -12,7 +12,7 @@ use crate::op::{CallbackLine, MainOp, Op};
 use crate::size::ArenaSize;
 use crate::task::Task;
 use crate::words::{is_name, number};
-use uv_ids::{Callback, Kind, Mode, Order, ThreadLine, Var, is};
+use uv_ids::{Callback, Kind, MOST_ROUNDS, MOST_SENDERS, Mode, Order, ThreadLine, Var, is};
 
 /// What a line says.
 #[derive(Drop)]
@@ -113,7 +113,7 @@ fn queue(names: &Names, mut fields: Fields<'_>) -> Option<Op>
 fn task(rounds: u64, text: &[u8]) -> Option<Task>
     ensures { result ≡ task_of rounds text.now }
 {
-    if rounds > 1000 {
+    if rounds > MOST_ROUNDS as u64 {
         return None;
     }
     Task::new(rounds as u16, text)
@@ -434,7 +434,7 @@ fn sender<'a>(names: &Names, thread: u64, fields: Fields<'a>) -> Option<Statemen
     ensures { option_map said result ≡ sender_of names.now thread fields.entry }
 {
     let name = name_alone(names, fields)?;
-    if thread < 64 {
+    if thread < MOST_SENDERS as u64 {
         Some(Statement::InThread(ThreadLine {
             thread: thread as u8,
             name,

@@ -1,12 +1,9 @@
 //! What a work request asks for.
 ghost use Rattle.std.specs.Prelude.{◌≡◌, ◌≤◌, length};
+ghost use Rattle.uv_ids.specs.declared.limits.TheConstants.{LONGEST_TEXT, MOST_ROUNDS};
 ghost use Rattle.uv_script.specs.TaskFields.{IsRoundCount, IsPadded, padded};
 
-/// As many rounds as a task may have (own).
-const MOST_ROUNDS: u16 = 1000;
-
-/// The longest text of a task, in bytes (own).
-const LONGEST_TEXT: usize = 64;
+use uv_ids::{LONGEST_TEXT, MOST_ROUNDS};
 
 /// How often a worker hashes, and the text that it begins with: 1 to 1000 rounds, and a text of at most 64 bytes (own).
 #[derive(Clone, Copy, PartialEq, Eq)]
@@ -28,7 +25,7 @@ impl Task {
     #[tactic(auto, using(crate::proofs::TaskLemmas::tasks))]
     pub fn new(rounds: u16, text: &[u8]) -> Option<Task>
         ensures some { IfSome result (IsTask rounds text.now) }
-        ensures none { IfNone result ((rounds ≡ 0) ⊎ (1000 < rounds) ⊎ (64 < length text.now)) }
+        ensures none { IfNone result ((rounds ≡ 0) ⊎ (MOST_ROUNDS < rounds) ⊎ (LONGEST_TEXT < length text.now)) }
         // The same, as the readers of lines compute it.
         ensures value { result ≡ task_of rounds text.now }
     {
@@ -52,7 +49,7 @@ impl Task {
     /// The text that the first round hashes.
     pub fn text(&self) -> &[u8]
         ensures value { result.now ≡ text_of self.now }
-        ensures within { length result.now ≤ 64 }
+        ensures within { length result.now ≤ LONGEST_TEXT }
     {
         &self.bytes[..self.len as usize]
     }
@@ -60,7 +57,7 @@ impl Task {
 
 /// The text, and then zeros.
 fn padded(text: &[u8]) -> [u8; LONGEST_TEXT]
-    requires { length text.now ≤ 64 }
+    requires { length text.now ≤ LONGEST_TEXT }
     ensures { result ≡ padded text.now }
 {
     let mut bytes = [0; LONGEST_TEXT];

@@ -4,6 +4,7 @@ use Rattle.uv_ids.specs.declared.id.Id.{Id}
 use Rattle.uv_ids.specs.declared.id.Var.{Var}
 use Rattle.uv_ids.specs.declared.code.Code.{Code}
 use Rattle.uv_ids.specs.declared.code.Code.TheVariants.{Estale, Ekind, Ebusy}
+use Rattle.uv_ids.specs.declared.limits.TheConstants.{MOST_ROUNDS}
 use Rattle.uv_work.specs.Work.{Work}
 use Rattle.uv_work.specs.Digests.{digest_of}
 use Rattle.uv_work.specs.declared.outcome.Outcome.{Outcome}
@@ -36,7 +37,7 @@ IsDigest rounds text Cancelled = Unit {0}
 -- what always holds of a request's record
 pub record IsRequest (r : Request) : Type 0 where
   pub some : 1 ≤ r.rounds
-  pub most : r.rounds ≤ 1000
+  pub most : r.rounds ≤ MOST_ROUNDS
   pub digest : IsDigest r.rounds r.text r.outcome
 
 -- a request as `queue` makes it

@@ -1,5 +1,6 @@
 //! The record of a request, and what becomes of it.
 ghost use Rattle.std.specs.Prelude.{◌≡◌, ◌≤◌, ◌<◌, ◌⊎◌, IfSome, IfNone, length};
+ghost use Rattle.uv_ids.specs.declared.limits.TheConstants.{LONGEST_TEXT, MOST_ROUNDS};
 ghost use Rattle.uv_work.specs.declared.outcome.Outcome.TheVariants.{Open};
 ghost use Rattle.uv_work.specs.Requests.{is_open, queued, finished, cancelled, reopened, ended, job_of, IsDigest};
 
@@ -39,7 +40,7 @@ impl RequestRecord {
     /// bytes (own).
     pub fn new(name: Var, rounds: u16, text: &[u8]) -> Option<RequestRecord>
         ensures request { IfSome result (λ request. request ≡ queued name rounds text.now) }
-        ensures outside { IfNone result ((rounds ≡ 0) ⊎ (1000 < rounds) ⊎ (64 < length text.now)) }
+        ensures outside { IfNone result ((rounds ≡ 0) ⊎ (MOST_ROUNDS < rounds) ⊎ (LONGEST_TEXT < length text.now)) }
     {
         if !Job::allows(rounds) {
             return None;
@@ -63,7 +64,7 @@ impl RequestRecord {
     /// How often its job hashes.
     pub fn rounds(&self) -> u16
         ensures value { result ≡ self.now.rounds }
-        ensures within { (1 ≤ result) × (result ≤ 1000) }
+        ensures within { (1 ≤ result) × (result ≤ MOST_ROUNDS) }
     {
         self.rounds
     }
@@ -71,7 +72,7 @@ impl RequestRecord {
     /// The text that the first round hashes.
     pub fn text(&self) -> &[u8]
         ensures value { result.now ≡ self.now.text }
-        ensures within { length result.now ≤ 64 }
+        ensures within { length result.now ≤ LONGEST_TEXT }
     {
         self.text.as_slice()
     }

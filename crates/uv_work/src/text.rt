@@ -1,10 +1,9 @@
 //! The text of a job.
 ghost use Rattle.std.specs.Prelude.{◌≡◌, ◌-◌, ◌≤◌, ◌<◌, ◌++◌, length, replicate, IfSome, IfNone};
+ghost use Rattle.uv_ids.specs.declared.limits.TheConstants.{LONGEST_TEXT};
 
 use std::marker::Model;
-
-/// The longest text of a job, in bytes (own).
-const LONGEST_TEXT: usize = 64;
+use uv_ids::LONGEST_TEXT;
 
 /// A text of at most 64 bytes. Contracts see it as its bytes.
 #[derive(Clone, Copy, PartialEq, Eq)]
@@ -33,8 +32,8 @@ impl Text {
     /// A text. None exactly where it is longer than 64 bytes (own).
     pub fn new(bytes: &[u8]) -> Option<Text>
         ensures text { IfSome result (λ text. text ≡ bytes.now) }
-        ensures within { IfSome result (λ text. length bytes.now ≤ 64) }
-        ensures outside { IfNone result (64 < length bytes.now) }
+        ensures within { IfSome result (λ text. length bytes.now ≤ LONGEST_TEXT) }
+        ensures outside { IfNone result (LONGEST_TEXT < length bytes.now) }
     {
         if bytes.len() > LONGEST_TEXT {
             return None;
@@ -48,7 +47,7 @@ impl Text {
     /// Its bytes.
     pub fn as_slice(&self) -> &[u8]
         ensures value { result.now ≡ self.now }
-        ensures within { length result.now ≤ 64 }
+        ensures within { length result.now ≤ LONGEST_TEXT }
     {
         &self.bytes[..self.len as usize]
     }
@@ -56,9 +55,9 @@ impl Text {
 
 /// The text, and then zeros.
 fn padded(text: &[u8]) -> [u8; LONGEST_TEXT]
-    requires { length text.now ≤ 64 }
-    ensures bytes { result ≡ text.now ++ replicate (64 - length text.now) 0 }
-    ensures whole { length result ≡ 64 }
+    requires { length text.now ≤ LONGEST_TEXT }
+    ensures bytes { result ≡ text.now ++ replicate (LONGEST_TEXT - length text.now) 0 }
+    ensures whole { length result ≡ LONGEST_TEXT }
 {
     let mut bytes = [0; LONGEST_TEXT];
     bytes[..text.len()].copy_from_slice(text);
