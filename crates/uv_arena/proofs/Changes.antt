@@ -12,7 +12,8 @@ use Rattle.uv_arena.specs.declared.links.Links.{Links}
 use Rattle.uv_arena.specs.declared.links.Cell.{Cell}
 use Rattle.uv_arena.specs.declared.undo.InsertUndo.{InsertUndo}
 use Rattle.uv_arena.specs.Chains.{link, loose, first, IsIn, IsSegment}
-use Rattle.uv_arena.specs.Image.{Image, Memory, FREE, IsWithin, list_or_first, name_at, chains, chain, links_in, links_at, slot_in, slot_at, place_at, put_in, taken_out, edited, grown, with_links, in_memory, front_place, head_at, held_slots, plain_slots, held, on_list, IsSound, IsLinked, AreFit}
+use Rattle.uv_arena.specs.declared.links.TheConstants.{FREE}
+use Rattle.uv_arena.specs.Image.{Image, Memory, IsWithin, list_or_first, name_at, chains, chain, links_in, links_at, slot_in, slot_at, place_at, put_in, taken_out, edited, grown, with_links, in_memory, front_place, head_at, held_slots, plain_slots, held, on_list, IsSound, IsLinked, AreFit}
 use Rattle.uv_arena.specs.Undo.{insert_undone, set_undone}
 use Rattle.uv_arena.specs.Calls.{IsInserted, IsSet}
 use Rattle.uv_arena.proofs.Memories.{place_of, get-links, get-slots, take_made, head_is, slots_relinked, length_relinked, own_relinked, list_relinked, chain_edited, length_edited, linked_edited, own_edited, list_edited, slots_edited, edited_back, others_fit, fit_relinked, fit_edited, all_fit, member_tells}

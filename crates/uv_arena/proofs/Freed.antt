@@ -7,7 +7,8 @@ use Rattle.std.proofs.lemmas.Option.{slice_get_within}
 use Rattle.uv_arena.specs.declared.links.Cell.{Cell}
 use Rattle.uv_arena.specs.declared.links.Links.{Links}
 use Rattle.uv_arena.specs.Chains.{IsIn}
-use Rattle.uv_arena.specs.Image.{Memory, FREE, chain, links_at, links_in, IsLinked}
+use Rattle.uv_arena.specs.declared.links.TheConstants.{FREE}
+use Rattle.uv_arena.specs.Image.{Memory, chain, links_at, links_in, IsLinked}
 use Rattle.uv_arena.proofs.Memories.{member_tells, get-links}
 
 any_in : (xs : List ℕ) (x : ℕ) → IsIn x xs → list_any (λ n. n == x) xs ≡ true

@@ -4,6 +4,8 @@ use Rattle.std.proofs.lemmas.Grind.{elements}
 use Rattle.std.proofs.lemmas.List.{map-append}
 use Rattle.std.proofs.Math.Seq.{take-append_seam}
 use Rattle.uv_raw.specs.Row.{row}
+use Rattle.uv_records.specs.declared.lists.TheConstants.{LIST_COUNT}
+use Rattle.uv_arena.specs.declared.links.TheConstants.{CHAIN_COUNT}
 use Rattle.uv_arena.specs.declared.links.Links.{Links}
 use Rattle.uv_records.specs.declared.lists.Ends.{Ends}
 use Rattle.uv_arena.specs.declared.links.Cell.{Cell}
@@ -48,15 +50,15 @@ stands_more c xs s = record {
   rest = λ y m g is. elim (get_less c.links loose y m g) [ inl was ↦ s.rest y m was is | inr new ↦ new ];
 }
 
-stands_none : (es : List Ends) → es ≡ replicate 15 no_ends → Stands (record { links = []; ends = es }) (λ k. [])
+stands_none : (es : List Ends) → es ≡ replicate CHAIN_COUNT no_ends → Stands (record { links = []; ends = es }) (λ k. [])
 stands_none es e = record {
-  lists = λ k lt. record { segment = tt; apart = tt; ends = ap (λ l. slice_get l k) e ∙ get_same 15 k no_ends lt };
+  lists = λ k lt. record { segment = tt; apart = tt; ends = ap (λ l. slice_get l k) e ∙ get_same CHAIN_COUNT k no_ends lt };
   listed = λ y m k g is. cc;
   rest = λ y m g is. cc;
 }
 
 -- the names of fourteen lists in their order
-in_order : (k : ℕ) → k < 14 → name_at (0 ∷ 1 ∷ 2 ∷ 3 ∷ 4 ∷ 5 ∷ 6 ∷ 7 ∷ 8 ∷ 9 ∷ 10 ∷ 11 ∷ 12 ∷ 13 ∷ []) k ≡ k
+in_order : (k : ℕ) → k < LIST_COUNT → name_at (0 ∷ 1 ∷ 2 ∷ 3 ∷ 4 ∷ 5 ∷ 6 ∷ 7 ∷ 8 ∷ 9 ∷ 10 ∷ 11 ∷ 12 ∷ 13 ∷ []) k ≡ k
 in_order zero lt = refl
 in_order (suc zero) lt = refl
 in_order (suc (suc zero)) lt = refl
@@ -76,7 +78,7 @@ in_order (suc (suc (suc (suc (suc (suc (suc (suc (suc (suc (suc (suc (suc (suc k
 pub fresh_sound : {X : Type 0} (capacity last : ℕ) → capacity < 2 ^ 32 → last < 2 ^ 32 → IsSound (fresh_image X capacity last)
 fresh_sound {X} capacity last lt ll = record {
   linked = record {
-    stands = stands_walked (record { links = []; ends = replicate 15 no_ends }) (λ k. []) (stands_none (replicate 15 no_ends) refl);
+    stands = stands_walked (record { links = []; ends = replicate CHAIN_COUNT no_ends }) (λ k. []) (stands_none (replicate CHAIN_COUNT no_ends) refl);
     all_ends = refl;
     within = omega arith;
     few = lt;
@@ -84,7 +86,7 @@ fresh_sound {X} capacity last lt ll = record {
   fit = λ y c g. cc;
   names = record {
     all = refl;
-    below = λ k l. subst (λ n. n < 14) (sym (in_order k l)) l;
+    below = λ k l. subst (λ n. n < LIST_COUNT) (sym (in_order k l)) l;
     apart = λ j k lj lk e. sym (in_order j lj) ∙ e ∙ in_order k lk;
   };
   last = ll;
@@ -112,7 +114,7 @@ module _ {X : Type 0} where
     few = h.few;
   }
 
-  pub chain_grown : (v : X) (m : Memory X) → IsLinked m → (k : ℕ) → k < 15 → chain (grown v m) k ≡ chain m k
+  pub chain_grown : (v : X) (m : Memory X) → IsLinked m → (k : ℕ) → k < CHAIN_COUNT → chain (grown v m) k ≡ chain m k
   chain_grown v m h k lt = walked (chains (grown v m)) k (chain m k) ((stands_grown v m h).lists k lt)
 
   pub fit_grown : (last : ℕ) (v : X) (m : Memory X) → AreFit last m.row.items → AreFit last (grown v m).row.items

@@ -4,13 +4,15 @@ use Rattle.std.proofs.lemmas.Bool.{and_parts}
 use Rattle.std.proofs.lemmas.Bool.Decides.{eqb_tells}
 use Rattle.std.proofs.lemmas.Option.{slice_get-map}
 use Rattle.uv_ids.specs.declared.id.Id.{Id}
+use Rattle.uv_records.specs.declared.lists.TheConstants.{LIST_COUNT}
 use Rattle.uv_records.specs.declared.lists.ListName.{ListName}
 use Rattle.uv_records.specs.Lists.{number}
 use Rattle.uv_records.specs.Slots as plain
 use Rattle.uv_records.specs.Walks.{without}
 use Rattle.uv_arena.specs.declared.links.Cell.{Cell}
 use Rattle.uv_arena.specs.Chains.{IsIn, IsApart}
-use Rattle.uv_arena.specs.Image.{Image, Memory, FREE, name_at, chain, links_in, links_at, held_slots, members, held, on_list, IsSound}
+use Rattle.uv_arena.specs.declared.links.TheConstants.{FREE}
+use Rattle.uv_arena.specs.Image.{Image, Memory, name_at, chain, links_in, links_at, held_slots, members, held, on_list, IsSound}
 use Rattle.uv_arena.proofs.Lists.{in_right}
 use Rattle.uv_arena.proofs.Memories.{or_none, placed, member_tells}
 use Rattle.uv_arena.proofs.Names.{number_apart, number_below}
@@ -92,7 +94,7 @@ module _ {X : Type 0} where
     pub there : IsThere m d
     pub list : ℕ
     pub on : there.cell.links.list ≡ Some list
-    pub below : list < 14
+    pub below : list < LIST_COUNT
 
   -- a slot that is on a list is held there by its links
   pub is_on : (v : Image X) → IsSound v → (d : Id) → on_list v d ≡ true → IsThereOn v.memory d
@@ -111,7 +113,7 @@ module _ {X : Type 0} where
 
   -- ---- lists by name
 
-  pub name_below : (v : Image X) → IsSound v → (l : ListName) → name_at v.names (number l) < 14
+  pub name_below : (v : Image X) → IsSound v → (l : ListName) → name_at v.names (number l) < LIST_COUNT
   name_below v s l = s.names.below (number l) (number_below l)
 
   pub name_other : (v : Image X) → IsSound v → (a b : ListName) → a ≢ b → name_at v.names (number a) ≢ name_at v.names (number b)
@@ -120,13 +122,13 @@ module _ {X : Type 0} where
   -- a slot is on one list at the most
   pub one_list : (v : Image X) → IsSound v → (a b : ListName) (x : ℕ) → IsIn x (members v a) → IsIn x (members v b) → a ≢ b → ⊥
   one_list v s a b x ha hb ne =
-      let la : name_at v.names (number a) < 14 = name_below v s a in let lb : name_at v.names (number b) < 14 = name_below v s b in
+      let la : name_at v.names (number a) < LIST_COUNT = name_below v s a in let lb : name_at v.names (number b) < LIST_COUNT = name_below v s b in
       let ca = member_tells v.memory s.linked (name_at v.names (number a)) (omega arith) x ha in
       let cb = member_tells v.memory s.linked (name_at v.names (number b)) (omega arith) x hb in
       name_other v s a b ne (let same : name_at v.names (number a) ≡ name_at v.names (number b) = cc (ca.1, cb.1, ca.2, cb.2) in same)
 
   -- a member of a list is held
-  pub member_held : (v : Image X) → IsSound v → (k x : ℕ) → k < 14 → IsIn x (chain v.memory k)
+  pub member_held : (v : Image X) → IsSound v → (k x : ℕ) → k < LIST_COUNT → IsIn x (chain v.memory k)
       → (c : Cell X) × (w : X) × (slice_get v.memory.row.items x ≡ Some c) × (c.slot.content ≡ Some w) × (c.links.list ≡ Some k)
   member_held v s k x lt h =
       let on = member_tells v.memory s.linked k (omega arith) x h in let fit = s.fit x on.0 on.1 in

@@ -5,6 +5,7 @@ use Rattle.std.proofs.lemmas.List.{length-map, map-set}
 use Rattle.std.proofs.lemmas.Option.{slice_get_within}
 use Rattle.uv_raw.specs.Row.{row}
 use Rattle.uv_records.specs.declared.slot.Slot.{Slot}
+use Rattle.uv_arena.specs.declared.links.TheConstants.{CHAIN_COUNT}
 use Rattle.uv_arena.specs.declared.links.Links.{Links}
 use Rattle.uv_arena.specs.declared.links.Place.{Place}
 use Rattle.uv_arena.specs.declared.links.Cell.{Cell}
@@ -102,19 +103,19 @@ module _ {X : Type 0} where
     pub within : IsWithin t (length n.row.items)
     pub linked : IsLinked n
     pub now : chain n t.list ≡ new
-    pub others : (k : ℕ) → k < 15 → k ≢ t.list → chain n k ≡ chain m k
+    pub others : (k : ℕ) → k < CHAIN_COUNT → k ≢ t.list → chain n k ≡ chain m k
 
-  below : (m : Memory X) → IsLinked m → (k : ℕ) → k < 15 → (y : ℕ) → IsIn y (chain m k) → y < length m.row.items
+  below : (m : Memory X) → IsLinked m → (k : ℕ) → k < CHAIN_COUNT → (y : ℕ) → IsIn y (chain m k) → y < length m.row.items
   below m s k lt y h =
       let tells = segment_tells (chains m).links k None (chain m k) None (s.stands.lists k lt).segment y h in
       subst (λ n. y < n) (length-map m.row.items (λ z. z.links)) (slice_get_within (chains m).links y tells.0 tells.1)
 
-  last_below : (m : Memory X) → IsLinked m → (k : ℕ) → k < 15 → (us vs : List ℕ) → chain m k ≡ us ++ vs → (o : Option ℕ) → o ≡ last None us
+  last_below : (m : Memory X) → IsLinked m → (k : ℕ) → k < CHAIN_COUNT → (us vs : List ℕ) → chain m k ≡ us ++ vs → (o : Option ℕ) → o ≡ last None us
       → IsBelow o (length m.row.items)
   last_below m s k lt us vs is None e = tt
   last_below m s k lt us vs is (Some y) e = below m s k lt y (subst (IsIn y) (sym is) (in_left y us vs (last_is_in us y (sym e))))
 
-  first_below : (m : Memory X) → IsLinked m → (k : ℕ) → k < 15 → (us vs : List ℕ) → chain m k ≡ us ++ vs → (o : Option ℕ) → o ≡ first vs None
+  first_below : (m : Memory X) → IsLinked m → (k : ℕ) → k < CHAIN_COUNT → (us vs : List ℕ) → chain m k ≡ us ++ vs → (o : Option ℕ) → o ≡ first vs None
       → IsBelow o (length m.row.items)
   first_below m s k lt us vs is None e = tt
   first_below m s k lt us vs is (Some y) e = below m s k lt y (subst (IsIn y) (sym is) (in_right y us vs (first_is_in vs y (sym e))))
@@ -137,7 +138,7 @@ module _ {X : Type 0} where
         others = λ k lt ne. walked (chains n) k (xs k) (st'.lists k lt) ∙ ap (λ u. cond u new (chain m k)) (eqb_no t.list k (λ e. ne (sym e)));
       }
 
-  pub put_made : (m : Memory X) → IsLinked m → (k x : ℕ) (us vs : List ℕ) → k < 15 → chain m k ≡ us ++ vs → (c : Cell X)
+  pub put_made : (m : Memory X) → IsLinked m → (k x : ℕ) (us vs : List ℕ) → k < CHAIN_COUNT → chain m k ≡ us ++ vs → (c : Cell X)
       → slice_get m.row.items x ≡ Some c → c.links.list ≡ None
       → IsMade m (put_in (between k us x vs) m) (between k us x vs) (us ++ x ∷ vs)
       × (taken_out (between k us x vs) (put_in (between k us x vs) m) ≡ m)
@@ -156,7 +157,7 @@ module _ {X : Type 0} where
         memory_back t (Some x) (Some x) (first vs None) (last None us) (link k (last None us) (first vs None)) loose m both.1,
       )
 
-  pub take_made : (m : Memory X) → IsLinked m → (k x : ℕ) (us vs : List ℕ) → k < 15 → chain m k ≡ us ++ x ∷ vs
+  pub take_made : (m : Memory X) → IsLinked m → (k x : ℕ) (us vs : List ℕ) → k < CHAIN_COUNT → chain m k ≡ us ++ x ∷ vs
       → IsMade m (taken_out (between k us x vs) m) (between k us x vs) (us ++ vs) × (put_in (between k us x vs) (taken_out (between k us x vs) m) ≡ m)
   take_made m s k x us vs lt is =
       let t = between k us x vs in
@@ -172,15 +173,15 @@ module _ {X : Type 0} where
       )
 
   -- the ends of a chain are its first and its last slot
-  pub head_is : (m : Memory X) → IsLinked m → (k : ℕ) → k < 15 → head_at m k ≡ first (chain m k) None
+  pub head_is : (m : Memory X) → IsLinked m → (k : ℕ) → k < CHAIN_COUNT → head_at m k ≡ first (chain m k) None
   head_is m s k lt = ap head_of (s.stands.lists k lt).ends
 
-  pub tail_is : (m : Memory X) → IsLinked m → (k : ℕ) → k < 15 → tail_at m k ≡ last None (chain m k)
+  pub tail_is : (m : Memory X) → IsLinked m → (k : ℕ) → k < CHAIN_COUNT → tail_at m k ≡ last None (chain m k)
   tail_is m s k lt = ap tail_of (s.stands.lists k lt).ends
 
   -- a slot on a chain has its two neighbours there
   pub placed : (m : Memory X) → IsLinked m → (k x : ℕ) (c : Cell X) → slice_get m.row.items x ≡ Some c → c.links.list ≡ Some k
-      → (k < 15) × ((us : List ℕ) × (vs : List ℕ) × (chain m k ≡ us ++ x ∷ vs) × (c.links ≡ link k (last None us) (first vs None)))
+      → (k < CHAIN_COUNT) × ((us : List ℕ) × (vs : List ℕ) × (chain m k ≡ us ++ x ∷ vs) × (c.links ≡ link k (last None us) (first vs None)))
   placed m s k x c at is =
       let g = get-links m.row.items x c at in
       let on = s.stands.listed x c.links k g is in
@@ -195,7 +196,7 @@ module _ {X : Type 0} where
   no_links (c ∷ cs) (suc y) l n e = no_links cs y l n e
 
   -- a slot that is a member of a chain says so
-  pub member_tells : (m : Memory X) → IsLinked m → (k : ℕ) → k < 15 → (x : ℕ) → IsIn x (chain m k)
+  pub member_tells : (m : Memory X) → IsLinked m → (k : ℕ) → k < CHAIN_COUNT → (x : ℕ) → IsIn x (chain m k)
       → (c : Cell X) × (slice_get m.row.items x ≡ Some c) × (c.links.list ≡ Some k)
   member_tells m s k lt x h =
       let tells = segment_tells (chains m).links k None (chain m k) None (s.stands.lists k lt).segment x h in

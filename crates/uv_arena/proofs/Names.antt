@@ -3,6 +3,7 @@ use Rattle.std.proofs.Common.{◌≡◌, ◌≢◌, ℕ, ◌<◌, ◌==◌, ◌�
 use Rattle.std.specs.List.{swap}
 use Rattle.std.proofs.lemmas.Bool.Decides.{eqb_tells}
 use Rattle.std.proofs.lemmas.List.Edits.{length-swap, swapped_from_swap}
+use Rattle.uv_records.specs.declared.lists.TheConstants.{LIST_COUNT}
 use Rattle.uv_records.specs.declared.lists.ListName.{ListName}
 use Rattle.uv_records.specs.declared.lists.ListName.TheVariants.{Ready, Idle, IdleYet, Prepare, PrepareYet, Check, CheckYet, Async, AsyncYet, Closing, ClosingYet, Waiting, Done, DoneYet}
 use Rattle.uv_records.specs.Lists.{number}
@@ -34,7 +35,7 @@ there DoneYet = refl
 pub number_apart : (a b : ListName) → number a ≡ number b → a ≡ b
 number_apart a b e = sym (there a) ∙ ap name_of e ∙ there b
 
-pub number_below : (l : ListName) → number l < 14
+pub number_below : (l : ListName) → number l < LIST_COUNT
 number_below Ready = omega arith
 number_below Idle = omega arith
 number_below IdleYet = omega arith
@@ -106,14 +107,14 @@ swap_twice ns a b la lb =
     let one = moved ns a b la lb two.0 in
     two.2 ∙ one.2 ∙ ap (name_at ns) (moves_back a b k two.0 one.0 two.1 one.1))
 
-pub names_swapped : (ns : List ℕ) → AreNames ns → (a b : ℕ) → a < 14 → b < 14 → AreNames (swap ns a b)
+pub names_swapped : (ns : List ℕ) → AreNames ns → (a b : ℕ) → a < LIST_COUNT → b < LIST_COUNT → AreNames (swap ns a b)
 names_swapped ns h a b la lb =
     let la' : a < length ns = subst (λ n. a < n) (sym h.all) la in let lb' : b < length ns = subst (λ n. b < n) (sym h.all) lb in
-    let below : (k j : ℕ) → Moves a b k j → k < 14 → j < 14 =
+    let below : (k j : ℕ) → Moves a b k j → k < LIST_COUNT → j < LIST_COUNT =
     λ k j m lt. subst (λ n. j < n) h.all (moved_below ns a b la' lb' k j m (subst (λ n. k < n) (sym h.all) lt)) in
     record {
       all = length-swap ns a b ∙ h.all;
-      below = λ k lt. let one = moved ns a b la' lb' k in subst (λ n. n < 14) (sym one.2) (h.below one.0 (below k one.0 one.1 lt));
+      below = λ k lt. let one = moved ns a b la' lb' k in subst (λ n. n < LIST_COUNT) (sym one.2) (h.below one.0 (below k one.0 one.1 lt));
       apart = λ j k lj lk e.
           let one = moved ns a b la' lb' j in let two = moved ns a b la' lb' k in
           moves_apart a b j one.0 k two.0 one.1 two.1 (h.apart one.0 two.0 (below j one.0 one.1 lj) (below k two.0 two.1 lk) (sym one.2 ∙ e ∙ two.2));

@@ -1,5 +1,6 @@
 -- A slot is put in a place of a list, or taken out of it; and each undoes the other.
 use Rattle.std.proofs.Common.{◌≡◌, ℕ, ◌<◌, List, [], ◌∷◌, ◌++◌, slice_get, Option, Some, None, refl, sym, ap, ◌∙◌, subst, inl, inr}
+use Rattle.uv_arena.specs.declared.links.TheConstants.{CHAIN_COUNT}
 use Rattle.uv_arena.specs.declared.links.Links.{Links}
 use Rattle.uv_records.specs.declared.lists.Ends.{Ends}
 use Rattle.uv_arena.specs.declared.links.Place.{Place}
@@ -58,7 +59,7 @@ tail_own : (us vs : List ℕ) (x : ℕ) → first vs None ≡ None → last None
 tail_own us [] x e = last_append us (x ∷ []) None
 tail_own us (v ∷ vs) x e = cc
 
-module _ (c : Chains) (xs : ℕ → List ℕ) (s : Stands c xs) (k x : ℕ) (us vs : List ℕ) (lt : k < 15) where
+module _ (c : Chains) (xs : ℕ → List ℕ) (s : Stands c xs) (k x : ℕ) (us vs : List ℕ) (lt : k < CHAIN_COUNT) where
   -- x, on no list, is put between us and vs
   pub link_stands : xs k ≡ us ++ vs → slice_get c.links x ≡ Some loose
       → Stands (linked (between k us x vs) c) (with_list k (us ++ x ∷ vs) xs) × (unlinked (between k us x vs) (linked (between k us x vs) c) ≡ c)

@@ -3,6 +3,7 @@ use Rattle.std.proofs.Common.{◌≡◌, ℕ, ◌-◌, ◌<◌, Bool, true, fals
 use Rattle.std.proofs.lemmas.Bool.Decides.{eqb_tells}
 use Rattle.std.proofs.lemmas.Option.{slice_get_within}
 use Rattle.uv_ids.specs.declared.id.Id.{Id}
+use Rattle.uv_records.specs.declared.lists.TheConstants.{LIST_COUNT}
 use Rattle.uv_records.specs.declared.lists.ListName.{ListName}
 use Rattle.uv_records.specs.Lists.{number}
 use Rattle.uv_records.specs.Slots as plain
@@ -11,7 +12,8 @@ use Rattle.uv_arena.specs.declared.links.Links.{Links}
 use Rattle.uv_arena.specs.declared.links.Place.{Place}
 use Rattle.uv_arena.specs.declared.links.Cell.{Cell}
 use Rattle.uv_arena.specs.Chains.{link, loose, first, last, IsApart}
-use Rattle.uv_arena.specs.Image.{Image, Memory, FREE, IsWithin, list_or_first, name_at, chain, links_in, links_at, place_at, put_in, taken_out, with_links, in_memory, front_place, back_place, members, held_slots, plain_slots, held, on_list, IsSound, AreFit}
+use Rattle.uv_arena.specs.declared.links.TheConstants.{FREE}
+use Rattle.uv_arena.specs.Image.{Image, Memory, IsWithin, list_or_first, name_at, chain, links_in, links_at, place_at, put_in, taken_out, with_links, in_memory, front_place, back_place, members, held_slots, plain_slots, held, on_list, IsSound, AreFit}
 use Rattle.uv_arena.specs.Undo.{push_undone, unlink_undone}
 use Rattle.uv_arena.specs.Calls.{IsPushed, IsUnlinked}
 use Rattle.uv_arena.proofs.Memories.{place_of, put_made, take_made, placed, head_is, tail_is, slots_relinked, length_relinked, own_relinked, list_relinked, others_fit, fit_relinked, all_fit, member_tells}
@@ -47,7 +49,7 @@ module _ {X : Type 0} where
       → IsPut v list d (between (name_at v.names (number list)) us d.slot vs) (us ++ d.slot ∷ vs)
   put_between v s list d h bare us vs is =
       let k = name_at v.names (number list) in let x = d.slot in let m = v.memory in
-      let lt : k < 14 = name_below v s list in
+      let lt : k < LIST_COUNT = name_below v s list in
       let there = is_there m d h in let c = there.cell in
       let both = put_made m s.linked k x us vs (omega arith) is c there.at (is_loose v d h bare c there.at) in
       let t = between k us x vs in let own = link k (last None us) (first vs None) in
@@ -89,14 +91,14 @@ module _ {X : Type 0} where
   pub put_front : (v : Image X) → IsSound v → (list : ListName) (d : Id) → is_some (held v d) ≡ true → on_list v d ≡ false
       → IsPut v list d (front_place (name_at v.names (number list)) d.slot v.memory) (d.slot ∷ members v list)
   put_front v s list d h bare =
-      let k = name_at v.names (number list) in let lt : k < 14 = name_below v s list in
+      let k = name_at v.names (number list) in let lt : k < LIST_COUNT = name_below v s list in
       subst (λ o. IsPut v list d (place_of k None d.slot o) (d.slot ∷ members v list)) (sym (head_is v.memory s.linked k (omega arith)))
       (put_between v s list d h bare [] (members v list) refl)
 
   pub put_back : (v : Image X) → IsSound v → (list : ListName) (d : Id) → is_some (held v d) ≡ true → on_list v d ≡ false
       → IsPut v list d (back_place (name_at v.names (number list)) d.slot v.memory) (members v list ++ d.slot ∷ [])
   put_back v s list d h bare =
-      let k = name_at v.names (number list) in let lt : k < 14 = name_below v s list in
+      let k = name_at v.names (number list) in let lt : k < LIST_COUNT = name_below v s list in
       subst (λ o. IsPut v list d (place_of k o d.slot None) (members v list ++ d.slot ∷ [])) (sym (tail_is v.memory s.linked k (omega arith)))
       (put_between v s list d h bare (members v list) [] (sym (append-nil (members v list))))
 
@@ -112,7 +114,7 @@ module _ {X : Type 0} where
       → (let t = between on.list us d.slot vs in IsWithin t (length v.memory.row.items) × IsSound (in_memory (taken_out t) v)
       × IsUnlinked v (in_memory (taken_out t) v) d t)
   taken_between v s d on us vs is =
-      let k = on.list in let x = d.slot in let m = v.memory in let lt : k < 14 = on.below in
+      let k = on.list in let x = d.slot in let m = v.memory in let lt : k < LIST_COUNT = on.below in
       let there = on.there in let c = there.cell in
       let both = take_made m s.linked k x us vs (omega arith) is in
       let t = between k us x vs in
@@ -130,7 +132,7 @@ module _ {X : Type 0} where
       let slots = slots_relinked t t.after t.before loose m in
       let back : unlink_undone t j ≡ v = ap (λ (q : Memory X). record { memory = q; names = v.names; last = v.last }) both.1 in
       let listed : (l : ListName) → members j l ≡ without eqb (members v l) x = λ l.
-      let low : name_at v.names (number l) < 14 = name_below v s l in
+      let low : name_at v.names (number l) < LIST_COUNT = name_below v s l in
       elim (eqb_tells (name_at v.names (number l)) k) [
         | inl e ↦ ap (chain n) e.1 ∙ both.0.now ∙ sym (ap (λ q. without eqb q x) (ap (chain m) e.1 ∙ is)
             ∙ without_one us vs x (subst IsApart is (s.linked.stands.lists k (omega arith)).apart))

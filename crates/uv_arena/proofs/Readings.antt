@@ -2,6 +2,7 @@
 use Rattle.std.proofs.Common.{◌≡◌, ℕ, eqb, ◌<◌, true, false, ◌&&◌, List, [], ◌∷◌, ◌++◌, length, Option, Some, None, is_some, refl, sym, ap, ◌∙◌, subst, inr, arith}
 use Rattle.std.proofs.lemmas.Option.{slice_get_within}
 use Rattle.uv_ids.specs.declared.id.Id.{Id}
+use Rattle.uv_records.specs.declared.lists.TheConstants.{LIST_COUNT}
 use Rattle.uv_records.specs.declared.lists.ListName.{ListName}
 use Rattle.uv_records.specs.Lists.{number}
 use Rattle.uv_records.specs.Walks.{without}
@@ -39,7 +40,7 @@ module _ {X : Type 0} where
     pub slot : x < length v.memory.row.items
     pub listed : IsListed v (id_at v x)
 
-  pub is_member : (v : Image X) → IsSound v → (k x : ℕ) → k < 14 → IsIn x (chain v.memory k) → IsMember v x
+  pub is_member : (v : Image X) → IsSound v → (k x : ℕ) → k < LIST_COUNT → IsIn x (chain v.memory k) → IsMember v x
   is_member v s k x lt h =
       let m = v.memory in let c = member_held v s k x lt h in
       let gen : c.0.slot.generation ≡ (slot_at m x).generation = sym (ap (λ o. (slot_in o).generation) c.2) in
@@ -58,7 +59,7 @@ module _ {X : Type 0} where
   pub first_listed : (v : Image X) → IsSound v → (list : ListName) (x : ℕ) → head_at v.memory (name_at v.names (number list)) ≡ Some x
       → HeadIs v list x
   first_listed v s list x e =
-      let k = name_at v.names (number list) in let lt : k < 14 = name_below v s list in
+      let k = name_at v.names (number list) in let lt : k < LIST_COUNT = name_below v s list in
       let is = sym (head_is v.memory s.linked k (omega arith)) ∙ e in
       let cut = some_first (chain v.memory k) x is in let one = is_member v s k x lt (first_is_in (chain v.memory k) x is) in
       record {
@@ -79,14 +80,14 @@ module _ {X : Type 0} where
   pub last_listed : (v : Image X) → IsSound v → (list : ListName) (x : ℕ) → tail_at v.memory (name_at v.names (number list)) ≡ Some x
       → TailIs v list x
   last_listed v s list x e =
-      let k = name_at v.names (number list) in let lt : k < 14 = name_below v s list in
+      let k = name_at v.names (number list) in let lt : k < LIST_COUNT = name_below v s list in
       let is = sym (tail_is v.memory s.linked k (omega arith)) ∙ e in
       let cut = some_last (chain v.memory k) x is in let one = is_member v s k x lt (last_is_in (chain v.memory k) x is) in
       record { slot = one.slot; last = record { front = cut.0; is = cut.1; listed = one.listed } }
 
   pub last_missing : (v : Image X) → IsSound v → (list : ListName) → tail_at v.memory (name_at v.names (number list)) ≡ None → members v list ≡ []
   last_missing v s list e =
-      let k = name_at v.names (number list) in let lt : k < 14 = name_below v s list in
+      let k = name_at v.names (number list) in let lt : k < LIST_COUNT = name_below v s list in
       none_last (chain v.memory k) (sym (tail_is v.memory s.linked k (omega arith)) ∙ e)
 
   -- ---- neighbours
@@ -105,7 +106,7 @@ module _ {X : Type 0} where
       let own : links_at m x ≡ c.links = ap links_in on.there.at in
       let by : (l : ListName) (ys zs : List ℕ) → members v l ≡ ys ++ x ∷ zs
       → (c.links.next ≡ first zs None) × (c.links.prev ≡ last None ys) = λ l ys zs is.
-      let k = name_at v.names (number l) in let lt : k < 14 = name_below v s l in
+      let k = name_at v.names (number l) in let lt : k < LIST_COUNT = name_below v s l in
       let seg = segment_right (chains m).links k None ys (x ∷ zs) None
       (subst (λ q. IsSegment (chains m).links k None q None) is (s.linked.stands.lists k (omega arith)).segment) in
       let got = get-links m.row.items x c on.there.at in
@@ -128,6 +129,6 @@ module _ {X : Type 0} where
   pub apart_from : (v : Image X) → IsSound v → (d : Id) → is_some (held v d) ≡ true → on_list v d ≡ false → (l : ListName)
       → without eqb (members v l) d.slot ≡ members v l
   apart_from v s d h bare l =
-      let k = name_at v.names (number l) in let lt : k < 14 = name_below v s l in
+      let k = name_at v.names (number l) in let lt : k < LIST_COUNT = name_below v s l in
       without_none (members v l) d.slot (λ i.
       let c = member_tells v.memory s.linked k (omega arith) d.slot i in cc (is_loose v d h bare c.0 c.1, c.2))

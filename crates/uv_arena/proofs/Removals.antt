@@ -9,7 +9,8 @@ use Rattle.uv_records.specs.Slots as plain
 use Rattle.uv_arena.specs.declared.links.Place.{Place}
 use Rattle.uv_arena.specs.declared.undo.RemoveUndo.{RemoveUndo}
 use Rattle.uv_arena.specs.Chains.{link, first}
-use Rattle.uv_arena.specs.Image.{Image, Memory, FREE, IsWithin, list_or_first, name_at, chain, links_in, slot_in, slot_at, place_at, put_in, taken_out, edited, in_memory, front_place, held_slots, plain_slots, held, on_list, IsSound}
+use Rattle.uv_arena.specs.declared.links.TheConstants.{FREE}
+use Rattle.uv_arena.specs.Image.{Image, Memory, IsWithin, list_or_first, name_at, chain, links_in, slot_in, slot_at, place_at, put_in, taken_out, edited, in_memory, front_place, held_slots, plain_slots, held, on_list, IsSound}
 use Rattle.uv_arena.specs.Undo.{remove_undone}
 use Rattle.uv_arena.specs.Calls.{IsRemoved}
 use Rattle.uv_arena.proofs.Memories.{place_of, put_made, head_is, slots_relinked, length_relinked, own_relinked, list_relinked, chain_edited, length_edited, linked_edited, own_edited, list_edited, slots_edited, edited_back, others_fit, fit_relinked, fit_edited, all_fit}

@@ -1,6 +1,7 @@
 -- The lists before and after a relinking.
 use Rattle.std.proofs.Common.{◌≡◌, ◌≢◌, ℕ, ◌<◌, ◌⊎◌, Bool, cond, eqb, eq-eqb, List, slice_get, Option, Some, None, refl, sym, ap, ◌∙◌, subst, inl, inr}
 use Rattle.std.proofs.lemmas.Bool.Decides.{eqb_tells}
+use Rattle.uv_arena.specs.declared.links.TheConstants.{CHAIN_COUNT}
 use Rattle.uv_arena.specs.declared.links.Links.{Links}
 use Rattle.uv_records.specs.declared.lists.Ends.{Ends}
 use Rattle.uv_arena.specs.declared.links.Place.{Place}
@@ -25,7 +26,7 @@ with_list k new xs j = cond (eqb k j) new (xs j)
 
 -- what a relinking has to meet
 pub record IsRelinked (c : Chains) (xs : ℕ → List ℕ) (t : Place) (a b : Option ℕ) (l : Links) (new : List ℕ) : Type 0 where
-  pub below : t.list < 15
+  pub below : t.list < CHAIN_COUNT
   pub made : IsList (relinked t a b l c) t.list new
   pub slot : (m : Links) → slice_get c.links t.slot ≡ Some m → (m.list ≡ None) ⊎ (m.list ≡ Some t.list)
   pub before : (y : ℕ) → t.before ≡ Some y → IsIn y (xs t.list)
@@ -51,7 +52,7 @@ module _ (c : Chains) (xs : ℕ → List ℕ) (s : Stands c xs) (t : Place) (a b
   bare_far : (y : ℕ) (m : Links) → slice_get c.links y ≡ Some m → m.list ≡ None → t.slot ≢ y → IsFar t a b l y
   bare_far y m g is n = (n, λ e. cc (here y (r.before y e) m g, is), λ e. cc (here y (r.after y e) m g, is))
 
-  other_list : (j : ℕ) → j < 15 → t.list ≢ j → IsList (relinked t a b l c) j (xs j)
+  other_list : (j : ℕ) → j < CHAIN_COUNT → t.list ≢ j → IsList (relinked t a b l c) j (xs j)
   other_list j lt n = let old = s.lists j lt in record {
     segment = frame t a b l c.links j None (xs j) None (λ y i. let on = segment_tells c.links j None (xs j) None old.segment y i in
         far_from j n y on.0 on.1 on.2) old.segment;
@@ -59,7 +60,7 @@ module _ (c : Chains) (xs : ℕ → List ℕ) (s : Stands c xs) (t : Place) (a b
     ends = ends_kept t a b c j (ends_of (xs j)) n old.ends;
   }
 
-  all_lists : (j : ℕ) → j < 15 → IsList (relinked t a b l c) j (with_list t.list new xs j)
+  all_lists : (j : ℕ) → j < CHAIN_COUNT → IsList (relinked t a b l c) j (with_list t.list new xs j)
   all_lists j lt = elim (eqb_tells t.list j) [
     | inl y ↦ subst (λ (u : Bool). IsList (relinked t a b l c) j (cond u new (xs j))) (sym y.0)
         (subst (λ (i : ℕ). IsList (relinked t a b l c) i new) y.1 r.made)
@@ -67,13 +68,13 @@ module _ (c : Chains) (xs : ℕ → List ℕ) (s : Stands c xs) (t : Place) (a b
   ]
 
   all_listed : (y : ℕ) (m : Links) (k : ℕ) → slice_get (relinked t a b l c).links y ≡ Some m → m.list ≡ Some k
-      → (k < 15) × IsIn y (with_list t.list new xs k)
+      → (k < CHAIN_COUNT) × IsIn y (with_list t.list new xs k)
   all_listed y m k g is =
       let back = get-each_back (new_links t a b l) c.links y m g in
       elim (eqb_tells t.slot y) [
         | inl e ↦ let put : m ≡ l = back.2 ∙ ap (λ z. new_links t a b l z back.0) (sym e.1) ∙ own_links t a b l back.0 in
             let on = r.own k (ap (λ (z : Links). z.list) (sym put) ∙ is) in (
-              subst (λ i. i < 15) (sym on.0) r.below,
+              subst (λ i. i < CHAIN_COUNT) (sym on.0) r.below,
               subst (λ (u : Bool). IsIn y (cond u new (xs k))) (sym (eq-eqb t.list k (sym on.0))) (subst (λ z. IsIn z new) e.1 on.1),
             )
         | inr n ↦ let was : back.0.list ≡ Some k = sym (same_list t a b l y back.0 n.1) ∙ ap (λ (z : Links). z.list) (sym back.2) ∙ is in

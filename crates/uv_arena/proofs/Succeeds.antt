@@ -3,7 +3,8 @@ use Rattle.std.proofs.Common.{◌≡◌, ℕ, ◌<◌, List, ◌∷◌, length, 
 use Rattle.uv_arena.specs.declared.arena.InsertFault.{InsertFault}
 use Rattle.uv_arena.specs.declared.arena.InsertFault.TheVariants.{Full, Memory as NoMemory}
 use Rattle.uv_arena.specs.Chains.{first}
-use Rattle.uv_arena.specs.Image.{Arena, FREE, head_at, plain_slots, IsSound}
+use Rattle.uv_arena.specs.declared.links.TheConstants.{FREE}
+use Rattle.uv_arena.specs.Image.{Arena, head_at, plain_slots, IsSound}
 use Rattle.uv_arena.specs.Calls.{RefusesInsert}
 use Rattle.uv_arena.proofs.Memories.{head_is}
 use Rattle.uv_arena.proofs.Changes.{grows, reuses}

@@ -2,6 +2,7 @@
 use Rattle.std.specs.Prelude.{◌≡◌, ℕ, zero, suc, ◌<◌, Bool, false, cond, eqb, List, [], ◌∷◌, length, Option, Some, None, slice_get}
 use Rattle.uv_records.specs.declared.lists.Ends.{Ends}
 pub use Rattle.uv_records.specs.Linked.{first, last, ends_of, IsIn}
+use Rattle.uv_arena.specs.declared.links.TheConstants.{CHAIN_COUNT}
 use Rattle.uv_arena.specs.declared.links.Links.{Links}
 use Rattle.uv_arena.specs.declared.links.Place.{Place}
 
@@ -41,10 +42,10 @@ pub record IsList (c : Chains) (k : ℕ) (xs : List ℕ) : Type 0 where
   pub apart : IsApart xs
   pub ends : slice_get c.ends k ≡ Some (ends_of xs)
 
--- the fifteen lists are xs, and no other slot is linked
+-- the chains are xs, and no other slot is linked
 pub record Stands (c : Chains) (xs : ℕ → List ℕ) : Type 0 where
-  pub lists : (k : ℕ) → k < 15 → IsList c k (xs k)
-  pub listed : (y : ℕ) (m : Links) (k : ℕ) → slice_get c.links y ≡ Some m → m.list ≡ Some k → (k < 15) × IsIn y (xs k)
+  pub lists : (k : ℕ) → k < CHAIN_COUNT → IsList c k (xs k)
+  pub listed : (y : ℕ) (m : Links) (k : ℕ) → slice_get c.links y ≡ Some m → m.list ≡ Some k → (k < CHAIN_COUNT) × IsIn y (xs k)
   pub rest : (y : ℕ) (m : Links) → slice_get c.links y ≡ Some m → m.list ≡ None → m ≡ loose
 
 abbrev pub next_of : Option Links → Option ℕ

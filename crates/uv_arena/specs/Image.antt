@@ -6,6 +6,8 @@ use Rattle.uv_records.specs.declared.slot.Slot.{Slot}
 use Rattle.uv_records.specs.declared.lists.ListName.{ListName}
 use Rattle.uv_records.specs.Lists.{number}
 use Rattle.uv_records.specs.Slots as plain
+use Rattle.uv_records.specs.declared.lists.TheConstants.{LIST_COUNT}
+use Rattle.uv_arena.specs.declared.links.TheConstants.{CHAIN_COUNT, FREE}
 use Rattle.uv_arena.specs.declared.links.Links.{Links}
 use Rattle.uv_records.specs.declared.lists.Ends.{Ends}
 use Rattle.uv_arena.specs.declared.links.Place.{Place}
@@ -32,10 +34,6 @@ pub record Arena (X : Type 0) : Type 0 where
   pub image : Image X
   pub room : ℕ
 
--- the chain of the free slots; the others are the lists, each under some name
-abbrev pub FREE : ℕ
-FREE = 14
-
 -- an end of nothing
 abbrev pub no_ends : Ends
 no_ends = record { head = None; tail = None }
@@ -46,17 +44,17 @@ IsBelow (Some i) n = i < n
 
 -- a place of a chain, among so many slots
 abbrev pub IsWithin : Place → ℕ → Type 0
-IsWithin t n = (t.list < 15) × IsBelow t.before n × (t.slot < n) × IsBelow t.after n
+IsWithin t n = (t.list < CHAIN_COUNT) × IsBelow t.before n × (t.slot < n) × IsBelow t.after n
 
 -- which chain a list is
 abbrev pub name_at : List ℕ → ℕ → ℕ
 name_at ns k = slice_index_or ns k 0
 
--- each of the fourteen lists is a chain of its own
+-- each of the lists is a chain of its own
 pub record AreNames (ns : List ℕ) : Type 0 where
-  pub all : length ns ≡ 14
-  pub below : (k : ℕ) → k < 14 → name_at ns k < 14
-  pub apart : (j k : ℕ) → j < 14 → k < 14 → name_at ns j ≡ name_at ns k → j ≡ k
+  pub all : length ns ≡ LIST_COUNT
+  pub below : (k : ℕ) → k < LIST_COUNT → name_at ns k < LIST_COUNT
+  pub apart : (j k : ℕ) → j < LIST_COUNT → k < LIST_COUNT → name_at ns j ≡ name_at ns k → j ≡ k
 
 -- the chain that a slot is on, or the first one
 abbrev pub list_or_first : Option ℕ → ℕ
@@ -171,7 +169,7 @@ module _ {X : Type 0} where
   -- the links agree with the chains that are read off them, both ways, and a slot is on at most one
   pub record IsLinked (m : Memory X) : Type 0 where
     pub stands : Stands (chains m) (chain m)
-    pub all_ends : length m.ends ≡ 15
+    pub all_ends : length m.ends ≡ CHAIN_COUNT
     pub within : length m.row.items ≤ m.row.capacity
     pub few : m.row.capacity < 2 ^ 32
 
@@ -212,7 +210,7 @@ module _ {X : Type 0} where
 -- an arena of so many slots, none of them used
 abbrev pub fresh_image : (X : Type 0) → ℕ → ℕ → Image X
 fresh_image X capacity last = record {
-  memory = record { row = row [] capacity; ends = replicate 15 no_ends };
+  memory = record { row = row [] capacity; ends = replicate CHAIN_COUNT no_ends };
   names = 0 ∷ 1 ∷ 2 ∷ 3 ∷ 4 ∷ 5 ∷ 6 ∷ 7 ∷ 8 ∷ 9 ∷ 10 ∷ 11 ∷ 12 ∷ 13 ∷ [];
   last = last;
 }

@@ -7,7 +7,8 @@ use Rattle.uv_arena.specs.declared.links.Place.{Place}
 use Rattle.uv_arena.specs.declared.undo.InsertUndo.{InsertUndo}
 use Rattle.uv_arena.specs.declared.undo.RemoveUndo.{RemoveUndo}
 use Rattle.uv_arena.specs.declared.undo.SpliceUndo.{SpliceUndo}
-use Rattle.uv_arena.specs.Image.{Image, Memory, FREE, IsWithin, put_in, taken_out, edited, shrunk, slot_at, place_at, front_place, in_memory, IsSound}
+use Rattle.uv_arena.specs.declared.links.TheConstants.{FREE}
+use Rattle.uv_arena.specs.Image.{Image, Memory, IsWithin, put_in, taken_out, edited, shrunk, slot_at, place_at, front_place, in_memory, IsSound}
 
 -- the two lists change places
 abbrev pub spliced : {X : Type 0} → ListName → ListName → Image X → Image X

@@ -1,8 +1,10 @@
 //! The arena: slots for what is held under ids.
 ghost use Rattle.std.specs.Prelude.{◌≡◌, ◌≢◌, ◌<◌, ◌≤◌, ℕ, length, Option, None, Some, IfOk, IfErr, IfSome, IfNone, OnOk, OnErr, ◌++◌, ◌∷◌, [], false, is_some};
 ghost use Rattle.uv_ids.specs.declared.id.Id.{Id};
+ghost use Rattle.uv_records.specs.declared.lists.TheConstants.{LIST_COUNT};
 ghost use Rattle.uv_records.specs.Lists.{number};
-ghost use Rattle.uv_arena.specs.Image.{fresh_arena, FREE, IsWithin, put_in, taken_out, edited, grown, shrunk, links_at, slot_at, head_at, tail_at, place_at, front_place, back_place, name_at, in_memory, IsSound, plain_slots, held, on_list};
+ghost use Rattle.uv_arena.specs.declared.links.TheConstants.{CHAIN_COUNT, FREE};
+ghost use Rattle.uv_arena.specs.Image.{fresh_arena, IsWithin, put_in, taken_out, edited, grown, shrunk, links_at, slot_at, head_at, tail_at, place_at, front_place, back_place, name_at, in_memory, IsSound, plain_slots, held, on_list};
 ghost use Rattle.uv_arena.specs.Undo.{set_undone};
 ghost use Rattle.uv_arena.specs.Calls.{IsInserted, IsRemoved, IsSet, RefusesInsert, room_after, room_with_next};
 
@@ -10,17 +12,14 @@ mod lists;
 mod readers;
 mod undos;
 
-use crate::links::{Links, Place};
+use crate::links::{CHAIN_COUNT, FREE, Links, Place};
 use crate::memory::Memory;
 use crate::undo::{InsertUndo, RemoveUndo};
 use std::alloc::{AllocError, Global};
 use std::marker::Model;
 use uv_ids::Id;
 use uv_raw::Pieces;
-use uv_records::{Ends, ListName, Slot};
-
-/// The chain of the free slots.
-const FREE: u8 = 14;
+use uv_records::{Ends, LIST_COUNT, ListName, Slot};
 
 /// Why nothing is inserted.
 #[derive(Clone, Copy, PartialEq, Eq)]
@@ -31,12 +30,12 @@ pub enum InsertFault {
     Memory,
 }
 
-/// Slots for what is held under ids. Each is on at most one of the fourteen lists.
+/// Slots for what is held under ids. Each is on at most one of the lists.
 #[derive(Drop)]
 pub struct Slots<T: Copy> {
     memory: Memory<T>,
     /// Which chain each list is, by the list's number.
-    names: [u8; 14],
+    names: [u8; LIST_COUNT],
     last_generation: u32,
 }
 
@@ -63,7 +62,7 @@ impl<T: Copy> Slots<T> {
         let ends = [Ends {
             head: None,
             tail: None,
-        }; 15];
+        }; CHAIN_COUNT];
         Ok(Slots {
             memory: Memory { row, ends },
             names: [0, 1, 2, 3, 4, 5, 6, 7, 8, 9, 10, 11, 12, 13],
@@ -290,7 +289,7 @@ impl<T: Copy> Slots<T> {
 
     /// The front of a chain, for a slot that is put there.
     fn front_place(&self, chain: u8, slot: u32) -> Place
-        requires { chain < 15 }
+        requires { chain < CHAIN_COUNT }
         ensures { result ≡ front_place chain slot self.now.image.memory }
     {
         Place {
@@ -303,7 +302,7 @@ impl<T: Copy> Slots<T> {
 
     /// The end of a chain, for a slot that is put there.
     fn back_place(&self, chain: u8, slot: u32) -> Place
-        requires { chain < 15 }
+        requires { chain < CHAIN_COUNT }
         ensures { result ≡ back_place chain slot self.now.image.memory }
     {
         Place {
@@ -316,7 +315,7 @@ impl<T: Copy> Slots<T> {
 
     /// The first slot of a chain.
     fn head(&self, chain: u8) -> Option<u32>
-        requires { chain < 15 }
+        requires { chain < CHAIN_COUNT }
         ensures { result ≡ head_at self.now.image.memory chain }
     {
         self.memory.head(chain)
@@ -324,7 +323,7 @@ impl<T: Copy> Slots<T> {
 
     /// The last slot of a chain.
     fn tail(&self, chain: u8) -> Option<u32>
-        requires { chain < 15 }
+        requires { chain < CHAIN_COUNT }
         ensures { result ≡ tail_at self.now.image.memory chain }
     {
         self.memory.tail(chain)
@@ -333,7 +332,7 @@ impl<T: Copy> Slots<T> {
     /// Which chain a list is.
     fn chain(&self, list: ListName) -> u8
         ensures name { result ≡ name_at self.now.image.names (number list) }
-        ensures below { result < 14 }
+        ensures below { result < LIST_COUNT }
     {
         self.names[list.number() as usize]
     }

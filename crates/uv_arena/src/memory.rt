@@ -1,19 +1,20 @@
 //! The slots with their links in pieces, and the ends of the chains: relinking one place.
 ghost use Rattle.std.specs.Prelude.{◌≡◌, ◌<◌, ◌≤◌, ℕ, cond, eqb, length, Option, None, Some, OnOk, OnErr};
 ghost use Rattle.uv_raw.specs.Pieced.{room_after};
+ghost use Rattle.uv_arena.specs.declared.links.TheConstants.{CHAIN_COUNT};
 ghost use Rattle.uv_arena.specs.Chains.{each, is_at, none_or, link, loose};
 ghost use Rattle.uv_arena.specs.Image.{memory_of, with_links, with_cells, with_ends, relinked_memory, IsBelow, IsWithin, put_in, taken_out, edited, links_at, slot_at, head_at, tail_at, place_at, grown, shrunk};
 
-use crate::links::{Cell, LOOSE, Links, Place};
+use crate::links::{CHAIN_COUNT, Cell, LOOSE, Links, Place};
 use std::alloc::AllocError;
 use uv_raw::Pieces;
 use uv_records::{Ends, Slot};
 
-/// The slots that were ever used with their links, and the ends of the fifteen chains.
+/// The slots that were ever used with their links, and the ends of the chains.
 #[derive(Drop)]
 pub(crate) struct Memory<T: Copy> {
     pub(crate) row: Pieces<Cell<T>>,
-    pub(crate) ends: [Ends; 15],
+    pub(crate) ends: [Ends; CHAIN_COUNT],
 }
 
 impl<T: Copy> Memory<T> {
@@ -49,8 +50,8 @@ impl<T: Copy> Memory<T> {
     }
 
     fn set_head(&mut self, list: u8, head: Option<u32>)
-        requires list { list < 15 }
-        requires all { length self.old.ends ≡ 15 }
+        requires list { list < CHAIN_COUNT }
+        requires all { length self.old.ends ≡ CHAIN_COUNT }
         ensures memory { memory_of self.new ≡ with_ends (λ j e. cond (eqb list j) (record { head = head; tail = e.tail }) e) (memory_of self.old) }
         ensures room { self.new.row.room ≡ self.old.row.room }
     {
@@ -58,8 +59,8 @@ impl<T: Copy> Memory<T> {
     }
 
     fn set_tail(&mut self, list: u8, tail: Option<u32>)
-        requires list { list < 15 }
-        requires all { length self.old.ends ≡ 15 }
+        requires list { list < CHAIN_COUNT }
+        requires all { length self.old.ends ≡ CHAIN_COUNT }
         ensures memory { memory_of self.new ≡ with_ends (λ j e. cond (eqb list j) (record { head = e.head; tail = tail }) e) (memory_of self.old) }
         ensures room { self.new.row.room ≡ self.old.row.room }
     {
@@ -68,8 +69,8 @@ impl<T: Copy> Memory<T> {
 
     /// Writes what comes after the slot before a place.
     fn relink_before(&mut self, place: Place, next: Option<u32>)
-        requires list { place.list < 15 }
-        requires all { length self.old.ends ≡ 15 }
+        requires list { place.list < CHAIN_COUNT }
+        requires all { length self.old.ends ≡ CHAIN_COUNT }
         requires before { IsBelow place.before (length self.old.row.row.items) }
         ensures memory { memory_of self.new ≡ with_ends (λ j e. cond (eqb place.list j)
             (record { head = none_or place.before next e.head; tail = e.tail }) e)
@@ -85,8 +86,8 @@ impl<T: Copy> Memory<T> {
 
     /// Writes what comes before the slot after a place.
     fn relink_after(&mut self, place: Place, prev: Option<u32>)
-        requires list { place.list < 15 }
-        requires all { length self.old.ends ≡ 15 }
+        requires list { place.list < CHAIN_COUNT }
+        requires all { length self.old.ends ≡ CHAIN_COUNT }
         requires after { IsBelow place.after (length self.old.row.row.items) }
         ensures memory { memory_of self.new ≡ with_ends (λ j e. cond (eqb place.list j)
             (record { head = e.head; tail = none_or place.after prev e.tail }) e)
@@ -102,7 +103,7 @@ impl<T: Copy> Memory<T> {
 
     /// Writes the next of the slot before, the previous of the slot after, and the slot's own links.
     fn relink(&mut self, place: Place, next: Option<u32>, prev: Option<u32>, own: Links)
-        requires all { length self.old.ends ≡ 15 }
+        requires all { length self.old.ends ≡ CHAIN_COUNT }
         requires within { IsWithin place (length self.old.row.row.items) }
         ensures memory { memory_of self.new ≡ relinked_memory place next prev own (memory_of self.old) }
         ensures room { self.new.row.room ≡ self.old.row.room }
@@ -114,7 +115,7 @@ impl<T: Copy> Memory<T> {
 
     /// Puts a slot in a place.
     pub(crate) fn put(&mut self, place: Place)
-        requires all { length self.old.ends ≡ 15 }
+        requires all { length self.old.ends ≡ CHAIN_COUNT }
         requires within { IsWithin place (length self.old.row.row.items) }
         ensures memory { memory_of self.new ≡ put_in place (memory_of self.old) }
         ensures room { self.new.row.room ≡ self.old.row.room }
@@ -129,7 +130,7 @@ impl<T: Copy> Memory<T> {
 
     /// Takes a slot out of a place.
     pub(crate) fn take(&mut self, place: Place)
-        requires all { length self.old.ends ≡ 15 }
+        requires all { length self.old.ends ≡ CHAIN_COUNT }
         requires within { IsWithin place (length self.old.row.row.items) }
         ensures memory { memory_of self.new ≡ taken_out place (memory_of self.old) }
         ensures room { self.new.row.room ≡ self.old.row.room }
@@ -165,8 +166,8 @@ impl<T: Copy> Memory<T> {
 
     /// The first slot of a chain.
     pub(crate) fn head(&self, list: u8) -> Option<u32>
-        requires list { list < 15 }
-        requires all { length self.now.ends ≡ 15 }
+        requires list { list < CHAIN_COUNT }
+        requires all { length self.now.ends ≡ CHAIN_COUNT }
         ensures { result ≡ head_at (memory_of self.now) list }
     {
         self.ends[list as usize].head
@@ -174,8 +175,8 @@ impl<T: Copy> Memory<T> {
 
     /// The last slot of a chain.
     pub(crate) fn tail(&self, list: u8) -> Option<u32>
-        requires list { list < 15 }
-        requires all { length self.now.ends ≡ 15 }
+        requires list { list < CHAIN_COUNT }
+        requires all { length self.now.ends ≡ CHAIN_COUNT }
         ensures { result ≡ tail_at (memory_of self.now) list }
     {
         self.ends[list as usize].tail

@@ -5,6 +5,7 @@ use Rattle.std.proofs.lemmas.Bool.Decides.{eqb_tells}
 use Rattle.std.proofs.lemmas.List.{length-map}
 use Rattle.std.proofs.lemmas.Option.{slice_get_past, slice_get_within}
 use Rattle.uv_ids.specs.declared.id.Id.{Id}
+use Rattle.uv_records.specs.declared.lists.TheConstants.{LIST_COUNT}
 use Rattle.uv_records.specs.declared.lists.ListName.{ListName}
 use Rattle.uv_records.specs.declared.slot.Slot.{Slot}
 use Rattle.uv_records.specs.Lists.{number, all_lists}
@@ -16,7 +17,8 @@ use Rattle.uv_arena.specs.Calls as calls
 use Rattle.uv_arena.specs.Calls.{IsFirst, IsLast}
 use Rattle.uv_arena.specs.Chains.{link, loose, IsSegment}
 use Rattle.uv_arena.specs.Image as arena
-use Rattle.uv_arena.specs.Image.{FREE, IsSound, chain, chains, links_in, links_at, name_at, slot_in, slot_at}
+use Rattle.uv_arena.specs.declared.links.TheConstants.{CHAIN_COUNT, FREE}
+use Rattle.uv_arena.specs.Image.{IsSound, chain, chains, links_in, links_at, name_at, slot_in, slot_at}
 use Rattle.uv_arena.proofs.Names.{number_apart, number_below}
 use Rattle.uv_arena.proofs.Memories.{get-links}
 use Rattle.uv_arena.proofs.Lists.{last_append, segment_tells}
@@ -135,7 +137,7 @@ module _ (i : Image Place) (s : State) (h : StandsFor i s) (cs : List LaidSlot) 
   chain_no None = FREE
   chain_no (Some l) = name_at i.arena.names (number l)
 
-  chain_below : (k : Option ListName) → chain_no k < 15
+  chain_below : (k : Option ListName) → chain_no k < CHAIN_COUNT
   chain_below None = omega arith
   chain_below (Some l) = let small = h.sound.names.below (number l) (number_below l) in omega (arith, small)
 
@@ -197,13 +199,13 @@ module _ (i : Image Place) (s : State) (h : StandsFor i s) (cs : List LaidSlot) 
       one_name j k same
 
   -- the list of a chain
-  listed_as : (x k : ℕ) → k < 15 → IsIn x (chain i.arena.memory k) → (l : Option ListName) × IsIn x (slots_on s l)
+  listed_as : (x k : ℕ) → k < CHAIN_COUNT → IsIn x (chain i.arena.memory k) → (l : Option ListName) × IsIn x (slots_on s l)
   listed_as x k small on = elim (below_or k small) [
     | inl is ↦ (None, subst (λ xs. IsIn x xs) (sym (on_chain None)) (subst (λ n. IsIn x (chain i.arena.memory n)) is on))
     | inr less ↦ (let l = list_named i.arena h.sound k less in
         (Some l.0, subst (λ xs. IsIn x xs) (sym (on_chain (Some l.0))) (subst (λ n. IsIn x (chain i.arena.memory n)) (sym l.1) on)))
   ] where
-    below_or : (n : ℕ) → n < 15 → (n ≡ FREE) ⊎ (n < 14)
+    below_or : (n : ℕ) → n < CHAIN_COUNT → (n ≡ FREE) ⊎ (n < LIST_COUNT)
     below_or n less = elim (eqb_tells n FREE) [ inl q ↦ inl q.1 | inr q ↦ (let other = q.1 in inr (omega (arith, less, other))) ]
 
   pub are_loose : (x : ℕ) (c : LaidSlot) → slice_get cs x ≡ Some c → ((k : Option ListName) → IsIn x (slots_on s k) → ⊥)

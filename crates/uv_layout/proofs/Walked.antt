@@ -5,7 +5,8 @@ use Rattle.std.proofs.lemmas.List.{length-map, append_assoc}
 use Rattle.uv_arena.specs.declared.links.Cell.{Cell}
 use Rattle.uv_arena.specs.declared.links.Links.{Links}
 use Rattle.uv_arena.specs.Chains.{first, last, link, IsSegment}
-use Rattle.uv_arena.specs.Image.{Image, FREE, IsSound, chain, chains, links_in, links_at}
+use Rattle.uv_arena.specs.declared.links.TheConstants.{FREE}
+use Rattle.uv_arena.specs.Image.{Image, IsSound, chain, chains, links_in, links_at}
 use Rattle.uv_arena.proofs.Lists.{segment_right}
 use Rattle.uv_step.specs.declared.content.Content.{Content}
 use Rattle.uv_stands.proofs.Walked.{begins_with}

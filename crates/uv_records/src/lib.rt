@@ -8,5 +8,5 @@ mod refusals;
 mod slot;
 
 pub use handle::{HandleRecord, due_after};
-pub use lists::{Ends, ListName, WatcherKind};
+pub use lists::{Ends, LIST_COUNT, ListName, WatcherKind};
 pub use slot::Slot;

@@ -1,8 +1,12 @@
 //! The lists that a slot can be on, and the kinds of handle that a section walks.
 ghost use Rattle.std.specs.Prelude.{◌≡◌, ◌<◌};
+ghost use Rattle.uv_records.specs.declared.lists.TheConstants.{LIST_COUNT};
 ghost use Rattle.uv_records.specs.Lists.{number, all_lists, watcher_kind, list_of, yet_of, phase_of};
 
 use uv_ids::{Kind, Phase};
+
+/// How many lists there are.
+pub const LIST_COUNT: usize = 14;
 
 /// A list of slots. A slot is on one of them, or on none.
 #[derive(Clone, Copy, PartialEq, Eq)]
@@ -28,7 +32,7 @@ pub enum ListName {
 
 impl ListName {
     /// All of them, by number.
-    pub fn all() -> [ListName; 14]
+    pub fn all() -> [ListName; LIST_COUNT]
         ensures { result ≡ all_lists }
     {
         [
@@ -52,7 +56,7 @@ impl ListName {
     /// The list's number, from 0.
     pub fn number(self) -> u8
         ensures number { result ≡ number self }
-        ensures below { result < 14 }
+        ensures below { result < LIST_COUNT }
     {
         match self {
             ListName::Ready => 0,

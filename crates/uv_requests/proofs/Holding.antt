@@ -1,6 +1,7 @@
 -- What is held under ids, before and after a call.
 use Rattle.std.proofs.Common.{◌≡◌, ℕ, ◌<◌, Bool, true, false, Option, Some, None, is_some, refl, sym, ap, ◌∙◌, subst, inl, inr, arith}
 use Rattle.uv_ids.specs.declared.id.Id.{Id}
+use Rattle.uv_records.specs.declared.lists.TheConstants.{LIST_COUNT}
 use Rattle.uv_records.specs.declared.lists.ListName.{ListName}
 use Rattle.uv_records.specs.declared.lists.ListName.TheVariants.{Waiting, DoneYet as EndedYet}
 use Rattle.uv_records.specs.Lists.{number}
@@ -36,7 +37,7 @@ module _ {X : Type 0} where
   -- no slot is on a list twice
   pub list_apart : (i : Image X) → IsSound i → (l : ListName) → IsApart (members i l)
   list_apart i s l =
-      let lt : name_at i.names (number l) < 14 = name_below i s l in
+      let lt : name_at i.names (number l) < LIST_COUNT = name_below i s l in
       (s.linked.stands.lists (name_at i.names (number l)) (omega arith)).apart
 
 module _ {X : Type 0} (read : X → Option Request) where

@@ -2,6 +2,7 @@
 use Rattle.std.proofs.Common.{◌≡◌, ◌≢◌, ◌⊎◌, inl, inr, ℕ, zero, suc, ◌<◌, true, cond, eqb, refl, sym, ap, ◌∙◌, subst, arith}
 use Rattle.std.proofs.lemmas.Bool.Decides.{eqb_tells}
 use Rattle.uv_ids.specs.declared.id.Id.{Id}
+use Rattle.uv_records.specs.declared.lists.TheConstants.{LIST_COUNT}
 use Rattle.uv_records.specs.declared.lists.ListName.{ListName}
 use Rattle.uv_records.specs.declared.lists.ListName.TheVariants as name
 use Rattle.uv_records.specs.Lists.{number}
@@ -76,7 +77,7 @@ all_of (suc n) f below apart y l = elim (eqb_tells y (f n)) [
 
 -- ---- lists by number
 
-list_at : (x : ℕ) → x < 14 → (l : ListName) × (number l ≡ x)
+list_at : (x : ℕ) → x < LIST_COUNT → (l : ListName) × (number l ≡ x)
 list_at zero h = (name.Ready, refl)
 list_at (suc zero) h = (name.Idle, refl)
 list_at (suc (suc zero)) h = (name.IdleYet, refl)
@@ -95,9 +96,9 @@ list_at (suc (suc (suc (suc (suc (suc (suc (suc (suc (suc (suc (suc (suc (suc x)
 
 module _ {X : Type 0} where
   -- each of the fourteen chains is a list
-  pub list_named : (i : Image X) → IsSound i → (k : ℕ) → k < 14 → (l : ListName) × (name_at i.names (number l) ≡ k)
+  pub list_named : (i : Image X) → IsSound i → (k : ℕ) → k < LIST_COUNT → (l : ListName) × (name_at i.names (number l) ≡ k)
   list_named i s k h =
-      let x = all_of 14 (name_at i.names) s.names.below s.names.apart k h in
+      let x = all_of LIST_COUNT (name_at i.names) s.names.below s.names.apart k h in
       let l = list_at x.0 x.1 in
       (l.0, ap (name_at i.names) l.1 ∙ x.2)
 

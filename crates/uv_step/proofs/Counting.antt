@@ -8,7 +8,8 @@ use Rattle.uv_records.specs.Slots as plain
 use Rattle.uv_arena.specs.declared.links.Place.{Place}
 use Rattle.uv_arena.specs.Chains.{IsIn}
 use Rattle.uv_arena.specs.Image as arena
-use Rattle.uv_arena.specs.Image.{held, held_slots, plain_slots, slot_at, place_at, FREE, IsSound}
+use Rattle.uv_arena.specs.declared.links.TheConstants.{CHAIN_COUNT, FREE}
+use Rattle.uv_arena.specs.Image.{held, held_slots, plain_slots, slot_at, place_at, IsSound}
 use Rattle.uv_arena.specs.Undo.{push_undone, unlink_undone}
 use Rattle.uv_arena.specs.Calls.{SameSlots}
 use Rattle.uv_arena.proofs.Memories.{get-slots, member_tells, slots_relinked, slots_edited}
@@ -54,7 +55,7 @@ taken_count s (n ∷ ns) d r empty next =
 empty_free : (i : arena.Image Content) → IsSound i → (x : ℕ) → IsIn x (plain_slots i).free
     → (q : Slot Content) × (slice_get (plain_slots i).slots x ≡ Some q) × (q.content ≡ None)
 empty_free i s x h =
-    let lt : FREE < 15 = omega arith in
+    let lt : FREE < CHAIN_COUNT = omega arith in
     let c = member_tells i.memory s.linked FREE lt x h in
     (c.0.slot, get-slots i.memory.row.items x c.0 c.1, (s.fit x c.0 c.1).free c.2)
 

@@ -1,4 +1,4 @@
-//! The fourteen lists: putting a slot on one, taking it off, and moving a whole list.
+//! The lists: putting a slot on one, taking it off, and moving a whole list.
 ghost use Rattle.std.specs.Prelude.{◌≡◌, ◌<◌, ◌∷◌, ◌++◌, [], true, false, is_some};
 ghost use Rattle.uv_records.specs.Lists.{number};
 ghost use Rattle.uv_arena.specs.Image.{name_at, front_place, back_place, place_at, put_in, taken_out, in_memory, members, held, on_list};

@@ -6,11 +6,12 @@ ghost use Rattle.uv_records.specs.declared.lists.ListName.{ListName};
 ghost use Rattle.uv_records.specs.Slots.{next_free, id_of};
 ghost use Rattle.uv_records.specs.Walks.{without};
 ghost use Rattle.uv_arena.specs.Chains.{first, last};
-ghost use Rattle.uv_arena.specs.Image.{FREE, chain, head_at, links_at, slot_at, members, plain_slots, held, on_list};
+ghost use Rattle.uv_arena.specs.declared.links.TheConstants.{FREE};
+ghost use Rattle.uv_arena.specs.Image.{chain, head_at, links_at, slot_at, members, plain_slots, held, on_list};
 ghost use Rattle.uv_arena.specs.Calls.{IsListed, IsFirst, IsLast, slot_of};
 
-use crate::arena::{FREE, Slots};
-use crate::links::{LOOSE, Links};
+use crate::arena::Slots;
+use crate::links::{FREE, LOOSE, Links};
 use uv_ids::Id;
 use uv_records::ListName;
 

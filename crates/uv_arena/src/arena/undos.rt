@@ -2,8 +2,8 @@
 ghost use Rattle.std.specs.Prelude.{◌≡◌};
 ghost use Rattle.uv_arena.specs.Undo.{insert_undone, remove_undone, set_undone, push_undone, unlink_undone, splice_undone, CanUndoInsert, CanUndoRemove, CanUndoSet, CanUndoPush, CanUndoUnlink, CanUndoSplice};
 
-use crate::arena::{FREE, Slots};
-use crate::links::Place;
+use crate::arena::Slots;
+use crate::links::{FREE, Place};
 use crate::undo::{InsertUndo, PushUndo, RemoveUndo, SpliceUndo};
 use uv_records::Slot;
 
