@@ -5,7 +5,7 @@ ghost use Rattle.uv_heap.specs.Undo.{CanUndoPush};
 use std::alloc::{AllocError, Global};
 use std::process::Abort;
 use std::test::Fail;
-use uv_heap::{Entry, PushUndo, RemoveUndo, TimerHeap};
+use uv_heap::{Entry, HeapPushUndo, HeapRemoveUndo, TimerHeap};
 use uv_ids::Due;
 
 const SLOTS: u32 = 100;
@@ -19,7 +19,7 @@ fn timer(at: u32) -> Entry {
     Entry { due, slot: at }
 }
 
-fn put(rt: &impl Abort, heap: &mut TimerHeap, entry: Entry) -> PushUndo
+fn put(rt: &impl Abort, heap: &mut TimerHeap, entry: Entry) -> HeapPushUndo
     ensures { CanUndoPush heap.new.array result.place }
 {
     heap.reserve(entry.slot).expect(rt, "there is memory");
@@ -49,7 +49,7 @@ fn remove_and_back<R: Abort>(rt: &R, heap: &mut TimerHeap) {
     assert!(rt; 3 < heap.len());
     let undo = heap.remove_at(3);
     assert_dues(rt, heap, &[1, 4, 2, 10, 12, 3]);
-    let removed = RemoveUndo {
+    let removed = HeapRemoveUndo {
         place: 3,
         rest: 1,
         entry: timer(11),
@@ -63,7 +63,7 @@ fn remove_and_back<R: Abort>(rt: &R, heap: &mut TimerHeap) {
 fn push_and_back<R: Abort>(rt: &R, heap: &mut TimerHeap) {
     let undo = put(rt, heap, timer(0));
     assert_dues(rt, heap, &[0, 1, 2, 10, 12, 3, 4, 11]);
-    assert!(rt; undo == PushUndo { place: 0 });
+    assert!(rt; undo == HeapPushUndo { place: 0 });
     heap.undo_push(undo);
     assert_dues(rt, heap, &[1, 10, 2, 11, 12, 3, 4]);
 }

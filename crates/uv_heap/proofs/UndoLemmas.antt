@@ -6,7 +6,7 @@ use Rattle.std.proofs.lemmas.List.Edits.{Swapped, length-swap}
 use Rattle.std.proofs.lemmas.List.Sums.{position_or_len_is, fails_before_first}
 use Rattle.std.proofs.lemmas.Bool.{cases_eq, cases_lt, eqb-false, eq-eqb, ne_eqb, le-leb, lt-leb, le-ltb, lt-ltb}
 use Rattle.uv_heap.specs.declared.entry.Entry.{Entry}
-use Rattle.uv_heap.specs.declared.undo.RemoveUndo.{RemoveUndo}
+use Rattle.uv_heap.specs.declared.undo.HeapRemoveUndo.{HeapRemoveUndo}
 use Rattle.uv_heap.specs.Array.{entry_at, no_entry, parent, place_in, SlotsDiffer}
 use Rattle.uv_heap.specs.Moves.{Moved, must_rise, must_sink, lesser_child, moved_up, moved_down, settled, pushed, removed}
 use Rattle.uv_heap.specs.Undo.{raised, lowered, returned, push_undone, removal_undone}
@@ -108,7 +108,7 @@ place-removed xs i l = MoveLemmas.if_when (λ (m : Moved). m.place + 1 < length 
     (λ _. l)
     (λ _. let short = length-put xs i in omega (arith, MoveLemmas.settled_within (put xs i) i (omega arith), short))
 
-pub removal_undone-removed : (xs : List Entry) (undo : RemoveUndo) → undo.place < length xs → undo.rest ≡ (removed xs undo.place).place
+pub removal_undone-removed : (xs : List Entry) (undo : HeapRemoveUndo) → undo.place < length xs → undo.rest ≡ (removed xs undo.place).place
     → undo.entry ≡ entry_at xs undo.place → removal_undone (removed xs undo.place).array undo ≡ xs
 unfolding removed removal_undone
 removal_undone-removed xs undo l rest entry = at (cases_eq undo.place (length xs - 1)) where
@@ -215,11 +215,11 @@ removed_inner xs i n e l =
     ap (λ (ys : List Entry). settled ys i) (take-swap xs i n e l ∙ ap (λ (k : ℕ). set (take k xs) i (entry_at xs k)) last)
     ∙ sym (MoveLemmas.if_false _ _ _ (ne_eqb i (length xs - 1) (omega arith)))
 
-pub removal_undone_last : (xs : List Entry) (undo : RemoveUndo) → undo.place ≡ length xs → xs ++ undo.entry ∷ [] ≡ removal_undone xs undo
+pub removal_undone_last : (xs : List Entry) (undo : HeapRemoveUndo) → undo.place ≡ length xs → xs ++ undo.entry ∷ [] ≡ removal_undone xs undo
 unfolding removal_undone
 removal_undone_last xs undo e = sym (MoveLemmas.if_true _ _ _ (eq-eqb undo.place (length xs) e))
 
-pub removal_undone_inner : (xs : List Entry) (undo : RemoveUndo) → undo.place < length xs
+pub removal_undone_inner : (xs : List Entry) (undo : HeapRemoveUndo) → undo.place < length xs
     → swap (returned xs undo.rest undo.place ++ undo.entry ∷ []) undo.place (length xs) ≡ removal_undone xs undo
 unfolding removal_undone
 removal_undone_inner xs undo l =

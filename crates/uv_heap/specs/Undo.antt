@@ -1,7 +1,7 @@
 -- What takes a push or a removal back: the entry that moved walks the same path the other way.
 use Rattle.std.specs.Prelude.{ℕ, zero, suc, ◌-◌, ◌<◌, ◌≤◌, ◌≡◌, None, ◌==◌, nat_lt, nat_le, if◌then◌else◌, List, [], ◌∷◌, ◌++◌, length, take, swap, slice_set}
 use Rattle.uv_heap.specs.declared.entry.Entry.{Entry}
-use Rattle.uv_heap.specs.declared.undo.RemoveUndo.{RemoveUndo}
+use Rattle.uv_heap.specs.declared.undo.HeapRemoveUndo.{HeapRemoveUndo}
 use Rattle.uv_heap.specs.Array.{Heap, entry_at, parent, place_in, IsHeap}
 
 -- What moves is an entry, or whatever stands for one, as its slot.
@@ -29,7 +29,7 @@ returned array rest place = if nat_le rest place then lowered place array rest p
 
 -- A removal is taken back. Of the last place, the entry is put there again. Else the one that moved goes back to the place, and
 -- from there to the end, and the removed one is put at the place
-unfoldable pub removal_undone : List Entry → RemoveUndo → List Entry
+unfoldable pub removal_undone : List Entry → HeapRemoveUndo → List Entry
 removal_undone array undo =
     if undo.place == length array then array ++ undo.entry ∷ []
     else
@@ -42,13 +42,13 @@ pub record CanUndoPush (array : List Entry) (place : ℕ) : Type 0 where
   pub heap_before : IsHeap (push_undone array place)
 
 -- the removed entry can be put back, as it can where the array is as that removal left it
-pub record CanPutBack (array : List Entry) (undo : RemoveUndo) : Type 0 where
+pub record CanPutBack (array : List Entry) (undo : HeapRemoveUndo) : Type 0 where
   pub place_within : undo.place ≤ length array
   pub rest_within : undo.place < length array → undo.rest < length array
   pub slot_absent : place_in array undo.entry.slot ≡ None
   pub heap_before : IsHeap (removal_undone array undo)
 
 -- the removal can be taken back: the entry can be put back, and there is room for it
-pub record CanUndoRemove (heap : Heap) (undo : RemoveUndo) : Type 0 where
+pub record CanUndoRemove (heap : Heap) (undo : HeapRemoveUndo) : Type 0 where
   pub put_back : CanPutBack heap.array undo
   pub has_room : undo.entry.slot < heap.room

@@ -7,7 +7,7 @@ ghost use Rattle.uv_heap.specs.Undo.{push_undone, removal_undone};
 use crate::entry::Entry;
 use crate::placed::PlacedEntries;
 use crate::sift;
-use crate::undo::RemoveUndo;
+use crate::undo::HeapRemoveUndo;
 
 /// Puts an entry last and moves it up. Answers where it comes to rest.
 pub(crate) fn push(entries: &mut PlacedEntries, entry: Entry) -> u32
@@ -34,7 +34,7 @@ pub(crate) fn undo_push(entries: &mut PlacedEntries, place: usize)
 }
 
 /// The last entry takes the place of the one there, which goes.
-pub(crate) fn remove(entries: &mut PlacedEntries, place: usize) -> RemoveUndo
+pub(crate) fn remove(entries: &mut PlacedEntries, place: usize) -> HeapRemoveUndo
     requires { place < length entries.old.array }
     ensures array { entries.new.array ≡ (removed entries.old.array place).array }
     ensures place { result.place ≡ place }
@@ -53,14 +53,14 @@ pub(crate) fn remove(entries: &mut PlacedEntries, place: usize) -> RemoveUndo
     let from = place as u32;
     if place == last {
         let rest = from;
-        return RemoveUndo {
+        return HeapRemoveUndo {
             place: from,
             rest,
             entry,
         };
     }
     let rest = sift::settle(entries, place) as u32;
-    RemoveUndo {
+    HeapRemoveUndo {
         place: from,
         rest,
         entry,
@@ -68,7 +68,7 @@ pub(crate) fn remove(entries: &mut PlacedEntries, place: usize) -> RemoveUndo
 }
 
 /// The entry that took the place goes back to the end, and the one that was there comes again.
-pub(crate) fn undo_remove(entries: &mut PlacedEntries, undo: RemoveUndo)
+pub(crate) fn undo_remove(entries: &mut PlacedEntries, undo: HeapRemoveUndo)
     requires place_within { undo.place ≤ length entries.old.array }
     requires rest_within { undo.place < length entries.old.array → undo.rest < length entries.old.array }
     requires room { undo.entry.slot < entries.old.room }

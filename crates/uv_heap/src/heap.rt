@@ -9,7 +9,7 @@ ghost use Rattle.uv_heap.specs.Undo.{push_undone, removal_undone, CanUndoPush, C
 use crate::changes;
 use crate::entry::Entry;
 use crate::placed::PlacedEntries;
-use crate::undo::{PushUndo, RemoveUndo};
+use crate::undo::{HeapPushUndo, HeapRemoveUndo};
 use std::alloc::Global;
 use std::marker::Model;
 use uv_ids::Fault;
@@ -115,7 +115,7 @@ impl TimerHeap {
     }
 
     /// Puts an entry on the heap.
-    pub fn push(&mut self, entry: Entry) -> PushUndo
+    pub fn push(&mut self, entry: Entry) -> HeapPushUndo
         requires room { entry.slot < self.old.room }
         requires absent { place_in self.old.array entry.slot ≡ None }
 
@@ -130,11 +130,11 @@ impl TimerHeap {
         ensures undone { push_undone self.new.array result.place ≡ self.old.array }
     {
         let place = changes::push(&mut self.entries, entry);
-        PushUndo { place }
+        HeapPushUndo { place }
     }
 
     /// Takes a push back, where the heap is as the push left it.
-    pub fn undo_push(&mut self, undo: PushUndo)
+    pub fn undo_push(&mut self, undo: HeapPushUndo)
         requires { CanUndoPush self.old.array undo.place }
         ensures array { self.new.array ≡ push_undone self.old.array undo.place }
         ensures room { self.new.room ≡ self.old.room }
@@ -143,7 +143,7 @@ impl TimerHeap {
     }
 
     /// Takes the entry at a place off the heap.
-    pub fn remove_at(&mut self, place: u32) -> RemoveUndo
+    pub fn remove_at(&mut self, place: u32) -> HeapRemoveUndo
         requires { place < length self.old.array }
 
         ensures array { self.new.array ≡ (removed self.old.array place).array }
@@ -162,7 +162,7 @@ impl TimerHeap {
     }
 
     /// Takes a removal back, where the heap is as the removal left it.
-    pub fn undo_remove(&mut self, undo: RemoveUndo)
+    pub fn undo_remove(&mut self, undo: HeapRemoveUndo)
         requires { CanUndoRemove self.old undo }
         ensures array { self.new.array ≡ removal_undone self.old.array undo }
         ensures room { self.new.room ≡ self.old.room }

@@ -11,4 +11,4 @@ mod undo;
 
 pub use entry::Entry;
 pub use heap::TimerHeap;
-pub use undo::{PushUndo, RemoveUndo};
+pub use undo::{HeapPushUndo, HeapRemoveUndo};

@@ -3,7 +3,7 @@ use Rattle.std.proofs.Common.{◌≡◌, ℕ, Bool, true, false, List, [], ◌�
 use Rattle.uv_arena.specs.declared.links.Place as link
 use Rattle.uv_handle.specs.declared.undo.RecordUndo.{RecordUndo}
 use Rattle.uv_handle.specs.declared.undo.DelistUndo.{DelistUndo}
-use Rattle.uv_heap.specs.declared.undo.RemoveUndo as taken
+use Rattle.uv_heap.specs.declared.undo.HeapRemoveUndo.{HeapRemoveUndo}
 use Rattle.uv_timer.specs.declared.undo.SetUndo.{SetUndo}
 use Rattle.uv_timer.specs.declared.undo.TimerUndo.{TimerUndo}
 use Rattle.uv_model.specs.declared.place.Place.{Place}
@@ -74,7 +74,7 @@ put_quiet true x = (tt, tt)
 off_list_quiet : (u : DelistUndo) → AreQuiet (off_list_parts u)
 off_list_quiet u = both (off_parts u.unlinked) (edit_parts u.changed) (off_quiet u.unlinked) (tt, (tt, tt))
 
-removed_quiet : (u : Option taken.RemoveUndo) → AreQuiet (removed_parts u)
+removed_quiet : (u : Option HeapRemoveUndo) → AreQuiet (removed_parts u)
 removed_quiet None = tt
 removed_quiet (Some u) = (tt, tt)
 

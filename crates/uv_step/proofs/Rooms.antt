@@ -1,7 +1,7 @@
 -- What can be taken back can be where the heap has more room.
 use Rattle.std.proofs.Common.{◌≤◌, ℕ, List, Option, Some, None, arith}
 use Rattle.uv_heap.specs.declared.entry.Entry.{Entry}
-use Rattle.uv_heap.specs.declared.undo.RemoveUndo.{RemoveUndo}
+use Rattle.uv_heap.specs.declared.undo.HeapRemoveUndo.{HeapRemoveUndo}
 use Rattle.uv_timer.specs.Timed.{Timed, CanPutBack, CanUndoTimer, CanUndoCollect}
 use Rattle.uv_timer.specs.declared.undo.TimerUndo.{TimerUndo}
 use Rattle.uv_timer.specs.declared.undo.CollectUndo.{CollectUndo}
@@ -15,7 +15,7 @@ use Rattle.uv_step.specs.Image.{Image}
 use Rattle.uv_step.specs.Undo.{CanUndo, CanUnwind}
 
 module _ (room more : ℕ) (grown : room ≤ more) where
-  put_back_still : (u : Option RemoveUndo) (es : List Entry) → CanPutBack room u es → CanPutBack more u es
+  put_back_still : (u : Option HeapRemoveUndo) (es : List Entry) → CanPutBack room u es → CanPutBack more u es
   put_back_still None es c = tt
   put_back_still (Some u) es c = record { put_back = c.put_back; has_room = (let has = c.has_room in omega (arith, has, grown)) }
 

@@ -7,7 +7,7 @@ use Rattle.uv_ids.specs.declared.seen.Callback.TheVariants as callback
 use Rattle.uv_arena.specs.declared.links.Place.{Place}
 use Rattle.uv_handle.specs.declared.undo.RecordUndo.{RecordUndo}
 use Rattle.uv_handle.specs.Counted.{delist_undone}
-use Rattle.uv_heap.specs.declared.undo.RemoveUndo.{RemoveUndo}
+use Rattle.uv_heap.specs.declared.undo.HeapRemoveUndo.{HeapRemoveUndo}
 use Rattle.uv_timer.specs.declared.undo.SetUndo.{SetUndo}
 use Rattle.uv_timer.specs.declared.undo.TimerUndo.{TimerUndo}
 use Rattle.uv_timer.specs.declared.undo.CollectUndo.{CollectUndo}
@@ -82,7 +82,7 @@ module _ {P : Type 0} where
   delist_back None c i = refl
   delist_back (Some t) c i = refl
 
-  timer_cases : (r : Option RemoveUndo) (o : Option Place) (c : RecordUndo) (s : Option SetUndo) (i : Image P)
+  timer_cases : (r : Option HeapRemoveUndo) (o : Option Place) (c : RecordUndo) (s : Option SetUndo) (i : Image P)
       → unwind_parts (removed_parts r ++ (off_parts o ++ edit_parts c) ++ set_parts s) i
       ≡ with_timed (timer_undone handle_in Handle (record { removed = r; delisted = record { unlinked = o; changed = c }; set = s }) (timed_of i)) i
   timer_cases None None c None i = refl

@@ -10,7 +10,7 @@ use Rattle.uv_arena.specs.declared.undo.SpliceUndo.{SpliceUndo}
 use Rattle.uv_arena.specs.Undo.{insert_undone, remove_undone, set_undone, push_undone, unlink_undone, splice_undone}
 use Rattle.uv_handle.specs.declared.undo.RecordUndo.{RecordUndo}
 use Rattle.uv_handle.specs.declared.undo.DelistUndo.{DelistUndo}
-use Rattle.uv_heap.specs.declared.undo.RemoveUndo as taken
+use Rattle.uv_heap.specs.declared.undo.HeapRemoveUndo.{HeapRemoveUndo}
 use Rattle.uv_heap.specs.Undo as heap
 use Rattle.uv_timer.specs.declared.undo.SetUndo.{SetUndo}
 use Rattle.uv_timer.specs.declared.undo.TimerUndo.{TimerUndo}
@@ -58,7 +58,7 @@ pub data Part (P : Type 0) : Type 0 where
   Moved : SpliceUndo → Part P
   -- an entry was pushed on the heap and ended at a place, or was removed
   Pushed : ℕ → Part P
-  Removed : taken.RemoveUndo → Part P
+  Removed : HeapRemoveUndo → Part P
 
 -- a name was bound to this, or to nothing
 abbrev pub was_bound : Var → Option Id → Naming
@@ -112,7 +112,7 @@ module _ {P : Type 0} where
   put_parts false x = []
   put_parts true x = PutOn x ∷ []
 
-  abbrev pub removed_parts : Option taken.RemoveUndo → List (Part P)
+  abbrev pub removed_parts : Option HeapRemoveUndo → List (Part P)
   removed_parts None = []
   removed_parts (Some u) = Removed u ∷ []
 

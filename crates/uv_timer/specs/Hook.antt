@@ -2,7 +2,7 @@
 use Rattle.std.specs.Prelude.{◌≡◌, ℕ, List, Option, None}
 use Rattle.uv_ids.specs.declared.due.Due.{Due}
 use Rattle.uv_heap.specs.declared.entry.Entry.{Entry}
-use Rattle.uv_heap.specs.declared.undo.RemoveUndo.{RemoveUndo}
+use Rattle.uv_heap.specs.declared.undo.HeapRemoveUndo.{HeapRemoveUndo}
 use Rattle.uv_heap.specs.Array.{Heap, place_in}
 use Rattle.uv_heap.specs.Order.{IsInOrder}
 use Rattle.uv_timer.specs.declared.change.Times.{Times}
@@ -11,7 +11,7 @@ use Rattle.uv_timer.specs.Timed.{unset, CanUnset, undrawn, put_back, CanPutBack}
 use Rattle.uv_timer.specs.Timers.{off_heap, on_heap, cleared, with_due, drawn}
 
 -- the heap has no timer of the slot any more
-pub record IsUnhooked (slot : ℕ) (old new : Heap) (u : Option RemoveUndo) : Type 0 where
+pub record IsUnhooked (slot : ℕ) (old new : Heap) (u : Option HeapRemoveUndo) : Type 0 where
   pub absent : place_in new.array slot ≡ None
   pub array : new.array ≡ off_heap slot old.array
   pub timers : (ts : List Entry) → IsInOrder old.array ts → IsInOrder new.array (cleared slot ts)

@@ -5,7 +5,7 @@ use Rattle.uv_arena.specs.Image.{Image}
 use Rattle.uv_arena.specs.Undo.{push_undone, CanUndoPush}
 use Rattle.uv_handle.specs.Counted.{Counted, counted, delist_undone, CanUndoDelist}
 use Rattle.uv_heap.specs.declared.entry.Entry.{Entry}
-use Rattle.uv_heap.specs.declared.undo.RemoveUndo.{RemoveUndo}
+use Rattle.uv_heap.specs.declared.undo.HeapRemoveUndo.{HeapRemoveUndo}
 use Rattle.uv_heap.specs.Array.{Heap}
 use Rattle.uv_heap.specs.Undo as heap
 use Rattle.uv_timer.specs.declared.change.Times.{Times}
@@ -34,12 +34,12 @@ undrawn None t = t
 undrawn (Some u) t = record t { next_start = u.start }
 
 -- a timer that was taken off the heap is put back there
-abbrev pub put_back : Option RemoveUndo → List Entry → List Entry
+abbrev pub put_back : Option HeapRemoveUndo → List Entry → List Entry
 put_back None es = es
 put_back (Some u) es = heap.removal_undone es u
 
 -- it can be, where the heap has so much room
-abbrev pub CanPutBack : ℕ → Option RemoveUndo → List Entry → Type 0
+abbrev pub CanPutBack : ℕ → Option HeapRemoveUndo → List Entry → Type 0
 CanPutBack room None es = Unit {0}
 CanPutBack room (Some u) es = heap.CanUndoRemove (record { array = es; room = room }) u
 

@@ -6,11 +6,11 @@ ghost use Rattle.uv_timer.specs.Timed.{unset, CanUnset, undrawn};
 
 use crate::change::Times;
 use crate::undo::SetUndo;
-use uv_heap::{Entry, RemoveUndo, TimerHeap};
+use uv_heap::{Entry, HeapRemoveUndo, TimerHeap};
 use uv_ids::Due;
 
 /// Takes the timer of a slot off the heap, if it is there.
-pub(crate) fn unhook(heap: &mut TimerHeap, slot: u32) -> Option<RemoveUndo>
+pub(crate) fn unhook(heap: &mut TimerHeap, slot: u32) -> Option<HeapRemoveUndo>
     ensures { IsUnhooked slot heap.old heap.new result }
 {
     heap.is_sound();

@@ -1,12 +1,12 @@
 //! What takes a change of a timer back.
 use uv_arena::PushUndo;
 use uv_handle::DelistUndo;
-use uv_heap::RemoveUndo;
+use uv_heap::{HeapPushUndo, HeapRemoveUndo};
 
 /// Takes back that a timer was put on the heap: where it came to rest there, and the start number that it drew.
 #[derive(Clone, Copy)]
 pub struct SetUndo {
-    pub pushed: uv_heap::PushUndo,
+    pub pushed: HeapPushUndo,
     pub start: u64,
 }
 
@@ -14,7 +14,7 @@ pub struct SetUndo {
 /// set, if it was.
 #[derive(Clone, Copy)]
 pub struct TimerUndo {
-    pub removed: Option<RemoveUndo>,
+    pub removed: Option<HeapRemoveUndo>,
     pub delisted: DelistUndo,
     pub set: Option<SetUndo>,
 }

@@ -1,7 +1,7 @@
 -- Where the change of a step lies, and as what.
 use Rattle.std.specs.Prelude.{Some, None}
 use Rattle.uv_handle.specs.declared.undo.RecordUndo.{RecordUndo}
-use Rattle.uv_heap.specs.declared.undo.RemoveUndo.{RemoveUndo}
+use Rattle.uv_heap.specs.declared.undo.HeapRemoveUndo.{HeapRemoveUndo}
 use Rattle.uv_timer.specs.declared.undo.TimerUndo.{TimerUndo}
 use Rattle.uv_step.specs.declared.record.Change.{Change}
 use Rattle.uv_step.specs.declared.record.Change.TheVariants as change
@@ -31,7 +31,7 @@ lies small.InMedium = AmongMediums
 lies small.InLarge = AmongLarges
 
 -- a timer that was on no list was taken off the heap
-abbrev pub taken_off : RemoveUndo → RecordUndo → TimerUndo
+abbrev pub taken_off : HeapRemoveUndo → RecordUndo → TimerUndo
 taken_off r u = record { removed = Some r; delisted = record { unlinked = None; changed = u }; set = None }
 
 abbrev pub change_of : Medium → Change

@@ -5,7 +5,7 @@ ghost use Rattle.uv_trail.specs.Lies.{change_of, taken_off};
 
 use uv_arena::{Place, PushUndo};
 use uv_handle::{DelistUndo, ListUndo, RecordUndo, TakeUndo};
-use uv_heap::RemoveUndo;
+use uv_heap::HeapRemoveUndo;
 use uv_records::HandleRecord;
 use uv_requests::CancelUndo;
 use uv_step::Change;
@@ -25,9 +25,9 @@ pub(crate) enum Medium {
     /// A timer that wasn't set, and was on no list, was set.
     Started(RecordUndo, SetUndo),
     /// A timer that was on no list was taken off the heap.
-    Stopped(RemoveUndo, RecordUndo),
+    Stopped(HeapRemoveUndo, RecordUndo),
     /// A timer that was on no list was taken off the heap, and put on a list.
-    Collected(PushUndo, RemoveUndo, RecordUndo),
+    Collected(PushUndo, HeapRemoveUndo, RecordUndo),
     /// A watcher was called that a send had woken.
     Woken(PushUndo, Place, RecordUndo),
     Closed(TakeUndo, HandleRecord),
@@ -133,7 +133,7 @@ impl Medium {
 }
 
 /// A timer that was on no list was taken off the heap.
-fn off_heap(removed: RemoveUndo, changed: RecordUndo) -> TimerUndo
+fn off_heap(removed: HeapRemoveUndo, changed: RecordUndo) -> TimerUndo
     ensures { result ≡ taken_off removed changed }
 {
     TimerUndo {

@@ -3,7 +3,7 @@ use Rattle.std.proofs.Common.{◌≡◌, ◌<◌, ℕ, List, length, sym, ◌∙
 use Rattle.uv_heap.specs.declared.entry.Entry.{Entry}
 use Rattle.uv_heap.specs.Array.{Heap, entry_at}
 use Rattle.uv_heap.specs.Moves.{removed}
-use Rattle.uv_heap.specs.declared.undo.RemoveUndo.{RemoveUndo}
+use Rattle.uv_heap.specs.declared.undo.HeapRemoveUndo.{HeapRemoveUndo}
 use Rattle.uv_heap.specs.Undo.{removal_undone}
 use Rattle.uv_heap.proofs.HeapOrder.{heap_removed}
 use Rattle.uv_heap.proofs.OrderLemmas.{order_removed}
@@ -22,7 +22,7 @@ returns-clause-order c =
     λ timers h. rw (c.remove.ensures.array, c.remove.ensures.entry) (order_removed c.self.inside.entries.array timers c.args.place within (rw view h))
 
 -- the undo gives back the array
-undone : (xs ys : List Entry) (place : ℕ) (undo : RemoveUndo) → place < length xs → ys ≡ (removed xs place).array → undo.place ≡ place
+undone : (xs ys : List Entry) (place : ℕ) (undo : HeapRemoveUndo) → place < length xs → ys ≡ (removed xs place).array → undo.place ≡ place
     → undo.rest ≡ (removed xs place).place → undo.entry ≡ entry_at xs place → removal_undone ys undo ≡ xs
 undone xs ys place undo l p q r e =
     ap (λ (zs : List Entry). removal_undone zs undo) (p ∙ ap (λ (k : ℕ). (removed xs k).array) (sym q))
