@@ -6,7 +6,7 @@ use uv_arena::{Place, PushUndo, RemoveUndo};
 use uv_handle::RecordUndo;
 use uv_ids::{Kind, Var};
 use uv_records::HandleRecord;
-use uv_requests::CollectUndo;
+use uv_requests::CollectWorkUndo;
 use uv_step::{Change, Naming, Record};
 use uv_trail::Trail;
 use uv_watch::WalkUndo;
@@ -47,7 +47,7 @@ fn edited() -> Change {
 
 /// A request was freed.
 fn ended() -> Change {
-    let collected = CollectUndo {
+    let collected = CollectWorkUndo {
         unlinked: PLACE,
         count: 6,
         removed: RemoveUndo {

@@ -10,7 +10,7 @@ use Rattle.uv_records.specs.declared.lists.ListName.TheVariants as name
 use Rattle.uv_arena.specs.Calls.{IsFirst}
 use Rattle.uv_arena.specs.Image.{IsSound}
 use Rattle.uv_work.specs.Requests.{Request}
-use Rattle.uv_requests.specs.declared.undo.TakeUndo.{TakeUndo}
+use Rattle.uv_requests.specs.declared.undo.TakeWorkUndo.{TakeWorkUndo}
 use Rattle.uv_requests.specs.Working as work
 use Rattle.uv_requests.specs.Working.{id_in}
 use Rattle.uv_requests.specs.Calls.{IsTaken, RefusesTake}
@@ -84,7 +84,7 @@ takes i k d r why.Range may e = e
 
 -- ---- what the memory stands for then
 
-module _ (i j : Image Place) (k : ℕ) (d e : Id) (r : Request) (u : TakeUndo) (may : MayTake i k d r)
+module _ (i j : Image Place) (k : ℕ) (d e : Id) (r : Request) (u : TakeWorkUndo) (may : MayTake i k d r)
     (c : IsTaken request_in (working_of i) (working_of j) k e u) (sound : IsSound j.arena) where
   there : work.request_in request_in i.arena e ≡ Some r
   there = subst (λ z. work.request_in request_in i.arena z ≡ Some r) (sym (first_one i.arena name.Waiting d e may.first c.first)) may.request
@@ -103,7 +103,7 @@ module _ (i j : Image Place) (k : ℕ) (d e : Id) (r : Request) (u : TakeUndo) (
       (ap (λ (z : work.Running). z.workers) c.running ∙ ap (λ rs. slice_set rs k (Some e)) h.running)
       sound fit
 
-pub take_leads : (r' : Record Place) (h w : Held Place) (k : ℕ) (d e : Id) (r : Request) (u : TakeUndo) → MayTake h.image k d r
+pub take_leads : (r' : Record Place) (h w : Held Place) (k : ℕ) (d e : Id) (r : Request) (u : TakeWorkUndo) → MayTake h.image k d r
     → IsTaken request_in (working_of h.image) (working_of w.image) k e u → Recorded r' h w → r'.change ≡ change.Taken u → IsSound w.image.arena
     → (p : Program) → Leads p h.image w.image (Take k) (Some (seen.Take k r.name d))
 take_leads r' h w k d e r u may c recorded is sound p s stands reached =

@@ -15,10 +15,10 @@ use Rattle.uv_work.specs.Requests.{Request, finished, cancelled, job_of}
 use Rattle.uv_work.specs.Pool.{after_event}
 use Rattle.uv_work.specs.declared.event.PoolEvent.TheVariants as event
 use Rattle.uv_requests.specs.declared.undo.QueueUndo.{QueueUndo}
-use Rattle.uv_requests.specs.declared.undo.TakeUndo.{TakeUndo}
+use Rattle.uv_requests.specs.declared.undo.TakeWorkUndo.{TakeWorkUndo}
 use Rattle.uv_requests.specs.declared.undo.FinishUndo.{FinishUndo}
 use Rattle.uv_requests.specs.declared.undo.CancelUndo.{CancelUndo}
-use Rattle.uv_requests.specs.declared.undo.CollectUndo.{CollectUndo}
+use Rattle.uv_requests.specs.declared.undo.CollectWorkUndo.{CollectWorkUndo}
 use Rattle.uv_requests.specs.Working.{Working, request_in, pool_of, IsWork}
 use Rattle.uv_requests.specs.Undo.{with_run, queue_undone, take_undone, finish_undone, cancel_undone, begin_undone, collect_undone, CanUndoQueue, CanUndoTake, CanUndoFinish, CanUndoCancel, CanUndoBegin, CanUndoCollect}
 
@@ -46,7 +46,7 @@ module _ {X : Type 0} (read : X → Option Request) where
   RefusesFinish w k job _ = ⊥
 
   -- the front of those that wait is run by the worker
-  pub record IsTaken (old new : Working X) (k : ℕ) (d : Id) (u : TakeUndo) : Type 0 where
+  pub record IsTaken (old new : Working X) (k : ℕ) (d : Id) (u : TakeWorkUndo) : Type 0 where
     pub rule : after_event (pool_of read old) (event.Take k d) ≡ Some (pool_of read new)
     pub idle : slice_get old.running.workers k ≡ Some None
     pub first : IsFirst old.arena Waiting d
@@ -74,7 +74,7 @@ module _ {X : Type 0} (read : X → Option Request) where
 
   module _ (make : Request → X) where
     -- the front of those yet to be called back is off its list, and its slot is freed
-    pub record IsCollected (old new : Working X) (d : Id) (r : Request) (u : CollectUndo) : Type 0 where
+    pub record IsCollected (old new : Working X) (d : Id) (r : Request) (u : CollectWorkUndo) : Type 0 where
       pub rule : after_event (pool_of read old) (event.Collect d) ≡ Some (pool_of read new)
       pub first : IsFirst old.arena EndedYet d
       pub was : request_in read old.arena d ≡ Some r

@@ -6,10 +6,10 @@ use Rattle.uv_arena.specs.Image.{Image}
 use Rattle.uv_arena.specs.Undo.{insert_undone, remove_undone, set_undone, push_undone, unlink_undone, splice_undone, CanUndoInsert, CanUndoRemove, CanUndoSet, CanUndoPush, CanUndoUnlink, CanUndoSplice}
 use Rattle.uv_work.specs.Requests.{Request, reopened}
 use Rattle.uv_requests.specs.declared.undo.QueueUndo.{QueueUndo}
-use Rattle.uv_requests.specs.declared.undo.TakeUndo.{TakeUndo}
+use Rattle.uv_requests.specs.declared.undo.TakeWorkUndo.{TakeWorkUndo}
 use Rattle.uv_requests.specs.declared.undo.FinishUndo.{FinishUndo}
 use Rattle.uv_requests.specs.declared.undo.CancelUndo.{CancelUndo}
-use Rattle.uv_requests.specs.declared.undo.CollectUndo.{CollectUndo}
+use Rattle.uv_requests.specs.declared.undo.CollectWorkUndo.{CollectWorkUndo}
 use Rattle.uv_requests.specs.Working.{Running, Working, working, request_in, IsWork}
 
 -- another count of open requests
@@ -26,7 +26,7 @@ module _ {X : Type 0} where
   queue_undone u w = working (insert_undone u.inserted (push_undone u.inserted.slot w.arena)) (with_count u.count w.running)
 
   -- a request that was taken waits again, and the worker runs nothing
-  abbrev pub take_undone : TakeUndo → Working X → Working X
+  abbrev pub take_undone : TakeWorkUndo → Working X → Working X
   take_undone u w = working (unlink_undone u.unlinked w.arena) (with_run u.worker None w.running)
 
   -- those that were to be called back are all together again
@@ -35,7 +35,7 @@ module _ {X : Type 0} where
 
 module _ {X : Type 0} (make : Request → X) where
   -- a request that was collected is put back
-  abbrev pub collect_undone : CollectUndo → Request → Working X → Working X
+  abbrev pub collect_undone : CollectWorkUndo → Request → Working X → Working X
   collect_undone u r w = working (unlink_undone u.unlinked (remove_undone u.removed (make r) w.arena)) (with_count u.count w.running)
 
   abbrev pub reopened_by : Option Request → ℕ → Image X → Image X
@@ -52,7 +52,7 @@ module _ {X : Type 0} (read : X → Option Request) where
     pub inserted : CanUndoInsert (push_undone u.inserted.slot w.arena) u.inserted
     pub work : IsWork read (queue_undone u w)
 
-  pub record CanUndoTake (w : Working X) (u : TakeUndo) : Type 0 where
+  pub record CanUndoTake (w : Working X) (u : TakeWorkUndo) : Type 0 where
     pub worker : u.worker < length w.running.workers
     pub unlinked : CanUndoUnlink w.arena u.unlinked
     pub work : IsWork read (take_undone u w)
@@ -62,7 +62,7 @@ module _ {X : Type 0} (read : X → Option Request) where
     pub work : IsWork read (begin_undone u w)
 
   module _ (make : Request → X) where
-    pub record CanUndoCollect (w : Working X) (u : CollectUndo) (r : Request) : Type 0 where
+    pub record CanUndoCollect (w : Working X) (u : CollectWorkUndo) (r : Request) : Type 0 where
       pub removed : CanUndoRemove w.arena u.removed (make r)
       pub unlinked : CanUndoUnlink (remove_undone u.removed (make r) w.arena) u.unlinked
       pub work : IsWork read (collect_undone make u r w)

@@ -9,7 +9,7 @@ ghost use Rattle.uv_requests.specs.Calls.{IsBegun, IsCollected};
 
 use crate::content::HoldsWork;
 use crate::requests::{Requests, request_at};
-use crate::undo::CollectUndo;
+use crate::undo::CollectWorkUndo;
 use uv_arena::{Slots, SpliceUndo};
 use uv_ids::Id;
 use uv_records::ListName;
@@ -40,7 +40,7 @@ impl Requests {
     pub fn collect<T: HoldsWork>(
         &mut self,
         slots: &mut Slots<T>,
-    ) -> Option<(Id, RequestRecord, CollectUndo)>
+    ) -> Option<(Id, RequestRecord, CollectWorkUndo)>
         requires { IsWork T.held_request (working slots.old.image self.old) }
         ensures none { IfNone result ((members slots.old.image DoneYet ≡ [])
             × (working slots.new.image self.new ≡ working slots.old.image self.old)) }
@@ -62,7 +62,7 @@ impl Requests {
         slots: &mut Slots<T>,
         id: Id,
         request: RequestRecord,
-    ) -> (Id, RequestRecord, CollectUndo)
+    ) -> (Id, RequestRecord, CollectWorkUndo)
         requires work { IsWork T.held_request (working slots.old.image self.old) }
         requires first { IsFirst slots.old.image DoneYet id }
         requires found { request_in T.held_request slots.old.image id ≡ Some request }
@@ -78,7 +78,7 @@ impl Requests {
         match slots.remove(id) {
             Some((_, removed)) => {
                 self.set_count(count - 1);
-                let undo = CollectUndo {
+                let undo = CollectWorkUndo {
                     unlinked,
                     count,
                     removed,
@@ -93,7 +93,7 @@ impl Requests {
     pub fn undo_collect<T: HoldsWork>(
         &mut self,
         slots: &mut Slots<T>,
-        undo: CollectUndo,
+        undo: CollectWorkUndo,
         request: RequestRecord,
     )
         requires { CanUndoCollect T.held_request T.of_request (working slots.old.image self.old) undo request }

@@ -14,4 +14,4 @@ mod workers;
 
 pub use content::HoldsWork;
 pub use requests::{Requests, fresh_requests, request_at};
-pub use undo::{CancelUndo, CollectUndo, FinishUndo, QueueUndo, TakeUndo};
+pub use undo::{CancelUndo, CollectWorkUndo, FinishUndo, QueueUndo, TakeWorkUndo};

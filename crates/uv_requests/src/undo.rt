@@ -12,7 +12,7 @@ pub struct QueueUndo {
 
 /// Takes a take back: the worker, and where the request stood among those that wait.
 #[derive(Clone, Copy)]
-pub struct TakeUndo {
+pub struct TakeWorkUndo {
     pub worker: u16,
     pub unlinked: Place,
 }
@@ -34,7 +34,7 @@ pub struct CancelUndo {
 /// Takes a collect back, together with the request that was collected: where it stood, its slot, and how many requests were open
 /// before.
 #[derive(Clone, Copy)]
-pub struct CollectUndo {
+pub struct CollectWorkUndo {
     pub unlinked: Place,
     pub count: u32,
     pub removed: RemoveUndo,

@@ -10,7 +10,7 @@ ghost use Rattle.uv_requests.specs.Calls.{RefusesTake, RefusesFinish, IsTaken, I
 
 use crate::content::HoldsWork;
 use crate::requests::{Requests, reopen, request_at};
-use crate::undo::{FinishUndo, TakeUndo};
+use crate::undo::{FinishUndo, TakeWorkUndo};
 use uv_arena::{PushUndo, Slots};
 use uv_ids::{Id, Why};
 use uv_records::ListName;
@@ -48,7 +48,7 @@ impl Requests {
         &mut self,
         slots: &mut Slots<T>,
         worker: u16,
-    ) -> Result<(Id, TakeUndo), Why>
+    ) -> Result<(Id, TakeWorkUndo), Why>
         requires { IsWork T.held_request (working slots.old.image self.old) }
         ensures ok { IfOk result (λ r. IsTaken T.held_request (working slots.old.image self.old) (working slots.new.image self.new) worker r.0 r.1) }
         ensures err { IfErr result (λ why. RefusesTake T.held_request (working slots.old.image self.old) worker why
@@ -61,7 +61,7 @@ impl Requests {
         }
     }
 
-    fn start<T: HoldsWork>(&mut self, slots: &mut Slots<T>, worker: u16, id: Id) -> (Id, TakeUndo)
+    fn start<T: HoldsWork>(&mut self, slots: &mut Slots<T>, worker: u16, id: Id) -> (Id, TakeWorkUndo)
         requires work { IsWork T.held_request (working slots.old.image self.old) }
         requires idle { slice_get self.old.workers worker ≡ Some None }
         requires first { IsFirst slots.old.image Waiting id }
@@ -72,11 +72,11 @@ impl Requests {
         slots.is_sound();
         let unlinked = slots.unlink(id);
         self.set_running(worker, Some(id));
-        (id, TakeUndo { worker, unlinked })
+        (id, TakeWorkUndo { worker, unlinked })
     }
 
     /// Takes a take back.
-    pub fn undo_take<T: HoldsWork>(&mut self, slots: &mut Slots<T>, undo: TakeUndo)
+    pub fn undo_take<T: HoldsWork>(&mut self, slots: &mut Slots<T>, undo: TakeWorkUndo)
         requires { CanUndoTake T.held_request (working slots.old.image self.old) undo }
         ensures undone { working slots.new.image self.new ≡ take_undone undo (working slots.old.image self.old) }
         ensures pieces { slots.new.room ≡ slots.old.room }

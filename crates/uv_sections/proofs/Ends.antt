@@ -13,7 +13,7 @@ use Rattle.uv_arena.specs.Image.{IsSound, plain_slots}
 use Rattle.uv_handle.specs.declared.undo.TakeUndo.{TakeUndo}
 use Rattle.uv_handle.specs.Changes.{IsTaken}
 use Rattle.uv_work.specs.Requests.{Request}
-use Rattle.uv_requests.specs.declared.undo.CollectUndo.{CollectUndo}
+use Rattle.uv_requests.specs.declared.undo.CollectWorkUndo.{CollectWorkUndo}
 use Rattle.uv_requests.specs.Calls.{IsCollected}
 use Rattle.uv_requests.specs.Working.{id_in}
 use Rattle.uv_model.specs.declared.place.Place.{Place}
@@ -58,7 +58,7 @@ module _ (r : Record Place) (h k : Held Place) (last : ℕ) (so : h.image.arena.
 
   -- ---- a request
 
-  module _ (q : Request) (u : CollectUndo) (is : r.change ≡ ended_by q u)
+  module _ (q : Request) (u : CollectWorkUndo) (is : r.change ≡ ended_by q u)
       (c : IsCollected request_in Asked (working_of i) (working_of j) d q u) where
     off_done : (l : ListName) → arena.members j.arena l ≡ without eqb (arena.members i.arena l) d.slot
     off_done l = elim (list_is l name.DoneYet) [

@@ -17,7 +17,7 @@ use Rattle.uv_heap.specs.declared.entry.Entry.{Entry}
 use Rattle.uv_heap.specs.Array.{IsHeap, SlotsDiffer}
 use Rattle.uv_heap.specs.Order.{IsInOrder}
 use Rattle.uv_work.specs.Requests.{Request}
-use Rattle.uv_requests.specs.declared.undo.CollectUndo.{CollectUndo}
+use Rattle.uv_requests.specs.declared.undo.CollectWorkUndo.{CollectWorkUndo}
 use Rattle.uv_requests.specs.Working.{id_in}
 use Rattle.uv_model.specs.declared.content.Content as content
 use Rattle.uv_model.specs.declared.place.Place.{Place}
@@ -93,10 +93,10 @@ pub polled_keeps : (u : Polled) → Keeps (change.Polled u)
 polled_keeps u r h k recorded is = values_kept h.image k.image (change_back r (change.Polled u) h k recorded is) recorded.place
 
 -- a request or a closing handle is freed
-pub ended_keeps : (q : Request) (u : CollectUndo) → Keeps (ended_by q u)
+pub ended_keeps : (q : Request) (u : CollectWorkUndo) → Keeps (ended_by q u)
 ended_keeps q u r h k recorded is = values_kept h.image k.image (change_back r (ended_by q u) h k recorded is) recorded.place
 
-pub ended_time : (q : Request) (u : CollectUndo) → KeepsTime (ended_by q u)
+pub ended_time : (q : Request) (u : CollectWorkUndo) → KeepsTime (ended_by q u)
 ended_time q u r h k recorded is = ap (λ (i : Image Place). i.times.time) (change_back r (ended_by q u) h k recorded is)
 
 pub closed_keeps : (q : HandleRecord) (u : TakeUndo) → Keeps (closed_by q u)

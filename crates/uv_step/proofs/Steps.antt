@@ -31,8 +31,8 @@ use Rattle.uv_timer.specs.Timers.{IsRescheduled, IsFired, IsCollected}
 use Rattle.uv_requests.specs.Working.{Running, working, id_in, IsWork}
 use Rattle.uv_requests.proofs.Beside.{kept_by_insert}
 use Rattle.uv_requests.specs.declared.undo.QueueUndo.{QueueUndo}
-use Rattle.uv_requests.specs.declared.undo.TakeUndo as taking
-use Rattle.uv_requests.specs.declared.undo.CollectUndo as collecting
+use Rattle.uv_requests.specs.declared.undo.TakeWorkUndo.{TakeWorkUndo}
+use Rattle.uv_requests.specs.declared.undo.CollectWorkUndo.{CollectWorkUndo}
 use Rattle.uv_requests.specs.declared.undo.FinishUndo.{FinishUndo}
 use Rattle.uv_requests.specs.declared.undo.CancelUndo.{CancelUndo}
 use Rattle.uv_requests.specs.Undo.{reopened_in}
@@ -259,7 +259,7 @@ module _ {P : Type 0} where
       recorded (change.Queued u) r i j room room refl is (ap (λ z. with_working z j) c.undone) c.can_undo fit
       (record { counts = fit.counts ∙ sym (count_queued i.arena k sound d asked c.next c.plain); work = c.work }) refl
 
-  pub taken : (i : Image P) (k : arena.Image Content) (q : Running) (room : ℕ) (r : Record P) (worker : ℕ) (d : Id) (u : taking.TakeUndo) → IsFit i
+  pub taken : (i : Image P) (k : arena.Image Content) (q : Running) (room : ℕ) (r : Record P) (worker : ℕ) (d : Id) (u : TakeWorkUndo) → IsFit i
       → requests.IsTaken request_in (working i.arena i.running) (working k q) worker d u → r ≡ changed i.place (change.Taken u)
       → Recorded r (at i room) (at (record i { arena = k; running = q }) room)
   taken i k q room r worker d u fit c is =
@@ -295,7 +295,7 @@ module _ {P : Type 0} where
       }) refl
 
   pub ended : (i : Image P) (k : arena.Image Content) (q : Running) (room : ℕ) (r : Record P) (d : Id) (asked : Request)
-      (u : collecting.CollectUndo) → IsFit i
+      (u : CollectWorkUndo) → IsFit i
       → requests.IsCollected request_in Asked (working i.arena i.running) (working k q) d asked u → r ≡ changed i.place (ended_by asked u)
       → Recorded r (at i room) (at (record i { arena = k; running = q }) room)
   ended i k q room r d asked u fit c is =

@@ -14,7 +14,7 @@ use Rattle.uv_handle.specs.Counted.{Counted, record_at}
 use Rattle.uv_handle.specs.Changes.{IsAdded}
 use Rattle.uv_handle.specs.declared.undo.TakeUndo.{TakeUndo}
 use Rattle.uv_timer.specs.declared.undo.CollectUndo.{CollectUndo}
-use Rattle.uv_requests.specs.declared.undo.CollectUndo as collecting
+use Rattle.uv_requests.specs.declared.undo.CollectWorkUndo.{CollectWorkUndo}
 use Rattle.uv_timer.specs.Changes.{becoming}
 use Rattle.uv_work.specs.Requests.{Request}
 use Rattle.uv_timer.specs.Timed.{Timed, with_arena}
@@ -39,7 +39,7 @@ moved_by u = change.Moved u.pushed u.timer
 abbrev pub closed_by : HandleRecord → TakeUndo → Change
 closed_by h u = change.Closed u h
 
-abbrev pub ended_by : Request → collecting.CollectUndo → Change
+abbrev pub ended_by : Request → CollectWorkUndo → Change
 ended_by r u = change.Ended u r
 
 -- a change of this kind, of whose token this holds

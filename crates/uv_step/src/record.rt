@@ -89,13 +89,13 @@ pub enum Change {
     /// A request was queued.
     Queued(QueueUndo),
     /// A worker took a request.
-    Taken(uv_requests::TakeUndo),
+    Taken(uv_requests::TakeWorkUndo),
     /// A worker finished a request.
     Finished(FinishUndo),
     /// A request was cancelled.
     Cancelled(CancelUndo),
     /// A request that was done was freed, which was this.
-    Ended(uv_requests::CollectUndo, RequestRecord),
+    Ended(uv_requests::CollectWorkUndo, RequestRecord),
 }
 
 /// What takes one step back: where the loop stood, what became of a name, and the change of the rest.

@@ -205,7 +205,7 @@ impl<P: Copy> Memory<P> {
         self.requests.undo_queue(&mut self.slots, undo);
     }
 
-    fn undo_taken(&mut self, undo: uv_requests::TakeUndo)
+    fn undo_taken(&mut self, undo: uv_requests::TakeWorkUndo)
         requires { CanUndo (held self.old).room (change.Taken undo) (held self.old).image }
         ensures image { (held self.new).image ≡ unwind_parts (change_parts (change.Taken undo)) (held self.old).image }
         ensures room { (held self.new).room ≡ (held self.old).room }
@@ -232,7 +232,7 @@ impl<P: Copy> Memory<P> {
         self.requests.undo_cancel(&mut self.slots, undo);
     }
 
-    fn undo_ended(&mut self, undo: uv_requests::CollectUndo, request: RequestRecord)
+    fn undo_ended(&mut self, undo: uv_requests::CollectWorkUndo, request: RequestRecord)
         requires { CanUndo (held self.old).room (ended_by request undo) (held self.old).image }
         ensures image { (held self.new).image ≡ unwind_parts (change_parts (ended_by request undo)) (held self.old).image }
         ensures room { (held self.new).room ≡ (held self.old).room }

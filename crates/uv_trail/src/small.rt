@@ -5,7 +5,7 @@ ghost use Rattle.uv_trail.specs.declared.small.Lies.TheVariants.{Beside};
 ghost use Rattle.uv_trail.specs.Lies.{lies};
 
 use uv_arena::{Place, PushUndo, SpliceUndo};
-use uv_requests::{FinishUndo, QueueUndo, TakeUndo};
+use uv_requests::{FinishUndo, QueueUndo, TakeWorkUndo};
 use uv_step::{Added, Change, Polled};
 use uv_watch::WalkUndo;
 
@@ -24,7 +24,7 @@ pub(crate) enum Small {
     /// A watcher was called that no send had woken.
     Passed(PushUndo, Place),
     Queued(QueueUndo),
-    Taken(TakeUndo),
+    Taken(TakeWorkUndo),
     Finished(FinishUndo),
     /// The change lies in the row of medium ones.
     InMedium,

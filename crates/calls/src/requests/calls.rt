@@ -10,18 +10,18 @@ use crate::score::Score;
 use uv_arena::{InsertFault, Slots, SpliceUndo};
 use uv_ids::{Id, Var};
 use uv_records::ListName;
-use uv_requests::{CancelUndo, CollectUndo, FinishUndo, QueueUndo, Requests, TakeUndo, request_at};
+use uv_requests::{CancelUndo, CollectWorkUndo, FinishUndo, QueueUndo, Requests, TakeWorkUndo, request_at};
 use uv_work::{RequestRecord, WorkResult};
 
 /// What takes a call back.
 #[derive(Clone, Copy)]
 pub enum Token {
     Queued(QueueUndo),
-    Taken(TakeUndo),
+    Taken(TakeWorkUndo),
     Finished(FinishUndo),
     Cancelled(CancelUndo),
     Begun(SpliceUndo),
-    Collected(CollectUndo, RequestRecord),
+    Collected(CollectWorkUndo, RequestRecord),
     Nothing,
 }
 
