@@ -23,7 +23,7 @@ use Rattle.uv_handle.specs.Counted.{Counted, counted, record_at, alive_count, ad
 use Rattle.uv_handle.specs.Changes.{IsTaken, IsAdded, IsChanged, IsEnlisted, IsDelisted}
 use Rattle.uv_heap.specs.Array.{Heap}
 use Rattle.uv_timer.specs.declared.change.Times.{Times}
-use Rattle.uv_timer.specs.declared.change.Change as timer
+use Rattle.uv_timer.specs.declared.change.TimerChange.{TimerChange}
 use Rattle.uv_timer.specs.declared.undo.TimerUndo.{TimerUndo}
 use Rattle.uv_timer.specs.declared.undo.CollectUndo.{CollectUndo}
 use Rattle.uv_timer.specs.Timed.{timed, timer_undone, CanUndoTimer}
@@ -143,7 +143,7 @@ module _ {P : Type 0} where
 
   -- ---- timers
 
-  pub rescheduled : (i : Image P) (k : arena.Image Content) (m room : ℕ) (h : Heap) (t : Times) (r : Record P) (d : Id) (c : timer.Change)
+  pub rescheduled : (i : Image P) (k : arena.Image Content) (m room : ℕ) (h : Heap) (t : Times) (r : Record P) (d : Id) (c : TimerChange)
       (u : TimerUndo)
       → IsFit i → h.room ≡ room → IsRescheduled handle_in Handle h.room (timed_of i) (timed k m h t) d c u
       → r ≡ changed i.place (change.Timer u)
@@ -172,7 +172,7 @@ module _ {P : Type 0} where
       (record { counts = s.counts; work = work_collected h.room (timed_of i) (timed k m h t) i.running d u fit.work s }) refl
 
   -- a handle is off its list and the heap, and at the front of the closing list
-  pub shut : (i : Image P) (k l : arena.Image Content) (m room : ℕ) (h : Heap) (t : Times) (r : Record P) (d : Id) (c : timer.Change)
+  pub shut : (i : Image P) (k l : arena.Image Content) (m room : ℕ) (h : Heap) (t : Times) (r : Record P) (d : Id) (c : TimerChange)
       (now : List ℕ) (u : CollectUndo)
       → IsFit i → h.room ≡ room → IsRescheduled handle_in Handle h.room (timed_of i) (timed k m h t) d c u.timer → IsPushed k l name.Closing d now
       → u.pushed.slot ≡ d.slot → r ≡ changed i.place (moved_by u)

@@ -71,7 +71,7 @@ impl<P: Copy> Memory<P> {
             &mut self.heap,
             &mut self.times,
             id,
-            uv_timer::Change {
+            uv_timer::TimerChange {
                 from,
                 to: from.closed(),
                 leaves: true,

@@ -20,7 +20,7 @@ use uv_ids::Id;
 impl<P: Copy> Memory<P> {
     /// This becomes of a timer that is started, stopped or started again (uv_timer_start, uv_timer_stop, uv_timer_again). The room on
     /// the heap has to be reserved before.
-    pub fn reschedule(&mut self, id: Id, change: uv_timer::Change)
+    pub fn reschedule(&mut self, id: Id, change: uv_timer::TimerChange)
         requires fit { IsFit (held self.old).image }
         requires found { record_at handle_in (held self.old).image.arena id ≡ Some change.from }
         requires room { IfSome change.due (λ _. id.slot < (held self.old).room) }

@@ -20,7 +20,7 @@ use Rattle.uv_heap.specs.Array.{place_in}
 use Rattle.uv_heap.specs.Moves.{pushed, removed}
 use Rattle.uv_heap.specs.Order.{IsInOrder, IsBeforeAll, inserted}
 use Rattle.uv_timer.specs.declared.change.Times.{Times}
-use Rattle.uv_timer.specs.declared.change.Change.{Change}
+use Rattle.uv_timer.specs.declared.change.TimerChange.{TimerChange}
 use Rattle.uv_timer.specs.declared.undo.TimerUndo.{TimerUndo}
 use Rattle.uv_timer.specs.declared.undo.CollectUndo.{CollectUndo}
 use Rattle.uv_timer.specs.Changes.{starting, stopping, starting_again, firing}
@@ -108,7 +108,7 @@ module _ {X : Type 0} (read : X → Option HandleRecord) where
   module _ (make : HandleRecord → X) where
     -- the handle has its other record, and is off its list if it was to leave it; it is on the heap if it is due at some time, and
     -- not otherwise. One that was on the heap is taken off it first, and then pushed anew
-    pub record IsRescheduled (room : ℕ) (old new : Timed X) (d : Id) (c : Change) (u : TimerUndo) : Type 0 where
+    pub record IsRescheduled (room : ℕ) (old new : Timed X) (d : Id) (c : TimerChange) (u : TimerUndo) : Type 0 where
       pub handles : IsDelisted read make old.handles new.handles d c.from c.to c.leaves u.delisted
       pub heap : new.heap ≡ on_heap c.due d.slot (off_heap d.slot old.heap)
       pub timers : (ts : List Entry) → IsInOrder old.heap ts → IsInOrder new.heap (with_due c.due d.slot (cleared d.slot ts))

@@ -15,20 +15,20 @@ pub struct Times {
 
 /// What becomes of a timer: its record, whether it leaves its list, and when it is due, if it is set.
 #[derive(Clone, Copy)]
-pub struct Change {
+pub struct TimerChange {
     pub from: HandleRecord,
     pub to: HandleRecord,
     pub leaves: bool,
     pub due: Option<Due>,
 }
 
-impl Change {
+impl TimerChange {
     /// It is started.
-    pub fn starting(times: &Times, handle: HandleRecord, timeout: u64, repeat: u64) -> Change
+    pub fn starting(times: &Times, handle: HandleRecord, timeout: u64, repeat: u64) -> TimerChange
         ensures { result ≡ starting times.now handle timeout repeat }
     {
         let due = due_after(times.time, times.next_start, timeout);
-        Change {
+        TimerChange {
             from: handle,
             to: handle.begun_at(due, repeat),
             leaves: true,
@@ -37,10 +37,10 @@ impl Change {
     }
 
     /// It is stopped. A closing one stays on the closing list.
-    pub fn stopping(handle: HandleRecord) -> Change
+    pub fn stopping(handle: HandleRecord) -> TimerChange
         ensures { result ≡ stopping handle }
     {
-        Change {
+        TimerChange {
             from: handle,
             to: handle.stopped(),
             leaves: !handle.closing,
@@ -49,10 +49,10 @@ impl Change {
     }
 
     /// It is collected: it leaves the heap, inactive.
-    pub(crate) fn collecting(handle: HandleRecord) -> Change
+    pub(crate) fn collecting(handle: HandleRecord) -> TimerChange
         ensures { result ≡ collecting handle }
     {
-        Change {
+        TimerChange {
             from: handle,
             to: handle.stopped(),
             leaves: true,
@@ -61,29 +61,29 @@ impl Change {
     }
 
     /// It is started again with its repeat, or stopped if it has none.
-    pub fn again(times: &Times, handle: HandleRecord) -> Change
+    pub fn again(times: &Times, handle: HandleRecord) -> TimerChange
         ensures { result ≡ starting_again times.now handle }
     {
         if handle.repeat == 0 {
-            Change::collecting(handle)
+            TimerChange::collecting(handle)
         } else {
-            Change::starting(times, handle, handle.repeat, handle.repeat)
+            TimerChange::starting(times, handle, handle.repeat, handle.repeat)
         }
     }
 
     /// It is called: it leaves the ready list, and is started again if it repeats.
-    pub(crate) fn firing(times: &Times, handle: HandleRecord) -> Change
+    pub(crate) fn firing(times: &Times, handle: HandleRecord) -> TimerChange
         ensures { result ≡ firing times.now handle }
     {
         if handle.repeat == 0 {
-            Change {
+            TimerChange {
                 from: handle,
                 to: handle,
                 leaves: true,
                 due: None,
             }
         } else {
-            Change::starting(times, handle, handle.repeat, handle.repeat)
+            TimerChange::starting(times, handle, handle.repeat, handle.repeat)
         }
     }
 }

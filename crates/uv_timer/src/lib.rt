@@ -9,7 +9,7 @@ mod rescheduling;
 mod section;
 mod undo;
 
-pub use change::{Change, Times};
+pub use change::{TimerChange, Times};
 pub use ops::{again, due_in, set_repeat, start, stop, undo_set_repeat};
 pub use rescheduling::{reschedule, undo_reschedule};
 pub use section::{collect_one, fire_one, undo_collect_one};

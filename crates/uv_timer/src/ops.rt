@@ -8,7 +8,7 @@ ghost use Rattle.uv_handle.specs.Changes.{Did, Refused as RefusedRecord};
 ghost use Rattle.uv_timer.specs.Timed.{timed, CanSet};
 ghost use Rattle.uv_timer.specs.Timers.{Refused, IsStarted, IsStopped, IsStartedAgain, IsDueIn};
 
-use crate::change::{Change, Times};
+use crate::change::{TimerChange, Times};
 use crate::rescheduling::reschedule;
 use crate::undo::TimerUndo;
 use uv_arena::Slots;
@@ -42,7 +42,7 @@ pub fn start<T: HoldsHandle>(
         Ok(handle) => match handle.start_timer_refusal() {
             Some(code) => Err(code),
             None => {
-                let change = Change::starting(times, handle, timeout, repeat);
+                let change = TimerChange::starting(times, handle, timeout, repeat);
                 Ok(reschedule(handles, slots, heap, times, id, change))
             }
         },
@@ -69,7 +69,7 @@ pub fn stop<T: HoldsHandle>(
         Err(code) => Err(code),
         Ok(handle) => match handle.stop_refusal() {
             Some(code) => Err(code),
-            None => Ok(reschedule(handles, slots, heap, times, id, Change::stopping(handle))),
+            None => Ok(reschedule(handles, slots, heap, times, id, TimerChange::stopping(handle))),
         },
     }
 }
@@ -98,7 +98,7 @@ pub fn again<T: HoldsHandle>(
         Ok(handle) => match handle.again_refusal() {
             Some(code) => Err(code),
             None => {
-                let change = Change::again(times, handle);
+                let change = TimerChange::again(times, handle);
                 Ok(reschedule(handles, slots, heap, times, id, change))
             }
         },

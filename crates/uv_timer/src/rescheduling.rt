@@ -4,7 +4,7 @@ ghost use Rattle.uv_handle.specs.Counted.{counted, record_at, IsCounted};
 ghost use Rattle.uv_timer.specs.Timed.{timed, timer_undone, CanUndoTimer};
 ghost use Rattle.uv_timer.specs.Timers.{IsRescheduled};
 
-use crate::change::{Change, Times};
+use crate::change::{TimerChange, Times};
 use crate::hook::{hook, undo_hook, unhook};
 use crate::undo::TimerUndo;
 use uv_arena::Slots;
@@ -20,7 +20,7 @@ pub fn reschedule<T: HoldsHandle>(
     heap: &mut TimerHeap,
     times: &mut Times,
     id: Id,
-    change: Change,
+    change: TimerChange,
 ) -> TimerUndo
     requires found { record_at T.held_record slots.old.image id ≡ Some change.from }
     requires counts { IsCounted T.held_record (counted slots.old.image handles.old) }

@@ -10,7 +10,7 @@ ghost use Rattle.uv_handle.specs.Counted.{counted, record_at, IsCounted};
 ghost use Rattle.uv_timer.specs.Timed.{timed, CanSet, collect_undone, CanUndoCollect};
 ghost use Rattle.uv_timer.specs.Timers.{first_due, first_ready, IsDue, NoneIsDue, NoneIsReady, IsCollected, IsFired};
 
-use crate::change::{Change, Times};
+use crate::change::{TimerChange, Times};
 use crate::rescheduling::{reschedule, undo_reschedule};
 use crate::undo::{CollectUndo, TimerUndo};
 use uv_arena::Slots;
@@ -93,7 +93,7 @@ fn collect<T: HoldsHandle>(
     ensures room { heap.new.room ≡ heap.old.room }
     ensures pieces { slots.new.room ≡ slots.old.room }
 {
-    let change = Change::collecting(handle);
+    let change = TimerChange::collecting(handle);
     let timer = reschedule(handles, slots, heap, times, id, change);
     let pushed = slots.push_back(ListName::Ready, id);
     CollectUndo { timer, pushed }
@@ -141,7 +141,7 @@ pub fn fire_one<T: HoldsHandle>(
         Some(id) => match handle_at(slots, id) {
             Err(_) => None,
             Ok(handle) => {
-                let change = Change::firing(times, handle);
+                let change = TimerChange::firing(times, handle);
                 Some((id, reschedule(handles, slots, heap, times, id, change)))
             }
         },

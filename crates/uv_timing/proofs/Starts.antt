@@ -17,7 +17,7 @@ use Rattle.uv_records.specs.Refusals.{invalid_if, only_if, start_timer_refusal, 
 use Rattle.uv_arena.specs.Image.{plain_slots}
 use Rattle.uv_handle.specs.Counted.{record_at}
 use Rattle.uv_heap.specs.Order.{inserted}
-use Rattle.uv_timer.specs.declared.change.Change.{Change}
+use Rattle.uv_timer.specs.declared.change.TimerChange.{TimerChange}
 use Rattle.uv_timer.specs.declared.undo.TimerUndo.{TimerUndo}
 use Rattle.uv_timer.specs.Changes.{becoming, set_at, starting, stopping, starting_again}
 use Rattle.uv_timer.specs.Timed.{Timed}
@@ -129,7 +129,7 @@ module _ (i : Image Place) (n : Timed Content) (room : ℕ) (d : Id) (h : Handle
       → AreRetimed (retimed i n) s (if b then stopped s d h else started (stopped s d h) d h h.repeat h.repeat)
   restarted_by true x =
       let leaves : becoming h (records.stopped h) None ≡ stopping h =
-      ap (λ (b : Bool). (let c : Change = record { from = h; to = records.stopped h; leaves = not b; due = None } in c))
+      ap (λ (b : Bool). (let c : TimerChange = record { from = h; to = records.stopped h; leaves = not b; due = None } in c))
       (sym (again_unclosed h allowed)) in
       stopped_retimed i n room d h u (subst (λ c. IsRescheduled handle_in Handle room (timed_of i) n d c u) leaves x) s stands reached fit
       (again_timer h allowed)
@@ -147,10 +147,10 @@ only_restarted s d h = at (h.repeat == 0) where
 
 -- ---- the ops
 
-module _ (r : Record Place) (h w : Held Place) (d : Id) (from : HandleRecord) (c : Change) (fit : IsFit h.image) (recorded : Recorded r h w)
+module _ (r : Record Place) (h w : Held Place) (d : Id) (from : HandleRecord) (c : TimerChange) (fit : IsFit h.image) (recorded : Recorded r h w)
     (whole : IsWhole w.image)
     (by : By change.Timer (λ u. IsRescheduled handle_in Handle w.room (timed_of h.image) (timed_of w.image) d c u) r.change) where
-  changed : (b : Change) → c ≡ b → IsRescheduled handle_in Handle w.room (timed_of h.image) (timed_of w.image) d b by.undo
+  changed : (b : TimerChange) → c ≡ b → IsRescheduled handle_in Handle w.room (timed_of h.image) (timed_of w.image) d b by.undo
   changed b is = subst (λ z. IsRescheduled handle_in Handle w.room (timed_of h.image) (timed_of w.image) d z by.undo) is by.does
 
   frame : w.image ≡ retimed h.image (timed_of w.image)

@@ -11,7 +11,7 @@ use Rattle.uv_records.specs.Handles.{is_timer}
 use Rattle.uv_records.specs.Walks.{without}
 use Rattle.uv_arena.specs.Image as arena
 use Rattle.uv_handle.specs.Counted.{record_at}
-use Rattle.uv_timer.specs.declared.change.Change.{Change}
+use Rattle.uv_timer.specs.declared.change.TimerChange.{TimerChange}
 use Rattle.uv_timer.specs.declared.undo.TimerUndo.{TimerUndo}
 use Rattle.uv_timer.specs.Changes.{stopping}
 use Rattle.uv_timer.specs.Timed.{Timed}
@@ -42,7 +42,7 @@ use Rattle.uv_timing.proofs.Retimed.{retimed, timer_frame, OnlyTimers, AreRetime
 use Rattle.uv_timing.proofs.TakenOff.{timers_left, lists_left}
 
 -- ids stay where one handle is rescheduled
-pub ids_rescheduled : (i : Image Place) (n : Timed Content) (room : ℕ) (d : Id) (c : Change) (u : TimerUndo)
+pub ids_rescheduled : (i : Image Place) (n : Timed Content) (room : ℕ) (d : Id) (c : TimerChange) (u : TimerUndo)
     → IsRescheduled handle_in Handle room (timed_of i) n d c u → (x : ℕ) → id_in n.handles.arena x ≡ id_in i.arena x
 ids_rescheduled i n room d c u x =
     ids_kept i.arena n.handles.arena d (Handle c.to) (Handle c.from) (held_handle i d c.from x.handles.there) x.handles.plain
@@ -118,7 +118,7 @@ module _ (i : Image Place) (n : Timed Content) (room : ℕ) (d : Id) (h : Handle
 pub only_stopped : (s : State) (d : Id) (h : HandleRecord) → OnlyTimers s (stopped s d h)
 only_stopped s d h = record { place = refl; names = refl; running = refl; time = refl; clock = refl; stop_flag = refl; idled = refl }
 
-pub stop_does : (r : Record Place) (h w : Held Place) (d : Id) (from : HandleRecord) (c : Change) → IsFit h.image → is_timer from.kind ≡ true
+pub stop_does : (r : Record Place) (h w : Held Place) (d : Id) (from : HandleRecord) (c : TimerChange) → IsFit h.image → is_timer from.kind ≡ true
     → Recorded r h w → IsWhole w.image → c ≡ stopping from
     → By change.Timer (λ u. IsRescheduled handle_in Handle w.room (timed_of h.image) (timed_of w.image) d c u) r.change
     → Does (λ s. stop s d from) h.image w.image (answer.Code success)

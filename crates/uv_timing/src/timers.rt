@@ -15,7 +15,7 @@ use uv_ids::Id;
 use uv_model::Place;
 use uv_records::HandleRecord;
 use uv_step::Memory;
-use uv_timer::Change;
+use uv_timer::TimerChange;
 
 /// Stops a timer (uv_timer_stop). One that closes stays on the list of those that close.
 pub fn stop_timer(memory: &mut Memory<Place>, id: Id, handle: HandleRecord)
@@ -25,7 +25,7 @@ pub fn stop_timer(memory: &mut Memory<Place>, id: Id, handle: HandleRecord)
     ensures returns { Returns memory.new.step_record (held memory.old) (held memory.new) }
     ensures does { Does (λ s. stop s id handle) (held memory.old).image (held memory.new).image (code success) }
 {
-    memory.reschedule(id, Change::stopping(handle));
+    memory.reschedule(id, TimerChange::stopping(handle));
     memory.is_sound();
 }
 
@@ -44,7 +44,7 @@ pub fn start_timer(
     ensures does { Does (λ s. start s timeout repeat id handle) (held memory.old).image (held memory.new).image (code success) }
 {
     memory.slots.is_sound();
-    let change = Change::starting(&memory.times, handle, timeout, repeat);
+    let change = TimerChange::starting(&memory.times, handle, timeout, repeat);
     memory.reschedule(id, change);
     memory.is_sound();
 }
@@ -58,7 +58,7 @@ pub fn start_again(memory: &mut Memory<Place>, id: Id, handle: HandleRecord)
     ensures does { Does (λ s. again s id handle) (held memory.old).image (held memory.new).image (code success) }
 {
     memory.slots.is_sound();
-    let change = Change::again(&memory.times, handle);
+    let change = TimerChange::again(&memory.times, handle);
     memory.reschedule(id, change);
     memory.is_sound();
 }
