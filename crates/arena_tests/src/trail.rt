@@ -2,7 +2,7 @@
 
 use std::process::Abort;
 use std::test::Fail;
-use uv_arena::{Place, PushUndo, RemoveUndo};
+use uv_arena::{ChainPlace, PushUndo, RemoveUndo};
 use uv_handle::RecordUndo;
 use uv_ids::{Kind, Var};
 use uv_records::HandleRecord;
@@ -12,7 +12,7 @@ use uv_trail::Trail;
 use uv_watch::WalkUndo;
 use uv_work::RequestRecord;
 
-const PLACE: Place = Place {
+const PLACE: ChainPlace = ChainPlace {
     list: 3,
     before: None,
     slot: 7,

@@ -7,7 +7,7 @@ use Rattle.uv_raw.specs.Row.{row}
 use Rattle.uv_records.specs.declared.slot.Slot.{Slot}
 use Rattle.uv_arena.specs.declared.links.TheConstants.{CHAIN_COUNT}
 use Rattle.uv_arena.specs.declared.links.Links.{Links}
-use Rattle.uv_arena.specs.declared.links.Place.{Place}
+use Rattle.uv_arena.specs.declared.links.ChainPlace.{ChainPlace}
 use Rattle.uv_arena.specs.declared.links.Cell.{Cell}
 use Rattle.uv_arena.specs.Chains.{Chains, link, loose, each, first, last, IsIn, IsSegment, Stands, list_of, head_of, tail_of, new_links, new_ends, relinked}
 use Rattle.uv_arena.specs.Image.{Memory, IsBelow, IsWithin, with_links, chains, chain, relinked_memory, put_in, taken_out, edit_at, edited, links_in, links_at, head_at, tail_at, Fits, AreFit, IsLinked, held_slots}
@@ -18,7 +18,7 @@ use Rattle.uv_arena.proofs.Stand.{with_list}
 use Rattle.uv_arena.proofs.Places.{between, link_stands, unlink_stands}
 use Rattle.uv_arena.proofs.Walk.{walked, stands_walked}
 
-abbrev pub place_of : ℕ → Option ℕ → ℕ → Option ℕ → Place
+abbrev pub place_of : ℕ → Option ℕ → ℕ → Option ℕ → ChainPlace
 place_of k b x n = record { list = k; before = b; slot = x; after = n }
 
 pub or_none : {A : Type 0} (o : Option A) → (o ≡ None) ⊎ ((a : A) × (o ≡ Some a))
@@ -65,32 +65,33 @@ module _ {X : Type 0} where
 
   -- ---- one place is relinked
 
-  abbrev pub relink_at : Place → Option ℕ → Option ℕ → Links → ℕ → Cell X → Cell X
+  abbrev pub relink_at : ChainPlace → Option ℕ → Option ℕ → Links → ℕ → Cell X → Cell X
   relink_at t a b l j c = with_links (new_links t a b l j c.links) c
 
-  chains_relinked : (t : Place) (a b : Option ℕ) (l : Links) (m : Memory X) → chains (relinked_memory t a b l m) ≡ relinked t a b l (chains m)
+  chains_relinked : (t : ChainPlace) (a b : Option ℕ) (l : Links) (m : Memory X) → chains (relinked_memory t a b l m) ≡ relinked t a b l (chains m)
   chains_relinked t a b l m = λ k. record { links = map-each (new_links t a b l) m.row.items k; ends = each (new_ends t a b) m.ends }
 
-  memory_back : (t : Place) (a b a' b' : Option ℕ) (l l' : Links) (m : Memory X) → relinked t a' b' l' (relinked t a b l (chains m)) ≡ chains m
+  memory_back : (t : ChainPlace) (a b a' b' : Option ℕ) (l l' : Links) (m : Memory X) → relinked t a' b' l' (relinked t a b l (chains m)) ≡ chains m
       → relinked_memory t a' b' l' (relinked_memory t a b l m) ≡ m
   memory_back t a b a' b' l l' m e = λ k. record {
     row = row (back (new_links t a b l) (new_links t a' b' l') m.row.items (ap (λ (c : Chains). c.links) e) k) m.row.capacity;
     ends = ap (λ (c : Chains). c.ends) e k;
   }
 
-  pub slots_relinked : (t : Place) (a b : Option ℕ) (l : Links) (m : Memory X) → held_slots (relinked_memory t a b l m) ≡ held_slots m
+  pub slots_relinked : (t : ChainPlace) (a b : Option ℕ) (l : Links) (m : Memory X) → held_slots (relinked_memory t a b l m) ≡ held_slots m
   slots_relinked t a b l m = map-kept (λ c. c.slot) (relink_at t a b l) m.row.items (λ j c. refl)
 
-  pub length_relinked : (t : Place) (a b : Option ℕ) (l : Links) (m : Memory X) → length (relinked_memory t a b l m).row.items ≡ length m.row.items
+  pub length_relinked : (t : ChainPlace) (a b : Option ℕ) (l : Links) (m : Memory X)
+      → length (relinked_memory t a b l m).row.items ≡ length m.row.items
   length_relinked t a b l m = length-each (relink_at t a b l) m.row.items
 
-  pub own_relinked : (t : Place) (a b : Option ℕ) (l : Links) (m : Memory X) (c : Cell X) → slice_get m.row.items t.slot ≡ Some c
+  pub own_relinked : (t : ChainPlace) (a b : Option ℕ) (l : Links) (m : Memory X) (c : Cell X) → slice_get m.row.items t.slot ≡ Some c
       → slice_get (relinked_memory t a b l m).row.items t.slot ≡ Some (with_links l c)
   own_relinked t a b l m c e = get-each (relink_at t a b l) m.row.items t.slot c e
       ∙ ap (λ (z : Links). Some (with_links z c)) (own_links t a b l c.links)
 
   -- another slot stays on the chain that it is on
-  pub list_relinked : (t : Place) (a b : Option ℕ) (l : Links) (m : Memory X) (y : ℕ) → t.slot ≢ y
+  pub list_relinked : (t : ChainPlace) (a b : Option ℕ) (l : Links) (m : Memory X) (y : ℕ) → t.slot ≢ y
       → (links_at (relinked_memory t a b l m) y).list ≡ (links_at m y).list
   list_relinked t a b l m y n = elim (or_none (slice_get m.row.items y)) [
     | inl e ↦ ap (λ o. (links_in o).list) (get-each_none (relink_at t a b l) m.row.items y e ∙ sym e)
@@ -99,7 +100,7 @@ module _ {X : Type 0} where
   ]
 
   -- what is known after a chain became new
-  pub record IsMade (m n : Memory X) (t : Place) (new : List ℕ) : Type 0 where
+  pub record IsMade (m n : Memory X) (t : ChainPlace) (new : List ℕ) : Type 0 where
     pub within : IsWithin t (length n.row.items)
     pub linked : IsLinked n
     pub now : chain n t.list ≡ new
@@ -120,7 +121,7 @@ module _ {X : Type 0} where
   first_below m s k lt us vs is None e = tt
   first_below m s k lt us vs is (Some y) e = below m s k lt y (subst (IsIn y) (sym is) (in_right y us vs (first_is_in vs y (sym e))))
 
-  made : (m : Memory X) → IsLinked m → (t : Place) (a b : Option ℕ) (l : Links) (new : List ℕ) → IsWithin t (length m.row.items)
+  made : (m : Memory X) → IsLinked m → (t : ChainPlace) (a b : Option ℕ) (l : Links) (new : List ℕ) → IsWithin t (length m.row.items)
       → Stands (relinked t a b l (chains m)) (with_list t.list new (chain m)) → IsMade m (relinked_memory t a b l m) t new
   made m s t a b l new within st =
       let n = relinked_memory t a b l m in let xs = with_list t.list new (chain m) in
@@ -281,7 +282,7 @@ module _ {X : Type 0} where
   pub others_fit : (last x : ℕ) (cs : List (Cell X)) → AreFit last cs → OthersFit last x cs
   others_fit last x cs h y c n at = h y c at
 
-  pub fit_relinked : (last : ℕ) (t : Place) (a b : Option ℕ) (l : Links) (m : Memory X) → OthersFit last t.slot m.row.items
+  pub fit_relinked : (last : ℕ) (t : ChainPlace) (a b : Option ℕ) (l : Links) (m : Memory X) → OthersFit last t.slot m.row.items
       → OthersFit last t.slot (relinked_memory t a b l m).row.items
   fit_relinked last t a b l m h y z n at =
       let was = get-each_back (relink_at t a b l) m.row.items y z at in

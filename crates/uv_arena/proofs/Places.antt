@@ -3,7 +3,7 @@ use Rattle.std.proofs.Common.{◌≡◌, ℕ, ◌<◌, List, [], ◌∷◌, ◌+
 use Rattle.uv_arena.specs.declared.links.TheConstants.{CHAIN_COUNT}
 use Rattle.uv_arena.specs.declared.links.Links.{Links}
 use Rattle.uv_records.specs.declared.lists.Ends.{Ends}
-use Rattle.uv_arena.specs.declared.links.Place.{Place}
+use Rattle.uv_arena.specs.declared.links.ChainPlace.{ChainPlace}
 use Rattle.uv_arena.specs.Chains.{Chains, link, loose, first, last, IsIn, IsSegment, IsList, Stands, ends_of, none_or, linked, unlinked, new_links}
 use Rattle.uv_arena.proofs.Each.{get-each}
 use Rattle.uv_arena.proofs.Lists.{in_left, in_right, in_either, last_in, last_is_in, first_is_in, apart_left, apart_right, apart_across, apart_join, last_append, segment_left, segment_right, segment_join, segment_tells}
@@ -24,7 +24,7 @@ segment_start ls k p (x ∷ xs) n h i m e g =
     let same : x ≡ i = cc in let is : m ≡ link k p (first xs n) = cc (ap (slice_get ls) same, h.0, g) in ap (λ (z : Links). z.prev) is
 
 -- where a place is: list k is us and then vs
-abbrev pub between : ℕ → List ℕ → ℕ → List ℕ → Place
+abbrev pub between : ℕ → List ℕ → ℕ → List ℕ → ChainPlace
 between k us x vs = record { list = k; before = last None us; slot = x; after = first vs None }
 
 -- the ends of a list
@@ -64,7 +64,7 @@ module _ (c : Chains) (xs : ℕ → List ℕ) (s : Stands c xs) (k x : ℕ) (us 
   pub link_stands : xs k ≡ us ++ vs → slice_get c.links x ≡ Some loose
       → Stands (linked (between k us x vs) c) (with_list k (us ++ x ∷ vs) xs) × (unlinked (between k us x vs) (linked (between k us x vs) c) ≡ c)
   link_stands is bare =
-      let t : Place = between k us x vs in
+      let t : ChainPlace = between k us x vs in
       let old : IsList c k (us ++ vs) = subst (IsList c k) is (s.lists k lt) in
       let out : IsIn x (us ++ vs) → ⊥ = λ i. let on = segment_tells c.links k None (us ++ vs) None old.segment x i in
       let same : on.0 ≡ loose = cc (on.1, bare) in cc (ap (λ (z : Links). z.list) same, on.2) in
@@ -108,7 +108,7 @@ module _ (c : Chains) (xs : ℕ → List ℕ) (s : Stands c xs) (k x : ℕ) (us 
   pub unlink_stands : xs k ≡ us ++ x ∷ vs → Stands (unlinked (between k us x vs) c) (with_list k (us ++ vs) xs)
       × (linked (between k us x vs) (unlinked (between k us x vs) c) ≡ c)
   unlink_stands is =
-      let t : Place = between k us x vs in
+      let t : ChainPlace = between k us x vs in
       let old : IsList c k (us ++ x ∷ vs) = subst (IsList c k) is (s.lists k lt) in
       let apart_u = apart_left us (x ∷ vs) old.apart in let apart_w = apart_right us (x ∷ vs) old.apart in
       let across = apart_across us (x ∷ vs) old.apart in

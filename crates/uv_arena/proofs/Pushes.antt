@@ -9,7 +9,7 @@ use Rattle.uv_records.specs.Lists.{number}
 use Rattle.uv_records.specs.Slots as plain
 use Rattle.uv_records.specs.Walks.{without}
 use Rattle.uv_arena.specs.declared.links.Links.{Links}
-use Rattle.uv_arena.specs.declared.links.Place.{Place}
+use Rattle.uv_arena.specs.declared.links.ChainPlace.{ChainPlace}
 use Rattle.uv_arena.specs.declared.links.Cell.{Cell}
 use Rattle.uv_arena.specs.Chains.{link, loose, first, last, IsApart}
 use Rattle.uv_arena.specs.declared.links.TheConstants.{FREE}
@@ -39,7 +39,7 @@ module _ {X : Type 0} where
   -- ---- pushes
 
   -- what is known once a slot stands in a place
-  pub record IsPut (v : Image X) (list : ListName) (d : Id) (t : Place) (now : List ℕ) : Type 0 where
+  pub record IsPut (v : Image X) (list : ListName) (d : Id) (t : ChainPlace) (now : List ℕ) : Type 0 where
     pub within : IsWithin t (length v.memory.row.items)
     pub sound : IsSound (in_memory (put_in t) v)
     pub pushed : IsPushed v (in_memory (put_in t) v) list d now

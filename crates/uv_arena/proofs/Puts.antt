@@ -3,7 +3,7 @@ use Rattle.std.proofs.Common.{◌≡◌, ℕ, ◌<◌, Bool, true, false, cond, 
 use Rattle.std.proofs.lemmas.Option.{slice_get-get_or}
 use Rattle.uv_arena.specs.declared.links.Links.{Links}
 use Rattle.uv_records.specs.declared.lists.Ends.{Ends}
-use Rattle.uv_arena.specs.declared.links.Place.{Place}
+use Rattle.uv_arena.specs.declared.links.ChainPlace.{ChainPlace}
 use Rattle.uv_arena.specs.declared.links.Cell.{Cell}
 use Rattle.uv_arena.specs.Chains.{each, is_at, none_or, new_ends}
 use Rattle.uv_raw.specs.Row.{row}
@@ -24,14 +24,14 @@ put_ends es i f lt other = put_at es i (slice_index_or es i no_ends) (slice_get-
 no_ends_set : (es : List Ends) (f : Bool → Ends → Ends) (k : ℕ) → ((u : Bool) (y : Ends) → f u y ≡ y) → es ≡ each (λ j y. f (eqb k j) y) es
 no_ends_set es f k same = sym (each-same (λ j y. f (eqb k j) y) es (λ j y e. same (eqb k j) y))
 
-both_ends : (t : Place) (a b : Option ℕ) (u : Bool) (e : Ends)
+both_ends : (t : ChainPlace) (a b : Option ℕ) (u : Bool) (e : Ends)
     → let r : Ends = cond u (record { head = none_or t.before a e.head; tail = e.tail }) e in
     cond u (record { head = r.head; tail = none_or t.after b r.tail }) r
     ≡ cond u (record { head = none_or t.before a e.head; tail = none_or t.after b e.tail }) e
 both_ends t a b true e = refl
 both_ends t a b false e = refl
 
-pub ends_joined : (t : Place) (a b : Option ℕ) (es : List Ends)
+pub ends_joined : (t : ChainPlace) (a b : Option ℕ) (es : List Ends)
     → each (λ j e. cond (eqb t.list j) (record {
       head = e.head;
       tail =
@@ -74,7 +74,7 @@ module _ {X : Type 0} where
   abbrev pub prev_is : Option ℕ → Option ℕ → ℕ → Cell X → Cell X
   prev_is o v j c = with_links (record { list = c.links.list; prev = cond (is_at o j) v c.links.prev; next = c.links.next }) c
 
-  pub cells_joined : (t : Place) (a b : Option ℕ) (l : Links) (cs : List (Cell X))
+  pub cells_joined : (t : ChainPlace) (a b : Option ℕ) (l : Links) (cs : List (Cell X))
       → each (λ j c. with_links (cond (eqb t.slot j) l c.links) c) (each (prev_is t.after b) (each (next_is t.before a) cs))
       ≡ relinked_cells t a b l cs
   cells_joined t a b l cs =

@@ -3,7 +3,7 @@ use Rattle.std.proofs.Common.{◌≡◌, ◌≢◌, ℕ, ◌⊎◌, Bool, true, 
 use Rattle.std.proofs.lemmas.Bool.Decides.{eqb_tells}
 use Rattle.uv_arena.specs.declared.links.Links.{Links}
 use Rattle.uv_records.specs.declared.lists.Ends.{Ends}
-use Rattle.uv_arena.specs.declared.links.Place.{Place}
+use Rattle.uv_arena.specs.declared.links.ChainPlace.{ChainPlace}
 use Rattle.uv_arena.specs.Chains.{Chains, link, each, is_at, first, last, IsIn, IsApart, IsSegment, new_links, none_or, new_ends, relinked}
 use Rattle.uv_arena.proofs.Each.{get-each, each-each, each-agree, each-same}
 use Rattle.uv_arena.proofs.Lists.{last_in}
@@ -23,7 +23,7 @@ at_either (Some i) y = elim (eqb_tells i y) [ inl h ↦ inl (h.0, ap Some h.1) |
 pub eqb_no : (i j : ℕ) → i ≢ j → eqb i j ≡ false
 eqb_no i j n = elim (eqb_tells i j) [ inl h ↦ absurd (n h.1) | inr h ↦ h.0 ]
 
-module _ (t : Place) (a b : Option ℕ) (l : Links) where
+module _ (t : ChainPlace) (a b : Option ℕ) (l : Links) where
   pub new_links_as : (y : ℕ) (m : Links) (u v w : Bool) → eqb t.slot y ≡ u → is_at t.before y ≡ v → is_at t.after y ≡ w
       → new_links t a b l y m ≡ cond u l (record { list = m.list; prev = cond w b m.prev; next = cond v a m.next })
   new_links_as y m u v w e f g = λ i. cond (e i) l (record { list = m.list; prev = cond (g i) b m.prev; next = cond (f i) a m.next })
@@ -90,7 +90,7 @@ module _ (t : Place) (a b : Option ℕ) (l : Links) where
         )
 
 -- a second relinking of a place overwrites the first
-module _ (t : Place) (a b a' b' : Option ℕ) (l l' : Links) where
+module _ (t : ChainPlace) (a b a' b' : Option ℕ) (l l' : Links) where
   once : (u v w : Bool) (m : Links) → let r : Links = cond u l (record { list = m.list; prev = cond w b m.prev; next = cond v a m.next }) in
       cond u l' (record { list = r.list; prev = cond w b' r.prev; next = cond v a' r.next })
       ≡ cond u l' (record { list = m.list; prev = cond w b' m.prev; next = cond v a' m.next })
@@ -120,7 +120,7 @@ module _ (t : Place) (a b a' b' : Option ℕ) (l l' : Links) where
       λ i. record { links = one i; ends = two i }
 
 -- a relinking that puts in what is there changes nothing
-pub record IsThere (t : Place) (a b : Option ℕ) (l : Links) (c : Chains) : Type 0 where
+pub record IsThere (t : ChainPlace) (a b : Option ℕ) (l : Links) (c : Chains) : Type 0 where
   pub own : (m : Links) → slice_get c.links t.slot ≡ Some m → m ≡ l
   pub next : (i : ℕ) (m : Links) → t.before ≡ Some i → slice_get c.links i ≡ Some m → m.next ≡ a
   pub prev : (i : ℕ) (m : Links) → t.after ≡ Some i → slice_get c.links i ≡ Some m → m.prev ≡ b
@@ -131,7 +131,7 @@ kept_or : (o a old : Option ℕ) → (o ≡ None → old ≡ a) → none_or o a 
 kept_or None a old h = sym (h refl)
 kept_or (Some i) a old h = refl
 
-module _ (t : Place) (a b : Option ℕ) (l : Links) (c : Chains) (h : IsThere t a b l c) where
+module _ (t : ChainPlace) (a b : Option ℕ) (l : Links) (c : Chains) (h : IsThere t a b l c) where
   same_links : (j : ℕ) (m : Links) → slice_get c.links j ≡ Some m → new_links t a b l j m ≡ m
   same_links j m e =
       elim (eqb_tells t.slot j) [
@@ -162,5 +162,5 @@ module _ (t : Place) (a b : Option ℕ) (l : Links) (c : Chains) (h : IsThere t 
       λ i. record { links = one i; ends = two i }
 
 -- so what puts back what was there undoes the first
-pub undone : (t : Place) (a b a' b' : Option ℕ) (l l' : Links) (c : Chains) → IsThere t a' b' l' c → relinked t a' b' l' (relinked t a b l c) ≡ c
+pub undone : (t : ChainPlace) (a b a' b' : Option ℕ) (l l' : Links) (c : Chains) → IsThere t a' b' l' c → relinked t a' b' l' (relinked t a b l c) ≡ c
 undone t a b a' b' l l' c h = relinked_twice t a b a' b' l l' c ∙ relinked_same t a' b' l' c h

@@ -6,7 +6,7 @@ use Rattle.uv_ids.specs.declared.id.Id.{Id}
 use Rattle.uv_records.specs.declared.slot.Slot.{Slot}
 use Rattle.uv_records.specs.Lists.{number}
 use Rattle.uv_records.specs.Slots as plain
-use Rattle.uv_arena.specs.declared.links.Place.{Place}
+use Rattle.uv_arena.specs.declared.links.ChainPlace.{ChainPlace}
 use Rattle.uv_arena.specs.declared.undo.RemoveUndo.{RemoveUndo}
 use Rattle.uv_arena.specs.Chains.{link, first}
 use Rattle.uv_arena.specs.declared.links.TheConstants.{FREE}
@@ -86,7 +86,7 @@ module _ {X : Type 0} where
       }
 
   -- else it is at the front of the free list, its generation one larger
-  pub record IsFreed (v : Image X) (d : Id) (was : X) (t : Place) : Type 0 where
+  pub record IsFreed (v : Image X) (d : Id) (was : X) (t : ChainPlace) : Type 0 where
     pub within : IsWithin t (length v.memory.row.items)
     pub sound : IsSound (in_memory (λ m. put_in t (edited d.slot (record { generation = d.generation + 1; content = None }) m)) v)
     pub removed : IsRemoved v (in_memory (λ m. put_in t (edited d.slot (record {

@@ -4,18 +4,18 @@ use Rattle.std.proofs.lemmas.Bool.Decides.{eqb_tells}
 use Rattle.uv_arena.specs.declared.links.TheConstants.{CHAIN_COUNT}
 use Rattle.uv_arena.specs.declared.links.Links.{Links}
 use Rattle.uv_records.specs.declared.lists.Ends.{Ends}
-use Rattle.uv_arena.specs.declared.links.Place.{Place}
+use Rattle.uv_arena.specs.declared.links.ChainPlace.{ChainPlace}
 use Rattle.uv_arena.specs.Chains.{Chains, loose, each, IsIn, IsList, Stands, ends_of, new_links, none_or, new_ends, relinked}
 use Rattle.uv_arena.proofs.Each.{get-each, get-each_back}
 use Rattle.uv_arena.proofs.Lists.{segment_tells}
 use Rattle.uv_arena.proofs.Relinking.{eqb_no, own_links, IsFar, untouched, same_list, frame}
 
-pub ends_kept : (t : Place) (a b : Option ℕ) (c : Chains) (j : ℕ) (e : Ends) → t.list ≢ j → slice_get c.ends j ≡ Some e
+pub ends_kept : (t : ChainPlace) (a b : Option ℕ) (c : Chains) (j : ℕ) (e : Ends) → t.list ≢ j → slice_get c.ends j ≡ Some e
     → slice_get (each (new_ends t a b) c.ends) j ≡ Some e
 ends_kept t a b c j e n g = get-each (new_ends t a b) c.ends j e g
     ∙ ap (λ (u : Bool). Some (cond u (record { head = none_or t.before a e.head; tail = none_or t.after b e.tail }) e)) (eqb_no t.list j n)
 
-pub ends_put : (t : Place) (a b : Option ℕ) (c : Chains) (e : Ends) → slice_get c.ends t.list ≡ Some e
+pub ends_put : (t : ChainPlace) (a b : Option ℕ) (c : Chains) (e : Ends) → slice_get c.ends t.list ≡ Some e
     → slice_get (each (new_ends t a b) c.ends) t.list ≡ Some (record { head = none_or t.before a e.head; tail = none_or t.after b e.tail })
 ends_put t a b c e g = get-each (new_ends t a b) c.ends t.list e g
     ∙ ap (λ (u : Bool). Some (cond u (record { head = none_or t.before a e.head; tail = none_or t.after b e.tail }) e)) (eq-eqb t.list t.list refl)
@@ -25,7 +25,7 @@ abbrev pub with_list : ℕ → List ℕ → (ℕ → List ℕ) → ℕ → List 
 with_list k new xs j = cond (eqb k j) new (xs j)
 
 -- what a relinking has to meet
-pub record IsRelinked (c : Chains) (xs : ℕ → List ℕ) (t : Place) (a b : Option ℕ) (l : Links) (new : List ℕ) : Type 0 where
+pub record IsRelinked (c : Chains) (xs : ℕ → List ℕ) (t : ChainPlace) (a b : Option ℕ) (l : Links) (new : List ℕ) : Type 0 where
   pub below : t.list < CHAIN_COUNT
   pub made : IsList (relinked t a b l c) t.list new
   pub slot : (m : Links) → slice_get c.links t.slot ≡ Some m → (m.list ≡ None) ⊎ (m.list ≡ Some t.list)
@@ -35,7 +35,7 @@ pub record IsRelinked (c : Chains) (xs : ℕ → List ℕ) (t : Place) (a b : Op
   pub bare : l.list ≡ None → l ≡ loose
   pub kept : (y : ℕ) → t.slot ≢ y → IsIn y (xs t.list) → IsIn y new
 
-module _ (c : Chains) (xs : ℕ → List ℕ) (s : Stands c xs) (t : Place) (a b : Option ℕ) (l : Links) (new : List ℕ)
+module _ (c : Chains) (xs : ℕ → List ℕ) (s : Stands c xs) (t : ChainPlace) (a b : Option ℕ) (l : Links) (new : List ℕ)
     (r : IsRelinked c xs t a b l new) where
   here : (y : ℕ) → IsIn y (xs t.list) → (m : Links) → slice_get c.links y ≡ Some m → m.list ≡ Some t.list
   here y i m g = let on = segment_tells c.links t.list None (xs t.list) None (s.lists t.list r.below).segment y i in

@@ -7,7 +7,7 @@ use Rattle.uv_records.specs.Slots.{next_free, taken, freed, with_held}
 use Rattle.uv_raw.specs.Pieced.{PIECE}
 use Rattle.uv_arena.specs.declared.arena.InsertFault.{InsertFault}
 use Rattle.uv_arena.specs.declared.arena.InsertFault.TheVariants.{Full, Memory}
-use Rattle.uv_arena.specs.declared.links.Place.{Place}
+use Rattle.uv_arena.specs.declared.links.ChainPlace.{ChainPlace}
 use Rattle.uv_arena.specs.declared.undo.InsertUndo.{InsertUndo}
 use Rattle.uv_arena.specs.declared.undo.RemoveUndo.{RemoveUndo}
 use Rattle.uv_arena.specs.declared.undo.SpliceUndo.{SpliceUndo}
@@ -92,7 +92,7 @@ module _ {X : Type 0} where
     pub can_undo : CanUndoPush new d.slot
 
   -- the slot of the id is off its list
-  pub record IsUnlinked (old new : Image X) (d : Id) (t : Place) : Type 0 where
+  pub record IsUnlinked (old new : Image X) (d : Id) (t : ChainPlace) : Type 0 where
     pub slot : t.slot ≡ d.slot
     pub lists : (l : ListName) → members new l ≡ without eqb (members old l) d.slot
     pub slots : SameSlots old new

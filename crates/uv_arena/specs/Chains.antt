@@ -4,7 +4,7 @@ use Rattle.uv_records.specs.declared.lists.Ends.{Ends}
 pub use Rattle.uv_records.specs.Linked.{first, last, ends_of, IsIn}
 use Rattle.uv_arena.specs.declared.links.TheConstants.{CHAIN_COUNT}
 use Rattle.uv_arena.specs.declared.links.Links.{Links}
-use Rattle.uv_arena.specs.declared.links.Place.{Place}
+use Rattle.uv_arena.specs.declared.links.ChainPlace.{ChainPlace}
 
 -- the slots' links, and the ends of each list
 pub record Chains : Type 0 where
@@ -71,7 +71,7 @@ unfoldable pub list_of : Chains → ℕ → List ℕ
 list_of c k = walk c.links (length c.links) (head_of (slice_get c.ends k))
 
 -- what a relinking puts in: the next of the slot before, the previous of the slot after, and the slot's own links
-abbrev pub new_links : Place → Option ℕ → Option ℕ → Links → ℕ → Links → Links
+abbrev pub new_links : ChainPlace → Option ℕ → Option ℕ → Links → ℕ → Links → Links
 new_links t a b l j m = cond (eqb t.slot j) l (record {
   list = m.list;
   prev = cond (is_at t.after j) b m.prev;
@@ -84,16 +84,16 @@ abbrev pub none_or : Option ℕ → Option ℕ → Option ℕ → Option ℕ
 none_or None a old = a
 none_or (Some i) a old = old
 
-abbrev pub new_ends : Place → Option ℕ → Option ℕ → ℕ → Ends → Ends
+abbrev pub new_ends : ChainPlace → Option ℕ → Option ℕ → ℕ → Ends → Ends
 new_ends t a b j e = cond (eqb t.list j) (record { head = none_or t.before a e.head; tail = none_or t.after b e.tail }) e
 
-abbrev pub relinked : Place → Option ℕ → Option ℕ → Links → Chains → Chains
+abbrev pub relinked : ChainPlace → Option ℕ → Option ℕ → Links → Chains → Chains
 relinked t a b l c = record { links = each (new_links t a b l) c.links; ends = each (new_ends t a b) c.ends }
 
 -- the slot is put in the place
-abbrev pub linked : Place → Chains → Chains
+abbrev pub linked : ChainPlace → Chains → Chains
 linked t c = relinked t (Some t.slot) (Some t.slot) (link t.list t.before t.after) c
 
 -- the slot is taken out of the place
-abbrev pub unlinked : Place → Chains → Chains
+abbrev pub unlinked : ChainPlace → Chains → Chains
 unlinked t c = relinked t t.after t.before loose c

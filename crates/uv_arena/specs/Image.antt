@@ -10,7 +10,7 @@ use Rattle.uv_records.specs.declared.lists.TheConstants.{LIST_COUNT}
 use Rattle.uv_arena.specs.declared.links.TheConstants.{CHAIN_COUNT, FREE}
 use Rattle.uv_arena.specs.declared.links.Links.{Links}
 use Rattle.uv_records.specs.declared.lists.Ends.{Ends}
-use Rattle.uv_arena.specs.declared.links.Place.{Place}
+use Rattle.uv_arena.specs.declared.links.ChainPlace.{ChainPlace}
 use Rattle.uv_arena.specs.declared.links.Cell.{Cell}
 use Rattle.uv_arena.specs.declared.memory.Memory as there
 use Rattle.uv_arena.specs.Chains.{Chains, link, loose, each, new_links, new_ends, Stands, list_of, head_of, tail_of}
@@ -43,7 +43,7 @@ IsBelow None n = Unit {0}
 IsBelow (Some i) n = i < n
 
 -- a place of a chain, among so many slots
-abbrev pub IsWithin : Place → ℕ → Type 0
+abbrev pub IsWithin : ChainPlace → ℕ → Type 0
 IsWithin t n = (t.list < CHAIN_COUNT) × IsBelow t.before n × (t.slot < n) × IsBelow t.after n
 
 -- which chain a list is
@@ -87,18 +87,18 @@ module _ {X : Type 0} where
   chain m k = list_of (chains m) k
 
   -- one place is relinked
-  abbrev pub relinked_cells : Place → Option ℕ → Option ℕ → Links → List (Cell X) → List (Cell X)
+  abbrev pub relinked_cells : ChainPlace → Option ℕ → Option ℕ → Links → List (Cell X) → List (Cell X)
   relinked_cells t a b l cs = each (λ j c. with_links (new_links t a b l j c.links) c) cs
 
-  abbrev pub relinked_memory : Place → Option ℕ → Option ℕ → Links → Memory X → Memory X
+  abbrev pub relinked_memory : ChainPlace → Option ℕ → Option ℕ → Links → Memory X → Memory X
   relinked_memory t a b l m = record { row = row (relinked_cells t a b l m.row.items) m.row.capacity; ends = each (new_ends t a b) m.ends }
 
   -- the slot is put in the place
-  abbrev pub put_in : Place → Memory X → Memory X
+  abbrev pub put_in : ChainPlace → Memory X → Memory X
   put_in t m = relinked_memory t (Some t.slot) (Some t.slot) (link t.list t.before t.after) m
 
   -- the slot is taken out of the place
-  abbrev pub taken_out : Place → Memory X → Memory X
+  abbrev pub taken_out : ChainPlace → Memory X → Memory X
   taken_out t m = relinked_memory t t.after t.before loose m
 
   -- what a slot holds is written
@@ -146,13 +146,13 @@ module _ {X : Type 0} where
   tail_at m k = tail_of (slice_get m.ends k)
 
   -- where a slot stands
-  abbrev pub place_at : Memory X → ℕ → Place
+  abbrev pub place_at : Memory X → ℕ → ChainPlace
   place_at m x = record { list = list_or_first (links_at m x).list; before = (links_at m x).prev; slot = x; after = (links_at m x).next }
 
-  abbrev pub front_place : ℕ → ℕ → Memory X → Place
+  abbrev pub front_place : ℕ → ℕ → Memory X → ChainPlace
   front_place k x m = record { list = k; before = None; slot = x; after = head_at m k }
 
-  abbrev pub back_place : ℕ → ℕ → Memory X → Place
+  abbrev pub back_place : ℕ → ℕ → Memory X → ChainPlace
   back_place k x m = record { list = k; before = tail_at m k; slot = x; after = None }
 
   -- ---- what always holds

@@ -3,7 +3,7 @@ use Rattle.std.specs.Prelude.{◌≡◌, ℕ, ◌-◌, ◌<◌, false, length, S
 use Rattle.std.specs.List.{swap}
 use Rattle.uv_records.specs.declared.lists.ListName.{ListName}
 use Rattle.uv_records.specs.Lists.{number}
-use Rattle.uv_arena.specs.declared.links.Place.{Place}
+use Rattle.uv_arena.specs.declared.links.ChainPlace.{ChainPlace}
 use Rattle.uv_arena.specs.declared.undo.InsertUndo.{InsertUndo}
 use Rattle.uv_arena.specs.declared.undo.RemoveUndo.{RemoveUndo}
 use Rattle.uv_arena.specs.declared.undo.SpliceUndo.{SpliceUndo}
@@ -65,10 +65,10 @@ module _ {X : Type 0} where
     pub sound : IsSound (push_undone x i)
 
   -- an unlinking is taken back: the slot is put between its two old neighbours
-  abbrev pub unlink_undone : Place → Image X → Image X
+  abbrev pub unlink_undone : ChainPlace → Image X → Image X
   unlink_undone t i = in_memory (put_in t) i
 
-  pub record CanUndoUnlink (i : Image X) (t : Place) : Type 0 where
+  pub record CanUndoUnlink (i : Image X) (t : ChainPlace) : Type 0 where
     pub place : IsWithin t (length i.memory.row.items)
     pub sound : IsSound (unlink_undone t i)
 

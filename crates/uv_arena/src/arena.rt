@@ -12,7 +12,7 @@ mod lists;
 mod readers;
 mod undos;
 
-use crate::links::{CHAIN_COUNT, FREE, Links, Place};
+use crate::links::{CHAIN_COUNT, ChainPlace, FREE, Links};
 use crate::memory::Memory;
 use crate::undo::{InsertUndo, RemoveUndo};
 use std::alloc::{AllocError, Global};
@@ -280,7 +280,7 @@ impl<T: Copy> Slots<T> {
     }
 
     /// Where a slot stands.
-    fn place(&self, slot: u32) -> Place
+    fn place(&self, slot: u32) -> ChainPlace
         requires { slot < length self.now.image.memory.row.items }
         ensures { result ≡ place_at self.now.image.memory slot }
     {
@@ -288,11 +288,11 @@ impl<T: Copy> Slots<T> {
     }
 
     /// The front of a chain, for a slot that is put there.
-    fn front_place(&self, chain: u8, slot: u32) -> Place
+    fn front_place(&self, chain: u8, slot: u32) -> ChainPlace
         requires { chain < CHAIN_COUNT }
         ensures { result ≡ front_place chain slot self.now.image.memory }
     {
-        Place {
+        ChainPlace {
             list: chain,
             before: None,
             slot,
@@ -301,11 +301,11 @@ impl<T: Copy> Slots<T> {
     }
 
     /// The end of a chain, for a slot that is put there.
-    fn back_place(&self, chain: u8, slot: u32) -> Place
+    fn back_place(&self, chain: u8, slot: u32) -> ChainPlace
         requires { chain < CHAIN_COUNT }
         ensures { result ≡ back_place chain slot self.now.image.memory }
     {
-        Place {
+        ChainPlace {
             list: chain,
             before: self.tail(chain),
             slot,
@@ -370,7 +370,7 @@ impl<T: Copy> Slots<T> {
     }
 
     /// Puts a slot in a place.
-    fn put(&mut self, place: Place)
+    fn put(&mut self, place: ChainPlace)
         requires within { IsWithin place (length self.old.image.memory.row.items) }
         requires sound { IsSound (in_memory (put_in place) self.old.image) }
         ensures image { self.new.image ≡ in_memory (put_in place) self.old.image }
@@ -380,7 +380,7 @@ impl<T: Copy> Slots<T> {
     }
 
     /// Takes a slot out of a place.
-    fn take(&mut self, place: Place)
+    fn take(&mut self, place: ChainPlace)
         requires within { IsWithin place (length self.old.image.memory.row.items) }
         requires sound { IsSound (in_memory (taken_out place) self.old.image) }
         ensures image { self.new.image ≡ in_memory (taken_out place) self.old.image }
@@ -400,7 +400,7 @@ impl<T: Copy> Slots<T> {
     }
 
     /// Writes what the slot of a place holds, and puts it there.
-    fn edit_and_put(&mut self, slot: Slot<T>, place: Place)
+    fn edit_and_put(&mut self, slot: Slot<T>, place: ChainPlace)
         requires within { IsWithin place (length self.old.image.memory.row.items) }
         requires sound { IsSound (in_memory (λ m. put_in place (edited place.slot slot m)) self.old.image) }
         ensures image { self.new.image ≡ in_memory (λ m. put_in place (edited place.slot slot m)) self.old.image }
@@ -411,7 +411,7 @@ impl<T: Copy> Slots<T> {
     }
 
     /// Takes a slot out of its place, and writes what it holds.
-    fn take_and_edit(&mut self, place: Place, slot: Slot<T>)
+    fn take_and_edit(&mut self, place: ChainPlace, slot: Slot<T>)
         requires within { IsWithin place (length self.old.image.memory.row.items) }
         requires sound { IsSound (in_memory (λ m. edited place.slot slot (taken_out place m)) self.old.image) }
         ensures image { self.new.image ≡ in_memory (λ m. edited place.slot slot (taken_out place m)) self.old.image }

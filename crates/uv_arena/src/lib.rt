@@ -8,5 +8,5 @@ mod memory;
 mod undo;
 
 pub use arena::{InsertFault, Slots};
-pub use links::{Cell, Links, Place};
+pub use links::{Cell, ChainPlace, Links};
 pub use undo::{InsertUndo, PushUndo, RemoveUndo, SpliceUndo};

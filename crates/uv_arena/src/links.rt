@@ -24,7 +24,7 @@ pub struct Cell<T> {
 
 /// A place of a list, between two neighbours or at an end: where a slot is put in or taken out.
 #[derive(Clone, Copy)]
-pub struct Place {
+pub struct ChainPlace {
     pub list: u8,
     pub before: Option<u32>,
     pub slot: u32,

@@ -5,7 +5,7 @@ ghost use Rattle.uv_arena.specs.declared.links.TheConstants.{CHAIN_COUNT};
 ghost use Rattle.uv_arena.specs.Chains.{each, is_at, none_or, link, loose};
 ghost use Rattle.uv_arena.specs.Image.{memory_of, with_links, with_cells, with_ends, relinked_memory, IsBelow, IsWithin, put_in, taken_out, edited, links_at, slot_at, head_at, tail_at, place_at, grown, shrunk};
 
-use crate::links::{CHAIN_COUNT, Cell, LOOSE, Links, Place};
+use crate::links::{CHAIN_COUNT, Cell, ChainPlace, LOOSE, Links};
 use std::alloc::AllocError;
 use uv_raw::Pieces;
 use uv_records::{Ends, Slot};
@@ -68,7 +68,7 @@ impl<T: Copy> Memory<T> {
     }
 
     /// Writes what comes after the slot before a place.
-    fn relink_before(&mut self, place: Place, next: Option<u32>)
+    fn relink_before(&mut self, place: ChainPlace, next: Option<u32>)
         requires list { place.list < CHAIN_COUNT }
         requires all { length self.old.ends ≡ CHAIN_COUNT }
         requires before { IsBelow place.before (length self.old.row.row.items) }
@@ -85,7 +85,7 @@ impl<T: Copy> Memory<T> {
     }
 
     /// Writes what comes before the slot after a place.
-    fn relink_after(&mut self, place: Place, prev: Option<u32>)
+    fn relink_after(&mut self, place: ChainPlace, prev: Option<u32>)
         requires list { place.list < CHAIN_COUNT }
         requires all { length self.old.ends ≡ CHAIN_COUNT }
         requires after { IsBelow place.after (length self.old.row.row.items) }
@@ -102,7 +102,7 @@ impl<T: Copy> Memory<T> {
     }
 
     /// Writes the next of the slot before, the previous of the slot after, and the slot's own links.
-    fn relink(&mut self, place: Place, next: Option<u32>, prev: Option<u32>, own: Links)
+    fn relink(&mut self, place: ChainPlace, next: Option<u32>, prev: Option<u32>, own: Links)
         requires all { length self.old.ends ≡ CHAIN_COUNT }
         requires within { IsWithin place (length self.old.row.row.items) }
         ensures memory { memory_of self.new ≡ relinked_memory place next prev own (memory_of self.old) }
@@ -114,7 +114,7 @@ impl<T: Copy> Memory<T> {
     }
 
     /// Puts a slot in a place.
-    pub(crate) fn put(&mut self, place: Place)
+    pub(crate) fn put(&mut self, place: ChainPlace)
         requires all { length self.old.ends ≡ CHAIN_COUNT }
         requires within { IsWithin place (length self.old.row.row.items) }
         ensures memory { memory_of self.new ≡ put_in place (memory_of self.old) }
@@ -129,7 +129,7 @@ impl<T: Copy> Memory<T> {
     }
 
     /// Takes a slot out of a place.
-    pub(crate) fn take(&mut self, place: Place)
+    pub(crate) fn take(&mut self, place: ChainPlace)
         requires all { length self.old.ends ≡ CHAIN_COUNT }
         requires within { IsWithin place (length self.old.row.row.items) }
         ensures memory { memory_of self.new ≡ taken_out place (memory_of self.old) }
@@ -183,12 +183,12 @@ impl<T: Copy> Memory<T> {
     }
 
     /// Where a slot stands.
-    pub(crate) fn place(&self, at: u32) -> Place
+    pub(crate) fn place(&self, at: u32) -> ChainPlace
         requires { at < length self.now.row.row.items }
         ensures { result ≡ place_at (memory_of self.now) at }
     {
         let links = self.links(at);
-        Place {
+        ChainPlace {
             list: links.list.unwrap_or(0),
             before: links.prev,
             slot: at,

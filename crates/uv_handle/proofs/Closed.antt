@@ -6,7 +6,7 @@ use Rattle.uv_records.specs.declared.lists.ListName.{ListName}
 use Rattle.uv_records.specs.declared.lists.ListName.TheVariants.{ClosingYet}
 use Rattle.uv_records.specs.Count.{one_if, keeps_in, active_count}
 use Rattle.uv_records.specs.Slots as plain
-use Rattle.uv_arena.specs.declared.links.Place.{Place}
+use Rattle.uv_arena.specs.declared.links.ChainPlace.{ChainPlace}
 use Rattle.uv_arena.specs.declared.undo.RemoveUndo.{RemoveUndo}
 use Rattle.uv_arena.specs.Image.{Image, members, IsSound}
 use Rattle.uv_arena.specs.Undo.{remove_undone, unlink_undone, CanUndoUnlink}
@@ -38,19 +38,19 @@ module _ {X : Type 0} (read : X → Option HandleRecord) (make : HandleRecord �
     can_undo = record { pushed = p.can_undo; changed = subst (λ z. CanUndoRecord read make (counted z m) u) (sym p.undone) c.can_undo };
   }
 
-  take_count : (i k j : Image X) (n : ℕ) (d : Id) (v : X) (t : Place) (u : RemoveUndo) → n ≡ alive_count read i → IsUnlinked i k d t
+  take_count : (i k j : Image X) (n : ℕ) (d : Id) (v : X) (t : ChainPlace) (u : RemoveUndo) → n ≡ alive_count read i → IsUnlinked i k d t
       → IsRemoved k j d v u
       → alive_count read j + one_if (keeps_in (read v)) ≡ n
   take_count i k j n d v t u is a b = count_removed read k j d v u b ∙ same_count i k a.slots ∙ sym is
 
-  pub take_fits : (i k j : Image X) (n : ℕ) (d : Id) (v : X) (t : Place) (u : RemoveUndo) → n ≡ alive_count read i → IsSound i
+  pub take_fits : (i k j : Image X) (n : ℕ) (d : Id) (v : X) (t : ChainPlace) (u : RemoveUndo) → n ≡ alive_count read i → IsSound i
       → IsUnlinked i k d t → IsRemoved k j d v u
       → Fits32 n (one_if (keeps_in (read v))) 0
   take_fits i k j n d v t u is s a b =
       let c = take_count i k j n d v t u is a b in let below = count_below read i s in
       (alive_count read j, omega (arith, c), omega (arith, c, below, is))
 
-  pub take_done : (i k j : Image X) (n m : ℕ) (d : Id) (v : X) (t : Place) (u : RemoveUndo) → n ≡ alive_count read i → IsFirst i ClosingYet d
+  pub take_done : (i k j : Image X) (n m : ℕ) (d : Id) (v : X) (t : ChainPlace) (u : RemoveUndo) → n ≡ alive_count read i → IsFirst i ClosingYet d
       → IsUnlinked i k d t → IsRemoved k j d v u
       → m + one_if (keeps_in (read v)) ≡ n + 0 → IsTaken read make (counted i n) (counted j m) d v (record { unlinked = t; removed = u; active = n })
   take_done i k j n m d v t u is first a b e =

@@ -3,7 +3,7 @@ use Rattle.std.specs.Prelude.{◌≡◌, ℕ, ◌+◌, ◌<◌, ◌^◌, Option,
 use Rattle.uv_ids.specs.declared.id.Id.{Id}
 use Rattle.uv_records.specs.declared.handle.HandleRecord.{HandleRecord}
 use Rattle.uv_records.specs.Count.{active_count}
-use Rattle.uv_arena.specs.declared.links.Place.{Place}
+use Rattle.uv_arena.specs.declared.links.ChainPlace.{ChainPlace}
 use Rattle.uv_arena.specs.Image.{Image, held, held_slots}
 use Rattle.uv_arena.specs.Undo.{set_undone, insert_undone, remove_undone, push_undone, unlink_undone, CanUndoSet, CanUndoInsert, CanUndoRemove, CanUndoPush, CanUndoUnlink}
 use Rattle.uv_handle.specs.declared.undo.RecordUndo.{RecordUndo}
@@ -25,11 +25,11 @@ module _ {X : Type 0} where
   counted i n = record { arena = i; count = n }
 
   -- a slot that was on a list is put back there
-  abbrev pub relisted : Option Place → Image X → Image X
+  abbrev pub relisted : Option ChainPlace → Image X → Image X
   relisted None i = i
   relisted (Some t) i = unlink_undone t i
 
-  abbrev pub CanRelist : Option Place → Image X → Type 0
+  abbrev pub CanRelist : Option ChainPlace → Image X → Type 0
   CanRelist None i = Unit {0}
   CanRelist (Some t) i = CanUndoUnlink i t
 

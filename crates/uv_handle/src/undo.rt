@@ -1,5 +1,5 @@
 //! What takes a change of a handle back.
-use uv_arena::{InsertUndo, Place, PushUndo, RemoveUndo};
+use uv_arena::{ChainPlace, InsertUndo, PushUndo, RemoveUndo};
 use uv_records::HandleRecord;
 
 /// Takes a change of a record back: its slot, the count of active referenced handles, and the record from before.
@@ -27,14 +27,14 @@ pub struct ListUndo {
 /// Takes back that a handle got another record and was taken off its list: where it stood there, if it was on one.
 #[derive(Clone, Copy)]
 pub struct DelistUndo {
-    pub unlinked: Option<Place>,
+    pub unlinked: Option<ChainPlace>,
     pub changed: RecordUndo,
 }
 
 /// Takes back that a closing handle was taken off its list and freed, together with what its slot held.
 #[derive(Clone, Copy)]
 pub struct TakeUndo {
-    pub unlinked: Place,
+    pub unlinked: ChainPlace,
     pub active: u32,
     pub removed: RemoveUndo,
 }

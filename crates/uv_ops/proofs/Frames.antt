@@ -1,6 +1,6 @@
 -- What the records of a handle's changes leave of the memory.
 use Rattle.std.proofs.Common.{◌≡◌, ℕ, Bool, true, false, Option, Some, None, ap}
-use Rattle.uv_arena.specs.declared.links.Place as links
+use Rattle.uv_arena.specs.declared.links.ChainPlace.{ChainPlace}
 use Rattle.uv_arena.specs.Image as arena
 use Rattle.uv_handle.specs.declared.undo.RecordUndo.{RecordUndo}
 use Rattle.uv_handle.specs.declared.undo.AddUndo.{AddUndo}
@@ -39,7 +39,7 @@ module _ (r : Record Place) (h w : Held Place) (recorded : Recorded r h w) where
   pub enlisted_frame : (u : ListUndo) → r.change ≡ change.Enlisted u → OnlyHandles
   enlisted_frame u is = counted_frame h.image w.image r.place _ _ (change_back r (change.Enlisted u) h w recorded is) recorded.place
 
-  delisted_from : (t : Option links.Place) (u : RecordUndo) → r.change ≡ change.Delisted (record { changed = u; unlinked = t }) → OnlyHandles
+  delisted_from : (t : Option ChainPlace) (u : RecordUndo) → r.change ≡ change.Delisted (record { changed = u; unlinked = t }) → OnlyHandles
   delisted_from None u is = counted_frame h.image w.image r.place _ _
       (change_back r (change.Delisted (record { changed = u; unlinked = None })) h w recorded is) recorded.place
   delisted_from (Some t) u is = counted_frame h.image w.image r.place _ _

@@ -5,7 +5,7 @@ use Rattle.uv_ids.specs.declared.id.Id.{Id}
 use Rattle.uv_records.specs.declared.lists.ListName.{ListName}
 use Rattle.uv_records.specs.declared.lists.ListName.TheVariants.{Waiting, Done as Ended, DoneYet as EndedYet}
 use Rattle.uv_records.specs.Slots as plain
-use Rattle.uv_arena.specs.declared.links.Place.{Place}
+use Rattle.uv_arena.specs.declared.links.ChainPlace.{ChainPlace}
 use Rattle.uv_arena.specs.declared.undo.RemoveUndo.{RemoveUndo}
 use Rattle.uv_arena.specs.declared.undo.SpliceUndo.{SpliceUndo}
 use Rattle.uv_arena.specs.Image.{Image, members, held_slots, plain_slots}
@@ -45,7 +45,7 @@ begin_done {read = read} {i = i} {j = j} {r = r} {u = u} w empty sp = record {
       ((λ l. sp.moved l ++ sp.rest (λ e. cc) l) ∙ append-nil (members i Ended) ∙ ap (λ ys. ys ++ members i Ended) (sym empty))
 
 -- a request is collected: it is off its list, and its slot is freed
-pub collect_done : {X : Type 0} {read : X → Option Request} {make : Request → X} {i a j : Image X} {d : Id} {from : Request} {t : Place}
+pub collect_done : {X : Type 0} {read : X → Option Request} {make : Request → X} {i a j : Image X} {d : Id} {from : Request} {t : ChainPlace}
     {u : RemoveUndo} {r : Running} → IsWork read (working i r) → request_in read i d ≡ Some from → IsFirst i EndedYet d → IsUnlinked i a d t
     → IsRemoved a j d (make from) u
     → IsCollected read make (working i r) (working j (with_count (r.count - 1) r)) d from (record { unlinked = t; removed = u; count = r.count })

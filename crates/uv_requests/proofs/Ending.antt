@@ -9,7 +9,7 @@ use Rattle.uv_records.specs.declared.lists.ListName.{ListName}
 use Rattle.uv_records.specs.declared.lists.ListName.TheVariants.{Waiting, Done as Ended, DoneYet as EndedYet}
 use Rattle.uv_records.specs.Slots as plain
 use Rattle.uv_records.specs.Walks.{without as slots_without}
-use Rattle.uv_arena.specs.declared.links.Place.{Place}
+use Rattle.uv_arena.specs.declared.links.ChainPlace.{ChainPlace}
 use Rattle.uv_arena.specs.Image.{Image, members, held, on_list, IsSound}
 use Rattle.uv_arena.specs.Undo.{set_undone, push_undone, unlink_undone, CanUndoSet, CanUndoUnlink}
 use Rattle.uv_arena.specs.Calls.{IsSet, IsPushed, IsUnlinked}
@@ -165,7 +165,7 @@ finish_done {read = read} {make = make} {i = i} {k = k} {j = j} {d = d} {from = 
       }
 
 -- a request that waits is cancelled
-pub cancel_done : {X : Type 0} {read : X → Option Request} {make : Request → X} {i a k j : Image X} {d : Id} {from : Request} {t : Place}
+pub cancel_done : {X : Type 0} {read : X → Option Request} {make : Request → X} {i a k j : Image X} {d : Id} {from : Request} {t : ChainPlace}
     {r : Running} → IsSound i → IsWork read (working i r) → request_in read i d ≡ Some from → on_list i d ≡ true → IsUnlinked i a d t
     → Ends read make a k j d from Cancelled → IsCancelled read make (working i r) (working j r) d (record { id = d; unlinked = t })
 cancel_done {X = X} {read = read} {make = make} {i = i} {a = a} {k = k} {j = j} {d = d} {from = from} {t = t} {r = r} s w there on un f = record {

@@ -5,7 +5,7 @@ use Rattle.std.proofs.lemmas.List.{length-set}
 use Rattle.std.proofs.lemmas.Option.{slice_get_within}
 use Rattle.uv_ids.specs.declared.id.Id.{Id}
 use Rattle.uv_records.specs.declared.lists.ListName.TheVariants.{Waiting, Done as Ended, DoneYet as EndedYet}
-use Rattle.uv_arena.specs.declared.links.Place.{Place}
+use Rattle.uv_arena.specs.declared.links.ChainPlace.{ChainPlace}
 use Rattle.uv_arena.specs.declared.undo.InsertUndo.{InsertUndo}
 use Rattle.uv_arena.specs.Image.{Image, members, on_list, IsSound}
 use Rattle.uv_arena.specs.Undo.{insert_undone, push_undone, CanUndoInsert, CanUndoPush}
@@ -76,7 +76,7 @@ queue_done {read = read} {make = make} {i = i} {k = k} {j = j} {d = d} {req = re
       ∙ ap (λ z. working (insert_undone u z) r) p.undone ∙ ap (λ z. working z r) put.undone
 
 -- a worker that runs nothing takes the first of those that wait
-pub take_done : {X : Type 0} {read : X → Option Request} {i j : Image X} {d : Id} {t : Place} {k : ℕ} {r : Running} → IsWork read (working i r)
+pub take_done : {X : Type 0} {read : X → Option Request} {i j : Image X} {d : Id} {t : ChainPlace} {k : ℕ} {r : Running} → IsWork read (working i r)
     → slice_get r.workers k ≡ Some None → IsFirst i Waiting d → IsUnlinked i j d t
     → IsTaken read (working i r) (working j (with_run k (Some d) r)) k d (record { worker = k; unlinked = t })
 take_done {read = read} {i = i} {j = j} {d = d} {t = t} {k = k} {r = r} w idle f un = record {

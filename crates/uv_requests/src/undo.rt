@@ -1,6 +1,6 @@
 //! What takes a change of a request back.
 
-use uv_arena::{InsertUndo, Place, RemoveUndo};
+use uv_arena::{ChainPlace, InsertUndo, RemoveUndo};
 use uv_ids::Id;
 
 /// Takes a queue back: the slot that was taken, and how many requests were open before.
@@ -14,7 +14,7 @@ pub struct QueueUndo {
 #[derive(Clone, Copy)]
 pub struct TakeWorkUndo {
     pub worker: u16,
-    pub unlinked: Place,
+    pub unlinked: ChainPlace,
 }
 
 /// Takes a finish back: the worker, and the request that it ran.
@@ -28,14 +28,14 @@ pub struct FinishUndo {
 #[derive(Clone, Copy)]
 pub struct CancelUndo {
     pub id: Id,
-    pub unlinked: Place,
+    pub unlinked: ChainPlace,
 }
 
 /// Takes a collect back, together with the request that was collected: where it stood, its slot, and how many requests were open
 /// before.
 #[derive(Clone, Copy)]
 pub struct CollectWorkUndo {
-    pub unlinked: Place,
+    pub unlinked: ChainPlace,
     pub count: u32,
     pub removed: RemoveUndo,
 }

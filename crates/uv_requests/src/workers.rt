@@ -61,7 +61,12 @@ impl Requests {
         }
     }
 
-    fn start<T: HoldsWork>(&mut self, slots: &mut Slots<T>, worker: u16, id: Id) -> (Id, TakeWorkUndo)
+    fn start<T: HoldsWork>(
+        &mut self,
+        slots: &mut Slots<T>,
+        worker: u16,
+        id: Id,
+    ) -> (Id, TakeWorkUndo)
         requires work { IsWork T.held_request (working slots.old.image self.old) }
         requires idle { slice_get self.old.workers worker ≡ Some None }
         requires first { IsFirst slots.old.image Waiting id }

@@ -683,7 +683,8 @@ unfolding orders_of
 orders_complete o = rw (version_of-some (order_word o) o refl) refl
 
 thread_complete : (names : List (List ℕ)) (number : List ℕ) (k : ℕ) (name : List ℕ) (v : Var) → AreDistinct names → IsNumber number k →
-    k < MOST_SENDERS → IsDeclared names name v → thread_of names (number ∷ codes "send" ∷ name ∷ []) ≡ Some (InThread (record { thread = k; name = v }))
+    k < MOST_SENDERS → IsDeclared names name v →
+    thread_of names (number ∷ codes "send" ∷ name ∷ []) ≡ Some (InThread (record { thread = k; name = v }))
 unfolding thread_of sender_of name_alone
 thread_complete names number k name v distinct is few declared =
     rw (number_of-complete number k is, place_complete names name v distinct declared)

@@ -8,7 +8,7 @@ use Rattle.uv_records.specs.Slots as plain
 use Rattle.uv_records.specs.Walks.{Walk}
 use Rattle.uv_arena.specs.Image as arena
 use Rattle.uv_arena.specs.Image.{IsSound, plain_slots}
-use Rattle.uv_arena.specs.declared.links.Place as link
+use Rattle.uv_arena.specs.declared.links.ChainPlace.{ChainPlace}
 use Rattle.uv_arena.specs.declared.undo.SpliceUndo.{SpliceUndo}
 use Rattle.uv_handle.specs.declared.undo.RecordUndo.{RecordUndo}
 use Rattle.uv_watch.specs.declared.undo.WalkUndo.{WalkUndo}
@@ -106,7 +106,7 @@ pub closed_time : (q : HandleRecord) (u : TakeUndo) → KeepsTime (closed_by q u
 closed_time q u r h k recorded is = ap (λ (i : Image Place). i.times.time) (change_back r (closed_by q u) h k recorded is)
 
 -- a handle moves on in its section, and is woken or not
-woken_or : (place : Place) (t : link.Place) (x : ℕ) (w : Option RecordUndo) (j : Image Place) → (a : arena.Image Content) × (active : ℕ)
+woken_or : (place : Place) (t : ChainPlace) (x : ℕ) (w : Option RecordUndo) (j : Image Place) → (a : arena.Image Content) × (active : ℕ)
     × (unwind_parts ((TakenOff t ∷ PutOn x ∷ woken_parts w) ++ Stood place ∷ []) j ≡ record j { place = place; arena = a; active = active })
 woken_or place t x None j = (_, _, refl)
 woken_or place t x (Some u) j = (_, _, refl)

@@ -1,6 +1,6 @@
 -- A step that touched no name leaves all names as they were.
 use Rattle.std.proofs.Common.{◌≡◌, ℕ, Bool, true, false, List, [], ◌∷◌, ◌++◌, Option, Some, None, refl, sym, ap, ◌∙◌}
-use Rattle.uv_arena.specs.declared.links.Place as link
+use Rattle.uv_arena.specs.declared.links.ChainPlace.{ChainPlace}
 use Rattle.uv_handle.specs.declared.undo.RecordUndo.{RecordUndo}
 use Rattle.uv_handle.specs.declared.undo.DelistUndo.{DelistUndo}
 use Rattle.uv_heap.specs.declared.undo.HeapRemoveUndo.{HeapRemoveUndo}
@@ -59,7 +59,7 @@ both (p ∷ ps) qs a b = (a.0, both ps qs a.1 b)
 
 -- ---- the parts of each change
 
-off_quiet : (t : Option link.Place) → AreQuiet (off_parts t)
+off_quiet : (t : Option ChainPlace) → AreQuiet (off_parts t)
 off_quiet None = tt
 off_quiet (Some t) = (tt, tt)
 

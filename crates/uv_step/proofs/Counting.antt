@@ -5,7 +5,7 @@ use Rattle.uv_ids.specs.declared.id.Id.{Id}
 use Rattle.uv_records.specs.declared.slot.Slot.{Slot}
 use Rattle.uv_records.specs.Count.{one_if, content_keeps, keeps_in, active_count}
 use Rattle.uv_records.specs.Slots as plain
-use Rattle.uv_arena.specs.declared.links.Place.{Place}
+use Rattle.uv_arena.specs.declared.links.ChainPlace.{ChainPlace}
 use Rattle.uv_arena.specs.Chains.{IsIn}
 use Rattle.uv_arena.specs.Image as arena
 use Rattle.uv_arena.specs.declared.links.TheConstants.{CHAIN_COUNT, FREE}
@@ -98,7 +98,7 @@ count_moved i j h = ap (λ (q : plain.Slots Content). active_count handle_in q.s
 pub count_pushed : (x : ℕ) (i : arena.Image Content) → alive_count handle_in (push_undone x i) ≡ alive_count handle_in i
 count_pushed x i = ap (active_count handle_in) (slots_relinked (place_at i.memory x) _ _ _ i.memory)
 
-pub count_unlinked : (t : Place) (i : arena.Image Content) → alive_count handle_in (unlink_undone t i) ≡ alive_count handle_in i
+pub count_unlinked : (t : ChainPlace) (i : arena.Image Content) → alive_count handle_in (unlink_undone t i) ≡ alive_count handle_in i
 count_unlinked t i = ap (active_count handle_in) (slots_relinked t _ _ _ i.memory)
 
 reopened_cases : (o : Option Request) (d : Id) (i : arena.Image Content) → asked_at request_in i d ≡ o

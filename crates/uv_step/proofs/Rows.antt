@@ -4,7 +4,7 @@ use Rattle.uv_ids.specs.declared.id.Id.{Id}
 use Rattle.uv_ids.specs.declared.id.Var.{Var}
 use Rattle.uv_ids.specs.declared.seen.Callback.{Callback}
 use Rattle.uv_ids.specs.declared.seen.Callback.TheVariants as callback
-use Rattle.uv_arena.specs.declared.links.Place.{Place}
+use Rattle.uv_arena.specs.declared.links.ChainPlace.{ChainPlace}
 use Rattle.uv_handle.specs.declared.undo.RecordUndo.{RecordUndo}
 use Rattle.uv_handle.specs.Counted.{delist_undone}
 use Rattle.uv_heap.specs.declared.undo.HeapRemoveUndo.{HeapRemoveUndo}
@@ -73,7 +73,7 @@ module _ {P : Type 0} where
   put_back false x i = refl
   put_back true x i = refl
 
-  pub delist_back : (o : Option Place) (c : RecordUndo) (i : Image P)
+  pub delist_back : (o : Option ChainPlace) (c : RecordUndo) (i : Image P)
       → unwind_parts (off_parts o ++ edit_parts c) i ≡ with_counted (delist_undone handle_in Handle (record {
         unlinked = o;
         changed =
@@ -82,7 +82,7 @@ module _ {P : Type 0} where
   delist_back None c i = refl
   delist_back (Some t) c i = refl
 
-  timer_cases : (r : Option HeapRemoveUndo) (o : Option Place) (c : RecordUndo) (s : Option SetUndo) (i : Image P)
+  timer_cases : (r : Option HeapRemoveUndo) (o : Option ChainPlace) (c : RecordUndo) (s : Option SetUndo) (i : Image P)
       → unwind_parts (removed_parts r ++ (off_parts o ++ edit_parts c) ++ set_parts s) i
       ≡ with_timed (timer_undone handle_in Handle (record { removed = r; delisted = record { unlinked = o; changed = c }; set = s }) (timed_of i)) i
   timer_cases None None c None i = refl
@@ -102,7 +102,7 @@ module _ {P : Type 0} where
   moved_back u i = let put : List (Part P) = PutOn u.pushed.slot ∷ [] in unwind_append (timer_parts u.timer) put i
       ∙ timer_back u.timer (unwind_parts put i)
 
-  walk_cases : (t : Place) (x : ℕ) (w : Option RecordUndo) (i : Image P)
+  walk_cases : (t : ChainPlace) (x : ℕ) (w : Option RecordUndo) (i : Image P)
       → unwind_parts (TakenOff t ∷ PutOn x ∷ woken_parts w) i
       ≡ with_counted (walk_undone handle_in Handle (record { unlinked = t; pushed = record { slot = x }; woken = w }) (counted_of i)) i
   walk_cases t x None i = refl

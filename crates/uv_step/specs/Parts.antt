@@ -3,7 +3,7 @@ use Rattle.std.specs.Prelude.{ℕ, Bool, true, false, List, [], ◌∷◌, ◌++
 use Rattle.uv_ids.specs.declared.id.Id.{Id}
 use Rattle.uv_ids.specs.declared.id.Var.{Var}
 use Rattle.uv_ids.specs.declared.seen.Callback.{Callback}
-use Rattle.uv_arena.specs.declared.links.Place.{Place}
+use Rattle.uv_arena.specs.declared.links.ChainPlace.{ChainPlace}
 use Rattle.uv_arena.specs.declared.undo.InsertUndo.{InsertUndo}
 use Rattle.uv_arena.specs.declared.undo.RemoveUndo.{RemoveUndo}
 use Rattle.uv_arena.specs.declared.undo.SpliceUndo.{SpliceUndo}
@@ -54,7 +54,7 @@ pub data Part (P : Type 0) : Type 0 where
   Freed : RemoveUndo → Content → Part P
   -- a slot was put on a list, or taken off its place there; or two lists changed places
   PutOn : ℕ → Part P
-  TakenOff : Place → Part P
+  TakenOff : ChainPlace → Part P
   Moved : SpliceUndo → Part P
   -- an entry was pushed on the heap and ended at a place, or was removed
   Pushed : ℕ → Part P
@@ -104,7 +104,7 @@ module _ {P : Type 0} where
   woken_parts None = []
   woken_parts (Some u) = edit_parts u
 
-  abbrev pub off_parts : Option Place → List (Part P)
+  abbrev pub off_parts : Option ChainPlace → List (Part P)
   off_parts None = []
   off_parts (Some t) = TakenOff t ∷ []
 

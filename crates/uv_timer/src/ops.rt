@@ -69,7 +69,14 @@ pub fn stop<T: HoldsHandle>(
         Err(code) => Err(code),
         Ok(handle) => match handle.stop_refusal() {
             Some(code) => Err(code),
-            None => Ok(reschedule(handles, slots, heap, times, id, TimerChange::stopping(handle))),
+            None => Ok(reschedule(
+                handles,
+                slots,
+                heap,
+                times,
+                id,
+                TimerChange::stopping(handle),
+            )),
         },
     }
 }

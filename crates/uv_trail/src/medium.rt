@@ -3,7 +3,7 @@ ghost use Rattle.std.specs.Prelude.{◌≡◌, IfSome};
 ghost use Rattle.uv_step.specs.declared.record.Change.TheVariants as change;
 ghost use Rattle.uv_trail.specs.Lies.{change_of, taken_off};
 
-use uv_arena::{Place, PushUndo};
+use uv_arena::{ChainPlace, PushUndo};
 use uv_handle::{DelistUndo, ListUndo, RecordUndo, TakeUndo};
 use uv_heap::HeapRemoveUndo;
 use uv_records::HandleRecord;
@@ -21,7 +21,7 @@ pub(crate) enum Medium {
     /// A timer that wasn't set got another record, and was taken off its list.
     Reset(DelistUndo),
     /// A timer that wasn't set was taken off its list, and set.
-    Fired(Place, RecordUndo, SetUndo),
+    Fired(ChainPlace, RecordUndo, SetUndo),
     /// A timer that wasn't set, and was on no list, was set.
     Started(RecordUndo, SetUndo),
     /// A timer that was on no list was taken off the heap.
@@ -29,7 +29,7 @@ pub(crate) enum Medium {
     /// A timer that was on no list was taken off the heap, and put on a list.
     Collected(PushUndo, HeapRemoveUndo, RecordUndo),
     /// A watcher was called that a send had woken.
-    Woken(PushUndo, Place, RecordUndo),
+    Woken(PushUndo, ChainPlace, RecordUndo),
     Closed(TakeUndo, HandleRecord),
     Cancelled(CancelUndo),
 }

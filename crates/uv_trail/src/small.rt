@@ -4,7 +4,7 @@ ghost use Rattle.uv_step.specs.declared.record.Change.TheVariants as change;
 ghost use Rattle.uv_trail.specs.declared.small.Lies.TheVariants.{Beside};
 ghost use Rattle.uv_trail.specs.Lies.{lies};
 
-use uv_arena::{Place, PushUndo, SpliceUndo};
+use uv_arena::{ChainPlace, PushUndo, SpliceUndo};
 use uv_requests::{FinishUndo, QueueUndo, TakeWorkUndo};
 use uv_step::{Added, Change, Polled};
 use uv_watch::WalkUndo;
@@ -22,7 +22,7 @@ pub(crate) enum Small {
     Begun(SpliceUndo),
     Polled(Polled),
     /// A watcher was called that no send had woken.
-    Passed(PushUndo, Place),
+    Passed(PushUndo, ChainPlace),
     Queued(QueueUndo),
     Taken(TakeWorkUndo),
     Finished(FinishUndo),

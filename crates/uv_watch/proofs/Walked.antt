@@ -7,7 +7,7 @@ use Rattle.uv_records.specs.declared.lists.WatcherKind.TheVariants as watcher
 use Rattle.uv_records.specs.Handles.{woken}
 use Rattle.uv_records.specs.Lists.{list_of, yet_of}
 use Rattle.uv_records.specs.Slots as plain
-use Rattle.uv_arena.specs.declared.links.Place.{Place}
+use Rattle.uv_arena.specs.declared.links.ChainPlace.{ChainPlace}
 use Rattle.uv_arena.specs.Image.{Image, members}
 use Rattle.uv_arena.specs.Undo.{push_undone, unlink_undone, CanUndoPush, CanUndoUnlink}
 use Rattle.uv_arena.specs.Calls.{IsFirst, IsPushed, IsUnlinked}
@@ -23,7 +23,7 @@ lists_apart watcher.Check e = cc
 lists_apart watcher.Async e = cc
 
 module _ {X : Type 0} (read : X → Option HandleRecord) (make : HandleRecord → X) where
-  pub moved_done : (i k l j : Image X) (n m : ℕ) (w : WatcherKind) (d : Id) (t : Place) (pending : Bool) (u : Option RecordUndo)
+  pub moved_done : (i k l j : Image X) (n m : ℕ) (w : WatcherKind) (d : Id) (t : ChainPlace) (pending : Bool) (u : Option RecordUndo)
       → IsFirst i (yet_of w) d → IsUnlinked i k d t
       → IsPushed k l (list_of w) d (members k (list_of w) ++ d.slot ∷ []) → IsWoken read make (counted l n) (counted j m) w d pending u
       → IsMovedOn read make (counted i n) (counted j m) w d pending (record { unlinked = t; pushed = record { slot = d.slot }; woken = u })

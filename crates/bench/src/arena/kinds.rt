@@ -1,6 +1,6 @@
 //! The kinds of call that change the arena, each with what takes it back.
 
-use uv_arena::{InsertUndo, Place, PushUndo, RemoveUndo, Slots, SpliceUndo};
+use uv_arena::{ChainPlace, InsertUndo, PushUndo, RemoveUndo, Slots, SpliceUndo};
 use uv_ids::Id;
 use uv_records::ListName;
 
@@ -108,20 +108,20 @@ pub struct Unlinks;
 impl Kind for Unlinks {
     ghost use Rattle.uv_arena.specs.Undo.{unlink_undone, CanUndoUnlink};
 
-    type Token = Place;
+    type Token = ChainPlace;
 
     ghost undone = { unlink_undone };
 
     ghost CanUndo = { λ t i. CanUndoUnlink i t };
 
-    fn make(slots: &mut Slots<Content>, id: Id) -> Option<Place> {
+    fn make(slots: &mut Slots<Content>, id: Id) -> Option<ChainPlace> {
         if !slots.on_list(id) {
             return None;
         }
         Some(slots.unlink(id))
     }
 
-    fn take_back(slots: &mut Slots<Content>, token: Place) {
+    fn take_back(slots: &mut Slots<Content>, token: ChainPlace) {
         slots.undo_unlink(token);
     }
 }

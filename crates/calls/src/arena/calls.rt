@@ -5,7 +5,7 @@ ghost use Rattle.calls.specs.Arena.{undone, CanUndo};
 use super::plain::Plain;
 use crate::score::Score;
 use crate::seen::LISTS;
-use uv_arena::{InsertFault, InsertUndo, Place, PushUndo, RemoveUndo, Slots, SpliceUndo};
+use uv_arena::{ChainPlace, InsertFault, InsertUndo, PushUndo, RemoveUndo, Slots, SpliceUndo};
 use uv_ids::Id;
 use uv_records::ListName;
 
@@ -15,7 +15,7 @@ pub enum Token {
     Inserted(InsertUndo),
     Removed(RemoveUndo, u64),
     Pushed(PushUndo),
-    Unlinked(Place),
+    Unlinked(ChainPlace),
     Spliced(SpliceUndo),
     /// A call that changed nothing.
     Nothing,

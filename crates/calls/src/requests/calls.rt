@@ -10,7 +10,9 @@ use crate::score::Score;
 use uv_arena::{InsertFault, Slots, SpliceUndo};
 use uv_ids::{Id, Var};
 use uv_records::ListName;
-use uv_requests::{CancelUndo, CollectWorkUndo, FinishUndo, QueueUndo, Requests, TakeWorkUndo, request_at};
+use uv_requests::{
+    CancelUndo, CollectWorkUndo, FinishUndo, QueueUndo, Requests, TakeWorkUndo, request_at,
+};
 use uv_work::{RequestRecord, WorkResult};
 
 /// What takes a call back.

@@ -6,7 +6,7 @@ ghost use Rattle.uv_arena.specs.Undo.{spliced};
 ghost use Rattle.uv_arena.specs.Calls.{IsPushed, IsUnlinked, IsSpliced};
 
 use crate::arena::Slots;
-use crate::links::Place;
+use crate::links::ChainPlace;
 use crate::undo::{PushUndo, SpliceUndo};
 use uv_ids::Id;
 use uv_records::ListName;
@@ -45,7 +45,7 @@ impl<T: Copy> Slots<T> {
     }
 
     /// Takes the slot of an id off its list; the place where it stood.
-    pub fn unlink(&mut self, id: Id) -> Place
+    pub fn unlink(&mut self, id: Id) -> ChainPlace
         requires { on_list self.old.image id ≡ true }
         ensures token { result ≡ place_at self.old.image.memory id.slot }
         ensures image { self.new.image ≡ in_memory (taken_out result) self.old.image }

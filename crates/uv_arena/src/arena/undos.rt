@@ -3,7 +3,7 @@ ghost use Rattle.std.specs.Prelude.{◌≡◌};
 ghost use Rattle.uv_arena.specs.Undo.{insert_undone, remove_undone, set_undone, push_undone, unlink_undone, splice_undone, CanUndoInsert, CanUndoRemove, CanUndoSet, CanUndoPush, CanUndoUnlink, CanUndoSplice};
 
 use crate::arena::Slots;
-use crate::links::{FREE, Place};
+use crate::links::{ChainPlace, FREE};
 use crate::undo::{InsertUndo, PushUndo, RemoveUndo, SpliceUndo};
 use uv_records::Slot;
 
@@ -84,7 +84,7 @@ impl<T: Copy> Slots<T> {
     }
 
     /// Takes an unlinking back: the place where the slot stood.
-    pub fn undo_unlink(&mut self, place: Place)
+    pub fn undo_unlink(&mut self, place: ChainPlace)
         requires { CanUndoUnlink self.old.image place }
         ensures undone { self.new.image ≡ unlink_undone place self.old.image }
         ensures room { self.new.room ≡ self.old.room }

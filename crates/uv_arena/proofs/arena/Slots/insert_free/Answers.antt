@@ -1,6 +1,6 @@
 use Rattle.std.proofs.Common.{Some, false, length, sym, ◌∙◌, subst}
 use Rattle.uv_records.specs.declared.slot.Slot.{Slot}
-use Rattle.uv_arena.specs.declared.links.Place.{Place}
+use Rattle.uv_arena.specs.declared.links.ChainPlace.{ChainPlace}
 use Rattle.uv_arena.specs.Image.{IsSound, IsWithin, in_memory, edited, slot_at, taken_out}
 use Rattle.uv_arena.specs.Calls.{IsInserted}
 use Rattle.uv_arena.proofs.Changes.{reuses}
@@ -21,7 +21,7 @@ take_and_edit-requires-clause-within g c =
 pub take_and_edit-requires-clause-sound : goal.take_and_edit-requires-clause-sound
 take_and_edit-requires-clause-sound g c =
     let v = c.args.self.now.image in let X = g.row.T.Denot in
-    subst (λ (r : Place × Slot X). IsSound (in_memory (λ m. edited r.0.slot (record {
+    subst (λ (r : ChainPlace × Slot X). IsSound (in_memory (λ m. edited r.0.slot (record {
       generation = r.1.generation;
       content =
           Some c.args.content;
