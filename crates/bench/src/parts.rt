@@ -5,7 +5,7 @@ ghost use Rattle.bench.specs.Parts.{all, undone, CanUndo};
 use uv_arena::Slots;
 use uv_handle::{HandleRecord, Handles, HoldsHandle};
 use uv_heap::TimerHeap;
-use uv_timer::{CollectUndo, TimerUndo, Times, undo_collect_one, undo_reschedule};
+use uv_timer::{CollectUndo, TimerParts, TimerUndo, Times, undo_collect_one, undo_reschedule};
 
 /// A handle's record, or a request, as large as one.
 #[derive(Clone, Copy, PartialEq, Eq)]
@@ -69,17 +69,21 @@ pub fn undo(parts: &mut Parts, token: Token)
 {
     match token {
         Token::Timer(timer) => undo_reschedule(
-            &mut parts.handles,
-            &mut parts.slots,
-            &mut parts.heap,
-            &mut parts.times,
+            TimerParts {
+                handles: &mut parts.handles,
+                slots: &mut parts.slots,
+                heap: &mut parts.heap,
+                times: &mut parts.times,
+            },
             timer,
         ),
         Token::Collected(collected) => undo_collect_one(
-            &mut parts.handles,
-            &mut parts.slots,
-            &mut parts.heap,
-            &mut parts.times,
+            TimerParts {
+                handles: &mut parts.handles,
+                slots: &mut parts.slots,
+                heap: &mut parts.heap,
+                times: &mut parts.times,
+            },
             collected,
         ),
     }

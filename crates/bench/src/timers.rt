@@ -11,7 +11,7 @@ use uv_handle::Handles;
 use uv_heap::TimerHeap;
 use uv_ids::{Id, Kind, Var};
 use uv_records::ListName;
-use uv_timer::{Times, collect_one, fire_one, start, stop};
+use uv_timer::{TimerParts, Times, collect_one, fire_one, start, stop};
 
 /// How often a batch of calls is made and taken back.
 const ROUNDS: u32 = 200;
@@ -57,10 +57,12 @@ fn start_one(parts: &mut Parts, slots: u32, id: Id, number: u64) -> Option<Token
         return None;
     }
     match start(
-        &mut parts.handles,
-        &mut parts.slots,
-        &mut parts.heap,
-        &mut parts.times,
+        TimerParts {
+            handles: &mut parts.handles,
+            slots: &mut parts.slots,
+            heap: &mut parts.heap,
+            times: &mut parts.times,
+        },
         id,
         number % 1_000_000,
         1000,
@@ -76,10 +78,12 @@ fn stop_one(parts: &mut Parts, slots: u32, id: Id) -> Option<Token>
     ensures none { IfNone result (IsSame parts.old parts.new) }
 {
     match stop(
-        &mut parts.handles,
-        &mut parts.slots,
-        &mut parts.heap,
-        &mut parts.times,
+        TimerParts {
+            handles: &mut parts.handles,
+            slots: &mut parts.slots,
+            heap: &mut parts.heap,
+            times: &mut parts.times,
+        },
         id,
     ) {
         Err(_) => None,
@@ -92,12 +96,12 @@ fn collect(parts: &mut Parts, slots: u32) -> Option<Token>
     ensures some { IfSome result (λ t. Goes t parts.old parts.new) }
     ensures none { IfNone result (IsSame parts.old parts.new) }
 {
-    match collect_one(
-        &mut parts.handles,
-        &mut parts.slots,
-        &mut parts.heap,
-        &mut parts.times,
-    ) {
+    match collect_one(TimerParts {
+        handles: &mut parts.handles,
+        slots: &mut parts.slots,
+        heap: &mut parts.heap,
+        times: &mut parts.times,
+    }) {
         None => None,
         Some((_, collected)) => Some(Token::Collected(collected)),
     }
@@ -112,12 +116,12 @@ fn fire(parts: &mut Parts, slots: u32) -> Option<Token>
     if front.slot >= slots || parts.times.next_start == u64::MAX {
         return None;
     }
-    match fire_one(
-        &mut parts.handles,
-        &mut parts.slots,
-        &mut parts.heap,
-        &mut parts.times,
-    ) {
+    match fire_one(TimerParts {
+        handles: &mut parts.handles,
+        slots: &mut parts.slots,
+        heap: &mut parts.heap,
+        times: &mut parts.times,
+    }) {
         None => None,
         Some((_, timer)) => Some(Token::Timer(timer)),
     }

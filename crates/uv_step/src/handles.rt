@@ -16,7 +16,7 @@ use crate::record::{Added, Change};
 use uv_arena::InsertFault;
 use uv_ids::{Id, Kind, Var};
 use uv_records::{HandleRecord, ListName};
-use uv_timer::reschedule;
+use uv_timer::{TimerParts, reschedule};
 
 impl<P: Copy> Memory<P> {
     /// Makes a handle (uv_timer_init and the like). An async one goes to the end of its list. It takes memory where the piece of the
@@ -66,10 +66,12 @@ impl<P: Copy> Memory<P> {
             (timed_of (held self.old).image) (timed_of (held self.new).image) id from u) self.new.step_record.change }
     {
         let timer = reschedule(
-            &mut self.handles,
-            &mut self.slots,
-            &mut self.heap,
-            &mut self.times,
+            TimerParts {
+                handles: &mut self.handles,
+                slots: &mut self.slots,
+                heap: &mut self.heap,
+                times: &mut self.times,
+            },
             id,
             uv_timer::TimerChange {
                 from,

@@ -16,6 +16,7 @@ ghost use Rattle.uv_step.specs.Does.{By, moved_by};
 use crate::memory::Memory;
 use crate::record::Change;
 use uv_ids::Id;
+use uv_timer::TimerParts;
 
 impl<P: Copy> Memory<P> {
     /// This becomes of a timer that is started, stopped or started again (uv_timer_start, uv_timer_stop, uv_timer_again). The room on
@@ -30,10 +31,12 @@ impl<P: Copy> Memory<P> {
             (timed_of (held self.old).image) (timed_of (held self.new).image) id change u) self.new.step_record.change }
     {
         let undo = uv_timer::reschedule(
-            &mut self.handles,
-            &mut self.slots,
-            &mut self.heap,
-            &mut self.times,
+            TimerParts {
+                handles: &mut self.handles,
+                slots: &mut self.slots,
+                heap: &mut self.heap,
+                times: &mut self.times,
+            },
             id,
             change,
         );
@@ -49,12 +52,12 @@ impl<P: Copy> Memory<P> {
         ensures none { IfNone result (NoneIsDue handle_in (held self.old).image.arena (held self.old).image.heap (held self.old).image.times.time
             × Untouched self.old self.new) }
     {
-        match uv_timer::collect_one(
-            &mut self.handles,
-            &mut self.slots,
-            &mut self.heap,
-            &mut self.times,
-        ) {
+        match uv_timer::collect_one(TimerParts {
+            handles: &mut self.handles,
+            slots: &mut self.slots,
+            heap: &mut self.heap,
+            times: &mut self.times,
+        }) {
             None => None,
             Some((id, undo)) => {
                 self.step_record = self.record(Change::Moved(undo.pushed, undo.timer));
@@ -74,12 +77,12 @@ impl<P: Copy> Memory<P> {
             (timed_of (held self.old).image) (timed_of (held self.new).image) id u) self.new.step_record.change) }
         ensures none { IfNone result (NoneIsReady handle_in (held self.old).image.arena × Untouched self.old self.new) }
     {
-        match uv_timer::fire_one(
-            &mut self.handles,
-            &mut self.slots,
-            &mut self.heap,
-            &mut self.times,
-        ) {
+        match uv_timer::fire_one(TimerParts {
+            handles: &mut self.handles,
+            slots: &mut self.slots,
+            heap: &mut self.heap,
+            times: &mut self.times,
+        }) {
             None => None,
             Some((id, fired)) => {
                 self.step_record = self.record(Change::Timer(fired));

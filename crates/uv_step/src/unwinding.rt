@@ -16,7 +16,7 @@ use uv_handle::{DelistUndo, ListUndo, RecordUndo};
 use uv_ids::{Id, Var};
 use uv_records::HandleRecord;
 use uv_requests::{CancelUndo, FinishUndo, QueueUndo};
-use uv_timer::{CollectUndo, TimerUndo, undo_collect_one, undo_reschedule};
+use uv_timer::{CollectUndo, TimerParts, TimerUndo, undo_collect_one, undo_reschedule};
 use uv_watch::{WalkUndo, undo_take};
 use uv_work::RequestRecord;
 
@@ -153,10 +153,12 @@ impl<P: Copy> Memory<P> {
         ensures pieces { self.new.slots.room ≡ self.old.slots.room }
     {
         undo_reschedule(
-            &mut self.handles,
-            &mut self.slots,
-            &mut self.heap,
-            &mut self.times,
+            TimerParts {
+                handles: &mut self.handles,
+                slots: &mut self.slots,
+                heap: &mut self.heap,
+                times: &mut self.times,
+            },
             undo,
         );
     }
@@ -168,10 +170,12 @@ impl<P: Copy> Memory<P> {
         ensures pieces { self.new.slots.room ≡ self.old.slots.room }
     {
         undo_collect_one(
-            &mut self.handles,
-            &mut self.slots,
-            &mut self.heap,
-            &mut self.times,
+            TimerParts {
+                handles: &mut self.handles,
+                slots: &mut self.slots,
+                heap: &mut self.heap,
+                times: &mut self.times,
+            },
             undo,
         );
     }

@@ -1,7 +1,8 @@
 -- All that the calls of timers change; what takes them back, and when that may be asked: where all is as the call left it.
+use Rattle.std.specs.Borrow.{MutBor}
 use Rattle.std.specs.Prelude.{ℕ, ◌<◌, ◌^◌, ◌-◌, List, Option, Some, None}
 use Rattle.uv_records.specs.declared.handle.HandleRecord.{HandleRecord}
-use Rattle.uv_arena.specs.Image.{Image}
+use Rattle.uv_arena.specs.Image.{Arena, Image}
 use Rattle.uv_arena.specs.Undo.{push_undone, CanUndoPush}
 use Rattle.uv_handle.specs.Counted.{Counted, counted, delist_undone, CanUndoDelist}
 use Rattle.uv_heap.specs.declared.entry.Entry.{Entry}
@@ -9,6 +10,7 @@ use Rattle.uv_heap.specs.declared.undo.HeapRemoveUndo.{HeapRemoveUndo}
 use Rattle.uv_heap.specs.Array.{Heap}
 use Rattle.uv_heap.specs.Undo as heap
 use Rattle.uv_timer.specs.declared.change.Times.{Times}
+use Rattle.uv_timer.specs.declared.parts.TimerParts.{TimerParts}
 use Rattle.uv_timer.specs.declared.undo.SetUndo.{SetUndo}
 use Rattle.uv_timer.specs.declared.undo.TimerUndo.{TimerUndo}
 use Rattle.uv_timer.specs.declared.undo.CollectUndo.{CollectUndo}
@@ -17,6 +19,13 @@ use Rattle.uv_timer.specs.declared.undo.CollectUndo.{CollectUndo}
 pub record Timed (X : Type 0) : Type 0 where
   pub handles : Counted X
   pub heap : List Entry
+  pub times : Times
+
+-- what the parts that the calls take refer to
+pub record Behind (X : Type 0) : Type 0 where
+  pub handles : ℕ
+  pub slots : Arena X
+  pub heap : Heap
   pub times : Times
 
 -- a timer that was put on the heap leaves it again
@@ -51,6 +60,17 @@ pub record CanSet (slot : ℕ) (heap : Heap) (times : Times) : Type 0 where
 module _ {X : Type 0} where
   abbrev pub timed : Image X → ℕ → Heap → Times → Timed X
   timed i n h t = record { handles = counted i n; heap = h.array; times = t }
+
+  -- what the parts refer to, as they were passed
+  abbrev pub before : TimerParts X → Behind X
+  before p = record { handles = p.handles.now; slots = p.slots.now; heap = p.heap.now; times = p.times.now }
+
+  -- and as the call left it
+  abbrev pub after : MutBor ℕ × (MutBor (Arena X) × (MutBor Heap × (MutBor Times × Unit {0}))) → Behind X
+  after p = record { handles = p.0.now; slots = p.1.0.now; heap = p.1.1.0.now; times = p.1.1.1.0.now }
+
+  abbrev pub timed_in : Behind X → Timed X
+  timed_in b = timed b.slots.image b.handles b.heap b.times
 
   -- with other lists in the arena
   abbrev pub with_arena : Image X → Timed X → Timed X

@@ -5,12 +5,14 @@
 mod change;
 mod hook;
 mod ops;
+mod parts;
 mod rescheduling;
 mod section;
 mod undo;
 
 pub use change::{TimerChange, Times};
 pub use ops::{again, due_in, set_repeat, start, stop, undo_set_repeat};
+pub use parts::TimerParts;
 pub use rescheduling::{reschedule, undo_reschedule};
 pub use section::{collect_one, fire_one, undo_collect_one};
 pub use undo::{CollectUndo, SetUndo, TimerUndo};

@@ -9,7 +9,7 @@ use crate::score::Score;
 use uv_arena::InsertFault;
 use uv_ids::{Id, Kind, Var};
 use uv_records::ListName;
-use uv_timer::{again, collect_one, due_in, fire_one, set_repeat, start, stop};
+use uv_timer::{TimerParts, again, collect_one, due_in, fire_one, set_repeat, start, stop};
 
 /// One call by a number.
 pub fn call(
@@ -89,10 +89,12 @@ fn start_one(
         return Token::Nothing;
     }
     match start(
-        &mut parts.handles,
-        &mut parts.slots,
-        &mut parts.heap,
-        &mut parts.times,
+        TimerParts {
+            handles: &mut parts.handles,
+            slots: &mut parts.slots,
+            heap: &mut parts.heap,
+            times: &mut parts.times,
+        },
         id,
         timeout,
         repeat,
@@ -114,10 +116,12 @@ fn stop_one(parts: &mut Parts, plain: &mut Plain, id: Id, score: &mut Score) -> 
     ensures room { parts.new.heap.room ≡ parts.old.heap.room }
 {
     match stop(
-        &mut parts.handles,
-        &mut parts.slots,
-        &mut parts.heap,
-        &mut parts.times,
+        TimerParts {
+            handles: &mut parts.handles,
+            slots: &mut parts.slots,
+            heap: &mut parts.heap,
+            times: &mut parts.times,
+        },
         id,
     ) {
         Ok(undo) => {
@@ -147,10 +151,12 @@ fn start_again(
         return Token::Nothing;
     }
     match again(
-        &mut parts.handles,
-        &mut parts.slots,
-        &mut parts.heap,
-        &mut parts.times,
+        TimerParts {
+            handles: &mut parts.handles,
+            slots: &mut parts.slots,
+            heap: &mut parts.heap,
+            times: &mut parts.times,
+        },
         id,
     ) {
         Ok(undo) => {
@@ -208,12 +214,12 @@ fn collect(parts: &mut Parts, plain: &mut Plain, score: &mut Score) -> Token
     ensures answers { Answers parts.new.heap.room result (all parts.old) (all parts.new) }
     ensures room { parts.new.heap.room ≡ parts.old.heap.room }
 {
-    match collect_one(
-        &mut parts.handles,
-        &mut parts.slots,
-        &mut parts.heap,
-        &mut parts.times,
-    ) {
+    match collect_one(TimerParts {
+        handles: &mut parts.handles,
+        slots: &mut parts.slots,
+        heap: &mut parts.heap,
+        times: &mut parts.times,
+    }) {
         Some((id, undo)) => {
             plain.collect(Some(id), score);
             Token::Collected(undo)
@@ -241,12 +247,12 @@ fn fire(parts: &mut Parts, plain: &mut Plain, timers: u32, score: &mut Score) ->
     if front >= timers {
         return Token::Nothing;
     }
-    match fire_one(
-        &mut parts.handles,
-        &mut parts.slots,
-        &mut parts.heap,
-        &mut parts.times,
-    ) {
+    match fire_one(TimerParts {
+        handles: &mut parts.handles,
+        slots: &mut parts.slots,
+        heap: &mut parts.heap,
+        times: &mut parts.times,
+    }) {
         Some((id, undo)) => {
             plain.fire(Some(id), score);
             Token::Timer(undo)

@@ -6,7 +6,9 @@ use super::content::Content;
 use uv_arena::Slots;
 use uv_handle::{AddUndo, Handles, ListUndo, RecordUndo};
 use uv_heap::TimerHeap;
-use uv_timer::{CollectUndo, TimerUndo, Times, undo_collect_one, undo_reschedule, undo_set_repeat};
+use uv_timer::{
+    CollectUndo, TimerParts, TimerUndo, Times, undo_collect_one, undo_reschedule, undo_set_repeat,
+};
 
 /// The arena, the count of its active referenced handles, the heap, and the times.
 #[derive(Drop)]
@@ -41,17 +43,21 @@ pub fn undo(parts: &mut Parts, token: Token)
         Token::Added(added) => parts.handles.undo_add(&mut parts.slots, added),
         Token::Closed(closed) => parts.handles.undo_enlist(&mut parts.slots, closed),
         Token::Timer(timer) => undo_reschedule(
-            &mut parts.handles,
-            &mut parts.slots,
-            &mut parts.heap,
-            &mut parts.times,
+            TimerParts {
+                handles: &mut parts.handles,
+                slots: &mut parts.slots,
+                heap: &mut parts.heap,
+                times: &mut parts.times,
+            },
             timer,
         ),
         Token::Collected(collected) => undo_collect_one(
-            &mut parts.handles,
-            &mut parts.slots,
-            &mut parts.heap,
-            &mut parts.times,
+            TimerParts {
+                handles: &mut parts.handles,
+                slots: &mut parts.slots,
+                heap: &mut parts.heap,
+                times: &mut parts.times,
+            },
             collected,
         ),
         Token::Repeating(changed) => {

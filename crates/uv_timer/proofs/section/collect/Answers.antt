@@ -6,10 +6,11 @@ use Rattle.uv_timer.proofs.section.collect.Goals as goal
 
 pub returns-clause-collected : goal.returns-clause-collected
 returns-clause-collected g c =
-    let H = g.T.HoldsHandle in let i = c.args.slots.now.image in let k = c.reschedule-timer.new.slots.image in
+    let H = g.T.HoldsHandle in let old = c.args.parts in let new = c.reschedule-timer.new.parts in
+    let i = old.slots.now.image in let k = new.1.0.image in
     let j = c.push_back-pushed.new.self.image in
-    let n = c.args.handles.now in let m = c.reschedule-timer.new.handles in let a = c.args.heap.now in let b = c.reschedule-timer.new.heap in
-    let s = c.args.times.now in let t = c.reschedule-timer.new.times in let d = c.args.id in let h = c.args.handle in
+    let n = old.handles.now in let m = new.0 in let a = old.heap.now in let b = new.1.1.0 in
+    let s = old.times.now in let t = new.1.1.1.0 in let d = c.args.id in let h = c.args.handle in
     let u = c.reschedule-timer.result in
     let changed = subst (λ x. IsRescheduled H.held_record H.of_record b.room (timed i n a s) (timed k m b t) d x c.reschedule-timer.result)
     c.collecting-change.ensures c.reschedule-timer.ensures.changed in
