@@ -4,9 +4,12 @@ ghost use Rattle.std.specs.Prelude.{◌<◌};
 use crate::subject::Subject;
 use uv_arena::{Links, Slots};
 use uv_ids::Id;
-use uv_records::{ListName, Slot};
+use uv_records::{LIST_COUNT, ListName, Slot};
 
-pub const LISTS: [ListName; 14] = [
+/// How many chains there are: one for each list, and that of the free slots.
+const CHAINS: u32 = LIST_COUNT as u32 + 1;
+
+pub const LISTS: [ListName; LIST_COUNT] = [
     ListName::Ready,
     ListName::Idle,
     ListName::IdleYet,
@@ -41,7 +44,7 @@ pub fn places<S: Subject>(subject: &S) -> u32 {
     subject
         .slots()
         .used()
-        .saturating_add(15)
+        .saturating_add(CHAINS)
         .saturating_add(subject.others())
 }
 
@@ -55,7 +58,7 @@ pub fn seen_at<S: Subject>(subject: &S, place: u32) -> Seen<S::Content, S::Other
     let place = place - used;
     match LISTS.get(place as usize) {
         Some(list) => Seen::List(slots.first(*list), slots.last(*list)),
-        None if place == 14 => Seen::Free(slots.first_free(), slots.last_free()),
-        None => Seen::Other(subject.other(place - 15)),
+        None if place < CHAINS => Seen::Free(slots.first_free(), slots.last_free()),
+        None => Seen::Other(subject.other(place - CHAINS)),
     }
 }

@@ -7,7 +7,7 @@ use crate::score::Score;
 use crate::seen::LISTS;
 use uv_arena::{ChainPlace, InsertFault, InsertUndo, PushUndo, RemoveUndo, Slots, SpliceUndo};
 use uv_ids::Id;
-use uv_records::ListName;
+use uv_records::{LIST_COUNT, ListName};
 
 /// Takes a call back.
 #[derive(Clone, Copy)]
@@ -64,8 +64,8 @@ pub fn call(slots: &mut Slots<u64>, plain: &mut Plain, number: u64, score: &mut 
         _ => splice(
             slots,
             plain,
-            list_at((number >> 20) % 14),
-            list_at((number >> 16) % 14),
+            list_at((number >> 20) % LIST_COUNT as u64),
+            list_at((number >> 16) % LIST_COUNT as u64),
         ),
     }
 }
