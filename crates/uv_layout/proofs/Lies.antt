@@ -31,7 +31,6 @@ use Rattle.uv_model.specs.declared.content.Content.TheVariants as holds
 use Rattle.uv_model.specs.declared.layout.LaidSlot.{LaidSlot}
 use Rattle.uv_model.specs.declared.layout.Layout.{Layout}
 use Rattle.uv_model.specs.declared.layout.ListEnds.{ListEnds}
-use Rattle.uv_model.specs.declared.named.Named as bound
 use Rattle.uv_model.specs.declared.numbers.Numbers.{Numbers}
 use Rattle.uv_model.specs.declared.place.Place.{Place}
 use Rattle.uv_model.specs.State.{State}
@@ -39,24 +38,13 @@ use Rattle.uv_model.specs.Queries.{members}
 use Rattle.uv_model.specs.Layout.{LiesFor, HasNeighbours, AreWalked, slots_on, with_ends, generation_in, id_now, entry_of}
 use Rattle.uv_step.specs.declared.content.Content.{Content}
 use Rattle.uv_step.specs.Image.{Image}
-use Rattle.uv_stands.specs.Contents.{content_of, named_of, request_of, slot_of}
+use Rattle.uv_stands.specs.Contents.{content_of, request_of, slot_of}
 use Rattle.uv_stands.specs.Stands.{StandsFor, timer_in}
 use Rattle.uv_stands.proofs.Onto.{list_named}
 use Rattle.uv_layout.specs.Laid.{ShowsSlot, ShowsSlots, ShowsAll, shown_ends}
-use Rattle.uv_layout.proofs.Same.{named_same, request_shown}
+use Rattle.uv_layout.proofs.Same.{request_shown}
 
 -- ---- what stands for the same is the same
-
-names_same : (ms ns : List bound.Named) → map named_of ms ≡ map named_of ns → ms ≡ ns
-names_same [] [] e = refl
-names_same [] (n ∷ ns) e = cc
-names_same (m ∷ ms) [] e = cc
-names_same (m ∷ ms) (n ∷ ns) e =
-    let one : named_of m ≡ named_of n = cc e in
-    let rest : map named_of ms ≡ map named_of ns = cc e in
-    let m_is = named_same m n one in
-    let ms_are = names_same ms ns rest in
-    λ l. m_is l ∷ ms_are l
 
 content_same : (x y : content.Content) → content_of x ≡ content_of y → x ≡ y
 content_same (holds.Handle h) (holds.Handle g) e = let same : h ≡ g = cc e in ap (λ z. holds.Handle z) same
@@ -281,7 +269,7 @@ lies_for l i s d h = record {
         stop_flag = h.stop_flag q;
         idled = h.idled q;
       } in n));
-  names = names_same l.names.items s.names (d.names ∙ h.names);
+  names = d.names ∙ h.names;
   slots =
       slots_same l.slots.items i.arena.memory.row.items s.arena.slots d.slots.all (ap (λ (q : plain.Slots Content). q.slots) h.slots)
       (λ x c e. (d.slots.each x c e).slot);

@@ -13,25 +13,14 @@ use Rattle.uv_arena.specs.Image.{slot_at, slot_in}
 use Rattle.uv_work.specs.Requests as work
 use Rattle.uv_model.specs.declared.content.Content as content
 use Rattle.uv_model.specs.declared.content.Content.TheVariants as holds
-use Rattle.uv_model.specs.declared.named.Named as bound
 use Rattle.uv_model.specs.declared.request.Request as queued
 use Rattle.uv_model.specs.declared.place.Place.{Place}
 use Rattle.uv_model.specs.State.{State}
 use Rattle.uv_step.specs.declared.content.Content.{Content}
 use Rattle.uv_step.specs.declared.content.Content.TheVariants.{Handle, Request as Asked}
-use Rattle.uv_step.specs.declared.named.Named.{Named}
 use Rattle.uv_step.specs.Image.{Image}
-use Rattle.uv_stands.specs.Contents.{content_of, named_of, request_of, slot_of}
+use Rattle.uv_stands.specs.Contents.{content_of, request_of, slot_of}
 use Rattle.uv_stands.specs.Stands.{StandsFor}
-
--- ---- names
-
-pub named_same : (m n : bound.Named) → named_of m ≡ named_of n → m ≡ n
-named_same m n e =
-    ap (λ (z : Named). (let q : bound.Named = record {
-      id = z.id;
-      calls = record { handle = z.calls.handle; after = z.calls.after; close = z.calls.close };
-    } in q)) e
 
 -- ---- what slots hold
 

@@ -11,7 +11,7 @@ use Rattle.uv_model.specs.declared.layout.ListEnds.{ListEnds}
 use Rattle.uv_model.specs.declared.place.Place.{Place}
 use Rattle.uv_step.specs.declared.content.Content.{Content}
 use Rattle.uv_step.specs.Image.{Image}
-use Rattle.uv_stands.specs.Contents.{named_of, slot_of}
+use Rattle.uv_stands.specs.Contents.{slot_of}
 
 -- a slot's content, its two links, and the place where the heap has it
 pub record ShowsSlot (i : Image Place) (x : ℕ) (c : LaidSlot) : Type 0 where
@@ -40,7 +40,7 @@ pub record ShowsAll (l : Layout) (i : Image Place) : Type 0 where
     idled =
         i.idled;
   }
-  pub names : map named_of l.names.items ≡ i.names
+  pub names : l.names.items ≡ i.names
   -- the slots, how many were never used, and what each worker runs
   pub slots : ShowsSlots i l.slots.items
   pub unused : l.unused ≡ i.arena.memory.row.capacity - length i.arena.memory.row.items

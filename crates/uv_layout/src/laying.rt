@@ -6,14 +6,13 @@ ghost use Rattle.uv_arena.specs.Calls.{slot_of};
 ghost use Rattle.uv_arena.specs.declared.links.TheConstants.{FREE};
 ghost use Rattle.uv_arena.specs.Image.{chain, members};
 ghost use Rattle.uv_step.specs.Image.{held};
-ghost use Rattle.uv_stands.specs.Contents.{named_of};
 ghost use Rattle.uv_layout.specs.Laid.{ShowsSlot, ShowsSlots, ShowsAll, shown_ends};
 
-use crate::showing::{shown_held, shown_named};
+use crate::showing::shown_held;
 use std::alloc::{AllocError, Global};
 use uv_arena::Slots;
 use uv_ids::Id;
-use uv_model::{LaidSlot, Layout, ListEnds, Named, Numbers, Place};
+use uv_model::{LaidSlot, Layout, ListEnds, Numbers, Place};
 use uv_records::{Ends, ListName, Slot};
 use uv_step::{Content, Memory};
 
@@ -44,17 +43,6 @@ fn laid_slots(memory: &Memory<Place>, alloc: Global) -> Result<Vec<LaidSlot>, Al
         slots.push(laid_slot(memory, number))?;
     }
     Ok(slots)
-}
-
-/// All names with their counts.
-fn laid_names(names: &[uv_step::Named], alloc: Global) -> Result<Vec<Named>, AllocError>
-    ensures { IfOk result (λ shown. map named_of shown.items ≡ names.now) }
-{
-    let mut shown = Vec::new(alloc);
-    for named in names {
-        shown.push(shown_named(*named))?;
-    }
-    Ok(shown)
 }
 
 /// The slot of an id.
@@ -112,7 +100,7 @@ pub fn layout_of(memory: &Memory<Place>, alloc: Global) -> Result<Layout, AllocE
             stop_flag: memory.stop_flag,
             idled: memory.idled,
         },
-        names: laid_names(&memory.names, alloc)?,
+        names: Vec::from_slice(alloc, &memory.names)?,
         slots: laid_slots(memory, alloc)?,
         unused: memory.slots.capacity() - memory.slots.used(),
         running: Vec::from_slice(alloc, memory.requests.workers())?,

@@ -5,47 +5,21 @@ ghost use Rattle.uv_model.specs.declared.content.Content as state_content;
 ghost use Rattle.uv_model.specs.declared.request.Request as state_request;
 ghost use Rattle.uv_model.specs.State.{State, named};
 ghost use Rattle.uv_step.specs.Image.{held as held_by};
-ghost use Rattle.uv_step.specs.Names.{named as step_named};
-ghost use Rattle.uv_stands.specs.Contents.{content_of, named_of, request_of};
+ghost use Rattle.uv_stands.specs.Contents.{content_of, request_of};
 ghost use Rattle.uv_stands.specs.Stands.{StandsFor};
 
 use uv_ids::{Id, Var};
-use uv_model::{Counts, Named, Place, Request};
-use uv_records::Slot;
+use uv_model::{Place, Request};
+use uv_records::{Named, Slot};
 use uv_script::Task;
 use uv_step::{Content, Memory};
 use uv_work::RequestRecord;
-
-/// What a name is bound to, as the memory has it.
-fn named_in(memory: &Memory<Place>, name: Var) -> uv_step::Named
-    ensures { result ≡ step_named (held_by memory.now).image.names name.0 }
-{
-    match memory.names.get(name.0 as usize) {
-        None => uv_step::Named::unbound(),
-        Some(named) => *named,
-    }
-}
-
-/// A name with its counts, as a state has it.
-pub(crate) fn shown_named(named: uv_step::Named) -> Named
-    ensures { named_of result ≡ named }
-{
-    let calls = Counts {
-        handle: named.calls.handle,
-        after: named.calls.after,
-        close: named.calls.close,
-    };
-    Named {
-        id: named.id,
-        calls,
-    }
-}
 
 /// What a name is bound to, and how often its callbacks were called.
 pub fn shown_name(memory: &Memory<Place>, name: Var) -> Named
     ensures { (s : State) → StandsFor (held_by memory.now).image s → named s name ≡ result }
 {
-    shown_named(named_in(memory, name))
+    memory.named(name)
 }
 
 /// A request, with the task that it was queued with.

@@ -1,7 +1,6 @@
 -- What an event from outside is answered, by what the memory shows.
 use Rattle.std.proofs.Common.{◌≡◌, ◌+◌, ◌<◌, ◌≤◌, ℕ, suc, Bool, if◌then◌else◌, length, Option, Some, refl, sym, subst, ap, ◌∙◌, inl, inr, arith}
 use Rattle.std.proofs.lemmas.Bool.{le-leb, lt-ltb}
-use Rattle.std.proofs.lemmas.List.{length-map}
 use Rattle.std.proofs.lemmas.Bool.Decides.{leb_tells}
 use Rattle.uv_ids.specs.declared.id.Var.{Var}
 use Rattle.uv_ids.specs.declared.event.Event.TheVariants.{Tick, Send, Cancel}
@@ -18,7 +17,6 @@ use Rattle.uv_model.specs.Next.{Next, Moves, Refuses, next}
 use Rattle.uv_model.specs.Ops.{Coded, Done, send, cancel}
 use Rattle.uv_model.specs.After.{IsMove}
 use Rattle.uv_step.specs.Image.{Image}
-use Rattle.uv_stands.specs.Contents.{named_of}
 use Rattle.uv_stands.specs.Stands.{StandsFor}
 use Rattle.uv_ops.specs.Outside.{Sends, Cancels}
 use Rattle.uv_loop.specs.Course.{Leads}
@@ -44,7 +42,7 @@ tick_refused p i s ms h l =
 
 -- as many names
 names_as : (i : Image Place) (s : State) → StandsFor i s → length i.names ≡ length s.names
-names_as i s h = ap (λ ns. length ns) h.names ∙ length-map s.names named_of
+names_as i s h = ap (λ ns. length ns) h.names
 
 pub send_moves : (p : Program) (i : Image Place) (s : State) (v : Var) → StandsFor i s → v.0 < length i.names
     → next p s (Send v) ≡ Moves (send s (live_handle s v)).state (Some (seen.Send v (send s (live_handle s v)).code))

@@ -1,27 +1,21 @@
 -- What each step of the loop finds in the memory: it follows from the steps that stand.
-use Rattle.std.proofs.Common.{◌≡◌, ◌<◌, ◌≤◌, ◌^◌, ℕ, List, length, slice_get, true, Option, Result, Ok, Err, OnOk, is_ok, unwrap_or, refl, sym, ap, ◌∙◌, subst, arith}
+use Rattle.std.proofs.Common.{◌≡◌, ◌<◌, ◌≤◌, ◌^◌, ℕ, List, length, slice_get, true, Option, Result, Ok, Err, OnOk, is_ok, refl, sym, ap, ◌∙◌, subst, arith}
 use Rattle.uv_ids.specs.declared.event.Event.{Event}
 use Rattle.uv_ids.specs.declared.seen.Seen.{Seen}
-use Rattle.uv_ids.specs.declared.seen.Callback.{Callback}
-use Rattle.uv_ids.specs.declared.seen.Callback.TheVariants as callback
 use Rattle.uv_script.specs.Program.{Program, arena_size}
-use Rattle.uv_model.specs.declared.named.Named as bound
 use Rattle.uv_model.specs.declared.place.Place.{Place}
-use Rattle.uv_model.specs.Bounds.{AreBelow, CanStep, line_of}
-use Rattle.uv_model.specs.State as state
+use Rattle.uv_model.specs.Bounds.{CanStep, line_of}
 use Rattle.uv_model.specs.State.{State}
 use Rattle.uv_model.specs.After.{after}
 use Rattle.uv_model.proofs.Bounded.{after_able}
-use Rattle.uv_model.proofs.Calls.{at_name}
+use Rattle.uv_model.proofs.Calls.{at_name, count_below}
 use Rattle.uv_order.proofs.Reaching.{reached}
-use Rattle.uv_step.specs.declared.named.Named.{Named}
+use Rattle.uv_records.specs.declared.named.Named.{Named}
 use Rattle.uv_step.specs.declared.record.Record.{Record}
 use Rattle.uv_step.specs.Image.{Image, Held}
-use Rattle.uv_step.specs.Names.{named, count_of}
-use Rattle.uv_stands.specs.Contents.{named_of}
+use Rattle.uv_records.specs.Names.{named, count_of}
 use Rattle.uv_stands.specs.Stands.{StandsFor}
 use Rattle.uv_stands.specs.Ready.{IsReady}
-use Rattle.uv_stands.proofs.Values.{named_as}
 use Rattle.uv_stands.proofs.Loose.{idle_loose}
 use Rattle.uv_loop.specs.Course.{IsCourse}
 use Rattle.uv_loop.specs.Begins.{IsClear}
@@ -33,12 +27,6 @@ use Rattle.uv_loop.proofs.Courses.{course_stands}
 pub granted : {T E P : Type 0} (r : Result T E) → OnOk r P → is_ok r ≡ true → P
 granted (Ok x) p e = p
 granted (Err x) p e = cc
-
--- a count of a name that is small is small in the memory
-count_below : (m : ℕ) (k : Callback) (n : bound.Named) → AreBelow m n.calls → count_of k (named_of n).calls < m
-count_below m callback.Handle n b = b.0
-count_below m callback.After n b = b.1
-count_below m callback.Close n b = b.2
 
 module _ (p : Program) (es : List Event) (seen : List (Option Seen)) (rs : List (Record Place)) (h : Held Place) (c : IsCourse p es seen rs h) where
   pub course_ready : length h.image.arena.memory.row.items ≤ h.room → IsReady h
@@ -52,9 +40,8 @@ module _ (p : Program) (es : List Event) (seen : List (Option Seen)) (rs : List 
         starts = (let small = able.small.starts in let same = stands.next_start in omega (arith, small, same));
         time = (let small = able.small.time in let same = stands.time in omega (arith, small, same));
         line = subst (λ q. line_of q < 2 ^ 63) (sym stands.place) able.small.line;
-        calls = λ v k. subst (λ (n : Named). count_of k n.calls < 2 ^ 31)
-            (sym (ap (λ ns. named ns v) stands.names ∙ named_as s.names v))
-            (count_below (2 ^ 31) k (unwrap_or (slice_get s.names v) state.unbound)
+        calls = λ v k. subst (λ (ns : List Named). count_of k (named ns v).calls < 2 ^ 31) (sym stands.names)
+            (count_below (2 ^ 31) k (named s.names v).calls
             (at_name (2 ^ 31) s.names v (slice_get s.names v) refl able.small.counts (omega arith)));
         loose = λ d r there. idle_loose h.image s stands (reached p es) c.fit d r there;
       }

@@ -13,16 +13,9 @@ use Rattle.uv_model.specs.State as state
 use Rattle.uv_model.specs.State.{State}
 use Rattle.uv_model.specs.Queries.{members}
 use Rattle.uv_step.specs.declared.content.Content.{Content}
-use Rattle.uv_step.specs.declared.named.Named.{Named}
-use Rattle.uv_step.specs.Names.{unbound}
 use Rattle.uv_step.specs.Image.{Image}
-use Rattle.uv_stands.specs.Contents.{named_of}
 use Rattle.uv_stands.specs.Stands.{StandsFor}
 use Rattle.uv_loop.specs.Course.{first_image}
-
-none_bound : (n : ℕ) → replicate n unbound ≡ map named_of (replicate n state.unbound)
-none_bound zero = refl
-none_bound (suc n) = ap (λ (ns : List Named). unbound ∷ ns) (none_bound n)
 
 none_busy : (n : ℕ) → busy (replicate n None) ≡ 0
 none_busy zero = refl
@@ -58,7 +51,7 @@ fresh_stands p sound =
     let last = (arena_size p).last_generation in
     record {
       place = refl;
-      names = none_bound (length p.callbacks);
+      names = refl;
       time = refl;
       clock = refl;
       next_start = refl;

@@ -45,8 +45,8 @@ use Rattle.uv_records.specs.Slots.{Slots, taken, taken_from, freed, next_free}
 use Rattle.uv_records.specs.Walks.{Walk, with_first, with_last, all_yet}
 use Rattle.uv_model.specs.declared.content.Content.{Content}
 use Rattle.uv_model.specs.declared.content.Content.TheVariants as content
-use Rattle.uv_model.specs.declared.named.Counts.{Counts as CallCounts}
-use Rattle.uv_model.specs.declared.named.Named.{Named}
+use Rattle.uv_records.specs.declared.named.Calls.{Calls}
+use Rattle.uv_records.specs.declared.named.Named.{Named}
 use Rattle.uv_model.specs.declared.place.Body.{Body}
 use Rattle.uv_model.specs.declared.place.Run.{Run}
 use Rattle.uv_model.specs.declared.place.Stage.{Stage}
@@ -65,7 +65,8 @@ use Rattle.uv_model.specs.declared.request.Request.{Request}
 use Rattle.uv_model.specs.Found.{found_or}
 use Rattle.uv_model.specs.Ids.{same_id, without_id, has_some}
 use Rattle.uv_model.specs.Content.{handle_in, queued, digest_in}
-use Rattle.uv_model.specs.State.{State, unbound, fresh, named, handle, with_handle, request, with_named, counted, count_of, with_id, live, live_handle, live_request, front, front_request, watched, with_watched, refreshed}
+use Rattle.uv_model.specs.State.{State, fresh, named, handle, with_handle, request, with_named, with_id, live, live_handle, live_request, front, front_request, watched, with_watched, refreshed}
+use Rattle.uv_records.specs.Names.{unbound, counted, count_of}
 use Rattle.uv_model.specs.Timers.{taken_off, stopped, started, restarted}
 use Rattle.uv_model.specs.Ops as ops
 use Rattle.uv_model.specs.Ops.{do_op, refuses}
@@ -275,7 +276,7 @@ way_bounded n o s run ToEnd h l = ends_bounded n s run h l
 turn_bounded : (n : ℕ) (o : Order) (s : State) (run : Run) (turn : Turn) → IsBounded n s → run.line ≤ n → StaysBounded (suc n) (turns o s run turn)
 turn_bounded n o s run turn h l = way_bounded n o s run (way o run.mode (goes s) turn) h l
 
-counted_up : (n : ℕ) (kind : Callback) (c : CallCounts) → AreUpTo n c → AreUpTo (suc n) (counted kind c)
+counted_up : (n : ℕ) (kind : Callback) (c : Calls) → AreUpTo n c → AreUpTo (suc n) (counted kind c)
 counted_up n callback.Handle c h = (omega (arith, h.0), omega (arith, h.1), omega (arith, h.2))
 counted_up n callback.After c h = (omega (arith, h.0), omega (arith, h.1), omega (arith, h.2))
 counted_up n callback.Close c h = (omega (arith, h.0), omega (arith, h.1), omega (arith, h.2))

@@ -2,8 +2,12 @@
 use Rattle.std.proofs.Common.{◌≡◌, ℕ, ◌<◌, ◌^◌, List, Option, Some, None, All, slice_get, unwrap_or, refl, arith}
 use Rattle.std.proofs.lemmas.Grind.{elements}
 use Rattle.uv_ids.specs.declared.id.Var.{Var}
-use Rattle.uv_model.specs.declared.named.Named.{Named}
-use Rattle.uv_model.specs.State.{State, named, unbound}
+use Rattle.uv_ids.specs.declared.seen.Callback.{Callback}
+use Rattle.uv_ids.specs.declared.seen.Callback.TheVariants as callback
+use Rattle.uv_records.specs.declared.named.Calls.{Calls}
+use Rattle.uv_records.specs.declared.named.Named.{Named}
+use Rattle.uv_records.specs.Names.{unbound, count_of}
+use Rattle.uv_model.specs.State.{State, named}
 use Rattle.uv_model.specs.Bounds.{AreBelow, CanStep}
 
 pub at_name : (m : ℕ) (names : List Named) (i : ℕ) (x : Option Named) → slice_get names i ≡ x → All (λ (n : Named). AreBelow m n.calls) names
@@ -17,3 +21,9 @@ small s v h = at_name (2 ^ 31) s.names v.0 (slice_get s.names v.0) refl h (omega
 
 pub able_small : (s : State) (v : Var) → CanStep s → AreBelow (2 ^ 31) (named s v).calls
 able_small s v h = small s v h.small.counts
+
+-- each of a name's counts is as small
+pub count_below : (m : ℕ) (k : Callback) (c : Calls) → AreBelow m c → count_of k c < m
+count_below m callback.Handle c h = h.0
+count_below m callback.After c h = h.1
+count_below m callback.Close c h = h.2

@@ -21,8 +21,8 @@ use Rattle.uv_records.specs.Slots.{Slots, taken, taken_from, freed, next_free}
 use Rattle.uv_records.specs.Walks.{Walk}
 use Rattle.uv_model.specs.declared.content.Content.{Content}
 use Rattle.uv_model.specs.declared.content.Content.TheVariants as content
-use Rattle.uv_model.specs.declared.named.Counts.{Counts as CallCounts}
-use Rattle.uv_model.specs.declared.named.Named.{Named}
+use Rattle.uv_records.specs.declared.named.Calls.{Calls}
+use Rattle.uv_records.specs.declared.named.Named.{Named}
 use Rattle.uv_model.specs.declared.place.Place.{Place}
 use Rattle.uv_model.specs.declared.request.Request.{Request}
 use Rattle.uv_model.specs.Content.{handle_in, request_in}
@@ -32,7 +32,7 @@ use Rattle.uv_model.specs.Next.{Next, Moves, Refuses}
 use Rattle.uv_model.specs.Bounds.{line_of, HoldsBefore, StartsBefore, AreBelow}
 use Rattle.uv_model.proofs.Calls.{at_name}
 
-abbrev pub AreUpTo : ℕ → CallCounts → Type 0
+abbrev pub AreUpTo : ℕ → Calls → Type 0
 AreUpTo n c = (c.handle ≤ n) × (c.after ≤ n) × (c.close ≤ n)
 
 abbrev pub Counts : ℕ → List Named → Type 0

@@ -4,8 +4,8 @@ use Rattle.uv_records.specs.declared.handle.HandleRecord.{HandleRecord}
 use Rattle.uv_records.specs.declared.slot.Slot.{Slot}
 use Rattle.uv_records.specs.Handles.{is_timer}
 use Rattle.uv_model.specs.declared.content.Content.{Content}
-use Rattle.uv_model.specs.declared.named.Counts.{Counts}
-use Rattle.uv_model.specs.declared.named.Named.{Named}
+use Rattle.uv_records.specs.declared.named.Calls.{Calls}
+use Rattle.uv_records.specs.declared.named.Named.{Named}
 use Rattle.uv_model.specs.declared.place.Place.{Place}
 use Rattle.uv_model.specs.declared.place.Place.TheVariants.{Main, Running}
 use Rattle.uv_model.specs.Content.{handle_in}
@@ -29,7 +29,7 @@ abbrev pub AreDrawn : State → Type 0
 AreDrawn s = All (λ (slot : Slot Content). HoldsBefore s.next_start (handle_in slot.content)) s.arena.slots
 
 -- each of these counts is smaller than that
-abbrev pub AreBelow : ℕ → Counts → Type 0
+abbrev pub AreBelow : ℕ → Calls → Type 0
 AreBelow n c = (c.handle < n) × (c.after < n) × (c.close < n)
 
 -- the numbers fit their types

@@ -51,7 +51,8 @@ use Rattle.uv_model.specs.declared.request.Request.{Request}
 use Rattle.uv_model.specs.Content.{digest_in}
 use Rattle.uv_model.specs.Found.{found_or}
 use Rattle.uv_model.specs.Ids.{has_some}
-use Rattle.uv_model.specs.State.{State, live_handle, live_request, handle, request, with_id, front_request, with_handle, named, with_named, count_of, counted, front, watched, with_watched, refreshed}
+use Rattle.uv_model.specs.State.{State, live_handle, live_request, handle, request, with_id, front_request, with_handle, named, with_named, front, watched, with_watched, refreshed}
+use Rattle.uv_records.specs.Names.{count_of, counted}
 use Rattle.uv_model.specs.Timers.{restarted}
 use Rattle.uv_model.specs.Timeout.{is_alive, has_pending, poll_timeout, deadline_of, has_passed}
 use Rattle.uv_model.specs.Ops.{do_op, send, cancel, ended}

@@ -1,23 +1,22 @@
 -- The state of a loop: slots, plain lists, a map in the order of timers, and numbers.
-use Rattle.std.specs.Prelude.{ℕ, ◌+◌, Bool, false, List, [], ◌∷◌, length, Option, Some, None, Result, Ok, Err, unwrap_or, replicate, slice_get, slice_set}
+use Rattle.std.specs.Prelude.{ℕ, Bool, false, List, [], ◌∷◌, length, Option, Some, None, Result, Ok, Err, replicate, slice_set}
 use Rattle.uv_ids.specs.declared.id.Id.{Id}
 use Rattle.uv_ids.specs.declared.id.Var.{Var}
 use Rattle.uv_ids.specs.declared.due.Due.{Due}
 use Rattle.uv_ids.specs.declared.code.Code.{Code}
 use Rattle.uv_ids.specs.declared.code.Code.TheVariants.{Estale, Ekind}
-use Rattle.uv_ids.specs.declared.seen.Callback.{Callback}
-use Rattle.uv_ids.specs.declared.seen.Callback.TheVariants as callback
 use Rattle.uv_records.specs.declared.handle.HandleRecord.{HandleRecord}
 use Rattle.uv_records.specs.declared.lists.WatcherKind.{WatcherKind}
 use Rattle.uv_records.specs.declared.lists.WatcherKind.TheVariants as watcher
+use Rattle.uv_records.specs.Names as names
+use Rattle.uv_records.specs.Names.{unbound}
 use Rattle.uv_records.specs.Slots.{Slots, unused_slots, held, with_held}
 use Rattle.uv_records.specs.Walks.{Walk, nothing_listed}
 use Rattle.uv_script.specs.Program.{Program, arena_size, worker_count}
 use Rattle.uv_model.specs.declared.content.Content.{Content}
 use Rattle.uv_model.specs.declared.content.Content.TheVariants as content
 use Rattle.uv_model.specs.declared.request.Request.{Request}
-use Rattle.uv_model.specs.declared.named.Counts.{Counts}
-use Rattle.uv_model.specs.declared.named.Named.{Named}
+use Rattle.uv_records.specs.declared.named.Named.{Named}
 use Rattle.uv_model.specs.declared.place.Place.{Place}
 use Rattle.uv_model.specs.declared.place.Place.TheVariants.{Main}
 use Rattle.uv_model.specs.Content.{handle_in, request_in}
@@ -56,13 +55,6 @@ pub record State : Type 0 where
   pub stop_flag : Bool
   -- an idle handle was active as the iteration began
   pub idled : Bool
-
-abbrev pub never_called : Counts
-never_called = record { handle = 0; after = 0; close = 0 }
-
--- a name that is bound to nothing and was never called
-abbrev pub unbound : Named
-unbound = record { id = None; calls = never_called }
 
 -- the state in which every script begins
 abbrev pub fresh : Program → State
@@ -124,23 +116,11 @@ front_request s (id ∷ ids) = with_id id (request s id)
 
 -- what a name is bound to, and its counts
 abbrev pub named : State → Var → Named
-named s v = unwrap_or (slice_get s.names v.0) unbound
+named s v = names.named s.names v.0
 
 -- the state with a name bound or counted anew
 abbrev pub with_named : State → Var → Named → State
 with_named s v n = record s { names = slice_set s.names v.0 n }
-
--- how often one of a name's callbacks was called
-abbrev pub count_of : Callback → Counts → ℕ
-count_of callback.Handle c = c.handle
-count_of callback.After c = c.after
-count_of callback.Close c = c.close
-
--- one call more
-abbrev pub counted : Callback → Counts → Counts
-counted callback.Handle c = record c { handle = c.handle + 1 }
-counted callback.After c = record c { after = c.after + 1 }
-counted callback.Close c = record c { close = c.close + 1 }
 
 -- the id of a name that is live, and what its slot holds: still the handle or the request that the name was bound to
 abbrev pub live_id : State → Option Id → Option (Id × Content)

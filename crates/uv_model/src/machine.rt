@@ -6,12 +6,11 @@ ghost use Rattle.uv_script.specs.Program.{Program};
 
 use crate::content::Content;
 use crate::layout::Layout;
-use crate::named::Named;
 use crate::numbers::Numbers;
 use crate::place::Place;
 use std::alloc::Global;
 use uv_ids::{Event, Fault, Id, Seen, Var};
-use uv_records::{ListName, Slot};
+use uv_records::{ListName, Named, Slot};
 use uv_script::Script;
 use uv_work::WorkResult;
 

@@ -8,7 +8,6 @@ ghost use Rattle.uv_model.specs.Bounds.{CanStep};
 use crate::content::Content;
 use crate::layout::Layout;
 use crate::machine::{Machine, Outcome, STEPS};
-use crate::named::Named;
 use crate::numbers::Numbers;
 use crate::place::Place;
 use crate::state::LoopState;
@@ -16,7 +15,7 @@ use std::alloc::{AllocError, Global};
 use std::marker::Model;
 use std::mem;
 use uv_ids::{Event, Fault, Id, Seen, Var};
-use uv_records::{ListName, Slot};
+use uv_records::{ListName, Named, Slot};
 use uv_script::Script;
 use uv_work::WorkResult;
 

@@ -5,7 +5,6 @@ ghost use Rattle.uv_model.specs.State.{fresh, handle, with_handle, request, with
 
 use crate::arena::Arena;
 use crate::content::{Content, handle_in, request_in};
-use crate::named::Named;
 use crate::place::Place;
 use crate::request::Request;
 use crate::walked::Walked;
@@ -13,7 +12,7 @@ use std::alloc::{AllocError, Global};
 use std::collections::BTreeMap;
 use std::marker::Model;
 use uv_ids::{Code, Due, Id, Var};
-use uv_records::HandleRecord;
+use uv_records::{HandleRecord, Named};
 use uv_script::Script;
 
 mod ops;

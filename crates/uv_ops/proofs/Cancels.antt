@@ -38,7 +38,7 @@ use Rattle.uv_step.specs.Content.{request_in}
 use Rattle.uv_step.specs.Does.{By}
 use Rattle.uv_step.specs.Fit.{IsFit}
 use Rattle.uv_step.specs.Image.{Image, Held, working_of}
-use Rattle.uv_step.specs.Names.{named}
+use Rattle.uv_records.specs.Names.{named}
 use Rattle.uv_step.specs.Undo.{Recorded}
 use Rattle.uv_stands.specs.Contents.{content_of as held_as, request_of}
 use Rattle.uv_stands.specs.Doing.{Performs}

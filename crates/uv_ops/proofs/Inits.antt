@@ -27,7 +27,7 @@ use Rattle.uv_step.specs.declared.record.Change.TheVariants as change
 use Rattle.uv_step.specs.declared.record.Record.{Record}
 use Rattle.uv_step.specs.Does.{By, IsMade, JoinsIf, is_async}
 use Rattle.uv_step.specs.Image.{Image, Held, counted_of}
-use Rattle.uv_step.specs.Names.{binding}
+use Rattle.uv_records.specs.Names.{binding}
 use Rattle.uv_step.specs.Undo.{Recorded}
 use Rattle.uv_stands.specs.Doing.{Performs}
 use Rattle.uv_stands.specs.Stands.{StandsFor}

@@ -27,7 +27,7 @@ use Rattle.uv_step.specs.Content.{request_in}
 use Rattle.uv_step.specs.Does.{By}
 use Rattle.uv_step.specs.Fit.{IsFit}
 use Rattle.uv_step.specs.Image.{Image, Held, working_of}
-use Rattle.uv_step.specs.Names.{binding}
+use Rattle.uv_records.specs.Names.{binding}
 use Rattle.uv_step.specs.Undo.{Recorded}
 use Rattle.uv_stands.specs.Doing.{Performs}
 use Rattle.uv_stands.specs.Stands.{StandsFor}

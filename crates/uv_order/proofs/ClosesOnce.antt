@@ -33,7 +33,7 @@ use Rattle.uv_records.specs.Handles.{inited, referenced_as, repeating}
 use Rattle.uv_records.specs.Slots.{Slots, held, freed}
 use Rattle.uv_model.specs.declared.content.Content.{Content}
 use Rattle.uv_model.specs.declared.content.Content.TheVariants as content
-use Rattle.uv_model.specs.declared.named.Named.{Named}
+use Rattle.uv_records.specs.declared.named.Named.{Named}
 use Rattle.uv_model.specs.declared.request.Request.{Request}
 use Rattle.uv_model.specs.Content.{request_in, digest_in}
 use Rattle.uv_script.specs.Tasks.{text_of}
@@ -57,7 +57,8 @@ use Rattle.uv_records.specs.Walks.{Walk, all_yet}
 use Rattle.uv_model.specs.Ids.{same_id}
 use Rattle.uv_order.specs.Active.{has_id, AreDistinct, run_ids}
 use Rattle.uv_model.specs.Timeout.{is_alive, poll_timeout}
-use Rattle.uv_model.specs.State.{State, unbound, fresh, handle, live_handle, live_request, with_handle, with_request, front, front_request, watched, with_watched, refreshed}
+use Rattle.uv_model.specs.State.{State, fresh, handle, live_handle, live_request, with_handle, with_request, front, front_request, watched, with_watched, refreshed}
+use Rattle.uv_records.specs.Names.{unbound}
 use Rattle.uv_model.specs.Timers.{started, restarted}
 use Rattle.uv_model.specs.Ops as ops
 use Rattle.uv_model.specs.Ops.{do_op}

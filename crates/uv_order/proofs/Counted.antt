@@ -7,16 +7,17 @@ use Rattle.uv_ids.specs.declared.id.Var.{Var}
 use Rattle.uv_ids.specs.declared.seen.Callback.{Callback}
 use Rattle.uv_ids.specs.declared.seen.Callback.TheVariants as callback
 use Rattle.uv_script.specs.Program.{Program, Callbacks, no_callbacks, lines_of, lines_in}
-use Rattle.uv_model.specs.declared.named.Counts.{Counts}
-use Rattle.uv_model.specs.declared.named.Named.{Named}
+use Rattle.uv_records.specs.declared.named.Calls.{Calls}
+use Rattle.uv_records.specs.declared.named.Named.{Named}
 use Rattle.uv_model.specs.Ids.{without_id}
-use Rattle.uv_model.specs.State.{fresh, unbound, count_of, counted}
+use Rattle.uv_model.specs.State.{fresh}
+use Rattle.uv_records.specs.Names.{unbound, count_of, counted}
 use Rattle.uv_model.specs.Next.{body_from}
 use Rattle.uv_order.specs.Documented.{Told, nothing_told, told_of, times, next_call, body_of}
 use Rattle.uv_order.proofs.Bodies.{IsBody, whole_body}
 use Rattle.uv_order.proofs.OpEffects.{SameCalls, set_long}
 
-abbrev counts_in : List Named → Var → Counts
+abbrev counts_in : List Named → Var → Calls
 counts_in names v = (unwrap_or (slice_get names v.0) unbound).calls
 
 -- a name that has lines was called as often as the lines tell
@@ -78,7 +79,7 @@ counted_sent p names told sent k = record { long = k.long; calls = λ kind v l. 
   at callback.Close v l = k.calls callback.Close v l
 
 -- one more of a callback is none more of another
-told_more : (kind other : Callback) (v u : Var) (id : Id) (told : Told) (c : Counts) → (v.0 == u.0) ≡ true →
+told_more : (kind other : Callback) (v u : Var) (id : Id) (told : Told) (c : Calls) → (v.0 == u.0) ≡ true →
     count_of other c ≡ times (told_of other told) u →
     count_of other (counted kind c) ≡ times (told_of other (told_call kind v id told)) u
 told_more callback.Handle callback.Handle v u id told c e h = rw e (omega (arith, h))

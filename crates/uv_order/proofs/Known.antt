@@ -17,9 +17,9 @@ use Rattle.uv_records.specs.declared.handle.HandleRecord.{HandleRecord}
 use Rattle.uv_records.specs.Slots.{Slots}
 use Rattle.uv_model.specs.declared.content.Content.{Content}
 use Rattle.uv_model.specs.declared.content.Content.TheVariants as content
-use Rattle.uv_model.specs.declared.named.Named.{Named}
+use Rattle.uv_records.specs.declared.named.Named.{Named}
 use Rattle.uv_model.specs.Ids.{same_id}
-use Rattle.uv_model.specs.State.{unbound}
+use Rattle.uv_records.specs.Names.{unbound}
 use Rattle.uv_order.specs.Once.{answered, queues, binds, bound_by, bound, closes, closes_by, is_some_id, is_bound, was_closed, is_closed_line, has_closed_line, makes, made_by, made_as, cancels, first_of}
 use Rattle.uv_order.proofs.IdLists.{same, other, itself}
 use Rattle.uv_order.proofs.Contents.{emptied, emptied_turns}

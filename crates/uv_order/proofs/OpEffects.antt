@@ -16,14 +16,15 @@ use Rattle.uv_script.specs.declared.op.Op.TheVariants as op
 use Rattle.uv_script.specs.declared.task.Task.{Task}
 use Rattle.uv_model.specs.declared.content.Content.{Content}
 use Rattle.uv_records.specs.declared.handle.HandleRecord.{HandleRecord}
-use Rattle.uv_model.specs.declared.named.Named.{Named}
+use Rattle.uv_records.specs.declared.named.Named.{Named}
 use Rattle.uv_records.specs.declared.lists.WatcherKind.{WatcherKind}
 use Rattle.uv_records.specs.declared.lists.WatcherKind.TheVariants as watcher
 use Rattle.uv_records.specs.Lists.{watcher_kind}
 use Rattle.uv_records.specs.Refusals.{no_refusal, timer_refusal, start_timer_refusal, start_watcher_refusal, stop_refusal, again_refusal, close_refusal}
 use Rattle.uv_records.specs.Walks.{Walk}
 use Rattle.uv_model.specs.Ids.{without_id}
-use Rattle.uv_model.specs.State.{State, handle, live, live_handle, live_request, unbound}
+use Rattle.uv_model.specs.State.{State, handle, live, live_handle, live_request}
+use Rattle.uv_records.specs.Names.{unbound}
 use Rattle.uv_model.specs.Timers.{stopped, started}
 use Rattle.uv_model.specs.Ops as ops
 use Rattle.uv_model.specs.Ops.{do_op}

@@ -11,7 +11,7 @@ use Rattle.uv_ids.specs.declared.seen.Callback.{Callback}
 use Rattle.uv_ids.specs.declared.seen.Callback.TheVariants as callback
 use Rattle.uv_script.specs.Program.{Program, order_of}
 use Rattle.uv_records.specs.declared.handle.HandleRecord.{HandleRecord}
-use Rattle.uv_model.specs.declared.named.Named.{Named}
+use Rattle.uv_records.specs.declared.named.Named.{Named}
 use Rattle.uv_model.specs.declared.place.Run.{Run}
 use Rattle.uv_model.specs.declared.place.Stage.TheVariants as stage
 use Rattle.uv_model.specs.declared.place.TimersOf.{TimersOf}
@@ -21,7 +21,8 @@ use Rattle.uv_model.specs.declared.place.Turn.TheVariants.{Behind}
 use Rattle.uv_model.specs.declared.place.Way.{Way}
 use Rattle.uv_model.specs.declared.place.Way.TheVariants.{ToTimers, ToPending, ToEnd}
 use Rattle.uv_model.specs.declared.place.Timing.TheVariants.{Collecting, Firing}
-use Rattle.uv_model.specs.State.{State, handle, with_id, front, named, with_named, counted, count_of}
+use Rattle.uv_model.specs.State.{State, handle, with_id, front, named, with_named}
+use Rattle.uv_records.specs.Names.{counted, count_of}
 use Rattle.uv_model.specs.Timers.{started, restarted}
 use Rattle.uv_model.specs.Timeout.{is_alive}
 use Rattle.uv_model.specs.Next as step

@@ -3,6 +3,7 @@ pub mod Dues
 pub mod Handles
 pub mod Linked
 pub mod Lists
+pub mod Names
 pub mod Refusals
 pub mod Slots
 pub mod Walks

@@ -178,7 +178,7 @@ module _ (i j : Image Place) (s t : State) (h : StandsFor i s) (values : KeepsVa
       let running = values.workers ∙ h.running ∙ sym state.running in
       record {
         place = values.place ∙ h.place ∙ sym state.place;
-        names = values.names ∙ h.names ∙ ap (map _) (sym state.names);
+        names = values.names ∙ h.names ∙ sym state.names;
         time = time;
         clock = values.clock ∙ h.clock ∙ sym state.clock;
         next_start = values.next_start ∙ h.next_start ∙ sym state.next_start;

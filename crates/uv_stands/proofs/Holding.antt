@@ -14,16 +14,15 @@ use Rattle.uv_arena.proofs.Lookups.{held_tells}
 use Rattle.uv_requests.specs.Working.{id_in}
 use Rattle.uv_model.specs.declared.content.Content as content
 use Rattle.uv_model.specs.declared.content.Content.TheVariants as holds
-use Rattle.uv_model.specs.declared.named.Named as bound
 use Rattle.uv_model.specs.declared.place.Place.{Place}
 use Rattle.uv_model.specs.State as state
 use Rattle.uv_model.specs.State.{State}
 use Rattle.uv_step.specs.declared.content.Content.{Content}
 use Rattle.uv_step.specs.Content.{handle_in}
-use Rattle.uv_step.specs.Names.{named}
+use Rattle.uv_records.specs.Names.{named}
 use Rattle.uv_step.specs.Image.{Image}
 use Rattle.uv_model.specs.Content.{handle_of}
-use Rattle.uv_stands.specs.Contents.{content_of, slot_of, named_of}
+use Rattle.uv_stands.specs.Contents.{content_of, slot_of}
 use Rattle.uv_stands.specs.Stands.{StandsFor}
 
 -- ---- what is held
@@ -46,13 +45,8 @@ pub held_there : (i : Image Place) (s : State) (d : Id) → StandsFor i s → ar
 held_there i s d h = ap (λ (q : plain.Slots Content). plain.held q.slots d) h.slots ∙ held_as s.arena.slots d
 
 -- what a name is bound to
-named_id : (ns : List bound.Named) (v : ℕ) → (named (map named_of ns) v).id ≡ (unwrap_or (slice_get ns v) state.unbound).id
-named_id [] v = refl
-named_id (n ∷ ns) zero = refl
-named_id (n ∷ ns) (suc v) = named_id ns v
-
 pub bound_there : (i : Image Place) (s : State) (v : Var) → StandsFor i s → (named i.names v.0).id ≡ (state.named s v).id
-bound_there i s v h = ap (λ ns. (named ns v.0).id) h.names ∙ named_id s.names v.0
+bound_there i s v h = ap (λ ns. (named ns v.0).id) h.names
 
 -- ---- the count
 

@@ -11,7 +11,7 @@ use Rattle.uv_arena.specs.Image as arena
 use Rattle.uv_arena.proofs.Names.{number_apart}
 use Rattle.uv_requests.specs.Working.{id_in}
 use Rattle.uv_model.specs.declared.content.Content as content
-use Rattle.uv_model.specs.declared.named.Named as bound
+use Rattle.uv_records.specs.declared.named.Named.{Named}
 use Rattle.uv_model.specs.declared.place.Place.{Place}
 use Rattle.uv_model.specs.State.{State}
 use Rattle.uv_model.specs.Queries.{members}
@@ -21,7 +21,7 @@ use Rattle.uv_stands.specs.Stands.{StandsFor}
 use Rattle.uv_stands.proofs.Holding.{map_same}
 
 -- what is no list leaves the lists
-pub beside_lists : (s : State) (place : Place) (names : List bound.Named) (a : plain.Slots content.Content) (timers : List (Due × Id))
+pub beside_lists : (s : State) (place : Place) (names : List Named) (a : plain.Slots content.Content) (timers : List (Due × Id))
     (running : List (Option Id)) (time clock next : ℕ) (stop idled : Bool) (l : ListName)
     → members (record s {
       place = place;

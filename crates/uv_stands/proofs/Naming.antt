@@ -15,7 +15,7 @@ use Rattle.uv_model.specs.declared.place.Place.{Place}
 use Rattle.uv_model.specs.State.{State, with_id, as_handle, live, live_handle, live_id}
 use Rattle.uv_step.specs.declared.content.Content.{Content}
 use Rattle.uv_step.specs.Content.{handle_in}
-use Rattle.uv_step.specs.Names.{named}
+use Rattle.uv_records.specs.Names.{named}
 use Rattle.uv_step.specs.Image.{Image}
 use Rattle.uv_stands.specs.Contents.{content_of}
 use Rattle.uv_stands.specs.Stands.{StandsFor}

@@ -5,50 +5,20 @@ use Rattle.uv_ids.specs.declared.id.Id.{Id}
 use Rattle.uv_ids.specs.declared.id.Var.{Var}
 use Rattle.uv_ids.specs.declared.seen.Callback.{Callback}
 use Rattle.uv_ids.specs.declared.seen.Callback.TheVariants as callback
-use Rattle.uv_model.specs.declared.named.Named as bound
-use Rattle.uv_model.specs.declared.named.Counts.{Counts}
+use Rattle.uv_records.specs.declared.named.Calls.{Calls}
 use Rattle.uv_model.specs.declared.place.Place.{Place}
 use Rattle.uv_model.specs.State as state
-use Rattle.uv_model.specs.State.{State, with_named, counted}
+use Rattle.uv_model.specs.State.{State, with_named}
+use Rattle.uv_records.specs.Names.{counted}
 use Rattle.uv_model.specs.Ops.{bound_to}
-use Rattle.uv_step.specs.declared.named.Named.{Named}
-use Rattle.uv_step.specs.Names.{named, binding, calling, with_count, count_of}
+use Rattle.uv_records.specs.declared.named.Named.{Named}
+use Rattle.uv_records.specs.Names.{named, binding, calling, with_count, count_of}
 use Rattle.uv_step.specs.Image.{Image}
-use Rattle.uv_stands.specs.Contents.{named_of}
 use Rattle.uv_stands.specs.Stands.{StandsFor}
 use Rattle.uv_stands.proofs.Lists.{beside_lists}
 
--- ---- one list of names as the other
-
-pub named_as : (ns : List bound.Named) (v : ℕ) → named (map named_of ns) v ≡ named_of (unwrap_or (slice_get ns v) state.unbound)
-named_as [] v = refl
-named_as (n ∷ ns) zero = refl
-named_as (n ∷ ns) (suc v) = named_as ns v
-
--- what a name is bound to, and how often it was called
-pub named_there : (i : Image Place) (s : State) (v : Var) → StandsFor i s → named i.names v.0 ≡ named_of (state.named s v)
-named_there i s v h = ap (λ ns. named ns v.0) h.names ∙ named_as s.names v.0
-
--- how often a callback of a name was called
-counted_as : (k : Callback) (n : bound.Named) → count_of k (named_of n).calls ≡ state.count_of k n.calls
-counted_as callback.Handle n = refl
-counted_as callback.After n = refl
-counted_as callback.Close n = refl
-
-pub count_there : (i : Image Place) (s : State) (v : Var) (k : Callback) → StandsFor i s
-    → count_of k (named i.names v.0).calls ≡ state.count_of k (state.named s v).calls
-count_there i s v k h = ap (λ (n : Named). count_of k n.calls) (named_there i s v h) ∙ counted_as k (state.named s v)
-
--- one call more
-called_as : (k : Callback) (n : bound.Named)
-    → record { id = (named_of n).id; calls = with_count k (count_of k (named_of n).calls + 1) (named_of n).calls }
-    ≡ named_of (record n { calls = counted k n.calls })
-called_as callback.Handle n = refl
-called_as callback.After n = refl
-called_as callback.Close n = refl
-
--- the count after it
-pub count_after : (k : Callback) (c : Counts) → state.count_of k (counted k c) ≡ state.count_of k c + 1
+-- a count after one call more
+pub count_after : (k : Callback) (c : Calls) → count_of k (counted k c) ≡ count_of k c + 1
 count_after callback.Handle c = refl
 count_after callback.After c = refl
 count_after callback.Close c = refl
@@ -56,7 +26,7 @@ count_after callback.Close c = refl
 -- ---- what stands then
 
 -- other names, the same in the memory and in the state
-renamed : (i : Image Place) (s : State) (xs : List Named) (ns : List bound.Named) → xs ≡ map named_of ns → StandsFor i s
+renamed : (i : Image Place) (s : State) (xs ns : List Named) → xs ≡ ns → StandsFor i s
     → StandsFor (record i { names = xs }) (record s { names = ns })
 renamed i s xs ns same h = record {
   place = h.place;
@@ -79,25 +49,13 @@ renamed i s xs ns same h = record {
 
 pub bound_stands : (i : Image Place) (s : State) (v : Var) (d : Id) → StandsFor i s
     → StandsFor (record i { names = binding v.0 (Some d) i.names }) (bound_to s v d)
-bound_stands i s v d h =
-    let n = state.named s v in
-    let m : bound.Named = record n { id = Some d } in
-    renamed i s (binding v.0 (Some d) i.names) (set s.names v.0 m)
-    ((λ l. set (h.names l) v.0 (let z : Named = record { id = Some d; calls = ((named_there i s v h) l).calls } in z))
-    ∙ sym (map-set named_of s.names v.0 m)) h
+bound_stands i s v d h = renamed i s _ _ (ap (binding v.0 (Some d)) h.names) h
 
 -- one of a name's callbacks is called
 pub called_stands : (i : Image Place) (s : State) (v : Var) (k : Callback) → StandsFor i s
     → StandsFor (record i { names = calling v.0 k (count_of k (named i.names v.0).calls + 1) i.names })
     (with_named s v (record (state.named s v) { calls = counted k (state.named s v).calls }))
-called_stands i s v k h =
-    let n = state.named s v in
-    let m : bound.Named = record n { calls = counted k n.calls } in
-    let one : Named → Named = λ x. record { id = x.id; calls = with_count k (count_of k x.calls + 1) x.calls } in
-    renamed i s (calling v.0 k (count_of k (named i.names v.0).calls + 1) i.names) (set s.names v.0 m)
-    ((λ l. set (h.names l) v.0 (one (named_there i s v h l)))
-    ∙ ap (λ x. set (map named_of s.names) v.0 x) (called_as k n)
-    ∙ sym (map-set named_of s.names v.0 m)) h
+called_stands i s v k h = renamed i s _ _ (ap (λ ns. calling v.0 k (count_of k (named ns v.0).calls + 1) ns) h.names) h
 
 -- the place and the single values, with what each is in the state
 pub valued : (i : Image Place) (s : State) (place : Place) (time clock next : ℕ) (stop idled : Bool) → StandsFor i s

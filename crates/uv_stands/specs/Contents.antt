@@ -1,4 +1,4 @@
--- What slots and names hold in a loop's memory, by what they hold in a state.
+-- What slots hold in a loop's memory, by what they hold in a state.
 use Rattle.std.specs.Prelude.{map, option_map}
 use Rattle.uv_records.specs.declared.slot.Slot.{Slot}
 use Rattle.uv_records.specs.Slots.{Slots}
@@ -7,10 +7,8 @@ use Rattle.uv_work.specs.Requests.{Request}
 use Rattle.uv_model.specs.declared.request.Request as queued
 use Rattle.uv_model.specs.declared.content.Content as content
 use Rattle.uv_model.specs.declared.content.Content.TheVariants as holds
-use Rattle.uv_model.specs.declared.named.Named as bound
 use Rattle.uv_step.specs.declared.content.Content.{Content}
 use Rattle.uv_step.specs.declared.content.Content.TheVariants.{Handle, Request as Asked}
-use Rattle.uv_step.specs.declared.named.Named.{Named}
 
 -- a request: the rounds and the text of its task are those of its job
 abbrev pub request_of : queued.Request → Request
@@ -26,7 +24,3 @@ slot_of s = record { generation = s.generation; content = option_map content_of 
 -- slots with their generations, the free list, and how many were never used
 abbrev pub slots_of : Slots content.Content → Slots Content
 slots_of s = record { slots = map slot_of s.slots; free = s.free; unused = s.unused }
-
--- what a name is bound to, and how often its callbacks were called
-abbrev pub named_of : bound.Named → Named
-named_of n = record { id = n.id; calls = record { handle = n.calls.handle; after = n.calls.after; close = n.calls.close } }

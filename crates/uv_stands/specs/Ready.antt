@@ -11,7 +11,7 @@ use Rattle.uv_model.specs.Bounds.{line_of}
 use Rattle.uv_step.specs.Content.{handle_in}
 use Rattle.uv_step.specs.Fit.{IsFit}
 use Rattle.uv_step.specs.Image.{Held}
-use Rattle.uv_step.specs.Names.{named, count_of}
+use Rattle.uv_records.specs.Names.{named, count_of}
 
 pub record IsReady (h : Held Place) : Type 0 where
   pub fit : IsFit h.image

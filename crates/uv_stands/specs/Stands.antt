@@ -17,7 +17,7 @@ use Rattle.uv_model.specs.State.{State}
 use Rattle.uv_model.specs.Queries.{members}
 use Rattle.uv_step.specs.declared.content.Content.{Content}
 use Rattle.uv_step.specs.Image.{Image}
-use Rattle.uv_stands.specs.Contents.{slots_of, named_of}
+use Rattle.uv_stands.specs.Contents.{slots_of}
 
 -- when the timer of an entry is due, and its id
 abbrev pub timer_in : arena.Image Content → Entry → Due × Id
@@ -32,7 +32,7 @@ pub record AreTimers (a : arena.Image Content) (heap : List Entry) (timers : Lis
 pub record StandsFor (i : Image Place) (s : State) : Type 0 where
   -- the place, the names and the single values are the state's
   pub place : i.place ≡ s.place
-  pub names : i.names ≡ map named_of s.names
+  pub names : i.names ≡ s.names
   pub time : i.times.time ≡ s.time
   pub clock : i.clock ≡ s.clock
   pub next_start : i.times.next_start ≡ s.next_start

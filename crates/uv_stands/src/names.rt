@@ -6,7 +6,7 @@ ghost use Rattle.uv_handle.specs.Counted.{record_at};
 ghost use Rattle.uv_step.specs.Content.{handle_in};
 ghost use Rattle.uv_step.specs.Fit.{IsFit};
 ghost use Rattle.uv_step.specs.Image.{held};
-ghost use Rattle.uv_step.specs.Names.{named, binding, calling, count_of};
+ghost use Rattle.uv_records.specs.Names.{named, binding, calling, count_of};
 ghost use Rattle.uv_step.specs.Undo.{CanUnwind, Extended};
 ghost use Rattle.uv_stands.specs.Asking.{Asked};
 ghost use Rattle.uv_stands.specs.Stands.{StandsFor};
@@ -22,8 +22,7 @@ use uv_step::Memory;
 pub fn bound_id(memory: &Memory<Place>, name: Var) -> Option<Id>
     ensures { result ≡ (named (held memory.now).image.names name.0).id }
 {
-    let named = memory.names.get(name.0 as usize)?;
-    named.id
+    memory.named(name).id
 }
 
 /// The handle of a name, for an op on handles: ESTALE if the name isn't live, EKIND if it is a request's.
@@ -92,7 +91,7 @@ pub fn call_name(memory: &mut Memory<Place>, name: Var, callback: Callback) -> u
     if name.0 as usize >= memory.names.len() {
         return 1;
     }
-    let count = memory.names[name.0 as usize].calls.of(callback) + 1;
+    let count = memory.named(name).calls.of(callback) + 1;
     memory.count_call(name, callback);
     count
 }

@@ -20,9 +20,9 @@ use Rattle.uv_step.specs.declared.record.Change.TheVariants as change
 use Rattle.uv_step.specs.declared.record.Naming.{Naming}
 use Rattle.uv_step.specs.declared.record.Naming.TheVariants as naming
 use Rattle.uv_step.specs.declared.record.Record.{Record}
-use Rattle.uv_step.specs.declared.named.Calls.{Calls}
-use Rattle.uv_step.specs.declared.named.Named.{Named}
-use Rattle.uv_step.specs.Names.{count_of, with_count, named, binding, calling}
+use Rattle.uv_records.specs.declared.named.Calls.{Calls}
+use Rattle.uv_records.specs.declared.named.Named.{Named}
+use Rattle.uv_records.specs.Names.{count_of, with_count, named, binding, calling}
 use Rattle.uv_arena.specs.Image as arena
 use Rattle.uv_handle.specs.Counted.{alive_count}
 use Rattle.uv_requests.specs.Working.{working, idle_workers, IsWork}

@@ -7,9 +7,9 @@ use Rattle.uv_timer.specs.Timed.{Timed}
 use Rattle.uv_requests.specs.Working.{Running, Working, working, idle_workers}
 use Rattle.uv_arena.specs.Image as arena
 use Rattle.uv_step.specs.declared.content.Content.{Content}
-use Rattle.uv_step.specs.declared.named.Named.{Named}
+use Rattle.uv_records.specs.declared.named.Named.{Named}
 use Rattle.uv_step.specs.declared.memory.Memory.{Memory}
-use Rattle.uv_step.specs.Names.{unbound}
+use Rattle.uv_records.specs.Names.{unbound}
 
 pub record Image (P : Type 0) : Type 0 where
   -- where the loop stands

@@ -1,7 +1,6 @@
 pub mod Content
 pub mod Fit
 pub mod Image
-pub mod Names
 pub mod Parts
 pub mod Undo
 pub mod Does

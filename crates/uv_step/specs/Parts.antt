@@ -23,7 +23,7 @@ use Rattle.uv_step.specs.declared.record.Change.{Change}
 use Rattle.uv_step.specs.declared.record.Change.TheVariants as change
 use Rattle.uv_step.specs.declared.record.Record.{Record}
 use Rattle.uv_step.specs.Content.{request_in}
-use Rattle.uv_step.specs.Names.{binding, calling}
+use Rattle.uv_records.specs.Names.{binding, calling}
 use Rattle.uv_step.specs.Image.{Image}
 
 -- one thing that a step changed, with what it was before

@@ -7,12 +7,12 @@ ghost use Rattle.uv_step.specs.Fit.{IsFit};
 ghost use Rattle.uv_step.specs.Does.{changed};
 
 use crate::content::Content;
-use crate::named::Named;
 use crate::record::{Change, Naming, Record};
 use std::alloc::{AllocError, Global};
 use uv_arena::Slots;
 use uv_handle::Handles;
 use uv_heap::TimerHeap;
+use uv_records::Named;
 use uv_requests::{Requests, fresh_requests};
 use uv_timer::Times;
 

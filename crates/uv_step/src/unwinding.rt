@@ -9,12 +9,11 @@ ghost use Rattle.uv_step.specs.Does.{moved_by, closed_by, ended_by};
 
 use crate::content::Content;
 use crate::memory::Memory;
-use crate::named::Named;
 use crate::record::{Added, Change, Naming, Record};
 use uv_arena::PushUndo;
 use uv_handle::{DelistUndo, ListUndo, RecordUndo};
 use uv_ids::{Id, Var};
-use uv_records::HandleRecord;
+use uv_records::{HandleRecord, Named};
 use uv_requests::{CancelUndo, FinishUndo, QueueUndo};
 use uv_timer::{CollectUndo, TimerParts, TimerUndo, undo_collect_one, undo_reschedule};
 use uv_watch::{WalkUndo, undo_take};
@@ -46,7 +45,7 @@ impl<P: Copy> Memory<P> {
             Naming::Unbound(name) => self.rebind(name, None),
             Naming::Bound(name, id) => self.rebind(name, Some(id)),
             Naming::Called(name, callback, count) => {
-                let named = self.names[name.0 as usize];
+                let named = self.named(name);
                 let calls = named.calls.with(callback, count);
                 self.names[name.0 as usize] = Named {
                     id: named.id,
@@ -63,7 +62,7 @@ impl<P: Copy> Memory<P> {
         ensures room { (held self.new).room ≡ (held self.old).room }
         ensures pieces { self.new.slots.room ≡ self.old.slots.room }
     {
-        let calls = self.names[name.0 as usize].calls;
+        let calls = self.named(name).calls;
         self.names[name.0 as usize] = Named { id, calls };
     }
 

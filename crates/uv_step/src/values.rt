@@ -1,15 +1,15 @@
 //! The clock, the loop's time, what names are bound to and how often they were called, and where the loop stands.
 ghost use Rattle.std.specs.Prelude.{◌≡◌, ◌<◌, ◌+◌, ◌^◌, ◌-◌, length, Option, Some, None, false, IfOk, IfErr};
 ghost use Rattle.uv_step.specs.declared.record.Naming.TheVariants.{Same as same};
-ghost use Rattle.uv_step.specs.Names.{count_of, named, binding, calling};
+ghost use Rattle.uv_records.specs.Names.{count_of, named, binding, calling};
 ghost use Rattle.uv_step.specs.Image.{held, standing};
 ghost use Rattle.uv_step.specs.Fit.{IsFit};
 ghost use Rattle.uv_step.specs.Undo.{Recorded, CanUnwind, Extended};
 
 use crate::memory::Memory;
-use crate::named::Named;
 use crate::record::{Change, Naming, Record};
 use uv_ids::{Callback, Id, Var};
+use uv_records::Named;
 
 impl<P: Copy> Memory<P> {
     /// The clock goes on by so many ms.
@@ -92,6 +92,16 @@ impl<P: Copy> Memory<P> {
         self.place = place;
     }
 
+    /// What a name is bound to, and how often its callbacks were called.
+    pub fn named(&self, name: Var) -> Named
+        ensures { result ≡ named (held self.now).image.names name.0 }
+    {
+        self.names
+            .get(name.0 as usize)
+            .copied()
+            .unwrap_or(Named::unbound())
+    }
+
     /// The last step binds a name to this as well.
     pub fn bind(&mut self, name: Var, id: Option<Id>)
         requires can { CanUnwind (held self.old).room self.old.step_record (held self.old).image }
@@ -101,7 +111,7 @@ impl<P: Copy> Memory<P> {
         ensures image { (held self.new).image ≡ record (held self.old).image { names = binding name.0 id (held self.old).image.names } }
         ensures extended { Extended self.old.step_record self.new.step_record (held self.old) (held self.new) }
     {
-        let named = self.names[name.0 as usize];
+        let named = self.named(name);
         self.names[name.0 as usize] = Named {
             id,
             calls: named.calls,
@@ -121,7 +131,7 @@ impl<P: Copy> Memory<P> {
         } }
         ensures extended { Extended self.old.step_record self.new.step_record (held self.old) (held self.new) }
     {
-        let named = self.names[name.0 as usize];
+        let named = self.named(name);
         let count = named.calls.of(callback);
         self.names[name.0 as usize] = Named {
             id: named.id,

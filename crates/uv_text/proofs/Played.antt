@@ -11,9 +11,10 @@ use Rattle.uv_script.specs.Program.{Program, arena_size, worker_count, IsSlotCou
 use Rattle.uv_script.specs.Words.{IsName}
 use Rattle.uv_records.specs.declared.slot.Slot.{Slot}
 use Rattle.uv_model.specs.declared.content.Content.{Content}
-use Rattle.uv_model.specs.declared.named.Named.{Named}
+use Rattle.uv_records.specs.declared.named.Named.{Named}
 use Rattle.uv_model.specs.Bounds.{CanStep}
-use Rattle.uv_model.specs.State.{State, fresh, unbound}
+use Rattle.uv_model.specs.State.{State, fresh}
+use Rattle.uv_records.specs.Names.{unbound}
 use Rattle.uv_model.specs.Next.{Next, Moves, Refuses, next}
 use Rattle.uv_model.specs.After.{after, seen_from, seen_by, state_of, seen_of, AcceptsFrom, Accepts, STEPS}
 use Rattle.uv_model.proofs.Bounded.{after_able}

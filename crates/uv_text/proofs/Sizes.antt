@@ -43,7 +43,7 @@ use Rattle.uv_work.proofs.DigestBytes.{IsDigest, is_digest}
 use Rattle.uv_model.specs.declared.limits.TheConstants.{LATEST}
 use Rattle.uv_model.specs.declared.content.Content.{Content}
 use Rattle.uv_model.specs.declared.content.Content.TheVariants as content
-use Rattle.uv_model.specs.declared.named.Named.{Named}
+use Rattle.uv_records.specs.declared.named.Named.{Named}
 use Rattle.uv_model.specs.declared.place.Body.{Body}
 use Rattle.uv_model.specs.declared.place.Run.{Run}
 use Rattle.uv_model.specs.declared.place.Stage.{Stage}
@@ -61,7 +61,8 @@ use Rattle.uv_model.specs.declared.request.Request.{Request}
 use Rattle.uv_model.specs.Bounds.{CanStep}
 use Rattle.uv_model.specs.Content.{handle_in, request_in, queued, digest_in}
 use Rattle.uv_model.specs.Ids.{same_id}
-use Rattle.uv_model.specs.State.{State, named, with_handle, with_id, with_named, live, live_handle, live_request, front, front_request, watched, with_watched, refreshed, counted}
+use Rattle.uv_model.specs.State.{State, named, with_handle, with_id, with_named, live, live_handle, live_request, front, front_request, watched, with_watched, refreshed}
+use Rattle.uv_records.specs.Names.{counted}
 use Rattle.uv_model.specs.Timers.{stopped, started, restarted}
 use Rattle.uv_model.specs.Ops as ops
 use Rattle.uv_model.specs.Ops.{do_op}

@@ -21,8 +21,8 @@ use Rattle.uv_work.specs.declared.outcome.Outcome.TheVariants as outcome
 use Rattle.uv_model.specs.declared.content.Content.{Content}
 use Rattle.uv_model.specs.declared.content.Content.TheVariants as content
 use Rattle.uv_model.specs.declared.request.Request.{Request}
-use Rattle.uv_model.specs.declared.named.Counts.{Counts}
-use Rattle.uv_model.specs.declared.named.Named.{Named}
+use Rattle.uv_records.specs.declared.named.Calls.{Calls}
+use Rattle.uv_records.specs.declared.named.Named.{Named}
 use Rattle.uv_model.specs.declared.numbers.Numbers.{Numbers}
 use Rattle.uv_model.specs.declared.place.Body.{Body}
 use Rattle.uv_model.specs.declared.place.Place.{Place}
@@ -98,7 +98,7 @@ bound_text (Some id) = id_text id
 bound_text None = codes "none"
 
 -- how often its callbacks were called
-abbrev pub counts_text : Counts → List ℕ
+abbrev pub counts_text : Calls → List ℕ
 counts_text c = numbered (codes " ") c.handle ++ numbered (codes " ") c.after ++ numbered (codes " ") c.close
 
 abbrev pub name_line : Program → Var → Named → List ℕ

@@ -13,9 +13,9 @@ use crate::trace::{push_id, push_timeout};
 use std::alloc::{AllocError, Global};
 use uv_ids::{Callback, Fault, Id, Kind, Var};
 use uv_model::{
-    Body, Content, Counts, Machine, Named, Numbers, Place, Request, Run, Stage, TimersOf, Timing,
+    Body, Content, Machine, Numbers, Place, Request, Run, Stage, TimersOf, Timing,
 };
-use uv_records::{HandleRecord, ListName};
+use uv_records::{Calls, HandleRecord, ListName, Named};
 use uv_script::{Script, push_number, push_task_text};
 use uv_session::Session;
 use uv_work::Outcome;
@@ -247,7 +247,7 @@ fn push_bound(text: &mut Vec<u8>, id: Option<Id>) -> Result<(), AllocError>
     }
 }
 
-fn push_counts(text: &mut Vec<u8>, counts: Counts) -> Result<(), AllocError>
+fn push_counts(text: &mut Vec<u8>, counts: Calls) -> Result<(), AllocError>
     ensures { OnOk result (text.new.items ≡ text.old.items ++ counts_text counts) }
 {
     push_numbered(text, " ", u64::from(counts.handle))?;

@@ -33,7 +33,7 @@ use Rattle.uv_step.specs.Fit.{IsFit}
 use Rattle.uv_step.specs.Image.{Image, Held, timed_of, with_timed, standing}
 use Rattle.uv_step.specs.Undo.{Recorded}
 use Rattle.uv_step.proofs.Rows.{unwind_apart, timer_back, moved_back}
-use Rattle.uv_stands.specs.Contents.{slot_of, slots_of, named_of}
+use Rattle.uv_stands.specs.Contents.{slot_of, slots_of}
 use Rattle.uv_stands.specs.Stands.{StandsFor, AreTimers, timer_in}
 use Rattle.uv_stands.proofs.Holding.{map_same}
 use Rattle.uv_stands.proofs.Lists.{Listed}
@@ -106,7 +106,7 @@ retimed_stands : (i : Image Place) (s t : State) (c : Timed Content) → StandsF
     → IsWhole (retimed i c) → StandsFor (retimed i c) t
 retimed_stands i s t c h only now whole = record {
   place = h.place ∙ sym only.place;
-  names = h.names ∙ ap (map named_of) (sym only.names);
+  names = h.names ∙ sym only.names;
   time = now.time ∙ sym only.time;
   clock = h.clock ∙ sym only.clock;
   next_start = now.next_start;

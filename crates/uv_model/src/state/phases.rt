@@ -10,13 +10,12 @@ ghost use Rattle.uv_model.specs.Steps.{Steps, Falls};
 
 use crate::bodies::body_from;
 use crate::machine::Outcome;
-use crate::named::Named;
 use crate::place::{Body, Place, Run, Stage, TimersOf, Timing, Turn, Way};
 use crate::state::LoopState;
 use crate::turns::way;
 use std::alloc::AllocError;
 use uv_ids::{Callback, Event, Fault, Id, Mode, Order, Phase, Seen, Site, Var, Why};
-use uv_records::{HandleRecord, WatcherKind};
+use uv_records::{HandleRecord, Named, WatcherKind};
 use uv_script::{MainOp, Script};
 use uv_work::WorkResult;
 
@@ -130,6 +129,7 @@ impl LoopState {
     }
 
     /// Begins a callback, with its line: one call more of its name.
+    #[tactic(auto, using(crate::proofs::Calls::count_below))]
     pub(super) fn calls(
         &mut self,
         script: &Script,

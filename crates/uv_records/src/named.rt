@@ -1,11 +1,11 @@
-//! What the names of a loop are bound to, and how often their callbacks were called.
-ghost use Rattle.std.specs.Prelude.{◌≡◌};
-ghost use Rattle.uv_step.specs.Names.{count_of, with_count, unbound};
+//! What a loop's names are bound to, and how often their callbacks were called.
+ghost use Rattle.std.specs.Prelude.{◌≡◌, ◌<◌, ◌^◌, ◌-◌};
+ghost use Rattle.uv_records.specs.Names.{count_of, with_count, counted, unbound};
 
 use uv_ids::{Callback, Id};
 
 /// How often each callback of a name was called.
-#[derive(Clone, Copy)]
+#[derive(Clone, Copy, PartialEq, Eq)]
 pub struct Calls {
     /// That of its handle.
     pub handle: u32,
@@ -46,10 +46,18 @@ impl Calls {
             },
         }
     }
+
+    /// One call more.
+    pub fn counted(self, callback: Callback) -> Calls
+        requires { count_of callback self < 2 ^ 32 - 1 }
+        ensures { result ≡ counted callback self }
+    {
+        self.with(callback, self.of(callback) + 1)
+    }
 }
 
 /// What a name is bound to, and how often its callbacks were called.
-#[derive(Clone, Copy)]
+#[derive(Clone, Copy, PartialEq, Eq)]
 pub struct Named {
     /// What the last handle or request made under the name got as its id. It stays when the slot is freed.
     pub id: Option<Id>,
