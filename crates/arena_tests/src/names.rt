@@ -1,5 +1,5 @@
 //! Names are bound and their calls counted, and both are taken back.
-ghost use Rattle.std.specs.Prelude.{IfSome};
+ghost use Rattle.std.specs.Prelude.{IsTrue};
 ghost use Rattle.uv_step.specs.Image.{held};
 ghost use Rattle.uv_step.specs.Fit.{IsFit};
 ghost use Rattle.uv_step.specs.Undo.{CanUnwind};
@@ -7,37 +7,37 @@ ghost use Rattle.uv_step.specs.Undo.{CanUnwind};
 use std::alloc::{AllocError, Global};
 use std::test::Fail;
 use uv_ids::{Callback, Id, Var};
-use uv_step::{Memory, Record};
+use uv_step::Memory;
 
-/// Binds a name, where there is such a name: the step stands at 7 besides.
-fn bind(memory: &mut Memory<u32>, name: Var, id: Id) -> Option<Record<u32>>
+/// Binds a name, if there is such a name: the step stands at 7 besides.
+fn bind(memory: &mut Memory<u32>, name: Var, id: Id) -> bool
     requires fit { IsFit (held memory.old).image }
-    ensures can { IfSome result (λ r. CanUnwind (held memory.new).room r (held memory.new).image) }
+    ensures can { IsTrue result → CanUnwind (held memory.new).room memory.new.step_record (held memory.new).image }
     ensures fit { IsFit (held memory.new).image }
 {
     if name.0 as usize >= memory.names.len() {
-        return None;
+        return false;
     }
-    memory.step_record = memory.pass();
+    memory.step_record.pass(memory.place);
     memory.stand_at(7);
     memory.bind(name, Some(id));
-    Some(memory.step_record)
+    true
 }
 
-/// Counts a call of a name, where there is such a name.
-fn count(memory: &mut Memory<u32>, name: Var) -> Option<Record<u32>>
+/// Counts a call of a name, if there is such a name.
+fn count(memory: &mut Memory<u32>, name: Var) -> bool
     requires fit { IsFit (held memory.old).image }
-    ensures can { IfSome result (λ r. CanUnwind (held memory.new).room r (held memory.new).image) }
+    ensures can { IsTrue result → CanUnwind (held memory.new).room memory.new.step_record (held memory.new).image }
     ensures fit { IsFit (held memory.new).image }
 {
     if name.0 as usize >= memory.names.len()
         || memory.names[name.0 as usize].calls.close == u32::MAX
     {
-        return None;
+        return false;
     }
-    memory.step_record = memory.pass();
+    memory.step_record.pass(memory.place);
     memory.count_call(name, Callback::Close);
-    Some(memory.step_record)
+    true
 }
 
 /// Whether the loop stands here, and a name is bound to this and its close callback was called so often.
@@ -56,14 +56,14 @@ fn names_go_and_come_back(alloc: Global) -> Result<bool, AllocError> {
     };
     let mut memory = Memory::new(alloc, 0, 2, 4, 9, 1)?;
     let mut right = is_named(&memory, 0, None, 0);
-    if let Some(bound) = bind(&mut memory, Var(1), id) {
+    if bind(&mut memory, Var(1), id) {
         right = right && is_named(&memory, 7, Some(id), 0);
-        memory.unwind(&bound);
+        memory.unwind();
     }
     right = right && is_named(&memory, 0, None, 0);
-    if let Some(called) = count(&mut memory, Var(1)) {
+    if count(&mut memory, Var(1)) {
         right = right && is_named(&memory, 0, None, 1);
-        memory.unwind(&called);
+        memory.unwind();
     }
     Ok(right && is_named(&memory, 0, None, 0))
 }

@@ -7,7 +7,7 @@ use uv_handle::RecordUndo;
 use uv_ids::{Kind, Var};
 use uv_records::HandleRecord;
 use uv_requests::CollectWorkUndo;
-use uv_step::{Change, Naming, Record};
+use uv_step::{Large, LastStep, Medium, Naming};
 use uv_trail::Trail;
 use uv_watch::WalkUndo;
 use uv_work::RequestRecord;
@@ -19,34 +19,32 @@ const PLACE: ChainPlace = ChainPlace {
     after: Some(9),
 };
 
-fn record(place: u64, change: Change) -> Record<u64> {
-    Record {
-        place,
-        naming: Naming::Unbound(Var(2)),
-        change,
-    }
-}
-
 /// A handle was called, and lies in the head of its step.
-fn called() -> Change {
-    Change::Walked(WalkUndo {
-        unlinked: PLACE,
-        pushed: PushUndo { slot: 7 },
-        woken: None,
-    })
+fn called(last: &mut LastStep<u64>, place: u64) {
+    last.note_walked(
+        place,
+        WalkUndo {
+            unlinked: PLACE,
+            pushed: PushUndo { slot: 7 },
+            woken: None,
+        },
+    );
 }
 
 /// A handle got another record, which was this.
-fn edited() -> Change {
-    Change::Edited(RecordUndo {
-        slot: 7,
-        active: 4,
-        old: HandleRecord::new(Var(5), Kind::Check),
-    })
+fn edited(last: &mut LastStep<u64>, place: u64) {
+    last.note_medium(
+        place,
+        Medium::Edited(RecordUndo {
+            slot: 7,
+            active: 4,
+            old: HandleRecord::new(Var(5), Kind::Check),
+        }),
+    );
 }
 
 /// A request was freed.
-fn ended() -> Change {
+fn ended(last: &mut LastStep<u64>, place: u64) {
     let collected = CollectWorkUndo {
         unlinked: PLACE,
         count: 6,
@@ -55,36 +53,38 @@ fn ended() -> Change {
             retired: true,
         },
     };
-    match RequestRecord::new(Var(1), 1, b"abc") {
-        None => Change::Nothing,
-        Some(request) => Change::Ended(collected, request),
+    if let Some(request) = RequestRecord::new(Var(1), 1, b"abc") {
+        last.note_large(place, Large::Ended(collected, request));
     }
 }
 
 /// A record more is there.
-fn push<R: Abort>(rt: &R, trail: &mut Trail<u64>, step_record: Record<u64>) {
+fn push<R: Abort>(rt: &R, trail: &mut Trail<u64>, last: &mut LastStep<u64>) {
+    last.rename(Naming::Unbound(Var(2)));
     trail.reserve().expect(rt, "there is memory");
-    trail.push(&step_record);
+    trail.push(last);
 }
 
 /// The last record is that of this place, and named as all are.
-fn pops(trail: &mut Trail<u64>, place: u64) -> bool {
-    match trail.pop() {
-        Some(last) => last.place == place && matches!(last.naming, Naming::Unbound(Var(2))),
-        None => false,
-    }
+fn pops(trail: &mut Trail<u64>, last: &mut LastStep<u64>, place: u64) -> bool {
+    trail.pop(last) && last.place() == place && matches!(last.naming(), Naming::Unbound(Var(2)))
 }
 
 #[test]
 fn records_lie_in_rows(rt: HostRuntime) {
     let mut trail = Trail::new(rt.alloc());
-    assert!(rt; trail.pop().is_none());
-    push(&rt, &mut trail, record(1, called()));
-    push(&rt, &mut trail, record(2, edited()));
-    push(&rt, &mut trail, record(3, ended()));
-    push(&rt, &mut trail, record(4, called()));
+    let mut last = LastStep::new(0);
+    assert!(rt; !trail.pop(&mut last));
+    called(&mut last, 1);
+    push(&rt, &mut trail, &mut last);
+    edited(&mut last, 2);
+    push(&rt, &mut trail, &mut last);
+    ended(&mut last, 3);
+    push(&rt, &mut trail, &mut last);
+    called(&mut last, 4);
+    push(&rt, &mut trail, &mut last);
     assert!(rt; trail.len() == 4);
-    assert!(rt; pops(&mut trail, 4) && pops(&mut trail, 3));
-    assert!(rt; pops(&mut trail, 2) && pops(&mut trail, 1));
+    assert!(rt; pops(&mut trail, &mut last, 4) && pops(&mut trail, &mut last, 3));
+    assert!(rt; pops(&mut trail, &mut last, 2) && pops(&mut trail, &mut last, 1));
     assert!(rt; trail.len() == 0);
 }

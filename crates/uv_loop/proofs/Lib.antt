@@ -9,3 +9,4 @@ pub mod Events
 pub mod Refusing
 pub mod Takes
 pub mod Finishes
+mod Popped

@@ -110,11 +110,8 @@ impl Machine for ArenaLoop {
         if self.steps.is_empty() {
             return Ok(false);
         }
-        let last = self.steps.pop();
-        match &last {
-            Some(step_record) => self.memory.unwind(step_record),
-            None => unreachable!(),
-        }
+        self.steps.pop(&mut self.memory.step_record);
+        self.memory.unwind();
         Ok(true)
     }
 

@@ -1,10 +1,10 @@
 //! The steps that stand.
-ghost use Rattle.std.specs.Prelude.{◌≡◌, ◌<◌, ◌++◌, [], OnOk, IfNone, IsTrue, IsFalse, length, option_to_list, take};
+ghost use Rattle.std.specs.Prelude.{◌≡◌, ◌<◌, ◌++◌, ◌∷◌, [], OnOk, IsTrue, IsFalse, length, take};
 ghost use Rattle.uv_loop.specs.Taken.{HasRoom, AreSame, IsOneMore};
 
 use std::alloc::{AllocError, Global};
 use uv_ids::Seen;
-use uv_step::Record;
+use uv_step::LastStep;
 use uv_trail::Trail;
 
 /// The steps that stand: what each appended to the trace, which tells its event, and what takes it back.
@@ -37,12 +37,12 @@ impl<P: Copy> Steps<P> {
     }
 
     /// One more. It takes no memory.
-    pub(crate) fn push(&mut self, line: Option<Seen>, step_record: &Record<P>)
+    pub(crate) fn push(&mut self, line: Option<Seen>, last: &LastStep<P>)
         requires { HasRoom self.old }
-        ensures { IsOneMore self.old self.new line step_record.now }
+        ensures { IsOneMore self.old self.new line last.now }
     {
         self.seen.push_reserved(line);
-        self.trail.push(step_record);
+        self.trail.push(last);
     }
 
     pub(crate) fn is_empty(&self) -> bool
@@ -52,14 +52,13 @@ impl<P: Copy> Steps<P> {
         self.trail.len() == 0
     }
 
-    /// The last one goes, if there is one: what takes it back.
-    pub(crate) fn pop(&mut self) -> Option<Record<P>>
-        ensures records { self.old.trail.records ≡ self.new.trail.records ++ option_to_list result }
+    /// The last one of some goes: this takes it back.
+    pub(crate) fn pop(&mut self, last: &mut LastStep<P>)
+        requires { 0 < length self.old.trail.records }
+        ensures records { self.old.trail.records ≡ self.new.trail.records ++ last.new ∷ [] }
         ensures seen { self.new.seen.items ≡ take (length self.new.trail.records) self.old.seen.items }
-        ensures none { IfNone result (self.old.trail.records ≡ []) }
     {
-        let last = self.trail.pop();
+        self.trail.pop(last);
         self.seen.truncate(self.trail.len());
-        last
     }
 }

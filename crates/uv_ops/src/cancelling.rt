@@ -20,12 +20,12 @@ pub fn cancel(memory: &mut Memory<Place>, name: Var) -> Answer
 {
     match bound_id(memory, name) {
         None => {
-            memory.step_record = memory.pass();
+            memory.step_record.pass(memory.place);
             Answer::Code(Code::Estale)
         }
         Some(id) => match memory.cancel(id) {
             Err(code) => {
-                memory.step_record = memory.pass();
+                memory.step_record.pass(memory.place);
                 Answer::Code(code)
             }
             Ok(()) => {

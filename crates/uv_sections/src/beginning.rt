@@ -122,10 +122,10 @@ fn refresh_in(memory: &mut Memory<Place>, order: Order, mode: Mode)
         → StandsFor (held memory.new).image (if refreshes order mode then refreshed s else s) }
 {
     match order {
-        Order::V144 => memory.step_record = memory.pass(),
+        Order::V144 => memory.step_record.pass(memory.place),
         Order::V145 => match mode {
             Mode::Default => refresh(memory),
-            Mode::Once | Mode::Nowait => memory.step_record = memory.pass(),
+            Mode::Once | Mode::Nowait => memory.step_record.pass(memory.place),
         },
     }
 }

@@ -57,7 +57,7 @@ fn set_for_timers(memory: &mut Memory<Place>, order: Order, part: TimersOf)
 {
     match (order, part) {
         (Order::V144, TimersOf::Entry) => memory.begin_iteration(),
-        (Order::V145, TimersOf::Entry) => memory.step_record = memory.pass(),
+        (Order::V145, TimersOf::Entry) => memory.step_record.pass(memory.place),
         (_, TimersOf::Iteration) => memory.update_time(),
     }
 }
@@ -82,7 +82,7 @@ fn note_idle(memory: &mut Memory<Place>, order: Order)
         (λ s. StandsFor (held memory.new).image (record s { idled = idled_then order s })) }
 {
     match order {
-        Order::V144 => memory.step_record = memory.pass(),
+        Order::V144 => memory.step_record.pass(memory.place),
         Order::V145 => {
             let idled = has_members(memory, ListName::Idle);
             memory.set_idled(idled);

@@ -33,7 +33,7 @@ pub fn begin_poll(memory: &mut Memory<Place>, run: Run) -> Seen
 {
     let timeout = poll_timeout(memory, run.mode);
     let deadline = deadline_of(memory, timeout);
-    memory.step_record = memory.pass();
+    memory.step_record.pass(memory.place);
     stand_in(memory, run, Stage::Poll(deadline));
     Seen::Poll(timeout)
 }

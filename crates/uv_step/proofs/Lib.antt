@@ -6,3 +6,4 @@ pub mod Rows
 pub mod Steps
 pub mod Trails
 pub mod Rooms
+pub mod Laid

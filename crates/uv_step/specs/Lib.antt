@@ -5,3 +5,4 @@ pub mod Parts
 pub mod Undo
 pub mod Does
 pub mod Trail
+pub mod Lies

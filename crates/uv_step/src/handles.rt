@@ -11,8 +11,10 @@ ghost use Rattle.uv_step.specs.Fit.{IsFit};
 ghost use Rattle.uv_step.specs.Undo.{Recorded};
 ghost use Rattle.uv_step.specs.Does.{By, IsMade, IsShut, changed, moved_by};
 
+use crate::medium::Medium;
 use crate::memory::Memory;
-use crate::record::{Added, Change};
+use crate::record::Added;
+use crate::small::Small;
 use uv_arena::InsertFault;
 use uv_ids::{Id, Kind, Var};
 use uv_records::{HandleRecord, ListName};
@@ -35,10 +37,12 @@ impl<P: Copy> Memory<P> {
                 if kind == Kind::Async {
                     self.slots.push_back(ListName::Async, id);
                     let listed = true;
-                    self.step_record = self.record(Change::Added(Added { added, listed }));
+                    self.step_record
+                        .note_small(self.place, Small::Added(Added { added, listed }));
                 } else {
                     let listed = false;
-                    self.step_record = self.record(Change::Added(Added { added, listed }));
+                    self.step_record
+                        .note_small(self.place, Small::Added(Added { added, listed }));
                 }
                 Ok(id)
             }
@@ -54,7 +58,8 @@ impl<P: Copy> Memory<P> {
             (counted_of (held self.old).image) (counted_of (held self.new).image) id from to u) self.new.step_record.change }
     {
         let undo = self.handles.change(&mut self.slots, id, from, to);
-        self.step_record = self.record(Change::Edited(undo));
+        self.step_record
+            .note_medium(self.place, Medium::Edited(undo));
     }
 
     /// Closes a handle: it is stopped, and goes to the front of the closing list (uv_close).
@@ -81,6 +86,6 @@ impl<P: Copy> Memory<P> {
             },
         );
         let pushed = self.slots.push_front(ListName::Closing, id);
-        self.step_record = self.record(Change::Moved(pushed, timer));
+        self.step_record.note_moved(self.place, pushed, timer);
     }
 }

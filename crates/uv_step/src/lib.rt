@@ -4,16 +4,26 @@
 
 mod content;
 mod handles;
+mod head;
+mod large;
+mod last;
 mod law;
+mod medium;
 mod memory;
 mod pool;
 mod record;
+mod small;
 mod timers;
 mod unwinding;
 mod values;
 mod watchers;
 
 pub use content::Content;
+pub use head::Head;
+pub use large::Large;
+pub use last::LastStep;
 pub use law::steps_unwind;
+pub use medium::Medium;
 pub use memory::Memory;
 pub use record::{Added, Change, Naming, Polled, Record};
+pub use small::Small;

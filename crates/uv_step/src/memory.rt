@@ -4,10 +4,9 @@ ghost use Rattle.uv_arena.specs.Image.{IsSound};
 ghost use Rattle.uv_heap.specs.Array.{IsHeap, SlotsDiffer};
 ghost use Rattle.uv_step.specs.Image.{held, fresh};
 ghost use Rattle.uv_step.specs.Fit.{IsFit};
-ghost use Rattle.uv_step.specs.Does.{changed};
 
 use crate::content::Content;
-use crate::record::{Change, Naming, Record};
+use crate::last::LastStep;
 use std::alloc::{AllocError, Global};
 use uv_arena::Slots;
 use uv_handle::Handles;
@@ -34,7 +33,7 @@ pub struct Memory<P: Copy> {
     /// An idle handle was active as the iteration began.
     pub idled: bool,
     /// The record of the last step that was done, which takes it back. It is no part of what a step changes.
-    pub step_record: Record<P>,
+    pub step_record: LastStep<P>,
 }
 
 impl<P: Copy> Memory<P> {
@@ -69,11 +68,7 @@ impl<P: Copy> Memory<P> {
             clock: 0,
             stop_flag: false,
             idled: false,
-            step_record: Record {
-                place,
-                naming: Naming::Same,
-                change: Change::Nothing,
-            },
+            step_record: LastStep::new(place),
         })
     }
 
@@ -105,16 +100,5 @@ impl<P: Copy> Memory<P> {
     {
         self.slots.is_sound();
         self.heap.is_sound();
-    }
-
-    /// The record of a change, where no name was touched.
-    pub(crate) fn record(&self, change: Change) -> Record<P>
-        ensures { result ≡ changed self.now.place change }
-    {
-        Record {
-            place: self.place,
-            naming: Naming::Same,
-            change,
-        }
     }
 }

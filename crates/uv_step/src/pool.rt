@@ -15,8 +15,11 @@ ghost use Rattle.uv_step.specs.Fit.{IsFit};
 ghost use Rattle.uv_step.specs.Undo.{Recorded};
 ghost use Rattle.uv_step.specs.Does.{By, ended_by};
 
+use crate::large::Large;
+use crate::medium::Medium;
 use crate::memory::Memory;
-use crate::record::{Change, Polled};
+use crate::record::Polled;
+use crate::small::Small;
 use uv_arena::InsertFault;
 use uv_ids::{Code, Id, Why};
 use uv_work::{RequestRecord, WorkResult};
@@ -36,7 +39,7 @@ impl<P: Copy> Memory<P> {
         match self.requests.queue(&mut self.slots, request) {
             Err(fault) => Err(fault),
             Ok((id, undo)) => {
-                self.step_record = self.record(Change::Queued(undo));
+                self.step_record.note_small(self.place, Small::Queued(undo));
                 Ok(id)
             }
         }
@@ -53,7 +56,7 @@ impl<P: Copy> Memory<P> {
         match self.requests.take(&mut self.slots, worker) {
             Err(why) => Err(why),
             Ok((id, undo)) => {
-                self.step_record = self.record(Change::Taken(undo));
+                self.step_record.note_small(self.place, Small::Taken(undo));
                 Ok(id)
             }
         }
@@ -71,7 +74,8 @@ impl<P: Copy> Memory<P> {
         match self.requests.finish(&mut self.slots, worker, work) {
             Err(why) => Err(why),
             Ok((id, undo)) => {
-                self.step_record = self.record(Change::Finished(undo));
+                self.step_record
+                    .note_small(self.place, Small::Finished(undo));
                 Ok(id)
             }
         }
@@ -89,7 +93,8 @@ impl<P: Copy> Memory<P> {
         match self.requests.cancel(&mut self.slots, id) {
             Err(code) => Err(code),
             Ok(undo) => {
-                self.step_record = self.record(Change::Cancelled(undo));
+                self.step_record
+                    .note_medium(self.place, Medium::Cancelled(undo));
                 Ok(())
             }
         }
@@ -104,7 +109,7 @@ impl<P: Copy> Memory<P> {
             (working_of (held self.old).image) (working_of (held self.new).image) u) self.new.step_record.change }
     {
         let undo = self.requests.begin(&mut self.slots);
-        self.step_record = self.record(Change::Begun(undo));
+        self.step_record.note_small(self.place, Small::Begun(undo));
     }
 
     /// The poll is over: the loop's time is that of the clock, and the done section begins.
@@ -119,7 +124,8 @@ impl<P: Copy> Memory<P> {
         let spliced = self.requests.begin(&mut self.slots);
         let time = self.times.time;
         self.times.time = self.clock;
-        self.step_record = self.record(Change::Polled(Polled { time, spliced }));
+        self.step_record
+            .note_small(self.place, Small::Polled(Polled { time, spliced }));
     }
 
     /// Takes the front of those that have yet to be called back off its list, and frees its slot: the request as it was. None, and
@@ -134,7 +140,8 @@ impl<P: Copy> Memory<P> {
         match self.requests.collect(&mut self.slots) {
             None => None,
             Some(ended) => {
-                self.step_record = self.record(Change::Ended(ended.2, ended.1));
+                self.step_record
+                    .note_large(self.place, Large::Ended(ended.2, ended.1));
                 Some((ended.0, ended.1))
             }
         }

@@ -14,7 +14,6 @@ ghost use Rattle.uv_step.specs.Undo.{Recorded};
 ghost use Rattle.uv_step.specs.Does.{By, moved_by};
 
 use crate::memory::Memory;
-use crate::record::Change;
 use uv_ids::Id;
 use uv_timer::TimerParts;
 
@@ -40,7 +39,7 @@ impl<P: Copy> Memory<P> {
             id,
             change,
         );
-        self.step_record = self.record(Change::Timer(undo));
+        self.step_record.note_timer(self.place, undo);
     }
 
     /// Moves the first timer, if it is due, to the end of the ready list. None, and nothing changed, where none is due.
@@ -60,7 +59,8 @@ impl<P: Copy> Memory<P> {
         }) {
             None => None,
             Some((id, undo)) => {
-                self.step_record = self.record(Change::Moved(undo.pushed, undo.timer));
+                self.step_record
+                    .note_moved(self.place, undo.pushed, undo.timer);
                 Some(id)
             }
         }
@@ -85,7 +85,7 @@ impl<P: Copy> Memory<P> {
         }) {
             None => None,
             Some((id, fired)) => {
-                self.step_record = self.record(Change::Timer(fired));
+                self.step_record.note_timer(self.place, fired);
                 Some(id)
             }
         }

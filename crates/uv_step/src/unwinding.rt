@@ -6,12 +6,18 @@ ghost use Rattle.uv_step.specs.Parts.{unwind, unwind_parts, undo, naming_parts, 
 ghost use Rattle.uv_step.specs.Fit.{IsFit};
 ghost use Rattle.uv_step.specs.Undo.{CanUnwind, CanRename, CanUndo};
 ghost use Rattle.uv_step.specs.Does.{moved_by, closed_by, ended_by};
+ghost use Rattle.uv_step.specs.Lies.{smaller, change_of, larger, lain, taken_off};
 
 use crate::content::Content;
+use crate::large::Large;
+use crate::last::Lying;
+use crate::medium::Medium;
 use crate::memory::Memory;
-use crate::record::{Added, Change, Naming, Record};
+use crate::record::{Added, Naming};
+use crate::small::Small;
 use uv_arena::PushUndo;
 use uv_handle::{DelistUndo, ListUndo, RecordUndo};
+use uv_heap::HeapRemoveUndo;
 use uv_ids::{Id, Var};
 use uv_records::{HandleRecord, Named};
 use uv_requests::{CancelUndo, FinishUndo, QueueUndo};
@@ -21,16 +27,18 @@ use uv_work::RequestRecord;
 
 impl<P: Copy> Memory<P> {
     /// Gives back the very memory from before the step of this record.
-    pub fn unwind(&mut self, step_record: &Record<P>)
-        requires { CanUnwind (held self.old).room step_record.now (held self.old).image }
-        ensures image { (held self.new).image ≡ unwind step_record.now (held self.old).image }
+    pub fn unwind(&mut self)
+        requires { CanUnwind (held self.old).room self.old.step_record (held self.old).image }
+        ensures image { (held self.new).image ≡ unwind self.old.step_record (held self.old).image }
         ensures fit { IsFit (held self.new).image }
         ensures room { (held self.new).room ≡ (held self.old).room }
         ensures pieces { self.new.slots.room ≡ self.old.slots.room }
     {
-        self.place = step_record.place;
-        self.unname(step_record.naming);
-        self.undo(&step_record.change);
+        let naming = self.step_record.naming();
+        let change = self.step_record.change();
+        self.place = self.step_record.place();
+        self.unname(naming);
+        self.undo(change);
     }
 
     /// What became of a name is undone.
@@ -67,40 +75,113 @@ impl<P: Copy> Memory<P> {
     }
 
     /// A change is undone.
-    fn undo(&mut self, change: &Change)
-        requires { CanUndo (held self.old).room change.now (held self.old).image }
-        ensures image { (held self.new).image ≡ unwind_parts (change_parts change.now) (held self.old).image }
+    fn undo(&mut self, change: Lying)
+        requires { CanUndo (held self.old).room (lain change) (held self.old).image }
+        ensures image { (held self.new).image ≡ unwind_parts (change_parts (lain change)) (held self.old).image }
         ensures room { (held self.new).room ≡ (held self.old).room }
         ensures pieces { self.new.slots.room ≡ self.old.slots.room }
     {
-        match *change {
-            Change::Nothing => {}
-            Change::Time(time) => self.times.time = time,
-            Change::Clock(clock) => self.clock = clock,
-            Change::Stop(stop) => self.stop_flag = stop,
-            Change::Idled(idled) => self.idled = idled,
-            Change::Iterated(time, idled) => {
+        match change {
+            Lying::Small(small) => self.undo_small(small),
+            Lying::Medium(medium) => self.undo_medium(medium),
+            Lying::Large(large) => self.undo_large(large),
+        }
+    }
+
+    /// A small change is undone.
+    fn undo_small(&mut self, change: Small)
+        requires { CanUndo (held self.old).room (smaller change) (held self.old).image }
+        ensures image { (held self.new).image ≡ unwind_parts (change_parts (smaller change)) (held self.old).image }
+        ensures room { (held self.new).room ≡ (held self.old).room }
+        ensures pieces { self.new.slots.room ≡ self.old.slots.room }
+    {
+        match change {
+            Small::Nothing => {}
+            Small::Time(time) => self.times.time = time,
+            Small::Clock(clock) => self.clock = clock,
+            Small::Stop(stop) => self.stop_flag = stop,
+            Small::Idled(idled) => self.idled = idled,
+            Small::Iterated(time, idled) => {
                 self.idled = idled;
                 self.times.time = time;
             }
-            Change::Added(undo) => self.undo_added(undo),
-            Change::Edited(undo) => self.undo_edited(undo),
-            Change::Enlisted(undo) => self.undo_enlisted(undo),
-            Change::Delisted(undo) => self.undo_delisted(undo),
-            Change::Timer(undo) => self.undo_timer(undo),
-            Change::Moved(pushed, timer) => self.undo_moved(CollectUndo { timer, pushed }),
-            Change::Begun(undo) => self.slots.undo_splice(undo),
-            Change::Polled(undo) => {
+            Small::Added(undo) => self.undo_added(undo),
+            Small::Begun(undo) => self.slots.undo_splice(undo),
+            Small::Polled(undo) => {
                 self.slots.undo_splice(undo.spliced);
                 self.times.time = undo.time;
             }
-            Change::Walked(undo) => self.undo_walked(undo),
-            Change::Closed(undo, handle) => self.undo_closed(undo, handle),
-            Change::Queued(undo) => self.undo_queued(undo),
-            Change::Taken(undo) => self.undo_taken(undo),
-            Change::Finished(undo) => self.undo_finished(undo),
-            Change::Cancelled(undo) => self.undo_cancelled(undo),
-            Change::Ended(undo, request) => self.undo_ended(undo, request),
+            Small::Passed(pushed, unlinked) => self.undo_walked(WalkUndo {
+                unlinked,
+                pushed,
+                woken: None,
+            }),
+            Small::Queued(undo) => self.undo_queued(undo),
+            Small::Taken(undo) => self.undo_taken(undo),
+            Small::Finished(undo) => self.undo_finished(undo),
+            Small::InMedium => {}
+            Small::InLarge => {}
+        }
+    }
+
+    /// A medium change is undone.
+    fn undo_medium(&mut self, change: Medium)
+        requires { CanUndo (held self.old).room (change_of change) (held self.old).image }
+        ensures image { (held self.new).image ≡ unwind_parts (change_parts (change_of change)) (held self.old).image }
+        ensures room { (held self.new).room ≡ (held self.old).room }
+        ensures pieces { self.new.slots.room ≡ self.old.slots.room }
+    {
+        match change {
+            Medium::Edited(undo) => self.undo_edited(undo),
+            Medium::Enlisted(undo) => self.undo_enlisted(undo),
+            Medium::Delisted(undo) => self.undo_delisted(undo),
+            Medium::Reset(delisted) => self.undo_timer(TimerUndo {
+                removed: None,
+                delisted,
+                set: None,
+            }),
+            Medium::Fired(place, changed, set) => self.undo_timer(TimerUndo {
+                removed: None,
+                delisted: DelistUndo {
+                    unlinked: Some(place),
+                    changed,
+                },
+                set: Some(set),
+            }),
+            Medium::Started(changed, set) => self.undo_timer(TimerUndo {
+                removed: None,
+                delisted: DelistUndo {
+                    unlinked: None,
+                    changed,
+                },
+                set: Some(set),
+            }),
+            Medium::Stopped(removed, changed) => self.undo_timer(off_heap(removed, changed)),
+            Medium::Collected(pushed, removed, changed) => {
+                let timer = off_heap(removed, changed);
+                self.undo_moved(CollectUndo { timer, pushed });
+            }
+            Medium::Woken(pushed, unlinked, woken) => self.undo_walked(WalkUndo {
+                unlinked,
+                pushed,
+                woken: Some(woken),
+            }),
+            Medium::Closed(undo, handle) => self.undo_closed(undo, handle),
+            Medium::Cancelled(undo) => self.undo_cancelled(undo),
+        }
+    }
+
+    /// A large change is undone.
+    fn undo_large(&mut self, change: Large)
+        requires { CanUndo (held self.old).room (larger change) (held self.old).image }
+        ensures image { (held self.new).image ≡ unwind_parts (change_parts (larger change)) (held self.old).image }
+        ensures room { (held self.new).room ≡ (held self.old).room }
+        ensures pieces { self.new.slots.room ≡ self.old.slots.room }
+    {
+        match change {
+            Large::Timer(undo) => self.undo_timer(undo),
+            Large::Moved(pushed, timer) => self.undo_moved(CollectUndo { timer, pushed }),
+            Large::Ended(undo, request) => self.undo_ended(undo, request),
         }
     }
 
@@ -242,5 +323,19 @@ impl<P: Copy> Memory<P> {
         ensures pieces { self.new.slots.room ≡ self.old.slots.room }
     {
         self.requests.undo_collect(&mut self.slots, undo, request);
+    }
+}
+
+/// A timer that was on no list was taken off the heap.
+fn off_heap(removed: HeapRemoveUndo, changed: RecordUndo) -> TimerUndo
+    ensures { result ≡ taken_off removed changed }
+{
+    TimerUndo {
+        removed: Some(removed),
+        delisted: DelistUndo {
+            unlinked: None,
+            changed,
+        },
+        set: None,
     }
 }

@@ -7,7 +7,8 @@ ghost use Rattle.uv_step.specs.Fit.{IsFit};
 ghost use Rattle.uv_step.specs.Undo.{Recorded, CanUnwind, Extended};
 
 use crate::memory::Memory;
-use crate::record::{Change, Naming, Record};
+use crate::record::Naming;
+use crate::small::Small;
 use uv_ids::{Callback, Id, Var};
 use uv_records::Named;
 
@@ -19,9 +20,9 @@ impl<P: Copy> Memory<P> {
         ensures recorded { Recorded self.new.step_record (held self.old) (held self.new) }
         ensures image { (held self.new).image ≡ record (held self.old).image { clock = (held self.old).image.clock + ms } }
     {
-        let change = Change::Clock(self.clock);
+        self.step_record
+            .note_small(self.place, Small::Clock(self.clock));
         self.clock += ms;
-        self.step_record = self.record(change);
     }
 
     /// The loop's time is that of the clock (uv_update_time).
@@ -31,9 +32,9 @@ impl<P: Copy> Memory<P> {
         ensures image { (held self.new).image
             ≡ record (held self.old).image { times = record (held self.old).image.times { time = (held self.old).image.clock } } }
     {
-        let change = Change::Time(self.times.time);
+        self.step_record
+            .note_small(self.place, Small::Time(self.times.time));
         self.times.time = self.clock;
-        self.step_record = self.record(change);
     }
 
     /// The run is to end before its next iteration (uv_stop), or not.
@@ -42,9 +43,9 @@ impl<P: Copy> Memory<P> {
         ensures recorded { Recorded self.new.step_record (held self.old) (held self.new) }
         ensures image { (held self.new).image ≡ record (held self.old).image { stop_flag = stop } }
     {
-        let change = Change::Stop(self.stop_flag);
+        self.step_record
+            .note_small(self.place, Small::Stop(self.stop_flag));
         self.stop_flag = stop;
-        self.step_record = self.record(change);
     }
 
     /// Whether an idle handle is active as the iteration begins.
@@ -53,9 +54,9 @@ impl<P: Copy> Memory<P> {
         ensures recorded { Recorded self.new.step_record (held self.old) (held self.new) }
         ensures image { (held self.new).image ≡ record (held self.old).image { idled = idled } }
     {
-        let change = Change::Idled(self.idled);
+        self.step_record
+            .note_small(self.place, Small::Idled(self.idled));
         self.idled = idled;
-        self.step_record = self.record(change);
     }
 
     /// The loop's time is that of the clock, and no idle handle counts as active as the iteration begins.
@@ -67,18 +68,10 @@ impl<P: Copy> Memory<P> {
           idled = false;
         } }
     {
-        let change = Change::Iterated(self.times.time, self.idled);
+        self.step_record
+            .note_small(self.place, Small::Iterated(self.times.time, self.idled));
         self.times.time = self.clock;
         self.idled = false;
-        self.step_record = self.record(change);
-    }
-
-    /// What takes a step back that changes nothing but where the loop stands.
-    pub fn pass(&self) -> Record<P>
-        requires fit { IsFit (held self.now).image }
-        ensures recorded { Recorded result (held self.now) (held self.now) }
-    {
-        self.record(Change::Nothing)
     }
 
     /// The loop stands here after the last step.
@@ -116,7 +109,7 @@ impl<P: Copy> Memory<P> {
             id,
             calls: named.calls,
         };
-        self.step_record.naming = Naming::bound(name, named.id);
+        self.step_record.rename(Naming::bound(name, named.id));
     }
 
     /// The last step calls a callback of a name as well.
@@ -137,6 +130,7 @@ impl<P: Copy> Memory<P> {
             id: named.id,
             calls: named.calls.with(callback, count + 1),
         };
-        self.step_record.naming = Naming::Called(name, callback, count);
+        self.step_record
+            .rename(Naming::Called(name, callback, count));
     }
 }

@@ -18,8 +18,9 @@ ghost use Rattle.uv_step.specs.Fit.{IsFit};
 ghost use Rattle.uv_step.specs.Undo.{Recorded};
 ghost use Rattle.uv_step.specs.Does.{By, FirstIs, NoHandleFirst, closed_by};
 
+use crate::medium::Medium;
 use crate::memory::Memory;
-use crate::record::Change;
+use crate::small::Small;
 use uv_handle::{HandleRecord, handle_at};
 use uv_ids::Id;
 use uv_records::{ListName, WatcherKind};
@@ -38,7 +39,8 @@ impl<P: Copy> Memory<P> {
             (counted_of (held self.old).image) (counted_of (held self.new).image) id u) self.new.step_record.change }
     {
         let undo = uv_watch::enlist(&mut self.handles, &mut self.slots, id, from);
-        self.step_record = self.record(Change::Enlisted(undo));
+        self.step_record
+            .note_medium(self.place, Medium::Enlisted(undo));
     }
 
     /// Stops an idle, prepare or check handle (uv_idle_stop and the like). One that closes stays on the closing list.
@@ -50,7 +52,8 @@ impl<P: Copy> Memory<P> {
             (counted_of (held self.old).image) (counted_of (held self.new).image) id from u) self.new.step_record.change }
     {
         let undo = uv_watch::halt(&mut self.handles, &mut self.slots, id, from);
-        self.step_record = self.record(Change::Delisted(undo));
+        self.step_record
+            .note_medium(self.place, Medium::Delisted(undo));
     }
 
     /// Begins a section of watchers: the whole list is yet to run.
@@ -61,7 +64,7 @@ impl<P: Copy> Memory<P> {
         ensures does { By begun (λ u. IsBegun (held self.old).image.arena (held self.new).image.arena kind u) self.new.step_record.change }
     {
         let undo = uv_watch::begin(&mut self.slots, kind);
-        self.step_record = self.record(Change::Begun(undo));
+        self.step_record.note_small(self.place, Small::Begun(undo));
     }
 
     /// Moves the front of those yet to run to the end of its list: its id, its record as it was, and whether a callback was due by a
@@ -76,7 +79,7 @@ impl<P: Copy> Memory<P> {
     {
         let (id, handle) = self.first_handle(kind.yet())?;
         let (pending, undo) = uv_watch::move_on(&mut self.handles, &mut self.slots, kind, id);
-        self.step_record = self.record(Change::Walked(undo));
+        self.step_record.note_walked(self.place, undo);
         Some((id, handle, pending))
     }
 
@@ -89,7 +92,7 @@ impl<P: Copy> Memory<P> {
             (held self.old).image.arena (held self.new).image.arena Closing ClosingYet u) self.new.step_record.change }
     {
         let undo = self.handles.begin_closing(&mut self.slots);
-        self.step_record = self.record(Change::Begun(undo));
+        self.step_record.note_small(self.place, Small::Begun(undo));
     }
 
     /// Takes the front of those that have yet to be closed off its list, and frees its slot: its close callback is to be called.
@@ -105,7 +108,8 @@ impl<P: Copy> Memory<P> {
         match self.handles.take_closing(&mut self.slots) {
             None => None,
             Some((id, _, undo)) => {
-                self.step_record = self.record(Change::Closed(undo, first.1));
+                self.step_record
+                    .note_medium(self.place, Medium::Closed(undo, first.1));
                 Some(id)
             }
         }

@@ -12,9 +12,7 @@ use crate::parts::{Parts, push_parts};
 use crate::trace::{push_id, push_timeout};
 use std::alloc::{AllocError, Global};
 use uv_ids::{Callback, Fault, Id, Kind, Var};
-use uv_model::{
-    Body, Content, Machine, Numbers, Place, Request, Run, Stage, TimersOf, Timing,
-};
+use uv_model::{Body, Content, Machine, Numbers, Place, Request, Run, Stage, TimersOf, Timing};
 use uv_records::{Calls, HandleRecord, ListName, Named};
 use uv_script::{Script, push_number, push_task_text};
 use uv_session::Session;

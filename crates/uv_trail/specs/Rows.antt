@@ -3,11 +3,10 @@ use Rattle.std.specs.Prelude.{◌≡◌, ◌<◌, ℕ, suc, List, [], ◌∷◌,
 use Rattle.uv_step.specs.declared.record.Naming.{Naming}
 use Rattle.uv_step.specs.declared.record.Change.{Change}
 use Rattle.uv_step.specs.declared.record.Record.{Record}
-use Rattle.uv_trail.specs.declared.head.Head.{Head}
-use Rattle.uv_trail.specs.declared.medium.Medium.{Medium}
-use Rattle.uv_trail.specs.declared.small.Lies.{Lies}
-use Rattle.uv_trail.specs.declared.small.Lies.TheVariants.{Beside, AmongMediums, AmongLarges}
-use Rattle.uv_trail.specs.Lies.{lies, change_of}
+use Rattle.uv_step.specs.declared.head.Head.{Head}
+use Rattle.uv_step.specs.declared.medium.Medium.{Medium}
+use Rattle.uv_step.specs.declared.large.Large.{Large}
+use Rattle.uv_step.specs.Lies.{Lies, Beside, AmongMediums, AmongLarges, lies, change_of, larger, recorded}
 
 -- a step as its head has it: with its change, or with a change among the medium or the large ones
 pub data Step (P : Type 0) : Type 0 where
@@ -22,7 +21,7 @@ module _ {P : Type 0} where
   step_at place naming AmongLarges = OfLarge place naming
 
   abbrev pub step_of : Head P → Step P
-  step_of h = step_at h.place h.naming (lies h.change)
+  step_of h = step_at h.place h.naming (lies h)
 
   abbrev pub steps_of : List (Head P) → List (Step P)
   steps_of heads = map step_of heads
@@ -41,30 +40,15 @@ module _ {P : Type 0} where
   larges_of (OfLarge place naming ∷ steps) = suc (larges_of steps)
 
   -- each row has a change for each of its steps
-  pub record Fits (steps : List (Step P)) (mediums : List Medium) (larges : List Change) : Type 0 where
+  pub record Fits (steps : List (Step P)) (mediums : List Medium) (larges : List Large) : Type 0 where
     pub medium : mediums_of steps ≡ length mediums
     pub large : larges_of steps ≡ length larges
 
-  abbrev pub recorded : P → Naming → Change → Record P
-  recorded place naming change = record { place = place; naming = naming; change = change }
-
   -- the records: each step takes the next change of its row
-  abbrev pub records_of : List (Step P) → List Medium → List Change → List (Record P)
+  abbrev pub records_of : List (Step P) → List Medium → List Large → List (Record P)
   records_of [] ms ls = []
   records_of (Whole place naming c ∷ steps) ms ls = recorded place naming c ∷ records_of steps ms ls
   records_of (OfMedium place naming ∷ steps) [] ls = []
   records_of (OfMedium place naming ∷ steps) (m ∷ ms) ls = recorded place naming (change_of m) ∷ records_of steps ms ls
   records_of (OfLarge place naming ∷ steps) ms [] = []
-  records_of (OfLarge place naming ∷ steps) ms (l ∷ ls) = recorded place naming l ∷ records_of steps ms ls
-
--- a change that lies there, and the two rows before it and with it
-abbrev pub Adds : Change → Lies → List Medium → List Medium → List Change → List Change → Type 0
-Adds c (Beside d) ms ns ks ls = (d ≡ c) × (ns ≡ ms) × (ls ≡ ks)
-Adds c AmongMediums ms ns ks ls = (m : Medium) × (change_of m ≡ c) × (ns ≡ ms ++ m ∷ []) × (ls ≡ ks)
-Adds c AmongLarges ms ns ks ls = (ns ≡ ms) × (ls ≡ ks ++ c ∷ [])
-
--- where a change lies in a row, that has one
-abbrev pub HasOne : Lies → List Medium → List Change → Type 0
-HasOne (Beside c) ms ks = Unit {0}
-HasOne AmongMediums ms ks = 0 < length ms
-HasOne AmongLarges ms ks = 0 < length ks
+  records_of (OfLarge place naming ∷ steps) ms (l ∷ ls) = recorded place naming (larger l) ∷ records_of steps ms ls

@@ -2,10 +2,6 @@
 //! and the larger changes in two rows of their own.
 #![tactic(auto)]
 
-mod head;
-mod medium;
-mod rows;
-mod small;
 mod trail;
 
 pub use trail::Trail;

@@ -1,12 +1,9 @@
 //! The records of the steps that stand.
-ghost use Rattle.std.specs.Prelude.{◌≡◌, ◌<◌, ◌≤◌, ◌+◌, ◌++◌, ◌∷◌, [], OnOk, OnErr, IfNone, length, option_to_list};
+ghost use Rattle.std.specs.Prelude.{◌≡◌, ◌<◌, ◌≤◌, ◌+◌, ◌++◌, ◌∷◌, [], OnOk, OnErr, IsFalse, length, if◌then◌else◌};
 
-use crate::head::Head;
-use crate::medium::Medium;
-use crate::rows::{put, take};
 use std::alloc::{AllocError, Global};
 use std::marker::Model;
-use uv_step::{Change, Record};
+use uv_step::{Head, Large, LastStep, Medium};
 
 /// The records of steps in a row, the first step's first. Each has a head of at most 16 words where a place has at most 10; behind it
 /// stand its change where that is small, and else a place of one of the two rows of larger changes.
@@ -14,7 +11,7 @@ use uv_step::{Change, Record};
 pub struct Trail<P: Copy> {
     heads: Vec<Head<P>>,
     mediums: Vec<Medium>,
-    larges: Vec<Change>,
+    larges: Vec<Large>,
 }
 
 impl<P: Copy> Model for Trail<P> {
@@ -72,31 +69,20 @@ impl<P: Copy> Trail<P> {
     }
 
     /// One more. It takes no memory.
-    pub fn push(&mut self, step_record: &Record<P>)
+    pub fn push(&mut self, last: &LastStep<P>)
         requires { 0 < self.old.room }
-        ensures records { self.new.records ≡ self.old.records ++ step_record.now ∷ [] }
+        ensures records { self.new.records ≡ self.old.records ++ last.now ∷ [] }
         ensures room { self.old.room ≤ self.new.room + 1 }
     {
-        let change = put(&mut self.mediums, &mut self.larges, &step_record.change);
-        self.heads.push_reserved(Head {
-            place: step_record.place,
-            naming: step_record.naming,
-            change,
-        });
+        last.lay(&mut self.heads, &mut self.mediums, &mut self.larges);
     }
 
-    /// The last one goes, if there is one.
-    pub fn pop(&mut self) -> Option<Record<P>>
-        ensures records { self.old.records ≡ self.new.records ++ option_to_list result }
-        ensures none { IfNone result (self.old.records ≡ []) }
+    /// The last one goes, if there is one, and is this. Says whether there was one.
+    pub fn pop(&mut self, last: &mut LastStep<P>) -> bool
+        ensures records { self.old.records ≡ self.new.records ++ (if result then last.new ∷ [] else []) }
+        ensures none { IsFalse result → (self.old.records ≡ []) × (last.new ≡ last.old) }
         ensures room { self.old.room ≤ self.new.room }
     {
-        let head = self.heads.pop()?;
-        let change = take(&mut self.mediums, &mut self.larges, head.change);
-        Some(Record {
-            place: head.place,
-            naming: head.naming,
-            change,
-        })
+        last.take_up(&mut self.heads, &mut self.mediums, &mut self.larges)
     }
 }

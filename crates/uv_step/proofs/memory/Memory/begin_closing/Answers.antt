@@ -4,4 +4,4 @@ use Rattle.uv_step.proofs.memory.Memory.begin_closing.Goals as goal
 
 pub returns-clause-recorded : goal.returns-clause-recorded
 returns-clause-recorded g c = begun_closing (image_of c.args.self.now) c.begin_closing-undo.new.slots.image _ _ _ c.requires.fit
-    c.begin_closing-undo.ensures.spliced c.record-self.ensures
+    c.begin_closing-undo.ensures.spliced c.note_small.ensures

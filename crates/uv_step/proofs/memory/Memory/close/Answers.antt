@@ -15,14 +15,14 @@ returns-clause-recorded g c =
     let new = c.reschedule-timer.new.parts in
     shut (image_of c.args.self.now) new.1.0.image c.push_front-pushed.new.self.image new.0 _ new.1.1.0 new.1.1.1.0 _ _ _ _ _ c.requires.fit
     c.reschedule-timer.ensures.room c.reschedule-timer.ensures.changed c.push_front-pushed.ensures.pushed c.push_front-pushed.ensures.token
-    c.record-self.ensures
+    c.note_moved.ensures
 
 pub returns-clause-does : goal.returns-clause-does
 returns-clause-does g c =
     let new = c.reschedule-timer.new.parts in
     record {
       undo = record { timer = c.reschedule-timer.result; pushed = c.push_front-pushed.result };
-      is = ap (λ (r : Record _). r.change) c.record-self.ensures;
+      is = ap (λ (r : Record _). r.change) c.note_moved.ensures;
       does = record {
         mid = new.1.0.image;
         changed = subst (λ (to : HandleRecord). IsRescheduled handle_in Handle new.1.1.0.room (timed_of (image_of c.args.self.now))

@@ -1,4 +1,4 @@
-use Rattle.std.proofs.Common.{◌+◌, arith, refl}
+use Rattle.std.proofs.Common.{◌+◌, arith}
 use Rattle.std.proofs.lemmas.Grind.{common_steps}
 use Rattle.uv_step.specs.Image.{image_of}
 use Rattle.uv_step.proofs.Rows.{called}
@@ -8,4 +8,4 @@ pub returns-clause-extended : goal.returns-clause-extended
 returns-clause-extended g c =
     called c.args.self.now.step_record _ (image_of c.args.self.now) _ c.args.name c.args.callback
     (c.of-count.result + 1) c.of-count.result _ c.requires.can c.requires.fit c.requires.unnamed c.requires.name
-    (grind (arith, common_steps)) (grind (arith, common_steps)) refl
+    (grind (arith, common_steps)) (grind (arith, common_steps)) c.rename.ensures

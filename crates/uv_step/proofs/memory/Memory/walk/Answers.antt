@@ -9,4 +9,4 @@ returns-clause-recorded g c =
     let i = image_of c.args.self.now in
     let first = subst (λ l. FirstIs i.arena l c.in_ok-id.id c.in_ok-id.handle) c.yet.ensures c.in_ok-id.ensures.some in
     walked i c.move_on-pending.new.slots.image c.move_on-pending.new.handles _ _ _ _ _ _ _ _ c.requires.fit first c.move_on-pending.ensures.moved
-    c.record-self.ensures
+    c.note_walked.ensures

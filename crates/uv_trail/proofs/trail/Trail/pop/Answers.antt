@@ -1,25 +1,18 @@
-use Rattle.std.proofs.Common.{refl, sym, ap, ◌∙◌}
-use Rattle.uv_trail.specs.Lies.{lies}
-use Rattle.uv_trail.proofs.Longer.{fits_less, record_more, there}
+use Rattle.std.proofs.Common.{sym, ap, ◌∙◌}
+use Rattle.uv_trail.proofs.Longer.{has_last, fits_up, records_up}
 use Rattle.uv_trail.proofs.trail.Trail.pop.Goals as goal
 
-pub take-change-requires : goal.take-change-requires
-take-change-requires g c =
-    there c.self.inside.heads.items c.pop.new.self.items c.in_ok-head.head (lies c.in_ok-head.head.change) c.self.inside.mediums.items
-    c.self.inside.larges.items c.in_ok-head.ensures.items refl c.self.invariant
+pub take_up-requires : goal.take_up-requires
+take_up-requires g c = has_last c.self.inside.heads.items c.self.inside.mediums.items c.self.inside.larges.items c.self.invariant
 
-pub invariant_of-self-2 : goal.invariant_of-self-2
-invariant_of-self-2 g c =
-    fits_less c.self.inside.heads.items c.pop.new.self.items c.in_ok-head.head c.take-change.result (lies c.in_ok-head.head.change)
-    c.take-change.new.mediums.items c.self.inside.mediums.items c.take-change.new.larges.items c.self.inside.larges.items
-    c.in_ok-head.ensures.items refl c.take-change.ensures.adds c.self.invariant
+pub invariant_of-self : goal.invariant_of-self
+invariant_of-self g c =
+    fits_up c.take_up.result c.take_up.new.self c.args.last.now c.take_up.new.heads.items c.self.inside.heads.items c.take_up.new.mediums.items
+    c.self.inside.mediums.items c.take_up.new.larges.items c.self.inside.larges.items c.take_up.ensures.laid c.take_up.ensures.none c.self.invariant
 
 pub returns-clause-records : goal.returns-clause-records
 returns-clause-records g c =
-    let fits = fits_less c.self.inside.heads.items c.pop.new.self.items c.in_ok-head.head c.take-change.result (lies c.in_ok-head.head.change)
-    c.take-change.new.mediums.items c.self.inside.mediums.items c.take-change.new.larges.items c.self.inside.larges.items
-    c.in_ok-head.ensures.items refl c.take-change.ensures.adds c.self.invariant in
     ap (λ t. t.records) (sym c.self.view_is)
-    ∙ record_more c.self.inside.heads.items c.pop.new.self.items c.in_ok-head.head c.take-change.result (lies c.in_ok-head.head.change)
-    c.take-change.new.mediums.items c.self.inside.mediums.items c.take-change.new.larges.items c.self.inside.larges.items
-    c.in_ok-head.ensures.items refl c.take-change.ensures.adds fits
+    ∙ records_up c.take_up.result c.take_up.new.self c.args.last.now c.take_up.new.heads.items c.self.inside.heads.items
+    c.take_up.new.mediums.items c.self.inside.mediums.items c.take_up.new.larges.items c.self.inside.larges.items
+    c.take_up.ensures.laid c.take_up.ensures.none c.self.invariant

@@ -1,14 +1,14 @@
 //! The head of a step.
 
+use crate::record::Naming;
 use crate::small::Small;
-use uv_step::Naming;
 
 /// What every step keeps: where the loop stood, what became of a name, and its change, or in which row that lies.
 #[derive(Clone, Copy)]
-pub(crate) struct Head<P: Copy> {
-    pub(crate) place: P,
-    pub(crate) naming: Naming,
-    pub(crate) change: Small,
+pub struct Head<P: Copy> {
+    pub place: P,
+    pub naming: Naming,
+    pub change: Small,
 }
 
 // A head has at most 16 words where a place has at most 10.
