@@ -17,7 +17,7 @@ use Rattle.uv_work.specs.Work.{Work}
 use Rattle.uv_model.specs.Handing.{RefusesResult, AnswersResult, job_run}
 use Rattle.uv_model.specs.After.{Answers, after, goes_on, state_of, IsMove, STEPS}
 use Rattle.uv_model.proofs.Runs.{after-moves, seen_by-nil, seen_by-moves, seen_by-take}
-use Rattle.uv_step.specs.declared.record.Record.{Record}
+use Rattle.uv_step.specs.Record.{Record}
 use Rattle.uv_step.specs.Image.{Image, Held}
 use Rattle.uv_step.specs.Parts.{unwind}
 use Rattle.uv_step.specs.Trail.{unwound, DropsOne}

@@ -11,7 +11,7 @@ use Rattle.uv_requests.specs.Undo.{reopened_by}
 use Rattle.uv_model.specs.declared.place.Place.{Place}
 use Rattle.uv_step.specs.declared.content.Content.{Content}
 use Rattle.uv_step.specs.declared.content.Content.TheVariants.{Request as Asked}
-use Rattle.uv_step.specs.declared.record.Record.{Record}
+use Rattle.uv_step.specs.Record.{Record}
 use Rattle.uv_step.specs.Content.{request_in}
 use Rattle.uv_step.specs.Image.{Image}
 use Rattle.uv_step.specs.Parts as part

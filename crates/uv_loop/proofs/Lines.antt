@@ -11,7 +11,7 @@ use Rattle.uv_model.specs.declared.place.Place.TheVariants.{Running}
 use Rattle.uv_model.specs.declared.place.Run.{Run}
 use Rattle.uv_model.specs.Next.{Moves, body_step, body_from}
 use Rattle.uv_model.specs.Ops.{Done}
-use Rattle.uv_step.specs.declared.record.Record.{Record}
+use Rattle.uv_step.specs.Record.{Record}
 use Rattle.uv_step.specs.Image.{Held}
 use Rattle.uv_stands.specs.Doing.{Returns}
 use Rattle.uv_loop.specs.Turning.{Turns, PerformsAt}

@@ -11,7 +11,7 @@ use Rattle.uv_model.proofs.Bounded.{after_able}
 use Rattle.uv_model.proofs.Calls.{at_name, count_below}
 use Rattle.uv_order.proofs.Reaching.{reached}
 use Rattle.uv_records.specs.declared.named.Named.{Named}
-use Rattle.uv_step.specs.declared.record.Record.{Record}
+use Rattle.uv_step.specs.Record.{Record}
 use Rattle.uv_step.specs.Image.{Image, Held}
 use Rattle.uv_records.specs.Names.{named, count_of}
 use Rattle.uv_stands.specs.Stands.{StandsFor}

@@ -10,7 +10,7 @@ use Rattle.uv_model.specs.declared.place.Run.{Run}
 use Rattle.uv_model.specs.State.{State}
 use Rattle.uv_model.specs.Next.{Next, Moves, Refuses, next, loop_step, main_step, run_step}
 use Rattle.uv_model.specs.After.{refusal_of, IsMove}
-use Rattle.uv_step.specs.declared.record.Record.{Record}
+use Rattle.uv_step.specs.Record.{Record}
 use Rattle.uv_step.specs.Image.{Image, Held}
 use Rattle.uv_stands.specs.Doing.{OfEach}
 use Rattle.uv_stands.specs.Stands.{StandsFor}

@@ -20,8 +20,8 @@ use Rattle.uv_model.specs.Found.{found_or}
 use Rattle.uv_model.specs.State.{State, with_id, front_request}
 use Rattle.uv_model.specs.Next.{Moves, Refuses, next, take, next_work}
 use Rattle.uv_model.specs.After.{IsMove}
-use Rattle.uv_step.specs.declared.record.Change.TheVariants as change
-use Rattle.uv_step.specs.declared.record.Record.{Record}
+use Rattle.uv_step.specs.Change as change
+use Rattle.uv_step.specs.Record.{Record}
 use Rattle.uv_step.specs.Content.{request_in}
 use Rattle.uv_step.specs.Fit.{IsFit}
 use Rattle.uv_step.specs.Image.{Image, Held, working_of}

@@ -19,7 +19,7 @@ use Rattle.uv_model.specs.Next.{Next, Moves, Refuses, next}
 use Rattle.uv_model.specs.After.{after, STEPS}
 use Rattle.uv_model.specs.Steps.{IsOfLoop}
 use Rattle.uv_model.proofs.Refusals.{OfLoop, loop_lines}
-use Rattle.uv_step.specs.declared.record.Record.{Record}
+use Rattle.uv_step.specs.Record.{Record}
 use Rattle.uv_step.specs.Image.{Image, Held}
 use Rattle.uv_order.proofs.Reaching.{reached}
 use Rattle.uv_loop.specs.Course.{IsCourse, Leads}

@@ -11,7 +11,7 @@ use Rattle.uv_model.specs.State as state
 use Rattle.uv_model.specs.State.{State}
 use Rattle.uv_model.specs.Next.{next}
 use Rattle.uv_model.specs.After.{state_of, seen_by, IsMove, STEPS}
-use Rattle.uv_step.specs.declared.record.Record.{Record}
+use Rattle.uv_step.specs.Record.{Record}
 use Rattle.uv_step.specs.Image.{Image, Held, fresh}
 use Rattle.uv_step.specs.Trail.{Walk, unwound, AddsOne, DropsOne}
 use Rattle.uv_step.specs.Undo.{CanUnwind}

@@ -4,7 +4,7 @@ use Rattle.uv_ids.specs.declared.event.Event.{Event}
 use Rattle.uv_ids.specs.declared.event.Event.TheVariants.{Loop, Take, Finish, Cancel, Send, Tick}
 use Rattle.uv_ids.specs.declared.seen.Seen.{Seen}
 use Rattle.uv_ids.specs.declared.seen.Seen.TheVariants as seen
-use Rattle.uv_step.specs.declared.record.Record.{Record}
+use Rattle.uv_step.specs.Record.{Record}
 use Rattle.uv_loop.specs.declared.steps.Steps.{Steps}
 
 -- the event of the step that appended this: a line from outside names its own, and all else is of the loop

@@ -29,13 +29,9 @@ pub(crate) fn take_work(
     ensures recorded { Recorded memory.new.step_record (held memory.old) (held memory.new) }
     ensures leads { (p : Program) → Leads p (held memory.old).image (held memory.new).image (Take worker) (Some result) }
 {
-    match memory.take(worker) {
-        Err(_) => unreachable!(),
-        Ok(_) => {
-            memory.slots.is_sound();
-            Seen::Take(worker, request.name(), id)
-        }
-    }
+    memory.take(worker, id);
+    memory.slots.is_sound();
+    Seen::Take(worker, request.name(), id)
 }
 
 /// A worker finishes the request that it runs, of whose job this is the result: what that appends.
@@ -52,13 +48,9 @@ pub(crate) fn finish_work(
     ensures recorded { Recorded memory.new.step_record (held memory.old) (held memory.new) }
     ensures leads { (p : Program) → Leads p (held memory.old).image (held memory.new).image (Finish worker) (Some result) }
 {
-    match memory.finish(worker, work) {
-        Err(_) => unreachable!(),
-        Ok(_) => {
-            memory.slots.is_sound();
-            Seen::Finish(worker, request.name(), id)
-        }
-    }
+    memory.finish(worker, id, request, work);
+    memory.slots.is_sound();
+    Seen::Finish(worker, request.name(), id)
 }
 
 /// Cancels the request of a name: what that answers.

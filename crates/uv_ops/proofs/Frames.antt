@@ -9,8 +9,8 @@ use Rattle.uv_handle.specs.declared.undo.ListUndo.{ListUndo}
 use Rattle.uv_model.specs.declared.place.Place.{Place}
 use Rattle.uv_step.specs.declared.content.Content.{Content}
 use Rattle.uv_step.specs.declared.record.Added.{Added}
-use Rattle.uv_step.specs.declared.record.Change.TheVariants as change
-use Rattle.uv_step.specs.declared.record.Record.{Record}
+use Rattle.uv_step.specs.Change as change
+use Rattle.uv_step.specs.Record.{Record}
 use Rattle.uv_step.specs.Image.{Image, Held}
 use Rattle.uv_step.specs.Undo.{Recorded}
 use Rattle.uv_stands.proofs.Pools.{change_back}

@@ -23,8 +23,8 @@ use Rattle.uv_model.specs.Ops.{listed_last, with_new}
 use Rattle.uv_step.specs.declared.content.Content.{Content}
 use Rattle.uv_step.specs.declared.content.Content.TheVariants.{Handle}
 use Rattle.uv_step.specs.declared.record.Added.{Added}
-use Rattle.uv_step.specs.declared.record.Change.TheVariants as change
-use Rattle.uv_step.specs.declared.record.Record.{Record}
+use Rattle.uv_step.specs.Change as change
+use Rattle.uv_step.specs.Record.{Record}
 use Rattle.uv_step.specs.Does.{By, IsMade, JoinsIf, is_async}
 use Rattle.uv_step.specs.Image.{Image, Held, counted_of}
 use Rattle.uv_records.specs.Names.{binding}

@@ -21,8 +21,8 @@ use Rattle.uv_model.specs.Content.{queued}
 use Rattle.uv_model.specs.State.{State, live}
 use Rattle.uv_model.specs.Ops.{with_queued}
 use Rattle.uv_step.specs.declared.content.Content.TheVariants.{Request as Asked}
-use Rattle.uv_step.specs.declared.record.Change.TheVariants as change
-use Rattle.uv_step.specs.declared.record.Record.{Record}
+use Rattle.uv_step.specs.Change as change
+use Rattle.uv_step.specs.Record.{Record}
 use Rattle.uv_step.specs.Content.{request_in}
 use Rattle.uv_step.specs.Does.{By}
 use Rattle.uv_step.specs.Fit.{IsFit}

@@ -29,8 +29,8 @@ use Rattle.uv_model.specs.Ops.{succeeds, start_watcher, watcher_started}
 use Rattle.uv_model.specs.Queries.{members}
 use Rattle.uv_step.specs.declared.content.Content.{Content}
 use Rattle.uv_step.specs.declared.content.Content.TheVariants.{Handle}
-use Rattle.uv_step.specs.declared.record.Change.TheVariants as change
-use Rattle.uv_step.specs.declared.record.Record.{Record}
+use Rattle.uv_step.specs.Change as change
+use Rattle.uv_step.specs.Record.{Record}
 use Rattle.uv_step.specs.Content.{handle_in}
 use Rattle.uv_step.specs.Does.{By}
 use Rattle.uv_step.specs.Image.{Image, Held, counted_of}

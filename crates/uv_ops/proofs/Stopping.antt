@@ -28,8 +28,8 @@ use Rattle.uv_order.specs.Active.{has_id, AreActive}
 use Rattle.uv_order.specs.Reached.{IsReached}
 use Rattle.uv_step.specs.declared.content.Content.{Content}
 use Rattle.uv_step.specs.declared.content.Content.TheVariants.{Handle}
-use Rattle.uv_step.specs.declared.record.Change.TheVariants as change
-use Rattle.uv_step.specs.declared.record.Record.{Record}
+use Rattle.uv_step.specs.Change as change
+use Rattle.uv_step.specs.Record.{Record}
 use Rattle.uv_step.specs.Content.{handle_in}
 use Rattle.uv_step.specs.Does.{By}
 use Rattle.uv_step.specs.Fit.{IsFit}

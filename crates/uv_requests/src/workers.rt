@@ -57,27 +57,30 @@ impl Requests {
     {
         match self.next_work(slots, worker) {
             Err(why) => Err(why),
-            Ok((id, _)) => Ok(self.start(slots, worker, id)),
+            Ok((id, _)) => {
+                let undo = self.start_work(slots, worker, id);
+                Ok((id, undo))
+            }
         }
     }
 
-    fn start<T: HoldsWork>(
+    /// A worker that runs nothing takes this request, which waits longest.
+    pub fn start_work<T: HoldsWork>(
         &mut self,
         slots: &mut Slots<T>,
         worker: u16,
         id: Id,
-    ) -> (Id, TakeWorkUndo)
+    ) -> TakeWorkUndo
         requires work { IsWork T.held_request (working slots.old.image self.old) }
         requires idle { slice_get self.old.workers worker ≡ Some None }
         requires first { IsFirst slots.old.image Waiting id }
-        ensures id { result.0 ≡ id }
-        ensures taken { IsTaken T.held_request (working slots.old.image self.old) (working slots.new.image self.new) worker id result.1 }
+        ensures taken { IsTaken T.held_request (working slots.old.image self.old) (working slots.new.image self.new) worker id result }
         ensures pieces { slots.new.room ≡ slots.old.room }
     {
         slots.is_sound();
         let unlinked = slots.unlink(id);
         self.set_running(worker, Some(id));
-        (id, TakeWorkUndo { worker, unlinked })
+        TakeWorkUndo { worker, unlinked }
     }
 
     /// Takes a take back.
@@ -130,7 +133,8 @@ impl Requests {
             Err(why) => Err(why),
             Ok((id, request)) => {
                 if request.job(id).is(work.job()) {
-                    Ok(self.end(slots, worker, id, request, work))
+                    let undo = self.hand_in(slots, worker, id, request, work);
+                    Ok((id, undo))
                 } else {
                     Err(Why::NoWork)
                 }
@@ -138,28 +142,28 @@ impl Requests {
         }
     }
 
-    fn end<T: HoldsWork>(
+    /// A worker hands in the result of this request, which it runs.
+    pub fn hand_in<T: HoldsWork>(
         &mut self,
         slots: &mut Slots<T>,
         worker: u16,
         id: Id,
         request: RequestRecord,
         work: WorkResult,
-    ) -> (Id, FinishUndo)
+    ) -> FinishUndo
         requires work { IsWork T.held_request (working slots.old.image self.old) }
         requires runs { slice_get self.old.workers worker ≡ Some (Some id) }
         requires found { request_in T.held_request slots.old.image id ≡ Some request }
         requires job { job_of id request ≡ work.job }
-        ensures id { result.0 ≡ id }
         ensures finished { IsFinished T.held_request T.of_request
-            (working slots.old.image self.old) (working slots.new.image self.new) worker id work.job work.digest result.1 }
+            (working slots.old.image self.old) (working slots.new.image self.new) worker id work.job work.digest result }
         ensures pieces { slots.new.room ≡ slots.old.room }
     {
         slots.is_sound();
         let _ = slots.set(id, T::of(request.finished(work)));
         slots.push_back(ListName::Done, id);
         self.set_running(worker, None);
-        (id, FinishUndo { worker, id })
+        FinishUndo { worker, id }
     }
 
     /// Takes a finish back.

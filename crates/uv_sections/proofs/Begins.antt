@@ -12,9 +12,9 @@ use Rattle.uv_watch.specs.Watch as watch
 use Rattle.uv_requests.specs.Calls as work
 use Rattle.uv_model.specs.declared.place.Place.{Place}
 use Rattle.uv_model.specs.State.{State, watched, with_watched, refreshed}
-use Rattle.uv_step.specs.declared.record.Change.TheVariants as change
+use Rattle.uv_step.specs.Change as change
 use Rattle.uv_step.specs.declared.record.Polled.{Polled}
-use Rattle.uv_step.specs.declared.record.Record.{Record}
+use Rattle.uv_step.specs.Record.{Record}
 use Rattle.uv_step.specs.Content.{request_in}
 use Rattle.uv_step.specs.Image.{Image, Held, working_of}
 use Rattle.uv_step.specs.Undo.{Recorded}

@@ -25,7 +25,7 @@ use Rattle.uv_model.specs.State.{State, with_handle}
 use Rattle.uv_model.specs.Content.{digest_in}
 use Rattle.uv_model.specs.Next.{Moves, calls, close_front, collect_request, walk, walk_async, call, at, fire, front_moved}
 use Rattle.uv_records.specs.Names.{named, count_of}
-use Rattle.uv_step.specs.declared.record.Record.{Record}
+use Rattle.uv_step.specs.Record.{Record}
 use Rattle.uv_step.specs.Undo.{Recorded}
 use Rattle.uv_step.specs.Image.{Image, Held}
 use Rattle.uv_stands.specs.Ready.{IsReady}

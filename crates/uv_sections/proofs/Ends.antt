@@ -23,7 +23,7 @@ use Rattle.uv_model.specs.State.{State, with_id, front_request}
 use Rattle.uv_order.specs.Active.{IsTimer, has_id}
 use Rattle.uv_order.specs.Reached.{IsReached}
 use Rattle.uv_step.specs.declared.content.Content.TheVariants.{Handle, Request as Asked}
-use Rattle.uv_step.specs.declared.record.Record.{Record}
+use Rattle.uv_step.specs.Record.{Record}
 use Rattle.uv_step.specs.Content.{handle_in, request_in}
 use Rattle.uv_step.specs.Does.{FirstIs, closed_by, ended_by}
 use Rattle.uv_step.specs.Image.{Image, Held, counted_of, working_of}

@@ -1,7 +1,7 @@
 -- A step's record, and a step that grew.
 use Rattle.std.proofs.Common.{◌∙◌}
 use Rattle.uv_model.specs.declared.place.Place.{Place}
-use Rattle.uv_step.specs.declared.record.Record.{Record}
+use Rattle.uv_step.specs.Record.{Record}
 use Rattle.uv_step.specs.Image.{Held}
 use Rattle.uv_step.specs.Undo.{Recorded, Extended}
 use Rattle.uv_stands.specs.Doing.{Returns}

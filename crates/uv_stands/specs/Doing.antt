@@ -8,7 +8,7 @@ use Rattle.uv_model.specs.State.{State}
 use Rattle.uv_model.specs.Ops.{Done, do_op}
 use Rattle.uv_model.specs.Next.{Next, Moves}
 use Rattle.uv_order.specs.Reached.{IsReached}
-use Rattle.uv_step.specs.declared.record.Record.{Record}
+use Rattle.uv_step.specs.Record.{Record}
 use Rattle.uv_step.specs.Image.{Image, Held}
 use Rattle.uv_step.specs.Undo.{CanUnwind}
 use Rattle.uv_step.specs.Parts.{unwind}

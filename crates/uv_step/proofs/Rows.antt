@@ -15,11 +15,11 @@ use Rattle.uv_timer.specs.Timed.{timer_undone, collect_undone}
 use Rattle.uv_watch.specs.declared.undo.WalkUndo.{WalkUndo}
 use Rattle.uv_watch.specs.Undo.{walk_undone}
 use Rattle.uv_step.specs.declared.content.Content.TheVariants.{Handle}
-use Rattle.uv_step.specs.declared.record.Change.{Change}
-use Rattle.uv_step.specs.declared.record.Change.TheVariants as change
+use Rattle.uv_step.specs.Change.{Change}
+use Rattle.uv_step.specs.Change as change
 use Rattle.uv_step.specs.declared.record.Naming.{Naming}
 use Rattle.uv_step.specs.declared.record.Naming.TheVariants as naming
-use Rattle.uv_step.specs.declared.record.Record.{Record}
+use Rattle.uv_step.specs.Record.{Record}
 use Rattle.uv_records.specs.declared.named.Calls.{Calls}
 use Rattle.uv_records.specs.declared.named.Named.{Named}
 use Rattle.uv_records.specs.Names.{count_of, with_count, named, binding, calling}

@@ -46,8 +46,8 @@ use Rattle.uv_watch.specs.Watch as watch
 use Rattle.uv_watch.specs.Watch.{IsMovedOn}
 use Rattle.uv_step.specs.declared.content.Content.{Content}
 use Rattle.uv_step.specs.declared.content.Content.TheVariants.{Handle, Request as Asked}
-use Rattle.uv_step.specs.declared.record.Change.TheVariants as change
-use Rattle.uv_step.specs.declared.record.Record.{Record}
+use Rattle.uv_step.specs.Change as change
+use Rattle.uv_step.specs.Record.{Record}
 use Rattle.uv_step.specs.Content.{handle_in, request_in, only_handle}
 use Rattle.uv_step.specs.Image.{Image, Held, counted_of, timed_of, with_counted, with_timed, with_working}
 use Rattle.uv_step.specs.Undo.{Recorded}

@@ -1,6 +1,6 @@
 -- One step more, and one step less.
 use Rattle.std.proofs.Common.{◌≡◌, ℕ, suc, List, [], ◌∷◌, ◌++◌, length, refl, sym, ap, ◌∙◌, subst, append_assoc, append-nil}
-use Rattle.uv_step.specs.declared.record.Record.{Record}
+use Rattle.uv_step.specs.Record.{Record}
 use Rattle.uv_step.specs.Image.{Image}
 use Rattle.uv_step.specs.Parts.{unwind}
 use Rattle.uv_step.specs.Undo.{CanUnwind}

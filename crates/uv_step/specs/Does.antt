@@ -22,10 +22,10 @@ use Rattle.uv_timer.specs.Timers.{IsRescheduled}
 use Rattle.uv_step.specs.declared.content.Content.{Content}
 use Rattle.uv_step.specs.declared.content.Content.TheVariants.{Handle}
 use Rattle.uv_step.specs.declared.record.Added.{Added}
-use Rattle.uv_step.specs.declared.record.Change.{Change}
-use Rattle.uv_step.specs.declared.record.Change.TheVariants as change
+use Rattle.uv_step.specs.Change.{Change}
+use Rattle.uv_step.specs.Change as change
 use Rattle.uv_step.specs.declared.record.Naming.TheVariants.{Same as unnamed}
-use Rattle.uv_step.specs.declared.record.Record.{Record}
+use Rattle.uv_step.specs.Record.{Record}
 use Rattle.uv_step.specs.Content.{handle_in}
 
 -- the record of a change alone

@@ -6,3 +6,5 @@ pub mod Undo
 pub mod Does
 pub mod Trail
 pub mod Lies
+pub mod Change
+pub mod Record

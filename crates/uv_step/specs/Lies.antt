@@ -3,10 +3,10 @@ use Rattle.std.specs.Prelude.{◌≡◌, ◌<◌, ◌++◌, ◌∷◌, [], List,
 use Rattle.uv_handle.specs.declared.undo.RecordUndo.{RecordUndo}
 use Rattle.uv_heap.specs.declared.undo.HeapRemoveUndo.{HeapRemoveUndo}
 use Rattle.uv_timer.specs.declared.undo.TimerUndo.{TimerUndo}
-use Rattle.uv_step.specs.declared.record.Change.{Change}
-use Rattle.uv_step.specs.declared.record.Change.TheVariants as change
+use Rattle.uv_step.specs.Change.{Change}
+use Rattle.uv_step.specs.Change as change
 use Rattle.uv_step.specs.declared.record.Naming.{Naming}
-use Rattle.uv_step.specs.declared.record.Record.{Record}
+use Rattle.uv_step.specs.Record.{Record}
 use Rattle.uv_step.specs.declared.small.Small.{Small}
 use Rattle.uv_step.specs.declared.small.Small.TheVariants as small
 use Rattle.uv_step.specs.declared.medium.Medium.{Medium}

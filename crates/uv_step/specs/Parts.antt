@@ -19,9 +19,9 @@ use Rattle.uv_step.specs.declared.content.Content.{Content}
 use Rattle.uv_step.specs.declared.content.Content.TheVariants.{Handle, Request as Asked}
 use Rattle.uv_step.specs.declared.record.Naming.{Naming}
 use Rattle.uv_step.specs.declared.record.Naming.TheVariants as naming
-use Rattle.uv_step.specs.declared.record.Change.{Change}
-use Rattle.uv_step.specs.declared.record.Change.TheVariants as change
-use Rattle.uv_step.specs.declared.record.Record.{Record}
+use Rattle.uv_step.specs.Change.{Change}
+use Rattle.uv_step.specs.Change as change
+use Rattle.uv_step.specs.Record.{Record}
 use Rattle.uv_step.specs.Content.{request_in}
 use Rattle.uv_records.specs.Names.{binding, calling}
 use Rattle.uv_step.specs.Image.{Image}

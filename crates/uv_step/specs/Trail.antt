@@ -1,6 +1,6 @@
 -- Steps in a row, and taking all of them back.
 use Rattle.std.specs.Prelude.{◌≡◌, ℕ, List, [], ◌∷◌, ◌++◌, length}
-use Rattle.uv_step.specs.declared.record.Record.{Record}
+use Rattle.uv_step.specs.Record.{Record}
 use Rattle.uv_step.specs.Image.{Image}
 use Rattle.uv_step.specs.Parts.{unwind}
 use Rattle.uv_step.specs.Undo.{CanUnwind}

@@ -9,9 +9,9 @@ use Rattle.uv_step.specs.declared.content.Content.TheVariants.{Handle, Request a
 use Rattle.uv_step.specs.declared.record.Added.{Added}
 use Rattle.uv_step.specs.declared.record.Naming.{Naming}
 use Rattle.uv_step.specs.declared.record.Naming.TheVariants as naming
-use Rattle.uv_step.specs.declared.record.Change.{Change}
-use Rattle.uv_step.specs.declared.record.Change.TheVariants as change
-use Rattle.uv_step.specs.declared.record.Record.{Record}
+use Rattle.uv_step.specs.Change.{Change}
+use Rattle.uv_step.specs.Change as change
+use Rattle.uv_step.specs.Record.{Record}
 use Rattle.uv_step.specs.Content.{handle_in, request_in}
 use Rattle.uv_step.specs.Image.{Image, Held, counted_of, timed_of, working_of, standing}
 use Rattle.uv_step.specs.Parts.{unwind, unwind_parts, naming_parts}

@@ -4,7 +4,7 @@ ghost use Rattle.uv_arena.specs.Calls.{RefusesInsert};
 ghost use Rattle.uv_handle.specs.Counted.{record_at};
 ghost use Rattle.uv_handle.specs.Changes.{IsChanged};
 ghost use Rattle.uv_step.specs.declared.content.Content.TheVariants.{Handle as handle};
-ghost use Rattle.uv_step.specs.declared.record.Change.TheVariants.{Added as added, Edited as edited};
+ghost use Rattle.uv_step.specs.Change.{Added as added, Edited as edited};
 ghost use Rattle.uv_step.specs.Content.{handle_in};
 ghost use Rattle.uv_step.specs.Image.{held, Untouched, counted_of, timed_of};
 ghost use Rattle.uv_step.specs.Fit.{IsFit};

@@ -1,6 +1,6 @@
 //! What takes the last step back, as the rows of records keep it.
 ghost use Rattle.std.specs.Prelude.{◌≡◌, ◌<◌, ◌≤◌, ◌+◌, ◌-◌, IsTrue, IsFalse, [], vec_len, vec_capacity};
-ghost use Rattle.uv_step.specs.declared.record.Change.TheVariants as change;
+ghost use Rattle.uv_step.specs.Change as change;
 ghost use Rattle.uv_step.specs.declared.small.Row.TheVariants.{Heads};
 ghost use Rattle.uv_step.specs.Does.{changed};
 ghost use Rattle.uv_step.specs.Lies.{row_of, smaller, change_of, larger, lain, lies, change_at, Adds, IsLaid, HasLast};
@@ -35,7 +35,7 @@ pub(crate) enum Lying {
 }
 
 impl<P: Copy> Model for LastStep<P> {
-    ghost use Rattle.uv_step.specs.declared.record.Record.{Record};
+    ghost use Rattle.uv_step.specs.Record.{Record};
     ghost use Rattle.uv_step.specs.Lies.{lies, recorded, change_at};
 
     ghost Value = { Record P };

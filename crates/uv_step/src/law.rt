@@ -1,6 +1,6 @@
 //! Steps in a row, and taking all of them back.
 ghost use Rattle.std.specs.Prelude.{◌≡◌, ℕ, List, length};
-ghost use Rattle.uv_step.specs.declared.record.Record.{Record};
+ghost use Rattle.uv_step.specs.Record.{Record};
 ghost use Rattle.uv_step.specs.Image.{Image};
 ghost use Rattle.uv_step.specs.Trail.{Walk, unwound, CanGoBack, AreSteps, AddEach, AddsAll};
 

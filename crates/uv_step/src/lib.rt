@@ -25,5 +25,5 @@ pub use last::LastStep;
 pub use law::steps_unwind;
 pub use medium::Medium;
 pub use memory::Memory;
-pub use record::{Added, Change, Naming, Polled, Record};
+pub use record::{Added, Naming, Polled};
 pub use small::Small;

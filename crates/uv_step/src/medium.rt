@@ -1,6 +1,6 @@
 //! The changes that are too large for a head, in the row of medium ones.
 ghost use Rattle.std.specs.Prelude.{◌≡◌, IfSome};
-ghost use Rattle.uv_step.specs.declared.record.Change.TheVariants as change;
+ghost use Rattle.uv_step.specs.Change as change;
 ghost use Rattle.uv_step.specs.Lies.{change_of};
 
 use uv_arena::{ChainPlace, PushUndo};

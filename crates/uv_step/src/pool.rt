@@ -1,14 +1,14 @@
 //! Requests are queued, taken, finished, cancelled, and called back.
-ghost use Rattle.std.specs.Prelude.{◌≡◌, ◌≤◌, Option, Some, None, IfOk, IfErr, IfSome, IfNone, []};
-ghost use Rattle.uv_records.specs.declared.lists.ListName.TheVariants.{DoneYet};
-ghost use Rattle.uv_arena.specs.Calls.{RefusesInsert};
+ghost use Rattle.std.specs.Prelude.{◌≡◌, ◌≤◌, Option, Some, None, IfOk, IfErr, IfSome, IfNone, [], slice_get};
+ghost use Rattle.uv_records.specs.declared.lists.ListName.TheVariants.{DoneYet, Waiting};
+ghost use Rattle.uv_arena.specs.Calls.{RefusesInsert, IsFirst};
 ghost use Rattle.uv_arena.specs.Image.{members};
-ghost use Rattle.uv_work.specs.Requests.{reopened, cancel_refusal};
+ghost use Rattle.uv_work.specs.Requests.{reopened, cancel_refusal, job_of};
 ghost use Rattle.uv_work.specs.Pool.{waits};
-ghost use Rattle.uv_requests.specs.Working.{found, pool_of};
-ghost use Rattle.uv_requests.specs.Calls.{IsQueued, IsTaken, IsFinished, IsCancelled, IsBegun, IsCollected, RefusesTake, RefusesFinish};
+ghost use Rattle.uv_requests.specs.Working.{found, pool_of, request_in as held_request};
+ghost use Rattle.uv_requests.specs.Calls.{IsQueued, IsTaken, IsFinished, IsCancelled, IsBegun, IsCollected};
 ghost use Rattle.uv_step.specs.declared.content.Content.TheVariants.{Request as asked};
-ghost use Rattle.uv_step.specs.declared.record.Change.TheVariants.{Queued as queued, Taken as taken, Finished as finished, Cancelled as cancelled, Begun as begun, Polled as polled};
+ghost use Rattle.uv_step.specs.Change.{Queued as queued, Taken as taken, Finished as finished, Cancelled as cancelled, Begun as begun, Polled as polled};
 ghost use Rattle.uv_step.specs.Content.{request_in};
 ghost use Rattle.uv_step.specs.Image.{held, Untouched, working_of};
 ghost use Rattle.uv_step.specs.Fit.{IsFit};
@@ -21,7 +21,7 @@ use crate::memory::Memory;
 use crate::record::Polled;
 use crate::small::Small;
 use uv_arena::InsertFault;
-use uv_ids::{Code, Id, Why};
+use uv_ids::{Code, Id};
 use uv_work::{RequestRecord, WorkResult};
 
 impl<P: Copy> Memory<P> {
@@ -45,40 +45,34 @@ impl<P: Copy> Memory<P> {
         }
     }
 
-    /// A worker takes the request that waits longest.
-    pub fn take(&mut self, worker: u16) -> Result<Id, Why>
+    /// A worker that runs nothing takes this request, which waits longest.
+    pub fn take(&mut self, worker: u16, id: Id)
         requires fit { IsFit (held self.old).image }
-        ensures recorded { IfOk result (λ _. Recorded self.new.step_record (held self.old) (held self.new)) }
-        ensures does { IfOk result (λ id. By taken (λ u. IsTaken request_in
-            (working_of (held self.old).image) (working_of (held self.new).image) worker id u) self.new.step_record.change) }
-        ensures err { IfErr result (λ why. RefusesTake request_in (working_of (held self.old).image) worker why × Untouched self.old self.new) }
+        requires idle { slice_get (held self.old).image.running.workers worker ≡ Some None }
+        requires first { IsFirst (held self.old).image.arena Waiting id }
+        ensures recorded { Recorded self.new.step_record (held self.old) (held self.new) }
+        ensures does { By taken (λ u. IsTaken request_in
+            (working_of (held self.old).image) (working_of (held self.new).image) worker id u) self.new.step_record.change }
     {
-        match self.requests.take(&mut self.slots, worker) {
-            Err(why) => Err(why),
-            Ok((id, undo)) => {
-                self.step_record.note_small(self.place, Small::Taken(undo));
-                Ok(id)
-            }
-        }
+        let undo = self.requests.start_work(&mut self.slots, worker, id);
+        self.step_record.note_small(self.place, Small::Taken(undo));
     }
 
-    /// A worker hands in the result of the request that it runs.
-    pub fn finish(&mut self, worker: u16, work: WorkResult) -> Result<Id, Why>
+    /// A worker hands in the result of this request, which it runs.
+    pub fn finish(&mut self, worker: u16, id: Id, request: RequestRecord, work: WorkResult)
         requires fit { IsFit (held self.old).image }
-        ensures recorded { IfOk result (λ _. Recorded self.new.step_record (held self.old) (held self.new)) }
-        ensures does { IfOk result (λ id. By finished (λ u. IsFinished request_in asked
-            (working_of (held self.old).image) (working_of (held self.new).image) worker id work.job work.digest u) self.new.step_record.change) }
-        ensures err { IfErr result (λ why. RefusesFinish request_in (working_of (held self.old).image) worker work.job why
-            × Untouched self.old self.new) }
+        requires runs { slice_get (held self.old).image.running.workers worker ≡ Some (Some id) }
+        requires found { held_request request_in (held self.old).image.arena id ≡ Some request }
+        requires job { job_of id request ≡ work.job }
+        ensures recorded { Recorded self.new.step_record (held self.old) (held self.new) }
+        ensures does { By finished (λ u. IsFinished request_in asked
+            (working_of (held self.old).image) (working_of (held self.new).image) worker id work.job work.digest u) self.new.step_record.change }
     {
-        match self.requests.finish(&mut self.slots, worker, work) {
-            Err(why) => Err(why),
-            Ok((id, undo)) => {
-                self.step_record
-                    .note_small(self.place, Small::Finished(undo));
-                Ok(id)
-            }
-        }
+        let undo = self
+            .requests
+            .hand_in(&mut self.slots, worker, id, request, work);
+        self.step_record
+            .note_small(self.place, Small::Finished(undo));
     }
 
     /// Cancels a request that waits (uv_cancel).

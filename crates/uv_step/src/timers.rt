@@ -6,7 +6,7 @@ ghost use Rattle.uv_arena.specs.Calls.{IsFirst};
 ghost use Rattle.uv_handle.specs.Counted.{record_at};
 ghost use Rattle.uv_timer.specs.Timers.{IsRescheduled, IsCollected, IsFired, NoneIsDue, NoneIsReady};
 ghost use Rattle.uv_step.specs.declared.content.Content.TheVariants.{Handle as handle};
-ghost use Rattle.uv_step.specs.declared.record.Change.TheVariants.{Timer as timer};
+ghost use Rattle.uv_step.specs.Change.{Timer as timer};
 ghost use Rattle.uv_step.specs.Content.{handle_in};
 ghost use Rattle.uv_step.specs.Image.{held, Untouched, timed_of};
 ghost use Rattle.uv_step.specs.Fit.{IsFit};

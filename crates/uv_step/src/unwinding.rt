@@ -1,6 +1,6 @@
 //! Records are unwound: part by part, the last first. It takes no memory and can't fail.
 ghost use Rattle.std.specs.Prelude.{◌≡◌, ◌<◌, length};
-ghost use Rattle.uv_step.specs.declared.record.Change.TheVariants as change;
+ghost use Rattle.uv_step.specs.Change as change;
 ghost use Rattle.uv_step.specs.Image.{held};
 ghost use Rattle.uv_step.specs.Parts.{unwind, unwind_parts, undo, naming_parts, change_parts, Bound as bound};
 ghost use Rattle.uv_step.specs.Fit.{IsFit};

@@ -11,7 +11,7 @@ ghost use Rattle.uv_handle.specs.Changes.{IsTaken};
 ghost use Rattle.uv_watch.specs.Watch.{IsStarted, IsStopped, IsBegun, IsMovedOn};
 ghost use Rattle.uv_step.specs.declared.content.Content.{Content};
 ghost use Rattle.uv_step.specs.declared.content.Content.TheVariants.{Handle as handle};
-ghost use Rattle.uv_step.specs.declared.record.Change.TheVariants.{Enlisted as enlisted, Delisted as delisted, Begun as begun, Walked as walked};
+ghost use Rattle.uv_step.specs.Change.{Enlisted as enlisted, Delisted as delisted, Begun as begun, Walked as walked};
 ghost use Rattle.uv_step.specs.Content.{handle_in};
 ghost use Rattle.uv_step.specs.Image.{held, Untouched, counted_of};
 ghost use Rattle.uv_step.specs.Fit.{IsFit};

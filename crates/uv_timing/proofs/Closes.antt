@@ -24,7 +24,7 @@ use Rattle.uv_model.specs.Timers.{taken_off}
 use Rattle.uv_order.specs.Reached.{IsReached}
 use Rattle.uv_step.specs.declared.content.Content.{Content}
 use Rattle.uv_step.specs.declared.content.Content.TheVariants.{Handle}
-use Rattle.uv_step.specs.declared.record.Record.{Record}
+use Rattle.uv_step.specs.Record.{Record}
 use Rattle.uv_step.specs.Content.{handle_in}
 use Rattle.uv_step.specs.Does.{By, IsShut, moved_by}
 use Rattle.uv_step.specs.Fit.{IsFit}

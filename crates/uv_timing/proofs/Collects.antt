@@ -33,7 +33,7 @@ use Rattle.uv_order.specs.Active.{Before, InOrder, Has}
 use Rattle.uv_order.specs.Reached.{IsReached}
 use Rattle.uv_step.specs.declared.content.Content.{Content}
 use Rattle.uv_step.specs.declared.content.Content.TheVariants.{Handle}
-use Rattle.uv_step.specs.declared.record.Record.{Record}
+use Rattle.uv_step.specs.Record.{Record}
 use Rattle.uv_step.specs.Content.{handle_in}
 use Rattle.uv_step.specs.Does.{By, moved_by}
 use Rattle.uv_step.specs.Fit.{IsFit}

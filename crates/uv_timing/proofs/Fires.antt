@@ -33,8 +33,8 @@ use Rattle.uv_model.specs.Timers.{taken_off, with_timer, without_timer, started,
 use Rattle.uv_order.specs.Reached.{IsReached, IsSetAside}
 use Rattle.uv_step.specs.declared.content.Content.{Content}
 use Rattle.uv_step.specs.declared.content.Content.TheVariants.{Handle}
-use Rattle.uv_step.specs.declared.record.Change.TheVariants as change
-use Rattle.uv_step.specs.declared.record.Record.{Record}
+use Rattle.uv_step.specs.Change as change
+use Rattle.uv_step.specs.Record.{Record}
 use Rattle.uv_step.specs.Content.{handle_in}
 use Rattle.uv_step.specs.Image.{Image, Held, timed_of}
 use Rattle.uv_step.specs.Undo.{Recorded}

@@ -1,11 +1,11 @@
 -- Records over rows that get longer.
 use Rattle.std.proofs.Common.{◌≡◌, ℕ, suc, Bool, true, false, IsTrue, IsFalse, if◌then◌else◌, List, [], ◌∷◌, ◌++◌, ◌+◌, length, map, refl, sym, ap, ◌∙◌, arith, length-append}
 use Rattle.std.proofs.lemmas.List.{map-append, length-map, append-nil}
-use Rattle.uv_step.specs.declared.record.Change.{Change}
+use Rattle.uv_step.specs.Change.{Change}
 use Rattle.uv_step.specs.declared.medium.Medium.{Medium}
 use Rattle.uv_step.specs.declared.large.Large.{Large}
 use Rattle.uv_step.specs.declared.head.Head.{Head}
-use Rattle.uv_step.specs.declared.record.Record.{Record}
+use Rattle.uv_step.specs.Record.{Record}
 use Rattle.uv_step.specs.Lies.{Lies, Beside, AmongMediums, AmongLarges, lies, change_of, larger, recorded, Adds, HasOne, IsLaid, HasLast}
 use Rattle.uv_trail.specs.Rows.{Step, Whole, OfMedium, OfLarge, Fits, mediums_of, larges_of, records_of, step_at, step_of, steps_of}
 

@@ -1,8 +1,8 @@
 -- Steps over two rows: which change is whose.
 use Rattle.std.specs.Prelude.{◌≡◌, ◌<◌, ℕ, suc, List, [], ◌∷◌, ◌++◌, map, length}
 use Rattle.uv_step.specs.declared.record.Naming.{Naming}
-use Rattle.uv_step.specs.declared.record.Change.{Change}
-use Rattle.uv_step.specs.declared.record.Record.{Record}
+use Rattle.uv_step.specs.Change.{Change}
+use Rattle.uv_step.specs.Record.{Record}
 use Rattle.uv_step.specs.declared.head.Head.{Head}
 use Rattle.uv_step.specs.declared.medium.Medium.{Medium}
 use Rattle.uv_step.specs.declared.large.Large.{Large}

@@ -13,5 +13,5 @@ returns-clause-leads c p =
     subst (λ n. Leads p i j (Finish c.args.worker) (Some (seen.Finish c.args.worker n c.args.id))) (sym c.name.ensures)
     (finish_leads c.finish.new.self.step_record (held c.args.memory.now) (held c.finish.new.self) c.args.worker c.args.id _ c.args.request
     c.args.work.job
-    c.args.work.digest _ c.requires.may c.requires.job c.args.work.is_digest c.in-Ok.ensures.does.does c.in-Ok.ensures.recorded
-    c.in-Ok.ensures.does.is c.is_sound.ensures p)
+    c.args.work.digest _ c.requires.may c.requires.job c.args.work.is_digest c.finish.ensures.does.does c.finish.ensures.recorded
+    c.finish.ensures.does.is c.is_sound.ensures p)

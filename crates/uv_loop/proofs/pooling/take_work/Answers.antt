@@ -12,4 +12,4 @@ returns-clause-leads c p =
     let j = image_of c.take.new.self in
     subst (λ n. Leads p i j (Take c.args.worker) (Some (seen.Take c.args.worker n c.args.id))) (sym c.name.ensures)
     (take_leads c.take.new.self.step_record (held c.args.memory.now) (held c.take.new.self) c.args.worker c.args.id _ c.args.request _ c.requires.may
-    c.in-Ok.ensures.does.does c.in-Ok.ensures.recorded c.in-Ok.ensures.does.is c.is_sound.ensures p)
+    c.take.ensures.does.does c.take.ensures.recorded c.take.ensures.does.is c.is_sound.ensures p)

@@ -4,7 +4,7 @@ use Rattle.uv_timer.specs.Changes.{becoming}
 use Rattle.uv_timer.specs.Timed.{timed}
 use Rattle.uv_timer.specs.Timers.{IsRescheduled}
 use Rattle.uv_step.specs.declared.content.Content.TheVariants.{Handle}
-use Rattle.uv_step.specs.declared.record.Record.{Record}
+use Rattle.uv_step.specs.Record.{Record}
 use Rattle.uv_step.specs.Content.{handle_in}
 use Rattle.uv_step.specs.Image.{image_of, timed_of}
 use Rattle.uv_step.proofs.Steps.{shut}

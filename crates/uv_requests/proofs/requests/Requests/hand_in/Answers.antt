@@ -1,6 +1,6 @@
 use Rattle.uv_arena.proofs.Contents.{set_done}
 use Rattle.uv_requests.proofs.Ending.{finish_done}
-use Rattle.uv_requests.proofs.requests.Requests.end.Goals as goal
+use Rattle.uv_requests.proofs.requests.Requests.hand_in.Goals as goal
 
 pub returns-clause-finished : goal.returns-clause-finished
 returns-clause-finished g c =

@@ -1,5 +1,5 @@
 use Rattle.uv_requests.proofs.Opened.{take_done}
-use Rattle.uv_requests.proofs.requests.Requests.start.Goals as goal
+use Rattle.uv_requests.proofs.requests.Requests.start_work.Goals as goal
 
 pub returns-clause-taken : goal.returns-clause-taken
 returns-clause-taken g c =
