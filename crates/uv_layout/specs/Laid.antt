@@ -3,6 +3,7 @@ use Rattle.std.specs.Prelude.{◌≡◌, ℕ, ◌-◌, List, map, length, Some, 
 use Rattle.uv_records.specs.declared.lists.ListName.{ListName}
 use Rattle.uv_records.specs.Lists.{all_lists}
 use Rattle.uv_records.specs.Linked.{ends_of}
+use Rattle.uv_arena.specs.declared.links.TheConstants.{FREE}
 use Rattle.uv_arena.specs.Image as arena
 use Rattle.uv_heap.specs.Array.{place_in}
 use Rattle.uv_model.specs.declared.layout.LaidSlot.{LaidSlot}
@@ -46,7 +47,7 @@ pub record ShowsAll (l : Layout) (i : Image Place) : Type 0 where
   pub unused : l.unused ≡ i.arena.memory.row.capacity - length i.arena.memory.row.items
   pub running : l.running.items ≡ i.running.workers
   -- the ends of the free list and of the others
-  pub free : l.free ≡ ends_of (arena.chain i.arena.memory arena.FREE)
+  pub free : l.free ≡ ends_of (arena.chain i.arena.memory FREE)
   pub lists : l.lists.items ≡ map (shown_ends i.arena) all_lists
   -- the heap's array, and the two counts
   pub heap : l.heap.items ≡ i.heap
