@@ -8,5 +8,5 @@ mod memory;
 mod undo;
 
 pub use arena::{InsertFault, Slots};
-pub use links::{Cell, ChainPlace, Links};
+pub use links::{CHAIN_COUNT, Cell, ChainPlace, FREE, Links};
 pub use undo::{InsertUndo, PushUndo, RemoveUndo, SpliceUndo};

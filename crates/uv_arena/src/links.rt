@@ -2,10 +2,10 @@
 use uv_records::{LIST_COUNT, Slot};
 
 /// How many chains there are: one for each list, and that of the free slots.
-pub(crate) const CHAIN_COUNT: usize = LIST_COUNT + 1;
+pub const CHAIN_COUNT: usize = LIST_COUNT + 1;
 
 /// The chain of the free slots, behind those of the lists.
-pub(crate) const FREE: u8 = LIST_COUNT as u8;
+pub const FREE: u8 = LIST_COUNT as u8;
 
 /// The list that a slot is on, and its two neighbours there.
 #[derive(Clone, Copy, PartialEq, Eq)]
