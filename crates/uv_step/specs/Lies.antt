@@ -53,7 +53,8 @@ change_of (medium.Edited u) = change.Edited u
 change_of (medium.Enlisted u) = change.Enlisted u
 change_of (medium.Delisted u) = change.Delisted u
 change_of (medium.Reset u) = change.Timer (record { removed = None; delisted = u; set = None })
-change_of (medium.Fired place u set) = change.Timer (record { removed = None; delisted = record { unlinked = Some place; changed = u }; set = Some set })
+change_of (medium.Fired place u set) =
+    change.Timer (record { removed = None; delisted = record { unlinked = Some place; changed = u }; set = Some set })
 change_of (medium.Started u set) = change.Timer (record { removed = None; delisted = record { unlinked = None; changed = u }; set = Some set })
 change_of (medium.Stopped r u) = change.Timer (taken_off r u)
 change_of (medium.Collected put r u) = change.Moved put (taken_off r u)

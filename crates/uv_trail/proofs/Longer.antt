@@ -186,7 +186,8 @@ module _ {P : Type 0} where
   pub record_laid : (r : Record P) (hs heads : List (Head P)) (ms ns : List Medium) (ks ls : List Large) → IsLaid r hs heads ms ns ks ls
       → Fits (steps_of hs) ms ks → records_of (steps_of heads) ns ls ≡ records_of (steps_of hs) ms ks ++ r ∷ []
   record_laid r hs heads ms ns ks ls l f =
-      record_more heads hs l.head r.change (lies l.head) ms ns ks ls l.heads refl l.rows f ∙ ap (λ x. records_of (steps_of hs) ms ks ++ x ∷ []) (sym l.is)
+      record_more heads hs l.head r.change (lies l.head) ms ns ks ls l.heads refl l.rows f
+      ∙ ap (λ x. records_of (steps_of hs) ms ks ++ x ∷ []) (sym l.is)
 
   pub has_last : (heads : List (Head P)) (ms : List Medium) (ks : List Large) → Fits (steps_of heads) ms ks → HasLast heads ms ks
   has_last heads ms ks f hs h split = there heads hs h (lies h) ms ks split refl f

@@ -12,5 +12,5 @@ returns-in-Mediums-clause-adds g c =
 
 pub returns-in-Larges-clause-adds : goal.returns-in-Larges-clause-adds
 returns-in-Larges-clause-adds g c =
-    laid_large c.args.head.now c.args.medium.now c.args.large.now c.args.mediums.now.items c.args.larges.now.items c.push_reserved-in-Larges.new.self.items
-    c.in-Larges.ensures c.push_reserved-in-Larges.ensures.items
+    laid_large c.args.head.now c.args.medium.now c.args.large.now c.args.mediums.now.items c.args.larges.now.items
+    c.push_reserved-in-Larges.new.self.items c.in-Larges.ensures c.push_reserved-in-Larges.ensures.items
