@@ -35,9 +35,9 @@ impl<P: Copy> Memory<P> {
         ensures pieces { self.new.slots.room ≡ self.old.slots.room }
     {
         let naming = self.step_record.naming();
-        let change = self.step_record.change();
         self.place = self.step_record.place();
         self.unname(naming);
+        let change = self.step_record.change();
         self.undo(change);
     }
 
@@ -47,6 +47,7 @@ impl<P: Copy> Memory<P> {
         ensures image { (held self.new).image ≡ unwind_parts (naming_parts naming) (held self.old).image }
         ensures room { (held self.new).room ≡ (held self.old).room }
         ensures pieces { self.new.slots.room ≡ self.old.slots.room }
+        ensures same { self.new.step_record ≡ self.old.step_record }
     {
         match naming {
             Naming::Same => {}
@@ -69,6 +70,7 @@ impl<P: Copy> Memory<P> {
         ensures image { (held self.new).image ≡ undo (bound name id) (held self.old).image }
         ensures room { (held self.new).room ≡ (held self.old).room }
         ensures pieces { self.new.slots.room ≡ self.old.slots.room }
+        ensures same { self.new.step_record ≡ self.old.step_record }
     {
         let calls = self.named(name).calls;
         self.names[name.0 as usize] = Named { id, calls };

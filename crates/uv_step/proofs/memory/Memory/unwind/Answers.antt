@@ -1,4 +1,4 @@
-use Rattle.std.proofs.Common.{◌≡◌, sym, subst, ◌∙◌}
+use Rattle.std.proofs.Common.{◌≡◌, ap, sym, subst, ◌∙◌}
 use Rattle.uv_step.specs.Image.{image_of, standing}
 use Rattle.uv_step.specs.Fit.{IsFit}
 use Rattle.uv_step.specs.Lies.{lain}
@@ -22,7 +22,7 @@ undo-requires g c =
     let e = subst (λ n. image_of m ≡ unwind_parts (naming_parts n) (standing r.place i)) c.naming-naming.ensures
     (subst (λ p. image_of m ≡ unwind_parts (naming_parts c.naming-naming.result) (standing p i)) c.place-self.ensures c.unname.ensures.image) in
     subst (λ room. CanUndo room (lain c.change-change.result) (image_of m)) (sym c.unname.ensures.room)
-    (subst (λ k. CanUndo c.args.self.now.heap.room k (image_of m)) c.change-change.ensures
+    (subst (λ k. CanUndo c.args.self.now.heap.room k (image_of m)) (ap (λ q. q.change) (sym c.unname.ensures.same) ∙ c.change-change.ensures)
     (subst (λ k. CanUndo c.args.self.now.heap.room r.change k) (sym e) c.requires.change))
 
 pub returns-clause-image : goal.returns-clause-image
@@ -33,7 +33,7 @@ returns-clause-image g c =
     let e = subst (λ n. image_of m ≡ unwind_parts (naming_parts n) (standing r.place i)) c.naming-naming.ensures
     (subst (λ p. image_of m ≡ unwind_parts (naming_parts c.naming-naming.result) (standing p i)) c.place-self.ensures c.unname.ensures.image) in
     unwound_by r i (image_of m) (image_of c.undo.new.self) e
-    (subst (λ k. image_of c.undo.new.self ≡ unwind_parts (change_parts k) (image_of m)) (sym c.change-change.ensures) c.undo.ensures.image)
+    (subst (λ k. image_of c.undo.new.self ≡ unwind_parts (change_parts k) (image_of m)) (sym (ap (λ q. q.change) (sym c.unname.ensures.same) ∙ c.change-change.ensures)) c.undo.ensures.image)
 
 pub returns-clause-fit : goal.returns-clause-fit
 returns-clause-fit g c =
@@ -43,7 +43,7 @@ returns-clause-fit g c =
     let e = subst (λ n. image_of m ≡ unwind_parts (naming_parts n) (standing r.place i)) c.naming-naming.ensures
     (subst (λ p. image_of m ≡ unwind_parts (naming_parts c.naming-naming.result) (standing p i)) c.place-self.ensures c.unname.ensures.image) in
     let back = unwound_by r i (image_of m) (image_of c.undo.new.self) e
-    (subst (λ k. image_of c.undo.new.self ≡ unwind_parts (change_parts k) (image_of m)) (sym c.change-change.ensures) c.undo.ensures.image) in
+    (subst (λ k. image_of c.undo.new.self ≡ unwind_parts (change_parts k) (image_of m)) (sym (ap (λ q. q.change) (sym c.unname.ensures.same) ∙ c.change-change.ensures)) c.undo.ensures.image) in
     subst (λ k. IsFit k) (sym back) c.requires.fit
 
 pub returns-clause-room : goal.returns-clause-room
