@@ -7,7 +7,7 @@ use std::alloc::{AllocError, Global};
 use std::process::Abort;
 use uv_ids::{Code, Kind};
 use uv_records::WatcherKind;
-use uv_step::Content;
+use uv_work::Content;
 
 /// A call, with names by their number and handles by their slot, and what it has to answer. What a call that is taken back made of a
 /// handle is looked at in between.

@@ -9,7 +9,7 @@ use uv_arena::Slots;
 use uv_handle::{Handles, handle_at};
 use uv_ids::{Code, Id, Kind, Var};
 use uv_records::ListName;
-use uv_step::Content;
+use uv_work::Content;
 
 /// An arena, and the count of its active referenced handles.
 #[derive(Drop)]
@@ -20,14 +20,14 @@ pub struct Counted {
 
 impl Model for Counted {
     ghost use Rattle.uv_handle.specs.Counted as spec;
-    ghost use Rattle.uv_step.specs.declared.content.Content.{Content};
-    ghost use Rattle.uv_step.specs.Content.{handle_in};
+    ghost use Rattle.uv_work.specs.declared.content.Content.{Content};
+    ghost use Rattle.uv_work.specs.Content.{handle_of};
 
     ghost Value = { spec.Counted Content };
 
     ghost view = { λ c. spec.counted c.slots.image c.handles };
 
-    ghost invariant = { λ c. spec.IsCounted handle_in (spec.counted c.slots.image c.handles) };
+    ghost invariant = { λ c. spec.IsCounted handle_of (spec.counted c.slots.image c.handles) };
 }
 
 impl Counted {

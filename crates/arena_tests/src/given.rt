@@ -1,12 +1,12 @@
 //! What the tests are given: ids, and a request in a slot.
 ghost use Rattle.std.specs.Prelude.{◌≡◌};
 ghost use Rattle.uv_handle.specs.Counted.{alive_count};
-ghost use Rattle.uv_step.specs.Content.{handle_in};
+ghost use Rattle.uv_work.specs.Content.{handle_of};
 
 use uv_arena::Slots;
 use uv_ids::{Id, Var};
-use uv_step::Content;
-use uv_work::RequestRecord;
+use uv_work::Content;
+use uv_work::Request;
 
 /// The id of the first that a slot holds.
 pub fn id(slot: u32) -> Id {
@@ -18,16 +18,16 @@ pub fn id(slot: u32) -> Id {
 
 /// Puts a request in a slot, which is no handle.
 pub fn put_request(slots: &mut Slots<Content>, name: u32) -> Option<Id>
-    ensures { alive_count handle_in slots.new.image ≡ alive_count handle_in slots.old.image }
+    ensures { alive_count handle_of slots.new.image ≡ alive_count handle_of slots.old.image }
 {
-    match RequestRecord::new(Var(name), 1, b"") {
+    match Request::new(Var(name), 1, b"") {
         None => None,
         Some(request) => put(slots, request),
     }
 }
 
-fn put(slots: &mut Slots<Content>, request: RequestRecord) -> Option<Id>
-    ensures { alive_count handle_in slots.new.image ≡ alive_count handle_in slots.old.image }
+fn put(slots: &mut Slots<Content>, request: Request) -> Option<Id>
+    ensures { alive_count handle_of slots.new.image ≡ alive_count handle_of slots.old.image }
 {
     match slots.insert(Content::Request(request)) {
         Ok((id, inserted)) => {

@@ -2,7 +2,7 @@
 
 use std::process::Abort;
 use uv_ids::{Id, Var};
-use uv_work::{Job, Outcome, RequestRecord, WorkResult};
+use uv_work::{Job, Outcome, Request, WorkResult};
 
 const TEXT: &[u8; 64] = b"the quick brown fox jumps over the lazy dog, and over the lazy c";
 
@@ -195,7 +195,7 @@ fn is_job(text: &[u8], rounds: u16) -> bool {
 
 /// Whether a job is the one that was asked for.
 fn is_asked(job: Job, text: &[u8], rounds: u16) -> bool {
-    job.req() == REQ && job.text() == text && job.rounds() == rounds
+    job.req == REQ && job.text() == text && job.rounds() == rounds
 }
 
 #[test]
@@ -208,7 +208,7 @@ fn jobs_are_within_the_limits(rt: HostRuntime) {
 
 /// Whether there is a request of this text and of so many rounds.
 fn is_request(text: &[u8], rounds: u16) -> bool {
-    RequestRecord::new(Var(2), rounds, text).is_some()
+    Request::new(Var(2), rounds, text).is_some()
 }
 
 #[test]
@@ -218,7 +218,7 @@ fn requests_are_within_the_limits(rt: HostRuntime) {
 }
 
 /// Whether a request is open, and its job the one that was asked for.
-fn opens(request: RequestRecord) -> bool {
+fn opens(request: Request) -> bool {
     request.name() == Var(2)
         && request.rounds() == 1
         && request.text().is_empty()
@@ -228,7 +228,7 @@ fn opens(request: RequestRecord) -> bool {
 }
 
 /// Whether a request ends with this digest, and opens again.
-fn ends(request: RequestRecord, digest: [u8; 32]) -> bool {
+fn ends(request: Request, digest: [u8; 32]) -> bool {
     let finished = request.finished(WorkResult::compute(request.job(REQ)));
     finished.outcome() == Outcome::Finished(digest)
         && !finished.is_open()
@@ -237,7 +237,7 @@ fn ends(request: RequestRecord, digest: [u8; 32]) -> bool {
 
 #[test]
 fn what_becomes_of_a_request(rt: HostRuntime) {
-    let request = RequestRecord::new(Var(2), 1, b"").expect(&rt, "within the limits");
+    let request = Request::new(Var(2), 1, b"").expect(&rt, "within the limits");
     let (_, _, digest) = digests().first().expect(&rt, "the digest of nothing");
     assert!(&rt; opens(request) && ends(request, *digest));
     assert!(&rt; request.cancelled().outcome() == Outcome::Cancelled);

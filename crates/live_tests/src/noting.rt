@@ -18,7 +18,7 @@ pub struct Noting<M: Machine> {
 /// Whether it is the result of this request's job.
 fn is_of(work: &Option<WorkResult>, id: Id) -> bool {
     match work {
-        Some(result) => result.job().req() == id,
+        Some(result) => result.job().req == id,
         None => false,
     }
 }

@@ -26,8 +26,8 @@ use Rattle.uv_heap.specs.declared.entry.Entry.{Entry}
 use Rattle.uv_heap.specs.Order.{IsInOrder}
 use Rattle.uv_heap.specs.Array.{IsHeap, SlotsDiffer, place_in}
 use Rattle.uv_requests.specs.Working.{id_in}
-use Rattle.uv_model.specs.declared.content.Content as content
-use Rattle.uv_model.specs.declared.content.Content.TheVariants as holds
+use Rattle.uv_work.specs.declared.content.Content as content
+use Rattle.uv_work.specs.declared.content.Content.TheVariants as holds
 use Rattle.uv_model.specs.declared.layout.LaidSlot.{LaidSlot}
 use Rattle.uv_model.specs.declared.layout.Layout.{Layout}
 use Rattle.uv_model.specs.declared.layout.ListEnds.{ListEnds}
@@ -36,7 +36,7 @@ use Rattle.uv_model.specs.declared.place.Place.{Place}
 use Rattle.uv_model.specs.State.{State}
 use Rattle.uv_model.specs.Queries.{members}
 use Rattle.uv_model.specs.Layout.{LiesFor, HasNeighbours, AreWalked, slots_on, with_ends, generation_in, id_now, entry_of}
-use Rattle.uv_step.specs.declared.content.Content.{Content}
+use Rattle.uv_work.specs.declared.content.Content.{Content}
 use Rattle.uv_step.specs.Image.{Image}
 use Rattle.uv_stands.specs.Contents.{content_of, request_of, slot_of}
 use Rattle.uv_stands.specs.Stands.{StandsFor, timer_in}

@@ -5,19 +5,19 @@ use Rattle.std.proofs.lemmas.Option.{slice_get-map, slice_get_past}
 use Rattle.uv_records.specs.declared.handle.HandleRecord.{HandleRecord}
 use Rattle.uv_records.specs.declared.slot.Slot.{Slot}
 use Rattle.uv_records.specs.Slots as plain
-use Rattle.uv_script.specs.declared.task.Task.{Task}
-use Rattle.uv_script.specs.Tasks.{IsTask}
-use Rattle.uv_script.proofs.TaskLemmas.{same_task}
+use Rattle.uv_work.specs.declared.task.Task.{Task}
+use Rattle.uv_work.specs.Tasks.{IsTask}
+use Rattle.uv_work.proofs.TaskLemmas.{same_task}
 use Rattle.uv_arena.specs.declared.links.Cell.{Cell}
 use Rattle.uv_arena.specs.Image.{slot_at, slot_in}
 use Rattle.uv_work.specs.Requests as work
-use Rattle.uv_model.specs.declared.content.Content as content
-use Rattle.uv_model.specs.declared.content.Content.TheVariants as holds
-use Rattle.uv_model.specs.declared.request.Request as queued
+use Rattle.uv_work.specs.declared.content.Content as content
+use Rattle.uv_work.specs.declared.content.Content.TheVariants as holds
+use Rattle.uv_work.specs.declared.request.Request as queued
 use Rattle.uv_model.specs.declared.place.Place.{Place}
 use Rattle.uv_model.specs.State.{State}
-use Rattle.uv_step.specs.declared.content.Content.{Content}
-use Rattle.uv_step.specs.declared.content.Content.TheVariants.{Handle, Request as Asked}
+use Rattle.uv_work.specs.declared.content.Content.{Content}
+use Rattle.uv_work.specs.declared.content.Content.TheVariants.{Handle, Request as Asked}
 use Rattle.uv_step.specs.Image.{Image}
 use Rattle.uv_stands.specs.Contents.{content_of, request_of, slot_of}
 use Rattle.uv_stands.specs.Stands.{StandsFor}

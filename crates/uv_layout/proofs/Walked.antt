@@ -8,7 +8,7 @@ use Rattle.uv_arena.specs.Chains.{first, last, link, IsSegment}
 use Rattle.uv_arena.specs.declared.links.TheConstants.{FREE}
 use Rattle.uv_arena.specs.Image.{Image, IsSound, chain, chains, links_in, links_at}
 use Rattle.uv_arena.proofs.Lists.{segment_right}
-use Rattle.uv_step.specs.declared.content.Content.{Content}
+use Rattle.uv_work.specs.declared.content.Content.{Content}
 use Rattle.uv_stands.proofs.Walked.{begins_with}
 
 pub by_links : (cs : List (Cell Content)) (y : ℕ) (l : Links) → slice_get (map (λ (c : Cell Content). c.links) cs) y ≡ Some l

@@ -10,7 +10,7 @@ use Rattle.uv_model.specs.declared.layout.LaidSlot.{LaidSlot}
 use Rattle.uv_model.specs.declared.layout.Layout.{Layout}
 use Rattle.uv_model.specs.declared.layout.ListEnds.{ListEnds}
 use Rattle.uv_model.specs.declared.place.Place.{Place}
-use Rattle.uv_step.specs.declared.content.Content.{Content}
+use Rattle.uv_work.specs.declared.content.Content.{Content}
 use Rattle.uv_step.specs.Image.{Image}
 use Rattle.uv_stands.specs.Contents.{slot_of}
 

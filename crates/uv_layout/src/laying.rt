@@ -14,7 +14,8 @@ use uv_arena::Slots;
 use uv_ids::Id;
 use uv_model::{LaidSlot, Layout, ListEnds, Numbers, Place};
 use uv_records::{Ends, ListName, Slot};
-use uv_step::{Content, Memory};
+use uv_step::Memory;
+use uv_work::Content;
 
 /// A slot that was used, with its links and its place on the heap.
 fn laid_slot(memory: &Memory<Place>, number: u32) -> LaidSlot

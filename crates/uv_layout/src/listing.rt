@@ -7,7 +7,7 @@ use std::alloc::{AllocError, Global};
 use uv_arena::Slots;
 use uv_ids::Id;
 use uv_records::ListName;
-use uv_step::Content;
+use uv_work::Content;
 
 /// The ids of a list's members, front first.
 pub fn listed_ids(

@@ -1,8 +1,8 @@
 //! What the memory shows of the state that it stands for: what names are bound to, and what slots hold.
 ghost use Rattle.std.specs.Prelude.{◌≡◌, Option, option_map, option_and_then, slice_get};
 ghost use Rattle.uv_records.specs.Slots.{held};
-ghost use Rattle.uv_model.specs.declared.content.Content as state_content;
-ghost use Rattle.uv_model.specs.declared.request.Request as state_request;
+ghost use Rattle.uv_work.specs.declared.content.Content as state_content;
+ghost use Rattle.uv_work.specs.declared.request.Request as state_request;
 ghost use Rattle.uv_model.specs.State.{State, named};
 ghost use Rattle.uv_step.specs.Image.{held as held_by};
 ghost use Rattle.uv_stands.specs.Contents.{content_of, request_of};
@@ -13,7 +13,7 @@ use uv_model::{Place, Request};
 use uv_records::{Named, Slot};
 use uv_script::Task;
 use uv_step::{Content, Memory};
-use uv_work::RequestRecord;
+use uv_work::Request;
 
 /// What a name is bound to, and how often its callbacks were called.
 pub fn shown_name(memory: &Memory<Place>, name: Var) -> Named
@@ -23,7 +23,7 @@ pub fn shown_name(memory: &Memory<Place>, name: Var) -> Named
 }
 
 /// A request, with the task that it was queued with.
-fn shown_request(request: RequestRecord) -> Request
+fn shown_request(request: Request) -> Request
     ensures exact { request_of result ≡ request }
     ensures only { (q : state_request.Request) → request_of q ≡ request → q ≡ result }
 {

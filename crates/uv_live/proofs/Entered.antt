@@ -7,7 +7,7 @@ use Rattle.uv_ids.specs.declared.fault.Fault.{Fault}
 use Rattle.uv_ids.specs.declared.fault.Fault.TheVariants as fault
 use Rattle.uv_ids.specs.declared.fault.Why.TheVariants as why
 use Rattle.uv_work.specs.Ids.{same_id}
-use Rattle.uv_work.specs.Work.{Work}
+use Rattle.uv_work.specs.declared.job.Job.{Job}
 use Rattle.uv_work.specs.Pool.{Pool, IsLegal, has, waits, then_event, collected_from}
 use Rattle.uv_work.specs.declared.event.PoolEvent.{PoolEvent}
 use Rattle.uv_work.specs.declared.event.PoolEvent.TheVariants as event
@@ -57,7 +57,7 @@ is_waiting s id n = is_true (waits (pool_of s.contents).waiting id) _ n.legal.0 
 abbrev log_of : Contents → List PoolEvent
 log_of c = c.log
 
-pub queue_entered : (s t : Hold) (job : Work) (r : Result (Unit {0}) Fault) → IsNext s (event.Queue job.req) → Submits s job r t
+pub queue_entered : (s t : Hold) (job : Job) (r : Result (Unit {0}) Fault) → IsNext s (event.Queue job.req) → Submits s job r t
     → t.contents.log ≡ s.contents.log ++ event.Queue job.req ∷ []
 queue_entered s t job (Ok u) n h = ap log_of h.1
 queue_entered s t job (Err (fault.Refused why.Range)) n h = absurd (not_both _ h.0 (is_new s job.req n))

@@ -2,7 +2,7 @@
 use Rattle.std.specs.Prelude.{◌<◌, ℕ, List, [], ◌∷◌, ◌++◌, Option, Some, None, length, take, drop, map, All}
 use Rattle.uv_ids.specs.declared.event.Event.{Event}
 use Rattle.uv_ids.specs.declared.event.Event.TheVariants as step
-use Rattle.uv_work.specs.Work.{Work}
+use Rattle.uv_work.specs.declared.job.Job.{Job}
 use Rattle.uv_work.specs.declared.event.PoolEvent.{PoolEvent}
 use Rattle.uv_work.specs.declared.event.PoolEvent.TheVariants as event
 use Rattle.uv_ids.specs.declared.thread_line.ThreadLine.{ThreadLine}
@@ -43,7 +43,7 @@ step_of (event.Finish k id) = step.Finish k
 step_of _ = step.Loop
 
 -- the job of a request that it queued
-abbrev pub job_of : Did → Option Work
+abbrev pub job_of : Did → Option Job
 job_of (did.Queued job) = Some job
 job_of _ = None
 

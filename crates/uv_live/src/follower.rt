@@ -27,7 +27,7 @@ pub trait Follower {
     ghost use Rattle.uv_work.specs.Pool.{IsLegal};
     ghost use Rattle.uv_work.specs.declared.event.PoolEvent.TheVariants as event;
     ghost use Rattle.uv_work.specs.declared.event.PoolEvent.{PoolEvent};
-    ghost use Rattle.uv_work.specs.Work.{Work};
+    ghost use Rattle.uv_work.specs.declared.job.Job.{Job};
     ghost use Rattle.uv_live.specs.Course.{Course, Plan, AreNamed, events_of, job_of};
     ghost use Rattle.uv_live.specs.Following.{Adds, Applies, StaysEnded};
     ghost use Rattle.uv_live.specs.Settling.{is_send, is_line};
@@ -50,7 +50,7 @@ pub trait Follower {
     ghost events_by: { Script → Self.Outcome → List PoolEvent };
 
     // The job of a request that a step of the loop queued, by what it answered.
-    ghost job_by: { Script → Self.Outcome → Option Work };
+    ghost job_by: { Script → Self.Outcome → Option Job };
 
     // Why a step of the loop would be refused.
     ghost refusal: { Self → Option Why };

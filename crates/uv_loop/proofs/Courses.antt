@@ -13,7 +13,7 @@ use Rattle.uv_model.specs.declared.place.Place.{Place}
 use Rattle.uv_model.specs.State as state
 use Rattle.uv_model.specs.State.{State}
 use Rattle.uv_model.specs.Next.{Next, Moves, Refuses, next}
-use Rattle.uv_work.specs.Work.{Work}
+use Rattle.uv_work.specs.declared.job.Job.{Job}
 use Rattle.uv_model.specs.Handing.{RefusesResult, AnswersResult, job_run}
 use Rattle.uv_model.specs.After.{Answers, after, goes_on, state_of, IsMove, STEPS}
 use Rattle.uv_model.proofs.Runs.{after-moves, seen_by-nil, seen_by-moves, seen_by-take}
@@ -242,7 +242,7 @@ module _ (p : Program) (es : List Event) (seen : List (Option Seen)) (rs : List 
   seen_length = subst (λ (x : Course). length x.walk.records ≡ length x.standing) same (course_length p es seen rs h c)
 
   -- a finish whose result is refused
-  pub result_refused : (k : ℕ) (job : Work) (why : Why) → length es < STEPS → ((s : State) → StandsFor h.image s → RefusesResult p s k job why)
+  pub result_refused : (k : ℕ) (job : Job) (why : Why) → length es < STEPS → ((s : State) → StandsFor h.image s → RefusesResult p s k job why)
       → AnswersResult STEPS w.program w.standing k job (Err (fault.Refused why)) w.standing
   result_refused k job why few refuses =
       subst (λ (x : Course). AnswersResult STEPS x.program x.standing k job (Err (fault.Refused why)) x.standing) same
@@ -296,7 +296,7 @@ module _ (p : Program) (es : List Event) (seen : List (Option Seen)) (rs : List 
       (some, is ∙ ap (λ k. take k es) less, record { dropped = r; records = split; back = back }, kept)
 
 -- a finish with the result of the job that the worker runs is the event
-pub answers_event : (p : Program) (es : List Event) (k : ℕ) (job : Work) (r : Result Outcome Fault) (fs : List Event)
+pub answers_event : (p : Program) (es : List Event) (k : ℕ) (job : Job) (r : Result Outcome Fault) (fs : List Event)
     → job_run (after p es) k ≡ Some job → AnswersResult STEPS p es k job r fs → Answers STEPS p es (Finish k) r fs
 answers_event p es k job (Ok outcome) fs runs a = a.1
 answers_event p es k job (Err fault.Memory) fs runs a = a.1

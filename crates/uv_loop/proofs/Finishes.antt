@@ -6,23 +6,24 @@ use Rattle.uv_ids.specs.declared.seen.Seen.TheVariants as seen
 use Rattle.uv_ids.specs.declared.fault.Why.{Why}
 use Rattle.uv_ids.specs.declared.fault.Why.TheVariants as why
 use Rattle.uv_script.specs.Program.{Program}
-use Rattle.uv_script.specs.Tasks.{text_of}
+use Rattle.uv_work.specs.Tasks.{text_of}
 use Rattle.uv_records.specs.declared.lists.ListName.TheVariants as name
 use Rattle.uv_records.specs.Slots as plain
 use Rattle.uv_records.specs.Walks.{with_last}
 use Rattle.uv_arena.specs.Image as arena
 use Rattle.uv_arena.specs.Image.{IsSound, plain_slots}
-use Rattle.uv_work.specs.Work.{Work}
+use Rattle.uv_work.specs.declared.job.Job.{Job}
 use Rattle.uv_work.specs.Digests.{digest_of}
-use Rattle.uv_work.specs.Requests.{Request, finished, job_of}
+use Rattle.uv_work.specs.declared.request.Request.{Request}
+use Rattle.uv_work.specs.Requests.{finished, job_of}
 use Rattle.uv_work.specs.declared.outcome.Outcome.TheVariants as outcome
 use Rattle.uv_requests.specs.declared.undo.FinishUndo.{FinishUndo}
 use Rattle.uv_requests.specs.Working as work
 use Rattle.uv_requests.specs.Working.{id_in}
 use Rattle.uv_requests.specs.Calls.{IsFinished, RefusesFinish, RunsOther}
 use Rattle.uv_requests.proofs.Holding.{id_is, content_of}
-use Rattle.uv_model.specs.declared.content.Content.TheVariants as holds
-use Rattle.uv_model.specs.declared.request.Request as queued
+use Rattle.uv_work.specs.declared.content.Content.TheVariants as holds
+use Rattle.uv_work.specs.declared.request.Request as queued
 use Rattle.uv_model.specs.declared.place.Place.{Place}
 use Rattle.uv_model.specs.Content as model
 use Rattle.uv_model.specs.Found.{found_or}
@@ -30,11 +31,11 @@ use Rattle.uv_model.specs.State.{State, with_id}
 use Rattle.uv_model.specs.Next.{Moves, Refuses, next, finish, work_of}
 use Rattle.uv_model.specs.After.{IsMove}
 use Rattle.uv_model.specs.Handing.{job_in, job_run, RefusesResult}
-use Rattle.uv_step.specs.declared.content.Content.{Content}
-use Rattle.uv_step.specs.declared.content.Content.TheVariants.{Request as Asked}
+use Rattle.uv_work.specs.declared.content.Content.{Content}
+use Rattle.uv_work.specs.declared.content.Content.TheVariants.{Request as Asked}
 use Rattle.uv_step.specs.Change as change
 use Rattle.uv_step.specs.Record.{Record}
-use Rattle.uv_step.specs.Content.{request_in}
+use Rattle.uv_work.specs.Content.{request_of}
 use Rattle.uv_step.specs.Fit.{IsFit}
 use Rattle.uv_step.specs.Image.{Image, Held, working_of}
 use Rattle.uv_step.specs.Undo.{Recorded}
@@ -48,7 +49,7 @@ use Rattle.uv_stands.proofs.Pools.{IsAsked, asked_there, run_there, list_same, d
 -- ---- what the event does
 
 module _ (i : Image Place) (s : State) (k : ℕ) (d : Id) (r : Request) (h : StandsFor i s)
-    (runs : slice_get i.running.workers k ≡ Some (Some d)) (there : work.request_in request_in i.arena d ≡ Some r) where
+    (runs : slice_get i.running.workers k ≡ Some (Some d)) (there : work.request_in request_of i.arena d ≡ Some r) where
   abbrev asks : IsAsked s d r
   asks = asked_there i s d r h there
 
@@ -77,22 +78,22 @@ module _ (i : Image Place) (s : State) (k : ℕ) (d : Id) (r : Request) (h : Sta
       ∙ ap (λ o. job_in (found_or (with_id d (model.request_in o)) Ok (Err why.IdleWorker))) asks.there
       ∙ ap (λ (z : Request). Some (job_of d z)) asks.same
 
-no_job : Work
+no_job : Job
 no_job = record { req = record { slot = 0; generation = 0 }; rounds = 0; text = [] }
 
 -- a worker that runs a request runs its job
-no_other : (i : Image Place) (k : ℕ) → ((job : Work) → RunsOther request_in (working_of i) k job) → ⊥
+no_other : (i : Image Place) (k : ℕ) → ((job : Job) → RunsOther request_of (working_of i) k job) → ⊥
 no_other i k e =
     let a = e no_job in
     let b = e (job_of a.id a.request) in
     let same : b.id ≡ a.id = cc (a.runs, b.runs) in
-    let there : work.request_in request_in i.arena a.id ≡ Some b.request =
-    subst (λ z. work.request_in request_in i.arena z ≡ Some b.request) same b.is in
+    let there : work.request_in request_of i.arena a.id ≡ Some b.request =
+    subst (λ z. work.request_in request_of i.arena z ≡ Some b.request) same b.is in
     let one : b.request ≡ a.request = cc (a.is, there) in
     b.other (λ l. job_of (same l) (one l))
 
 pub finish_refused : (p : Program) (i : Image Place) (s : State) (k : ℕ) (w : Why) → StandsFor i s
-    → ((job : Work) → RefusesFinish request_in (working_of i) k job w) → next p s (Finish k) ≡ Refuses w
+    → ((job : Job) → RefusesFinish request_of (working_of i) k job w) → next p s (Finish k) ≡ Refuses w
 unfolding next
 finish_refused p i s k why.NoWorker h e = ap (λ o. finish s k (work_of s o)) (run_there i s k None h (e no_job))
 finish_refused p i s k why.IdleWorker h e = ap (λ o. finish s k (work_of s o)) (run_there i s k (Some None) h (e no_job))
@@ -103,7 +104,7 @@ finish_refused p i s k why.BusyWorker h e = absurd (e no_job)
 finish_refused p i s k why.Range h e = absurd (e no_job)
 
 -- the worker runs another job
-pub other_refused : (p : Program) (i : Image Place) (s : State) (k : ℕ) (d : Id) (r : Request) (job : Work) → StandsFor i s → MayFinish i k d r
+pub other_refused : (p : Program) (i : Image Place) (s : State) (k : ℕ) (d : Id) (r : Request) (job : Job) → StandsFor i s → MayFinish i k d r
     → (job_of d r ≡ job → ⊥) → RefusesResult p s k job why.NoWork
 other_refused p i s k d r job h may other = inr (refl, (job_of d r, job_there i s k d r h may.runs may.request, other))
 
@@ -112,14 +113,14 @@ pub finish_may : (p : Program) (i : Image Place) (k : ℕ) (d : Id) (r : Request
 finish_may p i k d r may s h = rw (finish_moves i s k d r h may.runs may.request p) tt
 
 -- where a worker may finish its request with its job's result, it isn't refused
-pub finishes : (i : Image Place) (k : ℕ) (d : Id) (r : Request) (job : Work) (w : Why) → MayFinish i k d r → job_of d r ≡ job
-    → RefusesFinish request_in (working_of i) k job w → ⊥
+pub finishes : (i : Image Place) (k : ℕ) (d : Id) (r : Request) (job : Job) (w : Why) → MayFinish i k d r → job_of d r ≡ job
+    → RefusesFinish request_of (working_of i) k job w → ⊥
 finishes i k d r job why.NoWorker may is e = let runs = may.runs in cc
 finishes i k d r job why.IdleWorker may is e = let runs = may.runs in cc
 finishes i k d r job why.NoWork may is e =
     let same : e.id ≡ d = cc (e.runs, may.runs) in
-    let there : work.request_in request_in i.arena d ≡ Some e.request =
-    subst (λ z. work.request_in request_in i.arena z ≡ Some e.request) same e.is in
+    let there : work.request_in request_of i.arena d ≡ Some e.request =
+    subst (λ z. work.request_in request_of i.arena z ≡ Some e.request) same e.is in
     let one : e.request ≡ r = cc (may.request, there) in
     e.other ((λ l. job_of (same l) (one l)) ∙ is)
 finishes i k d r job why.Blocked may is e = e
@@ -129,17 +130,17 @@ finishes i k d r job why.Range may is e = e
 
 -- ---- what the memory stands for then
 
-module _ (i j : Image Place) (k : ℕ) (d e : Id) (r : Request) (job : Work) (digest : List ℕ) (u : FinishUndo) (may : MayFinish i k d r)
+module _ (i j : Image Place) (k : ℕ) (d e : Id) (r : Request) (job : Job) (digest : List ℕ) (u : FinishUndo) (may : MayFinish i k d r)
     (is : job_of d r ≡ job) (made : digest ≡ digest_of job.rounds job.text)
-    (c : IsFinished request_in Asked (working_of i) (working_of j) k e job digest u) (sound : IsSound j.arena) where
+    (c : IsFinished request_of Asked (working_of i) (working_of j) k e job digest u) (sound : IsSound j.arena) where
   one : e ≡ d
   one = cc (c.runs, may.runs)
 
-  pub asked_now : work.request_in request_in i.arena e ≡ Some r
-  asked_now = subst (λ z. work.request_in request_in i.arena z ≡ Some r) (sym one) may.request
+  pub asked_now : work.request_in request_of i.arena e ≡ Some r
+  asked_now = subst (λ z. work.request_in request_of i.arena z ≡ Some r) (sym one) may.request
 
-  was : (x : Content) × (arena.held i.arena e ≡ Some x) × (request_in x ≡ Some r)
-  was = content_of request_in i.arena e r asked_now
+  was : (x : Content) × (arena.held i.arena e ≡ Some x) × (request_of x ≡ Some r)
+  was = content_of request_of i.arena e r asked_now
 
   ids : (x : ℕ) → id_in j.arena x ≡ id_in i.arena x
   ids = ids_kept i.arena j.arena e (Asked (finished digest c.from)) was.0 was.1 c.plain
@@ -153,7 +154,7 @@ module _ (i j : Image Place) (k : ℕ) (d e : Id) (r : Request) (job : Work) (di
         let asks = asked_there i s e r h asked_now in
         let from : c.from ≡ request_of asks.request = (let q : c.from ≡ r = cc (c.was, asked_now) in q ∙ sym asks.same) in
         let done : digest ≡ digest_of asks.request.task.rounds (text_of asks.request.task) =
-        made ∙ ap (λ (z : Work). digest_of z.rounds z.text) (sym is) ∙ ap (λ (z : Request). digest_of z.rounds z.text) (sym asks.same) in
+        made ∙ ap (λ (z : Job). digest_of z.rounds z.text) (sym is) ∙ ap (λ (z : Request). digest_of z.rounds z.text) (sym asks.same) in
         λ l. record { name = (from l).name; rounds = (from l).rounds; text = (from l).text; outcome = outcome.Finished (done l) }
 
     pub finished_stands : IsFit (record i { arena = j.arena; running = j.running })
@@ -169,9 +170,9 @@ module _ (i j : Image Place) (k : ℕ) (d e : Id) (r : Request) (job : Work) (di
         (ap (λ (z : work.Running). z.workers) c.running ∙ ap (λ rs. slice_set rs k None) h.running)
         sound fit
 
-pub finish_leads : (r' : Record Place) (h w : Held Place) (k : ℕ) (d e : Id) (r : Request) (job : Work) (digest : List ℕ) (u : FinishUndo)
+pub finish_leads : (r' : Record Place) (h w : Held Place) (k : ℕ) (d e : Id) (r : Request) (job : Job) (digest : List ℕ) (u : FinishUndo)
     → MayFinish h.image k d r → job_of d r ≡ job → digest ≡ digest_of job.rounds job.text
-    → IsFinished request_in Asked (working_of h.image) (working_of w.image) k e job digest u → Recorded r' h w → r'.change ≡ change.Finished u
+    → IsFinished request_of Asked (working_of h.image) (working_of w.image) k e job digest u → Recorded r' h w → r'.change ≡ change.Finished u
     → IsSound w.image.arena → (p : Program) → Leads p h.image w.image (Finish k) (Some (seen.Finish k r.name d))
 finish_leads r' h w k d e r job digest u may same made c recorded is sound p s stands reached =
     let i = h.image in

@@ -5,14 +5,14 @@ use Rattle.uv_arena.specs.declared.undo.InsertUndo.{InsertUndo}
 use Rattle.uv_arena.specs.declared.undo.RemoveUndo.{RemoveUndo}
 use Rattle.uv_arena.specs.Image as arena
 use Rattle.uv_arena.specs.Undo.{insert_undone, remove_undone}
-use Rattle.uv_work.specs.Requests.{Request}
+use Rattle.uv_work.specs.declared.request.Request.{Request}
 use Rattle.uv_requests.specs.Working as work
 use Rattle.uv_requests.specs.Undo.{reopened_by}
 use Rattle.uv_model.specs.declared.place.Place.{Place}
-use Rattle.uv_step.specs.declared.content.Content.{Content}
-use Rattle.uv_step.specs.declared.content.Content.TheVariants.{Request as Asked}
+use Rattle.uv_work.specs.declared.content.Content.{Content}
+use Rattle.uv_work.specs.declared.content.Content.TheVariants.{Request as Asked}
 use Rattle.uv_step.specs.Record.{Record}
-use Rattle.uv_step.specs.Content.{request_in}
+use Rattle.uv_work.specs.Content.{request_of}
 use Rattle.uv_step.specs.Image.{Image}
 use Rattle.uv_step.specs.Parts as part
 use Rattle.uv_step.specs.Parts.{Part, undo, unwind, unwind_parts, parts}
@@ -45,7 +45,7 @@ undo_limits (part.Active n) i = refl
 undo_limits (part.Open n) i = refl
 undo_limits (part.Ran k id) i = refl
 undo_limits (part.Held x v) i = refl
-undo_limits (part.WasOpen d) i = reopened_limits (work.request_in request_in i.arena d) d.slot i.arena
+undo_limits (part.WasOpen d) i = reopened_limits (work.request_in request_of i.arena d) d.slot i.arena
 undo_limits (part.Taken u) i = inserted_limits u i.arena
 undo_limits (part.Freed u v) i = removed_limits u v i.arena
 undo_limits (part.PutOn x) i = refl

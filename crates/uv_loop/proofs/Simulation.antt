@@ -12,7 +12,7 @@ use Rattle.uv_model.specs.declared.place.Place.{Place}
 use Rattle.uv_model.specs.State as state
 use Rattle.uv_model.specs.State.{State}
 use Rattle.uv_model.specs.Queries.{members}
-use Rattle.uv_step.specs.declared.content.Content.{Content}
+use Rattle.uv_work.specs.declared.content.Content.{Content}
 use Rattle.uv_step.specs.Image.{Image}
 use Rattle.uv_stands.specs.Stands.{StandsFor}
 use Rattle.uv_loop.specs.Course.{first_image}

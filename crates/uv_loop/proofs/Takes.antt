@@ -9,7 +9,7 @@ use Rattle.uv_script.specs.Program.{Program}
 use Rattle.uv_records.specs.declared.lists.ListName.TheVariants as name
 use Rattle.uv_arena.specs.Calls.{IsFirst}
 use Rattle.uv_arena.specs.Image.{IsSound}
-use Rattle.uv_work.specs.Requests.{Request}
+use Rattle.uv_work.specs.declared.request.Request.{Request}
 use Rattle.uv_requests.specs.declared.undo.TakeWorkUndo.{TakeWorkUndo}
 use Rattle.uv_requests.specs.Working as work
 use Rattle.uv_requests.specs.Working.{id_in}
@@ -22,7 +22,7 @@ use Rattle.uv_model.specs.Next.{Moves, Refuses, next, take, next_work}
 use Rattle.uv_model.specs.After.{IsMove}
 use Rattle.uv_step.specs.Change as change
 use Rattle.uv_step.specs.Record.{Record}
-use Rattle.uv_step.specs.Content.{request_in}
+use Rattle.uv_work.specs.Content.{request_of}
 use Rattle.uv_step.specs.Fit.{IsFit}
 use Rattle.uv_step.specs.Image.{Image, Held, working_of}
 use Rattle.uv_step.specs.Undo.{Recorded}
@@ -35,7 +35,7 @@ use Rattle.uv_stands.proofs.Pools.{IsAsked, asked_there, front_there, first_one,
 -- ---- what the event does
 
 module _ (i : Image Place) (s : State) (k : ℕ) (d : Id) (r : Request) (h : StandsFor i s) (idle : slice_get i.running.workers k ≡ Some None)
-    (first : IsFirst i.arena name.Waiting d) (there : work.request_in request_in i.arena d ≡ Some r) where
+    (first : IsFirst i.arena name.Waiting d) (there : work.request_in request_of i.arena d ≡ Some r) where
   abbrev left : List Id
   left = map (id_in i.arena) first.rest
 
@@ -55,7 +55,7 @@ module _ (i : Image Place) (s : State) (k : ℕ) (d : Id) (r : Request) (h : Sta
       (Some (seen.Take k ((ap (λ (z : Request). z.name) asks.same) l) d)))
 
 pub take_refused : (p : Program) (i : Image Place) (s : State) (k : ℕ) (w : Why) → StandsFor i s
-    → RefusesTake request_in (working_of i) k w → next p s (Take k) ≡ Refuses w
+    → RefusesTake request_of (working_of i) k w → next p s (Take k) ≡ Refuses w
 unfolding next
 take_refused p i s k why.NoWorker h e = ap (λ o. take s k (next_work s o)) (run_there i s k None h e)
 take_refused p i s k why.BusyWorker h e = ap (λ o. take s k (next_work s o)) (run_there i s k (Some (Some e.0)) h e.1)
@@ -73,7 +73,7 @@ pub take_may : (p : Program) (i : Image Place) (k : ℕ) (d : Id) (r : Request) 
 take_may p i k d r may s h = rw (take_moves i s k d r h may.idle may.first may.request p) tt
 
 -- where a worker may take a request, it isn't refused
-pub takes : (i : Image Place) (k : ℕ) (d : Id) (r : Request) (w : Why) → MayTake i k d r → RefusesTake request_in (working_of i) k w → ⊥
+pub takes : (i : Image Place) (k : ℕ) (d : Id) (r : Request) (w : Why) → MayTake i k d r → RefusesTake request_of (working_of i) k w → ⊥
 takes i k d r why.NoWorker may e = let idle = may.idle in cc
 takes i k d r why.BusyWorker may e = let idle = may.idle in let busy = e.1 in cc
 takes i k d r why.NoWork may e = let is = may.first.is in let none = e.1 in cc
@@ -85,9 +85,9 @@ takes i k d r why.Range may e = e
 -- ---- what the memory stands for then
 
 module _ (i j : Image Place) (k : ℕ) (d e : Id) (r : Request) (u : TakeWorkUndo) (may : MayTake i k d r)
-    (c : IsTaken request_in (working_of i) (working_of j) k e u) (sound : IsSound j.arena) where
-  there : work.request_in request_in i.arena e ≡ Some r
-  there = subst (λ z. work.request_in request_in i.arena z ≡ Some r) (sym (first_one i.arena name.Waiting d e may.first c.first)) may.request
+    (c : IsTaken request_of (working_of i) (working_of j) k e u) (sound : IsSound j.arena) where
+  there : work.request_in request_of i.arena e ≡ Some r
+  there = subst (λ z. work.request_in request_of i.arena z ≡ Some r) (sym (first_one i.arena name.Waiting d e may.first c.first)) may.request
 
   ids : (x : ℕ) → id_in j.arena x ≡ id_in i.arena x
   ids = ids_moved i.arena j.arena c.slots.plain
@@ -104,7 +104,7 @@ module _ (i j : Image Place) (k : ℕ) (d e : Id) (r : Request) (u : TakeWorkUnd
       sound fit
 
 pub take_leads : (r' : Record Place) (h w : Held Place) (k : ℕ) (d e : Id) (r : Request) (u : TakeWorkUndo) → MayTake h.image k d r
-    → IsTaken request_in (working_of h.image) (working_of w.image) k e u → Recorded r' h w → r'.change ≡ change.Taken u → IsSound w.image.arena
+    → IsTaken request_of (working_of h.image) (working_of w.image) k e u → Recorded r' h w → r'.change ≡ change.Taken u → IsSound w.image.arena
     → (p : Program) → Leads p h.image w.image (Take k) (Some (seen.Take k r.name d))
 take_leads r' h w k d e r u may c recorded is sound p s stands reached =
     let i = h.image in

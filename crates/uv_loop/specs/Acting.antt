@@ -5,7 +5,7 @@ use Rattle.uv_ids.specs.declared.event.Event.{Event}
 use Rattle.uv_ids.specs.declared.event.Event.TheVariants.{Loop, Take, Finish, Cancel, Send, Tick}
 use Rattle.uv_ids.specs.declared.fault.Why.{Why}
 use Rattle.uv_script.specs.Program.{Program}
-use Rattle.uv_work.specs.Requests.{Request}
+use Rattle.uv_work.specs.declared.request.Request.{Request}
 use Rattle.uv_model.specs.declared.limits.TheConstants.{LATEST}
 use Rattle.uv_model.specs.declared.place.Body.{Body}
 use Rattle.uv_model.specs.declared.place.Place.{Place}

@@ -4,7 +4,7 @@ ghost use Rattle.std.specs.Prelude.{◌≡◌, ◌+◌, ◌≤◌, Some, IfOk, I
 ghost use Rattle.uv_ids.specs.declared.id.Id.{Id};
 ghost use Rattle.uv_ids.specs.declared.event.Event.TheVariants.{Take, Finish, Tick};
 ghost use Rattle.uv_script.specs.Program.{Program, arena_size};
-ghost use Rattle.uv_work.specs.Requests.{Request};
+ghost use Rattle.uv_work.specs.declared.request.Request.{Request};
 ghost use Rattle.uv_step.specs.Fit.{IsFit};
 ghost use Rattle.uv_step.specs.Image.{held};
 ghost use Rattle.uv_stands.specs.Doing.{Returns};

@@ -16,11 +16,11 @@ use crate::steps::Steps;
 use std::alloc::Global;
 use uv_ids::{Event, Fault, Id, Seen, Var, Why};
 use uv_layout::{free_slots, layout_of, listed_ids, run_at, shown, shown_name, shown_slot};
-use uv_model::{Content, Layout, Machine, Numbers, Outcome, Place, STEPS, runner_of};
+use uv_model::{Layout, Machine, Numbers, Outcome, Place, STEPS, runner_of};
 use uv_records::{ListName, Named, Slot};
 use uv_script::Script;
 use uv_timing::timer_ids;
-use uv_work::WorkResult;
+use uv_work::{Content, WorkResult};
 
 impl Machine for ArenaLoop {
     ghost program = { λ machine. machine.program };

@@ -15,14 +15,14 @@ use uv_ids::{Answer, Id, Seen, Var};
 use uv_model::Place;
 use uv_ops::cancel;
 use uv_step::Memory;
-use uv_work::{RequestRecord, WorkResult};
+use uv_work::{Request, WorkResult};
 
 /// A worker takes a request: what that appends.
 pub(crate) fn take_work(
     memory: &mut Memory<Place>,
     worker: u16,
     id: Id,
-    request: RequestRecord,
+    request: Request,
 ) -> Seen
     requires fit { IsFit (held memory.old).image }
     requires may { MayTake (held memory.old).image worker id request }
@@ -39,7 +39,7 @@ pub(crate) fn finish_work(
     memory: &mut Memory<Place>,
     worker: u16,
     id: Id,
-    request: RequestRecord,
+    request: Request,
     work: WorkResult,
 ) -> Seen
     requires fit { IsFit (held memory.old).image }

@@ -19,9 +19,9 @@ use Rattle.uv_script.specs.declared.op.Op.TheVariants as op
 use Rattle.uv_script.specs.declared.op.MainOp.{MainOp}
 use Rattle.uv_script.specs.declared.op.MainOp.TheVariants as main
 use Rattle.uv_script.specs.declared.op.CallbackLine.{CallbackLine}
-use Rattle.uv_script.specs.declared.task.Task.{Task}
+use Rattle.uv_work.specs.declared.task.Task.{Task}
 use Rattle.uv_script.specs.Program.{Program, arena_size, order_of}
-use Rattle.uv_script.specs.Tasks.{text_of}
+use Rattle.uv_work.specs.Tasks.{text_of}
 use Rattle.uv_work.specs.Digests.{digest_of}
 use Rattle.uv_work.specs.declared.outcome.Outcome.{Outcome}
 use Rattle.uv_work.specs.declared.outcome.Outcome.TheVariants.{Finished, Cancelled}
@@ -43,8 +43,8 @@ use Rattle.uv_records.specs.Refusals.{start_timer_refusal, start_watcher_refusal
 use Rattle.uv_records.specs.Slots as slots
 use Rattle.uv_records.specs.Slots.{Slots, taken, taken_from, freed, next_free}
 use Rattle.uv_records.specs.Walks.{Walk, with_first, with_last, all_yet}
-use Rattle.uv_model.specs.declared.content.Content.{Content}
-use Rattle.uv_model.specs.declared.content.Content.TheVariants as content
+use Rattle.uv_work.specs.declared.content.Content.{Content}
+use Rattle.uv_work.specs.declared.content.Content.TheVariants as content
 use Rattle.uv_records.specs.declared.named.Calls.{Calls}
 use Rattle.uv_records.specs.declared.named.Named.{Named}
 use Rattle.uv_model.specs.declared.place.Body.{Body}
@@ -61,10 +61,11 @@ use Rattle.uv_model.specs.declared.place.Timing.{Timing}
 use Rattle.uv_model.specs.declared.place.Timing.TheVariants.{Collecting, Firing}
 use Rattle.uv_model.specs.declared.place.Place.{Place}
 use Rattle.uv_model.specs.declared.place.Place.TheVariants.{Main, Running}
-use Rattle.uv_model.specs.declared.request.Request.{Request}
+use Rattle.uv_work.specs.declared.request.Request.{Request}
 use Rattle.uv_model.specs.Found.{found_or}
 use Rattle.uv_model.specs.Ids.{same_id, without_id, has_some}
-use Rattle.uv_model.specs.Content.{handle_in, queued, digest_in}
+use Rattle.uv_work.specs.Requests.{queued, digest_in}
+use Rattle.uv_model.specs.Content.{handle_in}
 use Rattle.uv_model.specs.State.{State, fresh, named, handle, with_handle, request, with_named, with_id, live, live_handle, live_request, front, front_request, watched, with_watched, refreshed}
 use Rattle.uv_records.specs.Names.{unbound, counted, count_of}
 use Rattle.uv_model.specs.Timers.{taken_off, stopped, started, restarted}

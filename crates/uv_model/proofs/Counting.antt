@@ -19,12 +19,12 @@ use Rattle.uv_records.specs.Lists.{watcher_kind}
 use Rattle.uv_records.specs.Slots as slots
 use Rattle.uv_records.specs.Slots.{Slots, taken, taken_from, freed, next_free}
 use Rattle.uv_records.specs.Walks.{Walk}
-use Rattle.uv_model.specs.declared.content.Content.{Content}
-use Rattle.uv_model.specs.declared.content.Content.TheVariants as content
+use Rattle.uv_work.specs.declared.content.Content.{Content}
+use Rattle.uv_work.specs.declared.content.Content.TheVariants as content
 use Rattle.uv_records.specs.declared.named.Calls.{Calls}
 use Rattle.uv_records.specs.declared.named.Named.{Named}
 use Rattle.uv_model.specs.declared.place.Place.{Place}
-use Rattle.uv_model.specs.declared.request.Request.{Request}
+use Rattle.uv_work.specs.declared.request.Request.{Request}
 use Rattle.uv_model.specs.Content.{handle_in, request_in}
 use Rattle.uv_model.specs.State.{State, named, handle, with_handle, request, with_request, with_named, with_id, live_id, as_handle, as_request, live_handle, live_request, with_watched, refreshed}
 use Rattle.uv_model.specs.Timers.{taken_off, stopped, started}

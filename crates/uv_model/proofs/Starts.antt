@@ -9,7 +9,7 @@ use Rattle.uv_ids.specs.declared.due.Due.{Due}
 use Rattle.uv_records.specs.declared.handle.HandleRecord.{HandleRecord}
 use Rattle.uv_records.specs.declared.slot.Slot.{Slot}
 use Rattle.uv_records.specs.Handles.{is_timer, begun_at}
-use Rattle.uv_model.specs.declared.content.Content.{Content}
+use Rattle.uv_work.specs.declared.content.Content.{Content}
 use Rattle.uv_model.specs.State.{State, with_handle}
 use Rattle.uv_model.specs.Timers.{with_timer, without_timer, due_after, taken_off, stopped, started}
 use Rattle.uv_model.specs.Bounds.{StartsBefore}

@@ -14,7 +14,7 @@ use Rattle.uv_work.specs.Pool.{busy}
 use Rattle.uv_model.specs.declared.layout.LaidSlot.{LaidSlot}
 use Rattle.uv_model.specs.declared.layout.Layout.{Layout}
 use Rattle.uv_model.specs.declared.layout.ListEnds.{ListEnds}
-use Rattle.uv_model.specs.Content.{handle_of}
+use Rattle.uv_work.specs.Content.{handle_of}
 use Rattle.uv_model.specs.State.{State}
 use Rattle.uv_model.specs.Queries.{numbers, members}
 

@@ -22,7 +22,7 @@ use Rattle.uv_script.specs.declared.op.MainOp.{MainOp}
 use Rattle.uv_script.specs.declared.op.MainOp.TheVariants as main
 use Rattle.uv_script.specs.declared.op.CallbackLine.{CallbackLine}
 use Rattle.uv_script.specs.Program.{Program, arena_size, order_of, lines_in, is_for}
-use Rattle.uv_script.specs.Tasks.{text_of}
+use Rattle.uv_work.specs.Tasks.{text_of}
 use Rattle.uv_model.specs.declared.limits.TheConstants.{LATEST}
 use Rattle.uv_model.specs.declared.place.Body.{Body}
 use Rattle.uv_model.specs.declared.place.Run.{Run}
@@ -47,8 +47,8 @@ use Rattle.uv_records.specs.Slots.{freed}
 use Rattle.uv_records.specs.Walks.{all_yet, moved_on}
 use Rattle.uv_work.specs.Digests.{digest_of}
 use Rattle.uv_work.specs.declared.outcome.Outcome.TheVariants.{Finished}
-use Rattle.uv_model.specs.declared.request.Request.{Request}
-use Rattle.uv_model.specs.Content.{digest_in}
+use Rattle.uv_work.specs.declared.request.Request.{Request}
+use Rattle.uv_work.specs.Requests.{digest_in}
 use Rattle.uv_model.specs.Found.{found_or}
 use Rattle.uv_model.specs.Ids.{has_some}
 use Rattle.uv_model.specs.State.{State, live_handle, live_request, handle, request, with_id, front_request, with_handle, named, with_named, front, watched, with_watched, refreshed}

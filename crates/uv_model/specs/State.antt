@@ -13,9 +13,9 @@ use Rattle.uv_records.specs.Names.{unbound}
 use Rattle.uv_records.specs.Slots.{Slots, unused_slots, held, with_held}
 use Rattle.uv_records.specs.Walks.{Walk, nothing_listed}
 use Rattle.uv_script.specs.Program.{Program, arena_size, worker_count}
-use Rattle.uv_model.specs.declared.content.Content.{Content}
-use Rattle.uv_model.specs.declared.content.Content.TheVariants as content
-use Rattle.uv_model.specs.declared.request.Request.{Request}
+use Rattle.uv_work.specs.declared.content.Content.{Content}
+use Rattle.uv_work.specs.declared.content.Content.TheVariants as content
+use Rattle.uv_work.specs.declared.request.Request.{Request}
 use Rattle.uv_records.specs.declared.named.Named.{Named}
 use Rattle.uv_model.specs.declared.place.Place.{Place}
 use Rattle.uv_model.specs.declared.place.Place.TheVariants.{Main}

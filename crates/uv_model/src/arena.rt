@@ -4,13 +4,14 @@ ghost use Rattle.std.specs.List.{list_any};
 ghost use Rattle.uv_records.specs.Slots.{unused_slots, held, id_of, with_held, next_free, taken, freed};
 ghost use Rattle.uv_records.specs.declared.slot.Slot as slot;
 ghost use Rattle.uv_model.specs.Content.{content_keeps, content_pends, is_used};
-ghost use Rattle.uv_model.specs.declared.content.Content as holds;
+ghost use Rattle.uv_work.specs.declared.content.Content as holds;
 
-use crate::content::{Content, content_keeps, content_pends, is_used};
+use crate::content::{content_keeps, content_pends, is_used};
 use std::alloc::{AllocError, Global};
 use std::marker::Model;
 use uv_ids::Id;
 use uv_records::Slot;
+use uv_work::Content;
 
 mod queries;
 
@@ -26,7 +27,7 @@ pub struct Arena {
 impl Model for Arena {
     ghost use Rattle.std.specs.Prelude.{◌+◌, ◌<◌, ◌^◌, length};
     ghost use Rattle.uv_records.specs.Slots.{Slots};
-    ghost use Rattle.uv_model.specs.declared.content.Content as holds;
+    ghost use Rattle.uv_work.specs.declared.content.Content as holds;
 
     ghost Value = { Slots holds.Content };
 

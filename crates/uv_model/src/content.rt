@@ -1,16 +1,9 @@
-//! What the arena's slots hold.
+//! What is asked of what a slot of the arena holds.
 ghost use Rattle.std.specs.Prelude.{◌≡◌};
 ghost use Rattle.uv_model.specs.Content.{handle_in, request_in, content_keeps, content_pends, is_used};
 
-use crate::request::Request;
 use uv_records::HandleRecord;
-
-/// What a slot holds.
-#[derive(Clone, Copy, PartialEq, Eq)]
-pub enum Content {
-    Handle(HandleRecord),
-    Request(Request),
-}
+use uv_work::{Content, Request};
 
 /// The handle that a slot holds, if it holds one.
 pub fn handle_in(content: Option<Content>) -> Option<HandleRecord>

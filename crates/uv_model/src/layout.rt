@@ -1,10 +1,10 @@
 //! How a machine's memory lies.
-use crate::content::Content;
 use crate::numbers::Numbers;
 use crate::place::Place;
 use uv_heap::Entry;
 use uv_ids::Id;
 use uv_records::{Ends, ListName, Named, Slot};
+use uv_work::Content;
 
 /// A slot that was used, as it lies in memory.
 #[derive(Clone, Copy)]

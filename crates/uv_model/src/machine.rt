@@ -4,7 +4,6 @@ ghost use Rattle.uv_ids.specs.declared.event.Event.{Event};
 ghost use Rattle.uv_ids.specs.declared.fault.Fault.TheVariants.{Memory};
 ghost use Rattle.uv_script.specs.Program.{Program};
 
-use crate::content::Content;
 use crate::layout::Layout;
 use crate::numbers::Numbers;
 use crate::place::Place;
@@ -12,7 +11,7 @@ use std::alloc::Global;
 use uv_ids::{Event, Fault, Id, Seen, Var};
 use uv_records::{ListName, Named, Slot};
 use uv_script::Script;
-use uv_work::WorkResult;
+use uv_work::{Content, WorkResult};
 
 /// The most steps that a machine takes (own).
 pub const STEPS: usize = 16_777_216;

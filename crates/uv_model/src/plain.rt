@@ -5,7 +5,6 @@ ghost use Rattle.uv_model.specs.State.{fresh};
 ghost use Rattle.uv_model.specs.Next.{next};
 ghost use Rattle.uv_model.specs.Bounds.{CanStep};
 
-use crate::content::Content;
 use crate::layout::Layout;
 use crate::machine::{Machine, Outcome, STEPS};
 use crate::numbers::Numbers;
@@ -17,7 +16,7 @@ use std::mem;
 use uv_ids::{Event, Fault, Id, Seen, Var};
 use uv_records::{ListName, Named, Slot};
 use uv_script::Script;
-use uv_work::WorkResult;
+use uv_work::{Content, WorkResult};
 
 /// A machine whose every step is the model's own.
 #[derive(Drop)]

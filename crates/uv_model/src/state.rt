@@ -4,9 +4,8 @@ ghost use Rattle.uv_model.specs.Ops.{bound_to};
 ghost use Rattle.uv_model.specs.State.{fresh, handle, with_handle, request, with_request, named, with_named, live, live_handle, live_request, front, front_request, refreshed};
 
 use crate::arena::Arena;
-use crate::content::{Content, handle_in, request_in};
+use crate::content::{handle_in, request_in};
 use crate::place::Place;
-use crate::request::Request;
 use crate::walked::Walked;
 use std::alloc::{AllocError, Global};
 use std::collections::BTreeMap;
@@ -14,6 +13,7 @@ use std::marker::Model;
 use uv_ids::{Code, Due, Id, Var};
 use uv_records::{HandleRecord, Named};
 use uv_script::Script;
+use uv_work::Request;
 
 mod ops;
 mod phases;

@@ -14,27 +14,28 @@ use Rattle.uv_records.specs.Walks.{with_last, without}
 use Rattle.uv_arena.specs.Image as arena
 use Rattle.uv_arena.specs.Image.{IsSound}
 use Rattle.uv_work.specs.Pool.{Pool, waits}
-use Rattle.uv_work.specs.Requests.{Request, cancelled, cancel_refusal}
+use Rattle.uv_work.specs.declared.request.Request.{Request}
+use Rattle.uv_work.specs.Requests.{cancelled, cancel_refusal}
 use Rattle.uv_work.specs.declared.outcome.Outcome.TheVariants as outcome
 use Rattle.uv_requests.specs.declared.undo.CancelUndo.{CancelUndo}
 use Rattle.uv_requests.specs.Working as work
 use Rattle.uv_requests.specs.Working.{id_in, pool_of}
 use Rattle.uv_requests.specs.Calls.{IsCancelled}
 use Rattle.uv_requests.proofs.Holding.{id_is, content_of}
-use Rattle.uv_model.specs.declared.content.Content as content
-use Rattle.uv_model.specs.declared.content.Content.TheVariants as holds
-use Rattle.uv_model.specs.declared.request.Request as queued
+use Rattle.uv_work.specs.declared.content.Content as content
+use Rattle.uv_work.specs.declared.content.Content.TheVariants as holds
+use Rattle.uv_work.specs.declared.request.Request as queued
 use Rattle.uv_model.specs.declared.place.Place.{Place}
 use Rattle.uv_model.specs.Ids.{same_id, without_id}
 use Rattle.uv_model.specs.State.{State, with_id, as_request, live_id, live_request}
 use Rattle.uv_model.specs.Ops as ops
 use Rattle.uv_model.specs.Ops.{Done, refuses, cancel}
 use Rattle.uv_order.proofs.IdLists.{turned}
-use Rattle.uv_step.specs.declared.content.Content.{Content}
-use Rattle.uv_step.specs.declared.content.Content.TheVariants.{Request as Asked}
+use Rattle.uv_work.specs.declared.content.Content.{Content}
+use Rattle.uv_work.specs.declared.content.Content.TheVariants.{Request as Asked}
 use Rattle.uv_step.specs.Change as change
 use Rattle.uv_step.specs.Record.{Record}
-use Rattle.uv_step.specs.Content.{request_in}
+use Rattle.uv_work.specs.Content.{request_of}
 use Rattle.uv_step.specs.Does.{By}
 use Rattle.uv_step.specs.Fit.{IsFit}
 use Rattle.uv_step.specs.Image.{Image, Held, working_of}
@@ -55,7 +56,7 @@ any_same : (ids : List Id) (d : Id) → list_any (same_id d) ids ≡ waits ids d
 any_same [] d = refl
 any_same (x ∷ ids) d = let here = turned d x in let rest = any_same ids d in λ l. here l || rest l
 
-waits_there : (i : Image Place) (s : State) (d : Id) (w : Bool) → StandsFor i s → waits (pool_of request_in (working_of i)).waiting d ≡ w
+waits_there : (i : Image Place) (s : State) (d : Id) (w : Bool) → StandsFor i s → waits (pool_of request_of (working_of i)).waiting d ≡ w
     → list_any (same_id d) s.waiting ≡ w
 waits_there i s d w h e = any_same s.waiting d ∙ ap (λ ids. waits ids d) (h.lists name.Waiting) ∙ e
 
@@ -67,7 +68,7 @@ request_by : (i : Image Place) (s : State) (v : Var) (o : Option Id) → StandsF
 request_by i s v o h e = ap as_request (live_by i s v o h e)
 
 refused_by : (s : State) (d : Id) (o : Option content.Content) (w : Bool) (why : Code) → list_any (same_id d) s.waiting ≡ w
-    → cancel_refusal (option_map request_in (option_map held_as o)) w ≡ Some why → cancel s (as_request (with_id d o)) ≡ refuses s why
+    → cancel_refusal (option_map request_of (option_map held_as o)) w ≡ Some why → cancel s (as_request (with_id d o)) ≡ refuses s why
 refused_by s d None w why any e = let q : code.Estale ≡ why = cc e in ap (refuses s) q
 refused_by s d (Some (holds.Handle h)) w why any e = let q : code.Ekind ≡ why = cc e in ap (refuses s) q
 refused_by s d (Some (holds.Request r)) true why any e = cc
@@ -80,14 +81,14 @@ pub cancel_unbound : (i : Image Place) (v : Var) → None ≡ (named i.names v.0
 cancel_unbound i v unbound s h = (s, ap (λ o. cancel s (as_request o)) (live_by i s v None h unbound), h)
 
 pub cancel_refused : (i j : Image Place) (v : Var) → j ≡ i → (d : Id) (why : Code) → Some d ≡ (named i.names v.0).id
-    → cancel_refusal (work.found request_in i.arena d) (waits (pool_of request_in (working_of i)).waiting d) ≡ Some why
+    → cancel_refusal (work.found request_of i.arena d) (waits (pool_of request_of (working_of i)).waiting d) ≡ Some why
     → Cancels v i j (answer.Code why)
 cancel_refused i j v same d why bound r s h =
-    let w = waits (pool_of request_in (working_of i)).waiting d in (
+    let w = waits (pool_of request_of (working_of i)).waiting d in (
       s,
       ap (cancel s) (request_by i s v (Some d) h bound)
           ∙ refused_by s d (plain.held s.arena.slots d) w why (waits_there i s d w h refl)
-          (ap (λ o. cancel_refusal (option_map request_in o) w) (sym (held_there i s d h)) ∙ r),
+          (ap (λ o. cancel_refusal (option_map request_of o) w) (sym (held_there i s d h)) ∙ r),
       subst (λ q. StandsFor q s) (sym same) h,
     )
 
@@ -97,13 +98,13 @@ some_cut : (b : Bool) (p q : Pool) → cond b (Some p) None ≡ Some q → b ≡
 some_cut true p q e = refl
 some_cut false p q e = cc
 
-module _ (i j : Image Place) (d : Id) (u : CancelUndo) (c : IsCancelled request_in Asked (working_of i) (working_of j) d u)
+module _ (i j : Image Place) (d : Id) (u : CancelUndo) (c : IsCancelled request_of Asked (working_of i) (working_of j) d u)
     (sound : IsSound j.arena) where
-  waited : waits (pool_of request_in (working_of i)).waiting d ≡ true
+  waited : waits (pool_of request_of (working_of i)).waiting d ≡ true
   waited = some_cut _ _ _ c.rule
 
-  was : (x : Content) × (arena.held i.arena d ≡ Some x) × (request_in x ≡ Some c.from)
-  was = content_of request_in i.arena d c.from c.was
+  was : (x : Content) × (arena.held i.arena d ≡ Some x) × (request_of x ≡ Some c.from)
+  was = content_of request_of i.arena d c.from c.was
 
   one : id_in i.arena d.slot ≡ d
   one = id_is i.arena d was.0 was.1
@@ -154,7 +155,7 @@ module _ (i j : Image Place) (d : Id) (u : CancelUndo) (c : IsCancelled request_
 
 module _ (r : Record Place) (h w : Held Place) (recorded : Recorded r h w) (sound : IsSound w.image.arena) (v : Var) (d : Id)
     (bound : Some d ≡ (named h.image.names v.0).id) where
-  done_with : (u : CancelUndo) → r.change ≡ change.Cancelled u → IsCancelled request_in Asked (working_of h.image) (working_of w.image) d u
+  done_with : (u : CancelUndo) → r.change ≡ change.Cancelled u → IsCancelled request_of Asked (working_of h.image) (working_of w.image) d u
       → Cancels v h.image w.image (answer.Cancelled d)
   done_with u is c s stands =
       let i = h.image in
@@ -167,7 +168,7 @@ module _ (r : Record Place) (h w : Held Place) (recorded : Recorded r h w) (soun
         subst (λ q. StandsFor q t) (sym frame) (cancelled_stands i j d u c sound s stands (subst (λ q. IsFit q) frame recorded.fit)),
       )
 
-  pub cancel_done : By change.Cancelled (λ u. IsCancelled request_in Asked (working_of h.image) (working_of w.image) d u) r.change
+  pub cancel_done : By change.Cancelled (λ u. IsCancelled request_of Asked (working_of h.image) (working_of w.image) d u) r.change
       → Cancels v h.image w.image (answer.Cancelled d)
   cancel_done by = done_with by.undo by.is by.does
 

@@ -7,10 +7,10 @@ use Rattle.uv_handle.specs.Counted.{record_at}
 use Rattle.uv_handle.specs.Changes.{IsChanged}
 use Rattle.uv_model.specs.declared.place.Place.{Place}
 use Rattle.uv_model.specs.State.{State, with_handle}
-use Rattle.uv_step.specs.declared.content.Content.TheVariants.{Handle}
+use Rattle.uv_work.specs.declared.content.Content.TheVariants.{Handle}
 use Rattle.uv_step.specs.Change as change
 use Rattle.uv_step.specs.Record.{Record}
-use Rattle.uv_step.specs.Content.{handle_in}
+use Rattle.uv_work.specs.Content.{handle_of}
 use Rattle.uv_step.specs.Does.{By}
 use Rattle.uv_step.specs.Image.{Held, counted_of}
 use Rattle.uv_step.specs.Undo.{Recorded}
@@ -19,8 +19,8 @@ use Rattle.uv_stands.proofs.Edits.{changed_stands, edited_frame}
 
 -- each state has the other record, too
 pub edited_stands : (r : Record Place) (h w : Held Place) → Recorded r h w → IsSound w.image.arena → (d : Id) (from to : HandleRecord)
-    → record_at handle_in h.image.arena d ≡ Some from
-    → By change.Edited (λ u. IsChanged handle_in Handle (counted_of h.image) (counted_of w.image) d from to u) r.change
+    → record_at handle_of h.image.arena d ≡ Some from
+    → By change.Edited (λ u. IsChanged handle_of Handle (counted_of h.image) (counted_of w.image) d from to u) r.change
     → (s : State) → StandsFor h.image s → StandsFor w.image (with_handle s d to)
 edited_stands r h w recorded sound d from to there by s stands =
     let frame = edited_frame r h.image w.image by.undo recorded.back recorded.unnamed by.is recorded.place in

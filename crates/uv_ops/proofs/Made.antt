@@ -15,14 +15,14 @@ use Rattle.uv_arena.specs.Image.{IsSound, plain_slots}
 use Rattle.uv_handle.specs.Counted.{counted, IsCounted}
 use Rattle.uv_heap.specs.declared.entry.Entry.{Entry}
 use Rattle.uv_requests.specs.Working.{id_in}
-use Rattle.uv_model.specs.declared.content.Content as content
+use Rattle.uv_work.specs.declared.content.Content as content
 use Rattle.uv_model.specs.declared.place.Place.{Place}
 use Rattle.uv_model.specs.Found.{found_or}
 use Rattle.uv_model.specs.State.{State, live}
 use Rattle.uv_model.specs.Ops.{make, refuses}
 use Rattle.uv_model.specs.Queries.{members}
-use Rattle.uv_step.specs.declared.content.Content.{Content}
-use Rattle.uv_step.specs.Content.{handle_in}
+use Rattle.uv_work.specs.declared.content.Content.{Content}
+use Rattle.uv_work.specs.Content.{handle_of}
 use Rattle.uv_step.specs.Image.{Image}
 use Rattle.uv_stands.specs.Contents.{content_of, slots_of}
 use Rattle.uv_stands.specs.Doing.{Does}
@@ -97,7 +97,7 @@ module _ (i : Image Place) (s : State) (h : StandsFor i s) (k : arena.Image Cont
     beside_asyncs name.DoneYet ne = refl
 
     pub handle_stands : (m : ℕ) → ((l : ListName) → l ≢ name.Async → arena.members k l ≡ arena.members i.arena l)
-        → Listed k with_asyncs name.Async → IsSound k → IsCounted handle_in (counted k m)
+        → Listed k with_asyncs name.Async → IsSound k → IsCounted handle_of (counted k m)
         → StandsFor (record i { arena = k; active = m }) with_asyncs
     handle_stands m others listed sound counts = record {
       place = h.place;
@@ -119,6 +119,6 @@ module _ (i : Image Place) (s : State) (h : StandsFor i s) (k : arena.Image Cont
         same = h.timers.same
             ∙ sym (map_same (timer_in k) (timer_in i.arena) (λ (e : Entry). ap (λ z. (e.due, z)) (taken_ids e.slot)) h.timers.entries);
       };
-      active = counts ∙ ap (λ (q : plain.Slots Content). active_count handle_in q.slots) taken_slots ∙ active_as with_asyncs.arena.slots;
+      active = counts ∙ ap (λ (q : plain.Slots Content). active_count handle_of q.slots) taken_slots ∙ active_as with_asyncs.arena.slots;
       opened = h.opened;
     }

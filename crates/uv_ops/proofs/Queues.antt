@@ -4,26 +4,27 @@ use Rattle.uv_ids.specs.declared.id.Id.{Id}
 use Rattle.uv_ids.specs.declared.id.Var.{Var}
 use Rattle.uv_ids.specs.declared.code.Answer.TheVariants as answer
 use Rattle.uv_script.specs.declared.op.Op.TheVariants as op
-use Rattle.uv_script.specs.declared.task.Task.{Task}
-use Rattle.uv_script.specs.Tasks.{text_of}
+use Rattle.uv_work.specs.declared.task.Task.{Task}
+use Rattle.uv_work.specs.Tasks.{text_of}
 use Rattle.uv_records.specs.declared.lists.ListName.TheVariants as name
 use Rattle.uv_records.specs.Slots.{taken}
 use Rattle.uv_arena.specs.Image.{IsSound, plain_slots}
-use Rattle.uv_work.specs.Requests.{Request, queued as as_queued}
+use Rattle.uv_work.specs.declared.request.Request.{Request}
+use Rattle.uv_work.specs.Requests.{queued as as_queued}
 use Rattle.uv_requests.specs.declared.undo.QueueUndo.{QueueUndo}
 use Rattle.uv_requests.specs.Working.{id_in}
 use Rattle.uv_requests.specs.Calls.{IsQueued}
 use Rattle.uv_requests.proofs.Holding.{id_is, content_of}
-use Rattle.uv_model.specs.declared.content.Content as content
-use Rattle.uv_model.specs.declared.content.Content.TheVariants as holds
+use Rattle.uv_work.specs.declared.content.Content as content
+use Rattle.uv_work.specs.declared.content.Content.TheVariants as holds
 use Rattle.uv_model.specs.declared.place.Place.{Place}
-use Rattle.uv_model.specs.Content.{queued}
+use Rattle.uv_work.specs.Requests.{queued}
 use Rattle.uv_model.specs.State.{State, live}
 use Rattle.uv_model.specs.Ops.{with_queued}
-use Rattle.uv_step.specs.declared.content.Content.TheVariants.{Request as Asked}
+use Rattle.uv_work.specs.declared.content.Content.TheVariants.{Request as Asked}
 use Rattle.uv_step.specs.Change as change
 use Rattle.uv_step.specs.Record.{Record}
-use Rattle.uv_step.specs.Content.{request_in}
+use Rattle.uv_work.specs.Content.{request_of}
 use Rattle.uv_step.specs.Does.{By}
 use Rattle.uv_step.specs.Fit.{IsFit}
 use Rattle.uv_step.specs.Image.{Image, Held, working_of}
@@ -40,12 +41,12 @@ module _ (r : Record Place) (h w : Held Place) (recorded : Recorded r h w) (soun
   abbrev new : content.Content
   new = holds.Request (queued v task)
 
-  module _ (u : QueueUndo) (by : r.change ≡ change.Queued u) (c : IsQueued request_in Asked (working_of h.image) (working_of w.image) q d u) where
+  module _ (u : QueueUndo) (by : r.change ≡ change.Queued u) (c : IsQueued request_of Asked (working_of h.image) (working_of w.image) q d u) where
     slots : plain_slots w.image.arena ≡ taken d (Asked (as_queued v task.rounds (text_of task))) (plain_slots h.image.arena)
     slots = c.plain ∙ ap (λ (z : Request). taken d (Asked z) (plain_slots h.image.arena)) is
 
     one : id_in w.image.arena d.slot ≡ d
-    one = let x = content_of request_in w.image.arena d q c.request in id_is w.image.arena d x.0 x.1
+    one = let x = content_of request_of w.image.arena d q c.request in id_is w.image.arena d x.0 x.1
 
     frame : w.image ≡ record h.image { arena = w.image.arena; running = w.image.running }
     frame = frame_of h.image w.image r.place _ _ (change_back r (change.Queued u) h w recorded by) recorded.place
@@ -75,7 +76,7 @@ module _ (r : Record Place) (h w : Held Place) (recorded : Recorded r h w) (soun
     queues_with free j same = make_done h.image v (λ s. with_queued s v task) free j d c.next
         (λ s stands. subst (λ z. StandsFor z (with_queued s v task d)) (sym same) (queued_stands s stands))
 
-  pub queues : By change.Queued (λ u. IsQueued request_in Asked (working_of h.image) (working_of w.image) q d u) r.change
+  pub queues : By change.Queued (λ u. IsQueued request_of Asked (working_of h.image) (working_of w.image) q d u) r.change
       → ((s : State) → StandsFor h.image s → is_some (live s v) ≡ false) → (j : Image Place)
       → j ≡ record w.image { names = binding v.0 (Some d) w.image.names } → Performs (op.Queue v task) h.image j (answer.Id d)
   queues by = queues_with by.undo by.is by.does

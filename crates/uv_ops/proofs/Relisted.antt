@@ -15,14 +15,14 @@ use Rattle.uv_handle.specs.Counted.{counted, record_at, IsCounted}
 use Rattle.uv_handle.proofs.Counts as handles
 use Rattle.uv_heap.specs.declared.entry.Entry.{Entry}
 use Rattle.uv_requests.specs.Working.{id_in}
-use Rattle.uv_model.specs.declared.content.Content as content
-use Rattle.uv_model.specs.declared.content.Content.TheVariants as holds
+use Rattle.uv_work.specs.declared.content.Content as content
+use Rattle.uv_work.specs.declared.content.Content.TheVariants as holds
 use Rattle.uv_model.specs.declared.place.Place.{Place}
 use Rattle.uv_model.specs.State.{State, with_handle}
 use Rattle.uv_model.specs.Queries.{members}
-use Rattle.uv_step.specs.declared.content.Content.{Content}
-use Rattle.uv_step.specs.declared.content.Content.TheVariants.{Handle}
-use Rattle.uv_step.specs.Content.{handle_in}
+use Rattle.uv_work.specs.declared.content.Content.{Content}
+use Rattle.uv_work.specs.declared.content.Content.TheVariants.{Handle}
+use Rattle.uv_work.specs.Content.{handle_of}
 use Rattle.uv_step.specs.Image.{Image}
 use Rattle.uv_stands.specs.Contents.{slot_of, slots_of}
 use Rattle.uv_stands.specs.Stands.{StandsFor, timer_in}
@@ -38,11 +38,11 @@ pub record IsWalk (k : arena.Image Content) (w : Walk Id) (list yet : ListName) 
   pub rest : IsList k w.yet yet
 
 module _ (i : Image Place) (s : State) (h : StandsFor i s) (k : arena.Image Content) (m : ℕ) (d : Id) (from to : HandleRecord)
-    (there : record_at handle_in i.arena d ≡ Some from)
+    (there : record_at handle_of i.arena d ≡ Some from)
     (set : plain_slots k ≡ record (plain_slots i.arena) { slots = plain.with_held (plain_slots i.arena).slots d (Handle to) }) where
   -- each slot's id is as it was
   pub same_ids : (x : ℕ) → id_in k x ≡ id_in i.arena x
-  same_ids = let was = handles.content_of handle_in i.arena d from there in ids_kept i.arena k d (Handle to) was.0 was.1 set
+  same_ids = let was = handles.content_of handle_of i.arena d from there in ids_kept i.arena k d (Handle to) was.0 was.1 set
 
   slots : plain_slots k ≡ slots_of (with_handle s d to).arena
   slots =
@@ -83,7 +83,7 @@ module _ (i : Image Place) (s : State) (h : StandsFor i s) (k : arena.Image Cont
     each_list a name.Done = a.of_done.all
     each_list a name.DoneYet = a.of_done.rest
 
-    pub relisted_stands : AreRelisted → IsSound k → IsCounted handle_in (counted k m) → StandsFor (record i { arena = k; active = m }) relisted
+    pub relisted_stands : AreRelisted → IsSound k → IsCounted handle_of (counted k m) → StandsFor (record i { arena = k; active = m }) relisted
     relisted_stands lists sound counts = record {
       place = h.place;
       names = h.names;
@@ -104,6 +104,6 @@ module _ (i : Image Place) (s : State) (h : StandsFor i s) (k : arena.Image Cont
         same = h.timers.same
             ∙ sym (map_same (timer_in k) (timer_in i.arena) (λ (e : Entry). ap (λ z. (e.due, z)) (same_ids e.slot)) h.timers.entries);
       };
-      active = counts ∙ ap (λ (q : plain.Slots Content). active_count handle_in q.slots) slots ∙ active_as (with_handle s d to).arena.slots;
+      active = counts ∙ ap (λ (q : plain.Slots Content). active_count handle_of q.slots) slots ∙ active_as (with_handle s d to).arena.slots;
       opened = h.opened;
     }

@@ -27,11 +27,11 @@ use Rattle.uv_model.specs.Found.{found_or}
 use Rattle.uv_model.specs.State.{State}
 use Rattle.uv_model.specs.Ops.{succeeds, start_watcher, watcher_started}
 use Rattle.uv_model.specs.Queries.{members}
-use Rattle.uv_step.specs.declared.content.Content.{Content}
-use Rattle.uv_step.specs.declared.content.Content.TheVariants.{Handle}
+use Rattle.uv_work.specs.declared.content.Content.{Content}
+use Rattle.uv_work.specs.declared.content.Content.TheVariants.{Handle}
 use Rattle.uv_step.specs.Change as change
 use Rattle.uv_step.specs.Record.{Record}
-use Rattle.uv_step.specs.Content.{handle_in}
+use Rattle.uv_work.specs.Content.{handle_of}
 use Rattle.uv_step.specs.Does.{By}
 use Rattle.uv_step.specs.Image.{Image, Held, counted_of}
 use Rattle.uv_step.specs.Undo.{Recorded}
@@ -47,7 +47,7 @@ use Rattle.uv_ops.proofs.Relisted.{IsList, IsWalk, same_ids, relisted_stands}
 -- ---- the watcher was inactive
 
 module _ (i : Image Place) (s : State) (h : StandsFor i s) (k : arena.Image Content) (m : ℕ) (d : Id) (from : HandleRecord) (sound : IsSound k) where
-  module _ (l : ListName) (u : ListUndo) (c : IsEnlisted handle_in Handle (counted_of i) (counted k m) d from (activated from) l u) where
+  module _ (l : ListName) (u : ListUndo) (c : IsEnlisted handle_of Handle (counted_of i) (counted k m) d from (activated from) l u) where
     ids : (x : ℕ) → id_in k x ≡ id_in i.arena x
     ids = same_ids i s h k m d from (activated from) c.there c.plain
 
@@ -59,13 +59,13 @@ module _ (i : Image Place) (s : State) (h : StandsFor i s) (k : arena.Image Cont
 
     first : d ∷ members s l ≡ map (id_in k) (arena.members k l)
     first =
-        let was = handles.content_of handle_in i.arena d from c.there in
+        let was = handles.content_of handle_of i.arena d from c.there in
         (λ j. (sym (id_is i.arena d was.0 was.1) ∙ sym (ids d.slot)) j ∷ h.lists l j)
         ∙ ap (λ xs. id_in k d.slot ∷ xs) (sym (map_same (id_in k) (id_in i.arena) ids (arena.members i.arena l)))
         ∙ ap (map (id_in k)) (sym c.lists)
 
   started_stands : (kind : WatcherKind) (u : ListUndo)
-      → IsEnlisted handle_in Handle (counted_of i) (counted k m) d from (activated from) (list_of kind) u
+      → IsEnlisted handle_of Handle (counted_of i) (counted k m) d from (activated from) (list_of kind) u
       → StandsFor (record i { arena = k; active = m }) (watcher_started s kind d from)
   started_stands watcher.Idle u c =
       relisted_stands i s h k m d from (activated from) c.there c.plain s.ready (with_first s.idle d) s.prepare s.check s.async s.closing
@@ -120,7 +120,7 @@ module _ (i : Image Place) (s : State) (h : StandsFor i s) (k : arena.Image Cont
 
 pub starts : (r : Record Place) (h w : Held Place) → Recorded r h w → IsSound w.image.arena → (v : Var) (d : Id) (from : HandleRecord)
     → Allows h.image v ask.StartWatcher d from
-    → By change.Enlisted (λ u. IsStarted handle_in Handle (counted_of h.image) (counted_of w.image) d u) r.change
+    → By change.Enlisted (λ u. IsStarted handle_of Handle (counted_of h.image) (counted_of w.image) d u) r.change
     → Performs (op.StartWatcher v) h.image w.image (answer.Code code.Ok)
 starts r h w recorded sound v d from allows by s stands reached =
     let a = by.does in

@@ -26,11 +26,11 @@ use Rattle.uv_model.specs.Ops.{stop, succeeds}
 use Rattle.uv_model.specs.Queries.{members}
 use Rattle.uv_order.specs.Active.{has_id, AreActive}
 use Rattle.uv_order.specs.Reached.{IsReached}
-use Rattle.uv_step.specs.declared.content.Content.{Content}
-use Rattle.uv_step.specs.declared.content.Content.TheVariants.{Handle}
+use Rattle.uv_work.specs.declared.content.Content.{Content}
+use Rattle.uv_work.specs.declared.content.Content.TheVariants.{Handle}
 use Rattle.uv_step.specs.Change as change
 use Rattle.uv_step.specs.Record.{Record}
-use Rattle.uv_step.specs.Content.{handle_in}
+use Rattle.uv_work.specs.Content.{handle_of}
 use Rattle.uv_step.specs.Does.{By}
 use Rattle.uv_step.specs.Fit.{IsFit}
 use Rattle.uv_step.specs.Image.{Image, Held, counted_of}
@@ -44,7 +44,7 @@ use Rattle.uv_ops.proofs.Frames.{delisted_frame}
 use Rattle.uv_ops.proofs.Relisted.{IsList, IsWalk, same_ids, relisted_stands}
 use Rattle.uv_ops.proofs.Leaving.{gone, kept}
 
-module _ (i : Image Place) (s : State) (h : StandsFor i s) (d : Id) (from : HandleRecord) (there : record_at handle_in i.arena d ≡ Some from) where
+module _ (i : Image Place) (s : State) (h : StandsFor i s) (d : Id) (from : HandleRecord) (there : record_at handle_of i.arena d ≡ Some from) where
   -- a handle that closes isn't active
   idle_closing : IsReached s → (k : Kind) (ids : List Id) → AreActive s k ids → from.closing ≡ true → has_id ids d ≡ true → ⊥
   idle_closing reached k ids a closing on =
@@ -56,7 +56,7 @@ module _ (i : Image Place) (s : State) (h : StandsFor i s) (d : Id) (from : Hand
   -- ---- the lists afterwards
 
   module _ (reached : IsReached s) (fit : IsFit i) (k : arena.Image Content) (m : ℕ) (u : DelistUndo)
-      (c : IsStopped handle_in Handle (counted_of i) (counted k m) d from u) where
+      (c : IsStopped handle_of Handle (counted_of i) (counted k m) d from u) where
     ids : (x : ℕ) → id_in k x ≡ id_in i.arena x
     ids = same_ids i s h k m d from (records.stopped from) c.there c.plain
 
@@ -125,7 +125,7 @@ module _ (i : Image Place) (s : State) (h : StandsFor i s) (d : Id) (from : Hand
 -- ---- what the call does
 
 pub stops : (r : Record Place) (h w : Held Place) → Recorded r h w → IsSound w.image.arena → IsFit h.image → (d : Id) (from : HandleRecord)
-    → is_timer from.kind ≡ false → By change.Delisted (λ u. IsStopped handle_in Handle (counted_of h.image) (counted_of w.image) d from u) r.change
+    → is_timer from.kind ≡ false → By change.Delisted (λ u. IsStopped handle_of Handle (counted_of h.image) (counted_of w.image) d from u) r.change
     → Does (λ s. stop s d from) h.image w.image (answer.Code code.Ok)
 stops r h w recorded sound fit d from no_timer by s stands reached =
     let c = by.does in

@@ -8,8 +8,8 @@ use Rattle.uv_records.specs.Slots.{Slots, next_id, next_unused, next_free, id_of
 use Rattle.uv_arena.specs.Image as arena
 use Rattle.uv_arena.specs.Image.{plain_slots, held_slots, slot_at}
 use Rattle.uv_requests.specs.Working.{id_in}
-use Rattle.uv_model.specs.declared.content.Content as content
-use Rattle.uv_step.specs.declared.content.Content.{Content}
+use Rattle.uv_work.specs.declared.content.Content as content
+use Rattle.uv_work.specs.declared.content.Content.{Content}
 use Rattle.uv_stands.specs.Contents.{content_of, slot_of, slots_of}
 use Rattle.uv_stands.proofs.Holding.{slot_or, slot_by, generation_kept}
 

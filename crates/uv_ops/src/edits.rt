@@ -5,7 +5,7 @@ ghost use Rattle.uv_records.specs.Refusals.{no_refusal};
 ghost use Rattle.uv_handle.specs.Counted.{record_at};
 ghost use Rattle.uv_model.specs.State.{State, live_handle, with_handle};
 ghost use Rattle.uv_model.specs.Ops.{on_handle, set_referenced};
-ghost use Rattle.uv_step.specs.Content.{handle_in};
+ghost use Rattle.uv_work.specs.Content.{handle_of};
 ghost use Rattle.uv_step.specs.Fit.{IsFit};
 ghost use Rattle.uv_step.specs.Image.{held};
 ghost use Rattle.uv_stands.specs.Doing.{Does, Performs, Returns};
@@ -21,7 +21,7 @@ use uv_step::Memory;
 /// Gives a handle another record.
 pub(crate) fn edit(memory: &mut Memory<Place>, id: Id, from: HandleRecord, to: HandleRecord)
     requires fit { IsFit (held memory.old).image }
-    requires found { record_at handle_in (held memory.old).image.arena id ≡ Some from }
+    requires found { record_at handle_of (held memory.old).image.arena id ≡ Some from }
     ensures returns { Returns memory.new.step_record (held memory.old) (held memory.new) }
     ensures stands { (s : State) → StandsFor (held memory.old).image s → StandsFor (held memory.new).image (with_handle s id to) }
 {

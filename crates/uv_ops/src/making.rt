@@ -1,7 +1,7 @@
 //! Handles are made and requests queued, and names bound to them.
 ghost use Rattle.std.specs.Prelude.{◌≡◌, IfOk, IfErr};
 ghost use Rattle.uv_script.specs.declared.op.Op.TheVariants as op;
-ghost use Rattle.uv_script.specs.Tasks.{text_of};
+ghost use Rattle.uv_work.specs.Tasks.{text_of};
 ghost use Rattle.uv_work.specs.Requests.{queued};
 ghost use Rattle.uv_step.specs.Image.{held};
 ghost use Rattle.uv_stands.specs.Doing.{Performs, Returns};
@@ -15,7 +15,7 @@ use uv_model::Place;
 use uv_script::Task;
 use uv_stands::{bind_name, is_live};
 use uv_step::Memory;
-use uv_work::RequestRecord;
+use uv_work::Request;
 
 /// Makes a handle, to which the name is bound (uv_timer_init and the like). Where there is no memory for its slot it makes none, and the
 /// answer isn't that there is no slot.
@@ -40,10 +40,10 @@ pub(crate) fn init(memory: &mut Memory<Place>, name: Var, kind: Kind) -> Result<
 }
 
 /// The request that a slot holds for a task that a name asks for.
-fn request_of(name: Var, task: &Task) -> RequestRecord
+fn request_of(name: Var, task: &Task) -> Request
     ensures { result ≡ queued name task.now.rounds (text_of task.now) }
 {
-    match RequestRecord::new(name, task.rounds(), task.text()) {
+    match Request::new(name, task.rounds(), task.text()) {
         Some(request) => request,
         None => unreachable!(),
     }

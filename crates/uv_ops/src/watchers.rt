@@ -6,7 +6,7 @@ ghost use Rattle.uv_records.specs.Handles.{is_timer};
 ghost use Rattle.uv_script.specs.declared.op.Op.TheVariants as op;
 ghost use Rattle.uv_handle.specs.Counted.{record_at};
 ghost use Rattle.uv_model.specs.Ops.{stop};
-ghost use Rattle.uv_step.specs.Content.{handle_in};
+ghost use Rattle.uv_work.specs.Content.{handle_of};
 ghost use Rattle.uv_step.specs.Image.{held};
 ghost use Rattle.uv_stands.specs.Doing.{Does, Performs, Returns};
 ghost use Rattle.uv_stands.specs.Ready.{IsReady};
@@ -36,7 +36,7 @@ pub(crate) fn start_watcher(memory: &mut Memory<Place>, name: Var) -> Result<Ans
 /// Stops a handle that is no timer (uv_idle_stop and the like).
 pub(crate) fn stop_watcher(memory: &mut Memory<Place>, id: Id, handle: HandleRecord)
     requires ready { IsReady (held memory.old) }
-    requires found { record_at handle_in (held memory.old).image.arena id ≡ Some handle }
+    requires found { record_at handle_of (held memory.old).image.arena id ≡ Some handle }
     requires no_timer { is_timer handle.kind ≡ false }
     ensures returns { Returns memory.new.step_record (held memory.old) (held memory.new) }
     ensures does { Does (λ s. stop s id handle) (held memory.old).image (held memory.new).image (answer.Code code.Ok) }

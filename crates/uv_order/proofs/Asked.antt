@@ -5,9 +5,9 @@ use Rattle.uv_ids.specs.declared.id.Id.{Id}
 use Rattle.uv_ids.specs.declared.fault.Why.TheVariants.{IdleWorker, NoWork}
 use Rattle.uv_records.specs.declared.slot.Slot.{Slot}
 use Rattle.uv_records.specs.Slots.{Slots, held, freed}
-use Rattle.uv_model.specs.declared.content.Content.{Content}
-use Rattle.uv_model.specs.declared.content.Content.TheVariants as content
-use Rattle.uv_model.specs.declared.request.Request.{Request}
+use Rattle.uv_work.specs.declared.content.Content.{Content}
+use Rattle.uv_work.specs.declared.content.Content.TheVariants as content
+use Rattle.uv_work.specs.declared.request.Request.{Request}
 use Rattle.uv_model.specs.Found.{found_or}
 use Rattle.uv_model.specs.State.{State, request, with_id, front_request}
 use Rattle.uv_model.specs.Next.{next_work, work_of}

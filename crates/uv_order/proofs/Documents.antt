@@ -28,8 +28,8 @@ use Rattle.uv_records.specs.declared.handle.HandleRecord.{HandleRecord}
 use Rattle.uv_records.specs.declared.lists.WatcherKind.{WatcherKind}
 use Rattle.uv_records.specs.declared.lists.WatcherKind.TheVariants as watcher
 use Rattle.uv_records.specs.Refusals.{stop_refusal, start_timer_refusal, again_refusal, close_refusal}
-use Rattle.uv_model.specs.declared.content.Content.{Content}
-use Rattle.uv_model.specs.declared.request.Request.{Request}
+use Rattle.uv_work.specs.declared.content.Content.{Content}
+use Rattle.uv_work.specs.declared.request.Request.{Request}
 use Rattle.uv_model.specs.declared.place.Body.{Body}
 use Rattle.uv_model.specs.declared.place.Run.{Run}
 use Rattle.uv_model.specs.declared.place.Stage.{Stage}

@@ -27,10 +27,10 @@ use Rattle.uv_records.specs.declared.handle.HandleRecord.{HandleRecord}
 use Rattle.uv_records.specs.declared.slot.Slot.{Slot}
 use Rattle.uv_records.specs.Slots.{held}
 use Rattle.uv_ids.specs.declared.fault.Why.{Why}
-use Rattle.uv_model.specs.declared.content.Content.{Content}
-use Rattle.uv_model.specs.declared.content.Content.TheVariants as content
+use Rattle.uv_work.specs.declared.content.Content.{Content}
+use Rattle.uv_work.specs.declared.content.Content.TheVariants as content
 use Rattle.uv_model.specs.Content.{content_pends, handle_in}
-use Rattle.uv_model.specs.declared.request.Request.{Request}
+use Rattle.uv_work.specs.declared.request.Request.{Request}
 use Rattle.uv_model.specs.Ids.{has_some, without_id}
 use Rattle.uv_model.specs.Timeout.{has_pending, has_passed}
 use Rattle.uv_model.specs.declared.place.Body.{Body}

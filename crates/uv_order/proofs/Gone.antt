@@ -6,8 +6,8 @@ use Rattle.uv_ids.specs.declared.id.Id.{Id}
 use Rattle.uv_records.specs.declared.handle.HandleRecord.{HandleRecord}
 use Rattle.uv_records.specs.declared.slot.Slot.{Slot}
 use Rattle.uv_records.specs.Slots.{held}
-use Rattle.uv_model.specs.declared.content.Content.{Content}
-use Rattle.uv_model.specs.declared.content.Content.TheVariants as content
+use Rattle.uv_work.specs.declared.content.Content.{Content}
+use Rattle.uv_work.specs.declared.content.Content.TheVariants as content
 use Rattle.uv_order.proofs.Contents.{look, slot_with, emptied, holds, other_generation, get_set_same, get_set_other, get_push}
 use Rattle.uv_order.proofs.Holding.{held_at, is_held, put}
 use Rattle.uv_order.proofs.Keeping.{has_number}

@@ -9,8 +9,8 @@ use Rattle.uv_ids.specs.declared.phase.Kind.TheVariants as kind
 use Rattle.uv_records.specs.declared.handle.HandleRecord.{HandleRecord}
 use Rattle.uv_records.specs.declared.slot.Slot.{Slot}
 use Rattle.uv_records.specs.Slots.{held}
-use Rattle.uv_model.specs.declared.content.Content.{Content}
-use Rattle.uv_model.specs.declared.content.Content.TheVariants as content
+use Rattle.uv_work.specs.declared.content.Content.{Content}
+use Rattle.uv_work.specs.declared.content.Content.TheVariants as content
 use Rattle.uv_model.specs.Content.{handle_in}
 use Rattle.uv_model.specs.Ids.{same_id, without_id}
 use Rattle.uv_model.specs.Timers.{with_timer, without_timer}

@@ -20,8 +20,8 @@ use Rattle.uv_records.specs.Handles.{inited, activated, begun_at, referenced_as,
 use Rattle.uv_records.specs.Slots as arena
 use Rattle.uv_records.specs.Slots.{Slots, held, taken, freed, next_free, next_id, next_unused, id_of}
 use Rattle.uv_records.specs.Walks.{Walk, with_last}
-use Rattle.uv_model.specs.declared.content.Content.{Content}
-use Rattle.uv_model.specs.declared.content.Content.TheVariants as content
+use Rattle.uv_work.specs.declared.content.Content.{Content}
+use Rattle.uv_work.specs.declared.content.Content.TheVariants as content
 use Rattle.uv_model.specs.Ids.{same_id, walk_without_id}
 use Rattle.uv_model.specs.State.{State, handle, with_handle}
 use Rattle.uv_model.specs.Timers.{without_timer, stopped, started, restarted, due_after}

@@ -15,8 +15,8 @@ use Rattle.uv_script.specs.declared.op.Op.TheVariants as op
 use Rattle.uv_script.specs.Program.{Program, op_at}
 use Rattle.uv_records.specs.declared.handle.HandleRecord.{HandleRecord}
 use Rattle.uv_records.specs.Slots.{Slots}
-use Rattle.uv_model.specs.declared.content.Content.{Content}
-use Rattle.uv_model.specs.declared.content.Content.TheVariants as content
+use Rattle.uv_work.specs.declared.content.Content.{Content}
+use Rattle.uv_work.specs.declared.content.Content.TheVariants as content
 use Rattle.uv_records.specs.declared.named.Named.{Named}
 use Rattle.uv_model.specs.Ids.{same_id}
 use Rattle.uv_records.specs.Names.{unbound}

@@ -18,9 +18,9 @@ use Rattle.uv_records.specs.Handles.{is_timer, is_async, sent}
 use Rattle.uv_records.specs.Lists.{watcher_kind}
 use Rattle.uv_records.specs.Refusals.{only_if, invalid_if, is_watcher, timer_refusal, start_timer_refusal, start_watcher_refusal, stop_refusal, again_refusal, close_refusal, send_refusal, no_refusal}
 use Rattle.uv_records.specs.Slots.{held, next_free}
-use Rattle.uv_model.specs.declared.content.Content.{Content}
-use Rattle.uv_model.specs.declared.content.Content.TheVariants as content
-use Rattle.uv_model.specs.declared.request.Request.{Request}
+use Rattle.uv_work.specs.declared.content.Content.{Content}
+use Rattle.uv_work.specs.declared.content.Content.TheVariants as content
+use Rattle.uv_work.specs.declared.request.Request.{Request}
 use Rattle.uv_model.specs.Content.{handle_in}
 use Rattle.uv_model.specs.Ids.{same_id}
 use Rattle.uv_model.specs.State.{State, handle, named, live, live_id, live_handle, live_request, as_handle, handle_at, as_request, request_at, with_id, with_handle}

@@ -13,8 +13,8 @@ use Rattle.uv_ids.specs.declared.phase.Phase.{Phase}
 use Rattle.uv_ids.specs.declared.phase.Phase.TheVariants as phase
 use Rattle.uv_script.specs.declared.op.Op.{Op}
 use Rattle.uv_script.specs.declared.op.Op.TheVariants as op
-use Rattle.uv_script.specs.declared.task.Task.{Task}
-use Rattle.uv_model.specs.declared.content.Content.{Content}
+use Rattle.uv_work.specs.declared.task.Task.{Task}
+use Rattle.uv_work.specs.declared.content.Content.{Content}
 use Rattle.uv_records.specs.declared.handle.HandleRecord.{HandleRecord}
 use Rattle.uv_records.specs.declared.named.Named.{Named}
 use Rattle.uv_records.specs.declared.lists.WatcherKind.{WatcherKind}

@@ -17,7 +17,7 @@ use Rattle.uv_ids.specs.declared.seen.Seen.TheVariants as seen
 use Rattle.uv_ids.specs.declared.seen.Site.{Site}
 use Rattle.uv_script.specs.declared.op.Op.{Op}
 use Rattle.uv_script.specs.declared.op.Op.TheVariants as op
-use Rattle.uv_script.specs.declared.task.Task.{Task}
+use Rattle.uv_work.specs.declared.task.Task.{Task}
 use Rattle.uv_script.specs.Program.{Program, op_at}
 use Rattle.uv_records.specs.declared.handle.HandleRecord.{HandleRecord}
 use Rattle.uv_records.specs.declared.lists.WatcherKind.{WatcherKind}
@@ -28,10 +28,11 @@ use Rattle.uv_records.specs.Handles.{inited, referenced_as, repeating}
 use Rattle.uv_records.specs.Lists.{watcher_kind}
 use Rattle.uv_records.specs.Refusals.{no_refusal, timer_refusal, start_timer_refusal, start_watcher_refusal, stop_refusal, again_refusal, close_refusal}
 use Rattle.uv_records.specs.Slots.{Slots, held, taken, taken_from, next_free, next_id, next_unused, id_of}
-use Rattle.uv_model.specs.declared.content.Content.{Content}
-use Rattle.uv_model.specs.declared.content.Content.TheVariants as content
-use Rattle.uv_model.specs.declared.request.Request.{Request}
-use Rattle.uv_model.specs.Content.{request_in, queued}
+use Rattle.uv_work.specs.declared.content.Content.{Content}
+use Rattle.uv_work.specs.declared.content.Content.TheVariants as content
+use Rattle.uv_work.specs.declared.request.Request.{Request}
+use Rattle.uv_work.specs.Requests.{queued}
+use Rattle.uv_model.specs.Content.{request_in}
 use Rattle.uv_work.specs.declared.outcome.Outcome.TheVariants.{Cancelled}
 use Rattle.uv_model.specs.Ids.{same_id, without_id}
 use Rattle.uv_order.specs.Active.{has_id, run_ids}

@@ -20,8 +20,8 @@ use Rattle.uv_records.specs.Slots.{taken, next_free}
 use Rattle.uv_script.specs.declared.op.Op.{Op}
 use Rattle.uv_script.specs.declared.op.Op.TheVariants as op
 use Rattle.uv_script.specs.Program.{Program, arena_size, order_of}
-use Rattle.uv_model.specs.declared.content.Content.{Content}
-use Rattle.uv_model.specs.declared.content.Content.TheVariants as content
+use Rattle.uv_work.specs.declared.content.Content.{Content}
+use Rattle.uv_work.specs.declared.content.Content.TheVariants as content
 use Rattle.uv_model.specs.declared.place.Run.{Run}
 use Rattle.uv_model.specs.declared.place.TimersOf.{TimersOf}
 use Rattle.uv_model.specs.declared.place.Turn.{Turn}

@@ -25,8 +25,8 @@ use Rattle.uv_ids.specs.declared.seen.Site.{Site}
 use Rattle.uv_script.specs.declared.op.Op.{Op}
 use Rattle.uv_script.specs.declared.op.Op.TheVariants as op
 use Rattle.uv_script.specs.Program.{Program, op_at, order_of}
-use Rattle.uv_model.specs.declared.request.Request.{Request}
-use Rattle.uv_model.specs.Content.{digest_in}
+use Rattle.uv_work.specs.declared.request.Request.{Request}
+use Rattle.uv_work.specs.Requests.{digest_in}
 use Rattle.uv_model.specs.Ids.{has_some, without_id, same_id}
 use Rattle.uv_model.specs.State.{State, request}
 use Rattle.uv_model.specs.Timeout.{deadline_of, has_passed}

@@ -26,7 +26,7 @@ use Rattle.uv_model.specs.declared.place.Place.{Place}
 use Rattle.uv_model.specs.declared.place.Place.TheVariants as place
 use Rattle.uv_records.specs.Walks.{Walk as Listed}
 use Rattle.uv_records.specs.declared.slot.Slot.{Slot}
-use Rattle.uv_model.specs.declared.content.Content.{Content}
+use Rattle.uv_work.specs.declared.content.Content.{Content}
 use Rattle.uv_model.specs.State.{State}
 use Rattle.uv_model.specs.Next.{Next, Moves, Refuses, way, time_at, idled_at, idled_then}
 use Rattle.uv_order.specs.Line.{Line}

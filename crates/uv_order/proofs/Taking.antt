@@ -9,7 +9,7 @@ use Rattle.uv_script.specs.Program.{Program, worker_count}
 use Rattle.uv_work.specs.Pool.{Pool, IsLegal, taken_by, finished_by, after_event, after_events, replay, empty_pool}
 use Rattle.uv_work.specs.declared.event.PoolEvent.{PoolEvent}
 use Rattle.uv_work.specs.declared.event.PoolEvent.TheVariants as event
-use Rattle.uv_model.specs.declared.request.Request.{Request}
+use Rattle.uv_work.specs.declared.request.Request.{Request}
 use Rattle.uv_model.specs.Ids.{same_id}
 use Rattle.uv_model.specs.Found.{found_or}
 use Rattle.uv_model.specs.State.{State, fresh, request, with_id, front_request}

@@ -18,10 +18,11 @@ use Rattle.uv_records.specs.Handles as records
 use Rattle.uv_records.specs.Lists.{phase_of}
 use Rattle.uv_records.specs.Slots.{freed}
 use Rattle.uv_records.specs.declared.slot.Slot.{Slot}
-use Rattle.uv_model.specs.declared.content.Content.{Content}
-use Rattle.uv_model.specs.declared.content.Content.TheVariants as content
-use Rattle.uv_model.specs.declared.request.Request.{Request}
-use Rattle.uv_model.specs.Content.{request_in, digest_in}
+use Rattle.uv_work.specs.declared.content.Content.{Content}
+use Rattle.uv_work.specs.declared.content.Content.TheVariants as content
+use Rattle.uv_work.specs.declared.request.Request.{Request}
+use Rattle.uv_work.specs.Requests.{digest_in}
+use Rattle.uv_model.specs.Content.{request_in}
 use Rattle.uv_model.specs.Ids.{same_id}
 use Rattle.uv_model.specs.State.{State, with_handle, front, front_request, watched}
 use Rattle.uv_model.specs.Timeout.{is_alive, poll_timeout, deadline_of}

@@ -10,9 +10,9 @@ use Rattle.uv_records.specs.declared.slot.Slot.{Slot}
 use Rattle.uv_records.specs.Slots.{held}
 use Rattle.uv_records.specs.Walks.{Walk}
 use Rattle.uv_work.specs.Requests.{is_open}
-use Rattle.uv_model.specs.declared.content.Content.{Content}
-use Rattle.uv_model.specs.declared.content.Content.TheVariants as content
-use Rattle.uv_model.specs.declared.request.Request.{Request}
+use Rattle.uv_work.specs.declared.content.Content.{Content}
+use Rattle.uv_work.specs.declared.content.Content.TheVariants as content
+use Rattle.uv_work.specs.declared.request.Request.{Request}
 use Rattle.uv_model.specs.Content.{request_in}
 use Rattle.uv_model.specs.Ids.{same_id, without_id}
 use Rattle.uv_order.specs.Active.{has_id, AreDistinct, run_ids}

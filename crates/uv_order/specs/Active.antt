@@ -9,7 +9,7 @@ use Rattle.uv_ids.specs.declared.phase.Kind.TheVariants as kind
 use Rattle.uv_records.specs.declared.handle.HandleRecord.{HandleRecord}
 use Rattle.uv_model.specs.Ids.{same_id}
 use Rattle.uv_work.specs.Requests.{is_open}
-use Rattle.uv_model.specs.declared.request.Request.{Request}
+use Rattle.uv_work.specs.declared.request.Request.{Request}
 use Rattle.uv_model.specs.State.{State, handle, request}
 
 -- ---- ids

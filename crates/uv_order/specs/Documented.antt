@@ -28,8 +28,8 @@ use Rattle.uv_script.specs.declared.op.Op.TheVariants as op
 use Rattle.uv_script.specs.declared.op.MainOp.TheVariants as main
 use Rattle.uv_script.specs.declared.op.CallbackLine.{CallbackLine}
 use Rattle.uv_script.specs.Program.{Program, lines_in, is_for, op_at, order_of}
-use Rattle.uv_model.specs.declared.request.Request.{Request}
-use Rattle.uv_model.specs.Content.{digest_in}
+use Rattle.uv_work.specs.declared.request.Request.{Request}
+use Rattle.uv_work.specs.Requests.{digest_in}
 use Rattle.uv_model.specs.Ids.{has_some, without_id}
 use Rattle.uv_model.specs.State.{State, request}
 use Rattle.uv_model.specs.Timeout.{deadline_of, has_passed}

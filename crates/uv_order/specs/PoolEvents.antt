@@ -14,7 +14,7 @@ use Rattle.uv_work.specs.Pool.{Pool, Done}
 use Rattle.uv_work.specs.Requests.{is_finished}
 use Rattle.uv_work.specs.declared.event.PoolEvent.{PoolEvent}
 use Rattle.uv_work.specs.declared.event.PoolEvent.TheVariants as event
-use Rattle.uv_model.specs.declared.request.Request.{Request}
+use Rattle.uv_work.specs.declared.request.Request.{Request}
 use Rattle.uv_model.specs.State.{State, request}
 use Rattle.uv_order.specs.Once.{Answered, answered}
 

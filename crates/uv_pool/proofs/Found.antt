@@ -5,7 +5,7 @@ use Rattle.std.specs.List.{list_any}
 use Rattle.uv_ids.specs.declared.id.Id.{Id}
 use Rattle.uv_work.specs.Ids.{same_id}
 use Rattle.uv_work.specs.Pool.{Pool, Done, has, waits, runs, is_done, is_run}
-use Rattle.uv_work.specs.Work.{Work}
+use Rattle.uv_work.specs.declared.job.Job.{Job}
 use Rattle.uv_work.proofs.Replays.{same_itself, same_when}
 use Rattle.uv_pool.specs.Contents.{id_run, jobs_without, member, result_in}
 use Rattle.std.specs.Option.{MatchOption}
@@ -21,9 +21,9 @@ use Rattle.uv_pool.proofs.Standing.{same_place}
 
 -- the pool of the rows
 abbrev pub pool_in : Rows → Pool
-pool_in r = record { waiting = map (λ (job : Work). job.req) (jobs_of r.waiting); running = map id_run r.running; done = map member r.done }
+pool_in r = record { waiting = map (λ (job : Job). job.req) (jobs_of r.waiting); running = map id_run r.running; done = map member r.done }
 
-abbrev pub job_is : Id → Option Work → Bool
+abbrev pub job_is : Id → Option Job → Bool
 job_is id o = is_run (id_run o) id
 
 abbrev pub done_is : Id → Collected → Bool
@@ -46,7 +46,7 @@ any_some t first (y ∷ xs) n x h k = at (t y) refl (number_rest first y xs n x 
   at false e (inl s) more = absurd (let both : true ≡ false = sym k ∙ (ap t (sym s.1) ∙ e) in cc)
   at false e (inr s) more = more s
 
-wait_any : (xs : List (Option Work)) (id : Id) → waits (map (λ (job : Work). job.req) (jobs_of xs)) id ≡ list_any (job_is id) xs
+wait_any : (xs : List (Option Job)) (id : Id) → waits (map (λ (job : Job). job.req) (jobs_of xs)) id ≡ list_any (job_is id) xs
 wait_any [] id = refl
 wait_any (None ∷ xs) id = wait_any xs id
 wait_any (Some job ∷ xs) id = ap (λ b. same_id job.req id || b) (wait_any xs id)
@@ -55,18 +55,18 @@ any_mapped : {X Y : Type 0} (t : Y → Bool) (f : X → Y) (xs : List X) → lis
 any_mapped t f [] = refl
 any_mapped t f (x ∷ xs) = ap (λ b. t (f x) || b) (any_mapped t f xs)
 
-run_any : (xs : List (Option Work)) (id : Id) → runs (map id_run xs) id ≡ list_any (job_is id) xs
+run_any : (xs : List (Option Job)) (id : Id) → runs (map id_run xs) id ≡ list_any (job_is id) xs
 run_any xs id = any_mapped (λ (x : Option Id). is_run x id) id_run xs
 
 done_any : (xs : List Collected) (id : Id) → is_done (map member xs) id ≡ list_any (done_is id) xs
 done_any xs id = any_mapped (λ (x : Done). same_id x.id id) member xs
 
 -- the tests, by the id that stands there
-job_id : (o : Option Work) (id : Id) → job_is id o ≡ true → id_of_job (Some o) ≡ Some id
+job_id : (o : Option Job) (id : Id) → job_is id o ≡ true → id_of_job (Some o) ≡ Some id
 job_id None id h = absurd (cc h)
 job_id (Some job) id h = ap (λ (x : Id). Some x) (same_when job.req id h)
 
-job_test : (o : Option (Option Work)) (id : Id) → id_of_job o ≡ Some id → (w : Option Work) × (o ≡ Some w) × (job_is id w ≡ true)
+job_test : (o : Option (Option Job)) (id : Id) → id_of_job o ≡ Some id → (w : Option Job) × (o ≡ Some w) × (job_is id w ≡ true)
 job_test None id h = absurd (cc h)
 job_test (Some None) id h = absurd (cc h)
 job_test (Some (Some job)) id h =
@@ -165,7 +165,7 @@ pub result_nowhere : (r : Rows) (id : Id) → ((n : ℕ) → id_at r (place.Done
 result_nowhere r id h = no_result r.done id (not_done r id h)
 
 -- those that wait, without the one of a place
-jobs_removed : (xs : List (Option Work)) (i : ℕ) (id : Id) → id_of_job (slice_get xs i) ≡ Some id
+jobs_removed : (xs : List (Option Job)) (i : ℕ) (id : Id) → id_of_job (slice_get xs i) ≡ Some id
     → ((j : ℕ) → id_of_job (slice_get xs j) ≡ Some id → j ≡ i) → jobs_of (set xs i None) ≡ jobs_without (jobs_of xs) id
 jobs_removed [] i id h one = absurd (cc h)
 jobs_removed (None ∷ xs) zero id h one = absurd (cc h)
@@ -179,7 +179,7 @@ jobs_removed (Some job ∷ xs) (suc i) id h one = at (same_id job.req id) refl
       at : (b : Bool) → same_id job.req id ≡ b → jobs_of (set xs i None) ≡ jobs_without (jobs_of xs) id
           → job ∷ jobs_of (set xs i None) ≡ cond b (jobs_of xs) (job ∷ jobs_without (jobs_of xs) id)
       at true e more = absurd (let z : zero ≡ suc i = one zero (ap (λ (x : Id). Some x) (same_when job.req id e)) in omega (arith, z))
-      at false e more = ap (λ (js : List Work). job ∷ js) more
+      at false e more = ap (λ (js : List Job). job ∷ js) more
 
 pub removed : (r : Rows) (at : Id → Option Place) (n : ℕ) (id : Id) → IsIndexed r at → id_at r (place.Waiting n) ≡ Some id
     → jobs_of (set r.waiting (n - r.first) None) ≡ jobs_without (jobs_of r.waiting) id

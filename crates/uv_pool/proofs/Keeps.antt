@@ -7,7 +7,7 @@ use Rattle.uv_ids.specs.declared.code.Code.TheVariants as code
 use Rattle.uv_ids.specs.declared.fault.Fault.{Fault}
 use Rattle.uv_ids.specs.declared.fault.Fault.TheVariants as fault
 use Rattle.uv_ids.specs.declared.fault.Why.TheVariants as why
-use Rattle.uv_work.specs.Work.{Work}
+use Rattle.uv_work.specs.declared.job.Job.{Job}
 use Rattle.uv_work.specs.declared.event.PoolEvent.TheVariants as event
 use Rattle.uv_work.specs.declared.result.WorkResult.{WorkResult}
 use Rattle.uv_pool.specs.Book.{IsCounted, IsReplay, finish_count}
@@ -48,7 +48,7 @@ reserve_keeps s t (Err fault.Memory) h k = same s.contents t.contents k h.2
 reserve_keeps s t (Err fault.Limit) h k = same s.contents t.contents k h.1
 reserve_keeps s t (Err f) h k = absurd h
 
-pub submit_keeps : (s t : Hold) (job : Work) (r : Result (Unit {0}) Fault) → Submits s job r t → IsReplay s.contents → Keeps s.contents t.contents 0
+pub submit_keeps : (s t : Hold) (job : Job) (r : Result (Unit {0}) Fault) → Submits s job r t → IsReplay s.contents → Keeps s.contents t.contents 0
 submit_keeps s t job (Ok u) h k =
     moved s.contents t.contents (queued s.contents job) 0 (record {
       replay = replays_queue s.contents job k h.0;
@@ -60,7 +60,7 @@ submit_keeps s t job (Err fault.Limit) h k = same s.contents t.contents k h.1.1
 submit_keeps s t job (Err (fault.Refused why.Range)) h k = same_hold s t k h.1
 submit_keeps s t job (Err f) h k = absurd h
 
-pub take_keeps : (s t : Hold) (n : ℕ) (r : Result (Option Work) Fault) → TakesNext s n r t → IsReplay s.contents → Keeps s.contents t.contents 0
+pub take_keeps : (s t : Hold) (n : ℕ) (r : Result (Option Job) Fault) → TakesNext s n r t → IsReplay s.contents → Keeps s.contents t.contents 0
 take_keeps s t n (Ok (Some job)) h k =
     moved s.contents t.contents (taken s.contents n job t.contents.waiting) 0
     (record {

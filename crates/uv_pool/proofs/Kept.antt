@@ -2,7 +2,7 @@
 use Rattle.std.proofs.Common.{◌≡◌, ◌+◌, ◌≤◌, ℕ, List, [], ◌∷◌, ◌++◌, Option, Some, None, length, slice_get, set, cond, sym, subst, ◌∙◌, arith, length-append, suc, ap}
 use Rattle.uv_ids.specs.declared.id.Id.{Id}
 use Rattle.uv_work.specs.Ids.{same_id}
-use Rattle.uv_work.specs.Work.{Work}
+use Rattle.uv_work.specs.declared.job.Job.{Job}
 use Rattle.uv_work.specs.declared.event.PoolEvent.{PoolEvent}
 use Rattle.uv_pool.specs.declared.held.Held.{Held}
 use Rattle.uv_pool.specs.declared.places.Collected.{Collected}
@@ -48,7 +48,7 @@ kept_moved s t later id new e k rows log known where_ queued done =
       done = omega (arith, collected, end, entries, done, k.done);
     }
 
-pub kept_queue : (s t : Held) (job : Work) (number : ℕ) (e : PoolEvent) → IsKept s → IsNowhere (rows_of s) job.req
+pub kept_queue : (s t : Held) (job : Job) (number : ℕ) (e : PoolEvent) → IsKept s → IsNowhere (rows_of s) job.req
     → number ≡ s.waiting.first + length s.waiting.places.items
     → rows_of t ≡ record (rows_of s) { waiting = s.waiting.places.items ++ Some job ∷ [] } → t.log.items ≡ s.log.items ++ e ∷ []
     → ((q : Id) → place_of t q ≡ cond (same_id job.req q) (Some (place.Waiting number)) (place_of s q)) → IsKept t
@@ -59,7 +59,7 @@ kept_queue s t job number e k nowhere is rows log known =
     kept_moved s t (record r { waiting = r.waiting ++ Some job ∷ [] }) job.req (place.Waiting (r.first + length r.waiting)) e k rows log at_end
     (queue_moves r job nowhere) (omega (arith, length-append r.waiting (Some job ∷ []))) (omega arith)
 
-pub kept_take : (s t : Held) (n : ℕ) (job : Work) (first : ℕ) (ys : List (Option Work)) (e : PoolEvent) → IsKept s
+pub kept_take : (s t : Held) (n : ℕ) (job : Job) (first : ℕ) (ys : List (Option Job)) (e : PoolEvent) → IsKept s
     → slice_get s.running.items n ≡ Some None → Pops s.waiting.first s.waiting.places.items (Some job) first ys
     → rows_of t ≡ record (rows_of s) { first = first; waiting = ys; running = set s.running.items n (Some job) }
     → t.log.items ≡ s.log.items ++ e ∷ [] → ((q : Id) → place_of t q ≡ cond (same_id job.req q) (Some (place.Running n)) (place_of s q))
@@ -70,7 +70,7 @@ kept_take s t n job first ys e k idle pops rows log known =
     kept_moved s t (record r { first = first; waiting = ys; running = set r.running n (Some job) }) job.req (place.Running n) e k rows log known
     (take_moves r (place_of s) n job first ys k.indexed idle pops.1 leaves) (omega (arith, leaves.next)) (omega arith)
 
-pub kept_finish : (s t : Held) (n : ℕ) (job : Work) (c : Collected) (number : ℕ) (e : PoolEvent) → IsKept s
+pub kept_finish : (s t : Held) (n : ℕ) (job : Job) (c : Collected) (number : ℕ) (e : PoolEvent) → IsKept s
     → slice_get s.running.items n ≡ Some (Some job) → job.req ≡ c.id → number ≡ s.collected + length s.done.items
     → rows_of t ≡ record (rows_of s) { running = set s.running.items n None; done = s.done.items ++ c ∷ [] }
     → t.log.items ≡ s.log.items ++ e ∷ [] → ((q : Id) → place_of t q ≡ cond (same_id c.id q) (Some (place.Done number)) (place_of s q)) → IsKept t
@@ -80,7 +80,7 @@ kept_finish s t n job c number e k runs same is rows log known =
     kept_moved s t (record r { running = set r.running n None; done = r.done ++ c ∷ [] }) c.id (place.Done (r.collected + length r.done)) e k
     rows log at_end (finish_moves r (place_of s) n job c k.indexed runs same) (omega arith) (omega (arith, length-append r.done (c ∷ [])))
 
-pub kept_cancel : (s t : Held) (n first : ℕ) (ys : List (Option Work)) (c : Collected) (number : ℕ) (e : PoolEvent) → IsKept s
+pub kept_cancel : (s t : Held) (n first : ℕ) (ys : List (Option Job)) (c : Collected) (number : ℕ) (e : PoolEvent) → IsKept s
     → id_at (rows_of s) (place.Waiting n) ≡ Some c.id → Leaves s.waiting.first s.waiting.places.items n first ys
     → number ≡ s.collected + length s.done.items → rows_of t ≡ record (rows_of s) { first = first; waiting = ys; done = s.done.items ++ c ∷ [] }
     → t.log.items ≡ s.log.items ++ e ∷ [] → ((q : Id) → place_of t q ≡ cond (same_id c.id q) (Some (place.Done number)) (place_of s q)) → IsKept t

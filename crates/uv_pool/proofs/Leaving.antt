@@ -1,19 +1,19 @@
 -- A job leaves the queue.
 use Rattle.std.proofs.Common.{inl, inr, ◌≡◌, ◌+◌, ◌-◌, ◌≤◌, ℕ, suc, List, ◌∷◌, Option, Some, None, length, drop, set, ap, sym, subst, arith}
-use Rattle.uv_work.specs.Work.{Work}
+use Rattle.uv_work.specs.declared.job.Job.{Job}
 use Rattle.uv_pool.specs.Rows.{at_number}
 use Rattle.uv_pool.specs.Jobs.{jobs_of, Leaves, Pops}
 use Rattle.uv_pool.proofs.Numbers.{number_popped, number_front, number_set, number_dropped}
 
 -- at the front, and then so many empty places
-pub front_pops : (first k : ℕ) (xs rest ys : List (Option Work)) (job : Work) → xs ≡ Some job ∷ rest → ys ≡ drop k rest
+pub front_pops : (first k : ℕ) (xs rest ys : List (Option Job)) (job : Job) → xs ≡ Some job ∷ rest → ys ≡ drop k rest
     → k + length ys ≡ length rest → jobs_of ys ≡ jobs_of rest → Pops first xs (Some job) (first + (1 + k)) ys
 front_pops first k xs rest ys job is cut len jobs =
-    let P : List (Option Work) → Type 0 = λ zs. Pops first zs (Some job) (first + (1 + k)) ys in
+    let P : List (Option Job) → Type 0 = λ zs. Pops first zs (Some job) (first + (1 + k)) ys in
     let next : first + (1 + k) + length ys ≡ first + suc (length rest) = omega (arith, len) in
     let later : first + (1 + k) ≡ suc first + k = omega arith in
     subst P (sym is) (
-      ap (λ (js : List Work). job ∷ js) (sym jobs),
+      ap (λ (js : List Job). job ∷ js) (sym jobs),
       number_front first (Some job) rest,
       record {
         still = λ n other h.
@@ -24,7 +24,7 @@ front_pops first k xs rest ys job is cut len jobs =
     )
 
 -- anywhere, and then so many empty places at the front
-pub removal_leaves : (first n k : ℕ) (xs ys : List (Option Work)) → first ≤ n → ys ≡ drop k (set xs (n - first) None) → k + length ys ≡ length xs
+pub removal_leaves : (first n k : ℕ) (xs ys : List (Option Job)) → first ≤ n → ys ≡ drop k (set xs (n - first) None) → k + length ys ≡ length xs
     → Leaves first xs n (first + k) ys
 removal_leaves first n k xs ys low cut len = record {
   still = λ m other h.

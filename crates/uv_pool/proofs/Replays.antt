@@ -6,7 +6,7 @@ use Rattle.std.proofs.lemmas.Option.{slice_get-map}
 use Rattle.uv_ids.specs.declared.id.Id.{Id}
 use Rattle.uv_work.specs.Ids.{same_id}
 use Rattle.uv_work.specs.Pool.{has, waits, without, replay}
-use Rattle.uv_work.specs.Work.{Work}
+use Rattle.uv_work.specs.declared.job.Job.{Job}
 use Rattle.uv_work.specs.declared.event.PoolEvent.{PoolEvent}
 use Rattle.uv_work.specs.declared.event.PoolEvent.TheVariants as event
 use Rattle.uv_work.specs.declared.result.WorkResult.{WorkResult}
@@ -15,11 +15,11 @@ use Rattle.uv_pool.specs.Book.{IsReplay, is_finish, finish_count}
 use Rattle.uv_pool.specs.Contents.{Contents, fresh, pool_of, id_run, member, jobs_without, queued, taken, finished, cancelled, collected}
 use Rattle.uv_pool.specs.declared.places.Collected.{Collected}
 
-pub replays_queue : (c : Contents) (job : Work) → IsReplay c → has (pool_of c) job.req ≡ false → IsReplay (queued c job)
+pub replays_queue : (c : Contents) (job : Job) → IsReplay c → has (pool_of c) job.req ≡ false → IsReplay (queued c job)
 replays_queue c job h new =
-    rw (replay_more (length c.running) c.log (event.Queue job.req), h, new, map-append (λ (j : Work). j.req) c.waiting (job ∷ [])) refl
+    rw (replay_more (length c.running) c.log (event.Queue job.req), h, new, map-append (λ (j : Job). j.req) c.waiting (job ∷ [])) refl
 
-pub replays_take : (c : Contents) (k : ℕ) (job : Work) (rest : List Work) → IsReplay c → slice_get c.running k ≡ Some None
+pub replays_take : (c : Contents) (k : ℕ) (job : Job) (rest : List Job) → IsReplay c → slice_get c.running k ≡ Some None
     → c.waiting ≡ job ∷ rest → IsReplay (taken c k job rest)
 replays_take c k job rest h idle front =
     rw (
@@ -46,11 +46,11 @@ replays_finish c k r h runs =
       map-append member c.done (record { id = r.job.req; result = Some r } ∷ []),
     ) refl
 
-without_mapped : (xs : List Work) (id : Id) → without (map (λ (j : Work). j.req) xs) id ≡ map (λ (j : Work). j.req) (jobs_without xs id)
+without_mapped : (xs : List Job) (id : Id) → without (map (λ (j : Job). j.req) xs) id ≡ map (λ (j : Job). j.req) (jobs_without xs id)
 without_mapped [] id = refl
 without_mapped (x ∷ xs) id = at (same_id x.req id) (without_mapped xs id) where
-  at : (b : Bool) → without (map (λ (j : Work). j.req) xs) id ≡ map (λ (j : Work). j.req) (jobs_without xs id)
-      → cond b (map (λ (j : Work). j.req) xs) (x.req ∷ without (map (λ (j : Work). j.req) xs) id) ≡ map (λ (j : Work). j.req)
+  at : (b : Bool) → without (map (λ (j : Job). j.req) xs) id ≡ map (λ (j : Job). j.req) (jobs_without xs id)
+      → cond b (map (λ (j : Job). j.req) xs) (x.req ∷ without (map (λ (j : Job). j.req) xs) id) ≡ map (λ (j : Job). j.req)
       (cond b xs (x ∷ jobs_without xs id))
   at true more = refl
   at false more = ap (λ (ids : List Id). x.req ∷ ids) more
@@ -79,4 +79,4 @@ none_run (suc n) = ap (λ (xs : List (Option Id)). None ∷ xs) (none_run n)
 
 pub replays_fresh : (workers : ℕ) → IsReplay (fresh workers)
 unfolding replay
-replays_fresh workers = rw (length-replicate workers (let x : Option Work = None in x), none_run workers) refl
+replays_fresh workers = rw (length-replicate workers (let x : Option Job = None in x), none_run workers) refl

@@ -2,7 +2,7 @@
 use Rattle.std.proofs.Common.{◌≡◌, ◌+◌, ◌⊎◌, ℕ, zero, suc, List, [], ◌∷◌, ◌++◌, Bool, true, false, Option, Some, None, length, cond, set, slice_get, replicate, inl, inr, refl, ap, sym, ◌∙◌}
 use Rattle.uv_ids.specs.declared.id.Id.{Id}
 use Rattle.uv_work.specs.Ids.{same_id}
-use Rattle.uv_work.specs.Work.{Work}
+use Rattle.uv_work.specs.declared.job.Job.{Job}
 use Rattle.uv_work.proofs.Replays.{same_itself, same_when}
 use Rattle.uv_pool.specs.declared.places.Collected.{Collected}
 use Rattle.uv_pool.specs.declared.places.Place.{Place}
@@ -73,7 +73,7 @@ pub still_indexed : (r : Rows) (at known : Id → Option Place) → IsIndexed r 
 still_indexed r at known i same = record { stands = λ p id h. same id ∙ i.stands p id h }
 
 -- what a place has, seen from its id
-job_there : (o : Option (Option Work)) (id : Id) → id_of_job o ≡ Some id → (job : Work) × (o ≡ Some (Some job)) × (job.req ≡ id)
+job_there : (o : Option (Option Job)) (id : Id) → id_of_job o ≡ Some id → (job : Job) × (o ≡ Some (Some job)) × (job.req ≡ id)
 job_there None id h = absurd (cc)
 job_there (Some None) id h = absurd (cc)
 job_there (Some (Some job)) id h = (job, refl, cc)
@@ -82,10 +82,10 @@ done_there : (o : Option Collected) (id : Id) → id_of_done o ≡ Some id → (
 done_there None id h = absurd (cc)
 done_there (Some c) id h = (c, refl, cc)
 
-job_at : (o : Option (Option Work)) (job : Work) → o ≡ Some (Some job) → id_of_job o ≡ Some job.req
+job_at : (o : Option (Option Job)) (job : Job) → o ≡ Some (Some job) → id_of_job o ≡ Some job.req
 job_at o job h = ap id_of_job h
 
-pub queue_moves : (r : Rows) (job : Work) → IsNowhere r job.req → (p : Place) (q : Id)
+pub queue_moves : (r : Rows) (job : Job) → IsNowhere r job.req → (p : Place) (q : Id)
     → id_at (record r { waiting = r.waiting ++ Some job ∷ [] }) p ≡ Some q → Moved r job.req (place.Waiting (r.first + length r.waiting)) p q
 queue_moves r job new (place.Waiting n) q h =
     let t = job_there (at_number r.first (r.waiting ++ Some job ∷ []) n) q h in
@@ -97,7 +97,7 @@ queue_moves r job new (place.Waiting n) q h =
       )
       | inr e ↦ inl (
         ap (λ (x : ℕ). let w : Place = place.Waiting x in w) e.0,
-        (let same : Some job ≡ Some t.0 = e.1 in let back : job ≡ t.0 = cc in sym t.2 ∙ ap (λ (w : Work). w.req) (sym back)),
+        (let same : Some job ≡ Some t.0 = e.1 in let back : job ≡ t.0 = cc in sym t.2 ∙ ap (λ (w : Job). w.req) (sym back)),
       )
     ]
 queue_moves r job new (place.Running k) q h = inr (h, (λ same. new (place.Running k) (h ∙ ap (λ (x : Id). Some x) same)))
@@ -119,7 +119,7 @@ nothing_stands workers r at first waiting running collected done = record { stan
   stands (place.Done n) id h =
       let k = rw (collected, done) at h in absurd (cc k)
 
-pub take_moves : (r : Rows) (at : Id → Option Place) (k : ℕ) (job : Work) (first : ℕ) (ys : List (Option Work)) → IsIndexed r at
+pub take_moves : (r : Rows) (at : Id → Option Place) (k : ℕ) (job : Job) (first : ℕ) (ys : List (Option Job)) → IsIndexed r at
     → slice_get r.running k ≡ Some None → at_number r.first r.waiting r.first ≡ Some (Some job) → Leaves r.first r.waiting r.first first ys
     → (p : Place) (q : Id) → id_at (record r { first = first; waiting = ys; running = set r.running k (Some job) }) p ≡ Some q
     → Moved r job.req (place.Running k) p q
@@ -137,7 +137,7 @@ take_moves r at k job first ys i idle front leaves (place.Running j) q h =
     elim (get_set r.running k (Some job) j (Some t.0) t.1) [
       | inl e ↦ inl (
         ap (λ (x : ℕ). let w : Place = place.Running x in w) e.0,
-        (let same : Some job ≡ Some t.0 = e.1 in let back : job ≡ t.0 = cc in sym t.2 ∙ ap (λ (w : Work). w.req) (sym back)),
+        (let same : Some job ≡ Some t.0 = e.1 in let back : job ≡ t.0 = cc in sym t.2 ∙ ap (λ (w : Job). w.req) (sym back)),
       )
       | inr e ↦
           (let old : id_at r (place.Running j) ≡ Some q = job_at _ t.0 e.1 ∙ ap (λ (x : Id). Some x) t.2 in
@@ -175,7 +175,7 @@ done_moves r later at from c i there first done other waiting running (place.Don
     ]
 
 -- what a worker ran is done
-pub finish_moves : (r : Rows) (at : Id → Option Place) (k : ℕ) (job : Work) (c : Collected) → IsIndexed r at
+pub finish_moves : (r : Rows) (at : Id → Option Place) (k : ℕ) (job : Job) (c : Collected) → IsIndexed r at
     → slice_get r.running k ≡ Some (Some job) → job.req ≡ c.id → (p : Place) (q : Id)
     → id_at (record r { running = set r.running k None; done = r.done ++ c ∷ [] }) p ≡ Some q
     → Moved r c.id (place.Done (r.collected + length r.done)) p q
@@ -193,7 +193,7 @@ finish_moves r at k job c i runs same =
           ]
 
 -- one that waited is done
-pub cancel_moves : (r : Rows) (at : Id → Option Place) (n first : ℕ) (ys : List (Option Work)) (c : Collected) → IsIndexed r at
+pub cancel_moves : (r : Rows) (at : Id → Option Place) (n first : ℕ) (ys : List (Option Job)) (c : Collected) → IsIndexed r at
     → id_at r (place.Waiting n) ≡ Some c.id → Leaves r.first r.waiting n first ys → (p : Place) (q : Id)
     → id_at (record r { first = first; waiting = ys; done = r.done ++ c ∷ [] }) p ≡ Some q
     → Moved r c.id (place.Done (r.collected + length r.done)) p q

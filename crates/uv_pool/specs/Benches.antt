@@ -5,7 +5,7 @@ use Rattle.uv_ids.specs.declared.fault.Fault.{Fault}
 use Rattle.uv_ids.specs.declared.fault.Fault.TheVariants as fault
 use Rattle.uv_ids.specs.declared.fault.Why.TheVariants as why
 use Rattle.uv_work.specs.Ids.{same_id}
-use Rattle.uv_work.specs.Work.{Work}
+use Rattle.uv_work.specs.declared.job.Job.{Job}
 use Rattle.uv_work.specs.declared.event.PoolEvent.{PoolEvent}
 use Rattle.uv_work.specs.declared.event.PoolEvent.TheVariants as event
 use Rattle.uv_work.specs.declared.result.WorkResult.{WorkResult}
@@ -38,7 +38,7 @@ abbrev pub IsWorkerFault : Fault → Type 0
 IsWorkerFault f = IsEnrolFault f ⊎ IsTakeFault f ⊎ IsFinishFault f
 
 -- a job adds its Take; an answer without a job adds nothing
-abbrev pub Gives : ℕ → List PoolEvent → Result (Option Work) Fault → List PoolEvent → Type 0
+abbrev pub Gives : ℕ → List PoolEvent → Result (Option Job) Fault → List PoolEvent → Type 0
 Gives k s (Ok (Some job)) t = t ≡ s ++ event.Take k job.req ∷ []
 Gives k s (Ok None) t = t ≡ s
 Gives k s (Err f) t = t ≡ s
@@ -78,6 +78,6 @@ Stops k bench bench' = (turns : List PoolEvent) × (are_turns k turns ≡ true) 
 -- last, and whether it was closed
 pub record AtDesk : Type 0 where
   pub events : List PoolEvent
-  pub job : Option Work
+  pub job : Option Job
   pub idle : Bool
   pub closed : Bool

@@ -6,7 +6,7 @@ use Rattle.uv_ids.specs.declared.code.Code.TheVariants as code
 use Rattle.uv_ids.specs.declared.fault.Fault.{Fault}
 use Rattle.uv_ids.specs.declared.fault.Fault.TheVariants as fault
 use Rattle.uv_ids.specs.declared.fault.Why.TheVariants as why
-use Rattle.uv_work.specs.Work.{Work}
+use Rattle.uv_work.specs.declared.job.Job.{Job}
 use Rattle.uv_work.specs.Pool.{has, waits}
 use Rattle.uv_work.specs.declared.result.WorkResult.{WorkResult}
 use Rattle.uv_pool.specs.declared.places.Collected.{Collected}
@@ -30,7 +30,7 @@ Reserves s (Err fault.Limit) t = IsFull s t
 Reserves s (Err _) t = ⊥
 
 -- a job goes to the end of those that wait; its request may not be in the pool
-abbrev pub Submits : Hold → Work → Result (Unit {0}) Fault → Hold → Type 0
+abbrev pub Submits : Hold → Job → Result (Unit {0}) Fault → Hold → Type 0
 Submits s job (Ok _) t = (has (pool_of s.contents) job.req ≡ false) × (t.contents ≡ queued s.contents job)
 Submits s job (Err (fault.Refused why.Range)) t = (has (pool_of s.contents) job.req ≡ true) × (t ≡ s)
 Submits s job (Err fault.Memory) t = (has (pool_of s.contents) job.req ≡ false) × WantsMemory s t
@@ -38,16 +38,16 @@ Submits s job (Err fault.Limit) t = (has (pool_of s.contents) job.req ≡ false)
 Submits s job (Err _) t = ⊥
 
 -- what a worker runs: none where there is no such worker
-abbrev pub run_at : Hold → ℕ → Option (Option Work)
+abbrev pub run_at : Hold → ℕ → Option (Option Job)
 run_at s k = slice_get s.contents.running k
 
 -- an idle worker gets the job that waited longest; none, and no entry, where nothing waits
-abbrev pub TakesNext : Hold → ℕ → Result (Option Work) Fault → Hold → Type 0
+abbrev pub TakesNext : Hold → ℕ → Result (Option Job) Fault → Hold → Type 0
 TakesNext s k (Ok (Some job)) t = (run_at s k ≡ Some None) × (s.contents.waiting ≡ job ∷ t.contents.waiting)
     × (t.contents ≡ taken s.contents k job t.contents.waiting)
 TakesNext s k (Ok None) t = (run_at s k ≡ Some None) × (s.contents.waiting ≡ []) × (t ≡ s)
 TakesNext s k (Err (fault.Refused why.NoWorker)) t = (run_at s k ≡ None) × (t ≡ s)
-TakesNext s k (Err (fault.Refused why.BusyWorker)) t = ((job : Work) × (run_at s k ≡ Some (Some job))) × (t ≡ s)
+TakesNext s k (Err (fault.Refused why.BusyWorker)) t = ((job : Job) × (run_at s k ≡ Some (Some job))) × (t ≡ s)
 TakesNext s k (Err fault.Memory) t = (run_at s k ≡ Some None) × (s.contents.waiting ≡ [] → ⊥) × WantsMemory s t
 TakesNext s k (Err fault.Limit) t = (run_at s k ≡ Some None) × (s.contents.waiting ≡ [] → ⊥) × IsFull s t
 TakesNext s k (Err _) t = ⊥
@@ -57,7 +57,7 @@ abbrev pub Finishes : Hold → ℕ → WorkResult → Result (Unit {0}) Fault �
 Finishes s k r (Ok _) t = (run_at s k ≡ Some (Some r.job)) × (t.contents ≡ finished s.contents k r)
 Finishes s k r (Err (fault.Refused why.NoWorker)) t = (run_at s k ≡ None) × (t ≡ s)
 Finishes s k r (Err (fault.Refused why.IdleWorker)) t = (run_at s k ≡ Some None) × (t ≡ s)
-Finishes s k r (Err (fault.Refused why.NoWork)) t = ((job : Work) × (run_at s k ≡ Some (Some job)) × (job ≡ r.job → ⊥)) × (t ≡ s)
+Finishes s k r (Err (fault.Refused why.NoWork)) t = ((job : Job) × (run_at s k ≡ Some (Some job)) × (job ≡ r.job → ⊥)) × (t ≡ s)
 Finishes s k r (Err fault.Memory) t = (run_at s k ≡ Some (Some r.job)) × WantsMemory s t
 Finishes s k r (Err fault.Limit) t = (run_at s k ≡ Some (Some r.job)) × IsFull s t
 Finishes s k r (Err _) t = ⊥

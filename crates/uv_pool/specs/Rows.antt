@@ -1,7 +1,7 @@
 -- Where the requests of the pool stand.
 use Rattle.std.specs.Prelude.{◌≡◌, ℕ, zero, suc, List, Option, Some, None, slice_get}
 use Rattle.uv_ids.specs.declared.id.Id.{Id}
-use Rattle.uv_work.specs.Work.{Work}
+use Rattle.uv_work.specs.declared.job.Job.{Job}
 use Rattle.uv_pool.specs.declared.places.Collected.{Collected}
 use Rattle.uv_pool.specs.declared.places.Place.{Place}
 use Rattle.uv_pool.specs.declared.places.Place.TheVariants as place
@@ -16,12 +16,12 @@ at_number (suc first) xs (suc n) = at_number first xs n
 -- that are done, from the number `collected` on
 pub record Rows : Type 0 where
   pub first : ℕ
-  pub waiting : List (Option Work)
-  pub running : List (Option Work)
+  pub waiting : List (Option Job)
+  pub running : List (Option Job)
   pub collected : ℕ
   pub done : List Collected
 
-abbrev pub id_of_job : Option (Option Work) → Option Id
+abbrev pub id_of_job : Option (Option Job) → Option Id
 id_of_job (Some (Some job)) = Some job.req
 id_of_job _ = None
 

@@ -9,7 +9,7 @@ use uv_work::{Job, WorkResult};
 /// What gives a worker jobs and takes their results (own). Its meaning is the list of events that it answered.
 pub trait Bench<L: Ledger> {
     ghost use Rattle.std.specs.Prelude.{List, ℕ};
-    ghost use Rattle.uv_work.specs.Work.{Work};
+    ghost use Rattle.uv_work.specs.declared.job.Job.{Job};
     ghost use Rattle.uv_work.specs.declared.event.PoolEvent.{PoolEvent};
     ghost use Rattle.uv_pool.specs.Benches.{Gives, Ends, IsEnrolFault, IsTakeFault, IsFinishFault};
 
@@ -17,7 +17,7 @@ pub trait Bench<L: Ledger> {
     ghost answered: { Self → List PoolEvent };
 
     // The worker runs this job: `take` gave it, and it isn't finished.
-    ghost gave: { Self → ℕ → Work → Type 0 };
+    ghost gave: { Self → ℕ → Job → Type 0 };
 
     // Nothing waits for a worker.
     ghost idle: { Self → Type 0 };

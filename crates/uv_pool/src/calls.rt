@@ -36,7 +36,7 @@ impl Held {
         ensures call { Submits (hold_of self.old) job result (hold_of self.new) }
         ensures kept { IsKept self.new }
     {
-        match self.find(job.req()) {
+        match self.find(job.req) {
             Some(_) => return Err(Fault::Refused(Why::Range)),
             None => {}
         }

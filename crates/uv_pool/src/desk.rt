@@ -75,7 +75,7 @@ impl<'a, R: Wait, L: Ledger> Bench<L> for Desk<'a, R, L> {
         }
         match self.book.take(self.rt, k) {
             Ok(Some(job)) => {
-                self.events.push_reserved(PoolEvent::Take(k, job.req()));
+                self.events.push_reserved(PoolEvent::Take(k, job.req));
                 self.job = Some(job);
                 Ok(Some(job))
             }
@@ -105,7 +105,7 @@ impl<'a, R: Wait, L: Ledger> Bench<L> for Desk<'a, R, L> {
             Ok(()) => {}
             Err(fault) => return Err(fault),
         }
-        self.events.push_reserved(PoolEvent::Finish(k, job.req()));
+        self.events.push_reserved(PoolEvent::Finish(k, job.req));
         self.job = None;
         Ok(())
     }

@@ -65,11 +65,11 @@ impl Held {
     {
         match place {
             Place::Waiting(number) => match self.waiting.at(number) {
-                Some(Some(job)) => Some(job.req()),
+                Some(Some(job)) => Some(job.req),
                 _ => None,
             },
             Place::Running(k) => match self.run_at(k) {
-                Some(Some(job)) => Some(job.req()),
+                Some(Some(job)) => Some(job.req),
                 _ => None,
             },
             Place::Done(number) => match self.done_at(number) {
@@ -127,8 +127,8 @@ impl Held {
         ensures kept { IsKept self.new }
     {
         let number = self.waiting.push(job);
-        note(&mut self.places, job.req(), Place::Waiting(number));
-        self.log.push_reserved(PoolEvent::Queue(job.req()));
+        note(&mut self.places, job.req, Place::Waiting(number));
+        self.log.push_reserved(PoolEvent::Queue(job.req));
     }
 
     pub(crate) fn take(&mut self, k: u16) -> Option<Job>
@@ -140,8 +140,8 @@ impl Held {
     {
         let job = self.waiting.pop()?;
         self.running[k as usize] = Some(job);
-        note(&mut self.places, job.req(), Place::Running(k));
-        self.log.push_reserved(PoolEvent::Take(k, job.req()));
+        note(&mut self.places, job.req, Place::Running(k));
+        self.log.push_reserved(PoolEvent::Take(k, job.req));
         Some(job)
     }
 
@@ -153,7 +153,7 @@ impl Held {
         ensures results { SetsResult (contents_of self.old) work.job.req (Some work) (contents_of self.new) }
         ensures kept { IsKept self.new }
     {
-        let id = work.job().req();
+        let id = work.job().req;
         self.running[k as usize] = None;
         let number = self.collected + self.done.len();
         let result = Some(work);

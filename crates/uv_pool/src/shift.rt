@@ -106,7 +106,7 @@ fn serve<L: Ledger, B: Bench<L>, G: Gate>(
         Ok(None) => return Ok(false),
         Err(fault) => return Err(fault),
     };
-    let id = job.req();
+    let id = job.req;
     events.push_reserved(PoolEvent::Take(k, id));
     gate.begun(k, id);
     let work = WorkResult::compute(job);

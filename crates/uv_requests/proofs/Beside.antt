@@ -9,7 +9,7 @@ use Rattle.uv_records.specs.Walks.{without}
 use Rattle.uv_arena.specs.Chains.{IsIn}
 use Rattle.uv_arena.specs.Image.{Image, members, held, on_list, plain_slots}
 use Rattle.uv_arena.proofs.Lists.{in_left, in_right, in_either}
-use Rattle.uv_work.specs.Requests.{Request}
+use Rattle.uv_work.specs.declared.request.Request.{Request}
 use Rattle.uv_work.specs.Pool.{Pool, Done, size, has}
 use Rattle.uv_requests.specs.Working.{Running, working, id_in, request_in, done_in, was_finished, pool_of, IsHeld, IsRun, IsWork}
 use Rattle.uv_requests.proofs.Holding.{held_id, one_held, one_id}

@@ -9,7 +9,7 @@ use Rattle.uv_arena.specs.Image.{Image, members, IsSound}
 use Rattle.uv_arena.proofs.Lists.{in_either, apart_join}
 use Rattle.uv_arena.proofs.Lookups.{held_tells, one_list}
 use Rattle.uv_arena.proofs.Walk.{few}
-use Rattle.uv_work.specs.Requests.{Request}
+use Rattle.uv_work.specs.declared.request.Request.{Request}
 use Rattle.uv_work.specs.Pool.{busy}
 use Rattle.uv_requests.specs.Working.{Working, id_in, done_in, IsHeld, IsRun, IsWork}
 use Rattle.uv_requests.proofs.Beside.{end_held}

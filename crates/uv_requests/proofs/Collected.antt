@@ -13,7 +13,7 @@ use Rattle.uv_arena.specs.Undo.{unlink_undone, CanUndoUnlink}
 use Rattle.uv_arena.specs.Calls.{IsFirst, IsUnlinked, IsRemoved, IsSpliced}
 pub use Rattle.uv_arena.proofs.Contents.{freed_slot}
 use Rattle.uv_arena.proofs.Contents.{past_end}
-use Rattle.uv_work.specs.Requests.{Request}
+use Rattle.uv_work.specs.declared.request.Request.{Request}
 use Rattle.uv_work.specs.Pool.{Done}
 use Rattle.uv_requests.specs.Working.{Running, working, request_in, done_in, pool_of, IsWork}
 use Rattle.uv_requests.specs.Undo.{with_count, collect_undone}

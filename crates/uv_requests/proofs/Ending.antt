@@ -17,8 +17,9 @@ use Rattle.uv_arena.proofs.Contents.{content_of, set_here, set_there, set_back}
 use Rattle.uv_arena.proofs.Lookups.{one_list, without_none}
 use Rattle.uv_arena.proofs.Readings.{apart_from}
 use Rattle.uv_work.specs.Ids.{same_id}
-use Rattle.uv_work.specs.Work.{Work}
-use Rattle.uv_work.specs.Requests.{Request, is_open, is_finished, ended, finished, cancelled, reopened, job_of, cancel_refusal}
+use Rattle.uv_work.specs.declared.job.Job.{Job}
+use Rattle.uv_work.specs.declared.request.Request.{Request}
+use Rattle.uv_work.specs.Requests.{is_open, is_finished, ended, finished, cancelled, reopened, job_of, cancel_refusal}
 use Rattle.uv_work.specs.Pool.{waits, without}
 use Rattle.uv_work.specs.declared.outcome.Outcome.{Outcome}
 use Rattle.uv_work.specs.declared.outcome.Outcome.TheVariants.{Open, Finished, Cancelled}
@@ -100,7 +101,7 @@ module _ {X : Type 0} {read : X → Option Request} {make : Request → X} {a k 
 
 -- a worker finishes its request
 pub finish_done : {X : Type 0} {read : X → Option Request} {make : Request → X} {i k j : Image X} {d : Id} {from : Request} {digest : List ℕ} {c : ℕ}
-    {r : Running} {asked : Work} → ((q : Request) → read (make q) ≡ Some q) → IsSound i → IsWork read (working i r)
+    {r : Running} {asked : Job} → ((q : Request) → read (make q) ≡ Some q) → IsSound i → IsWork read (working i r)
     → slice_get r.workers c ≡ Some (Some d) → request_in read i d ≡ Some from → IsSet i k d (make (finished digest from)) (make from)
     → IsPushed k j Ended d (members k Ended ++ d.slot ∷ []) → job_of d from ≡ asked
     → IsFinished read make (working i r) (working j (with_run c None r)) c d asked digest (record { worker = c; id = d })

@@ -3,7 +3,7 @@ use Rattle.std.proofs.Common.{◌≡◌, ℕ, zero, suc, Option, Some, None, rep
 use Rattle.uv_ids.specs.declared.id.Id.{Id}
 use Rattle.uv_arena.specs.Chains.{list_of, walk}
 use Rattle.uv_arena.specs.Image.{fresh_image}
-use Rattle.uv_work.specs.Requests.{Request}
+use Rattle.uv_work.specs.declared.request.Request.{Request}
 use Rattle.uv_work.specs.Pool.{busy}
 use Rattle.uv_requests.specs.Working.{working, idle_workers, IsWork}
 

@@ -12,7 +12,8 @@ pub use Rattle.uv_arena.proofs.Contents.{content_of}
 use Rattle.uv_arena.proofs.Memories.{or_none}
 use Rattle.uv_arena.proofs.Lookups.{held_tells, name_below}
 use Rattle.uv_arena.proofs.Readings.{is_member}
-use Rattle.uv_work.specs.Requests.{Request, is_open}
+use Rattle.uv_work.specs.declared.request.Request.{Request}
+use Rattle.uv_work.specs.Requests.{is_open}
 use Rattle.uv_requests.specs.Working.{Running, working, id_in, request_in, IsHeld, IsWork}
 
 module _ {X : Type 0} where

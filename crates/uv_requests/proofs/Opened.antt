@@ -11,7 +11,8 @@ use Rattle.uv_arena.specs.Image.{Image, members, on_list, IsSound}
 use Rattle.uv_arena.specs.Undo.{insert_undone, push_undone, CanUndoInsert, CanUndoPush}
 use Rattle.uv_arena.specs.Calls.{IsFirst, IsInserted, IsPushed, IsUnlinked}
 use Rattle.uv_arena.proofs.Contents.{set_back, set_here, set_there}
-use Rattle.uv_work.specs.Requests.{Request, is_open}
+use Rattle.uv_work.specs.declared.request.Request.{Request}
+use Rattle.uv_work.specs.Requests.{is_open}
 use Rattle.uv_requests.specs.Working.{Running, working, id_in, request_in, done_in, pool_of, IsHeld, IsRun, IsWork}
 use Rattle.uv_requests.specs.Undo.{with_count, with_run, queue_undone, take_undone}
 use Rattle.uv_requests.specs.Calls.{IsQueued, IsTaken}

@@ -10,8 +10,9 @@ use Rattle.uv_records.specs.Walks.{without}
 use Rattle.uv_arena.specs.declared.undo.SpliceUndo.{SpliceUndo}
 use Rattle.uv_arena.specs.Image.{members, held, on_list, plain_slots}
 use Rattle.uv_arena.specs.Calls.{IsFirst, SameSlots}
-use Rattle.uv_work.specs.Work.{Work}
-use Rattle.uv_work.specs.Requests.{Request, finished, cancelled, job_of}
+use Rattle.uv_work.specs.declared.job.Job.{Job}
+use Rattle.uv_work.specs.declared.request.Request.{Request}
+use Rattle.uv_work.specs.Requests.{finished, cancelled, job_of}
 use Rattle.uv_work.specs.Pool.{after_event}
 use Rattle.uv_work.specs.declared.event.PoolEvent.TheVariants as event
 use Rattle.uv_requests.specs.declared.undo.QueueUndo.{QueueUndo}
@@ -31,7 +32,7 @@ module _ {X : Type 0} (read : X → Option Request) where
   RefusesTake w k _ = ⊥
 
   -- the worker runs another job
-  pub record RunsOther (w : Working X) (k : ℕ) (job : Work) : Type 0 where
+  pub record RunsOther (w : Working X) (k : ℕ) (job : Job) : Type 0 where
     pub id : Id
     pub request : Request
     pub runs : slice_get w.running.workers k ≡ Some (Some id)
@@ -39,7 +40,7 @@ module _ {X : Type 0} (read : X → Option Request) where
     pub other : job_of id request ≡ job → ⊥
 
   -- why a worker's result isn't taken: there is no such worker, it runs nothing, or it runs another job
-  abbrev pub RefusesFinish : Working X → ℕ → Work → Why → Type 0
+  abbrev pub RefusesFinish : Working X → ℕ → Job → Why → Type 0
   RefusesFinish w k job why.NoWorker = slice_get w.running.workers k ≡ None
   RefusesFinish w k job why.IdleWorker = slice_get w.running.workers k ≡ Some None
   RefusesFinish w k job why.NoWork = RunsOther w k job
@@ -103,7 +104,7 @@ module _ {X : Type 0} (read : X → Option Request) where
       pub can_undo : CanUndoQueue read new u
 
     -- the worker's request is finished with this digest, and is done behind the others
-    pub record IsFinished (old new : Working X) (k : ℕ) (d : Id) (asked : Work) (digest : List ℕ) (u : FinishUndo) : Type 0 where
+    pub record IsFinished (old new : Working X) (k : ℕ) (d : Id) (asked : Job) (digest : List ℕ) (u : FinishUndo) : Type 0 where
       pub rule : after_event (pool_of read old) (event.Finish k d) ≡ Some (pool_of read new)
       pub from : Request
       pub was : request_in read old.arena d ≡ Some from

@@ -4,7 +4,8 @@ use Rattle.uv_ids.specs.declared.id.Id.{Id}
 use Rattle.uv_arena.specs.declared.undo.SpliceUndo.{SpliceUndo}
 use Rattle.uv_arena.specs.Image.{Image}
 use Rattle.uv_arena.specs.Undo.{insert_undone, remove_undone, set_undone, push_undone, unlink_undone, splice_undone, CanUndoInsert, CanUndoRemove, CanUndoSet, CanUndoPush, CanUndoUnlink, CanUndoSplice}
-use Rattle.uv_work.specs.Requests.{Request, reopened}
+use Rattle.uv_work.specs.declared.request.Request.{Request}
+use Rattle.uv_work.specs.Requests.{reopened}
 use Rattle.uv_requests.specs.declared.undo.QueueUndo.{QueueUndo}
 use Rattle.uv_requests.specs.declared.undo.TakeWorkUndo.{TakeWorkUndo}
 use Rattle.uv_requests.specs.declared.undo.FinishUndo.{FinishUndo}

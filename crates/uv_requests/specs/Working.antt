@@ -4,7 +4,8 @@ use Rattle.uv_ids.specs.declared.id.Id.{Id}
 use Rattle.uv_records.specs.declared.lists.ListName.TheVariants.{Waiting, Done as Ended, DoneYet as EndedYet}
 use Rattle.uv_arena.specs.Chains.{IsIn}
 use Rattle.uv_arena.specs.Image.{Image, slot_at, members, held, on_list}
-use Rattle.uv_work.specs.Requests.{Request, is_open, is_finished}
+use Rattle.uv_work.specs.declared.request.Request.{Request}
+use Rattle.uv_work.specs.Requests.{is_open, is_finished}
 use Rattle.uv_work.specs.Pool.{Pool, Done, size}
 
 pub record Running : Type 0 where

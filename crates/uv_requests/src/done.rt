@@ -13,7 +13,7 @@ use crate::undo::CollectWorkUndo;
 use uv_arena::{Slots, SpliceUndo};
 use uv_ids::Id;
 use uv_records::ListName;
-use uv_work::RequestRecord;
+use uv_work::Request;
 
 impl Requests {
     /// Begins the done section: all that are done have yet to be called back.
@@ -40,7 +40,7 @@ impl Requests {
     pub fn collect<T: HoldsWork>(
         &mut self,
         slots: &mut Slots<T>,
-    ) -> Option<(Id, RequestRecord, CollectWorkUndo)>
+    ) -> Option<(Id, Request, CollectWorkUndo)>
         requires { IsWork T.held_request (working slots.old.image self.old) }
         ensures none { IfNone result ((members slots.old.image DoneYet ≡ [])
             × (working slots.new.image self.new ≡ working slots.old.image self.old)) }
@@ -61,8 +61,8 @@ impl Requests {
         &mut self,
         slots: &mut Slots<T>,
         id: Id,
-        request: RequestRecord,
-    ) -> (Id, RequestRecord, CollectWorkUndo)
+        request: Request,
+    ) -> (Id, Request, CollectWorkUndo)
         requires work { IsWork T.held_request (working slots.old.image self.old) }
         requires first { IsFirst slots.old.image DoneYet id }
         requires found { request_in T.held_request slots.old.image id ≡ Some request }
@@ -94,7 +94,7 @@ impl Requests {
         &mut self,
         slots: &mut Slots<T>,
         undo: CollectWorkUndo,
-        request: RequestRecord,
+        request: Request,
     )
         requires { CanUndoCollect T.held_request T.of_request (working slots.old.image self.old) undo request }
         ensures undone { working slots.new.image self.new ≡ collect_undone T.of_request undo request (working slots.old.image self.old) }

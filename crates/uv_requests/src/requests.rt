@@ -11,7 +11,7 @@ use std::alloc::{AllocError, Global};
 use std::marker::Model;
 use uv_arena::Slots;
 use uv_ids::{Code, Id};
-use uv_work::RequestRecord;
+use uv_work::Request;
 
 /// What the workers of an arena run, and how many of its requests are open.
 #[derive(Drop)]
@@ -81,7 +81,7 @@ pub fn fresh_requests<T: HoldsWork>()
 {}
 
 /// The record of a request. ESTALE if nothing is held under the id, EKIND if it is a handle.
-pub fn request_at<T: HoldsWork>(slots: &Slots<T>, id: Id) -> Result<RequestRecord, Code>
+pub fn request_at<T: HoldsWork>(slots: &Slots<T>, id: Id) -> Result<Request, Code>
     ensures ok { IfOk result (λ r. request_in T.held_request slots.now.image id ≡ Some r) }
     ensures err { IfErr result (λ code. (waits : Bool) → cancel_refusal (found T.held_request slots.now.image id) waits ≡ Some code) }
     ensures none { IfErr result (λ code. request_in T.held_request slots.now.image id ≡ None) }

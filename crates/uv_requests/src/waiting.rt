@@ -14,14 +14,14 @@ use crate::undo::{CancelUndo, QueueUndo};
 use uv_arena::{InsertFault, PushUndo, Slots};
 use uv_ids::{Code, Id};
 use uv_records::ListName;
-use uv_work::RequestRecord;
+use uv_work::Request;
 
 impl Requests {
     /// Puts a request in a slot, open, behind those that wait (uv_queue_work).
     pub fn queue<T: HoldsWork>(
         &mut self,
         slots: &mut Slots<T>,
-        request: RequestRecord,
+        request: Request,
     ) -> Result<(Id, QueueUndo), InsertFault>
         requires { IsWork T.held_request (working slots.old.image self.old) }
         ensures ok { IfOk result (λ r. IsQueued T.held_request T.of_request
@@ -81,7 +81,7 @@ impl Requests {
         &self,
         slots: &mut Slots<T>,
         id: Id,
-        request: RequestRecord,
+        request: Request,
     ) -> CancelUndo
         requires work { IsWork T.held_request (working slots.old.image self.now) }
         requires found { request_in T.held_request slots.old.image id ≡ Some request }

@@ -3,7 +3,7 @@ ghost use Rattle.std.specs.Prelude.{◌≡◌, Option, Some, None, IfOk, IfErr, 
 ghost use Rattle.uv_records.specs.declared.lists.ListName.TheVariants.{Waiting};
 ghost use Rattle.uv_arena.specs.Calls.{IsFirst};
 ghost use Rattle.uv_work.specs.Requests.{job_of};
-ghost use Rattle.uv_work.specs.Work.{Work};
+ghost use Rattle.uv_work.specs.declared.job.Job.{Job};
 ghost use Rattle.uv_requests.specs.Working.{working, request_in, IsWork};
 ghost use Rattle.uv_requests.specs.Undo.{take_undone, finish_undone, CanUndoTake, CanUndoFinish};
 ghost use Rattle.uv_requests.specs.Calls.{RefusesTake, RefusesFinish, IsTaken, IsFinished};
@@ -14,7 +14,7 @@ use crate::undo::{FinishUndo, TakeWorkUndo};
 use uv_arena::{PushUndo, Slots};
 use uv_ids::{Id, Why};
 use uv_records::ListName;
-use uv_work::{RequestRecord, WorkResult};
+use uv_work::{Request, WorkResult};
 
 impl Requests {
     /// What a worker may take: the request that waits longest. Refused as `take` is.
@@ -22,7 +22,7 @@ impl Requests {
         &self,
         slots: &Slots<T>,
         worker: u16,
-    ) -> Result<(Id, RequestRecord), Why>
+    ) -> Result<(Id, Request), Why>
         requires { IsWork T.held_request (working slots.now.image self.now) }
         ensures idle { IfOk result (λ r. slice_get self.now.workers worker ≡ Some None) }
         ensures first { IfOk result (λ r. IsFirst slots.now.image Waiting r.0) }
@@ -98,11 +98,11 @@ impl Requests {
         &self,
         slots: &Slots<T>,
         worker: u16,
-    ) -> Result<(Id, RequestRecord), Why>
+    ) -> Result<(Id, Request), Why>
         requires { IsWork T.held_request (working slots.now.image self.now) }
         ensures runs { IfOk result (λ r. slice_get self.now.workers worker ≡ Some (Some r.0)) }
         ensures request { IfOk result (λ r. request_in T.held_request slots.now.image r.0 ≡ Some r.1) }
-        ensures err { IfErr result (λ why. (job : Work) → RefusesFinish T.held_request (working slots.now.image self.now) worker job why) }
+        ensures err { IfErr result (λ why. (job : Job) → RefusesFinish T.held_request (working slots.now.image self.now) worker job why) }
     {
         match self.running(worker) {
             None => Err(Why::NoWorker),
@@ -148,7 +148,7 @@ impl Requests {
         slots: &mut Slots<T>,
         worker: u16,
         id: Id,
-        request: RequestRecord,
+        request: Request,
         work: WorkResult,
     ) -> FinishUndo
         requires work { IsWork T.held_request (working slots.old.image self.old) }

@@ -11,7 +11,7 @@ use Rattle.uv_ids.specs.declared.seen.Seen.TheVariants as seen
 use Rattle.uv_ids.specs.declared.id.Id.{Id}
 use Rattle.uv_ids.specs.declared.id.Var.{Var}
 use Rattle.uv_script.specs.Program.{Program, worker_count}
-use Rattle.uv_work.specs.Work.{Work}
+use Rattle.uv_work.specs.declared.job.Job.{Job}
 use Rattle.uv_work.specs.declared.event.PoolEvent.{PoolEvent}
 use Rattle.uv_work.specs.declared.event.PoolEvent.TheVariants as event
 use Rattle.uv_work.specs.Pool.{IsLegal}
@@ -159,7 +159,7 @@ loop_err s t _ h = absurd h.answer
 -- ---- a finish with a result
 
 -- where it is taken it is the event
-pub result_ok : (s t : Shown) (k : ℕ) (job : Work) (o : Outcome) → TakesResult s k job (Ok o) t → TakesEvent s (Finish k) (Ok o) t
+pub result_ok : (s t : Shown) (k : ℕ) (job : Job) (o : Outcome) → TakesResult s k job (Ok o) t → TakesEvent s (Finish k) (Ok o) t
 result_ok s t k job o h = record {
   same_program = h.same_program;
   same_limit = h.same_limit;
@@ -168,7 +168,7 @@ result_ok s t k job o h = record {
   taken_back = h.taken_back;
 }
 
-event_of : (s t : Shown) (k : ℕ) (job : Work) (f : Fault) → TakesResult s k job (Err f) t →
+event_of : (s t : Shown) (k : ℕ) (job : Job) (f : Fault) → TakesResult s k job (Err f) t →
     Responds s.limit s.program s.standing (Finish k) (Err f) t.standing → TakesEvent s (Finish k) (Err f) t
 event_of s t k job f h a = record {
   same_program = h.same_program;
@@ -179,7 +179,7 @@ event_of s t k job f h a = record {
 }
 
 -- and where there is no memory, or no step left
-pub result_err : (s t : Shown) (k : ℕ) (job : Work) (f : Fault) → ((why : Why) → f ≡ fault.Refused why → ⊥) → TakesResult s k job (Err f) t →
+pub result_err : (s t : Shown) (k : ℕ) (job : Job) (f : Fault) → ((why : Why) → f ≡ fault.Refused why → ⊥) → TakesResult s k job (Err f) t →
     TakesEvent s (Finish k) (Err f) t
 result_err s t k job (fault.Refused why) n h = absurd (n why refl)
 result_err s t k job fault.Memory n h = event_of s t k job fault.Memory h h.answer
@@ -187,7 +187,7 @@ result_err s t k job fault.StepsFull n h = event_of s t k job fault.StepsFull h 
 result_err s t k job _ n h = absurd h.answer
 
 -- where it is refused nothing changed
-pub result_refused : (s t : Shown) (k : ℕ) (job : Work) (why : Why) → TakesResult s k job (Err (fault.Refused why)) t → t ≡ s
+pub result_refused : (s t : Shown) (k : ℕ) (job : Job) (why : Why) → TakesResult s k job (Err (fault.Refused why)) t → t ≡ s
 result_refused s t k job why h = λ l. record {
   program = h.same_program l;
   limit = h.same_limit l;

@@ -11,8 +11,7 @@ use Rattle.uv_ids.specs.declared.code.Answer.TheVariants as answer
 use Rattle.uv_script.specs.declared.op.Op.{Op}
 use Rattle.uv_script.specs.declared.op.Op.TheVariants as op
 use Rattle.uv_script.specs.Program.{Program, op_at}
-use Rattle.uv_script.specs.Tasks.{text_of}
-use Rattle.uv_work.specs.Work.{Work}
+use Rattle.uv_work.specs.declared.job.Job.{Job}
 use Rattle.uv_work.specs.declared.event.PoolEvent.{PoolEvent}
 use Rattle.uv_model.specs.declared.place.Place.{Place}
 use Rattle.uv_model.specs.declared.place.Place.TheVariants.{Main, Running}
@@ -38,16 +37,16 @@ events_of_loop p (Some (seen.After digest v id)) = line_events p (seen.After dig
 events_of_loop p l = []
 
 -- what a request asks for that this op queued: the rounds and the text of its line, under the id that it answered
-abbrev pub job_asked : Op → Answer → Option Work
-job_asked (op.Queue v task) (answer.Id id) = Some record { req = id; rounds = task.rounds; text = text_of task }
+abbrev pub job_asked : Op → Answer → Option Job
+job_asked (op.Queue v task) (answer.Id id) = Some record { req = id; task = task }
 job_asked o a = None
 
-abbrev pub job_at : Option Op → Answer → Option Work
+abbrev pub job_at : Option Op → Answer → Option Job
 job_at None a = None
 job_at (Some o) a = job_asked o a
 
 -- the job of a request that a step queued, by the line that it appended
-abbrev pub job_by : Program → Option Seen → Option Work
+abbrev pub job_by : Program → Option Seen → Option Job
 job_by p (Some (seen.Op site a)) = job_at (op_at p site) a
 job_by p l = None
 

@@ -4,24 +4,20 @@ ghost use Rattle.uv_ids.specs.declared.seen.Seen.TheVariants as seen;
 ghost use Rattle.uv_work.specs.declared.event.PoolEvent.TheVariants as event;
 ghost use Rattle.uv_order.specs.PoolEvents.{op_events};
 ghost use Rattle.uv_script.specs.Program.{op_at};
-ghost use Rattle.uv_script.specs.Tasks.{text_of};
 ghost use Rattle.uv_live.specs.Course.{events_of, job_of};
 ghost use Rattle.uv_run.specs.Events.{events_in, events_of_loop, job_asked, job_at, job_by};
 
 use uv_ids::{Answer, Id, Seen, Site};
 use uv_live::Did;
-use uv_script::{Op, Script, Task};
-use uv_work::{Job, PoolEvent};
+use uv_script::{Op, Script};
+use uv_work::{Job, PoolEvent, Task};
 
 /// A request was queued.
 fn queued(id: Id, task: Task) -> Did
     ensures events { events_of result ≡ event.Queue id ∷ [] }
-    ensures job { job_of result ≡ Some record { req = id; rounds = task.rounds; text = text_of task } }
+    ensures job { job_of result ≡ Some record { req = id; task = task } }
 {
-    match Job::new(id, task.text(), task.rounds()) {
-        Some(job) => Did::Queued(job),
-        None => unreachable!(),
-    }
+    Did::Queued(Job { req: id, task })
 }
 
 /// What an op did that answered this.
@@ -78,7 +74,7 @@ fn event_of(did: Did) -> Option<PoolEvent>
 {
     match did {
         Did::Nothing => None,
-        Did::Queued(job) => Some(PoolEvent::Queue(job.req())),
+        Did::Queued(job) => Some(PoolEvent::Queue(job.req)),
         Did::Cancelled(id) => Some(PoolEvent::Cancel(id)),
         Did::Collected(id) => Some(PoolEvent::Collect(id)),
     }

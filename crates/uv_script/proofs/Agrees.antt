@@ -18,17 +18,17 @@ use Rattle.uv_script.specs.declared.op.MainOp.TheVariants as main
 use Rattle.uv_script.specs.Grammar.{Statement, Declares, InMain, InCallback, Sizes, HasWorkers, Orders, InThread, named_word, bare_word, IsOp, init, start, repeat, queue, queue_text, on_name, bare, callback_word, Says, declares, in_main, runs, closes_loop, in_callback, in_call, sizes, sizes_to, has_workers, orders, in_thread}
 use Rattle.uv_script.specs.Limits.{MOST_SLOTS}
 use Rattle.uv_script.specs.Reading.{first_of, none_left, place_of, kind_of, mode_of, version_of, init_of, timer_start_of, start_by, start_of, repeat_of, filled, text_by, queue_of, bare_op, named_op, name_alone, short_op_of, op_of, declaration_of, run_of, close_loop_of, main_by, main_of, call_of, marked, in_calls_of, in_call_of, calls_of, callback_of, last_of, size_of, workers_of, orders_of, sender_of, thread_of, setting_of, statement_of}
-use Rattle.uv_script.specs.declared.task.Task.{Task}
+use Rattle.uv_work.specs.declared.task.Task.{Task}
 use Rattle.uv_script.specs.Lines.{rest_of}
-use Rattle.uv_script.specs.TaskReading.{task_of}
-use Rattle.uv_script.specs.Tasks.{IsTask, text_of}
+use Rattle.uv_work.specs.TaskReading.{task_of}
+use Rattle.uv_work.specs.Tasks.{IsTask, text_of}
 use Rattle.uv_script.specs.Program.{IsSlotCount, LAST_GENERATION, IsWorkerCount}
 use Rattle.uv_script.specs.Checks.{is_name, number_of}
 use Rattle.uv_script.specs.Words.{IsName, IsNumber, IsDeclared}
 use Rattle.uv_script.proofs.OpWords.{named_op-sound, bare_op-sound}
 use Rattle.uv_script.proofs.KindWords.{kind_of-some, kind_of-sound, mode_of-some, mode_of-sound, version_of-some, version_of-sound, choice_cases}
 use Rattle.uv_script.proofs.Places.{place_of-sound, place_of-finds}
-use Rattle.uv_script.proofs.TaskLemmas.{task_of-complete, task_of-sound}
+use Rattle.uv_work.proofs.TaskLemmas.{task_of-complete, task_of-sound}
 use Rattle.uv_script.proofs.Checks.{is_name_decides, number_of-sound, number_of-complete}
 
 -- a step of a reader that went well

@@ -15,7 +15,7 @@ use Rattle.uv_script.specs.declared.op.Op.TheVariants as op
 use Rattle.uv_script.specs.declared.op.CallbackLine.{CallbackLine}
 use Rattle.uv_script.specs.Grammar.{Statement, Declares, InMain, InCallback, Sizes, HasWorkers, Orders, InThread, named_word, bare_word, IsOp, init, start, repeat, queue, queue_text, on_name, bare, callback_word, Says, declares, in_main, runs, closes_loop, in_callback, in_call, sizes, sizes_to, has_workers, orders, in_thread}
 use Rattle.uv_script.specs.Lines.{fields_of}
-use Rattle.uv_script.specs.Tasks.{text_of}
+use Rattle.uv_work.specs.Tasks.{text_of}
 use Rattle.uv_script.specs.Text.{text_or_none, name_text, task_text, op_text, call_text, front_text, callback_line, main_line, var_line, order_line, workers_line, slots_line, thread_line}
 use Rattle.uv_script.specs.Words.{IsDeclared}
 

@@ -3,7 +3,6 @@ pub mod Checks
 pub mod Cuts
 pub mod KindWords
 pub mod Fresh
-pub mod TaskLemmas
 pub mod OpWords
 pub mod Agrees
 pub mod AfterLines

@@ -18,12 +18,12 @@ use Rattle.uv_script.specs.declared.op.MainOp.TheVariants as main
 use Rattle.uv_script.specs.declared.op.CallbackLine.{CallbackLine}
 use Rattle.uv_script.specs.declared.size.ArenaSize.{ArenaSize}
 use Rattle.uv_script.specs.declared.settings.Settings.{Settings}
-use Rattle.uv_script.specs.declared.task.Task.{Task}
+use Rattle.uv_work.specs.declared.task.Task.{Task}
 use Rattle.uv_ids.specs.declared.thread_line.ThreadLine.{ThreadLine}
 use Rattle.uv_script.specs.Limits.{MOST_NAMES, MOST_LINES}
 use Rattle.uv_script.specs.Lines.{lines_of, fields_of, IsLine, IsSkipped}
 use Rattle.uv_script.specs.Program.{Program, no_callbacks, callbacks_of, with_line, line_count, IsSlotCount, LAST_GENERATION, IsWorkerCount, DEFAULT_SIZE, DEFAULT_WORKERS, DEFAULT_ORDER, IsCounted}
-use Rattle.uv_script.specs.Tasks.{text_of}
+use Rattle.uv_work.specs.Tasks.{text_of}
 use Rattle.uv_script.specs.Words.{IsName, IsNumber, IsDeclared}
 
 -- what a line says

@@ -1,5 +1,3 @@
-pub mod TaskFields
-pub mod Tasks
 pub mod Limits
 pub mod Program
 pub mod Lines
@@ -7,7 +5,6 @@ pub mod Fields
 pub mod Words
 pub mod Checks
 pub mod Names
-pub mod TaskReading
 pub mod Grammar
 pub mod Text
 pub mod Laws

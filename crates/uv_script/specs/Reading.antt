@@ -23,7 +23,7 @@ use Rattle.uv_script.specs.Limits.{MOST_SLOTS, MOST_NAMES, MOST_LINES}
 use Rattle.uv_script.specs.Lines.{fields_of, rest_of, IsLine}
 use Rattle.uv_script.specs.Program.{Program, line_count, IsSlotCount, LAST_GENERATION, IsWorkerCount, IsThreadLine}
 use Rattle.uv_script.specs.Checks.{is_line, is_skipped, is_name, number_of}
-use Rattle.uv_script.specs.TaskReading.{task_of}
+use Rattle.uv_work.specs.TaskReading.{task_of}
 use Rattle.uv_script.specs.Words.{IsName}
 
 infixl 10 ◌>>=◌

@@ -13,7 +13,7 @@ use Rattle.uv_script.specs.declared.op.CallbackLine.{CallbackLine}
 use Rattle.uv_script.specs.declared.size.ArenaSize.{ArenaSize}
 use Rattle.uv_ids.specs.declared.thread_line.ThreadLine.{ThreadLine}
 use Rattle.uv_script.specs.Program.{Program, lines_in, arena_size, worker_count, order_of}
-use Rattle.uv_script.specs.Tasks.{text_of}
+use Rattle.uv_work.specs.Tasks.{text_of}
 
 abbrev pub text_or_none : Option (List ℕ) → List ℕ
 text_or_none (Some name) = name

@@ -10,7 +10,6 @@ mod script;
 mod settings;
 mod size;
 mod statement;
-mod task;
 mod text;
 mod words;
 
@@ -20,6 +19,5 @@ pub use op::{CallbackLine, MainOp, Op};
 pub use parse::{one_reading, text_read_back};
 pub use script::Script;
 pub use size::ArenaSize;
-pub use task::Task;
 pub use text::{push_number, push_task_text};
 pub use words::{is_name, number};

@@ -3,10 +3,10 @@
 ghost use Rattle.std.specs.Prelude.{◌≡◌, OnOk, OnErr};
 ghost use Rattle.uv_script.specs.Program.{no_callbacks, lines_of, with_line};
 
-use crate::task::Task;
 use std::alloc::{AllocError, Global};
 use std::marker::Model;
 use uv_ids::{Callback, Kind, Mode, Var};
+use uv_work::Task;
 
 /// An op, as it stands in the main program or in a callback.
 #[derive(Clone, Copy)]

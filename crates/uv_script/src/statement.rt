@@ -3,16 +3,16 @@ ghost use Rattle.std.specs.Prelude.{◌≡◌, Some, option_map};
 ghost use Rattle.uv_script.specs.Lines.{fields_of};
 ghost use Rattle.uv_script.specs.Reading.{none_left, kind_of, mode_of, init_of, timer_start_of, start_of, repeat_of, text_by, queue_of, bare_op, named_op, name_alone, short_op_of, op_of, declaration_of, run_of, main_of, main_by, close_loop_of, call_of, marked, in_calls_of, in_call_of, callback_of, last_of, size_of, workers_of, orders_of, sender_of, thread_of, setting_of, statement_of};
 ghost use Rattle.uv_script.specs.Said.{said};
-ghost use Rattle.uv_script.specs.TaskReading.{task_of};
+ghost use Rattle.uv_work.specs.TaskReading.{task_of};
 
 use crate::limits::MOST_SLOTS;
 use crate::lines::Fields;
 use crate::names::Names;
 use crate::op::{CallbackLine, MainOp, Op};
 use crate::size::ArenaSize;
-use crate::task::Task;
 use crate::words::{is_name, number};
 use uv_ids::{Callback, Kind, MOST_ROUNDS, MOST_SENDERS, Mode, Order, ThreadLine, Var, is};
+use uv_work::Task;
 
 /// What a line says.
 #[derive(Drop)]

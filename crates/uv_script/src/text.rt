@@ -10,10 +10,10 @@ ghost use Rattle.uv_script.specs.Text.{op_text, name_text, task_text, order_line
 use crate::names::Names;
 use crate::op::{CallbackLine, MainOp, Op};
 use crate::script::Script;
-use crate::task::Task;
 use itoa::Buffer;
 use std::alloc::AllocError;
 use uv_ids::{Callback, Fault, ThreadLine, Var};
+use uv_work::Task;
 
 /// Writes a number at the end of a text, in decimal digits.
 pub fn push_number(text: &mut Vec<u8>, number: u64) -> Result<(), AllocError>

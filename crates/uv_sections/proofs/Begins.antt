@@ -15,7 +15,7 @@ use Rattle.uv_model.specs.State.{State, watched, with_watched, refreshed}
 use Rattle.uv_step.specs.Change as change
 use Rattle.uv_step.specs.declared.record.Polled.{Polled}
 use Rattle.uv_step.specs.Record.{Record}
-use Rattle.uv_step.specs.Content.{request_in}
+use Rattle.uv_work.specs.Content.{request_of}
 use Rattle.uv_step.specs.Image.{Image, Held, working_of}
 use Rattle.uv_step.specs.Undo.{Recorded}
 use Rattle.uv_stands.specs.Contents.{slots_of}
@@ -66,7 +66,7 @@ module _ (r : Record Place) (h k : Held Place) (recorded : Recorded r h k) (soun
 
   -- the done section, at the end of a poll: the loop's time is that of the clock
   pub done_begun : (u : Polled) → r.change ≡ change.Polled u → j.times.time ≡ i.clock
-      → work.IsBegun request_in (working_of i) (working_of j) u.spliced
+      → work.IsBegun request_of (working_of i) (working_of j) u.spliced
       → (s : State) → StandsFor i s → StandsFor j (record (refreshed s) { done = all_yet s.done })
   done_begun u is time b s st =
       let q = all_yet s.done in

@@ -11,7 +11,7 @@ use Rattle.uv_records.specs.declared.lists.WatcherKind.{WatcherKind}
 use Rattle.uv_records.specs.declared.lists.WatcherKind.TheVariants as watcher
 use Rattle.uv_records.specs.Handles.{woken}
 use Rattle.uv_records.specs.Slots.{freed}
-use Rattle.uv_work.specs.Requests.{Request}
+use Rattle.uv_work.specs.declared.request.Request.{Request}
 use Rattle.uv_script.specs.Program.{Program, arena_size}
 use Rattle.uv_model.specs.declared.place.Run.{Run}
 use Rattle.uv_model.specs.declared.place.Stage.TheVariants.{Async, Timers}
@@ -22,7 +22,7 @@ use Rattle.uv_timing.specs.Section.{Fires}
 use Rattle.uv_stands.specs.Doing.{Goes}
 use Rattle.uv_model.specs.declared.place.Place.{Place}
 use Rattle.uv_model.specs.State.{State, with_handle}
-use Rattle.uv_model.specs.Content.{digest_in}
+use Rattle.uv_work.specs.Requests.{digest_in}
 use Rattle.uv_model.specs.Next.{Moves, calls, close_front, collect_request, walk, walk_async, call, at, fire, front_moved}
 use Rattle.uv_records.specs.Names.{named, count_of}
 use Rattle.uv_step.specs.Record.{Record}

@@ -12,7 +12,7 @@ use Rattle.uv_arena.specs.Image as arena
 use Rattle.uv_arena.specs.Image.{IsSound, plain_slots}
 use Rattle.uv_handle.specs.declared.undo.TakeUndo.{TakeUndo}
 use Rattle.uv_handle.specs.Changes.{IsTaken}
-use Rattle.uv_work.specs.Requests.{Request}
+use Rattle.uv_work.specs.declared.request.Request.{Request}
 use Rattle.uv_requests.specs.declared.undo.CollectWorkUndo.{CollectWorkUndo}
 use Rattle.uv_requests.specs.Calls.{IsCollected}
 use Rattle.uv_requests.specs.Working.{id_in}
@@ -22,9 +22,9 @@ use Rattle.uv_model.specs.Ids.{same_id}
 use Rattle.uv_model.specs.State.{State, with_id, front_request}
 use Rattle.uv_order.specs.Active.{IsTimer, has_id}
 use Rattle.uv_order.specs.Reached.{IsReached}
-use Rattle.uv_step.specs.declared.content.Content.TheVariants.{Handle, Request as Asked}
+use Rattle.uv_work.specs.declared.content.Content.TheVariants.{Handle, Request as Asked}
 use Rattle.uv_step.specs.Record.{Record}
-use Rattle.uv_step.specs.Content.{handle_in, request_in}
+use Rattle.uv_work.specs.Content.{handle_of, request_of}
 use Rattle.uv_step.specs.Does.{FirstIs, closed_by, ended_by}
 use Rattle.uv_step.specs.Image.{Image, Held, counted_of, working_of}
 use Rattle.uv_step.specs.Undo.{Recorded}
@@ -59,7 +59,7 @@ module _ (r : Record Place) (h k : Held Place) (last : ℕ) (so : h.image.arena.
   -- ---- a request
 
   module _ (q : Request) (u : CollectWorkUndo) (is : r.change ≡ ended_by q u)
-      (c : IsCollected request_in Asked (working_of i) (working_of j) d q u) where
+      (c : IsCollected request_of Asked (working_of i) (working_of j) d q u) where
     off_done : (l : ListName) → arena.members j.arena l ≡ without eqb (arena.members i.arena l) d.slot
     off_done l = elim (list_is l name.DoneYet) [
       | inl e ↦ subst (λ x. arena.members j.arena x ≡ without eqb (arena.members i.arena x) d.slot) (sym e) (c.yet ∙ sym c.first.after)
@@ -92,7 +92,7 @@ module _ (r : Record Place) (h k : Held Place) (last : ℕ) (so : h.image.arena.
   -- ---- a handle
 
   module _ (e : Id) (q : HandleRecord) (f : FirstIs i.arena name.ClosingYet e q) (g : HandleRecord) (u : TakeUndo)
-      (is : r.change ≡ closed_by g u) (c : IsTaken handle_in Handle (counted_of i) (counted_of j) d (Handle g) u) where
+      (is : r.change ≡ closed_by g u) (c : IsTaken handle_of Handle (counted_of i) (counted_of j) d (Handle g) u) where
     one : d ≡ e
     one = first_one i.arena name.ClosingYet e d f.first c.first
 

@@ -16,14 +16,14 @@ use Rattle.uv_handle.specs.declared.undo.TakeUndo.{TakeUndo}
 use Rattle.uv_heap.specs.declared.entry.Entry.{Entry}
 use Rattle.uv_heap.specs.Array.{IsHeap, SlotsDiffer}
 use Rattle.uv_heap.specs.Order.{IsInOrder}
-use Rattle.uv_work.specs.Requests.{Request}
+use Rattle.uv_work.specs.declared.request.Request.{Request}
 use Rattle.uv_requests.specs.declared.undo.CollectWorkUndo.{CollectWorkUndo}
 use Rattle.uv_requests.specs.Working.{id_in}
-use Rattle.uv_model.specs.declared.content.Content as content
+use Rattle.uv_work.specs.declared.content.Content as content
 use Rattle.uv_model.specs.declared.place.Place.{Place}
 use Rattle.uv_model.specs.State.{State}
 use Rattle.uv_model.specs.Queries.{members}
-use Rattle.uv_step.specs.declared.content.Content.{Content}
+use Rattle.uv_work.specs.declared.content.Content.{Content}
 use Rattle.uv_step.specs.Change.{Change}
 use Rattle.uv_step.specs.Change as change
 use Rattle.uv_step.specs.declared.record.Polled.{Polled}

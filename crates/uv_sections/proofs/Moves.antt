@@ -19,17 +19,17 @@ use Rattle.uv_requests.specs.Working.{id_in}
 use Rattle.uv_requests.proofs.Holding.{listed_id}
 use Rattle.uv_watch.specs.declared.undo.WalkUndo.{WalkUndo}
 use Rattle.uv_watch.specs.Watch.{IsMovedOn, pending_of}
-use Rattle.uv_model.specs.declared.content.Content as content
-use Rattle.uv_model.specs.declared.content.Content.TheVariants as holds
+use Rattle.uv_work.specs.declared.content.Content as content
+use Rattle.uv_work.specs.declared.content.Content.TheVariants as holds
 use Rattle.uv_model.specs.declared.place.Place.{Place}
 use Rattle.uv_model.specs.State.{State, front, watched, with_handle}
 use Rattle.uv_model.specs.Queries.{members}
 use Rattle.uv_model.specs.Next.{front_moved}
-use Rattle.uv_step.specs.declared.content.Content.{Content}
-use Rattle.uv_step.specs.declared.content.Content.TheVariants.{Handle}
+use Rattle.uv_work.specs.declared.content.Content.{Content}
+use Rattle.uv_work.specs.declared.content.Content.TheVariants.{Handle}
 use Rattle.uv_step.specs.Change as change
 use Rattle.uv_step.specs.Record.{Record}
-use Rattle.uv_step.specs.Content.{handle_in}
+use Rattle.uv_work.specs.Content.{handle_of}
 use Rattle.uv_step.specs.Does.{FirstIs, NoHandleFirst}
 use Rattle.uv_step.specs.Image.{Image, Held, counted_of}
 use Rattle.uv_step.specs.Undo.{Recorded}
@@ -56,7 +56,7 @@ pub none_moves : (i : Image Place) (s : State) → StandsFor i s → (w : Watche
 none_moves i s h w none = ap (front s) (sym (yet_is s w)) ∙ none_first i s h (yet_of w) none
 
 module _ (r : Record Place) (h k : Held Place) (recorded : Recorded r h k) (sound : IsSound k.image.arena) (w : WatcherKind) (e : Id) (pending : Bool)
-    (u : WalkUndo) (is : r.change ≡ change.Walked u) (c : IsMovedOn handle_in Handle (counted_of h.image) (counted_of k.image) w e pending u) where
+    (u : WalkUndo) (is : r.change ≡ change.Walked u) (c : IsMovedOn handle_of Handle (counted_of h.image) (counted_of k.image) w e pending u) where
   abbrev i : Image Place
   i = h.image
 
@@ -67,8 +67,8 @@ module _ (r : Record Place) (h k : Held Place) (recorded : Recorded r h k) (soun
     one : e ≡ d
     one = first_one i.arena (yet_of w) d e f.first c.first
 
-    handle_e : record_at handle_in i.arena e ≡ Some q
-    handle_e = ap (record_at handle_in i.arena) one ∙ f.handle
+    handle_e : record_at handle_of i.arena e ≡ Some q
+    handle_e = ap (record_at handle_of i.arena) one ∙ f.handle
 
     pub pends : pending ≡ pending_of w (Some q)
     pends = c.was ∙ ap (pending_of w) handle_e
@@ -116,7 +116,7 @@ module _ (r : Record Place) (h k : Held Place) (recorded : Recorded r h k) (soun
           ∙ ap (λ z. (let x : plain.Slots Content = record (plain_slots i.arena) {
             slots = plain.with_held (plain_slots i.arena).slots z (Handle (woken q));
           } in x)) one in
-          let was = handles.content_of handle_in i.arena d q f.handle in
+          let was = handles.content_of handle_of i.arena d q f.handle in
           let ids = ids_kept i.arena j.arena d (Handle (woken q)) was.0 was.1 set in
           let new : Slot content.Content = record { generation = d.generation; content = Some (holds.Handle (woken q)) } in
           let slots : plain_slots j.arena ≡ slots_of t.arena =

@@ -8,7 +8,7 @@ use Rattle.uv_records.specs.declared.lists.WatcherKind.TheVariants as watcher
 use Rattle.uv_records.specs.Lists.{list_of, yet_of}
 use Rattle.uv_records.specs.Walks.{Walk}
 use Rattle.uv_records.specs.Slots as plain
-use Rattle.uv_model.specs.declared.content.Content as content
+use Rattle.uv_work.specs.declared.content.Content as content
 use Rattle.uv_model.specs.State.{State, watched, with_watched}
 use Rattle.uv_model.specs.Queries.{members}
 use Rattle.uv_sections.proofs.Keeping.{KeepsState, sections_kept}

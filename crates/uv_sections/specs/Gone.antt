@@ -3,9 +3,9 @@ use Rattle.std.specs.Prelude.{◌≡◌, ℕ, Some, drop}
 use Rattle.uv_ids.specs.declared.id.Id.{Id}
 use Rattle.uv_records.specs.declared.handle.HandleRecord.{HandleRecord}
 use Rattle.uv_records.specs.Slots.{freed}
-use Rattle.uv_work.specs.Requests.{Request}
+use Rattle.uv_work.specs.declared.request.Request.{Request}
 use Rattle.uv_model.specs.declared.place.Place.{Place}
-use Rattle.uv_model.specs.declared.request.Request as queued
+use Rattle.uv_work.specs.declared.request.Request as queued
 use Rattle.uv_model.specs.State.{State, front, front_request}
 use Rattle.uv_step.specs.Image.{Image}
 use Rattle.uv_stands.specs.Contents.{request_of}

@@ -3,7 +3,7 @@ ghost use Rattle.std.specs.Prelude.{◌≡◌, Option, Some, None, IfSome, IfNon
 ghost use Rattle.uv_ids.specs.declared.seen.Seen.TheVariants.{After as after};
 ghost use Rattle.uv_script.specs.Program.{arena_size};
 ghost use Rattle.uv_work.specs.declared.outcome.Outcome.{Outcome};
-ghost use Rattle.uv_model.specs.Content.{digest_in};
+ghost use Rattle.uv_work.specs.Requests.{digest_in};
 ghost use Rattle.uv_model.specs.State.{State, front, front_request};
 ghost use Rattle.uv_model.specs.Next.{collect_request, close_front};
 ghost use Rattle.uv_step.specs.Fit.{IsFit};
@@ -20,7 +20,7 @@ use uv_model::{Place, Run};
 use uv_records::{HandleRecord, ListName};
 use uv_script::Script;
 use uv_step::Memory;
-use uv_work::{Outcome, RequestRecord};
+use uv_work::{Outcome, Request};
 
 /// The digest that a request was finished with; none if it was cancelled.
 fn digest_in(outcome: Outcome) -> Option<[u8; 32]>
@@ -33,7 +33,7 @@ fn digest_in(outcome: Outcome) -> Option<[u8; 32]>
 }
 
 /// The name of a request that calls back, and the line of its after callback.
-fn line_after(id: Id, request: RequestRecord) -> (Var, Seen)
+fn line_after(id: Id, request: Request) -> (Var, Seen)
     ensures name { result.0 ≡ request.name }
     ensures line { result.1 ≡ after (digest_in request.outcome) request.name id }
 {
@@ -44,7 +44,7 @@ fn line_after(id: Id, request: RequestRecord) -> (Var, Seen)
 
 /// Takes the front of the requests that are yet to call back off its list, and frees its slot. None, and nothing changed, where there
 /// is none.
-fn free_request(memory: &mut Memory<Place>, script: &Script) -> Option<(Id, RequestRecord)>
+fn free_request(memory: &mut Memory<Place>, script: &Script) -> Option<(Id, Request)>
     requires fit { IsFit (held memory.old).image }
     requires last { (held memory.old).image.arena.last ≡ (arena_size script.now).last_generation }
     ensures recorded { IfSome result (λ _. Recorded memory.new.step_record (held memory.old) (held memory.new)) }

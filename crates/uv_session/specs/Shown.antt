@@ -11,7 +11,7 @@ use Rattle.uv_ids.specs.declared.seen.Seen.{Seen}
 use Rattle.uv_model.specs.Next.{next, Moves, Refuses}
 use Rattle.uv_model.specs.After.{after}
 use Rattle.uv_model.specs.Handing.{job_run, RefusesResult}
-use Rattle.uv_work.specs.Work.{Work}
+use Rattle.uv_work.specs.declared.job.Job.{Job}
 use Rattle.uv_session.specs.declared.breaks.Break.{Break}
 use Rattle.uv_order.specs.Line.{Line}
 use Rattle.uv_order.specs.History.{history}
@@ -56,13 +56,13 @@ pub record TakesEvent (s : Shown) (e : Event) (r : Result Outcome Fault) (t : Sh
 
 -- what may be answered to a finish with the result of this job, and the steps that stand then: where the worker runs that very job it
 -- is what may be answered to the event, and where it runs another one the finish is refused
-abbrev pub RespondsResult : ℕ → Program → List Event → ℕ → Work → Result Outcome Fault → List Event → Type 0
+abbrev pub RespondsResult : ℕ → Program → List Event → ℕ → Job → Result Outcome Fault → List Event → Type 0
 RespondsResult limit p es k job (Ok outcome) fs = (job_run (after p es) k ≡ Some job) × Responds limit p es (Finish k) (Ok outcome) fs
 RespondsResult limit p es k job (Err (Refused why)) fs = (length es < limit) × (fs ≡ es) × RefusesResult p (after p es) k job why
 RespondsResult limit p es k job (Err f) fs = Responds limit p es (Finish k) (Err f) fs
 
 -- what may be answered to a finish with the result of this job, and the session after it
-pub record TakesResult (s : Shown) (k : ℕ) (job : Work) (r : Result Outcome Fault) (t : Shown) : Type 0 where
+pub record TakesResult (s : Shown) (k : ℕ) (job : Job) (r : Result Outcome Fault) (t : Shown) : Type 0 where
   pub same_program : t.program ≡ s.program
   pub same_limit : t.limit ≡ s.limit
   pub same_breaks : t.breaks ≡ s.breaks

@@ -23,8 +23,8 @@ use Rattle.uv_model.specs.Queries.{members}
 use Rattle.uv_model.specs.State.{State, handle}
 use Rattle.uv_order.specs.Active.{has_id, IsActive, AreActive, IsClosing}
 use Rattle.uv_order.specs.Reached.{IsReached, IsSetAside}
-use Rattle.uv_step.specs.declared.content.Content.TheVariants.{Handle}
-use Rattle.uv_step.specs.Content.{handle_in, request_in, only_handle}
+use Rattle.uv_work.specs.declared.content.Content.TheVariants.{Handle}
+use Rattle.uv_work.specs.Content.{handle_of, request_of, only_handle}
 use Rattle.uv_step.specs.Fit.{IsFit}
 use Rattle.uv_step.specs.Image.{Image}
 use Rattle.uv_stands.specs.Stands.{StandsFor}
@@ -69,20 +69,20 @@ timer_kind kind.Async e = cc e
 abbrev pub IsOn : Image Place → ListName → Id → Type 0
 IsOn i l d = IsIn d.slot (arena.members i.arena l)
 
-module _ (i : Image Place) (d : Id) (h : HandleRecord) (there : record_at handle_in i.arena d ≡ Some h) where
+module _ (i : Image Place) (d : Id) (h : HandleRecord) (there : record_at handle_of i.arena d ≡ Some h) where
   pub held_handle : arena.held i.arena d ≡ Some (Handle h)
   held_handle =
-      let c = handles.content_of handle_in i.arena d h there in c.1 ∙ ap Some (only_handle c.0 h c.2)
+      let c = handles.content_of handle_of i.arena d h there in c.1 ∙ ap Some (only_handle c.0 h c.2)
 
   pub own_id : id_in i.arena d.slot ≡ d
   own_id = id_is i.arena d (Handle h) held_handle
 
   -- a handle is no request
-  no_request : (b : Bool) → IsHeld request_in i.arena (id_in i.arena d.slot) b → ⊥
+  no_request : (b : Bool) → IsHeld request_of i.arena (id_in i.arena d.slot) b → ⊥
   no_request b q =
-      let r : IsHeld request_in i.arena d b = subst (λ (z : Id). IsHeld request_in i.arena z b) own_id q in
-      let c = content_of request_in i.arena d r.request r.is in
-      let one : request_in (Handle h) ≡ Some r.request = ap request_in (let o : Handle h ≡ c.0 = cc (held_handle, c.1) in o) ∙ c.2 in
+      let r : IsHeld request_of i.arena d b = subst (λ (z : Id). IsHeld request_of i.arena z b) own_id q in
+      let c = content_of request_of i.arena d r.request r.is in
+      let one : request_of (Handle h) ≡ Some r.request = ap request_of (let o : Handle h ≡ c.0 = cc (held_handle, c.1) in o) ∙ c.2 in
       cc one
 
   module _ (fit : IsFit i) where
@@ -190,7 +190,7 @@ module _ (i : Image Place) (d : Id) (h : HandleRecord) (there : record_at handle
         not_watched name.DoneYet ready closing yet fit on = not_done_yet fit on
 
 -- an active timer is on no list
-pub absent_active : (i : Image Place) (d : Id) (h : HandleRecord) (there : record_at handle_in i.arena d ≡ Some h) → IsFit i → (s : State)
+pub absent_active : (i : Image Place) (d : Id) (h : HandleRecord) (there : record_at handle_of i.arena d ≡ Some h) → IsFit i → (s : State)
     → StandsFor i s → IsReached s → h.kind ≡ kind.Timer → h.active ≡ true → (l : ListName) → IsOn i l d → ⊥
 absent_active i d h there fit s stands reached timer active l =
     not_watched i d h there s stands reached timer l (ready_inactive i d h there s stands reached active)

@@ -16,17 +16,17 @@ use Rattle.uv_handle.specs.Changes.{IsChanged}
 use Rattle.uv_handle.proofs.Counts as handles
 use Rattle.uv_heap.specs.declared.entry.Entry.{Entry}
 use Rattle.uv_requests.specs.Working.{id_in}
-use Rattle.uv_model.specs.declared.content.Content as content
-use Rattle.uv_model.specs.declared.content.Content.TheVariants as holds
+use Rattle.uv_work.specs.declared.content.Content as content
+use Rattle.uv_work.specs.declared.content.Content.TheVariants as holds
 use Rattle.uv_model.specs.declared.place.Place.{Place}
 use Rattle.uv_model.specs.State.{State, with_handle}
 use Rattle.uv_model.specs.Queries.{members}
-use Rattle.uv_step.specs.declared.content.Content.{Content}
-use Rattle.uv_step.specs.declared.content.Content.TheVariants.{Handle}
+use Rattle.uv_work.specs.declared.content.Content.{Content}
+use Rattle.uv_work.specs.declared.content.Content.TheVariants.{Handle}
 use Rattle.uv_step.specs.declared.record.Naming.TheVariants as naming
 use Rattle.uv_step.specs.Change as change
 use Rattle.uv_step.specs.Record.{Record}
-use Rattle.uv_step.specs.Content.{handle_in}
+use Rattle.uv_work.specs.Content.{handle_of}
 use Rattle.uv_step.specs.Does.{changed}
 use Rattle.uv_step.specs.Parts.{unwind}
 use Rattle.uv_step.specs.Image.{Image, counted_of}
@@ -54,11 +54,11 @@ listed_same s d to name.Done = refl
 listed_same s d to name.DoneYet = refl
 
 pub changed_stands : (i : Image Place) (s : State) (k : arena.Image Content) (m : ℕ) (d : Id) (from to : HandleRecord) (u : RecordUndo)
-    → StandsFor i s → IsSound k → record_at handle_in i.arena d ≡ Some from
-    → IsChanged handle_in Handle (counted_of i) (counted k m) d from to u
+    → StandsFor i s → IsSound k → record_at handle_of i.arena d ≡ Some from
+    → IsChanged handle_of Handle (counted_of i) (counted k m) d from to u
     → StandsFor (record i { arena = k; active = m }) (with_handle s d to)
 changed_stands i s k m d from to u h sound there c =
-    let was = handles.content_of handle_in i.arena d from there in
+    let was = handles.content_of handle_of i.arena d from there in
     let ids = ids_kept i.arena k d (Handle to) was.0 was.1 c.set.plain in
     let new : Slot content.Content = record { generation = d.generation; content = Some (holds.Handle to) } in
     let slots : plain_slots k ≡ slots_of (with_handle s d to).arena =
@@ -87,7 +87,7 @@ changed_stands i s k m d from to u h sound there c =
         same = h.timers.same
             ∙ sym (map_same (timer_in k) (timer_in i.arena) (λ (e : Entry). ap (λ z. (e.due, z)) (ids e.slot)) h.timers.entries);
       };
-      active = c.counts ∙ ap (λ (q : plain.Slots Content). active_count handle_in q.slots) slots ∙ active_as (with_handle s d to).arena.slots;
+      active = c.counts ∙ ap (λ (q : plain.Slots Content). active_count handle_of q.slots) slots ∙ active_as (with_handle s d to).arena.slots;
       opened = h.opened;
     }
 

@@ -12,7 +12,7 @@ use Rattle.uv_model.specs.State.{State}
 use Rattle.uv_model.specs.Timeout.{until_first}
 use Rattle.uv_order.specs.Reached.{IsReached}
 use Rattle.uv_order.specs.Active.{Before, InOrder}
-use Rattle.uv_step.specs.declared.content.Content.{Content}
+use Rattle.uv_work.specs.declared.content.Content.{Content}
 use Rattle.uv_step.specs.Image.{Image}
 use Rattle.uv_stands.specs.Stands.{StandsFor, timer_in}
 

@@ -12,16 +12,16 @@ use Rattle.uv_arena.specs.Image.{plain_slots, held_slots, slot_at, slot_in}
 use Rattle.uv_arena.proofs.Memories.{get-slots}
 use Rattle.uv_arena.proofs.Lookups.{held_tells}
 use Rattle.uv_requests.specs.Working.{id_in}
-use Rattle.uv_model.specs.declared.content.Content as content
-use Rattle.uv_model.specs.declared.content.Content.TheVariants as holds
+use Rattle.uv_work.specs.declared.content.Content as content
+use Rattle.uv_work.specs.declared.content.Content.TheVariants as holds
 use Rattle.uv_model.specs.declared.place.Place.{Place}
 use Rattle.uv_model.specs.State as state
 use Rattle.uv_model.specs.State.{State}
-use Rattle.uv_step.specs.declared.content.Content.{Content}
-use Rattle.uv_step.specs.Content.{handle_in}
+use Rattle.uv_work.specs.declared.content.Content.{Content}
+use Rattle.uv_work.specs.Content.{handle_of}
 use Rattle.uv_records.specs.Names.{named}
 use Rattle.uv_step.specs.Image.{Image}
-use Rattle.uv_model.specs.Content.{handle_of}
+use Rattle.uv_work.specs.Content.{handle_of}
 use Rattle.uv_stands.specs.Contents.{content_of, slot_of}
 use Rattle.uv_stands.specs.Stands.{StandsFor}
 
@@ -50,12 +50,12 @@ bound_there i s v h = ap (λ ns. (named ns v.0).id) h.names
 
 -- ---- the count
 
-keeps_as : (o : Option content.Content) → content_keeps handle_in (option_map content_of o) ≡ content_keeps handle_of o
+keeps_as : (o : Option content.Content) → content_keeps handle_of (option_map content_of o) ≡ content_keeps handle_of o
 keeps_as None = refl
 keeps_as (Some (holds.Handle h)) = refl
 keeps_as (Some (holds.Request r)) = refl
 
-pub active_as : (ss : List (Slot content.Content)) → active_count handle_in (map slot_of ss) ≡ active_count handle_of ss
+pub active_as : (ss : List (Slot content.Content)) → active_count handle_of (map slot_of ss) ≡ active_count handle_of ss
 active_as [] = refl
 active_as (s ∷ ss) = let here = keeps_as s.content in let rest = active_as ss in λ l. one_if (here l) + rest l
 

@@ -11,11 +11,12 @@ use Rattle.uv_records.specs.Slots as plain
 use Rattle.uv_work.specs.Pool.{busy}
 use Rattle.uv_work.specs.Requests.{is_open}
 use Rattle.uv_work.proofs.Replays.{same_itself}
-use Rattle.uv_model.specs.declared.content.Content.{Content}
-use Rattle.uv_model.specs.declared.content.Content.TheVariants.{Handle, Request as Asked}
+use Rattle.uv_work.specs.declared.content.Content.{Content}
+use Rattle.uv_work.specs.declared.content.Content.TheVariants.{Handle, Request as Asked}
 use Rattle.uv_model.specs.declared.place.Place.{Place}
-use Rattle.uv_model.specs.declared.request.Request.{Request}
-use Rattle.uv_model.specs.Content.{content_keeps, handle_of, request_in}
+use Rattle.uv_work.specs.declared.request.Request.{Request}
+use Rattle.uv_work.specs.Content.{handle_of}
+use Rattle.uv_model.specs.Content.{content_keeps, request_in}
 use Rattle.uv_model.specs.Layout.{open_requests}
 use Rattle.uv_model.specs.State.{State, request}
 use Rattle.uv_model.specs.Timeout.{is_alive, has_closing}

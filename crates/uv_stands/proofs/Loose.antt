@@ -14,7 +14,7 @@ use Rattle.uv_model.specs.State.{State, handle}
 use Rattle.uv_model.specs.Queries.{members}
 use Rattle.uv_order.specs.Active.{has_id, IsActive}
 use Rattle.uv_order.specs.Reached.{IsReached}
-use Rattle.uv_step.specs.Content.{handle_in}
+use Rattle.uv_work.specs.Content.{handle_of}
 use Rattle.uv_step.specs.Fit.{IsFit}
 use Rattle.uv_step.specs.Image.{Image}
 use Rattle.uv_stands.specs.Stands.{StandsFor}
@@ -36,7 +36,7 @@ none_closes false true e r = cc
 none_closes w false e r = cc
 
 module _ (i : Image Place) (s : State) (stands : StandsFor i s) (reached : IsReached s) (fit : IsFit i) (d : Id) (h : HandleRecord)
-    (there : record_at handle_in i.arena d ≡ Some h) where
+    (there : record_at handle_of i.arena d ≡ Some h) where
   mine : handle s d ≡ Some h
   mine = holds_it i d h there s stands
 

@@ -9,12 +9,12 @@ use Rattle.uv_records.specs.Slots as plain
 use Rattle.uv_records.specs.Refusals.{refusal}
 use Rattle.uv_arena.specs.Image as arena
 use Rattle.uv_handle.specs.Counted.{found, record_at}
-use Rattle.uv_model.specs.declared.content.Content as content
-use Rattle.uv_model.specs.declared.content.Content.TheVariants as holds
+use Rattle.uv_work.specs.declared.content.Content as content
+use Rattle.uv_work.specs.declared.content.Content.TheVariants as holds
 use Rattle.uv_model.specs.declared.place.Place.{Place}
 use Rattle.uv_model.specs.State.{State, with_id, as_handle, live, live_handle, live_id}
-use Rattle.uv_step.specs.declared.content.Content.{Content}
-use Rattle.uv_step.specs.Content.{handle_in}
+use Rattle.uv_work.specs.declared.content.Content.{Content}
+use Rattle.uv_work.specs.Content.{handle_of}
 use Rattle.uv_records.specs.Names.{named}
 use Rattle.uv_step.specs.Image.{Image}
 use Rattle.uv_stands.specs.Contents.{content_of}
@@ -27,35 +27,35 @@ pub live_by : (i : Image Place) (s : State) (v : Var) (o : Option Id) → Stands
 live_by i s v o h e = ap (λ (z : Option Id). live_id s z) (sym (e ∙ bound_there i s v h))
 
 refused_as : (d : Id) (o : Option content.Content) (c : Code)
-    → ((why : HandleRecord → Option Code) → refusal why (option_map handle_in (option_map content_of o)) ≡ Some c) → as_handle (with_id d o) ≡ Err c
+    → ((why : HandleRecord → Option Code) → refusal why (option_map handle_of (option_map content_of o)) ≡ Some c) → as_handle (with_id d o) ≡ Err c
 refused_as d None c e = let q : code.Estale ≡ c = cc (e (λ h. None)) in ap Err q
 refused_as d (Some (holds.Request r)) c e = let q : code.Ekind ≡ c = cc (e (λ h. None)) in ap Err q
 refused_as d (Some (holds.Handle h)) c e = let q = e (λ h. None) in cc
 
 -- what an id stands for, if it is a handle
-pub handle_there : (o : Option content.Content) (h : HandleRecord) → option_and_then handle_in (option_map content_of o) ≡ Some h
+pub handle_there : (o : Option content.Content) (h : HandleRecord) → option_and_then handle_of (option_map content_of o) ≡ Some h
     → o ≡ Some (holds.Handle h)
 handle_there None h e = cc
 handle_there (Some (holds.Request r)) h e = cc
 handle_there (Some (holds.Handle g)) h e = let q : g ≡ h = cc e in ap (λ z. Some (holds.Handle z)) q
 
 -- the handle that is held under an id is the state's
-pub record_there : (i : Image Place) (s : State) (d : Id) (h : HandleRecord) → StandsFor i s → record_at handle_in i.arena d ≡ Some h
+pub record_there : (i : Image Place) (s : State) (d : Id) (h : HandleRecord) → StandsFor i s → record_at handle_of i.arena d ≡ Some h
     → plain.held s.arena.slots d ≡ Some (holds.Handle h)
-record_there i s d h st e = handle_there (plain.held s.arena.slots d) h (ap (option_and_then handle_in) (sym (held_there i s d st)) ∙ e)
+record_there i s d h st e = handle_there (plain.held s.arena.slots d) h (ap (option_and_then handle_of) (sym (held_there i s d st)) ∙ e)
 
 module _ (i : Image Place) (s : State) (v : Var) (h : StandsFor i s) where
   pub unbound_handle : None ≡ (named i.names v.0).id → live_handle s v ≡ Err code.Estale
   unbound_handle e = ap as_handle (live_by i s v None h e)
 
   pub no_handle : (d : Id) (c : Code) → Some d ≡ (named i.names v.0).id
-      → ((why : HandleRecord → Option Code) → refusal why (found handle_in i.arena d) ≡ Some c) → live_handle s v ≡ Err c
+      → ((why : HandleRecord → Option Code) → refusal why (found handle_of i.arena d) ≡ Some c) → live_handle s v ≡ Err c
   no_handle d c e r =
       ap as_handle (live_by i s v (Some d) h e)
       ∙ refused_as d (plain.held s.arena.slots d) c
-      (λ why. ap (λ o. refusal why (option_map handle_in o)) (sym (held_there i s d h)) ∙ r why)
+      (λ why. ap (λ o. refusal why (option_map handle_of o)) (sym (held_there i s d h)) ∙ r why)
 
-  pub some_handle : (d : Id) (r : HandleRecord) → Some d ≡ (named i.names v.0).id → record_at handle_in i.arena d ≡ Some r
+  pub some_handle : (d : Id) (r : HandleRecord) → Some d ≡ (named i.names v.0).id → record_at handle_of i.arena d ≡ Some r
       → live_handle s v ≡ Ok (d, r)
   some_handle d r e there =
       ap as_handle (live_by i s v (Some d) h e) ∙ ap (λ o. as_handle (with_id d o)) (record_there i s d r h there)

@@ -13,27 +13,27 @@ use Rattle.uv_arena.specs.Image as arena
 use Rattle.uv_arena.specs.Image.{IsSound, plain_slots, held_slots, slot_at}
 use Rattle.uv_heap.specs.declared.entry.Entry.{Entry}
 use Rattle.uv_work.specs.Pool.{busy}
-use Rattle.uv_work.specs.Requests.{Request}
+use Rattle.uv_work.specs.declared.request.Request.{Request}
 use Rattle.uv_requests.specs.Working as work
 use Rattle.uv_requests.specs.Working.{Running, id_in, done_in}
 use Rattle.uv_requests.proofs.Holding.{listed_id}
-use Rattle.uv_model.specs.declared.content.Content as content
-use Rattle.uv_model.specs.declared.content.Content.TheVariants as holds
-use Rattle.uv_model.specs.declared.request.Request as queued
+use Rattle.uv_work.specs.declared.content.Content as content
+use Rattle.uv_work.specs.declared.content.Content.TheVariants as holds
+use Rattle.uv_work.specs.declared.request.Request as queued
 use Rattle.uv_model.specs.declared.place.Place.{Place}
 use Rattle.uv_model.specs.State.{State}
 use Rattle.uv_model.specs.Queries.{members}
-use Rattle.uv_step.specs.declared.content.Content.{Content}
-use Rattle.uv_step.specs.declared.content.Content.TheVariants.{Request as Asked}
+use Rattle.uv_work.specs.declared.content.Content.{Content}
+use Rattle.uv_work.specs.declared.content.Content.TheVariants.{Request as Asked}
 use Rattle.uv_step.specs.Change.{Change}
 use Rattle.uv_step.specs.Record.{Record}
-use Rattle.uv_step.specs.Content.{handle_in, request_in}
+use Rattle.uv_work.specs.Content.{handle_of, request_of}
 use Rattle.uv_step.specs.Does.{changed}
 use Rattle.uv_step.specs.Fit.{IsFit}
 use Rattle.uv_step.specs.Image.{Image, Held}
 use Rattle.uv_step.specs.Parts.{unwind}
 use Rattle.uv_step.specs.Undo.{Recorded}
-use Rattle.uv_model.specs.Content.{handle_of}
+use Rattle.uv_work.specs.Content.{handle_of}
 use Rattle.uv_model.specs.Layout.{open_requests}
 use Rattle.uv_stands.specs.Contents.{content_of, request_of, slot_of, slots_of}
 use Rattle.uv_stands.specs.Stands.{StandsFor, timer_in}
@@ -50,16 +50,16 @@ opened_fit i t fit runs lists =
     let a : length t.waiting ≡ length (map (id_in i.arena) waits) = ap (λ ids. length ids) (lists name.Waiting) in
     let b : length t.done.yet ≡ length yet = ap (λ ids. length ids) (lists name.DoneYet) ∙ length-map yet (id_in i.arena) in
     let c : length t.done.list ≡ length done = ap (λ ids. length ids) (lists name.Done) ∙ length-map done (id_in i.arena) in
-    let d : length (map (done_in request_in i.arena) (yet ++ done)) ≡ length yet + length done =
-    length-map (yet ++ done) (done_in request_in i.arena) ∙ length-append yet done in
+    let d : length (map (done_in request_of i.arena) (yet ++ done)) ≡ length yet + length done =
+    length-map (yet ++ done) (done_in request_of i.arena) ∙ length-append yet done in
     let e : busy i.running.workers ≡ busy t.running = ap busy runs in
     let count : i.running.count
-    ≡ length (map (id_in i.arena) waits) + busy i.running.workers + length (map (done_in request_in i.arena) (yet ++ done)) = fit.work.count in
+    ≡ length (map (id_in i.arena) waits) + busy i.running.workers + length (map (done_in request_of i.arena) (yet ++ done)) = fit.work.count in
     omega (arith, count, a, b, c, d, e)
 
 pub active_fit : (i : Image Place) (t : State) → IsFit i → plain_slots i.arena ≡ slots_of t.arena → i.active ≡ active_count handle_of t.arena.slots
 active_fit i t fit slots =
-    fit.counts ∙ ap (λ (q : plain.Slots Content). active_count handle_in q.slots) slots ∙ active_as t.arena.slots
+    fit.counts ∙ ap (λ (q : plain.Slots Content). active_count handle_of q.slots) slots ∙ active_as t.arena.slots
 
 -- ---- what is in the memory, as the state has it
 
@@ -78,16 +78,16 @@ pub record IsAsked (s : State) (d : Id) (r : Request) : Type 0 where
   pub there : plain.held s.arena.slots d ≡ Some (holds.Request request)
   pub same : request_of request ≡ r
 
-asked_in : (o : Option content.Content) (r : Request) → option_and_then request_in (option_map content_of o) ≡ Some r
+asked_in : (o : Option content.Content) (r : Request) → option_and_then request_of (option_map content_of o) ≡ Some r
     → (x : queued.Request) × (o ≡ Some (holds.Request x)) × (request_of x ≡ r)
 asked_in None r e = cc
 asked_in (Some (holds.Handle h)) r e = cc
 asked_in (Some (holds.Request x)) r e = let q : request_of x ≡ r = cc e in (x, refl, q)
 
-pub asked_there : (i : Image Place) (s : State) (d : Id) (r : Request) → StandsFor i s → work.request_in request_in i.arena d ≡ Some r
+pub asked_there : (i : Image Place) (s : State) (d : Id) (r : Request) → StandsFor i s → work.request_in request_of i.arena d ≡ Some r
     → IsAsked s d r
 asked_there i s d r h e =
-    let t = asked_in (plain.held s.arena.slots d) r (ap (option_and_then request_in) (sym (held_there i s d h)) ∙ e) in
+    let t = asked_in (plain.held s.arena.slots d) r (ap (option_and_then request_of) (sym (held_there i s d h)) ∙ e) in
     record { request = t.0; there = t.1; same = t.2 }
 
 -- the first of a list is the state's

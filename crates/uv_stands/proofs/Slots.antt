@@ -5,9 +5,9 @@ use Rattle.uv_records.specs.declared.slot.Slot.{Slot}
 use Rattle.uv_arena.specs.declared.links.Cell.{Cell}
 use Rattle.uv_arena.specs.Image.{Memory}
 use Rattle.uv_arena.specs.Image.{held_slots, slot_at, slot_in}
-use Rattle.uv_step.specs.declared.content.Content.{Content}
+use Rattle.uv_work.specs.declared.content.Content.{Content}
 use Rattle.uv_records.specs.Slots as plain
-use Rattle.uv_model.specs.declared.content.Content as content
+use Rattle.uv_work.specs.declared.content.Content as content
 use Rattle.uv_model.specs.declared.place.Place.{Place}
 use Rattle.uv_model.specs.Content.{is_used}
 use Rattle.uv_model.specs.Ops.{is_in_use}

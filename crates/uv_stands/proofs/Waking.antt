@@ -18,8 +18,8 @@ use Rattle.uv_arena.proofs.Lists.{apart_across}
 use Rattle.uv_handle.specs.Counted.{record_at}
 use Rattle.uv_requests.specs.Working.{id_in}
 use Rattle.uv_requests.proofs.Holding.{list_apart, listed_id}
-use Rattle.uv_model.specs.declared.content.Content as model
-use Rattle.uv_model.specs.declared.content.Content.TheVariants as holds
+use Rattle.uv_work.specs.declared.content.Content as model
+use Rattle.uv_work.specs.declared.content.Content.TheVariants as holds
 use Rattle.uv_model.specs.declared.place.Place.{Place}
 use Rattle.uv_model.specs.Content.{content_pends, handle_in}
 use Rattle.uv_model.specs.Ids.{same_id}
@@ -28,8 +28,8 @@ use Rattle.uv_model.specs.Timeout.{has_pending}
 use Rattle.uv_order.specs.Active.{has_id}
 use Rattle.uv_order.specs.Reached.{IsReached}
 use Rattle.uv_order.proofs.IdLists.{same}
-use Rattle.uv_step.specs.declared.content.Content.{Content}
-use Rattle.uv_step.specs.Content as memory
+use Rattle.uv_work.specs.declared.content.Content.{Content}
+use Rattle.uv_work.specs.Content as memory
 use Rattle.uv_step.specs.Image.{Image}
 use Rattle.uv_stands.specs.Contents.{content_of}
 use Rattle.uv_stands.specs.Pending.{pends_in, pends_at}

@@ -8,7 +8,7 @@ use Rattle.uv_arena.specs.Calls.{slot_of, IsListed}
 use Rattle.uv_arena.specs.Image.{Image, members}
 use Rattle.uv_requests.specs.Working.{id_in}
 use Rattle.uv_requests.proofs.Holding.{listed_id}
-use Rattle.uv_step.specs.declared.content.Content.{Content}
+use Rattle.uv_work.specs.declared.content.Content.{Content}
 
 -- these were walked, and this one is next
 pub record IsWalked (i : Image Content) (list : ListName) (ids : List Id) (next : Option Id) : Type 0 where

@@ -9,7 +9,7 @@ use Rattle.uv_handle.specs.Counted.{record_at}
 use Rattle.uv_model.specs.declared.place.Place.{Place}
 use Rattle.uv_model.specs.State.{State, live_handle}
 use Rattle.uv_model.specs.Ops.{Done, on_handle, refuses}
-use Rattle.uv_step.specs.Content.{handle_in}
+use Rattle.uv_work.specs.Content.{handle_of}
 use Rattle.uv_step.specs.Image.{Image}
 use Rattle.uv_stands.specs.declared.ask.Ask.{Ask}
 use Rattle.uv_stands.specs.declared.ask.Ask.TheVariants as ask
@@ -33,7 +33,7 @@ ComesTo i v a done =
 
 -- the name is that of this handle, which doesn't refuse the op, so that it is done
 pub record Allows (i : Image Place) (v : Var) (a : Ask) (d : Id) (h : HandleRecord) : Type 0 where
-  pub found : record_at handle_in i.arena d ≡ Some h
+  pub found : record_at handle_of i.arena d ≡ Some h
   pub allowed : refusal_of a h ≡ None
   pub done : ComesTo i v a (λ s f. f d h)
 

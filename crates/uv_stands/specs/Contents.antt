@@ -2,13 +2,13 @@
 use Rattle.std.specs.Prelude.{map, option_map}
 use Rattle.uv_records.specs.declared.slot.Slot.{Slot}
 use Rattle.uv_records.specs.Slots.{Slots}
-use Rattle.uv_script.specs.Tasks.{text_of}
-use Rattle.uv_work.specs.Requests.{Request}
-use Rattle.uv_model.specs.declared.request.Request as queued
-use Rattle.uv_model.specs.declared.content.Content as content
-use Rattle.uv_model.specs.declared.content.Content.TheVariants as holds
-use Rattle.uv_step.specs.declared.content.Content.{Content}
-use Rattle.uv_step.specs.declared.content.Content.TheVariants.{Handle, Request as Asked}
+use Rattle.uv_work.specs.Tasks.{text_of}
+use Rattle.uv_work.specs.declared.request.Request.{Request}
+use Rattle.uv_work.specs.declared.request.Request as queued
+use Rattle.uv_work.specs.declared.content.Content as content
+use Rattle.uv_work.specs.declared.content.Content.TheVariants as holds
+use Rattle.uv_work.specs.declared.content.Content.{Content}
+use Rattle.uv_work.specs.declared.content.Content.TheVariants.{Handle, Request as Asked}
 
 -- a request: the rounds and the text of its task are those of its job
 abbrev pub request_of : queued.Request → Request

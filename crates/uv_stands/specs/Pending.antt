@@ -4,12 +4,12 @@ use Rattle.uv_ids.specs.declared.id.Id.{Id}
 use Rattle.uv_records.specs.declared.handle.HandleRecord.{HandleRecord}
 use Rattle.uv_arena.specs.Image.{Image}
 use Rattle.uv_handle.specs.Counted.{record_at}
-use Rattle.uv_step.specs.declared.content.Content.{Content}
-use Rattle.uv_step.specs.Content.{handle_in}
+use Rattle.uv_work.specs.declared.content.Content.{Content}
+use Rattle.uv_work.specs.Content.{handle_of}
 
 abbrev pub pends_in : Option HandleRecord → Bool
 pends_in None = false
 pends_in (Some h) = h.pending
 
 abbrev pub pends_at : Image Content → Id → Bool
-pends_at i d = pends_in (record_at handle_in i d)
+pends_at i d = pends_in (record_at handle_of i d)

@@ -8,7 +8,7 @@ use Rattle.uv_arena.specs.Image.{on_list}
 use Rattle.uv_handle.specs.Counted.{record_at}
 use Rattle.uv_model.specs.declared.place.Place.{Place}
 use Rattle.uv_model.specs.Bounds.{line_of}
-use Rattle.uv_step.specs.Content.{handle_in}
+use Rattle.uv_work.specs.Content.{handle_of}
 use Rattle.uv_step.specs.Fit.{IsFit}
 use Rattle.uv_step.specs.Image.{Held}
 use Rattle.uv_records.specs.Names.{named, count_of}
@@ -23,5 +23,5 @@ pub record IsReady (h : Held Place) : Type 0 where
   -- how often each callback of each name was called
   pub calls : (v : ℕ) (k : Callback) → count_of k (named h.image.names v).calls < 2 ^ 31
   -- a watcher that may be started and isn't active is on no list
-  pub loose : (d : Id) (r : HandleRecord) → record_at handle_in h.image.arena d ≡ Some r → start_watcher_refusal r ≡ None → r.active ≡ false
+  pub loose : (d : Id) (r : HandleRecord) → record_at handle_of h.image.arena d ≡ Some r → start_watcher_refusal r ≡ None → r.active ≡ false
       → on_list h.image.arena d ≡ false

@@ -11,11 +11,11 @@ use Rattle.uv_heap.specs.Array.{IsHeap, SlotsDiffer}
 use Rattle.uv_heap.specs.Order.{IsInOrder}
 use Rattle.uv_requests.specs.Working.{id_in}
 use Rattle.uv_model.specs.declared.place.Place.{Place}
-use Rattle.uv_model.specs.Content.{handle_of}
+use Rattle.uv_work.specs.Content.{handle_of}
 use Rattle.uv_model.specs.Layout.{open_requests}
 use Rattle.uv_model.specs.State.{State}
 use Rattle.uv_model.specs.Queries.{members}
-use Rattle.uv_step.specs.declared.content.Content.{Content}
+use Rattle.uv_work.specs.declared.content.Content.{Content}
 use Rattle.uv_step.specs.Image.{Image}
 use Rattle.uv_stands.specs.Contents.{slots_of}
 

@@ -3,7 +3,7 @@ ghost use Rattle.std.specs.Prelude.{◌≡◌, ◌+◌, ◌<◌, ◌^◌, ◌-�
 ghost use Rattle.uv_model.specs.State.{State, live, live_handle};
 ghost use Rattle.uv_step.specs.declared.record.Naming.TheVariants.{Same as same};
 ghost use Rattle.uv_handle.specs.Counted.{record_at};
-ghost use Rattle.uv_step.specs.Content.{handle_in};
+ghost use Rattle.uv_work.specs.Content.{handle_of};
 ghost use Rattle.uv_step.specs.Fit.{IsFit};
 ghost use Rattle.uv_step.specs.Image.{held};
 ghost use Rattle.uv_records.specs.Names.{named, binding, calling, count_of};
@@ -27,7 +27,7 @@ pub fn bound_id(memory: &Memory<Place>, name: Var) -> Option<Id>
 
 /// The handle of a name, for an op on handles: ESTALE if the name isn't live, EKIND if it is a request's.
 fn live_handle(memory: &Memory<Place>, name: Var) -> Result<(Id, HandleRecord), Code>
-    ensures found { IfOk result (λ t. record_at handle_in (held memory.now).image.arena t.0 ≡ Some t.1) }
+    ensures found { IfOk result (λ t. record_at handle_of (held memory.now).image.arena t.0 ≡ Some t.1) }
     ensures is { (s : State) → StandsFor (held memory.now).image s → live_handle s name ≡ result }
 {
     match bound_id(memory, name) {

@@ -14,19 +14,19 @@ use Rattle.uv_handle.specs.Counted.{record_at}
 use Rattle.uv_handle.proofs.Counts.{content_of}
 use Rattle.uv_requests.specs.Working.{Running, working, id_in, request_in as asked_at, IsWork}
 use Rattle.uv_requests.proofs.Holding.{one_id}
-use Rattle.uv_step.specs.declared.content.Content.{Content}
-use Rattle.uv_step.specs.Content.{handle_in, request_in}
-use Rattle.uv_step.proofs.Contents.{no_request}
+use Rattle.uv_work.specs.declared.content.Content.{Content}
+use Rattle.uv_work.specs.Content.{handle_of, request_of}
+use Rattle.uv_work.proofs.Contents.{no_request}
 
 -- under no id of a handle's slot there is a request
-pub alone : (i : arena.Image Content) (d : Id) (h : HandleRecord) → record_at handle_in i d ≡ Some h → (e : Id) → e.slot ≡ d.slot
-    → asked_at request_in i e ≡ None
+pub alone : (i : arena.Image Content) (d : Id) (h : HandleRecord) → record_at handle_of i d ≡ Some h → (e : Id) → e.slot ≡ d.slot
+    → asked_at request_of i e ≡ None
 alone i d h is e s = elim (or_none (held i e)) [
-  | inl n ↦ ap (option_and_then request_in) n
+  | inl n ↦ ap (option_and_then request_of) n
   | inr x ↦
-      let c = content_of handle_in i d h is in
+      let c = content_of handle_of i d h is in
       let one : e ≡ d = one_id i d e c.0 x.0 c.1 x.1 s in
-      ap (asked_at request_in i) one ∙ ap (option_and_then request_in) c.1 ∙ no_request c.0 h c.2
+      ap (asked_at request_of i) one ∙ ap (option_and_then request_of) c.1 ∙ no_request c.0 h c.2
 ]
 
 -- a list of requests
@@ -37,8 +37,8 @@ OfRequests EndedYet = Unit {0}
 OfRequests l = ⊥
 
 -- a handle is on none of them
-pub absent : (i : arena.Image Content) (r : Running) → IsWork request_in (working i r) → (d : Id)
-    → ((e : Id) → e.slot ≡ d.slot → asked_at request_in i e ≡ None) → (l : ListName) → OfRequests l → IsIn d.slot (members i l) → ⊥
+pub absent : (i : arena.Image Content) (r : Running) → IsWork request_of (working i r) → (d : Id)
+    → ((e : Id) → e.slot ≡ d.slot → asked_at request_of i e ≡ None) → (l : ListName) → OfRequests l → IsIn d.slot (members i l) → ⊥
 absent i r w d none Waiting o m = let q = w.waiting d.slot m in let n = none (id_in i d.slot) refl in cc (q.is, n)
 absent i r w d none Ended o m = let q = w.done d.slot m in let n = none (id_in i d.slot) refl in cc (q.is, n)
 absent i r w d none EndedYet o m = let q = w.yet d.slot m in let n = none (id_in i d.slot) refl in cc (q.is, n)

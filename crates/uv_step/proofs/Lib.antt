@@ -1,4 +1,3 @@
-pub mod Contents
 pub mod Alone
 pub mod Counting
 pub mod Fits

@@ -5,12 +5,12 @@ use Rattle.uv_heap.specs.declared.undo.HeapRemoveUndo.{HeapRemoveUndo}
 use Rattle.uv_timer.specs.Timed.{Timed, CanPutBack, CanUndoTimer, CanUndoCollect}
 use Rattle.uv_timer.specs.declared.undo.TimerUndo.{TimerUndo}
 use Rattle.uv_timer.specs.declared.undo.CollectUndo.{CollectUndo}
-use Rattle.uv_step.specs.declared.content.Content.{Content}
-use Rattle.uv_step.specs.declared.content.Content.TheVariants.{Handle}
+use Rattle.uv_work.specs.declared.content.Content.{Content}
+use Rattle.uv_work.specs.declared.content.Content.TheVariants.{Handle}
 use Rattle.uv_step.specs.Change.{Change}
 use Rattle.uv_step.specs.Change as change
 use Rattle.uv_step.specs.Record.{Record}
-use Rattle.uv_step.specs.Content.{handle_in}
+use Rattle.uv_work.specs.Content.{handle_of}
 use Rattle.uv_step.specs.Image.{Image}
 use Rattle.uv_step.specs.Undo.{CanUndo, CanUnwind}
 
@@ -19,10 +19,10 @@ module _ (room more : ℕ) (grown : room ≤ more) where
   put_back_still None es c = tt
   put_back_still (Some u) es c = record { put_back = c.put_back; has_room = (let has = c.has_room in omega (arith, has, grown)) }
 
-  timer_still : (t : Timed Content) (u : TimerUndo) → CanUndoTimer handle_in Handle room t u → CanUndoTimer handle_in Handle more t u
+  timer_still : (t : Timed Content) (u : TimerUndo) → CanUndoTimer handle_of Handle room t u → CanUndoTimer handle_of Handle more t u
   timer_still t u c = record { set = c.set; removed = put_back_still u.removed _ c.removed; delisted = c.delisted }
 
-  collect_still : (t : Timed Content) (u : CollectUndo) → CanUndoCollect handle_in Handle room t u → CanUndoCollect handle_in Handle more t u
+  collect_still : (t : Timed Content) (u : CollectUndo) → CanUndoCollect handle_of Handle room t u → CanUndoCollect handle_of Handle more t u
   collect_still t u c = record { pushed = c.pushed; timer = timer_still _ u.timer c.timer }
 
   module _ {P : Type 0} where

@@ -14,7 +14,7 @@ use Rattle.uv_timer.specs.declared.undo.CollectUndo.{CollectUndo}
 use Rattle.uv_timer.specs.Timed.{timer_undone, collect_undone}
 use Rattle.uv_watch.specs.declared.undo.WalkUndo.{WalkUndo}
 use Rattle.uv_watch.specs.Undo.{walk_undone}
-use Rattle.uv_step.specs.declared.content.Content.TheVariants.{Handle}
+use Rattle.uv_work.specs.declared.content.Content.TheVariants.{Handle}
 use Rattle.uv_step.specs.Change.{Change}
 use Rattle.uv_step.specs.Change as change
 use Rattle.uv_step.specs.declared.record.Naming.{Naming}
@@ -26,8 +26,8 @@ use Rattle.uv_records.specs.Names.{count_of, with_count, named, binding, calling
 use Rattle.uv_arena.specs.Image as arena
 use Rattle.uv_handle.specs.Counted.{alive_count}
 use Rattle.uv_requests.specs.Working.{working, idle_workers, IsWork}
-use Rattle.uv_step.specs.declared.content.Content.{Content}
-use Rattle.uv_step.specs.Content.{handle_in, request_in}
+use Rattle.uv_work.specs.declared.content.Content.{Content}
+use Rattle.uv_work.specs.Content.{handle_of, request_of}
 use Rattle.uv_step.specs.Image.{Image, counted_of, timed_of, with_counted, with_timed, standing}
 use Rattle.uv_step.specs.Parts.{Part, Stood, Bound, TakenOff, PutOn, undo, unwind_parts, unwind, was_bound, edit_parts, woken_parts, off_parts, put_parts, removed_parts, set_parts, timer_parts, change_parts, naming_parts}
 use Rattle.uv_step.specs.Undo.{CanRename, CanUndo, CanUnwind, Recorded, Extended, off_if}
@@ -74,7 +74,7 @@ module _ {P : Type 0} where
   put_back true x i = refl
 
   pub delist_back : (o : Option ChainPlace) (c : RecordUndo) (i : Image P)
-      → unwind_parts (off_parts o ++ edit_parts c) i ≡ with_counted (delist_undone handle_in Handle (record {
+      → unwind_parts (off_parts o ++ edit_parts c) i ≡ with_counted (delist_undone handle_of Handle (record {
         unlinked = o;
         changed =
             c;
@@ -84,7 +84,7 @@ module _ {P : Type 0} where
 
   timer_cases : (r : Option HeapRemoveUndo) (o : Option ChainPlace) (c : RecordUndo) (s : Option SetUndo) (i : Image P)
       → unwind_parts (removed_parts r ++ (off_parts o ++ edit_parts c) ++ set_parts s) i
-      ≡ with_timed (timer_undone handle_in Handle (record { removed = r; delisted = record { unlinked = o; changed = c }; set = s }) (timed_of i)) i
+      ≡ with_timed (timer_undone handle_of Handle (record { removed = r; delisted = record { unlinked = o; changed = c }; set = s }) (timed_of i)) i
   timer_cases None None c None i = refl
   timer_cases None None c (Some s) i = refl
   timer_cases None (Some t) c None i = refl
@@ -94,22 +94,22 @@ module _ {P : Type 0} where
   timer_cases (Some r) (Some t) c None i = refl
   timer_cases (Some r) (Some t) c (Some s) i = refl
 
-  pub timer_back : (u : TimerUndo) (i : Image P) → unwind_parts (timer_parts u) i ≡ with_timed (timer_undone handle_in Handle u (timed_of i)) i
+  pub timer_back : (u : TimerUndo) (i : Image P) → unwind_parts (timer_parts u) i ≡ with_timed (timer_undone handle_of Handle u (timed_of i)) i
   timer_back u i = timer_cases u.removed u.delisted.unlinked u.delisted.changed u.set i
 
   pub moved_back : (u : CollectUndo) (i : Image P)
-      → unwind_parts (change_parts (moved_by u)) i ≡ with_timed (collect_undone handle_in Handle u (timed_of i)) i
+      → unwind_parts (change_parts (moved_by u)) i ≡ with_timed (collect_undone handle_of Handle u (timed_of i)) i
   moved_back u i = let put : List (Part P) = PutOn u.pushed.slot ∷ [] in unwind_append (timer_parts u.timer) put i
       ∙ timer_back u.timer (unwind_parts put i)
 
   walk_cases : (t : ChainPlace) (x : ℕ) (w : Option RecordUndo) (i : Image P)
       → unwind_parts (TakenOff t ∷ PutOn x ∷ woken_parts w) i
-      ≡ with_counted (walk_undone handle_in Handle (record { unlinked = t; pushed = record { slot = x }; woken = w }) (counted_of i)) i
+      ≡ with_counted (walk_undone handle_of Handle (record { unlinked = t; pushed = record { slot = x }; woken = w }) (counted_of i)) i
   walk_cases t x None i = refl
   walk_cases t x (Some u) i = refl
 
   pub walk_back : (u : WalkUndo) (i : Image P)
-      → unwind_parts (change_parts (change.Walked u)) i ≡ with_counted (walk_undone handle_in Handle u (counted_of i)) i
+      → unwind_parts (change_parts (change.Walked u)) i ≡ with_counted (walk_undone handle_of Handle u (counted_of i)) i
   walk_back u i = walk_cases u.unlinked u.pushed.slot u.woken i
 
   -- ---- a step with its record
@@ -235,9 +235,9 @@ module _ {P : Type 0} where
   -- a loop that was never run
   pub fresh_fit : (i : Image P) (slots last workers : ℕ) → i.arena ≡ arena.fresh_image Content slots last → i.running ≡ idle_workers workers
       → i.active ≡ 0
-      → IsWork request_in (working (arena.fresh_image Content slots last) (idle_workers workers)) → IsFit i
+      → IsWork request_of (working (arena.fresh_image Content slots last) (idle_workers workers)) → IsFit i
   fresh_fit i slots last workers a r n work = record {
-    counts = n ∙ ap (alive_count handle_in) (sym a);
-    work = subst (λ z. IsWork request_in (working z i.running)) (sym a)
-        (subst (λ z. IsWork request_in (working (arena.fresh_image Content slots last) z)) (sym r) work);
+    counts = n ∙ ap (alive_count handle_of) (sym a);
+    work = subst (λ z. IsWork request_of (working z i.running)) (sym a)
+        (subst (λ z. IsWork request_of (working (arena.fresh_image Content slots last) z)) (sym r) work);
   }

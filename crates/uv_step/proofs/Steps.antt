@@ -39,16 +39,16 @@ use Rattle.uv_requests.specs.Undo.{reopened_in}
 use Rattle.uv_requests.specs.Calls as requests
 use Rattle.uv_requests.specs.Calls.{IsQueued, IsFinished, IsCancelled}
 use Rattle.uv_requests.proofs.Holding.{listed_id}
-use Rattle.uv_work.specs.Requests.{Request}
-use Rattle.uv_work.specs.Work.{Work}
+use Rattle.uv_work.specs.declared.request.Request.{Request}
+use Rattle.uv_work.specs.declared.job.Job.{Job}
 use Rattle.uv_watch.specs.declared.undo.WalkUndo.{WalkUndo}
 use Rattle.uv_watch.specs.Watch as watch
 use Rattle.uv_watch.specs.Watch.{IsMovedOn}
-use Rattle.uv_step.specs.declared.content.Content.{Content}
-use Rattle.uv_step.specs.declared.content.Content.TheVariants.{Handle, Request as Asked}
+use Rattle.uv_work.specs.declared.content.Content.{Content}
+use Rattle.uv_work.specs.declared.content.Content.TheVariants.{Handle, Request as Asked}
 use Rattle.uv_step.specs.Change as change
 use Rattle.uv_step.specs.Record.{Record}
-use Rattle.uv_step.specs.Content.{handle_in, request_in, only_handle}
+use Rattle.uv_work.specs.Content.{handle_of, request_of, only_handle}
 use Rattle.uv_step.specs.Image.{Image, Held, counted_of, timed_of, with_counted, with_timed, with_working}
 use Rattle.uv_step.specs.Undo.{Recorded}
 use Rattle.uv_step.specs.Fit.{IsFit}
@@ -60,18 +60,18 @@ use Rattle.uv_step.proofs.Fits.{work_changed, work_delisted, work_pushed, work_e
 
 -- two firsts of one list are one
 pub first_there : (i : arena.Image Content) (l : ListName) (d e : Id) (h : HandleRecord) → FirstIs i l e h → IsFirst i l d
-    → record_at handle_in i d ≡ Some h
+    → record_at handle_of i d ≡ Some h
 first_there i l d e h f g =
     let slot : d.slot ≡ e.slot = cc (f.first.is, g.is) in
     let one : d ≡ e = sym (listed_id i d g.listed.held) ∙ ap (id_in i) slot ∙ listed_id i e f.first.listed.held in
-    ap (record_at handle_in i) one ∙ f.handle
+    ap (record_at handle_of i) one ∙ f.handle
 
 -- what was freed is the handle that was the first
 pub taken_handle : (a b : Counted Content) (d e : Id) (h : HandleRecord) (v : Content) (u : TakeUndo) → FirstIs a.arena name.ClosingYet e h
-    → IsTaken handle_in Handle a b d v u → IsTaken handle_in Handle a b d (Handle h) u
+    → IsTaken handle_of Handle a b d v u → IsTaken handle_of Handle a b d (Handle h) u
 taken_handle a b d e h v u f c =
     let there = first_there a.arena name.ClosingYet d e h f c.first in
-    subst (λ x. IsTaken handle_in Handle a b d x u) (only_handle v h (sym (ap (option_and_then handle_in) c.was) ∙ there)) c
+    subst (λ x. IsTaken handle_of Handle a b d x u) (only_handle v h (sym (ap (option_and_then handle_of) c.was) ∙ there)) c
 
 module _ {P : Type 0} where
   abbrev at : Image P → ℕ → Held P
@@ -80,7 +80,7 @@ module _ {P : Type 0} where
   -- ---- handles
 
   pub edited : (i : Image P) (k : arena.Image Content) (m room : ℕ) (r : Record P) (d : Id) (from to : HandleRecord) (u : RecordUndo) → IsFit i
-      → record_at handle_in i.arena d ≡ Some from → IsChanged handle_in Handle (counted i.arena i.active) (counted k m) d from to u
+      → record_at handle_of i.arena d ≡ Some from → IsChanged handle_of Handle (counted i.arena i.active) (counted k m) d from to u
       → r ≡ changed i.place (change.Edited u) → Recorded r (at i room) (at (record i { arena = k; active = m }) room)
   edited i k m room r d from to u fit there c is =
       let j = record i { arena = k; active = m } in
@@ -89,7 +89,7 @@ module _ {P : Type 0} where
 
   pub enlisted : (i : Image P) (k : arena.Image Content) (m room : ℕ) (r : Record P) (d : Id) (from to : HandleRecord) (list : ListName)
       (u : ListUndo)
-      → IsFit i → (OfRequests list → ⊥) → IsEnlisted handle_in Handle (counted i.arena i.active) (counted k m) d from to list u
+      → IsFit i → (OfRequests list → ⊥) → IsEnlisted handle_of Handle (counted i.arena i.active) (counted k m) d from to list u
       → r ≡ changed i.place (change.Enlisted u) → Recorded r (at i room) (at (record i { arena = k; active = m }) room)
   enlisted i k m room r d from to list u fit bar c is =
       let j = record i { arena = k; active = m } in
@@ -98,7 +98,7 @@ module _ {P : Type 0} where
 
   pub delisted : (i : Image P) (k : arena.Image Content) (m room : ℕ) (r : Record P) (d : Id) (from to : HandleRecord) (leaves : Bool)
       (u : DelistUndo)
-      → IsFit i → IsDelisted handle_in Handle (counted i.arena i.active) (counted k m) d from to leaves u
+      → IsFit i → IsDelisted handle_of Handle (counted i.arena i.active) (counted k m) d from to leaves u
       → r ≡ changed i.place (change.Delisted u) → Recorded r (at i room) (at (record i { arena = k; active = m }) room)
   delisted i k m room r d from to leaves u fit c is =
       let j = record i { arena = k; active = m } in
@@ -107,7 +107,7 @@ module _ {P : Type 0} where
 
   -- a handle as it is made, off all lists
   pub added : (i : Image P) (k : arena.Image Content) (m room : ℕ) (r : Record P) (d : Id) (v : Var) (kind : Kind) (u : AddUndo) → IsFit i
-      → IsAdded handle_in Handle (counted i.arena i.active) (counted k m) v kind d u
+      → IsAdded handle_of Handle (counted i.arena i.active) (counted k m) v kind d u
       → r ≡ changed i.place (change.Added (record { added = u; listed = false }))
       → Recorded r (at i room) (at (record i { arena = k; active = m }) room)
   added i k m room r d v kind u fit c is =
@@ -116,25 +116,25 @@ module _ {P : Type 0} where
       (record { pushed = tt; added = c.can_undo }) fit
       (record {
         counts = c.counts;
-        work = kept_by_insert request_in i.arena k d i.running fit.work (Handle
+        work = kept_by_insert request_of i.arena k d i.running fit.work (Handle
             (inited v kind)) u.inserted refl c.inserted;
       }) refl
 
   -- and one at the end of its list
   pub joined : (i : Image P) (k l : arena.Image Content) (m room : ℕ) (r : Record P) (d : Id) (v : Var) (kind : Kind) (u : AddUndo)
       (now : List ℕ) → IsFit i
-      → IsAdded handle_in Handle (counted i.arena i.active) (counted k m) v kind d u → IsPushed k l name.Async d now
+      → IsAdded handle_of Handle (counted i.arena i.active) (counted k m) v kind d u → IsPushed k l name.Async d now
       → r ≡ changed i.place (change.Added (record { added = u; listed = true }))
       → Recorded r (at i room) (at (record i { arena = l; active = m }) room)
   joined i k l m room r d v kind u now fit c p is =
       let j = record i { arena = l; active = m } in
       let off : push_undone u.inserted.slot l ≡ k = ap (λ x. push_undone x l) c.inserted.slot ∙ p.undone in
-      let work = kept_by_insert request_in i.arena k d i.running fit.work (Handle (inited v kind)) u.inserted refl c.inserted in
+      let work = kept_by_insert request_of i.arena k d i.running fit.work (Handle (inited v kind)) u.inserted refl c.inserted in
       recorded (change.Added (record { added = u; listed = true })) r i j room room refl is
-      (ap (λ q. with_counted (add_undone handle_in u (counted q m)) j) off ∙ ap (λ q. with_counted q j) c.undone)
+      (ap (λ q. with_counted (add_undone handle_of u (counted q m)) j) off ∙ ap (λ q. with_counted q j) c.undone)
       (record {
         pushed = subst (λ x. CanUndoPush l x) (sym c.inserted.slot) p.can_undo;
-        added = subst (λ q. CanUndoAdd handle_in (counted q m) u) (sym off) c.can_undo;
+        added = subst (λ q. CanUndoAdd handle_of (counted q m) u) (sym off) c.can_undo;
       }) fit
       (record {
         counts = c.counts ∙ sym (count_moved k l p.slots);
@@ -145,7 +145,7 @@ module _ {P : Type 0} where
 
   pub rescheduled : (i : Image P) (k : arena.Image Content) (m room : ℕ) (h : Heap) (t : Times) (r : Record P) (d : Id) (c : TimerChange)
       (u : TimerUndo)
-      → IsFit i → h.room ≡ room → IsRescheduled handle_in Handle h.room (timed_of i) (timed k m h t) d c u
+      → IsFit i → h.room ≡ room → IsRescheduled handle_of Handle h.room (timed_of i) (timed k m h t) d c u
       → r ≡ changed i.place (change.Timer u)
       → Recorded r (at i room) (at (record i { arena = k; active = m; heap = h.array; times = t }) h.room)
   rescheduled i k m room h t r d c u fit same s is =
@@ -157,13 +157,13 @@ module _ {P : Type 0} where
       }) refl
 
   pub fired : (i : Image P) (k : arena.Image Content) (m room : ℕ) (h : Heap) (t : Times) (r : Record P) (d : Id) (u : TimerUndo)
-      → IsFit i → h.room ≡ room → IsFired handle_in Handle h.room (timed_of i) (timed k m h t) d u
+      → IsFit i → h.room ≡ room → IsFired handle_of Handle h.room (timed_of i) (timed k m h t) d u
       → r ≡ changed i.place (change.Timer u)
       → Recorded r (at i room) (at (record i { arena = k; active = m; heap = h.array; times = t }) h.room)
   fired i k m room h t r d u fit same s is = rescheduled i k m room h t r d _ u fit same s.changed is
 
   pub collected : (i : Image P) (k : arena.Image Content) (m room : ℕ) (h : Heap) (t : Times) (r : Record P) (d : Id) (u : CollectUndo)
-      → IsFit i → h.room ≡ room → IsCollected handle_in Handle h.room (timed_of i) (timed k m h t) d u
+      → IsFit i → h.room ≡ room → IsCollected handle_of Handle h.room (timed_of i) (timed k m h t) d u
       → r ≡ changed i.place (moved_by u)
       → Recorded r (at i room) (at (record i { arena = k; active = m; heap = h.array; times = t }) h.room)
   collected i k m room h t r d u fit same s is =
@@ -174,17 +174,17 @@ module _ {P : Type 0} where
   -- a handle is off its list and the heap, and at the front of the closing list
   pub shut : (i : Image P) (k l : arena.Image Content) (m room : ℕ) (h : Heap) (t : Times) (r : Record P) (d : Id) (c : TimerChange)
       (now : List ℕ) (u : CollectUndo)
-      → IsFit i → h.room ≡ room → IsRescheduled handle_in Handle h.room (timed_of i) (timed k m h t) d c u.timer → IsPushed k l name.Closing d now
+      → IsFit i → h.room ≡ room → IsRescheduled handle_of Handle h.room (timed_of i) (timed k m h t) d c u.timer → IsPushed k l name.Closing d now
       → u.pushed.slot ≡ d.slot → r ≡ changed i.place (moved_by u)
       → Recorded r (at i room) (at (record i { arena = l; active = m; heap = h.array; times = t }) h.room)
   shut i k l m room h t r d c now u fit same s p slot is =
       let j = record i { arena = l; active = m; heap = h.array; times = t } in
       let off : push_undone u.pushed.slot l ≡ k = ap (λ x. push_undone x l) slot ∙ p.undone in
       recorded (moved_by u) r i j room h.room same is
-      (moved_back u j ∙ ap (λ q. with_timed (timer_undone handle_in Handle u.timer (timed q m h t)) j) off ∙ ap (λ q. with_timed q j) s.undone)
+      (moved_back u j ∙ ap (λ q. with_timed (timer_undone handle_of Handle u.timer (timed q m h t)) j) off ∙ ap (λ q. with_timed q j) s.undone)
       (record {
         pushed = subst (λ x. CanUndoPush l x) (sym slot) p.can_undo;
-        timer = subst (λ q. CanUndoTimer handle_in Handle h.room (timed q m h t) u.timer) (sym off) s.can_undo;
+        timer = subst (λ q. CanUndoTimer handle_of Handle h.room (timed q m h t) u.timer) (sym off) s.can_undo;
       }) fit
       (record {
         counts = s.handles.counts ∙ sym (count_moved k l p.slots);
@@ -200,7 +200,7 @@ module _ {P : Type 0} where
 
   pub walked : (i : Image P) (k : arena.Image Content) (m room : ℕ) (r : Record P) (d e : Id) (h : HandleRecord) (w : WatcherKind)
       (pending : Bool) (u : WalkUndo)
-      → IsFit i → FirstIs i.arena (yet_of w) e h → IsMovedOn handle_in Handle (counted i.arena i.active) (counted k m) w d pending u
+      → IsFit i → FirstIs i.arena (yet_of w) e h → IsMovedOn handle_of Handle (counted i.arena i.active) (counted k m) w d pending u
       → r ≡ changed i.place (change.Walked u) → Recorded r (at i room) (at (record i { arena = k; active = m }) room)
   walked i k m room r d e h w pending u fit f c is =
       let j = record i { arena = k; active = m } in
@@ -209,13 +209,13 @@ module _ {P : Type 0} where
       (record { counts = c.counts; work = work_walked (counted_of i) (counted k m) i.running d h w pending u fit.work there c }) refl
 
   pub freed_does : (a b : Counted Content) (r : Record P) (place : P) (d e : Id) (h : HandleRecord) (v : Content) (u : TakeUndo)
-      → FirstIs a.arena name.ClosingYet e h → IsTaken handle_in Handle a b d v u → r ≡ changed place (closed_by h u)
-      → (g : HandleRecord) × By (closed_by g) (λ w. IsTaken handle_in Handle a b d (Handle g) w) r.change
+      → FirstIs a.arena name.ClosingYet e h → IsTaken handle_of Handle a b d v u → r ≡ changed place (closed_by h u)
+      → (g : HandleRecord) × By (closed_by g) (λ w. IsTaken handle_of Handle a b d (Handle g) w) r.change
   freed_does a b r place d e h v u f c is =
       (h, record { undo = u; is = ap (λ (q : Record P). q.change) is; does = taken_handle a b d e h v u f c })
 
   pub freed : (i : Image P) (k : arena.Image Content) (m room : ℕ) (r : Record P) (d e : Id) (h : HandleRecord) (v : Content) (u : TakeUndo)
-      → IsFit i → FirstIs i.arena name.ClosingYet e h → IsTaken handle_in Handle (counted i.arena i.active) (counted k m) d v u
+      → IsFit i → FirstIs i.arena name.ClosingYet e h → IsTaken handle_of Handle (counted i.arena i.active) (counted k m) d v u
       → r ≡ changed i.place (closed_by h u) → Recorded r (at i room) (at (record i { arena = k; active = m }) room)
   freed i k m room r d e h v u fit f taken is =
       let j = record i { arena = k; active = m } in
@@ -225,7 +225,7 @@ module _ {P : Type 0} where
       (record { counts = c.counts; work = work_freed (counted_of i) (counted k m) i.running d h (Handle h) u fit.work there c }) refl
 
   -- slots move from one list to another
-  pub spliced : (i : Image P) (k : arena.Image Content) (room : ℕ) (r : Record P) (u : SpliceUndo) → IsFit i → IsWork request_in (working k i.running)
+  pub spliced : (i : Image P) (k : arena.Image Content) (room : ℕ) (r : Record P) (u : SpliceUndo) → IsFit i → IsWork request_of (working k i.running)
       → SameSlots i.arena k → splice_undone u k ≡ i.arena → CanUndoSplice k u → r ≡ changed i.place (change.Begun u)
       → Recorded r (at i room) (at (record i { arena = k }) room)
   spliced i k room r u fit work same back can is =
@@ -252,7 +252,7 @@ module _ {P : Type 0} where
   -- ---- requests
 
   pub queued : (i : Image P) (k : arena.Image Content) (q : Running) (room : ℕ) (r : Record P) (asked : Request) (d : Id) (u : QueueUndo) → IsFit i
-      → IsSound i.arena → IsQueued request_in Asked (working i.arena i.running) (working k q) asked d u → r ≡ changed i.place (change.Queued u)
+      → IsSound i.arena → IsQueued request_of Asked (working i.arena i.running) (working k q) asked d u → r ≡ changed i.place (change.Queued u)
       → Recorded r (at i room) (at (record i { arena = k; running = q }) room)
   queued i k q room r asked d u fit sound c is =
       let j = record i { arena = k; running = q } in
@@ -260,43 +260,43 @@ module _ {P : Type 0} where
       (record { counts = fit.counts ∙ sym (count_queued i.arena k sound d asked c.next c.plain); work = c.work }) refl
 
   pub taken : (i : Image P) (k : arena.Image Content) (q : Running) (room : ℕ) (r : Record P) (worker : ℕ) (d : Id) (u : TakeWorkUndo) → IsFit i
-      → requests.IsTaken request_in (working i.arena i.running) (working k q) worker d u → r ≡ changed i.place (change.Taken u)
+      → requests.IsTaken request_of (working i.arena i.running) (working k q) worker d u → r ≡ changed i.place (change.Taken u)
       → Recorded r (at i room) (at (record i { arena = k; running = q }) room)
   taken i k q room r worker d u fit c is =
       let j = record i { arena = k; running = q } in
       recorded (change.Taken u) r i j room room refl is (ap (λ z. with_working z j) c.undone) c.can_undo fit
       (record { counts = fit.counts ∙ sym (count_moved i.arena k c.slots); work = c.work }) refl
 
-  pub finished : (i : Image P) (k : arena.Image Content) (q : Running) (room : ℕ) (r : Record P) (worker : ℕ) (d : Id) (asked : Work)
+  pub finished : (i : Image P) (k : arena.Image Content) (q : Running) (room : ℕ) (r : Record P) (worker : ℕ) (d : Id) (asked : Job)
       (digest : List ℕ) (u : FinishUndo)
-      → IsFit i → IsFinished request_in Asked (working i.arena i.running) (working k q) worker d asked digest u
+      → IsFit i → IsFinished request_of Asked (working i.arena i.running) (working k q) worker d asked digest u
       → r ≡ changed i.place (change.Finished u)
       → Recorded r (at i room) (at (record i { arena = k; running = q }) room)
   finished i k q room r worker d asked digest u fit c is =
       let j = record i { arena = k; running = q } in
       recorded (change.Finished u) r i j room room refl is (ap (λ z. with_working z j) c.undone) c.can_undo fit
       (record {
-        counts = fit.counts ∙ ap (λ z. alive_count handle_in z.arena) (sym c.undone) ∙ count_reopened u.id (push_undone u.id.slot k)
+        counts = fit.counts ∙ ap (λ z. alive_count handle_of z.arena) (sym c.undone) ∙ count_reopened u.id (push_undone u.id.slot k)
             ∙ count_pushed u.id.slot k;
         work = c.work;
       }) refl
 
   pub cancelled : (i : Image P) (k : arena.Image Content) (room : ℕ) (r : Record P) (d : Id) (u : CancelUndo)
-      → IsFit i → IsCancelled request_in Asked (working i.arena i.running) (working k i.running) d u → r ≡ changed i.place (change.Cancelled u)
+      → IsFit i → IsCancelled request_of Asked (working i.arena i.running) (working k i.running) d u → r ≡ changed i.place (change.Cancelled u)
       → Recorded r (at i room) (at (record i { arena = k }) room)
   cancelled i k room r d u fit c is =
       let j = record i { arena = k } in
-      let opened = reopened_in request_in Asked u.id (push_undone u.id.slot k) in
+      let opened = reopened_in request_of Asked u.id (push_undone u.id.slot k) in
       recorded (change.Cancelled u) r i j room room refl is (ap (λ z. with_working z j) c.undone) c.can_undo fit
       (record {
-        counts = fit.counts ∙ ap (λ z. alive_count handle_in z.arena) (sym c.undone) ∙ count_unlinked u.unlinked opened
+        counts = fit.counts ∙ ap (λ z. alive_count handle_of z.arena) (sym c.undone) ∙ count_unlinked u.unlinked opened
             ∙ count_reopened u.id (push_undone u.id.slot k) ∙ count_pushed u.id.slot k;
         work = c.work;
       }) refl
 
   pub ended : (i : Image P) (k : arena.Image Content) (q : Running) (room : ℕ) (r : Record P) (d : Id) (asked : Request)
       (u : CollectWorkUndo) → IsFit i
-      → requests.IsCollected request_in Asked (working i.arena i.running) (working k q) d asked u → r ≡ changed i.place (ended_by asked u)
+      → requests.IsCollected request_of Asked (working i.arena i.running) (working k q) d asked u → r ≡ changed i.place (ended_by asked u)
       → Recorded r (at i room) (at (record i { arena = k; running = q }) room)
   ended i k q room r d asked u fit c is =
       let j = record i { arena = k; running = q } in
@@ -304,13 +304,13 @@ module _ {P : Type 0} where
       (record { counts = fit.counts ∙ sym (count_freed i.arena k d asked c.was c.plain); work = c.work }) refl
 
   pub begun_done : (i : Image P) (k : arena.Image Content) (room : ℕ) (r : Record P) (u : SpliceUndo) → IsFit i
-      → requests.IsBegun request_in (working i.arena i.running) (working k i.running) u → r ≡ changed i.place (change.Begun u)
+      → requests.IsBegun request_of (working i.arena i.running) (working k i.running) u → r ≡ changed i.place (change.Begun u)
       → Recorded r (at i room) (at (record i { arena = k }) room)
   begun_done i k room r u fit c is = spliced i k room r u fit c.work c.slots (ap (λ z. z.arena) c.undone) c.can_undo.spliced is
 
   -- and the loop's time is another one
   pub polled : (i : Image P) (k : arena.Image Content) (now room : ℕ) (r : Record P) (u : SpliceUndo) → IsFit i
-      → requests.IsBegun request_in (working i.arena i.running) (working k i.running) u
+      → requests.IsBegun request_of (working i.arena i.running) (working k i.running) u
       → r ≡ changed i.place (change.Polled (record { time = i.times.time; spliced = u }))
       → Recorded r (at i room) (at (record i { arena = k; times = record i.times { time = now } }) room)
   polled i k now room r u fit c is =

@@ -16,17 +16,17 @@ use Rattle.uv_handle.specs.declared.undo.TakeUndo.{TakeUndo}
 use Rattle.uv_timer.specs.declared.undo.CollectUndo.{CollectUndo}
 use Rattle.uv_requests.specs.declared.undo.CollectWorkUndo.{CollectWorkUndo}
 use Rattle.uv_timer.specs.Changes.{becoming}
-use Rattle.uv_work.specs.Requests.{Request}
+use Rattle.uv_work.specs.declared.request.Request.{Request}
 use Rattle.uv_timer.specs.Timed.{Timed, with_arena}
 use Rattle.uv_timer.specs.Timers.{IsRescheduled}
-use Rattle.uv_step.specs.declared.content.Content.{Content}
-use Rattle.uv_step.specs.declared.content.Content.TheVariants.{Handle}
+use Rattle.uv_work.specs.declared.content.Content.{Content}
+use Rattle.uv_work.specs.declared.content.Content.TheVariants.{Handle}
 use Rattle.uv_step.specs.declared.record.Added.{Added}
 use Rattle.uv_step.specs.Change.{Change}
 use Rattle.uv_step.specs.Change as change
 use Rattle.uv_step.specs.declared.record.Naming.TheVariants.{Same as unnamed}
 use Rattle.uv_step.specs.Record.{Record}
-use Rattle.uv_step.specs.Content.{handle_in}
+use Rattle.uv_work.specs.Content.{handle_of}
 
 -- the record of a change alone
 abbrev pub changed : {P : Type 0} → P → Change → Record P
@@ -60,21 +60,21 @@ JoinsIf true i j d = IsPushed i j Async d (arena.members i Async ++ d.slot ∷ [
 -- a handle is made, and put at the end of the async list if it is an async one
 pub record IsMade (old new : Counted Content) (name : Var) (kind : Kind) (d : Id) (u : Added) : Type 0 where
   pub mid : arena.Image Content
-  pub added : IsAdded handle_in Handle old (record { arena = mid; count = new.count }) name kind d u.added
+  pub added : IsAdded handle_of Handle old (record { arena = mid; count = new.count }) name kind d u.added
   pub listed : u.listed ≡ is_async kind
   pub joins : JoinsIf u.listed mid new.arena d
 
 -- a handle is off its list and the heap, inactive and closing, and at the front of the closing list
 pub record IsShut (room : ℕ) (old new : Timed Content) (d : Id) (from : HandleRecord) (u : CollectUndo) : Type 0 where
   pub mid : arena.Image Content
-  pub changed : IsRescheduled handle_in Handle room old (with_arena mid new) d (becoming from (closed from) None) u.timer
+  pub changed : IsRescheduled handle_of Handle room old (with_arena mid new) d (becoming from (closed from) None) u.timer
   pub listed : IsPushed mid new.handles.arena Closing d (d.slot ∷ arena.members mid Closing)
 
 -- the front of a list, which is a handle
 pub record FirstIs (i : arena.Image Content) (l : ListName) (d : Id) (h : HandleRecord) : Type 0 where
   pub first : IsFirst i l d
-  pub handle : record_at handle_in i d ≡ Some h
+  pub handle : record_at handle_of i d ≡ Some h
 
 -- the list is empty (or its front is no handle)
 abbrev pub NoHandleFirst : arena.Image Content → ListName → Type 0
-NoHandleFirst i l = (arena.members i l ≡ []) ⊎ ((d : Id) × IsFirst i l d × (record_at handle_in i d ≡ None))
+NoHandleFirst i l = (arena.members i l ≡ []) ⊎ ((d : Id) × IsFirst i l d × (record_at handle_of i d ≡ None))

@@ -6,7 +6,7 @@ use Rattle.uv_timer.specs.declared.change.Times.{Times}
 use Rattle.uv_timer.specs.Timed.{Timed}
 use Rattle.uv_requests.specs.Working.{Running, Working, working, idle_workers}
 use Rattle.uv_arena.specs.Image as arena
-use Rattle.uv_step.specs.declared.content.Content.{Content}
+use Rattle.uv_work.specs.declared.content.Content.{Content}
 use Rattle.uv_records.specs.declared.named.Named.{Named}
 use Rattle.uv_step.specs.declared.memory.Memory.{Memory}
 use Rattle.uv_records.specs.Names.{unbound}

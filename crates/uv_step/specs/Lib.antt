@@ -1,4 +1,3 @@
-pub mod Content
 pub mod Fit
 pub mod Image
 pub mod Parts

@@ -15,14 +15,14 @@ use Rattle.uv_heap.specs.Undo as heap
 use Rattle.uv_timer.specs.declared.undo.SetUndo.{SetUndo}
 use Rattle.uv_timer.specs.declared.undo.TimerUndo.{TimerUndo}
 use Rattle.uv_requests.specs.Undo.{with_count, with_run, reopened_in}
-use Rattle.uv_step.specs.declared.content.Content.{Content}
-use Rattle.uv_step.specs.declared.content.Content.TheVariants.{Handle, Request as Asked}
+use Rattle.uv_work.specs.declared.content.Content.{Content}
+use Rattle.uv_work.specs.declared.content.Content.TheVariants.{Handle, Request as Asked}
 use Rattle.uv_step.specs.declared.record.Naming.{Naming}
 use Rattle.uv_step.specs.declared.record.Naming.TheVariants as naming
 use Rattle.uv_step.specs.Change.{Change}
 use Rattle.uv_step.specs.Change as change
 use Rattle.uv_step.specs.Record.{Record}
-use Rattle.uv_step.specs.Content.{request_in}
+use Rattle.uv_work.specs.Content.{request_of}
 use Rattle.uv_records.specs.Names.{binding, calling}
 use Rattle.uv_step.specs.Image.{Image}
 
@@ -80,7 +80,7 @@ module _ {P : Type 0} where
   undo (Open n) i = record i { running = with_count n i.running }
   undo (Ran k id) i = record i { running = with_run k id i.running }
   undo (Held x v) i = record i { arena = set_undone x v i.arena }
-  undo (WasOpen d) i = record i { arena = reopened_in request_in Asked d i.arena }
+  undo (WasOpen d) i = record i { arena = reopened_in request_of Asked d i.arena }
   undo (Taken u) i = record i { arena = insert_undone u i.arena }
   undo (Freed u v) i = record i { arena = remove_undone u v i.arena }
   undo (PutOn x) i = record i { arena = push_undone x i.arena }

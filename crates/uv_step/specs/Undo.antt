@@ -5,14 +5,14 @@ use Rattle.uv_handle.specs.Counted.{CanUndoRecord, CanUndoAdd, CanUndoEnlist, Ca
 use Rattle.uv_timer.specs.Timed.{CanUndoTimer, CanUndoCollect}
 use Rattle.uv_watch.specs.Undo.{CanUndoWalk}
 use Rattle.uv_requests.specs.Undo as work
-use Rattle.uv_step.specs.declared.content.Content.TheVariants.{Handle, Request as Asked}
+use Rattle.uv_work.specs.declared.content.Content.TheVariants.{Handle, Request as Asked}
 use Rattle.uv_step.specs.declared.record.Added.{Added}
 use Rattle.uv_step.specs.declared.record.Naming.{Naming}
 use Rattle.uv_step.specs.declared.record.Naming.TheVariants as naming
 use Rattle.uv_step.specs.Change.{Change}
 use Rattle.uv_step.specs.Change as change
 use Rattle.uv_step.specs.Record.{Record}
-use Rattle.uv_step.specs.Content.{handle_in, request_in}
+use Rattle.uv_work.specs.Content.{handle_of, request_of}
 use Rattle.uv_step.specs.Image.{Image, Held, counted_of, timed_of, working_of, standing}
 use Rattle.uv_step.specs.Parts.{unwind, unwind_parts, naming_parts}
 use Rattle.uv_step.specs.Fit.{IsFit}
@@ -29,7 +29,7 @@ module _ {P : Type 0} where
 
   pub record CanUndoAdded (i : Image P) (u : Added) : Type 0 where
     pub pushed : CanLeave u.listed u.added.inserted.slot i
-    pub added : CanUndoAdd handle_in (counted_of (off_if u.listed u.added.inserted.slot i)) u.added
+    pub added : CanUndoAdd handle_of (counted_of (off_if u.listed u.added.inserted.slot i)) u.added
 
   -- the change can be taken back, where the heap has so much room
   abbrev pub CanUndo : ℕ → Change → Image P → Type 0
@@ -40,20 +40,20 @@ module _ {P : Type 0} where
   CanUndo room (change.Idled b) i = Unit {0}
   CanUndo room (change.Iterated n b) i = Unit {0}
   CanUndo room (change.Added u) i = CanUndoAdded i u
-  CanUndo room (change.Edited u) i = CanUndoRecord handle_in Handle (counted_of i) u
-  CanUndo room (change.Enlisted u) i = CanUndoEnlist handle_in Handle (counted_of i) u
-  CanUndo room (change.Delisted u) i = CanUndoDelist handle_in Handle (counted_of i) u
-  CanUndo room (change.Timer u) i = CanUndoTimer handle_in Handle room (timed_of i) u
-  CanUndo room (change.Moved put t) i = CanUndoCollect handle_in Handle room (timed_of i) (record { timer = t; pushed = put })
+  CanUndo room (change.Edited u) i = CanUndoRecord handle_of Handle (counted_of i) u
+  CanUndo room (change.Enlisted u) i = CanUndoEnlist handle_of Handle (counted_of i) u
+  CanUndo room (change.Delisted u) i = CanUndoDelist handle_of Handle (counted_of i) u
+  CanUndo room (change.Timer u) i = CanUndoTimer handle_of Handle room (timed_of i) u
+  CanUndo room (change.Moved put t) i = CanUndoCollect handle_of Handle room (timed_of i) (record { timer = t; pushed = put })
   CanUndo room (change.Begun u) i = CanUndoSplice i.arena u
   CanUndo room (change.Polled u) i = CanUndoSplice i.arena u.spliced
-  CanUndo room (change.Walked u) i = CanUndoWalk handle_in Handle (counted_of i) u
-  CanUndo room (change.Closed u h) i = CanUndoTake handle_in (counted_of i) u (Handle h)
-  CanUndo room (change.Queued u) i = work.CanUndoQueue request_in (working_of i) u
-  CanUndo room (change.Taken u) i = work.CanUndoTake request_in (working_of i) u
-  CanUndo room (change.Finished u) i = work.CanUndoFinish request_in Asked (working_of i) u
-  CanUndo room (change.Cancelled u) i = work.CanUndoCancel request_in Asked (working_of i) u
-  CanUndo room (change.Ended u r) i = work.CanUndoCollect request_in Asked (working_of i) u r
+  CanUndo room (change.Walked u) i = CanUndoWalk handle_of Handle (counted_of i) u
+  CanUndo room (change.Closed u h) i = CanUndoTake handle_of (counted_of i) u (Handle h)
+  CanUndo room (change.Queued u) i = work.CanUndoQueue request_of (working_of i) u
+  CanUndo room (change.Taken u) i = work.CanUndoTake request_of (working_of i) u
+  CanUndo room (change.Finished u) i = work.CanUndoFinish request_of Asked (working_of i) u
+  CanUndo room (change.Cancelled u) i = work.CanUndoCancel request_of Asked (working_of i) u
+  CanUndo room (change.Ended u r) i = work.CanUndoCollect request_of Asked (working_of i) u r
 
   -- the name is one of the loop's
   abbrev pub CanRename : Naming → Image P → Type 0

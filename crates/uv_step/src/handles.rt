@@ -3,9 +3,9 @@ ghost use Rattle.std.specs.Prelude.{◌≡◌, ◌≤◌, Some, None, IfOk, IfEr
 ghost use Rattle.uv_arena.specs.Calls.{RefusesInsert};
 ghost use Rattle.uv_handle.specs.Counted.{record_at};
 ghost use Rattle.uv_handle.specs.Changes.{IsChanged};
-ghost use Rattle.uv_step.specs.declared.content.Content.TheVariants.{Handle as handle};
+ghost use Rattle.uv_work.specs.declared.content.Content.TheVariants.{Handle as handle};
 ghost use Rattle.uv_step.specs.Change.{Added as added, Edited as edited};
-ghost use Rattle.uv_step.specs.Content.{handle_in};
+ghost use Rattle.uv_work.specs.Content.{handle_of};
 ghost use Rattle.uv_step.specs.Image.{held, Untouched, counted_of, timed_of};
 ghost use Rattle.uv_step.specs.Fit.{IsFit};
 ghost use Rattle.uv_step.specs.Undo.{Recorded};
@@ -52,9 +52,9 @@ impl<P: Copy> Memory<P> {
     /// Gives a handle another record, and touches no list (uv_ref, uv_unref, uv_timer_set_repeat, uv_async_send).
     pub fn edit(&mut self, id: Id, from: HandleRecord, to: HandleRecord)
         requires fit { IsFit (held self.old).image }
-        requires found { record_at handle_in (held self.old).image.arena id ≡ Some from }
+        requires found { record_at handle_of (held self.old).image.arena id ≡ Some from }
         ensures recorded { Recorded self.new.step_record (held self.old) (held self.new) }
-        ensures does { By edited (λ u. IsChanged handle_in handle
+        ensures does { By edited (λ u. IsChanged handle_of handle
             (counted_of (held self.old).image) (counted_of (held self.new).image) id from to u) self.new.step_record.change }
     {
         let undo = self.handles.change(&mut self.slots, id, from, to);
@@ -65,7 +65,7 @@ impl<P: Copy> Memory<P> {
     /// Closes a handle: it is stopped, and goes to the front of the closing list (uv_close).
     pub fn close(&mut self, id: Id, from: HandleRecord)
         requires fit { IsFit (held self.old).image }
-        requires found { record_at handle_in (held self.old).image.arena id ≡ Some from }
+        requires found { record_at handle_of (held self.old).image.arena id ≡ Some from }
         ensures recorded { Recorded self.new.step_record (held self.old) (held self.new) }
         ensures does { By moved_by (λ u. IsShut (held self.new).room
             (timed_of (held self.old).image) (timed_of (held self.new).image) id from u) self.new.step_record.change }

@@ -2,7 +2,6 @@
 //! before. Taking a step back takes no memory and can't fail.
 #![tactic(auto)]
 
-mod content;
 mod handles;
 mod head;
 mod large;
@@ -18,7 +17,6 @@ mod unwinding;
 mod values;
 mod watchers;
 
-pub use content::Content;
 pub use head::Head;
 pub use large::Large;
 pub use last::LastStep;

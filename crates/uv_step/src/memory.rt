@@ -5,7 +5,6 @@ ghost use Rattle.uv_heap.specs.Array.{IsHeap, SlotsDiffer};
 ghost use Rattle.uv_step.specs.Image.{held, fresh};
 ghost use Rattle.uv_step.specs.Fit.{IsFit};
 
-use crate::content::Content;
 use crate::last::LastStep;
 use std::alloc::{AllocError, Global};
 use uv_arena::Slots;
@@ -14,6 +13,7 @@ use uv_heap::TimerHeap;
 use uv_records::Named;
 use uv_requests::{Requests, fresh_requests};
 use uv_timer::Times;
+use uv_work::Content;
 
 /// All that the steps of a loop change, and what takes the last one back. `P` says where the loop stands.
 #[derive(Drop)]

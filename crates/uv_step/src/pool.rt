@@ -7,9 +7,9 @@ ghost use Rattle.uv_work.specs.Requests.{reopened, cancel_refusal, job_of};
 ghost use Rattle.uv_work.specs.Pool.{waits};
 ghost use Rattle.uv_requests.specs.Working.{found, pool_of, request_in as held_request};
 ghost use Rattle.uv_requests.specs.Calls.{IsQueued, IsTaken, IsFinished, IsCancelled, IsBegun, IsCollected};
-ghost use Rattle.uv_step.specs.declared.content.Content.TheVariants.{Request as asked};
+ghost use Rattle.uv_work.specs.declared.content.Content.TheVariants.{Request as asked};
 ghost use Rattle.uv_step.specs.Change.{Queued as queued, Taken as taken, Finished as finished, Cancelled as cancelled, Begun as begun, Polled as polled};
-ghost use Rattle.uv_step.specs.Content.{request_in};
+ghost use Rattle.uv_work.specs.Content.{request_of};
 ghost use Rattle.uv_step.specs.Image.{held, Untouched, working_of};
 ghost use Rattle.uv_step.specs.Fit.{IsFit};
 ghost use Rattle.uv_step.specs.Undo.{Recorded};
@@ -22,15 +22,15 @@ use crate::record::Polled;
 use crate::small::Small;
 use uv_arena::InsertFault;
 use uv_ids::{Code, Id};
-use uv_work::{RequestRecord, WorkResult};
+use uv_work::{Request, WorkResult};
 
 impl<P: Copy> Memory<P> {
     /// Puts a request in a slot, open, behind those that wait (uv_queue_work). It takes memory where the slot's piece isn't there yet,
     /// before it changes anything.
-    pub fn queue(&mut self, request: RequestRecord) -> Result<Id, InsertFault>
+    pub fn queue(&mut self, request: Request) -> Result<Id, InsertFault>
         requires { IsFit (held self.old).image }
         ensures recorded { IfOk result (λ _. Recorded self.new.step_record (held self.old) (held self.new)) }
-        ensures does { IfOk result (λ id. By queued (λ u. IsQueued request_in asked
+        ensures does { IfOk result (λ id. By queued (λ u. IsQueued request_of asked
             (working_of (held self.old).image) (working_of (held self.new).image) (reopened request) id u) self.new.step_record.change) }
         ensures pieces { self.old.slots.room ≤ self.new.slots.room }
         ensures err { IfErr result (λ fault. RefusesInsert fault self.old.slots × Untouched self.old self.new) }
@@ -51,7 +51,7 @@ impl<P: Copy> Memory<P> {
         requires idle { slice_get (held self.old).image.running.workers worker ≡ Some None }
         requires first { IsFirst (held self.old).image.arena Waiting id }
         ensures recorded { Recorded self.new.step_record (held self.old) (held self.new) }
-        ensures does { By taken (λ u. IsTaken request_in
+        ensures does { By taken (λ u. IsTaken request_of
             (working_of (held self.old).image) (working_of (held self.new).image) worker id u) self.new.step_record.change }
     {
         let undo = self.requests.start_work(&mut self.slots, worker, id);
@@ -59,13 +59,13 @@ impl<P: Copy> Memory<P> {
     }
 
     /// A worker hands in the result of this request, which it runs.
-    pub fn finish(&mut self, worker: u16, id: Id, request: RequestRecord, work: WorkResult)
+    pub fn finish(&mut self, worker: u16, id: Id, request: Request, work: WorkResult)
         requires fit { IsFit (held self.old).image }
         requires runs { slice_get (held self.old).image.running.workers worker ≡ Some (Some id) }
-        requires found { held_request request_in (held self.old).image.arena id ≡ Some request }
+        requires found { held_request request_of (held self.old).image.arena id ≡ Some request }
         requires job { job_of id request ≡ work.job }
         ensures recorded { Recorded self.new.step_record (held self.old) (held self.new) }
-        ensures does { By finished (λ u. IsFinished request_in asked
+        ensures does { By finished (λ u. IsFinished request_of asked
             (working_of (held self.old).image) (working_of (held self.new).image) worker id work.job work.digest u) self.new.step_record.change }
     {
         let undo = self
@@ -79,10 +79,10 @@ impl<P: Copy> Memory<P> {
     pub fn cancel(&mut self, id: Id) -> Result<(), Code>
         requires fit { IsFit (held self.old).image }
         ensures recorded { IfOk result (λ _. Recorded self.new.step_record (held self.old) (held self.new)) }
-        ensures does { IfOk result (λ _. By cancelled (λ u. IsCancelled request_in asked
+        ensures does { IfOk result (λ _. By cancelled (λ u. IsCancelled request_of asked
             (working_of (held self.old).image) (working_of (held self.new).image) id u) self.new.step_record.change) }
-        ensures err { IfErr result (λ code. (cancel_refusal (found request_in (held self.old).image.arena id)
-            (waits (pool_of request_in (working_of (held self.old).image)).waiting id) ≡ Some code) × Untouched self.old self.new) }
+        ensures err { IfErr result (λ code. (cancel_refusal (found request_of (held self.old).image.arena id)
+            (waits (pool_of request_of (working_of (held self.old).image)).waiting id) ≡ Some code) × Untouched self.old self.new) }
     {
         match self.requests.cancel(&mut self.slots, id) {
             Err(code) => Err(code),
@@ -99,7 +99,7 @@ impl<P: Copy> Memory<P> {
         requires fit { IsFit (held self.old).image }
         requires empty { members (held self.old).image.arena DoneYet ≡ [] }
         ensures recorded { Recorded self.new.step_record (held self.old) (held self.new) }
-        ensures does { By begun (λ u. IsBegun request_in
+        ensures does { By begun (λ u. IsBegun request_of
             (working_of (held self.old).image) (working_of (held self.new).image) u) self.new.step_record.change }
     {
         let undo = self.requests.begin(&mut self.slots);
@@ -112,7 +112,7 @@ impl<P: Copy> Memory<P> {
         requires empty { members (held self.old).image.arena DoneYet ≡ [] }
         ensures recorded { Recorded self.new.step_record (held self.old) (held self.new) }
         ensures time { (held self.new).image.times.time ≡ (held self.old).image.clock }
-        ensures does { By polled (λ u. IsBegun request_in
+        ensures does { By polled (λ u. IsBegun request_of
             (working_of (held self.old).image) (working_of (held self.new).image) u.spliced) self.new.step_record.change }
     {
         let spliced = self.requests.begin(&mut self.slots);
@@ -124,10 +124,10 @@ impl<P: Copy> Memory<P> {
 
     /// Takes the front of those that have yet to be called back off its list, and frees its slot: the request as it was. None, and
     /// nothing changed, where there is none.
-    pub fn end_request(&mut self) -> Option<(Id, RequestRecord)>
+    pub fn end_request(&mut self) -> Option<(Id, Request)>
         requires fit { IsFit (held self.old).image }
         ensures recorded { IfSome result (λ _. Recorded self.new.step_record (held self.old) (held self.new)) }
-        ensures does { IfSome result (λ r. By (ended_by r.1) (λ u. IsCollected request_in asked
+        ensures does { IfSome result (λ r. By (ended_by r.1) (λ u. IsCollected request_of asked
             (working_of (held self.old).image) (working_of (held self.new).image) r.0 r.1 u) self.new.step_record.change) }
         ensures none { IfNone result ((members (held self.old).image.arena DoneYet ≡ []) × Untouched self.old self.new) }
     {

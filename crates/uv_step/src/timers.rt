@@ -5,9 +5,9 @@ ghost use Rattle.uv_records.specs.declared.lists.ListName.TheVariants.{Ready};
 ghost use Rattle.uv_arena.specs.Calls.{IsFirst};
 ghost use Rattle.uv_handle.specs.Counted.{record_at};
 ghost use Rattle.uv_timer.specs.Timers.{IsRescheduled, IsCollected, IsFired, NoneIsDue, NoneIsReady};
-ghost use Rattle.uv_step.specs.declared.content.Content.TheVariants.{Handle as handle};
+ghost use Rattle.uv_work.specs.declared.content.Content.TheVariants.{Handle as handle};
 ghost use Rattle.uv_step.specs.Change.{Timer as timer};
-ghost use Rattle.uv_step.specs.Content.{handle_in};
+ghost use Rattle.uv_work.specs.Content.{handle_of};
 ghost use Rattle.uv_step.specs.Image.{held, Untouched, timed_of};
 ghost use Rattle.uv_step.specs.Fit.{IsFit};
 ghost use Rattle.uv_step.specs.Undo.{Recorded};
@@ -22,11 +22,11 @@ impl<P: Copy> Memory<P> {
     /// the heap has to be reserved before.
     pub fn reschedule(&mut self, id: Id, change: uv_timer::TimerChange)
         requires fit { IsFit (held self.old).image }
-        requires found { record_at handle_in (held self.old).image.arena id ≡ Some change.from }
+        requires found { record_at handle_of (held self.old).image.arena id ≡ Some change.from }
         requires room { IfSome change.due (λ _. id.slot < (held self.old).room) }
         requires starts { IfSome change.due (λ _. (held self.old).image.times.next_start < 2 ^ 64 - 1) }
         ensures recorded { Recorded self.new.step_record (held self.old) (held self.new) }
-        ensures does { By timer (λ u. IsRescheduled handle_in handle (held self.new).room
+        ensures does { By timer (λ u. IsRescheduled handle_of handle (held self.new).room
             (timed_of (held self.old).image) (timed_of (held self.new).image) id change u) self.new.step_record.change }
     {
         let undo = uv_timer::reschedule(
@@ -46,9 +46,9 @@ impl<P: Copy> Memory<P> {
     pub fn collect_timer(&mut self) -> Option<Id>
         requires fit { IsFit (held self.old).image }
         ensures recorded { IfSome result (λ _. Recorded self.new.step_record (held self.old) (held self.new)) }
-        ensures does { IfSome result (λ id. By moved_by (λ u. IsCollected handle_in handle (held self.new).room
+        ensures does { IfSome result (λ id. By moved_by (λ u. IsCollected handle_of handle (held self.new).room
             (timed_of (held self.old).image) (timed_of (held self.new).image) id u) self.new.step_record.change) }
-        ensures none { IfNone result (NoneIsDue handle_in (held self.old).image.arena (held self.old).image.heap (held self.old).image.times.time
+        ensures none { IfNone result (NoneIsDue handle_of (held self.old).image.arena (held self.old).image.heap (held self.old).image.times.time
             × Untouched self.old self.new) }
     {
         match uv_timer::collect_one(TimerParts {
@@ -73,9 +73,9 @@ impl<P: Copy> Memory<P> {
         requires room { (d : Id) → IsFirst (held self.old).image.arena Ready d → d.slot < (held self.old).room }
         requires starts { (held self.old).image.times.next_start < 2 ^ 64 - 1 }
         ensures recorded { IfSome result (λ _. Recorded self.new.step_record (held self.old) (held self.new)) }
-        ensures does { IfSome result (λ id. By timer (λ u. IsFired handle_in handle (held self.new).room
+        ensures does { IfSome result (λ id. By timer (λ u. IsFired handle_of handle (held self.new).room
             (timed_of (held self.old).image) (timed_of (held self.new).image) id u) self.new.step_record.change) }
-        ensures none { IfNone result (NoneIsReady handle_in (held self.old).image.arena × Untouched self.old self.new) }
+        ensures none { IfNone result (NoneIsReady handle_of (held self.old).image.arena × Untouched self.old self.new) }
     {
         match uv_timer::fire_one(TimerParts {
             handles: &mut self.handles,

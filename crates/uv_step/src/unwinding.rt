@@ -8,7 +8,6 @@ ghost use Rattle.uv_step.specs.Undo.{CanUnwind, CanRename, CanUndo};
 ghost use Rattle.uv_step.specs.Does.{moved_by, closed_by, ended_by};
 ghost use Rattle.uv_step.specs.Lies.{smaller, change_of, larger, lain, taken_off};
 
-use crate::content::Content;
 use crate::large::Large;
 use crate::last::Lying;
 use crate::medium::Medium;
@@ -23,7 +22,7 @@ use uv_records::{HandleRecord, Named};
 use uv_requests::{CancelUndo, FinishUndo, QueueUndo};
 use uv_timer::{CollectUndo, TimerParts, TimerUndo, undo_collect_one, undo_reschedule};
 use uv_watch::{WalkUndo, undo_take};
-use uv_work::RequestRecord;
+use uv_work::{Content, Request};
 
 impl<P: Copy> Memory<P> {
     /// Gives back the very memory from before the step of this record.
@@ -318,7 +317,7 @@ impl<P: Copy> Memory<P> {
         self.requests.undo_cancel(&mut self.slots, undo);
     }
 
-    fn undo_ended(&mut self, undo: uv_requests::CollectWorkUndo, request: RequestRecord)
+    fn undo_ended(&mut self, undo: uv_requests::CollectWorkUndo, request: Request)
         requires { CanUndo (held self.old).room (ended_by request undo) (held self.old).image }
         ensures image { (held self.new).image ≡ unwind_parts (change_parts (ended_by request undo)) (held self.old).image }
         ensures room { (held self.new).room ≡ (held self.old).room }

@@ -9,10 +9,10 @@ ghost use Rattle.uv_arena.specs.Calls.{IsSpliced};
 ghost use Rattle.uv_handle.specs.Counted.{record_at};
 ghost use Rattle.uv_handle.specs.Changes.{IsTaken};
 ghost use Rattle.uv_watch.specs.Watch.{IsStarted, IsStopped, IsBegun, IsMovedOn};
-ghost use Rattle.uv_step.specs.declared.content.Content.{Content};
-ghost use Rattle.uv_step.specs.declared.content.Content.TheVariants.{Handle as handle};
+ghost use Rattle.uv_work.specs.declared.content.Content.{Content};
+ghost use Rattle.uv_work.specs.declared.content.Content.TheVariants.{Handle as handle};
 ghost use Rattle.uv_step.specs.Change.{Enlisted as enlisted, Delisted as delisted, Begun as begun, Walked as walked};
-ghost use Rattle.uv_step.specs.Content.{handle_in};
+ghost use Rattle.uv_work.specs.Content.{handle_of};
 ghost use Rattle.uv_step.specs.Image.{held, Untouched, counted_of};
 ghost use Rattle.uv_step.specs.Fit.{IsFit};
 ghost use Rattle.uv_step.specs.Undo.{Recorded};
@@ -30,12 +30,12 @@ impl<P: Copy> Memory<P> {
     /// like).
     pub fn start_watcher(&mut self, id: Id, from: HandleRecord)
         requires fit { IsFit (held self.old).image }
-        requires found { record_at handle_in (held self.old).image.arena id ≡ Some from }
+        requires found { record_at handle_of (held self.old).image.arena id ≡ Some from }
         requires allowed { start_watcher_refusal from ≡ None }
         requires inactive { from.active ≡ false }
         requires loose { on_list (held self.old).image.arena id ≡ false }
         ensures recorded { Recorded self.new.step_record (held self.old) (held self.new) }
-        ensures does { By enlisted (λ u. IsStarted handle_in handle
+        ensures does { By enlisted (λ u. IsStarted handle_of handle
             (counted_of (held self.old).image) (counted_of (held self.new).image) id u) self.new.step_record.change }
     {
         let undo = uv_watch::enlist(&mut self.handles, &mut self.slots, id, from);
@@ -46,9 +46,9 @@ impl<P: Copy> Memory<P> {
     /// Stops an idle, prepare or check handle (uv_idle_stop and the like). One that closes stays on the closing list.
     pub fn stop_watcher(&mut self, id: Id, from: HandleRecord)
         requires fit { IsFit (held self.old).image }
-        requires found { record_at handle_in (held self.old).image.arena id ≡ Some from }
+        requires found { record_at handle_of (held self.old).image.arena id ≡ Some from }
         ensures recorded { Recorded self.new.step_record (held self.old) (held self.new) }
-        ensures does { By delisted (λ u. IsStopped handle_in handle
+        ensures does { By delisted (λ u. IsStopped handle_of handle
             (counted_of (held self.old).image) (counted_of (held self.new).image) id from u) self.new.step_record.change }
     {
         let undo = uv_watch::halt(&mut self.handles, &mut self.slots, id, from);
@@ -73,7 +73,7 @@ impl<P: Copy> Memory<P> {
         requires fit { IsFit (held self.old).image }
         ensures recorded { IfSome result (λ _. Recorded self.new.step_record (held self.old) (held self.new)) }
         ensures front { IfSome result (λ r. FirstIs (held self.old).image.arena (yet_of kind) r.0 r.1) }
-        ensures does { IfSome result (λ r. By walked (λ u. IsMovedOn handle_in handle
+        ensures does { IfSome result (λ r. By walked (λ u. IsMovedOn handle_of handle
             (counted_of (held self.old).image) (counted_of (held self.new).image) kind r.0 r.2 u) self.new.step_record.change) }
         ensures none { IfNone result (NoHandleFirst (held self.old).image.arena (yet_of kind) × Untouched self.old self.new) }
     {
@@ -100,7 +100,7 @@ impl<P: Copy> Memory<P> {
     pub fn end_handle(&mut self) -> Option<Id>
         requires fit { IsFit (held self.old).image }
         ensures recorded { IfSome result (λ _. Recorded self.new.step_record (held self.old) (held self.new)) }
-        ensures does { IfSome result (λ id. (h : HandleRecord) × By (closed_by h) (λ u. IsTaken handle_in handle
+        ensures does { IfSome result (λ id. (h : HandleRecord) × By (closed_by h) (λ u. IsTaken handle_of handle
             (counted_of (held self.old).image) (counted_of (held self.new).image) id (handle h) u) self.new.step_record.change) }
         ensures none { IfNone result (NoHandleFirst (held self.old).image.arena ClosingYet × Untouched self.old self.new) }
     {

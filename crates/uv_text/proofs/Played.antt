@@ -10,7 +10,7 @@ use Rattle.uv_ids.specs.declared.seen.Seen.{Seen}
 use Rattle.uv_script.specs.Program.{Program, arena_size, worker_count, IsSlotCount}
 use Rattle.uv_script.specs.Words.{IsName}
 use Rattle.uv_records.specs.declared.slot.Slot.{Slot}
-use Rattle.uv_model.specs.declared.content.Content.{Content}
+use Rattle.uv_work.specs.declared.content.Content.{Content}
 use Rattle.uv_records.specs.declared.named.Named.{Named}
 use Rattle.uv_model.specs.Bounds.{CanStep}
 use Rattle.uv_model.specs.State.{State, fresh}

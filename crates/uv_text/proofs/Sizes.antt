@@ -22,10 +22,10 @@ use Rattle.uv_script.specs.declared.op.Op.TheVariants as op
 use Rattle.uv_script.specs.declared.op.MainOp.{MainOp}
 use Rattle.uv_script.specs.declared.op.MainOp.TheVariants as main
 use Rattle.uv_script.specs.declared.op.CallbackLine.{CallbackLine}
-use Rattle.uv_script.specs.declared.task.Task.{Task}
+use Rattle.uv_work.specs.declared.task.Task.{Task}
 use Rattle.uv_script.specs.Limits.{MOST_SLOTS}
 use Rattle.uv_script.specs.Program.{Program, arena_size, order_of}
-use Rattle.uv_script.specs.Tasks.{text_of}
+use Rattle.uv_work.specs.Tasks.{text_of}
 use Rattle.uv_records.specs.declared.handle.HandleRecord.{HandleRecord}
 use Rattle.uv_records.specs.declared.slot.Slot.{Slot}
 use Rattle.uv_records.specs.declared.lists.WatcherKind.{WatcherKind}
@@ -41,8 +41,8 @@ use Rattle.uv_work.specs.declared.outcome.Outcome.TheVariants.{Open, Finished, C
 use Rattle.uv_work.specs.Digests.{digest_of}
 use Rattle.uv_work.proofs.DigestBytes.{IsDigest, is_digest}
 use Rattle.uv_model.specs.declared.limits.TheConstants.{LATEST}
-use Rattle.uv_model.specs.declared.content.Content.{Content}
-use Rattle.uv_model.specs.declared.content.Content.TheVariants as content
+use Rattle.uv_work.specs.declared.content.Content.{Content}
+use Rattle.uv_work.specs.declared.content.Content.TheVariants as content
 use Rattle.uv_records.specs.declared.named.Named.{Named}
 use Rattle.uv_model.specs.declared.place.Body.{Body}
 use Rattle.uv_model.specs.declared.place.Run.{Run}
@@ -57,9 +57,10 @@ use Rattle.uv_model.specs.declared.place.Timing.{Timing}
 use Rattle.uv_model.specs.declared.place.Timing.TheVariants.{Collecting, Firing}
 use Rattle.uv_model.specs.declared.place.Place.{Place}
 use Rattle.uv_model.specs.declared.place.Place.TheVariants.{Main, Running}
-use Rattle.uv_model.specs.declared.request.Request.{Request}
+use Rattle.uv_work.specs.declared.request.Request.{Request}
 use Rattle.uv_model.specs.Bounds.{CanStep}
-use Rattle.uv_model.specs.Content.{handle_in, request_in, queued, digest_in}
+use Rattle.uv_work.specs.Requests.{queued, digest_in}
+use Rattle.uv_model.specs.Content.{handle_in, request_in}
 use Rattle.uv_model.specs.Ids.{same_id}
 use Rattle.uv_model.specs.State.{State, named, with_handle, with_id, with_named, live, live_handle, live_request, front, front_request, watched, with_watched, refreshed}
 use Rattle.uv_records.specs.Names.{counted}

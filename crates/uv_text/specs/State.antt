@@ -15,12 +15,12 @@ use Rattle.uv_records.specs.declared.slot.Slot.{Slot}
 use Rattle.uv_records.specs.Slots.{held, id_of}
 use Rattle.uv_script.specs.Program.{Program}
 use Rattle.uv_script.specs.Text.{name_text, task_text}
-use Rattle.uv_script.specs.Tasks.{text_of}
+use Rattle.uv_work.specs.Tasks.{text_of}
 use Rattle.uv_work.specs.declared.outcome.Outcome.{Outcome}
 use Rattle.uv_work.specs.declared.outcome.Outcome.TheVariants as outcome
-use Rattle.uv_model.specs.declared.content.Content.{Content}
-use Rattle.uv_model.specs.declared.content.Content.TheVariants as content
-use Rattle.uv_model.specs.declared.request.Request.{Request}
+use Rattle.uv_work.specs.declared.content.Content.{Content}
+use Rattle.uv_work.specs.declared.content.Content.TheVariants as content
+use Rattle.uv_work.specs.declared.request.Request.{Request}
 use Rattle.uv_records.specs.declared.named.Calls.{Calls}
 use Rattle.uv_records.specs.declared.named.Named.{Named}
 use Rattle.uv_model.specs.declared.numbers.Numbers.{Numbers}

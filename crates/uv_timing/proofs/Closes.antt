@@ -22,10 +22,10 @@ use Rattle.uv_model.specs.Queries.{members}
 use Rattle.uv_model.specs.State.{State}
 use Rattle.uv_model.specs.Timers.{taken_off}
 use Rattle.uv_order.specs.Reached.{IsReached}
-use Rattle.uv_step.specs.declared.content.Content.{Content}
-use Rattle.uv_step.specs.declared.content.Content.TheVariants.{Handle}
+use Rattle.uv_work.specs.declared.content.Content.{Content}
+use Rattle.uv_work.specs.declared.content.Content.TheVariants.{Handle}
 use Rattle.uv_step.specs.Record.{Record}
-use Rattle.uv_step.specs.Content.{handle_in}
+use Rattle.uv_work.specs.Content.{handle_of}
 use Rattle.uv_step.specs.Does.{By, IsShut, moved_by}
 use Rattle.uv_step.specs.Fit.{IsFit}
 use Rattle.uv_step.specs.Image.{Image, Held, timed_of}
@@ -62,13 +62,13 @@ unclosed_if true e = cc e
 unclosed_if false e = refl
 
 module _ (i : Image Place) (n : Timed Content) (mid : arena.Image Content) (room : ℕ) (d : Id) (h : HandleRecord) (u : TimerUndo)
-    (x : IsRescheduled handle_in Handle room (timed_of i) (with_arena mid n) d (becoming h (records.closed h) None) u)
+    (x : IsRescheduled handle_of Handle room (timed_of i) (with_arena mid n) d (becoming h (records.closed h) None) u)
     (p : IsPushed mid n.handles.arena name.Closing d (d.slot ∷ arena.members mid name.Closing))
     (s : State) (stands : StandsFor i s) (reached : IsReached s) (fit : IsFit i) (unclosed : h.closing ≡ false) where
   abbrev t : State
   t = closed s d h
 
-  there : record_at handle_in i.arena d ≡ Some h
+  there : record_at handle_of i.arena d ≡ Some h
   there = x.handles.there
 
   own : id_in i.arena d.slot ≡ d

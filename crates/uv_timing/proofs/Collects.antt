@@ -22,8 +22,8 @@ use Rattle.uv_heap.proofs.Ranks.{same_itself}
 use Rattle.uv_timer.specs.declared.undo.CollectUndo.{CollectUndo}
 use Rattle.uv_timer.specs.Timers.{IsCollected, NoneIsDue, cleared}
 use Rattle.uv_requests.specs.Working.{id_in}
-use Rattle.uv_model.specs.declared.content.Content as content
-use Rattle.uv_model.specs.declared.content.Content.TheVariants as holds
+use Rattle.uv_work.specs.declared.content.Content as content
+use Rattle.uv_work.specs.declared.content.Content.TheVariants as holds
 use Rattle.uv_model.specs.declared.place.Place.{Place}
 use Rattle.uv_model.specs.Content as model
 use Rattle.uv_model.specs.Next.{first_due, collected}
@@ -31,10 +31,10 @@ use Rattle.uv_model.specs.Queries.{members}
 use Rattle.uv_model.specs.State.{State, handle, with_id}
 use Rattle.uv_order.specs.Active.{Before, InOrder, Has}
 use Rattle.uv_order.specs.Reached.{IsReached}
-use Rattle.uv_step.specs.declared.content.Content.{Content}
-use Rattle.uv_step.specs.declared.content.Content.TheVariants.{Handle}
+use Rattle.uv_work.specs.declared.content.Content.{Content}
+use Rattle.uv_work.specs.declared.content.Content.TheVariants.{Handle}
 use Rattle.uv_step.specs.Record.{Record}
-use Rattle.uv_step.specs.Content.{handle_in}
+use Rattle.uv_work.specs.Content.{handle_of}
 use Rattle.uv_step.specs.Does.{By, moved_by}
 use Rattle.uv_step.specs.Fit.{IsFit}
 use Rattle.uv_step.specs.Image.{Image, Held, timed_of}
@@ -80,8 +80,8 @@ begins a array (f ∷ fs) e least first order sorted =
 
 -- ---- it is collected
 
-module _ (i j : Image Place) (room : ℕ) (d : Id) (u : CollectUndo) (c : IsCollected handle_in Handle room (timed_of i) (timed_of j) d u)
-    (there : record_at handle_in i.arena d ≡ Some c.from) (s : State) (stands : StandsFor i s) (reached : IsReached s) (fit : IsFit i) where
+module _ (i j : Image Place) (room : ℕ) (d : Id) (u : CollectUndo) (c : IsCollected handle_of Handle room (timed_of i) (timed_of j) d u)
+    (there : record_at handle_of i.arena d ≡ Some c.from) (s : State) (stands : StandsFor i s) (reached : IsReached s) (fit : IsFit i) where
   abbrev h : HandleRecord
   h = c.from
 
@@ -167,7 +167,7 @@ only_collected : (s : State) (d : Id) (h : HandleRecord) → OnlyTimers s (colle
 only_collected s d h = record { place = refl; names = refl; running = refl; time = refl; clock = refl; stop_flag = refl; idled = refl }
 
 pub timer_collects : (r : Record Place) (h w : Held Place) (d : Id) → IsFit h.image → Recorded r h w → IsWhole w.image
-    → By moved_by (λ u. IsCollected handle_in Handle w.room (timed_of h.image) (timed_of w.image) d u) r.change → Collects h.image w.image d
+    → By moved_by (λ u. IsCollected handle_of Handle w.room (timed_of h.image) (timed_of w.image) d u) r.change → Collects h.image w.image d
 timer_collects r h w d fit recorded whole by s stands reached =
     let c = by.does in (
       c.from,
@@ -178,18 +178,18 @@ timer_collects r h w d fit recorded whole by s stands reached =
 
 -- ---- none is due
 
-handle_as : (o : Option content.Content) → model.handle_in o ≡ option_and_then handle_in (option_map content_of o)
+handle_as : (o : Option content.Content) → model.handle_in o ≡ option_and_then handle_of (option_map content_of o)
 handle_as None = refl
 handle_as (Some (holds.Handle h)) = refl
 handle_as (Some (holds.Request r)) = refl
 
-pub state_handle : (i : Image Place) (s : State) (d : Id) → StandsFor i s → handle s d ≡ record_at handle_in i.arena d
-state_handle i s d h = handle_as (plain.held s.arena.slots d) ∙ ap (option_and_then handle_in) (sym (held_there i s d h))
+pub state_handle : (i : Image Place) (s : State) (d : Id) → StandsFor i s → handle s d ≡ record_at handle_of i.arena d
+state_handle i s d h = handle_as (plain.held s.arena.slots d) ∙ ap (option_and_then handle_of) (sym (held_there i s d h))
 
 module _ (i : Image Place) (s : State) (stands : StandsFor i s) where
   -- of an array in this order, with these timers
   none_in : (array xs : List Entry) → IsHeap array → IsInOrder array xs → InOrder (map (timer_in i.arena) xs)
-      → NoneIsDue handle_in i.arena array i.times.time → first_due s (map (timer_in i.arena) xs) ≡ None
+      → NoneIsDue handle_of i.arena array i.times.time → first_due s (map (timer_in i.arena) xs) ≡ None
   none_in array [] heap order sorted none = refl
   none_in [] (f ∷ fs) heap order sorted none = absurd (none_in_empty f fs order)
   none_in (x ∷ array) (f ∷ fs) heap order sorted none = at (nat_le f.due.at s.time) refl where
@@ -199,7 +199,7 @@ module _ (i : Image Place) (s : State) (stands : StandsFor i s) where
     no_handle : f.due.at ≤ s.time → handle s (id_in i.arena f.slot) ≡ None
     no_handle le =
         state_handle i s (id_in i.arena f.slot) stands
-        ∙ subst (λ (e : Entry). e.due.at ≤ i.times.time → record_at handle_in i.arena (id_in i.arena e.slot) ≡ None) same none
+        ∙ subst (λ (e : Entry). e.due.at ≤ i.times.time → record_at handle_of i.arena (id_in i.arena e.slot) ≡ None) same none
         (subst (λ n. f.due.at ≤ n) (sym stands.time) le)
 
     at : (b : Bool) → nat_le f.due.at s.time ≡ b
@@ -207,7 +207,7 @@ module _ (i : Image Place) (s : State) (stands : StandsFor i s) where
     at true e = ap (with_id (id_in i.arena f.slot)) (no_handle (leb-true f.due.at s.time e))
     at false e = refl
 
-pub none_collects : (i : Image Place) → NoneIsDue handle_in i.arena i.heap i.times.time → CollectsNone i
+pub none_collects : (i : Image Place) → NoneIsDue handle_of i.arena i.heap i.times.time → CollectsNone i
 none_collects i none s stands reached =
     ap (first_due s) stands.timers.same
     ∙ none_in i s stands i.heap stands.timers.entries stands.heap stands.timers.ordered

@@ -16,7 +16,7 @@ use Rattle.uv_requests.specs.Working.{id_in}
 use Rattle.uv_model.specs.Timers.{with_timer, without_timer}
 use Rattle.uv_model.proofs.Order.{due_cmp_total, another}
 use Rattle.uv_order.specs.Active.{Has}
-use Rattle.uv_step.specs.declared.content.Content.{Content}
+use Rattle.uv_work.specs.declared.content.Content.{Content}
 use Rattle.uv_stands.specs.Stands.{timer_in}
 use Rattle.uv_timing.proofs.Keys.{key_at, key_itself}
 

@@ -25,17 +25,17 @@ use Rattle.uv_timer.specs.Timed.{Timed}
 use Rattle.uv_timer.specs.Timers.{IsRescheduled, IsFired, NoneIsReady, cleared}
 use Rattle.uv_requests.specs.Working.{id_in}
 use Rattle.uv_requests.proofs.Rules.{set_back}
-use Rattle.uv_model.specs.declared.content.Content.TheVariants as holds
+use Rattle.uv_work.specs.declared.content.Content.TheVariants as holds
 use Rattle.uv_model.specs.declared.place.Place.{Place}
 use Rattle.uv_model.specs.Queries.{members}
 use Rattle.uv_model.specs.State.{State, front, with_id}
 use Rattle.uv_model.specs.Timers.{taken_off, with_timer, without_timer, started, restarted, due_after}
 use Rattle.uv_order.specs.Reached.{IsReached, IsSetAside}
-use Rattle.uv_step.specs.declared.content.Content.{Content}
-use Rattle.uv_step.specs.declared.content.Content.TheVariants.{Handle}
+use Rattle.uv_work.specs.declared.content.Content.{Content}
+use Rattle.uv_work.specs.declared.content.Content.TheVariants.{Handle}
 use Rattle.uv_step.specs.Change as change
 use Rattle.uv_step.specs.Record.{Record}
-use Rattle.uv_step.specs.Content.{handle_in}
+use Rattle.uv_work.specs.Content.{handle_of}
 use Rattle.uv_step.specs.Image.{Image, Held, timed_of}
 use Rattle.uv_step.specs.Undo.{Recorded}
 use Rattle.uv_stands.specs.Contents.{slots_of}
@@ -89,7 +89,7 @@ off_inactive s d h e =
 -- ---- the front is called
 
 module _ (i : Image Place) (n : Timed Content) (room : ℕ) (d : Id) (h : HandleRecord) (u : TimerUndo) (first : IsFirst i.arena name.Ready d)
-    (there : record_at handle_in i.arena d ≡ Some h) (s : State) (stands : StandsFor i s) (reached : IsReached s) where
+    (there : record_at handle_of i.arena d ≡ Some h) (s : State) (stands : StandsFor i s) (reached : IsReached s) where
   abbrev off : State
   off = record s { ready = drop 1 s.ready }
 
@@ -139,7 +139,7 @@ module _ (i : Image Place) (n : Timed Content) (room : ℕ) (d : Id) (h : Handle
     fired_lists = all_but_one i s stands n.handles.arena off ids name.Ready (λ l ne. gone l ∙ first.others l ne) others behind
 
   -- one that doesn't repeat
-  fired_once : IsRescheduled handle_in Handle room (timed_of i) n d (becoming h h None) u → AreRetimed (retimed i n) s off
+  fired_once : IsRescheduled handle_of Handle room (timed_of i) n d (becoming h h None) u → AreRetimed (retimed i n) s off
   fired_once x =
       let ids = ids_rescheduled i n room d (becoming h h None) u x in
       let a = s.arena in
@@ -161,9 +161,9 @@ module _ (i : Image Place) (n : Timed Content) (room : ℕ) (d : Id) (h : Handle
   again = started off d h h.repeat h.repeat
 
   -- one that repeats is set again, from now
-  fired_again : IsRescheduled handle_in Handle room (timed_of i) n d (starting i.times h h.repeat h.repeat) u → AreRetimed (retimed i n) s again
+  fired_again : IsRescheduled handle_of Handle room (timed_of i) n d (starting i.times h h.repeat h.repeat) u → AreRetimed (retimed i n) s again
   fired_again started_so =
-      let x = subst (λ (z : Due). IsRescheduled handle_in Handle room (timed_of i) n d (set_at z h h.repeat) u)
+      let x = subst (λ (z : Due). IsRescheduled handle_of Handle room (timed_of i) n d (set_at z h h.repeat) u)
       (due_same i s h.repeat stands) started_so in
       let ids = ids_rescheduled i n room d (set_at key h h.repeat) u x in
       record {
@@ -178,12 +178,12 @@ module _ (i : Image Place) (n : Timed Content) (room : ℕ) (d : Id) (h : Handle
       }
 
   fired_by : (b : Bool)
-      → IsRescheduled handle_in Handle room (timed_of i) n d (if b then becoming h h None else starting i.times h h.repeat h.repeat) u
+      → IsRescheduled handle_of Handle room (timed_of i) n d (if b then becoming h h None else starting i.times h h.repeat h.repeat) u
       → AreRetimed (retimed i n) s (if b then off else again)
   fired_by true x = fired_once x
   fired_by false x = fired_again x
 
-  pub fired_retimed : IsRescheduled handle_in Handle room (timed_of i) n d (firing i.times h) u → AreRetimed (retimed i n) s (restarted off d h)
+  pub fired_retimed : IsRescheduled handle_of Handle room (timed_of i) n d (firing i.times h) u → AreRetimed (retimed i n) s (restarted off d h)
   fired_retimed x = fired_by (h.repeat == 0) x
 
 only_fired : (s : State) (d : Id) (h : HandleRecord) → OnlyTimers s (restarted (record s { ready = drop 1 s.ready }) d h)
@@ -206,18 +206,18 @@ name_firing times h = at (h.repeat == 0) where
   at false = refl
 
 module _ (r : Record Place) (h w : Held Place) (d : Id) (u : TimerUndo)
-    (c : IsFired handle_in Handle w.room (timed_of h.image) (timed_of w.image) d u) where
-  there : record_at handle_in h.image.arena d ≡ Some c.from
+    (c : IsFired handle_of Handle w.room (timed_of h.image) (timed_of w.image) d u) where
+  there : record_at handle_of h.image.arena d ≡ Some c.from
   there = c.changed.handles.there ∙ ap Some (from_firing h.image.times c.from)
 
   -- its name is that of the handle that is there afterwards
-  fired_name : (now : HandleRecord) → record_at handle_in w.image.arena d ≡ Some now → c.from.name ≡ now.name
+  fired_name : (now : HandleRecord) → record_at handle_of w.image.arena d ≡ Some now → c.from.name ≡ now.name
   fired_name now e =
       sym (name_firing h.image.times c.from)
       ∙ ap (λ (z : HandleRecord). z.name) (same_Some (firing h.image.times c.from).to now (sym c.changed.handles.handle ∙ e))
 
   pub timer_fires : Recorded r h w → r.change ≡ change.Timer u → IsWhole w.image → (now : HandleRecord)
-      → record_at handle_in w.image.arena d ≡ Some now → Fires h.image w.image d now.name
+      → record_at handle_of w.image.arena d ≡ Some now → Fires h.image w.image d now.name
   timer_fires recorded is whole now e s stands reached =
       let i = h.image in
       let n = timed_of w.image in (
@@ -230,7 +230,7 @@ module _ (r : Record Place) (h w : Held Place) (d : Id) (u : TimerUndo)
 
 -- ---- none is ready
 
-pub none_fires : (i : Image Place) → NoneIsReady handle_in i.arena → FiresNone i
+pub none_fires : (i : Image Place) → NoneIsReady handle_of i.arena → FiresNone i
 none_fires i (inl e) s stands reached = ap (front s) (stands.lists name.Ready ∙ ap (map (id_in i.arena)) e)
 none_fires i (inr t) s stands reached =
     ap (front s) (front_there i s name.Ready t.0 stands t.1) ∙ ap (with_id t.0) (state_handle i s t.0 stands ∙ t.2)

@@ -18,7 +18,7 @@ use Rattle.uv_model.specs.Queries.{timer_ids}
 use Rattle.uv_order.specs.Active.{InOrder}
 use Rattle.uv_order.specs.Reached.{IsReached}
 use Rattle.uv_model.specs.declared.place.Place.{Place}
-use Rattle.uv_step.specs.declared.content.Content.{Content}
+use Rattle.uv_work.specs.declared.content.Content.{Content}
 use Rattle.uv_step.specs.Image.{Image}
 use Rattle.uv_stands.specs.Doing.{OfEach}
 use Rattle.uv_stands.specs.Stands.{StandsFor, timer_in}

@@ -17,17 +17,17 @@ use Rattle.uv_timer.specs.declared.undo.TimerUndo.{TimerUndo}
 use Rattle.uv_timer.specs.declared.undo.CollectUndo.{CollectUndo}
 use Rattle.uv_timer.specs.Timed.{Timed, timer_undone, collect_undone}
 use Rattle.uv_requests.specs.Working.{id_in}
-use Rattle.uv_model.specs.declared.content.Content as content
-use Rattle.uv_model.specs.declared.content.Content.TheVariants as holds
+use Rattle.uv_work.specs.declared.content.Content as content
+use Rattle.uv_work.specs.declared.content.Content.TheVariants as holds
 use Rattle.uv_model.specs.declared.place.Place.{Place}
 use Rattle.uv_model.specs.Ids.{without_id}
 use Rattle.uv_model.specs.Queries.{members}
 use Rattle.uv_model.specs.State.{State}
-use Rattle.uv_step.specs.declared.content.Content.{Content}
-use Rattle.uv_step.specs.declared.content.Content.TheVariants.{Handle}
+use Rattle.uv_work.specs.declared.content.Content.{Content}
+use Rattle.uv_work.specs.declared.content.Content.TheVariants.{Handle}
 use Rattle.uv_step.specs.Change as change
 use Rattle.uv_step.specs.Record.{Record}
-use Rattle.uv_step.specs.Content.{handle_in}
+use Rattle.uv_work.specs.Content.{handle_of}
 use Rattle.uv_step.specs.Does.{changed, moved_by}
 use Rattle.uv_step.specs.Fit.{IsFit}
 use Rattle.uv_step.specs.Image.{Image, Held, timed_of, with_timed, standing}
@@ -64,14 +64,14 @@ module _ (r : Record Place) (h w : Held Place) (recorded : Recorded r h w) where
   pub timer_frame : (u : TimerUndo) → r.change ≡ change.Timer u → w.image ≡ retimed h.image (timed_of w.image)
   timer_frame u is =
       let j = standing r.place w.image in
-      frame h.image w.image r.place (timer_undone handle_in Handle u (timed_of j))
+      frame h.image w.image r.place (timer_undone handle_of Handle u (timed_of j))
       (sym (unwind_apart (changed r.place (change.Timer u)) w.image ∙ timer_back u j) ∙ change_back r (change.Timer u) h w recorded is)
       recorded.place
 
   pub moved_frame : (u : CollectUndo) → r.change ≡ moved_by u → w.image ≡ retimed h.image (timed_of w.image)
   moved_frame u is =
       let j = standing r.place w.image in
-      frame h.image w.image r.place (collect_undone handle_in Handle u (timed_of j))
+      frame h.image w.image r.place (collect_undone handle_of Handle u (timed_of j))
       (sym (unwind_apart (changed r.place (moved_by u)) w.image ∙ moved_back u j) ∙ change_back r (moved_by u) h w recorded is)
       recorded.place
 

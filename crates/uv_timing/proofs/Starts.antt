@@ -30,9 +30,9 @@ use Rattle.uv_model.specs.Timers.{taken_off, stopped, started, restarted, due_af
 use Rattle.uv_order.specs.Reached.{IsReached}
 use Rattle.uv_step.specs.Change as change
 use Rattle.uv_step.specs.Record.{Record}
-use Rattle.uv_step.specs.declared.content.Content.{Content}
-use Rattle.uv_step.specs.declared.content.Content.TheVariants.{Handle}
-use Rattle.uv_step.specs.Content.{handle_in}
+use Rattle.uv_work.specs.declared.content.Content.{Content}
+use Rattle.uv_work.specs.declared.content.Content.TheVariants.{Handle}
+use Rattle.uv_work.specs.Content.{handle_of}
 use Rattle.uv_step.specs.Does.{By}
 use Rattle.uv_step.specs.Fit.{IsFit}
 use Rattle.uv_step.specs.Image.{Image, Held, timed_of}
@@ -52,7 +52,7 @@ pub due_same : (i : Image Place) (s : State) (timeout : ℕ) → StandsFor i s
 due_same i s timeout stands = λ l. dues.due_after (stands.time l) (stands.next_start l) timeout
 
 module _ (i : Image Place) (n : Timed Content) (room : ℕ) (d : Id) (h : HandleRecord) (timeout repeat : ℕ) (u : TimerUndo)
-    (started_so : IsRescheduled handle_in Handle room (timed_of i) n d (starting i.times h timeout repeat) u) (s : State) (stands : StandsFor i s)
+    (started_so : IsRescheduled handle_of Handle room (timed_of i) n d (starting i.times h timeout repeat) u) (s : State) (stands : StandsFor i s)
     (reached : IsReached s) (fit : IsFit i) (unclosed : h.closing ≡ false) where
   abbrev key : Due
   key = due_after s timeout
@@ -60,10 +60,10 @@ module _ (i : Image Place) (n : Timed Content) (room : ℕ) (d : Id) (h : Handle
   abbrev t : State
   t = started (stopped s d h) d h timeout repeat
 
-  x : IsRescheduled handle_in Handle room (timed_of i) n d (set_at key h repeat) u
-  x = subst (λ (z : Due). IsRescheduled handle_in Handle room (timed_of i) n d (set_at z h repeat) u) (due_same i s timeout stands) started_so
+  x : IsRescheduled handle_of Handle room (timed_of i) n d (set_at key h repeat) u
+  x = subst (λ (z : Due). IsRescheduled handle_of Handle room (timed_of i) n d (set_at z h repeat) u) (due_same i s timeout stands) started_so
 
-  there : record_at handle_in i.arena d ≡ Some h
+  there : record_at handle_of i.arena d ≡ Some h
   there = x.handles.there
 
   ids : (y : ℕ) → id_in n.handles.arena y ≡ id_in i.arena y
@@ -124,18 +124,18 @@ again_timer h e = (only_so (is_timer h.kind) (invalid_if (h.closing || not h.beg
 module _ (i : Image Place) (n : Timed Content) (room : ℕ) (d : Id) (h : HandleRecord) (u : TimerUndo) (s : State) (stands : StandsFor i s)
     (reached : IsReached s) (fit : IsFit i) (allowed : again_refusal h ≡ None) where
   restarted_by : (b : Bool)
-      → IsRescheduled handle_in Handle room (timed_of i) n d
+      → IsRescheduled handle_of Handle room (timed_of i) n d
       (if b then becoming h (records.stopped h) None else starting i.times h h.repeat h.repeat) u
       → AreRetimed (retimed i n) s (if b then stopped s d h else started (stopped s d h) d h h.repeat h.repeat)
   restarted_by true x =
       let leaves : becoming h (records.stopped h) None ≡ stopping h =
       ap (λ (b : Bool). (let c : TimerChange = record { from = h; to = records.stopped h; leaves = not b; due = None } in c))
       (sym (again_unclosed h allowed)) in
-      stopped_retimed i n room d h u (subst (λ c. IsRescheduled handle_in Handle room (timed_of i) n d c u) leaves x) s stands reached fit
+      stopped_retimed i n room d h u (subst (λ c. IsRescheduled handle_of Handle room (timed_of i) n d c u) leaves x) s stands reached fit
       (again_timer h allowed)
   restarted_by false x = started_retimed i n room d h h.repeat h.repeat u x s stands reached fit (again_unclosed h allowed)
 
-  pub restarted_retimed : IsRescheduled handle_in Handle room (timed_of i) n d (starting_again i.times h) u
+  pub restarted_retimed : IsRescheduled handle_of Handle room (timed_of i) n d (starting_again i.times h) u
       → AreRetimed (retimed i n) s (restarted (stopped s d h) d h)
   restarted_retimed x = restarted_by (h.repeat == 0) x
 
@@ -149,9 +149,9 @@ only_restarted s d h = at (h.repeat == 0) where
 
 module _ (r : Record Place) (h w : Held Place) (d : Id) (from : HandleRecord) (c : TimerChange) (fit : IsFit h.image) (recorded : Recorded r h w)
     (whole : IsWhole w.image)
-    (by : By change.Timer (λ u. IsRescheduled handle_in Handle w.room (timed_of h.image) (timed_of w.image) d c u) r.change) where
-  changed : (b : TimerChange) → c ≡ b → IsRescheduled handle_in Handle w.room (timed_of h.image) (timed_of w.image) d b by.undo
-  changed b is = subst (λ z. IsRescheduled handle_in Handle w.room (timed_of h.image) (timed_of w.image) d z by.undo) is by.does
+    (by : By change.Timer (λ u. IsRescheduled handle_of Handle w.room (timed_of h.image) (timed_of w.image) d c u) r.change) where
+  changed : (b : TimerChange) → c ≡ b → IsRescheduled handle_of Handle w.room (timed_of h.image) (timed_of w.image) d b by.undo
+  changed b is = subst (λ z. IsRescheduled handle_of Handle w.room (timed_of h.image) (timed_of w.image) d z by.undo) is by.does
 
   frame : w.image ≡ retimed h.image (timed_of w.image)
   frame = timer_frame r h w recorded by.undo by.is

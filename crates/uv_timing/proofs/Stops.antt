@@ -24,11 +24,11 @@ use Rattle.uv_model.specs.Queries.{members}
 use Rattle.uv_model.specs.State.{State}
 use Rattle.uv_model.specs.Timers.{taken_off, stopped}
 use Rattle.uv_order.specs.Reached.{IsReached}
-use Rattle.uv_step.specs.declared.content.Content.{Content}
-use Rattle.uv_step.specs.declared.content.Content.TheVariants.{Handle}
+use Rattle.uv_work.specs.declared.content.Content.{Content}
+use Rattle.uv_work.specs.declared.content.Content.TheVariants.{Handle}
 use Rattle.uv_step.specs.Change as change
 use Rattle.uv_step.specs.Record.{Record}
-use Rattle.uv_step.specs.Content.{handle_in}
+use Rattle.uv_work.specs.Content.{handle_of}
 use Rattle.uv_step.specs.Does.{By}
 use Rattle.uv_step.specs.Fit.{IsFit}
 use Rattle.uv_step.specs.Image.{Image, Held, timed_of}
@@ -43,17 +43,17 @@ use Rattle.uv_timing.proofs.TakenOff.{timers_left, lists_left}
 
 -- ids stay where one handle is rescheduled
 pub ids_rescheduled : (i : Image Place) (n : Timed Content) (room : ℕ) (d : Id) (c : TimerChange) (u : TimerUndo)
-    → IsRescheduled handle_in Handle room (timed_of i) n d c u → (x : ℕ) → id_in n.handles.arena x ≡ id_in i.arena x
+    → IsRescheduled handle_of Handle room (timed_of i) n d c u → (x : ℕ) → id_in n.handles.arena x ≡ id_in i.arena x
 ids_rescheduled i n room d c u x =
     ids_kept i.arena n.handles.arena d (Handle c.to) (Handle c.from) (held_handle i d c.from x.handles.there) x.handles.plain
 
 module _ (i : Image Place) (n : Timed Content) (room : ℕ) (d : Id) (h : HandleRecord) (u : TimerUndo)
-    (x : IsRescheduled handle_in Handle room (timed_of i) n d (stopping h) u) (s : State) (stands : StandsFor i s) (reached : IsReached s)
+    (x : IsRescheduled handle_of Handle room (timed_of i) n d (stopping h) u) (s : State) (stands : StandsFor i s) (reached : IsReached s)
     (fit : IsFit i) (timer : is_timer h.kind ≡ true) where
   abbrev t : State
   t = stopped s d h
 
-  there : record_at handle_in i.arena d ≡ Some h
+  there : record_at handle_of i.arena d ≡ Some h
   there = x.handles.there
 
   ids : (y : ℕ) → id_in n.handles.arena y ≡ id_in i.arena y
@@ -120,12 +120,12 @@ only_stopped s d h = record { place = refl; names = refl; running = refl; time =
 
 pub stop_does : (r : Record Place) (h w : Held Place) (d : Id) (from : HandleRecord) (c : TimerChange) → IsFit h.image → is_timer from.kind ≡ true
     → Recorded r h w → IsWhole w.image → c ≡ stopping from
-    → By change.Timer (λ u. IsRescheduled handle_in Handle w.room (timed_of h.image) (timed_of w.image) d c u) r.change
+    → By change.Timer (λ u. IsRescheduled handle_of Handle w.room (timed_of h.image) (timed_of w.image) d c u) r.change
     → Does (λ s. stop s d from) h.image w.image (answer.Code success)
 stop_does r h w d from c fit timer recorded whole is by s stands reached =
     let i = h.image in
     let n = timed_of w.image in
-    let changed = subst (λ z. IsRescheduled handle_in Handle w.room (timed_of i) n d z by.undo) is by.does in (
+    let changed = subst (λ z. IsRescheduled handle_of Handle w.room (timed_of i) n d z by.undo) is by.does in (
       stopped s d from,
       refl,
       stands_then i w.image s (stopped s d from) (timer_frame r h w recorded by.undo by.is) whole stands (only_stopped s d from)

@@ -21,8 +21,8 @@ use Rattle.uv_model.specs.State.{State}
 use Rattle.uv_model.specs.Timers.{taken_off, with_timer, without_timer}
 use Rattle.uv_order.specs.Active.{Has, IsTimer}
 use Rattle.uv_order.specs.Reached.{IsReached}
-use Rattle.uv_step.specs.declared.content.Content.{Content}
-use Rattle.uv_step.specs.Content.{handle_in}
+use Rattle.uv_work.specs.declared.content.Content.{Content}
+use Rattle.uv_work.specs.Content.{handle_of}
 use Rattle.uv_step.specs.Fit.{IsFit}
 use Rattle.uv_step.specs.Image.{Image}
 use Rattle.uv_stands.specs.Stands.{StandsFor, timer_in}
@@ -50,7 +50,7 @@ left_there a slot (x ∷ xs) due id h = at (x.slot == slot) h (left_there a slot
   at false (inr k) rest = inr (rest k)
 
 module _ (i : Image Place) (s : State) (stands : StandsFor i s) (reached : IsReached s) (d : Id) (h : HandleRecord)
-    (there : record_at handle_in i.arena d ≡ Some h) where
+    (there : record_at handle_of i.arena d ≡ Some h) where
   abbrev entries : List Entry
   entries = stands.timers.entries
 

@@ -10,7 +10,7 @@ use Rattle.uv_model.specs.declared.place.Place.{Place}
 use Rattle.uv_model.specs.Next.{first_due, collected}
 use Rattle.uv_model.specs.State.{front}
 use Rattle.uv_model.specs.Timers.{restarted}
-use Rattle.uv_step.specs.declared.content.Content.{Content}
+use Rattle.uv_work.specs.declared.content.Content.{Content}
 use Rattle.uv_step.specs.Image.{Image}
 use Rattle.uv_stands.specs.Doing.{OfEach}
 use Rattle.uv_stands.specs.Stands.{StandsFor}

@@ -12,7 +12,8 @@ use uv_arena::Slots;
 use uv_heap::{Entry, TimerHeap};
 use uv_ids::Id;
 use uv_model::Place;
-use uv_step::{Content, Memory};
+use uv_step::Memory;
+use uv_work::Content;
 
 /// The active timers, in the order in which they are due.
 pub fn timer_ids(memory: &Memory<Place>, alloc: Global) -> Result<Vec<Id>, AllocError>

@@ -6,7 +6,7 @@ ghost use Rattle.uv_records.specs.Handles.{is_timer};
 ghost use Rattle.uv_records.specs.Refusals.{start_timer_refusal, again_refusal};
 ghost use Rattle.uv_handle.specs.Counted.{record_at};
 ghost use Rattle.uv_model.specs.Ops.{start, stop, again};
-ghost use Rattle.uv_step.specs.Content.{handle_in};
+ghost use Rattle.uv_work.specs.Content.{handle_of};
 ghost use Rattle.uv_step.specs.Image.{held};
 ghost use Rattle.uv_stands.specs.Doing.{Does, Returns};
 ghost use Rattle.uv_stands.specs.Ready.{IsReady};
@@ -20,7 +20,7 @@ use uv_timer::TimerChange;
 /// Stops a timer (uv_timer_stop). One that closes stays on the list of those that close.
 pub fn stop_timer(memory: &mut Memory<Place>, id: Id, handle: HandleRecord)
     requires ready { IsReady (held memory.old) }
-    requires found { record_at handle_in (held memory.old).image.arena id ≡ Some handle }
+    requires found { record_at handle_of (held memory.old).image.arena id ≡ Some handle }
     requires timer { is_timer handle.kind ≡ true }
     ensures returns { Returns memory.new.step_record (held memory.old) (held memory.new) }
     ensures does { Does (λ s. stop s id handle) (held memory.old).image (held memory.new).image (code success) }
@@ -38,7 +38,7 @@ pub fn start_timer(
     repeat: u64,
 )
     requires ready { IsReady (held memory.old) }
-    requires found { record_at handle_in (held memory.old).image.arena id ≡ Some handle }
+    requires found { record_at handle_of (held memory.old).image.arena id ≡ Some handle }
     requires allowed { start_timer_refusal handle ≡ None }
     ensures returns { Returns memory.new.step_record (held memory.old) (held memory.new) }
     ensures does { Does (λ s. start s timeout repeat id handle) (held memory.old).image (held memory.new).image (code success) }
@@ -52,7 +52,7 @@ pub fn start_timer(
 /// Starts a timer again (uv_timer_again): it is stopped, and due its repeat from now if it repeats.
 pub fn start_again(memory: &mut Memory<Place>, id: Id, handle: HandleRecord)
     requires ready { IsReady (held memory.old) }
-    requires found { record_at handle_in (held memory.old).image.arena id ≡ Some handle }
+    requires found { record_at handle_of (held memory.old).image.arena id ≡ Some handle }
     requires allowed { again_refusal handle ≡ None }
     ensures returns { Returns memory.new.step_record (held memory.old) (held memory.new) }
     ensures does { Does (λ s. again s id handle) (held memory.old).image (held memory.new).image (code success) }

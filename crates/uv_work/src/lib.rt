@@ -1,16 +1,19 @@
-//! Work requests: the record of one, the job that it asks for, the result of a job, and the rules of the thread pool (libuv's
-//! "Thread pool work scheduling").
+//! Work requests: what one asks for, its record, the job of it, the result of a job, and the rules of the thread pool (libuv's
+//! "Thread pool work scheduling"). And what a slot of the loop holds, which is a request or a handle.
 #![tactic(auto)]
 
+mod content;
 mod event;
 mod job;
 mod outcome;
 mod request;
 mod result;
-mod text;
+mod task;
 
+pub use content::Content;
 pub use event::PoolEvent;
 pub use job::Job;
 pub use outcome::Outcome;
-pub use request::RequestRecord;
+pub use request::Request;
 pub use result::WorkResult;
+pub use task::Task;

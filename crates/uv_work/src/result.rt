@@ -2,6 +2,7 @@
 ghost use Rattle.std.specs.Prelude.{◌≡◌};
 ghost use Rattle.sha2.specs.Sha256.{sha256};
 ghost use Rattle.uv_work.specs.Digests.{digest_of};
+ghost use Rattle.uv_work.specs.Tasks.{text_of};
 
 use crate::job::Job;
 use sha2::{Digest, Sha256};
@@ -12,7 +13,7 @@ use sha2::{Digest, Sha256};
 pub struct WorkResult {
     job: Job,
     digest: [u8; 32],
-    pub ghost is_digest: { digest ≡ digest_of job.rounds job.text },
+    pub ghost is_digest: { digest ≡ digest_of job.task.rounds (text_of job.task) },
 }
 
 impl WorkResult {
@@ -21,8 +22,8 @@ impl WorkResult {
     pub fn compute(job: Job) -> WorkResult
         ensures { result.job ≡ job }
     {
-        let mut digest = hashed(job.text());
-        for round in 1..job.rounds() {
+        let mut digest = hashed(job.task.text());
+        for round in 1..job.task.rounds() {
             let next = hashed(&digest);
             digest = next;
         }
@@ -39,7 +40,7 @@ impl WorkResult {
     /// The digest of the last round.
     pub fn digest(&self) -> [u8; 32]
         ensures value { result ≡ self.now.digest }
-        ensures rounds { result ≡ digest_of self.now.job.rounds self.now.job.text }
+        ensures rounds { result ≡ digest_of self.now.job.task.rounds (text_of self.now.job.task) }
     {
         self.digest
     }

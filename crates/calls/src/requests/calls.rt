@@ -13,7 +13,7 @@ use uv_records::ListName;
 use uv_requests::{
     CancelUndo, CollectWorkUndo, FinishUndo, QueueUndo, Requests, TakeWorkUndo, request_at,
 };
-use uv_work::{RequestRecord, WorkResult};
+use uv_work::{Request, WorkResult};
 
 /// What takes a call back.
 #[derive(Clone, Copy)]
@@ -23,7 +23,7 @@ pub enum Token {
     Finished(FinishUndo),
     Cancelled(CancelUndo),
     Begun(SpliceUndo),
-    Collected(CollectWorkUndo, RequestRecord),
+    Collected(CollectWorkUndo, Request),
     Nothing,
 }
 
@@ -83,7 +83,7 @@ fn queue(
     ensures work { IsWork asked (working slots.new.image requests.new) }
 {
     let name = u32::try_from((number >> 8) % 100).unwrap_or(0);
-    match RequestRecord::new(Var(name), 1, b"abc") {
+    match Request::new(Var(name), 1, b"abc") {
         None => {
             score.note(false);
             Token::Nothing

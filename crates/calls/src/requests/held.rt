@@ -1,18 +1,18 @@
 //! What a slot holds.
 
 use uv_requests::HoldsWork;
-use uv_work::RequestRecord;
+use uv_work::Request;
 
 /// A request, and nothing else.
 #[derive(Clone, Copy, PartialEq)]
 pub struct Held {
-    pub request: RequestRecord,
+    pub request: Request,
 }
 
 impl HoldsWork for Held {
     ghost use Rattle.std.specs.Prelude.{◌≡◌, Option, Some, None, refl};
     ghost use Rattle.std.proofs.Common.{ap, sym};
-    ghost use Rattle.uv_work.specs.Requests.{Request};
+    ghost use Rattle.uv_work.specs.declared.request.Request.{Request};
     ghost use Rattle.calls.specs.declared.requests.held.Held.{Held};
     ghost use Rattle.calls.specs.Held.{holding, asked};
 
@@ -20,11 +20,11 @@ impl HoldsWork for Held {
 
     ghost held_request = { asked };
 
-    fn of(request: RequestRecord) -> Held {
+    fn of(request: Request) -> Held {
         Held { request }
     }
 
-    fn held(&self) -> Option<RequestRecord> {
+    fn held(&self) -> Option<Request> {
         Some(self.request)
     }
 

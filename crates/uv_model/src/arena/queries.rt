@@ -3,8 +3,8 @@ ghost use Rattle.std.specs.Prelude.{◌≡◌, ◌==◌, length, slice_get};
 ghost use Rattle.std.specs.List.{list_any};
 
 use crate::arena::Arena;
-use crate::content::Content;
 use uv_records::Slot;
+use uv_work::Content;
 
 impl Arena {
     /// How many slots were ever used.

@@ -3,17 +3,17 @@ ghost use Rattle.std.specs.Prelude.{◌≡◌, IfOk, OnOk, OnErr, Some};
 ghost use Rattle.uv_records.specs.Handles.{inited};
 ghost use Rattle.uv_records.specs.Refusals.{no_refusal};
 ghost use Rattle.uv_records.specs.Slots.{next_free, taken};
-ghost use Rattle.uv_model.specs.declared.content.Content.TheVariants as content;
+ghost use Rattle.uv_work.specs.declared.content.Content.TheVariants as content;
 ghost use Rattle.uv_model.specs.State.{live_handle};
 ghost use Rattle.uv_model.specs.Ops.{do_op, on_handle, set_referenced, listed_last, closed, send};
 ghost use Rattle.uv_model.specs.Bounds.{CanStep};
 
-use crate::content::Content;
 use crate::state::LoopState;
 use std::alloc::AllocError;
 use uv_ids::{Answer, Code, Id, Kind, Var};
 use uv_records::{HandleRecord, WatcherKind};
 use uv_script::Op;
+use uv_work::Content;
 
 impl LoopState {
     /// Does an op. Without memory nothing changes.

@@ -4,9 +4,9 @@ ghost use Rattle.uv_records.specs.Slots.{next_free, taken};
 ghost use Rattle.uv_work.specs.Digests.{digest_of};
 ghost use Rattle.uv_work.specs.declared.outcome.Outcome.TheVariants.{Finished};
 ghost use Rattle.uv_script.specs.declared.op.Op.TheVariants.{Queue};
-ghost use Rattle.uv_script.specs.Tasks.{text_of};
-ghost use Rattle.uv_model.specs.declared.content.Content.TheVariants as content;
-ghost use Rattle.uv_model.specs.Content.{queued};
+ghost use Rattle.uv_work.specs.Tasks.{text_of};
+ghost use Rattle.uv_work.specs.declared.content.Content.TheVariants as content;
+ghost use Rattle.uv_work.specs.Requests.{queued};
 ghost use Rattle.uv_model.specs.State.{live_request};
 ghost use Rattle.uv_model.specs.Ops.{do_op, cancel, cancelled, ended};
 ghost use Rattle.uv_model.specs.Bounds.{CanStep};
@@ -14,27 +14,23 @@ ghost use Rattle.uv_model.specs.Next.{Moves, begin_done, collect_request, next_w
 ghost use Rattle.uv_model.specs.Handing.{job_run};
 ghost use Rattle.uv_model.specs.Steps.{Steps, Falls};
 
-use crate::content::Content;
 use crate::ids::{has_id, remove_id};
 use crate::machine::Outcome;
 use crate::place::{Run, Stage};
-use crate::request::Request;
 use crate::state::LoopState;
 use crate::state::phases::seen;
 use std::alloc::AllocError;
 use uv_ids::{Answer, Callback, Code, Fault, Id, Phase, Seen, Var, Why};
 use uv_records::WatcherKind;
-use uv_script::{Script, Task};
-use uv_work::{Job, Outcome as Ending, WorkResult};
+use uv_script::Script;
+use uv_work::{Content, Job, Outcome as Ending, Request, Task, WorkResult};
 
 /// What a worker makes of a request: it does its job.
 fn finished(id: Id, task: Task) -> Ending
     ensures { result ≡ Finished (digest_of task.rounds (text_of task)) }
 {
-    match Job::new(id, task.text(), task.rounds()) {
-        Some(job) => Ending::Finished(WorkResult::compute(job).digest()),
-        None => Ending::Open,
-    }
+    let job = Job { req: id, task };
+    Ending::Finished(WorkResult::compute(job).digest())
 }
 
 impl LoopState {
@@ -211,7 +207,7 @@ impl LoopState {
         ensures { result ≡ job_run self.now worker }
     {
         let (id, request) = self.work_of(worker).ok()?;
-        Job::new(id, request.task.text(), request.task.rounds())
+        Some(request.job(id))
     }
 
     /// Begins the section of the requests that are done.

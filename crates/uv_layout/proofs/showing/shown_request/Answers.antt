@@ -1,5 +1,5 @@
 use Rattle.std.proofs.Common.{sym, ◌∙◌}
-use Rattle.uv_script.specs.Tasks.{IsTask}
+use Rattle.uv_work.specs.Tasks.{IsTask}
 use Rattle.uv_layout.proofs.Same.{request_shown}
 use Rattle.uv_layout.proofs.showing.shown_request.Goals as goal
 

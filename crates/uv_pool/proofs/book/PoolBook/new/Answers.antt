@@ -1,6 +1,6 @@
 use Rattle.std.proofs.Common.{◌+◌, Option, None, sym, subst, arith}
 use Rattle.std.proofs.lemmas.List.{length-replicate}
-use Rattle.uv_work.specs.Work.{Work}
+use Rattle.uv_work.specs.declared.job.Job.{Job}
 use Rattle.uv_pool.specs.Book.{IsCounted}
 use Rattle.uv_pool.specs.Contents.{Contents, fresh}
 use Rattle.uv_pool.proofs.Replays.{replays_fresh}
@@ -16,6 +16,6 @@ invariant_of-result g c =
       count = c.open-finishes.ensures.total;
       parts = c.split_off-own.ensures.parts;
       some = omega arith;
-      workers = omega (arith, length-replicate n (let x : Option Work = None in x));
+      workers = omega (arith, length-replicate n (let x : Option Job = None in x));
     } in
     (c.in-Ok.ensures.1, subst (λ (x : Contents). IsCounted x total parts (n + 1)) (sym c.in-Ok.ensures.0) i)

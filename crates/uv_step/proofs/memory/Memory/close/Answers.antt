@@ -3,9 +3,9 @@ use Rattle.uv_records.specs.declared.handle.HandleRecord.{HandleRecord}
 use Rattle.uv_timer.specs.Changes.{becoming}
 use Rattle.uv_timer.specs.Timed.{timed}
 use Rattle.uv_timer.specs.Timers.{IsRescheduled}
-use Rattle.uv_step.specs.declared.content.Content.TheVariants.{Handle}
+use Rattle.uv_work.specs.declared.content.Content.TheVariants.{Handle}
 use Rattle.uv_step.specs.Record.{Record}
-use Rattle.uv_step.specs.Content.{handle_in}
+use Rattle.uv_work.specs.Content.{handle_of}
 use Rattle.uv_step.specs.Image.{image_of, timed_of}
 use Rattle.uv_step.proofs.Steps.{shut}
 use Rattle.uv_step.proofs.memory.Memory.close.Goals as goal
@@ -25,7 +25,7 @@ returns-clause-does g c =
       is = ap (λ (r : Record _). r.change) c.note_moved.ensures;
       does = record {
         mid = new.1.0.image;
-        changed = subst (λ (to : HandleRecord). IsRescheduled handle_in Handle new.1.1.0.room (timed_of (image_of c.args.self.now))
+        changed = subst (λ (to : HandleRecord). IsRescheduled handle_of Handle new.1.1.0.room (timed_of (image_of c.args.self.now))
             (timed new.1.0.image new.0 new.1.1.0 new.1.1.1.0) c.args.id (becoming c.args.from to None) c.reschedule-timer.result)
             c.closed.ensures c.reschedule-timer.ensures.changed;
         listed = c.push_front-pushed.ensures.pushed;

@@ -5,10 +5,10 @@ use Rattle.std.proofs.Props.{props}
 use Rattle.std.proofs.lemmas.Bool.{and_from, both_ways, le-leb}
 use Rattle.std.proofs.lemmas.Option.{same_Some}
 use Rattle.uv_ids.specs.declared.limits.TheConstants.{LONGEST_TEXT, MOST_ROUNDS}
-use Rattle.uv_script.specs.declared.task.Task.{Task}
-use Rattle.uv_script.specs.TaskFields.{IsRoundCount, IsPadded, padded}
-use Rattle.uv_script.specs.TaskReading.{is_task, rounds_within, text_within, made, task_of}
-use Rattle.uv_script.specs.Tasks.{IsTask, text_of}
+use Rattle.uv_work.specs.declared.task.Task.{Task}
+use Rattle.uv_work.specs.TaskFields.{IsRoundCount, IsPadded, padded}
+use Rattle.uv_work.specs.TaskReading.{is_task, rounds_within, text_within, made, task_of}
+use Rattle.uv_work.specs.Tasks.{IsTask, text_of}
 
 abbrev Fields : Type 0
 Fields = ℕ × ℕ × List ℕ

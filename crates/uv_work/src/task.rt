@@ -1,7 +1,7 @@
 //! What a work request asks for.
 ghost use Rattle.std.specs.Prelude.{◌≡◌, ◌≤◌, length};
 ghost use Rattle.uv_ids.specs.declared.limits.TheConstants.{LONGEST_TEXT, MOST_ROUNDS};
-ghost use Rattle.uv_script.specs.TaskFields.{IsRoundCount, IsPadded, padded};
+ghost use Rattle.uv_work.specs.TaskFields.{IsRoundCount, IsPadded, padded};
 
 use uv_ids::{LONGEST_TEXT, MOST_ROUNDS};
 
@@ -18,8 +18,8 @@ pub struct Task {
 
 impl Task {
     ghost use Rattle.std.specs.Prelude.{◌<◌, ◌⊎◌, IfSome, IfNone};
-    ghost use Rattle.uv_script.specs.Tasks.{IsTask, text_of};
-    ghost use Rattle.uv_script.specs.TaskReading.{task_of};
+    ghost use Rattle.uv_work.specs.Tasks.{IsTask, text_of};
+    ghost use Rattle.uv_work.specs.TaskReading.{task_of};
 
     /// A task. None exactly outside the limits.
     #[tactic(auto, using(crate::proofs::TaskLemmas::tasks))]
@@ -41,7 +41,8 @@ impl Task {
 
     /// How often the worker hashes.
     pub fn rounds(&self) -> u16
-        ensures { result ≡ self.now.rounds }
+        ensures value { result ≡ self.now.rounds }
+        ensures within { (1 ≤ result) × (result ≤ MOST_ROUNDS) }
     {
         self.rounds
     }

@@ -1,6 +1,6 @@
 -- What contracts see of a task: its rounds, and its text.
 use Rattle.std.specs.Prelude.{◌≡◌, ℕ, List, take}
-use Rattle.uv_script.specs.declared.task.Task.{Task}
+use Rattle.uv_work.specs.declared.task.Task.{Task}
 
 -- the text of a task
 abbrev pub text_of : Task → List ℕ

@@ -5,8 +5,8 @@ use Rattle.std.proofs.lemmas.List.{length-replicate}
 use Rattle.std.proofs.Math.Seq.{take-append_seam}
 use Rattle.std.proofs.lemmas.Bool.{and_parts, leb-true}
 use Rattle.uv_ids.specs.declared.limits.TheConstants.{LONGEST_TEXT, MOST_ROUNDS}
-use Rattle.uv_script.specs.declared.task.Task.{Task}
-use Rattle.uv_script.specs.TaskFields.{IsRoundCount, IsPadded, padded}
+use Rattle.uv_work.specs.declared.task.Task.{Task}
+use Rattle.uv_work.specs.TaskFields.{IsRoundCount, IsPadded, padded}
 
 -- the limits of a task
 abbrev pub is_task : ℕ → List ℕ → Bool
