@@ -26,8 +26,6 @@ use Rattle.uv_heap.specs.declared.entry.Entry.{Entry}
 use Rattle.uv_heap.specs.Order.{IsInOrder}
 use Rattle.uv_heap.specs.Array.{IsHeap, SlotsDiffer, place_in}
 use Rattle.uv_requests.specs.Working.{id_in}
-use Rattle.uv_work.specs.declared.content.Content as content
-use Rattle.uv_work.specs.declared.content.Content.TheVariants as holds
 use Rattle.uv_model.specs.declared.layout.LaidSlot.{LaidSlot}
 use Rattle.uv_model.specs.declared.layout.Layout.{Layout}
 use Rattle.uv_model.specs.declared.layout.ListEnds.{ListEnds}
@@ -38,49 +36,20 @@ use Rattle.uv_model.specs.Queries.{members}
 use Rattle.uv_model.specs.Layout.{LiesFor, HasNeighbours, AreWalked, slots_on, with_ends, generation_in, id_now, entry_of}
 use Rattle.uv_work.specs.declared.content.Content.{Content}
 use Rattle.uv_step.specs.Image.{Image}
-use Rattle.uv_stands.specs.Contents.{content_of, request_of, slot_of}
 use Rattle.uv_stands.specs.Stands.{StandsFor, timer_in}
 use Rattle.uv_stands.proofs.Onto.{list_named}
 use Rattle.uv_layout.specs.Laid.{ShowsSlot, ShowsSlots, ShowsAll, shown_ends}
-use Rattle.uv_layout.proofs.Same.{request_shown}
 
--- ---- what stands for the same is the same
-
-content_same : (x y : content.Content) → content_of x ≡ content_of y → x ≡ y
-content_same (holds.Handle h) (holds.Handle g) e = let same : h ≡ g = cc e in ap (λ z. holds.Handle z) same
-content_same (holds.Handle h) (holds.Request r) e = cc
-content_same (holds.Request q) (holds.Handle g) e = cc
-content_same (holds.Request q) (holds.Request r) e =
-    let same : request_of q ≡ request_of r = cc e in
-    ap (λ z. holds.Request z) (request_shown q (request_of r) r.task same (record { rounds_are = refl; text_is = refl }))
-
-held_same : (o p : Option content.Content) → option_map content_of o ≡ option_map content_of p → o ≡ p
-held_same None None e = refl
-held_same None (Some y) e = cc
-held_same (Some x) None e = cc
-held_same (Some x) (Some y) e = let same : content_of x ≡ content_of y = cc e in ap (λ z. Some z) (content_same x y same)
-
-slot_same : (a b : Slot content.Content) → slot_of a ≡ slot_of b → a ≡ b
-slot_same a b e =
-    let generation_is : a.generation ≡ b.generation = ap (λ (z : Slot Content). z.generation) e in
-    let content_is : a.content ≡ b.content = held_same a.content b.content (ap (λ (z : Slot Content). z.content) e) in
-    λ l. record { generation = generation_is l; content = content_is l }
-
-slots_same : (cs : List LaidSlot) (ks : List (Cell Content)) (ss : List (Slot content.Content)) → length cs ≡ length ks
-    → map (λ (k : Cell Content). k.slot) ks ≡ map slot_of ss
-    → ((x : ℕ) (c : LaidSlot) → slice_get cs x ≡ Some c → slot_of c.slot ≡ slot_in (slice_get ks x))
-    → map (λ (c : LaidSlot). c.slot) cs ≡ ss
-slots_same [] [] [] l e f = refl
-slots_same [] [] (s ∷ ss) l e f = cc
-slots_same [] (k ∷ ks) ss l e f = absurd (omega (arith, l))
-slots_same (c ∷ cs) [] ss l e f = absurd (omega (arith, l))
-slots_same (c ∷ cs) (k ∷ ks) [] l e f = cc
-slots_same (c ∷ cs) (k ∷ ks) (s ∷ ss) l e f =
-    let one : k.slot ≡ slot_of s = cc e in
-    let rest : map (λ (z : Cell Content). z.slot) ks ≡ map slot_of ss = cc e in
-    let c_is = slot_same c.slot s (f 0 c refl ∙ one) in
-    let cs_are = slots_same cs ks ss (omega (arith, l)) rest (λ x d at. f (suc x) d at) in
-    λ q. c_is q ∷ cs_are q
+slots_same : (cs : List LaidSlot) (ks : List (Cell Content)) → length cs ≡ length ks
+    → ((x : ℕ) (c : LaidSlot) → slice_get cs x ≡ Some c → c.slot ≡ slot_in (slice_get ks x))
+    → map (λ (c : LaidSlot). c.slot) cs ≡ map (λ (k : Cell Content). k.slot) ks
+slots_same [] [] l e = refl
+slots_same [] (k ∷ ks) l e = absurd (omega (arith, l))
+slots_same (c ∷ cs) [] l e = absurd (omega (arith, l))
+slots_same (c ∷ cs) (k ∷ ks) l e =
+    let one = e 0 c refl in
+    let rest = slots_same cs ks (omega (arith, l)) (λ x d at. e (suc x) d at) in
+    λ q. one q ∷ rest q
 
 -- ---- what follows from where the slots stand
 
@@ -271,8 +240,8 @@ lies_for l i s d h = record {
       } in n));
   names = d.names ∙ h.names;
   slots =
-      slots_same l.slots.items i.arena.memory.row.items s.arena.slots d.slots.all (ap (λ (q : plain.Slots Content). q.slots) h.slots)
-      (λ x c e. (d.slots.each x c e).slot);
+      slots_same l.slots.items i.arena.memory.row.items d.slots.all (λ x c e. (d.slots.each x c e).slot)
+      ∙ ap (λ (q : plain.Slots Content). q.slots) h.slots;
   unused = d.unused ∙ ap (λ (q : plain.Slots Content). q.unused) h.slots;
   running = d.running ∙ h.running;
   walked = are_walked i s h l.slots.items d.slots;

@@ -12,11 +12,10 @@ use Rattle.uv_model.specs.declared.layout.ListEnds.{ListEnds}
 use Rattle.uv_model.specs.declared.place.Place.{Place}
 use Rattle.uv_work.specs.declared.content.Content.{Content}
 use Rattle.uv_step.specs.Image.{Image}
-use Rattle.uv_stands.specs.Contents.{slot_of}
 
 -- a slot's content, its two links, and the place where the heap has it
 pub record ShowsSlot (i : Image Place) (x : ℕ) (c : LaidSlot) : Type 0 where
-  pub slot : slot_of c.slot ≡ arena.slot_at i.arena.memory x
+  pub slot : c.slot ≡ arena.slot_at i.arena.memory x
   pub prev : c.prev ≡ (arena.links_at i.arena.memory x).prev
   pub next : c.next ≡ (arena.links_at i.arena.memory x).next
   pub place : c.place ≡ place_in i.heap x
@@ -38,8 +37,7 @@ pub record ShowsAll (l : Layout) (i : Image Place) : Type 0 where
     clock = i.clock;
     next_start = i.times.next_start;
     stop_flag = i.stop_flag;
-    idled =
-        i.idled;
+    idled = i.idled;
   }
   pub names : l.names.items ≡ i.names
   -- the slots, how many were never used, and what each worker runs

@@ -8,12 +8,11 @@ ghost use Rattle.uv_arena.specs.Image.{chain, members};
 ghost use Rattle.uv_step.specs.Image.{held};
 ghost use Rattle.uv_layout.specs.Laid.{ShowsSlot, ShowsSlots, ShowsAll, shown_ends};
 
-use crate::showing::shown_held;
 use std::alloc::{AllocError, Global};
 use uv_arena::Slots;
 use uv_ids::Id;
 use uv_model::{LaidSlot, Layout, ListEnds, Numbers, Place};
-use uv_records::{Ends, ListName, Slot};
+use uv_records::{Ends, ListName};
 use uv_step::Memory;
 use uv_work::Content;
 
@@ -22,13 +21,9 @@ fn laid_slot(memory: &Memory<Place>, number: u32) -> LaidSlot
     requires { number < length (held memory.now).image.arena.memory.row.items }
     ensures { ShowsSlot (held memory.now).image number result }
 {
-    let slot = memory.slots.slot_at(number);
     let links = memory.slots.links(number);
     LaidSlot {
-        slot: Slot {
-            generation: slot.generation,
-            content: shown_held(slot.content),
-        },
+        slot: memory.slots.slot_at(number),
         prev: links.prev,
         next: links.next,
         place: memory.heap.place_of(number),

@@ -7,6 +7,8 @@ use Rattle.uv_ids.specs.declared.fault.Why.{Why}
 use Rattle.uv_ids.specs.declared.fault.Why.TheVariants as why
 use Rattle.uv_script.specs.Program.{Program}
 use Rattle.uv_work.specs.Tasks.{text_of}
+use Rattle.uv_work.specs.TaskFields.{padded}
+use Rattle.uv_work.specs.TaskReading.{rounds_within, text_within}
 use Rattle.uv_records.specs.declared.lists.ListName.TheVariants as name
 use Rattle.uv_records.specs.Slots as plain
 use Rattle.uv_records.specs.Walks.{with_last}
@@ -22,8 +24,6 @@ use Rattle.uv_requests.specs.Working as work
 use Rattle.uv_requests.specs.Working.{id_in}
 use Rattle.uv_requests.specs.Calls.{IsFinished, RefusesFinish, RunsOther}
 use Rattle.uv_requests.proofs.Holding.{id_is, content_of}
-use Rattle.uv_work.specs.declared.content.Content.TheVariants as holds
-use Rattle.uv_work.specs.declared.request.Request as queued
 use Rattle.uv_model.specs.declared.place.Place.{Place}
 use Rattle.uv_model.specs.Content as model
 use Rattle.uv_model.specs.Found.{found_or}
@@ -39,27 +39,23 @@ use Rattle.uv_work.specs.Content.{request_of}
 use Rattle.uv_step.specs.Fit.{IsFit}
 use Rattle.uv_step.specs.Image.{Image, Held, working_of}
 use Rattle.uv_step.specs.Undo.{Recorded}
-use Rattle.uv_stands.specs.Contents.{request_of}
 use Rattle.uv_stands.specs.Stands.{StandsFor}
 use Rattle.uv_loop.specs.Course.{Leads}
 use Rattle.uv_loop.specs.Pooling.{MayFinish}
-use Rattle.uv_stands.proofs.Holding.{ids_kept}
-use Rattle.uv_stands.proofs.Pools.{IsAsked, asked_there, run_there, list_same, done_more, slots_asked, frame_of, change_back, pool_stands}
+use Rattle.uv_stands.proofs.Holding.{slots_set, ids_kept}
+use Rattle.uv_stands.proofs.Pools.{asked_there, run_there, list_same, done_more, frame_of, change_back, pool_stands}
 
 -- ---- what the event does
 
 module _ (i : Image Place) (s : State) (k : ℕ) (d : Id) (r : Request) (h : StandsFor i s)
     (runs : slice_get i.running.workers k ≡ Some (Some d)) (there : work.request_in request_of i.arena d ≡ Some r) where
-  abbrev asks : IsAsked s d r
-  asks = asked_there i s d r h there
-
   -- the request as it is then
-  abbrev pub ended_request : queued.Request
-  ended_request = record asks.request { outcome = outcome.Finished (digest_of asks.request.task.rounds (text_of asks.request.task)) }
+  abbrev pub ended_request : Request
+  ended_request = record r { outcome = outcome.Finished (digest_of r.task.rounds (text_of r.task)) }
 
   abbrev pub finished_state : State
   finished_state = record s {
-    arena = record s.arena { slots = plain.with_held s.arena.slots d (holds.Request ended_request) };
+    arena = record s.arena { slots = plain.with_held s.arena.slots d (Asked ended_request) };
     running = slice_set s.running k None;
     done = with_last s.done d;
   }
@@ -68,18 +64,19 @@ module _ (i : Image Place) (s : State) (k : ℕ) (d : Id) (r : Request) (h : Sta
   unfolding next
   finish_moves p =
       ap (λ o. finish s k (work_of s o)) (run_there i s k (Some (Some d)) h runs)
-      ∙ ap (λ o. finish s k (found_or (with_id d (model.request_in o)) Ok (Err why.IdleWorker))) asks.there
-      ∙ (λ l. Moves finished_state (Some (seen.Finish k ((ap (λ (z : Request). z.name) asks.same) l) d)))
+      ∙ ap (λ o. finish s k (found_or (with_id d (model.request_in o)) Ok (Err why.IdleWorker))) (asked_there i s d r h there)
 
   -- the job that the worker runs
   pub job_there : job_run s k ≡ Some (job_of d r)
   job_there =
       ap (λ o. job_in (work_of s o)) (run_there i s k (Some (Some d)) h runs)
-      ∙ ap (λ o. job_in (found_or (with_id d (model.request_in o)) Ok (Err why.IdleWorker))) asks.there
-      ∙ ap (λ (z : Request). Some (job_of d z)) asks.same
+      ∙ ap (λ o. job_in (found_or (with_id d (model.request_in o)) Ok (Err why.IdleWorker))) (asked_there i s d r h there)
 
 no_job : Job
-no_job = record { req = record { slot = 0; generation = 0 }; rounds = 0; text = [] }
+no_job = record {
+  req = record { slot = 0; generation = 0 };
+  task = record { rounds = 1; len = 0; bytes = padded []; rounds_fit = rounds_within 1 [] refl; padded = text_within 1 [] refl };
+}
 
 -- a worker that runs a request runs its job
 no_other : (i : Image Place) (k : ℕ) → ((job : Job) → RunsOther request_of (working_of i) k job) → ⊥
@@ -131,7 +128,7 @@ finishes i k d r job why.Range may is e = e
 -- ---- what the memory stands for then
 
 module _ (i j : Image Place) (k : ℕ) (d e : Id) (r : Request) (job : Job) (digest : List ℕ) (u : FinishUndo) (may : MayFinish i k d r)
-    (is : job_of d r ≡ job) (made : digest ≡ digest_of job.rounds job.text)
+    (is : job_of d r ≡ job) (made : digest ≡ digest_of job.task.rounds (text_of job.task))
     (c : IsFinished request_of Asked (working_of i) (working_of j) k e job digest u) (sound : IsSound j.arena) where
   one : e ≡ d
   one = cc (c.runs, may.runs)
@@ -146,32 +143,32 @@ module _ (i j : Image Place) (k : ℕ) (d e : Id) (r : Request) (job : Job) (dig
   ids = ids_kept i.arena j.arena e (Asked (finished digest c.from)) was.0 was.1 c.plain
 
   module _ (s : State) (h : StandsFor i s) where
-    abbrev ended : queued.Request
+    abbrev ended : Request
     ended = ended_request i s k e r h c.runs asked_now
 
-    to : finished digest c.from ≡ request_of ended
+    to : finished digest c.from ≡ ended
     to =
-        let asks = asked_there i s e r h asked_now in
-        let from : c.from ≡ request_of asks.request = (let q : c.from ≡ r = cc (c.was, asked_now) in q ∙ sym asks.same) in
-        let done : digest ≡ digest_of asks.request.task.rounds (text_of asks.request.task) =
-        made ∙ ap (λ (z : Job). digest_of z.rounds z.text) (sym is) ∙ ap (λ (z : Request). digest_of z.rounds z.text) (sym asks.same) in
-        λ l. record { name = (from l).name; rounds = (from l).rounds; text = (from l).text; outcome = outcome.Finished (done l) }
+        let from : c.from ≡ r = cc (c.was, asked_now) in
+        let done : digest ≡ digest_of r.task.rounds (text_of r.task) =
+        made ∙ ap (λ (z : Job). digest_of z.task.rounds (text_of z.task)) (sym is) in
+        λ l. record (from l) { outcome = outcome.Finished (done l) }
 
     pub finished_stands : IsFit (record i { arena = j.arena; running = j.running })
         → StandsFor (record i { arena = j.arena; running = j.running }) (finished_state i s k e r h c.runs asked_now)
     finished_stands fit = pool_stands i s h j.arena j.running
-        (record s.arena { slots = plain.with_held s.arena.slots e (holds.Request ended) }) s.waiting (slice_set s.running k None)
+        (record s.arena { slots = plain.with_held s.arena.slots e (Asked ended) }) s.waiting (slice_set s.running k None)
         (with_last s.done e) ids
         (λ l a b x. c.others l b)
         (list_same i j.arena ids name.Waiting s.waiting (h.lists name.Waiting) (c.others name.Waiting (λ z. cc)))
         (done_more i s j.arena e h (id_is i.arena e was.0 was.1) ids c.done)
         (list_same i j.arena ids name.DoneYet s.done.yet (h.lists name.DoneYet) (c.others name.DoneYet (λ z. cc)))
-        (slots_asked i s j.arena e (finished digest c.from) ended h c.plain to)
+        (slots_set i s j.arena e (Asked (finished digest c.from)) h c.plain
+        ∙ ap (λ (q : Request). (let z : plain.Slots Content = record s.arena { slots = plain.with_held s.arena.slots e (Asked q) } in z)) to)
         (ap (λ (z : work.Running). z.workers) c.running ∙ ap (λ rs. slice_set rs k None) h.running)
         sound fit
 
 pub finish_leads : (r' : Record Place) (h w : Held Place) (k : ℕ) (d e : Id) (r : Request) (job : Job) (digest : List ℕ) (u : FinishUndo)
-    → MayFinish h.image k d r → job_of d r ≡ job → digest ≡ digest_of job.rounds job.text
+    → MayFinish h.image k d r → job_of d r ≡ job → digest ≡ digest_of job.task.rounds (text_of job.task)
     → IsFinished request_of Asked (working_of h.image) (working_of w.image) k e job digest u → Recorded r' h w → r'.change ≡ change.Finished u
     → IsSound w.image.arena → (p : Program) → Leads p h.image w.image (Finish k) (Some (seen.Finish k r.name d))
 finish_leads r' h w k d e r job digest u may same made c recorded is sound p s stands reached =

@@ -30,7 +30,7 @@ use Rattle.uv_stands.specs.Stands.{StandsFor}
 use Rattle.uv_loop.specs.Course.{Leads}
 use Rattle.uv_loop.specs.Pooling.{MayTake}
 use Rattle.uv_stands.proofs.Holding.{map_same}
-use Rattle.uv_stands.proofs.Pools.{IsAsked, asked_there, front_there, first_one, run_there, list_same, ids_moved, frame_of, change_back, pool_stands}
+use Rattle.uv_stands.proofs.Pools.{asked_there, front_there, first_one, run_there, list_same, ids_moved, frame_of, change_back, pool_stands}
 
 -- ---- what the event does
 
@@ -47,12 +47,11 @@ module _ (i : Image Place) (s : State) (k : ℕ) (d : Id) (r : Request) (h : Sta
   take_moves p =
       let run : slice_get s.running k ≡ Some None = run_there i s k (Some None) h idle in
       let front : s.waiting ≡ d ∷ left = front_there i s name.Waiting d h first in
-      let asks : IsAsked s d r = asked_there i s d r h there in
       ap (λ o. take s k (next_work s o)) run
       ∙ ap (λ ids. take s k (found_or (front_request s ids) Ok (Err why.NoWork))) front
-      ∙ ap (λ o. take s k (found_or (with_id d (model.request_in o)) Ok (Err why.NoWork))) asks.there
+      ∙ ap (λ o. take s k (found_or (with_id d (model.request_in o)) Ok (Err why.NoWork))) (asked_there i s d r h there)
       ∙ (λ l. Moves (record s { waiting = drop 1 (front l); running = slice_set s.running k (Some d) })
-      (Some (seen.Take k ((ap (λ (z : Request). z.name) asks.same) l) d)))
+      (Some (seen.Take k r.name d)))
 
 pub take_refused : (p : Program) (i : Image Place) (s : State) (k : ℕ) (w : Why) → StandsFor i s
     → RefusesTake request_of (working_of i) k w → next p s (Take k) ≡ Refuses w

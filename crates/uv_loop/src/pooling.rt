@@ -31,7 +31,7 @@ pub(crate) fn take_work(
 {
     memory.take(worker, id);
     memory.slots.is_sound();
-    Seen::Take(worker, request.name(), id)
+    Seen::Take(worker, request.name, id)
 }
 
 /// A worker finishes the request that it runs, of whose job this is the result: what that appends.
@@ -50,7 +50,7 @@ pub(crate) fn finish_work(
 {
     memory.finish(worker, id, request, work);
     memory.slots.is_sound();
-    Seen::Finish(worker, request.name(), id)
+    Seen::Finish(worker, request.name, id)
 }
 
 /// Cancels the request of a name: what that answers.

@@ -1,24 +1,19 @@
 -- What a slot of the arena holds.
-use Rattle.std.specs.Prelude.{Bool, true, false, ℕ, List, Option, Some, None}
-use Rattle.uv_ids.specs.declared.id.Var.{Var}
-use Rattle.uv_work.specs.declared.task.Task.{Task}
+use Rattle.std.specs.Prelude.{Bool, true, false, Option, Some, None, is_some, option_and_then}
 use Rattle.uv_records.specs.declared.handle.HandleRecord.{HandleRecord}
 use Rattle.uv_records.specs.Handles.{keeps_alive}
-use Rattle.uv_work.specs.declared.outcome.Outcome.{Outcome}
-use Rattle.uv_work.specs.declared.outcome.Outcome.TheVariants as outcome
 use Rattle.uv_work.specs.declared.content.Content.{Content}
 use Rattle.uv_work.specs.declared.content.Content.TheVariants as content
 use Rattle.uv_work.specs.declared.request.Request.{Request}
+use Rattle.uv_work.specs.Content.{handle_of, request_of}
 
 -- the handle that a slot holds, if it holds one
 abbrev pub handle_in : Option Content → Option HandleRecord
-handle_in None = None
-handle_in (Some x) = handle_of x
+handle_in o = option_and_then handle_of o
 
 -- the request that a slot holds, if it holds one
 abbrev pub request_in : Option Content → Option Request
-request_in None = None
-request_in (Some x) = request_of x
+request_in o = option_and_then request_of o
 
 -- what a slot holds keeps the loop alive: a request does, from its `queue` until its after callback begins
 abbrev pub content_keeps : Option Content → Bool
@@ -34,5 +29,4 @@ content_pends (Some (content.Request r)) = false
 
 -- a slot holds something
 abbrev pub is_used : Option Content → Bool
-is_used None = false
-is_used (Some c) = true
+is_used o = is_some o

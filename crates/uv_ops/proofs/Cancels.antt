@@ -14,17 +14,12 @@ use Rattle.uv_records.specs.Walks.{with_last, without}
 use Rattle.uv_arena.specs.Image as arena
 use Rattle.uv_arena.specs.Image.{IsSound}
 use Rattle.uv_work.specs.Pool.{Pool, waits}
-use Rattle.uv_work.specs.declared.request.Request.{Request}
 use Rattle.uv_work.specs.Requests.{cancelled, cancel_refusal}
-use Rattle.uv_work.specs.declared.outcome.Outcome.TheVariants as outcome
 use Rattle.uv_requests.specs.declared.undo.CancelUndo.{CancelUndo}
 use Rattle.uv_requests.specs.Working as work
 use Rattle.uv_requests.specs.Working.{id_in, pool_of}
 use Rattle.uv_requests.specs.Calls.{IsCancelled}
 use Rattle.uv_requests.proofs.Holding.{id_is, content_of}
-use Rattle.uv_work.specs.declared.content.Content as content
-use Rattle.uv_work.specs.declared.content.Content.TheVariants as holds
-use Rattle.uv_work.specs.declared.request.Request as queued
 use Rattle.uv_model.specs.declared.place.Place.{Place}
 use Rattle.uv_model.specs.Ids.{same_id, without_id}
 use Rattle.uv_model.specs.State.{State, with_id, as_request, live_id, live_request}
@@ -32,7 +27,7 @@ use Rattle.uv_model.specs.Ops as ops
 use Rattle.uv_model.specs.Ops.{Done, refuses, cancel}
 use Rattle.uv_order.proofs.IdLists.{turned}
 use Rattle.uv_work.specs.declared.content.Content.{Content}
-use Rattle.uv_work.specs.declared.content.Content.TheVariants.{Request as Asked}
+use Rattle.uv_work.specs.declared.content.Content.TheVariants.{Handle, Request as Asked}
 use Rattle.uv_step.specs.Change as change
 use Rattle.uv_step.specs.Record.{Record}
 use Rattle.uv_work.specs.Content.{request_of}
@@ -41,12 +36,11 @@ use Rattle.uv_step.specs.Fit.{IsFit}
 use Rattle.uv_step.specs.Image.{Image, Held, working_of}
 use Rattle.uv_records.specs.Names.{named}
 use Rattle.uv_step.specs.Undo.{Recorded}
-use Rattle.uv_stands.specs.Contents.{content_of as held_as, request_of}
 use Rattle.uv_stands.specs.Doing.{Performs}
 use Rattle.uv_stands.specs.Stands.{StandsFor}
-use Rattle.uv_stands.proofs.Holding.{held_there, ids_kept, map_same}
+use Rattle.uv_stands.proofs.Holding.{held_there, slots_set, ids_kept, map_same}
 use Rattle.uv_stands.proofs.Naming.{live_by}
-use Rattle.uv_stands.proofs.Pools.{IsAsked, asked_there, list_same, done_more, slots_asked, frame_of, change_back, pool_stands}
+use Rattle.uv_stands.proofs.Pools.{asked_there, list_same, done_more, frame_of, change_back, pool_stands}
 use Rattle.uv_stands.proofs.Without.{without_ids}
 use Rattle.uv_ops.specs.Outside.{Cancels}
 
@@ -67,12 +61,12 @@ request_by : (i : Image Place) (s : State) (v : Var) (o : Option Id) → StandsF
     → live_request s v ≡ as_request (live_id s o)
 request_by i s v o h e = ap as_request (live_by i s v o h e)
 
-refused_by : (s : State) (d : Id) (o : Option content.Content) (w : Bool) (why : Code) → list_any (same_id d) s.waiting ≡ w
-    → cancel_refusal (option_map request_of (option_map held_as o)) w ≡ Some why → cancel s (as_request (with_id d o)) ≡ refuses s why
+refused_by : (s : State) (d : Id) (o : Option Content) (w : Bool) (why : Code) → list_any (same_id d) s.waiting ≡ w
+    → cancel_refusal (option_map request_of o) w ≡ Some why → cancel s (as_request (with_id d o)) ≡ refuses s why
 refused_by s d None w why any e = let q : code.Estale ≡ why = cc e in ap (refuses s) q
-refused_by s d (Some (holds.Handle h)) w why any e = let q : code.Ekind ≡ why = cc e in ap (refuses s) q
-refused_by s d (Some (holds.Request r)) true why any e = cc
-refused_by s d (Some (holds.Request r)) false why any e =
+refused_by s d (Some (Handle h)) w why any e = let q : code.Ekind ≡ why = cc e in ap (refuses s) q
+refused_by s d (Some (Asked r)) true why any e = cc
+refused_by s d (Some (Asked r)) false why any e =
     let q : code.Ebusy ≡ why = cc e in
     let done : Done = record { state = ops.cancelled s d r; answer = answer.Cancelled d } in
     ap (λ (b : Bool). if b then done else refuses s code.Ebusy) any ∙ ap (refuses s) q
@@ -113,15 +107,9 @@ module _ (i j : Image Place) (d : Id) (u : CancelUndo) (c : IsCancelled request_
   ids = ids_kept i.arena j.arena d (Asked (cancelled c.from)) was.0 was.1 c.plain
 
   module _ (s : State) (h : StandsFor i s) where
-    abbrev asks : IsAsked s d c.from
-    asks = asked_there i s d c.from h c.was
-
-    abbrev withdrawn : queued.Request
-    withdrawn = record asks.request { outcome = outcome.Cancelled }
-
     abbrev cancelled_state : State
     cancelled_state = record s {
-      arena = record s.arena { slots = plain.with_held s.arena.slots d (holds.Request withdrawn) };
+      arena = record s.arena { slots = plain.with_held s.arena.slots d (Asked (cancelled c.from)) };
       waiting = without_id s.waiting d;
       done = with_last s.done d;
     }
@@ -131,16 +119,13 @@ module _ (i j : Image Place) (d : Id) (u : CancelUndo) (c : IsCancelled request_
     cancelled_is v bound =
         let done : Done = record { state = cancelled_state; answer = answer.Cancelled d } in
         ap (cancel s) (request_by i s v (Some d) h bound)
-        ∙ ap (λ o. cancel s (as_request (with_id d o))) asks.there
+        ∙ ap (λ o. cancel s (as_request (with_id d o))) (asked_there i s d c.from h c.was)
         ∙ ap (λ (b : Bool). if b then done else refuses s code.Ebusy) (waits_there i s d true h waited)
-
-    to : cancelled c.from ≡ request_of withdrawn
-    to = ap (λ (z : Request). cancelled z) (sym asks.same)
 
     cancelled_stands : IsFit (record i { arena = j.arena; running = j.running })
         → StandsFor (record i { arena = j.arena; running = j.running }) cancelled_state
     cancelled_stands fit = pool_stands i s h j.arena j.running
-        (record s.arena { slots = plain.with_held s.arena.slots d (holds.Request withdrawn) }) (without_id s.waiting d) s.running
+        (record s.arena { slots = plain.with_held s.arena.slots d (Asked (cancelled c.from)) }) (without_id s.waiting d) s.running
         (with_last s.done d) ids
         (λ l a b x. c.others l a b)
         (ap (λ xs. without_id xs d) (h.lists name.Waiting)
@@ -149,7 +134,7 @@ module _ (i j : Image Place) (d : Id) (u : CancelUndo) (c : IsCancelled request_
         ∙ ap (map (id_in j.arena)) (sym c.waiting))
         (done_more i s j.arena d h one ids c.done)
         (list_same i j.arena ids name.DoneYet s.done.yet (h.lists name.DoneYet) (c.others name.DoneYet (λ z. cc) (λ z. cc)))
-        (slots_asked i s j.arena d (cancelled c.from) withdrawn h c.plain to)
+        (slots_set i s j.arena d (Asked (cancelled c.from)) h c.plain)
         (ap (λ (z : work.Running). z.workers) c.running ∙ h.running)
         sound fit
 

@@ -15,8 +15,6 @@ use Rattle.uv_records.specs.Walks.{with_last}
 use Rattle.uv_arena.specs.Image as arena
 use Rattle.uv_arena.specs.Image.{IsSound, plain_slots}
 use Rattle.uv_requests.proofs.Holding.{id_is}
-use Rattle.uv_work.specs.declared.content.Content as content
-use Rattle.uv_work.specs.declared.content.Content.TheVariants as holds
 use Rattle.uv_model.specs.declared.place.Place.{Place}
 use Rattle.uv_model.specs.State.{State, live}
 use Rattle.uv_model.specs.Ops.{listed_last, with_new}
@@ -46,8 +44,8 @@ async_as kind.Async = refl
 
 module _ (r : Record Place) (h w : Held Place) (recorded : Recorded r h w) (sound : IsSound w.image.arena) (v : Var) (k : Kind) (d : Id) (u : Added)
     (is : r.change ≡ change.Added u) (c : IsMade (counted_of h.image) (counted_of w.image) v k d u) where
-  abbrev new : content.Content
-  new = holds.Handle (inited v k)
+  abbrev new : Content
+  new = Handle (inited v k)
 
   abbrev a : arena.Image Content
   a = w.image.arena
@@ -55,7 +53,7 @@ module _ (r : Record Place) (h w : Held Place) (recorded : Recorded r h w) (soun
   abbrev mid : Image Place
   mid = record h.image { arena = a; active = w.image.active }
 
-  slots : (b : Bool) → JoinsIf b c.mid a d → plain_slots a ≡ taken d (Handle (inited v k)) (plain_slots h.image.arena)
+  slots : (b : Bool) → JoinsIf b c.mid a d → plain_slots a ≡ taken d new (plain_slots h.image.arena)
   slots false e = ap plain_slots e ∙ c.added.inserted.plain
   slots true e = e.slots.plain ∙ c.added.inserted.plain
 
@@ -78,7 +76,7 @@ module _ (r : Record Place) (h w : Held Place) (recorded : Recorded r h w) (soun
     listed_stands true joins e =
         let plain = slots true e in
         let t = with_asyncs h.image s stands a d new c.added.inserted.next plain s.async.list in
-        let one = id_is a d (Handle (inited v k)) (e.slots.contents d ∙ c.added.inserted.now) in
+        let one = id_is a d new (e.slots.contents d ∙ c.added.inserted.now) in
         subst (λ (b : Bool). StandsFor mid (if b then record t { async = with_last t.async d } else t))
         (sym joins)
         (handle_stands h.image s stands a d new c.added.inserted.next plain (s.async.list ++ d ∷ []) w.image.active (others true e)

@@ -15,7 +15,6 @@ use Rattle.uv_arena.specs.Image.{IsSound, plain_slots}
 use Rattle.uv_handle.specs.Counted.{counted, IsCounted}
 use Rattle.uv_heap.specs.declared.entry.Entry.{Entry}
 use Rattle.uv_requests.specs.Working.{id_in}
-use Rattle.uv_work.specs.declared.content.Content as content
 use Rattle.uv_model.specs.declared.place.Place.{Place}
 use Rattle.uv_model.specs.Found.{found_or}
 use Rattle.uv_model.specs.State.{State, live}
@@ -24,12 +23,11 @@ use Rattle.uv_model.specs.Queries.{members}
 use Rattle.uv_work.specs.declared.content.Content.{Content}
 use Rattle.uv_work.specs.Content.{handle_of}
 use Rattle.uv_step.specs.Image.{Image}
-use Rattle.uv_stands.specs.Contents.{content_of, slots_of}
 use Rattle.uv_stands.specs.Doing.{Does}
 use Rattle.uv_stands.specs.Stands.{StandsFor, timer_in}
-use Rattle.uv_stands.proofs.Holding.{map_same, active_as}
+use Rattle.uv_stands.proofs.Holding.{map_same}
 use Rattle.uv_stands.proofs.Lists.{Listed, all_but_one}
-use Rattle.uv_ops.proofs.Taking.{next_free_as, taken_as, ids_taken}
+use Rattle.uv_ops.proofs.Taking.{ids_taken}
 
 -- ---- what is made, or not
 
@@ -44,7 +42,7 @@ module _ (i : Image Place) (v : Var) (made : State → Id → State) (free : (s 
   makes s h o e =
       ap (λ x. make s x (made s)) (not_live (live s v) (free s h))
       ∙ ap (λ x. found_or x (λ id. record { state = made s id; answer = answer.Id id }) (refuses s code.Efull))
-      (sym (next_free_as s.arena) ∙ sym (ap next_free h.slots) ∙ e)
+      (sym (ap next_free h.slots) ∙ e)
 
   -- no slot is left
   pub make_full : (j : Image Place) → j ≡ i → next_free (plain_slots i.arena) ≡ None
@@ -58,13 +56,13 @@ module _ (i : Image Place) (v : Var) (made : State → Id → State) (free : (s 
 
 -- ---- what the memory stands for
 
-module _ (i : Image Place) (s : State) (h : StandsFor i s) (k : arena.Image Content) (d : Id) (v : content.Content)
-    (next : next_free (plain_slots i.arena) ≡ Some d) (slots : plain_slots k ≡ taken d (content_of v) (plain_slots i.arena)) where
+module _ (i : Image Place) (s : State) (h : StandsFor i s) (k : arena.Image Content) (d : Id) (v : Content)
+    (next : next_free (plain_slots i.arena) ≡ Some d) (slots : plain_slots k ≡ taken d v (plain_slots i.arena)) where
   pub taken_ids : (x : ℕ) → id_in k x ≡ id_in i.arena x
-  taken_ids = ids_taken i.arena k d (content_of v) next slots
+  taken_ids = ids_taken i.arena k d v next slots
 
-  pub taken_slots : plain_slots k ≡ slots_of (taken d v s.arena)
-  taken_slots = slots ∙ ap (taken d (content_of v)) h.slots ∙ taken_as s.arena d v
+  pub taken_slots : plain_slots k ≡ taken d v s.arena
+  taken_slots = slots ∙ ap (taken d v) h.slots
 
   -- a list at whose end the new one is
   pub at_end : (l : ListName) → id_in k d.slot ≡ d → arena.members k l ≡ arena.members i.arena l ++ d.slot ∷ []
@@ -119,6 +117,6 @@ module _ (i : Image Place) (s : State) (h : StandsFor i s) (k : arena.Image Cont
         same = h.timers.same
             ∙ sym (map_same (timer_in k) (timer_in i.arena) (λ (e : Entry). ap (λ z. (e.due, z)) (taken_ids e.slot)) h.timers.entries);
       };
-      active = counts ∙ ap (λ (q : plain.Slots Content). active_count handle_of q.slots) taken_slots ∙ active_as with_asyncs.arena.slots;
+      active = counts ∙ ap (λ (q : plain.Slots Content). active_count handle_of q.slots) taken_slots;
       opened = h.opened;
     }

@@ -5,22 +5,19 @@ use Rattle.uv_ids.specs.declared.id.Var.{Var}
 use Rattle.uv_ids.specs.declared.code.Answer.TheVariants as answer
 use Rattle.uv_script.specs.declared.op.Op.TheVariants as op
 use Rattle.uv_work.specs.declared.task.Task.{Task}
-use Rattle.uv_work.specs.Tasks.{text_of}
 use Rattle.uv_records.specs.declared.lists.ListName.TheVariants as name
 use Rattle.uv_records.specs.Slots.{taken}
 use Rattle.uv_arena.specs.Image.{IsSound, plain_slots}
 use Rattle.uv_work.specs.declared.request.Request.{Request}
-use Rattle.uv_work.specs.Requests.{queued as as_queued}
 use Rattle.uv_requests.specs.declared.undo.QueueUndo.{QueueUndo}
 use Rattle.uv_requests.specs.Working.{id_in}
 use Rattle.uv_requests.specs.Calls.{IsQueued}
 use Rattle.uv_requests.proofs.Holding.{id_is, content_of}
-use Rattle.uv_work.specs.declared.content.Content as content
-use Rattle.uv_work.specs.declared.content.Content.TheVariants as holds
 use Rattle.uv_model.specs.declared.place.Place.{Place}
 use Rattle.uv_work.specs.Requests.{queued}
 use Rattle.uv_model.specs.State.{State, live}
 use Rattle.uv_model.specs.Ops.{with_queued}
+use Rattle.uv_work.specs.declared.content.Content.{Content}
 use Rattle.uv_work.specs.declared.content.Content.TheVariants.{Request as Asked}
 use Rattle.uv_step.specs.Change as change
 use Rattle.uv_step.specs.Record.{Record}
@@ -37,12 +34,12 @@ use Rattle.uv_stands.proofs.Values.{bound_stands}
 use Rattle.uv_ops.proofs.Made.{make_done, taken_ids, taken_slots, at_end}
 
 module _ (r : Record Place) (h w : Held Place) (recorded : Recorded r h w) (sound : IsSound w.image.arena) (v : Var) (task : Task) (d : Id)
-    (q : Request) (is : q ≡ as_queued v task.rounds (text_of task)) where
-  abbrev new : content.Content
-  new = holds.Request (queued v task)
+    (q : Request) (is : q ≡ queued v task) where
+  abbrev new : Content
+  new = Asked (queued v task)
 
   module _ (u : QueueUndo) (by : r.change ≡ change.Queued u) (c : IsQueued request_of Asked (working_of h.image) (working_of w.image) q d u) where
-    slots : plain_slots w.image.arena ≡ taken d (Asked (as_queued v task.rounds (text_of task))) (plain_slots h.image.arena)
+    slots : plain_slots w.image.arena ≡ taken d new (plain_slots h.image.arena)
     slots = c.plain ∙ ap (λ (z : Request). taken d (Asked z) (plain_slots h.image.arena)) is
 
     one : id_in w.image.arena d.slot ≡ d

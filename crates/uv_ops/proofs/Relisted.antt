@@ -1,11 +1,9 @@
 -- A handle gets another record, and is on other lists: what the memory stands for then.
 use Rattle.std.proofs.Common.{◌≡◌, ℕ, List, map, Some, sym, ap, ◌∙◌}
-use Rattle.std.proofs.lemmas.List.{map-set}
 use Rattle.uv_ids.specs.declared.id.Id.{Id}
 use Rattle.uv_records.specs.declared.handle.HandleRecord.{HandleRecord}
 use Rattle.uv_records.specs.declared.lists.ListName.{ListName}
 use Rattle.uv_records.specs.declared.lists.ListName.TheVariants as name
-use Rattle.uv_records.specs.declared.slot.Slot.{Slot}
 use Rattle.uv_records.specs.Slots as plain
 use Rattle.uv_records.specs.Walks.{Walk}
 use Rattle.uv_records.specs.Count.{active_count}
@@ -15,8 +13,6 @@ use Rattle.uv_handle.specs.Counted.{counted, record_at, IsCounted}
 use Rattle.uv_handle.proofs.Counts as handles
 use Rattle.uv_heap.specs.declared.entry.Entry.{Entry}
 use Rattle.uv_requests.specs.Working.{id_in}
-use Rattle.uv_work.specs.declared.content.Content as content
-use Rattle.uv_work.specs.declared.content.Content.TheVariants as holds
 use Rattle.uv_model.specs.declared.place.Place.{Place}
 use Rattle.uv_model.specs.State.{State, with_handle}
 use Rattle.uv_model.specs.Queries.{members}
@@ -24,9 +20,8 @@ use Rattle.uv_work.specs.declared.content.Content.{Content}
 use Rattle.uv_work.specs.declared.content.Content.TheVariants.{Handle}
 use Rattle.uv_work.specs.Content.{handle_of}
 use Rattle.uv_step.specs.Image.{Image}
-use Rattle.uv_stands.specs.Contents.{slot_of, slots_of}
 use Rattle.uv_stands.specs.Stands.{StandsFor, timer_in}
-use Rattle.uv_stands.proofs.Holding.{ids_kept, map_same, active_as}
+use Rattle.uv_stands.proofs.Holding.{slots_set, ids_kept, map_same}
 
 -- a list of ids is that list of the arena
 abbrev pub IsList : arena.Image Content → List Id → ListName → Type 0
@@ -44,13 +39,8 @@ module _ (i : Image Place) (s : State) (h : StandsFor i s) (k : arena.Image Cont
   pub same_ids : (x : ℕ) → id_in k x ≡ id_in i.arena x
   same_ids = let was = handles.content_of handle_of i.arena d from there in ids_kept i.arena k d (Handle to) was.0 was.1 set
 
-  slots : plain_slots k ≡ slots_of (with_handle s d to).arena
-  slots =
-      let new : Slot content.Content = record { generation = d.generation; content = Some (holds.Handle to) } in
-      set
-      ∙ ap (λ (q : plain.Slots Content). (let z : plain.Slots Content = record q { slots = plain.with_held q.slots d (Handle to) } in z)) h.slots
-      ∙ ap (λ xs. (let z : plain.Slots Content = record { slots = xs; free = s.arena.free; unused = s.arena.unused } in z))
-      (sym (map-set slot_of s.arena.slots d.slot new))
+  slots : plain_slots k ≡ (with_handle s d to).arena
+  slots = slots_set i s k d (Handle to) h set
 
   module _ (ready : List Id) (idle prepare check async closing : Walk Id) where
     abbrev pub relisted : State
@@ -104,6 +94,6 @@ module _ (i : Image Place) (s : State) (h : StandsFor i s) (k : arena.Image Cont
         same = h.timers.same
             ∙ sym (map_same (timer_in k) (timer_in i.arena) (λ (e : Entry). ap (λ z. (e.due, z)) (same_ids e.slot)) h.timers.entries);
       };
-      active = counts ∙ ap (λ (q : plain.Slots Content). active_count handle_of q.slots) slots ∙ active_as (with_handle s d to).arena.slots;
+      active = counts ∙ ap (λ (q : plain.Slots Content). active_count handle_of q.slots) slots;
       opened = h.opened;
     }

@@ -1,8 +1,6 @@
 //! Handles are made and requests queued, and names bound to them.
-ghost use Rattle.std.specs.Prelude.{◌≡◌, IfOk, IfErr};
+ghost use Rattle.std.specs.Prelude.{IfOk, IfErr};
 ghost use Rattle.uv_script.specs.declared.op.Op.TheVariants as op;
-ghost use Rattle.uv_work.specs.Tasks.{text_of};
-ghost use Rattle.uv_work.specs.Requests.{queued};
 ghost use Rattle.uv_step.specs.Image.{held};
 ghost use Rattle.uv_stands.specs.Doing.{Performs, Returns};
 ghost use Rattle.uv_ops.specs.Passed.{HasPassed};
@@ -12,10 +10,9 @@ use std::alloc::AllocError;
 use uv_arena::InsertFault;
 use uv_ids::{Answer, Code, Kind, Var};
 use uv_model::Place;
-use uv_script::Task;
 use uv_stands::{bind_name, is_live};
 use uv_step::Memory;
-use uv_work::Request;
+use uv_work::{Request, Task};
 
 /// Makes a handle, to which the name is bound (uv_timer_init and the like). Where there is no memory for its slot it makes none, and the
 /// answer isn't that there is no slot.
@@ -39,16 +36,6 @@ pub(crate) fn init(memory: &mut Memory<Place>, name: Var, kind: Kind) -> Result<
     }
 }
 
-/// The request that a slot holds for a task that a name asks for.
-fn request_of(name: Var, task: &Task) -> Request
-    ensures { result ≡ queued name task.now.rounds (text_of task.now) }
-{
-    match Request::new(name, task.rounds(), task.text()) {
-        Some(request) => request,
-        None => unreachable!(),
-    }
-}
-
 /// Asks a worker to do a task, for which the name is bound to a request (uv_queue_work). It wants memory as `init` does.
 pub(crate) fn queue(memory: &mut Memory<Place>, name: Var, task: Task) -> Result<Answer, AllocError>
     requires { HasPassed memory.old }
@@ -59,8 +46,7 @@ pub(crate) fn queue(memory: &mut Memory<Place>, name: Var, task: Task) -> Result
     if is_live(memory, name) {
         return Ok(Answer::Code(Code::Ebound));
     }
-    let request = request_of(name, &task);
-    match memory.queue(request) {
+    match memory.queue(Request::new(name, task)) {
         Err(InsertFault::Memory) => Err(AllocError),
         Err(InsertFault::Full) => Ok(Answer::Code(Code::Efull)),
         Ok(id) => {

@@ -37,7 +37,7 @@ open_is Cancelled e = cc
 
 -- an open request that ended and is open again is what it was
 reopened_same : (r : Request) (o : Outcome) → is_open r.outcome ≡ true → reopened (ended o r) ≡ r
-reopened_same r o h = λ l. record { name = r.name; rounds = r.rounds; text = r.text; outcome = sym (open_is r.outcome h) l }
+reopened_same r o h = λ l. record { name = r.name; task = r.task; outcome = sym (open_is r.outcome h) l }
 
 -- a request that is off its list, or was on none, ends
 pub record Ends {X : Type 0} (read : X → Option Request) (make : Request → X) (a k j : Image X) (d : Id) (from : Request) (o : Outcome) : Type 0 where

@@ -18,7 +18,6 @@ use Rattle.uv_step.specs.Record.{Record}
 use Rattle.uv_work.specs.Content.{request_of}
 use Rattle.uv_step.specs.Image.{Image, Held, working_of}
 use Rattle.uv_step.specs.Undo.{Recorded}
-use Rattle.uv_stands.specs.Contents.{slots_of}
 use Rattle.uv_stands.specs.Stands.{StandsFor}
 use Rattle.uv_stands.proofs.Lists.{Listed, all_but_two}
 use Rattle.uv_stands.proofs.Pools.{ids_moved}
@@ -45,7 +44,7 @@ module _ (r : Record Place) (h k : Held Place) (recorded : Recorded r h k) (soun
       listed_as i.arena j.arena t (yet_of w) (watched s w).list (arena.members i.arena (list_of w)) ids
       (sym (list_is s w) ∙ st.lists (list_of w)) (yet_now s w q) (ap (λ (x : Walk ℕ). x.yet) b.walk) in
       stands_then i j s t st (begun_keeps u r h k recorded is) (state_stays s w q) (begun_time u r h k recorded is ∙ st.time ∙ sym (time_stays s w q))
-      (b.slots.plain ∙ st.slots ∙ ap (λ a. slots_of a) (sym (arena_stays s w q)))
+      (b.slots.plain ∙ st.slots ∙ sym (arena_stays s w q))
       (all_but_two i s st j.arena t ids (list_of w) (yet_of w) b.others (others_stay s w q) here there)
       (all_timers i.arena j.arena s.timers ids) sound recorded.fit
 

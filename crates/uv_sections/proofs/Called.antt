@@ -1,5 +1,5 @@
 -- A callback begins behind a change: of what was freed, or of what moved on.
-use Rattle.std.proofs.Common.{◌≡◌, ◌≢◌, Bool, true, if◌then◌else◌, None, ◌<◌, ◌^◌, drop, Some, sym, ap, ◌∙◌, subst}
+use Rattle.std.proofs.Common.{◌≡◌, ◌≢◌, ℕ, Bool, true, if◌then◌else◌, List, Option, None, ◌<◌, ◌^◌, drop, Some, sym, ap, ◌∙◌, subst}
 use Rattle.uv_ids.specs.declared.id.Id.{Id}
 use Rattle.uv_ids.specs.declared.id.Var.{Var}
 use Rattle.uv_ids.specs.declared.seen.Seen.{Seen}
@@ -55,19 +55,12 @@ close_goes p run j k s id r gone begins =
     (b.0, rw gone.front b.1, b.2)
 
 -- that of a request that is done
-pub collect_goes : (p : Program) (run : Run) (j k : Image Place) (s : State) (id : Id) (r : Request) (v : Var) (line : Seen)
-    → RequestGone (arena_size p).last_generation j s id r → v ≡ r.name → line ≡ seen.After (digest_in r.outcome) r.name id
-    → Begins p run callback.After v j k → (t : State) × (collect_request p s run ≡ Moves t (Some line)) × StandsFor k t
-collect_goes p run j k s id r v line gone named_so told begins =
-    let b = begins _ gone.stands line in
-    let name : gone.request.name ≡ v = ap (λ (z : Request). z.name) gone.same ∙ sym named_so in
-    let lines : seen.After (digest_in gone.request.outcome) gone.request.name id ≡ line =
-    ap (λ (z : Request). seen.After (digest_in z.outcome) z.name id) gone.same ∙ sym told in
-    let freed_state : State = record s {
-      arena = freed (arena_size p).last_generation id s.arena;
-      done = record s.done { yet = drop 1 s.done.yet };
-    } in
-    (b.0, rw gone.front ((λ l. calls p freed_state run callback.After (name l) (lines l)) ∙ b.1), b.2)
+pub collect_goes : (p : Program) (run : Run) (j k : Image Place) (s : State) (id : Id) (r : Request) (digest : Option (List ℕ))
+    → RequestGone (arena_size p).last_generation j s id r → digest ≡ digest_in r.outcome → Begins p run callback.After r.name j k
+    → (t : State) × (collect_request p s run ≡ Moves t (Some (seen.After digest r.name id))) × StandsFor k t
+collect_goes p run j k s id r digest gone told begins =
+    let b = begins _ gone.stands (seen.After digest r.name id) in
+    (b.0, rw (gone.front, sym told) b.1, b.2)
 
 -- that of a watcher that moved on
 pub walk_goes : (p : Program) (run : Run) (j k : Image Place) (s : State) (w : WatcherKind) (id : Id) (r : HandleRecord) (pending : Bool)

@@ -30,7 +30,7 @@ use Rattle.uv_step.specs.Image.{Image, Held, counted_of, working_of}
 use Rattle.uv_step.specs.Undo.{Recorded}
 use Rattle.uv_stands.specs.Stands.{StandsFor}
 use Rattle.uv_stands.proofs.Lists.{list_is}
-use Rattle.uv_stands.proofs.Pools.{IsAsked, asked_there, first_one, front_there}
+use Rattle.uv_stands.proofs.Pools.{asked_there, first_one, front_there}
 use Rattle.uv_sections.specs.Gone.{RequestGone, HandleGone}
 use Rattle.uv_sections.proofs.Keeping.{ended_keeps, ended_time, closed_keeps, closed_time, sections_kept, stands_then}
 use Rattle.uv_sections.proofs.Frees.{freed_slots, freed_lists, freed_timers}
@@ -71,15 +71,13 @@ module _ (r : Record Place) (h k : Held Place) (last : ℕ) (so : h.image.arena.
 
     pub request_gone : (s : State) → StandsFor i s → IsReached s → RequestGone last j s d q
     request_gone s st reached =
-        let asks : IsAsked s d q = asked_there i s d q st c.was in
+        let asks = asked_there i s d q st c.was in
         let a = freed last d s.arena in
         let t : State = record s { arena = a; done = record s.done { yet = drop 1 s.done.yet } } in
         let no_timer : (due : Due) → IsTimer s due d → ⊥ = λ due timer.
-        (let none = sym (ap model.handle_in asks.there) ∙ timer.holds in cc) in
+        (let none = sym (ap model.handle_in asks) ∙ timer.holds in cc) in
         record {
-          request = asks.request;
-          front = ap (front_request s) (front_there i s name.DoneYet d st c.first) ∙ ap (λ o. with_id d (model.request_in o)) asks.there;
-          same = asks.same;
+          front = ap (front_request s) (front_there i s name.DoneYet d st c.first) ∙ ap (λ o. with_id d (model.request_in o)) asks;
           stands = stands_then i j s t st (ended_keeps q u r h k recorded is)
               (sections_kept s a s.idle s.prepare s.check s.async s.closing (record s.done { yet = drop 1 s.done.yet }) s.time)
               (ended_time q u r h k recorded is ∙ st.time)

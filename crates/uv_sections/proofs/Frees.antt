@@ -1,7 +1,6 @@
 -- The front of a list leaves it, and its slot is freed: what the ids, the lists and the timers are then.
 use Rattle.std.proofs.Common.{◌≡◌, ◌≢◌, ◌⊎◌, ℕ, zero, suc, ◌+◌, ◌==◌, Bool, true, false, if◌then◌else◌, eqb, List, [], ◌∷◌, map, set, slice_get, drop, None, inl, inr, refl, sym, ap, ◌∙◌, subst}
 use Rattle.std.proofs.lemmas.Bool.Decides.{eqb_tells}
-use Rattle.std.proofs.lemmas.List.{map-set}
 use Rattle.uv_ids.specs.declared.id.Id.{Id}
 use Rattle.uv_ids.specs.declared.due.Due.{Due}
 use Rattle.uv_records.specs.declared.lists.ListName.{ListName}
@@ -15,7 +14,6 @@ use Rattle.uv_arena.specs.Image.{plain_slots, held_slots, slot_at}
 use Rattle.uv_heap.specs.declared.entry.Entry.{Entry}
 use Rattle.uv_requests.specs.Working.{id_in}
 use Rattle.uv_requests.proofs.Holding.{listed_id}
-use Rattle.uv_work.specs.declared.content.Content as content
 use Rattle.uv_model.specs.declared.place.Place.{Place}
 use Rattle.uv_model.specs.State.{State}
 use Rattle.uv_model.specs.Queries.{members}
@@ -23,7 +21,6 @@ use Rattle.uv_order.specs.Active.{IsTimer, Has}
 use Rattle.uv_order.specs.Reached.{IsReached}
 use Rattle.uv_work.specs.declared.content.Content.{Content}
 use Rattle.uv_step.specs.Image.{Image}
-use Rattle.uv_stands.specs.Contents.{slot_of, slots_of}
 use Rattle.uv_stands.specs.Stands.{StandsFor, timer_in}
 use Rattle.uv_stands.proofs.Holding.{slot_or, slot_by}
 use Rattle.uv_stands.proofs.Lists.{Listed, list_is}
@@ -32,32 +29,7 @@ use Rattle.uv_sections.proofs.Keeping.{SameTimers}
 
 -- ---- slots
 
--- a slot that is freed in the state is freed in the memory
-freed_as : (last : ℕ) (d : Id) (a : plain.Slots content.Content) → freed last d (slots_of a) ≡ slots_of (freed last d a)
-freed_as last d a = at (d.generation == last) where
-  at : (b : Bool)
-      → (if b
-      then record (slots_of a) { slots = set (map slot_of a.slots) d.slot (record { generation = d.generation; content = None }) }
-      else record (slots_of a) {
-        slots = set (map slot_of a.slots) d.slot (record { generation = d.generation + 1; content = None });
-        free = d.slot ∷ a.free;
-      })
-      ≡ slots_of (if b
-      then record a { slots = set a.slots d.slot (record { generation = d.generation; content = None }) }
-      else record a {
-        slots = set a.slots d.slot (record { generation = d.generation + 1; content = None });
-        free = d.slot ∷ a.free;
-      })
-  at true =
-      let empty : Slot content.Content = record { generation = d.generation; content = None } in
-      ap (λ xs. (let z : plain.Slots Content = record { slots = xs; free = a.free; unused = a.unused } in z))
-      (sym (map-set slot_of a.slots d.slot empty))
-  at false =
-      let empty : Slot content.Content = record { generation = d.generation + 1; content = None } in
-      ap (λ xs. (let z : plain.Slots Content = record { slots = xs; free = d.slot ∷ a.free; unused = a.unused } in z))
-      (sym (map-set slot_of a.slots d.slot empty))
-
--- one slot is another one then
+-- one slot is another one where a slot is freed
 one_set : {X : Type 0} (last : ℕ) (d : Id) (a : plain.Slots X) → (t : Slot X) × ((freed last d a).slots ≡ set a.slots d.slot t)
 one_set {X} last d a = at (d.generation == last) where
   at : (b : Bool) → (t : Slot X) × ((if b
@@ -91,8 +63,8 @@ mapped_off f g n same (x ∷ xs) = at (eqb_tells x n) (mapped_off f g n same xs)
 module _ (i : Image Place) (s : State) (h : StandsFor i s) (k : arena.Image Content) (last : ℕ) (d : Id) (name : ListName)
     (first : IsFirst i.arena name d) (is : plain_slots k ≡ freed last d (plain_slots i.arena))
     (off : (l : ListName) → arena.members k l ≡ without eqb (arena.members i.arena l) d.slot) where
-  pub freed_slots : plain_slots k ≡ slots_of (freed last d s.arena)
-  freed_slots = is ∙ ap (freed last d) h.slots ∙ freed_as last d s.arena
+  pub freed_slots : plain_slots k ≡ freed last d s.arena
+  freed_slots = is ∙ ap (freed last d) h.slots
 
   freed_ids : (x : ℕ) → x ≢ d.slot → id_in k x ≡ id_in i.arena x
   freed_ids x ne =

@@ -19,7 +19,6 @@ use Rattle.uv_heap.specs.Order.{IsInOrder}
 use Rattle.uv_work.specs.declared.request.Request.{Request}
 use Rattle.uv_requests.specs.declared.undo.CollectWorkUndo.{CollectWorkUndo}
 use Rattle.uv_requests.specs.Working.{id_in}
-use Rattle.uv_work.specs.declared.content.Content as content
 use Rattle.uv_model.specs.declared.place.Place.{Place}
 use Rattle.uv_model.specs.State.{State}
 use Rattle.uv_model.specs.Queries.{members}
@@ -33,7 +32,6 @@ use Rattle.uv_step.specs.Fit.{IsFit}
 use Rattle.uv_step.specs.Image.{Image, Held}
 use Rattle.uv_step.specs.Parts.{Stood, TakenOff, PutOn, unwind_parts, woken_parts}
 use Rattle.uv_step.specs.Undo.{Recorded}
-use Rattle.uv_stands.specs.Contents.{slots_of}
 use Rattle.uv_stands.specs.Stands.{StandsFor, timer_in}
 use Rattle.uv_stands.proofs.Holding.{map_same}
 use Rattle.uv_stands.proofs.Lists.{Listed}
@@ -135,7 +133,7 @@ pub record KeepsState (s t : State) : Type 0 where
   pub idled : t.idled ≡ s.idled
 
 -- its slots, the lists that sections walk, those that close and those that are done, and its time
-pub sections_kept : (s : State) (a : plain.Slots content.Content) (idle prepare check async closing done : Walk Id) (time : ℕ)
+pub sections_kept : (s : State) (a : plain.Slots Content) (idle prepare check async closing done : Walk Id) (time : ℕ)
     → KeepsState s (record s {
       arena = a;
       idle = idle;
@@ -172,7 +170,7 @@ pub listed_as : (i k : arena.Image Content) (t : State) (l : ListName) (ids : Li
 listed_as i k t l ids ns same is there here = there ∙ is ∙ sym (map_same (id_in k) (id_in i) same ns) ∙ ap (map (id_in k)) (sym here)
 
 module _ (i j : Image Place) (s t : State) (h : StandsFor i s) (values : KeepsValues i j) (state : KeepsState s t) where
-  pub stands_then : j.times.time ≡ t.time → plain_slots j.arena ≡ slots_of t.arena → ((l : ListName) → Listed j.arena t l)
+  pub stands_then : j.times.time ≡ t.time → plain_slots j.arena ≡ t.arena → ((l : ListName) → Listed j.arena t l)
       → SameTimers i.arena j.arena s.timers → IsSound j.arena → IsFit j → StandsFor j t
   stands_then time slots lists timers sound fit =
       let running = values.workers ∙ h.running ∙ sym state.running in

@@ -1,6 +1,6 @@
 -- The front of those that a section has yet to run moves to the end of its list: what the memory stands for then.
 use Rattle.std.proofs.Common.{◌≡◌, ◌≢◌, ◌++◌, ◌∷◌, [], ℕ, Bool, true, false, map, drop, Some, None, refl, sym, ap, ◌∙◌}
-use Rattle.std.proofs.lemmas.List.{map-set, map-append}
+use Rattle.std.proofs.lemmas.List.{map-append}
 use Rattle.uv_ids.specs.declared.id.Id.{Id}
 use Rattle.uv_records.specs.declared.handle.HandleRecord.{HandleRecord}
 use Rattle.uv_records.specs.declared.lists.WatcherKind.{WatcherKind}
@@ -16,11 +16,9 @@ use Rattle.uv_arena.specs.Image.{IsSound, plain_slots}
 use Rattle.uv_handle.specs.Counted.{record_at}
 use Rattle.uv_handle.proofs.Counts as handles
 use Rattle.uv_requests.specs.Working.{id_in}
-use Rattle.uv_requests.proofs.Holding.{listed_id}
+use Rattle.uv_requests.proofs.Holding.{slots_set, listed_id}
 use Rattle.uv_watch.specs.declared.undo.WalkUndo.{WalkUndo}
 use Rattle.uv_watch.specs.Watch.{IsMovedOn, pending_of}
-use Rattle.uv_work.specs.declared.content.Content as content
-use Rattle.uv_work.specs.declared.content.Content.TheVariants as holds
 use Rattle.uv_model.specs.declared.place.Place.{Place}
 use Rattle.uv_model.specs.State.{State, front, watched, with_handle}
 use Rattle.uv_model.specs.Queries.{members}
@@ -33,9 +31,8 @@ use Rattle.uv_work.specs.Content.{handle_of}
 use Rattle.uv_step.specs.Does.{FirstIs, NoHandleFirst}
 use Rattle.uv_step.specs.Image.{Image, Held, counted_of}
 use Rattle.uv_step.specs.Undo.{Recorded}
-use Rattle.uv_stands.specs.Contents.{slot_of, slots_of}
 use Rattle.uv_stands.specs.Stands.{StandsFor}
-use Rattle.uv_stands.proofs.Holding.{ids_kept}
+use Rattle.uv_stands.proofs.Holding.{slots_set, ids_kept}
 use Rattle.uv_stands.proofs.Lists.{Listed, all_but_two, beside_lists}
 use Rattle.uv_stands.proofs.Pools.{ids_moved, front_there, first_one}
 use Rattle.uv_sections.specs.Moved.{HandleMoved, moved_state}
@@ -104,7 +101,7 @@ module _ (r : Record Place) (h k : Held Place) (recorded : Recorded r h k) (soun
           let t = front_moved s w d in
           stands_then i j s t st (walked_keeps u r h k recorded is) (state_stays s w walk)
           (walked_time u r h k recorded is ∙ st.time ∙ sym (time_stays s w walk))
-          (c.asleep off ∙ st.slots ∙ ap (λ a. slots_of a) (sym (arena_stays s w walk)))
+          (c.asleep off ∙ st.slots ∙ sym (arena_stays s w walk))
           (all_lists ids t (λ l. refl)) (all_timers i.arena j.arena s.timers ids) sound recorded.fit
 
       awake_stands : pending ≡ true → StandsFor j (with_handle (front_moved s w d) d (woken q))
@@ -118,14 +115,9 @@ module _ (r : Record Place) (h k : Held Place) (recorded : Recorded r h k) (soun
           } in x)) one in
           let was = handles.content_of handle_of i.arena d q f.handle in
           let ids = ids_kept i.arena j.arena d (Handle (woken q)) was.0 was.1 set in
-          let new : Slot content.Content = record { generation = d.generation; content = Some (holds.Handle (woken q)) } in
-          let slots : plain_slots j.arena ≡ slots_of t.arena =
-          set
-          ∙ ap (λ (z : plain.Slots Content). (let x : plain.Slots Content = record z { slots = plain.with_held z.slots d (Handle (woken q)) } in x))
-          st.slots
-          ∙ ap (λ xs. (let x : plain.Slots Content = record { slots = xs; free = s.arena.free; unused = s.arena.unused } in x))
-          (sym (map-set slot_of s.arena.slots d.slot new))
-          ∙ ap (λ (a : plain.Slots content.Content). slots_of (record a { slots = plain.with_held a.slots d (holds.Handle (woken q)) }))
+          let slots : plain_slots j.arena ≡ t.arena =
+          slots_set i s j.arena d (Handle (woken q)) st set
+          ∙ ap (λ (a : plain.Slots Content). (let x : plain.Slots Content = record a { slots = plain.with_held a.slots d (Handle (woken q)) } in x))
           (sym (arena_stays s w walk)) in
           let stays = state_stays s w walk in
           let kept : KeepsState s t = record {

@@ -8,7 +8,7 @@ use Rattle.uv_records.specs.declared.lists.WatcherKind.TheVariants as watcher
 use Rattle.uv_records.specs.Lists.{list_of, yet_of}
 use Rattle.uv_records.specs.Walks.{Walk}
 use Rattle.uv_records.specs.Slots as plain
-use Rattle.uv_work.specs.declared.content.Content as content
+use Rattle.uv_work.specs.declared.content.Content.{Content}
 use Rattle.uv_model.specs.State.{State, watched, with_watched}
 use Rattle.uv_model.specs.Queries.{members}
 use Rattle.uv_sections.proofs.Keeping.{KeepsState, sections_kept}
@@ -76,7 +76,7 @@ module _ (s : State) where
 
 -- ---- those that close, and those that are done
 
-module _ (s : State) (a : plain.Slots content.Content) (time : ℕ) (q : Walk Id) where
+module _ (s : State) (a : plain.Slots Content) (time : ℕ) (q : Walk Id) where
   pub beside_closing : (l : ListName) → l ≢ name.Closing → l ≢ name.ClosingYet
       → members (record s { arena = a; closing = q; time = time }) l ≡ members s l
   beside_closing name.Closing x y = absurd (x refl)
@@ -89,7 +89,7 @@ module _ (s : State) (a : plain.Slots content.Content) (time : ℕ) (q : Walk Id
   beside_done l x y = refl
 
 -- one that was at the front of those yet to run is gone from there
-module _ (s : State) (a : plain.Slots content.Content) (yet : List Id) where
+module _ (s : State) (a : plain.Slots Content) (yet : List Id) where
   pub beside_closing_yet : (l : ListName) → l ≢ name.ClosingYet
       → members (record s { arena = a; closing = record s.closing { yet = yet } }) l ≡ members s l
   beside_closing_yet name.ClosingYet x = absurd (x refl)

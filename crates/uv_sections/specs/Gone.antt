@@ -5,17 +5,13 @@ use Rattle.uv_records.specs.declared.handle.HandleRecord.{HandleRecord}
 use Rattle.uv_records.specs.Slots.{freed}
 use Rattle.uv_work.specs.declared.request.Request.{Request}
 use Rattle.uv_model.specs.declared.place.Place.{Place}
-use Rattle.uv_work.specs.declared.request.Request as queued
 use Rattle.uv_model.specs.State.{State, front, front_request}
 use Rattle.uv_step.specs.Image.{Image}
-use Rattle.uv_stands.specs.Contents.{request_of}
 use Rattle.uv_stands.specs.Stands.{StandsFor}
 
 -- the front of the requests that are yet to call back was this one, and is freed, for good at this generation
 pub record RequestGone (last : ℕ) (new : Image Place) (s : State) (id : Id) (r : Request) : Type 0 where
-  pub request : queued.Request
-  pub front : front_request s s.done.yet ≡ Some (id, request)
-  pub same : request_of request ≡ r
+  pub front : front_request s s.done.yet ≡ Some (id, r)
   pub stands : StandsFor new (record s { arena = freed last id s.arena; done = record s.done { yet = drop 1 s.done.yet } })
 
 -- the front of the handles that are yet to be closed was this one, and is freed, for good at this generation

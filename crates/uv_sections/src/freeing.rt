@@ -1,9 +1,6 @@
 //! Requests call back, and closing handles end: their slots are freed.
 ghost use Rattle.std.specs.Prelude.{◌≡◌, Option, Some, None, IfSome, IfNone};
-ghost use Rattle.uv_ids.specs.declared.seen.Seen.TheVariants.{After as after};
 ghost use Rattle.uv_script.specs.Program.{arena_size};
-ghost use Rattle.uv_work.specs.declared.outcome.Outcome.{Outcome};
-ghost use Rattle.uv_work.specs.Requests.{digest_in};
 ghost use Rattle.uv_model.specs.State.{State, front, front_request};
 ghost use Rattle.uv_model.specs.Next.{collect_request, close_front};
 ghost use Rattle.uv_step.specs.Fit.{IsFit};
@@ -15,32 +12,12 @@ ghost use Rattle.uv_sections.specs.Gone.{RequestGone, HandleGone};
 
 use crate::calling::begin_body;
 use crate::fronts::front_handle;
-use uv_ids::{Callback, Id, Seen, Var};
+use uv_ids::{Callback, Id, Seen};
 use uv_model::{Place, Run};
 use uv_records::{HandleRecord, ListName};
 use uv_script::Script;
 use uv_step::Memory;
-use uv_work::{Outcome, Request};
-
-/// The digest that a request was finished with; none if it was cancelled.
-fn digest_in(outcome: Outcome) -> Option<[u8; 32]>
-    ensures { result ≡ digest_in outcome }
-{
-    match outcome {
-        Outcome::Finished(digest) => Some(digest),
-        Outcome::Open | Outcome::Cancelled => None,
-    }
-}
-
-/// The name of a request that calls back, and the line of its after callback.
-fn line_after(id: Id, request: Request) -> (Var, Seen)
-    ensures name { result.0 ≡ request.name }
-    ensures line { result.1 ≡ after (digest_in request.outcome) request.name id }
-{
-    let name = request.name();
-    let digest = digest_in(request.outcome());
-    (name, Seen::After(digest, name, id))
-}
+use uv_work::Request;
 
 /// Takes the front of the requests that are yet to call back off its list, and frees its slot. None, and nothing changed, where there
 /// is none.
@@ -97,10 +74,10 @@ pub(crate) fn collect_request(memory: &mut Memory<Place>, script: &Script, run: 
 {
     match free_request(memory, script) {
         None => None,
-        Some(freed) => {
-            let (name, line) = line_after(freed.0, freed.1);
+        Some((id, request)) => {
+            let name = request.name;
             begin_body(memory, script, run, Callback::After, name);
-            Some(line)
+            Some(Seen::After(request.digest(), name, id))
         }
     }
 }

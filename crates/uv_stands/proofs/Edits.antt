@@ -1,11 +1,9 @@
 -- A handle gets another record: what the memory stands for then.
 use Rattle.std.proofs.Common.{◌≡◌, ℕ, map, Some, refl, sym, ap, ◌∙◌}
-use Rattle.std.proofs.lemmas.List.{map-set}
 use Rattle.uv_ids.specs.declared.id.Id.{Id}
 use Rattle.uv_records.specs.declared.handle.HandleRecord.{HandleRecord}
 use Rattle.uv_records.specs.declared.lists.ListName.{ListName}
 use Rattle.uv_records.specs.declared.lists.ListName.TheVariants as name
-use Rattle.uv_records.specs.declared.slot.Slot.{Slot}
 use Rattle.uv_records.specs.Slots as plain
 use Rattle.uv_records.specs.Count.{active_count}
 use Rattle.uv_arena.specs.Image as arena
@@ -16,8 +14,6 @@ use Rattle.uv_handle.specs.Changes.{IsChanged}
 use Rattle.uv_handle.proofs.Counts as handles
 use Rattle.uv_heap.specs.declared.entry.Entry.{Entry}
 use Rattle.uv_requests.specs.Working.{id_in}
-use Rattle.uv_work.specs.declared.content.Content as content
-use Rattle.uv_work.specs.declared.content.Content.TheVariants as holds
 use Rattle.uv_model.specs.declared.place.Place.{Place}
 use Rattle.uv_model.specs.State.{State, with_handle}
 use Rattle.uv_model.specs.Queries.{members}
@@ -30,9 +26,8 @@ use Rattle.uv_work.specs.Content.{handle_of}
 use Rattle.uv_step.specs.Does.{changed}
 use Rattle.uv_step.specs.Parts.{unwind}
 use Rattle.uv_step.specs.Image.{Image, counted_of}
-use Rattle.uv_stands.specs.Contents.{slot_of, slots_of}
 use Rattle.uv_stands.specs.Stands.{StandsFor, timer_in}
-use Rattle.uv_stands.proofs.Holding.{ids_kept, map_same, active_as}
+use Rattle.uv_stands.proofs.Holding.{slots_set, ids_kept, map_same}
 
 -- ---- a handle gets another record
 
@@ -60,12 +55,7 @@ pub changed_stands : (i : Image Place) (s : State) (k : arena.Image Content) (m 
 changed_stands i s k m d from to u h sound there c =
     let was = handles.content_of handle_of i.arena d from there in
     let ids = ids_kept i.arena k d (Handle to) was.0 was.1 c.set.plain in
-    let new : Slot content.Content = record { generation = d.generation; content = Some (holds.Handle to) } in
-    let slots : plain_slots k ≡ slots_of (with_handle s d to).arena =
-    c.set.plain
-    ∙ ap (λ (q : plain.Slots Content). (let z : plain.Slots Content = record q { slots = plain.with_held q.slots d (Handle to) } in z)) h.slots
-    ∙ ap (λ xs. (let z : plain.Slots Content = record { slots = xs; free = s.arena.free; unused = s.arena.unused } in z))
-    (sym (map-set slot_of s.arena.slots d.slot new)) in
+    let slots = slots_set i s k d (Handle to) h c.set.plain in
     record {
       place = h.place;
       names = h.names;
@@ -87,7 +77,7 @@ changed_stands i s k m d from to u h sound there c =
         same = h.timers.same
             ∙ sym (map_same (timer_in k) (timer_in i.arena) (λ (e : Entry). ap (λ z. (e.due, z)) (ids e.slot)) h.timers.entries);
       };
-      active = c.counts ∙ ap (λ (q : plain.Slots Content). active_count handle_of q.slots) slots ∙ active_as (with_handle s d to).arena.slots;
+      active = c.counts ∙ ap (λ (q : plain.Slots Content). active_count handle_of q.slots) slots;
       opened = h.opened;
     }
 

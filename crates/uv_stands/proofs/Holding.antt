@@ -1,63 +1,45 @@
 -- What the memory holds is what the state holds, and ids stay where another content is set.
-use Rattle.std.proofs.Common.{◌≡◌, ◌+◌, ℕ, zero, suc, Bool, true, false, if◌then◌else◌, List, [], ◌∷◌, map, set, slice_get, Option, Some, None, option_map, option_and_then, refl, sym, ap, ◌∙◌}
-use Rattle.std.proofs.lemmas.Option.{slice_get-map}
+use Rattle.std.proofs.Common.{◌≡◌, ℕ, zero, suc, List, [], ◌∷◌, map, set, slice_get, Option, Some, None, option_and_then, refl, sym, ap, ◌∙◌}
 use Rattle.uv_ids.specs.declared.id.Id.{Id}
 use Rattle.uv_ids.specs.declared.id.Var.{Var}
 use Rattle.uv_records.specs.declared.slot.Slot.{Slot}
 use Rattle.uv_records.specs.Slots as plain
-use Rattle.uv_records.specs.Count.{active_count, content_keeps, one_if}
 use Rattle.uv_arena.specs.declared.links.Cell.{Cell}
 use Rattle.uv_arena.specs.Image as arena
 use Rattle.uv_arena.specs.Image.{plain_slots, held_slots, slot_at, slot_in}
 use Rattle.uv_arena.proofs.Memories.{get-slots}
 use Rattle.uv_arena.proofs.Lookups.{held_tells}
+use Rattle.uv_handle.specs.Counted.{record_at}
+use Rattle.uv_work.specs.Content.{handle_of}
 use Rattle.uv_requests.specs.Working.{id_in}
-use Rattle.uv_work.specs.declared.content.Content as content
-use Rattle.uv_work.specs.declared.content.Content.TheVariants as holds
 use Rattle.uv_model.specs.declared.place.Place.{Place}
 use Rattle.uv_model.specs.State as state
-use Rattle.uv_model.specs.State.{State}
+use Rattle.uv_model.specs.State.{State, handle}
 use Rattle.uv_work.specs.declared.content.Content.{Content}
-use Rattle.uv_work.specs.Content.{handle_of}
 use Rattle.uv_records.specs.Names.{named}
 use Rattle.uv_step.specs.Image.{Image}
-use Rattle.uv_work.specs.Content.{handle_of}
-use Rattle.uv_stands.specs.Contents.{content_of, slot_of}
 use Rattle.uv_stands.specs.Stands.{StandsFor}
 
 -- ---- what is held
 
-held_slot : (d : Id) (b : Bool) (o : Option content.Content)
-    → (if b then option_map content_of o else None) ≡ option_map content_of (if b then o else None)
-held_slot d true o = refl
-held_slot d false o = refl
-
-held_in_slot : (d : Id) (o : Option (Slot content.Content))
-    → option_and_then (plain.held_in d) (option_map slot_of o) ≡ option_map content_of (option_and_then (plain.held_in d) o)
-held_in_slot d None = refl
-held_in_slot d (Some t) = held_slot d _ t.content
-
 -- what is held under an id in the memory is what the state holds there
-pub held_as : (ss : List (Slot content.Content)) (d : Id) → plain.held (map slot_of ss) d ≡ option_map content_of (plain.held ss d)
-held_as ss d = ap (option_and_then (plain.held_in d)) (slice_get-map slot_of ss d.slot) ∙ held_in_slot d (slice_get ss d.slot)
+pub held_there : (i : Image Place) (s : State) (d : Id) → StandsFor i s → arena.held i.arena d ≡ plain.held s.arena.slots d
+held_there i s d h = ap (λ (q : plain.Slots Content). plain.held q.slots d) h.slots
 
-pub held_there : (i : Image Place) (s : State) (d : Id) → StandsFor i s → arena.held i.arena d ≡ option_map content_of (plain.held s.arena.slots d)
-held_there i s d h = ap (λ (q : plain.Slots Content). plain.held q.slots d) h.slots ∙ held_as s.arena.slots d
+-- the handle of an id is the state's
+pub state_handle : (i : Image Place) (s : State) (d : Id) → StandsFor i s → handle s d ≡ record_at handle_of i.arena d
+state_handle i s d h = ap (option_and_then handle_of) (sym (held_there i s d h))
+
+-- a slot holds something else, in the memory and in the state
+pub slots_set : (i : Image Place) (s : State) (k : arena.Image Content) (d : Id) (v : Content) → StandsFor i s
+    → plain_slots k ≡ record (plain_slots i.arena) { slots = plain.with_held (plain_slots i.arena).slots d v }
+    → plain_slots k ≡ record s.arena { slots = plain.with_held s.arena.slots d v }
+slots_set i s k d v h set =
+    set ∙ ap (λ (q : plain.Slots Content). (let z : plain.Slots Content = record q { slots = plain.with_held q.slots d v } in z)) h.slots
 
 -- what a name is bound to
 pub bound_there : (i : Image Place) (s : State) (v : Var) → StandsFor i s → (named i.names v.0).id ≡ (state.named s v).id
 bound_there i s v h = ap (λ ns. (named ns v.0).id) h.names
-
--- ---- the count
-
-keeps_as : (o : Option content.Content) → content_keeps handle_of (option_map content_of o) ≡ content_keeps handle_of o
-keeps_as None = refl
-keeps_as (Some (holds.Handle h)) = refl
-keeps_as (Some (holds.Request r)) = refl
-
-pub active_as : (ss : List (Slot content.Content)) → active_count handle_of (map slot_of ss) ≡ active_count handle_of ss
-active_as [] = refl
-active_as (s ∷ ss) = let here = keeps_as s.content in let rest = active_as ss in λ l. one_if (here l) + rest l
 
 -- ---- ids
 

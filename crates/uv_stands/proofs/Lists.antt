@@ -10,7 +10,6 @@ use Rattle.uv_records.specs.Slots as plain
 use Rattle.uv_arena.specs.Image as arena
 use Rattle.uv_arena.proofs.Names.{number_apart}
 use Rattle.uv_requests.specs.Working.{id_in}
-use Rattle.uv_work.specs.declared.content.Content as content
 use Rattle.uv_records.specs.declared.named.Named.{Named}
 use Rattle.uv_model.specs.declared.place.Place.{Place}
 use Rattle.uv_model.specs.State.{State}
@@ -21,7 +20,7 @@ use Rattle.uv_stands.specs.Stands.{StandsFor}
 use Rattle.uv_stands.proofs.Holding.{map_same}
 
 -- what is no list leaves the lists
-pub beside_lists : (s : State) (place : Place) (names : List Named) (a : plain.Slots content.Content) (timers : List (Due × Id))
+pub beside_lists : (s : State) (place : Place) (names : List Named) (a : plain.Slots Content) (timers : List (Due × Id))
     (running : List (Option Id)) (time clock next : ℕ) (stop idled : Bool) (l : ListName)
     → members (record s {
       place = place;

@@ -1,5 +1,5 @@
 -- What a name is bound to and how often it was called, in the memory and in the state.
-use Rattle.std.proofs.Common.{◌≡◌, false, Option, Some, None, Ok, Err, is_some, option_map, option_and_then, refl, sym, ap, ◌∙◌}
+use Rattle.std.proofs.Common.{◌≡◌, false, Option, Some, None, Ok, Err, is_some, option_map, refl, sym, ap, ◌∙◌}
 use Rattle.uv_ids.specs.declared.id.Id.{Id}
 use Rattle.uv_ids.specs.declared.id.Var.{Var}
 use Rattle.uv_ids.specs.declared.code.Code.{Code}
@@ -8,16 +8,15 @@ use Rattle.uv_records.specs.declared.handle.HandleRecord.{HandleRecord}
 use Rattle.uv_records.specs.Slots as plain
 use Rattle.uv_records.specs.Refusals.{refusal}
 use Rattle.uv_arena.specs.Image as arena
+use Rattle.uv_arena.proofs.Contents.{content_is}
 use Rattle.uv_handle.specs.Counted.{found, record_at}
-use Rattle.uv_work.specs.declared.content.Content as content
 use Rattle.uv_work.specs.declared.content.Content.TheVariants as holds
 use Rattle.uv_model.specs.declared.place.Place.{Place}
 use Rattle.uv_model.specs.State.{State, with_id, as_handle, live, live_handle, live_id}
 use Rattle.uv_work.specs.declared.content.Content.{Content}
-use Rattle.uv_work.specs.Content.{handle_of}
+use Rattle.uv_work.specs.Content.{handle_of, only_handle}
 use Rattle.uv_records.specs.Names.{named}
 use Rattle.uv_step.specs.Image.{Image}
-use Rattle.uv_stands.specs.Contents.{content_of}
 use Rattle.uv_stands.specs.Stands.{StandsFor}
 use Rattle.uv_stands.proofs.Holding.{held_there, bound_there}
 
@@ -26,23 +25,16 @@ use Rattle.uv_stands.proofs.Holding.{held_there, bound_there}
 pub live_by : (i : Image Place) (s : State) (v : Var) (o : Option Id) → StandsFor i s → o ≡ (named i.names v.0).id → live s v ≡ live_id s o
 live_by i s v o h e = ap (λ (z : Option Id). live_id s z) (sym (e ∙ bound_there i s v h))
 
-refused_as : (d : Id) (o : Option content.Content) (c : Code)
-    → ((why : HandleRecord → Option Code) → refusal why (option_map handle_of (option_map content_of o)) ≡ Some c) → as_handle (with_id d o) ≡ Err c
+refused_as : (d : Id) (o : Option Content) (c : Code)
+    → ((why : HandleRecord → Option Code) → refusal why (option_map handle_of o) ≡ Some c) → as_handle (with_id d o) ≡ Err c
 refused_as d None c e = let q : code.Estale ≡ c = cc (e (λ h. None)) in ap Err q
 refused_as d (Some (holds.Request r)) c e = let q : code.Ekind ≡ c = cc (e (λ h. None)) in ap Err q
 refused_as d (Some (holds.Handle h)) c e = let q = e (λ h. None) in cc
 
--- what an id stands for, if it is a handle
-pub handle_there : (o : Option content.Content) (h : HandleRecord) → option_and_then handle_of (option_map content_of o) ≡ Some h
-    → o ≡ Some (holds.Handle h)
-handle_there None h e = cc
-handle_there (Some (holds.Request r)) h e = cc
-handle_there (Some (holds.Handle g)) h e = let q : g ≡ h = cc e in ap (λ z. Some (holds.Handle z)) q
-
 -- the handle that is held under an id is the state's
 pub record_there : (i : Image Place) (s : State) (d : Id) (h : HandleRecord) → StandsFor i s → record_at handle_of i.arena d ≡ Some h
     → plain.held s.arena.slots d ≡ Some (holds.Handle h)
-record_there i s d h st e = handle_there (plain.held s.arena.slots d) h (ap (option_and_then handle_of) (sym (held_there i s d st)) ∙ e)
+record_there i s d h st e = sym (held_there i s d st) ∙ content_is handle_of holds.Handle only_handle i.arena d h e
 
 module _ (i : Image Place) (s : State) (v : Var) (h : StandsFor i s) where
   pub unbound_handle : None ≡ (named i.names v.0).id → live_handle s v ≡ Err code.Estale
@@ -61,13 +53,13 @@ module _ (i : Image Place) (s : State) (v : Var) (h : StandsFor i s) where
       ap as_handle (live_by i s v (Some d) h e) ∙ ap (λ o. as_handle (with_id d o)) (record_there i s d r h there)
 
   pub unbound_live : None ≡ (named i.names v.0).id → is_some (live s v) ≡ false
-  unbound_live e = ap (λ (o : Option (Id × content.Content)). is_some o) (live_by i s v None h e)
+  unbound_live e = ap (λ (o : Option (Id × Content)). is_some o) (live_by i s v None h e)
 
   pub bound_live : (d : Id) → Some d ≡ (named i.names v.0).id → is_some (live s v) ≡ is_some (arena.held i.arena d)
   bound_live d e =
-      ap (λ (o : Option (Id × content.Content)). is_some o) (live_by i s v (Some d) h e)
+      ap (λ (o : Option (Id × Content)). is_some o) (live_by i s v (Some d) h e)
       ∙ with_some d (plain.held s.arena.slots d)
       ∙ ap (λ (o : Option Content). is_some o) (sym (held_there i s d h)) where
-        with_some : (d : Id) (o : Option content.Content) → is_some (with_id d o) ≡ is_some (option_map content_of o)
+        with_some : (d : Id) (o : Option Content) → is_some (with_id d o) ≡ is_some o
         with_some d None = refl
         with_some d (Some c) = refl

@@ -1,6 +1,6 @@
 -- Requests change, and nothing else does: what the memory stands for then.
-use Rattle.std.proofs.Common.{◌≡◌, ◌≢◌, ℕ, ◌+◌, ◌++◌, List, [], ◌∷◌, map, set, slice_get, length, length-append, Option, Some, None, option_map, option_and_then, refl, sym, ap, ◌∙◌, arith}
-use Rattle.std.proofs.lemmas.List.{length-map, map-set, map-append}
+use Rattle.std.proofs.Common.{◌≡◌, ◌≢◌, ℕ, ◌+◌, ◌++◌, List, [], ◌∷◌, map, slice_get, length, length-append, Option, Some, sym, ap, ◌∙◌, arith}
+use Rattle.std.proofs.lemmas.List.{length-map, map-append}
 use Rattle.uv_ids.specs.declared.id.Id.{Id}
 use Rattle.uv_records.specs.declared.lists.ListName.{ListName}
 use Rattle.uv_records.specs.declared.lists.ListName.TheVariants as name
@@ -17,9 +17,7 @@ use Rattle.uv_work.specs.declared.request.Request.{Request}
 use Rattle.uv_requests.specs.Working as work
 use Rattle.uv_requests.specs.Working.{Running, id_in, done_in}
 use Rattle.uv_requests.proofs.Holding.{listed_id}
-use Rattle.uv_work.specs.declared.content.Content as content
-use Rattle.uv_work.specs.declared.content.Content.TheVariants as holds
-use Rattle.uv_work.specs.declared.request.Request as queued
+use Rattle.uv_arena.proofs.Contents.{content_is}
 use Rattle.uv_model.specs.declared.place.Place.{Place}
 use Rattle.uv_model.specs.State.{State}
 use Rattle.uv_model.specs.Queries.{members}
@@ -27,17 +25,15 @@ use Rattle.uv_work.specs.declared.content.Content.{Content}
 use Rattle.uv_work.specs.declared.content.Content.TheVariants.{Request as Asked}
 use Rattle.uv_step.specs.Change.{Change}
 use Rattle.uv_step.specs.Record.{Record}
-use Rattle.uv_work.specs.Content.{handle_of, request_of}
+use Rattle.uv_work.specs.Content.{handle_of, request_of, only_request}
 use Rattle.uv_step.specs.Does.{changed}
 use Rattle.uv_step.specs.Fit.{IsFit}
 use Rattle.uv_step.specs.Image.{Image, Held}
 use Rattle.uv_step.specs.Parts.{unwind}
 use Rattle.uv_step.specs.Undo.{Recorded}
-use Rattle.uv_work.specs.Content.{handle_of}
 use Rattle.uv_model.specs.Layout.{open_requests}
-use Rattle.uv_stands.specs.Contents.{content_of, request_of, slot_of, slots_of}
 use Rattle.uv_stands.specs.Stands.{StandsFor, timer_in}
-use Rattle.uv_stands.proofs.Holding.{held_there, active_as, slot_or, slot_by, map_same}
+use Rattle.uv_stands.proofs.Holding.{held_there, slot_or, slot_by, map_same}
 
 -- ---- what the memory alone says of the counts
 
@@ -57,9 +53,9 @@ opened_fit i t fit runs lists =
     ≡ length (map (id_in i.arena) waits) + busy i.running.workers + length (map (done_in request_of i.arena) (yet ++ done)) = fit.work.count in
     omega (arith, count, a, b, c, d, e)
 
-pub active_fit : (i : Image Place) (t : State) → IsFit i → plain_slots i.arena ≡ slots_of t.arena → i.active ≡ active_count handle_of t.arena.slots
+pub active_fit : (i : Image Place) (t : State) → IsFit i → plain_slots i.arena ≡ t.arena → i.active ≡ active_count handle_of t.arena.slots
 active_fit i t fit slots =
-    fit.counts ∙ ap (λ (q : plain.Slots Content). active_count handle_of q.slots) slots ∙ active_as t.arena.slots
+    fit.counts ∙ ap (λ (q : plain.Slots Content). active_count handle_of q.slots) slots
 
 -- ---- what is in the memory, as the state has it
 
@@ -73,22 +69,9 @@ ids_moved i k same x =
     λ l. record { slot = x; generation = here l }
 
 -- a request is the state's
-pub record IsAsked (s : State) (d : Id) (r : Request) : Type 0 where
-  pub request : queued.Request
-  pub there : plain.held s.arena.slots d ≡ Some (holds.Request request)
-  pub same : request_of request ≡ r
-
-asked_in : (o : Option content.Content) (r : Request) → option_and_then request_of (option_map content_of o) ≡ Some r
-    → (x : queued.Request) × (o ≡ Some (holds.Request x)) × (request_of x ≡ r)
-asked_in None r e = cc
-asked_in (Some (holds.Handle h)) r e = cc
-asked_in (Some (holds.Request x)) r e = let q : request_of x ≡ r = cc e in (x, refl, q)
-
 pub asked_there : (i : Image Place) (s : State) (d : Id) (r : Request) → StandsFor i s → work.request_in request_of i.arena d ≡ Some r
-    → IsAsked s d r
-asked_there i s d r h e =
-    let t = asked_in (plain.held s.arena.slots d) r (ap (option_and_then request_of) (sym (held_there i s d h)) ∙ e) in
-    record { request = t.0; there = t.1; same = t.2 }
+    → plain.held s.arena.slots d ≡ Some (Asked r)
+asked_there i s d r h e = sym (held_there i s d h) ∙ content_is request_of Asked only_request i.arena d r e
 
 -- the first of a list is the state's
 pub front_there : (i : Image Place) (s : State) (l : ListName) (d : Id) → StandsFor i s → (f : IsFirst i.arena l d)
@@ -123,22 +106,6 @@ done_more i s k d h one ids more =
     ∙ sym (map_same (id_in k) (id_in i.arena) ids (done ++ d.slot ∷ []))
     ∙ ap (map (id_in k)) (sym more)
 
--- a request is another one, in the memory and in the state
-pub slots_asked : (i : Image Place) (s : State) (k : arena.Image Content) (d : Id) (to : Request) (r : queued.Request) → StandsFor i s
-    → plain_slots k ≡ record (plain_slots i.arena) { slots = plain.with_held (plain_slots i.arena).slots d (Asked to) } → to ≡ request_of r
-    → plain_slots k ≡ slots_of (record s.arena { slots = plain.with_held s.arena.slots d (holds.Request r) })
-slots_asked i s k d to r h set is =
-    let new : Slot content.Content = record { generation = d.generation; content = Some (holds.Request r) } in
-    set
-    ∙ ap (λ (q : Request). (let z : plain.Slots Content = record (plain_slots i.arena) {
-      slots = plain.with_held (plain_slots i.arena).slots d (Asked q);
-    } in z)) is
-    ∙ ap (λ (q : plain.Slots Content). (let z : plain.Slots Content = record q {
-      slots = plain.with_held q.slots d (Asked (request_of r));
-    } in z)) h.slots
-    ∙ ap (λ xs. (let z : plain.Slots Content = record { slots = xs; free = s.arena.free; unused = s.arena.unused } in z))
-    (sym (map-set slot_of s.arena.slots d.slot new))
-
 -- ---- the memory after a change of requests
 
 -- only the arena and what the workers run differ
@@ -163,7 +130,7 @@ change_back r c h k recorded is =
     let same : r ≡ changed r.place c = λ l. record { place = r.place; naming = recorded.unnamed l; change = is l } in
     ap (λ (q : Record Place). unwind q k.image) (sym same) ∙ recorded.back
 
-module _ (i : Image Place) (s : State) (h : StandsFor i s) (k : arena.Image Content) (n : Running) (a : plain.Slots content.Content) (w : List Id)
+module _ (i : Image Place) (s : State) (h : StandsFor i s) (k : arena.Image Content) (n : Running) (a : plain.Slots Content) (w : List Id)
     (r : List (Option Id)) (q : Walk Id) (ids : (x : ℕ) → id_in k x ≡ id_in i.arena x)
     (others : (l : ListName) → l ≢ name.Waiting → l ≢ name.Done → l ≢ name.DoneYet → arena.members k l ≡ arena.members i.arena l)
     (waits : w ≡ map (id_in k) (arena.members k name.Waiting)) (done : q.list ≡ map (id_in k) (arena.members k name.Done))
@@ -194,7 +161,7 @@ module _ (i : Image Place) (s : State) (h : StandsFor i s) (k : arena.Image Cont
   lists name.Done = done
   lists name.DoneYet = yet
 
-  pub pool_stands : plain_slots k ≡ slots_of a → n.workers ≡ r → IsSound k → IsFit j → StandsFor j t
+  pub pool_stands : plain_slots k ≡ a → n.workers ≡ r → IsSound k → IsFit j → StandsFor j t
   pool_stands slots running sound fit = record {
     place = h.place;
     names = h.names;

@@ -1,5 +1,5 @@
 -- All slots in turn, in the memory and in the state.
-use Rattle.std.proofs.Common.{◌≡◌, ℕ, zero, suc, ◌+◌, ◌<◌, ◌||◌, Bool, true, false, List, [], ◌∷◌, map, drop, length, slice_get, Option, Some, None, is_some, option_map, refl, sym, ap, ◌∙◌, arith}
+use Rattle.std.proofs.Common.{◌≡◌, ℕ, zero, suc, ◌+◌, ◌<◌, ◌||◌, Bool, true, false, List, [], ◌∷◌, map, drop, length, slice_get, Option, Some, None, is_some, refl, sym, ap, ◌∙◌, arith}
 use Rattle.std.specs.List.{list_any}
 use Rattle.uv_records.specs.declared.slot.Slot.{Slot}
 use Rattle.uv_arena.specs.declared.links.Cell.{Cell}
@@ -7,13 +7,10 @@ use Rattle.uv_arena.specs.Image.{Memory}
 use Rattle.uv_arena.specs.Image.{held_slots, slot_at, slot_in}
 use Rattle.uv_work.specs.declared.content.Content.{Content}
 use Rattle.uv_records.specs.Slots as plain
-use Rattle.uv_work.specs.declared.content.Content as content
 use Rattle.uv_model.specs.declared.place.Place.{Place}
-use Rattle.uv_model.specs.Content.{is_used}
 use Rattle.uv_model.specs.Ops.{is_in_use}
 use Rattle.uv_model.specs.State.{State}
 use Rattle.uv_step.specs.Image.{Image}
-use Rattle.uv_stands.specs.Contents.{content_of, slot_of}
 use Rattle.uv_stands.specs.Stands.{StandsFor}
 
 any_drop : {X Y : Type 0} (f : X → Y) (none : Y) (P : Y → Bool) (g : Option X → Y) → ((x : X) → g (Some x) ≡ f x) → (xs : List X) (k : ℕ)
@@ -49,16 +46,7 @@ module _ (m : Memory Content) (k : ℕ) (within : k < length m.row.items)
 
 -- ---- what the state says
 
-used_as : (o : Option content.Content) → is_some (option_map content_of o) ≡ is_used o
-used_as None = refl
-used_as (Some c) = refl
-
-slots_as : (ss : List (Slot content.Content))
-    → list_any (λ (slot : Slot Content). is_some slot.content) (map slot_of ss) ≡ list_any (λ (slot : Slot content.Content). is_used slot.content) ss
-slots_as [] = refl
-slots_as (s ∷ ss) = let here = used_as s.content in let rest = slots_as ss in λ l. here l || rest l
-
 pub used_there : (i : Image Place) (s : State) (b : Bool) → StandsFor i s
     → b ≡ list_any (λ (slot : Slot Content). is_some slot.content) (held_slots i.arena.memory) → is_in_use s ≡ b
 used_there i s b h is =
-    sym (is ∙ ap (λ (z : plain.Slots Content). list_any (λ (slot : Slot Content). is_some slot.content) z.slots) h.slots ∙ slots_as s.arena.slots)
+    sym (is ∙ ap (λ (z : plain.Slots Content). list_any (λ (slot : Slot Content). is_some slot.content) z.slots) h.slots)

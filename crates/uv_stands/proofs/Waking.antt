@@ -18,7 +18,6 @@ use Rattle.uv_arena.proofs.Lists.{apart_across}
 use Rattle.uv_handle.specs.Counted.{record_at}
 use Rattle.uv_requests.specs.Working.{id_in}
 use Rattle.uv_requests.proofs.Holding.{list_apart, listed_id}
-use Rattle.uv_work.specs.declared.content.Content as model
 use Rattle.uv_work.specs.declared.content.Content.TheVariants as holds
 use Rattle.uv_model.specs.declared.place.Place.{Place}
 use Rattle.uv_model.specs.Content.{content_pends, handle_in}
@@ -29,9 +28,8 @@ use Rattle.uv_order.specs.Active.{has_id}
 use Rattle.uv_order.specs.Reached.{IsReached}
 use Rattle.uv_order.proofs.IdLists.{same}
 use Rattle.uv_work.specs.declared.content.Content.{Content}
-use Rattle.uv_work.specs.Content as memory
+use Rattle.uv_work.specs.Content.{handle_of}
 use Rattle.uv_step.specs.Image.{Image}
-use Rattle.uv_stands.specs.Contents.{content_of}
 use Rattle.uv_stands.specs.Pending.{pends_in, pends_at}
 use Rattle.uv_stands.specs.Stands.{StandsFor}
 use Rattle.uv_stands.proofs.Holding.{held_there}
@@ -64,11 +62,11 @@ module _ (i : Image Place) (s : State) (h : StandsFor i s) where
   -- a handle that pends, as the memory says
   pends_here : (d : Id) (x : HandleRecord) → plain.held s.arena.slots d ≡ Some (holds.Handle x) → x.pending ≡ true → pends_at i.arena d ≡ true
   pends_here d x e on =
-      ap (λ o. pends_in (option_and_then memory.handle_in o)) (held_there i s d h ∙ ap (option_map content_of) e) ∙ on
+      ap (λ o. pends_in (option_and_then handle_of o)) (held_there i s d h ∙ e) ∙ on
 
   held_pending : (d : Id) → pends_at i.arena d ≡ true → list_any (λ slot. content_pends slot.content) s.arena.slots ≡ true
-  held_pending d on = at (record_at memory.handle_in i.arena d) refl on where
-    at : (o : Option HandleRecord) → record_at memory.handle_in i.arena d ≡ o → pends_in o ≡ true
+  held_pending d on = at (record_at handle_of i.arena d) refl on where
+    at : (o : Option HandleRecord) → record_at handle_of i.arena d ≡ o → pends_in o ≡ true
         → list_any (λ slot. content_pends slot.content) s.arena.slots ≡ true
     at None e f = cc f
     at (Some x) e f = any_held content_pends s.arena.slots d (holds.Handle x) (record_there i s d x h e) f
@@ -79,7 +77,7 @@ module _ (i : Image Place) (s : State) (h : StandsFor i s) where
 
     listed_pending : list_any (λ slot. content_pends slot.content) s.arena.slots ≡ true → list_any (pends_at i.arena) wakers ≡ true
     listed_pending e = let w = somewhere content_pends s.arena.slots e in at w w.content w.held w.fits where
-      at : (w : Somewhere content_pends s.arena.slots) (o : Option model.Content) → plain.held s.arena.slots w.id ≡ o → content_pends o ≡ true
+      at : (w : Somewhere content_pends s.arena.slots) (o : Option Content) → plain.held s.arena.slots w.id ≡ o → content_pends o ≡ true
           → list_any (pends_at i.arena) wakers ≡ true
       at w None e f = cc f
       at w (Some (holds.Request x)) e f = cc f

@@ -1,4 +1,3 @@
-pub mod Contents
 pub mod Stands
 pub mod Pending
 pub mod Ready

@@ -17,7 +17,6 @@ use Rattle.uv_model.specs.State.{State}
 use Rattle.uv_model.specs.Queries.{members}
 use Rattle.uv_work.specs.declared.content.Content.{Content}
 use Rattle.uv_step.specs.Image.{Image}
-use Rattle.uv_stands.specs.Contents.{slots_of}
 
 -- when the timer of an entry is due, and its id
 abbrev pub timer_in : arena.Image Content → Entry → Due × Id
@@ -39,7 +38,7 @@ pub record StandsFor (i : Image Place) (s : State) : Type 0 where
   pub stop_flag : i.stop_flag ≡ s.stop_flag
   pub idled : i.idled ≡ s.idled
   -- so are the slots, with the free list walked from its head, and what each worker runs
-  pub slots : plain_slots i.arena ≡ slots_of s.arena
+  pub slots : plain_slots i.arena ≡ s.arena
   pub running : i.running.workers ≡ s.running
   -- each list, walked from its head, is the state's list of that name
   pub lists : (l : ListName) → members s l ≡ map (id_in i.arena) (arena.members i.arena l)

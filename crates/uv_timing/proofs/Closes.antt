@@ -32,11 +32,11 @@ use Rattle.uv_step.specs.Image.{Image, Held, timed_of}
 use Rattle.uv_step.specs.Undo.{Recorded}
 use Rattle.uv_stands.specs.Doing.{Does}
 use Rattle.uv_stands.specs.Stands.{StandsFor}
-use Rattle.uv_stands.proofs.Holding.{map_same}
+use Rattle.uv_stands.proofs.Holding.{slots_set, map_same}
 use Rattle.uv_stands.proofs.Lists.{Listed, list_is}
 use Rattle.uv_stands.proofs.Pools.{ids_moved}
 use Rattle.uv_stands.proofs.Absent.{own_id}
-use Rattle.uv_timing.proofs.Retimed.{retimed, moved_frame, OnlyTimers, AreRetimed, IsWhole, stands_then, put_slots, list_left, timers_are}
+use Rattle.uv_timing.proofs.Retimed.{retimed, moved_frame, OnlyTimers, AreRetimed, IsWhole, stands_then, list_left, timers_are}
 use Rattle.uv_timing.proofs.Stops.{ids_rescheduled}
 use Rattle.uv_timing.proofs.TakenOff.{timers_left, lists_left}
 
@@ -103,7 +103,7 @@ module _ (i : Image Place) (n : Timed Content) (mid : arena.Image Content) (room
 
   pub closed_retimed : AreRetimed (retimed i n) s t
   closed_retimed = record {
-    slots = put_slots i s stands n.handles.arena d (records.closed h) (p.slots.plain ∙ x.handles.plain);
+    slots = slots_set i s n.handles.arena d (Handle (records.closed h)) stands (p.slots.plain ∙ x.handles.plain);
     lists = listed;
     timers = timers_are i s stands n.handles.arena d ids n.heap (cleared d.slot stands.timers.entries) t.timers
         (x.timers stands.timers.entries stands.timers.ordered) (timers_left i s stands reached d h there);

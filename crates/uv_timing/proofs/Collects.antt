@@ -1,5 +1,5 @@
 -- The first timer is collected, if it is due.
-use Rattle.std.proofs.Common.{◌≡◌, ◌≢◌, inl, ℕ, ◌≤◌, Bool, true, false, if◌then◌else◌, cond, nat_le, List, [], ◌∷◌, ◌++◌, map, drop, slice_get, Option, Some, None, option_map, option_and_then, refl, sym, ap, ◌∙◌, subst, arith}
+use Rattle.std.proofs.Common.{◌≡◌, ◌≢◌, inl, ℕ, ◌≤◌, Bool, true, false, if◌then◌else◌, cond, nat_le, List, [], ◌∷◌, ◌++◌, map, drop, slice_get, Option, Some, None, option_and_then, refl, sym, ap, ◌∙◌, subst, arith}
 use Rattle.std.specs.Ordering.{is_lt}
 use Rattle.std.proofs.lemmas.Bool.{le-leb, leb-true}
 use Rattle.std.proofs.lemmas.List.{map-append}
@@ -22,10 +22,7 @@ use Rattle.uv_heap.proofs.Ranks.{same_itself}
 use Rattle.uv_timer.specs.declared.undo.CollectUndo.{CollectUndo}
 use Rattle.uv_timer.specs.Timers.{IsCollected, NoneIsDue, cleared}
 use Rattle.uv_requests.specs.Working.{id_in}
-use Rattle.uv_work.specs.declared.content.Content as content
-use Rattle.uv_work.specs.declared.content.Content.TheVariants as holds
 use Rattle.uv_model.specs.declared.place.Place.{Place}
-use Rattle.uv_model.specs.Content as model
 use Rattle.uv_model.specs.Next.{first_due, collected}
 use Rattle.uv_model.specs.Queries.{members}
 use Rattle.uv_model.specs.State.{State, handle, with_id}
@@ -39,14 +36,13 @@ use Rattle.uv_step.specs.Does.{By, moved_by}
 use Rattle.uv_step.specs.Fit.{IsFit}
 use Rattle.uv_step.specs.Image.{Image, Held, timed_of}
 use Rattle.uv_step.specs.Undo.{Recorded}
-use Rattle.uv_stands.specs.Contents.{content_of}
 use Rattle.uv_stands.specs.Stands.{StandsFor, timer_in}
-use Rattle.uv_stands.proofs.Holding.{held_there, ids_kept, map_same}
+use Rattle.uv_stands.proofs.Holding.{state_handle, slots_set, ids_kept, map_same}
 use Rattle.uv_stands.proofs.Lists.{Listed, all_but_one}
 use Rattle.uv_timing.specs.Section.{Collects, CollectsNone}
 use Rattle.uv_stands.proofs.Absent.{IsOn, held_handle, own_id, holds_it, absent_active}
 use Rattle.uv_timing.proofs.Entries.{cleared_first}
-use Rattle.uv_timing.proofs.Retimed.{retimed, moved_frame, OnlyTimers, AreRetimed, IsWhole, stands_then, put_slots, timers_are}
+use Rattle.uv_timing.proofs.Retimed.{retimed, moved_frame, OnlyTimers, AreRetimed, IsWhole, stands_then, timers_are}
 use Rattle.uv_timing.proofs.TakenOff.{IsIts, its_timer}
 
 -- ---- the first of the order
@@ -156,7 +152,7 @@ module _ (i j : Image Place) (room : ℕ) (d : Id) (u : CollectUndo) (c : IsColl
 
   pub collected_retimed : AreRetimed (retimed i (timed_of j)) s t
   collected_retimed = record {
-    slots = put_slots i s stands j.arena d (records.stopped h) c.plain;
+    slots = slots_set i s j.arena d (Handle (records.stopped h)) stands c.plain;
     lists = all_but_one i s stands j.arena t ids name.Ready stays others last;
     timers = timers_are i s stands j.arena d ids j.heap (cleared d.slot entries) t.timers (c.timers entries stands.timers.ordered) left;
     time = ap (λ z. z.time) c.times ∙ stands.time;
@@ -177,14 +173,6 @@ timer_collects r h w d fit recorded whole by s stands reached =
     )
 
 -- ---- none is due
-
-handle_as : (o : Option content.Content) → model.handle_in o ≡ option_and_then handle_of (option_map content_of o)
-handle_as None = refl
-handle_as (Some (holds.Handle h)) = refl
-handle_as (Some (holds.Request r)) = refl
-
-pub state_handle : (i : Image Place) (s : State) (d : Id) → StandsFor i s → handle s d ≡ record_at handle_of i.arena d
-state_handle i s d h = handle_as (plain.held s.arena.slots d) ∙ ap (option_and_then handle_of) (sym (held_there i s d h))
 
 module _ (i : Image Place) (s : State) (stands : StandsFor i s) where
   -- of an array in this order, with these timers

@@ -25,7 +25,6 @@ use Rattle.uv_timer.specs.Timed.{Timed}
 use Rattle.uv_timer.specs.Timers.{IsRescheduled, IsFired, NoneIsReady, cleared}
 use Rattle.uv_requests.specs.Working.{id_in}
 use Rattle.uv_requests.proofs.Rules.{set_back}
-use Rattle.uv_work.specs.declared.content.Content.TheVariants as holds
 use Rattle.uv_model.specs.declared.place.Place.{Place}
 use Rattle.uv_model.specs.Queries.{members}
 use Rattle.uv_model.specs.State.{State, front, with_id}
@@ -38,17 +37,15 @@ use Rattle.uv_step.specs.Record.{Record}
 use Rattle.uv_work.specs.Content.{handle_of}
 use Rattle.uv_step.specs.Image.{Image, Held, timed_of}
 use Rattle.uv_step.specs.Undo.{Recorded}
-use Rattle.uv_stands.specs.Contents.{slots_of}
 use Rattle.uv_stands.specs.Stands.{StandsFor, timer_in}
-use Rattle.uv_stands.proofs.Holding.{map_same}
+use Rattle.uv_stands.proofs.Holding.{state_handle, slots_set, map_same}
 use Rattle.uv_stands.proofs.Lists.{Listed, all_but_one, beside_lists}
 use Rattle.uv_stands.proofs.Naming.{record_there}
 use Rattle.uv_stands.proofs.Pools.{front_there}
 use Rattle.uv_timing.specs.Section.{Fires, FiresNone}
 use Rattle.uv_stands.proofs.Absent.{IsOn, holds_it, has_it}
-use Rattle.uv_timing.proofs.Collects.{state_handle}
 use Rattle.uv_timing.proofs.Entries.{entry_of}
-use Rattle.uv_timing.proofs.Retimed.{retimed, timer_frame, OnlyTimers, AreRetimed, IsWhole, stands_then, put_slots, timers_are}
+use Rattle.uv_timing.proofs.Retimed.{retimed, timer_frame, OnlyTimers, AreRetimed, IsWhole, stands_then, timers_are}
 use Rattle.uv_timing.proofs.Starts.{due_same}
 use Rattle.uv_timing.proofs.Stops.{ids_rescheduled}
 use Rattle.uv_timing.proofs.TakenOff.{inert_cleared, timers_set}
@@ -144,8 +141,8 @@ module _ (i : Image Place) (n : Timed Content) (room : ℕ) (d : Id) (h : Handle
       let ids = ids_rescheduled i n room d (becoming h h None) u x in
       let a = s.arena in
       record {
-        slots = put_slots i s stands n.handles.arena d h x.handles.plain
-            ∙ ap (λ xs. slots_of (record a { slots = xs })) (held_again a.slots d (holds.Handle h) (record_there i s d h stands there));
+        slots = slots_set i s n.handles.arena d (Handle h) stands x.handles.plain
+            ∙ ap (λ xs. record a { slots = xs }) (held_again a.slots d (Handle h) (record_there i s d h stands there));
         lists = fired_lists ids x.handles.lists;
         timers = timers_are i s stands n.handles.arena d ids n.heap (cleared d.slot stands.timers.entries) s.timers
             (x.timers stands.timers.entries stands.timers.ordered)
@@ -167,7 +164,7 @@ module _ (i : Image Place) (n : Timed Content) (room : ℕ) (d : Id) (h : Handle
       (due_same i s h.repeat stands) started_so in
       let ids = ids_rescheduled i n room d (set_at key h h.repeat) u x in
       record {
-        slots = put_slots i s stands n.handles.arena d (begun_at key h.repeat h) x.handles.plain;
+        slots = slots_set i s n.handles.arena d (Handle (begun_at key h.repeat h)) stands x.handles.plain;
         lists = λ l. beside_lists off off.place off.names again.arena again.timers off.running off.time off.clock again.next_start off.stop_flag
             off.idled l ∙ fired_lists ids x.handles.lists l;
         timers = timers_are i s stands n.handles.arena d ids n.heap (inserted (entry_of key d.slot) (cleared d.slot stands.timers.entries))

@@ -1,6 +1,5 @@
 -- The memory after a change of one handle and of the timers, and what it stands for.
 use Rattle.std.proofs.Common.{◌≡◌, ℕ, eqb, List, map, Some, refl, sym, ap, ◌∙◌, subst}
-use Rattle.std.proofs.lemmas.List.{map-set}
 use Rattle.uv_ids.specs.declared.id.Id.{Id}
 use Rattle.uv_ids.specs.declared.due.Due.{Due}
 use Rattle.uv_records.specs.declared.handle.HandleRecord.{HandleRecord}
@@ -17,8 +16,6 @@ use Rattle.uv_timer.specs.declared.undo.TimerUndo.{TimerUndo}
 use Rattle.uv_timer.specs.declared.undo.CollectUndo.{CollectUndo}
 use Rattle.uv_timer.specs.Timed.{Timed, timer_undone, collect_undone}
 use Rattle.uv_requests.specs.Working.{id_in}
-use Rattle.uv_work.specs.declared.content.Content as content
-use Rattle.uv_work.specs.declared.content.Content.TheVariants as holds
 use Rattle.uv_model.specs.declared.place.Place.{Place}
 use Rattle.uv_model.specs.Ids.{without_id}
 use Rattle.uv_model.specs.Queries.{members}
@@ -33,7 +30,6 @@ use Rattle.uv_step.specs.Fit.{IsFit}
 use Rattle.uv_step.specs.Image.{Image, Held, timed_of, with_timed, standing}
 use Rattle.uv_step.specs.Undo.{Recorded}
 use Rattle.uv_step.proofs.Rows.{unwind_apart, timer_back, moved_back}
-use Rattle.uv_stands.specs.Contents.{slot_of, slots_of}
 use Rattle.uv_stands.specs.Stands.{StandsFor, AreTimers, timer_in}
 use Rattle.uv_stands.proofs.Holding.{map_same}
 use Rattle.uv_stands.proofs.Lists.{Listed}
@@ -89,7 +85,7 @@ pub record OnlyTimers (s t : State) : Type 0 where
 
 -- what the calls of timers change is the state's
 pub record AreRetimed (j : Image Place) (s t : State) : Type 0 where
-  pub slots : plain_slots j.arena ≡ slots_of t.arena
+  pub slots : plain_slots j.arena ≡ t.arena
   pub lists : (l : ListName) → Listed j.arena t l
   pub timers : AreTimers j.arena j.heap t.timers
   pub time : j.times.time ≡ s.time
@@ -136,33 +132,23 @@ whole r h w recorded sound heap places = record { fit = recorded.fit; sound = so
 
 -- ---- slots, lists and timers where one handle has another record
 
-module _ (i : Image Place) (s : State) (stands : StandsFor i s) (k : arena.Image Content) (d : Id) where
-  pub put_slots : (to : HandleRecord)
-      → plain_slots k ≡ record (plain_slots i.arena) { slots = plain.with_held (plain_slots i.arena).slots d (Handle to) }
-      → plain_slots k ≡ slots_of (record s.arena { slots = plain.with_held s.arena.slots d (holds.Handle to) })
-  put_slots to put =
-      let new : Slot content.Content = record { generation = d.generation; content = Some (holds.Handle to) } in
-      put
-      ∙ ap (λ (q : plain.Slots Content). (let z : plain.Slots Content = record q { slots = plain.with_held q.slots d (Handle to) } in z)) stands.slots
-      ∙ ap (λ xs. (let z : plain.Slots Content = record { slots = xs; free = s.arena.free; unused = s.arena.unused } in z))
-      (sym (map-set slot_of s.arena.slots d.slot new))
+module _ (i : Image Place) (s : State) (stands : StandsFor i s) (k : arena.Image Content) (d : Id)
+    (ids : (x : ℕ) → id_in k x ≡ id_in i.arena x) where
+  -- a list that the handle left, in the memory and in the state
+  pub list_left : (t : State) (l : ListName) → id_in i.arena d.slot ≡ d → arena.members k l ≡ without eqb (arena.members i.arena l) d.slot
+      → members t l ≡ without_id (members s l) d → Listed k t l
+  list_left t l one gone off =
+      off
+      ∙ ap (λ xs. without_id xs d) (stands.lists l)
+      ∙ without_ids (id_in i.arena) d (λ x. refl) one (arena.members i.arena l)
+      ∙ sym (map_same (id_in k) (id_in i.arena) ids (without eqb (arena.members i.arena l) d.slot))
+      ∙ ap (map (id_in k)) (sym gone)
 
-  module _ (ids : (x : ℕ) → id_in k x ≡ id_in i.arena x) where
-    -- a list that the handle left, in the memory and in the state
-    pub list_left : (t : State) (l : ListName) → id_in i.arena d.slot ≡ d → arena.members k l ≡ without eqb (arena.members i.arena l) d.slot
-        → members t l ≡ without_id (members s l) d → Listed k t l
-    list_left t l one gone off =
-        off
-        ∙ ap (λ xs. without_id xs d) (stands.lists l)
-        ∙ without_ids (id_in i.arena) d (λ x. refl) one (arena.members i.arena l)
-        ∙ sym (map_same (id_in k) (id_in i.arena) ids (without eqb (arena.members i.arena l) d.slot))
-        ∙ ap (map (id_in k)) (sym gone)
-
-    -- the timers are these entries
-    pub timers_are : (heap xs : List Entry) (timers : List (Due × Id)) → IsInOrder heap xs → timers ≡ map (timer_in i.arena) xs
-        → AreTimers k heap timers
-    timers_are heap xs timers ordered same = record {
-      entries = xs;
-      ordered = ordered;
-      same = same ∙ sym (map_same (timer_in k) (timer_in i.arena) (λ (e : Entry). ap (λ z. (e.due, z)) (ids e.slot)) xs);
-    }
+  -- the timers are these entries
+  pub timers_are : (heap xs : List Entry) (timers : List (Due × Id)) → IsInOrder heap xs → timers ≡ map (timer_in i.arena) xs
+      → AreTimers k heap timers
+  timers_are heap xs timers ordered same = record {
+    entries = xs;
+    ordered = ordered;
+    same = same ∙ sym (map_same (timer_in k) (timer_in i.arena) (λ (e : Entry). ap (λ z. (e.due, z)) (ids e.slot)) xs);
+  }

@@ -37,12 +37,12 @@ use Rattle.uv_step.specs.Does.{By}
 use Rattle.uv_step.specs.Fit.{IsFit}
 use Rattle.uv_step.specs.Image.{Image, Held, timed_of}
 use Rattle.uv_step.specs.Undo.{Recorded}
-use Rattle.uv_stands.specs.Contents.{slots_of}
 use Rattle.uv_stands.specs.Stands.{StandsFor}
+use Rattle.uv_stands.proofs.Holding.{slots_set}
 use Rattle.uv_stands.proofs.Lists.{beside_lists}
 use Rattle.uv_stands.proofs.Absent.{own_id}
 use Rattle.uv_timing.proofs.Entries.{entry_of}
-use Rattle.uv_timing.proofs.Retimed.{retimed, timer_frame, OnlyTimers, AreRetimed, IsWhole, stands_then, put_slots, list_left, timers_are}
+use Rattle.uv_timing.proofs.Retimed.{retimed, timer_frame, OnlyTimers, AreRetimed, IsWhole, stands_then, list_left, timers_are}
 use Rattle.uv_timing.proofs.Stops.{ids_rescheduled, stopped_retimed, only_stopped}
 use Rattle.uv_timing.proofs.TakenOff.{timers_set, lists_left}
 
@@ -75,10 +75,10 @@ module _ (i : Image Place) (n : Timed Content) (room : ℕ) (d : Id) (h : Handle
       beside_lists q q.place q.names t.arena t.timers q.running q.time q.clock t.next_start q.stop_flag q.idled l
 
   -- the record is written once in the memory, and twice in the state
-  slots : plain_slots n.handles.arena ≡ slots_of t.arena
+  slots : plain_slots n.handles.arena ≡ t.arena
   slots =
-      put_slots i s stands n.handles.arena d (begun_at key repeat h) x.handles.plain
-      ∙ ap (λ xs. slots_of (record s.arena { slots = xs })) (sym (set-set s.arena.slots d.slot _ _))
+      slots_set i s n.handles.arena d (Handle (begun_at key repeat h)) stands x.handles.plain
+      ∙ ap (λ xs. record s.arena { slots = xs }) (sym (set-set s.arena.slots d.slot _ _))
 
   pub started_retimed : AreRetimed (retimed i n) s t
   started_retimed = record {

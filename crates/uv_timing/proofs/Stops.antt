@@ -35,10 +35,10 @@ use Rattle.uv_step.specs.Image.{Image, Held, timed_of}
 use Rattle.uv_step.specs.Undo.{Recorded}
 use Rattle.uv_stands.specs.Doing.{Does}
 use Rattle.uv_stands.specs.Stands.{StandsFor}
-use Rattle.uv_stands.proofs.Holding.{ids_kept}
+use Rattle.uv_stands.proofs.Holding.{slots_set, ids_kept}
 use Rattle.uv_stands.proofs.Lists.{Listed, beside_lists, list_stays}
 use Rattle.uv_stands.proofs.Absent.{IsOn, timer_kind, held_handle, own_id, stays, ready_stays, not_idle, not_idle_yet, not_prepare, not_prepare_yet, not_check, not_check_yet, not_async, not_async_yet}
-use Rattle.uv_timing.proofs.Retimed.{retimed, timer_frame, OnlyTimers, AreRetimed, IsWhole, stands_then, put_slots, list_left, timers_are}
+use Rattle.uv_timing.proofs.Retimed.{retimed, timer_frame, OnlyTimers, AreRetimed, IsWhole, stands_then, list_left, timers_are}
 use Rattle.uv_timing.proofs.TakenOff.{timers_left, lists_left}
 
 -- ids stay where one handle is rescheduled
@@ -107,7 +107,7 @@ module _ (i : Image Place) (n : Timed Content) (room : ℕ) (d : Id) (h : Handle
 
   pub stopped_retimed : AreRetimed (retimed i n) s t
   stopped_retimed = record {
-    slots = put_slots i s stands n.handles.arena d (stopping h).to x.handles.plain;
+    slots = slots_set i s n.handles.arena d (Handle (stopping h).to) stands x.handles.plain;
     lists = listed h.closing refl;
     timers = timers_are i s stands n.handles.arena d ids n.heap (cleared d.slot stands.timers.entries) t.timers
         (x.timers stands.timers.entries stands.timers.ordered) (timers_left i s stands reached d h there);

@@ -7,5 +7,4 @@ pub returns : goal.returns
 returns c s h =
     let within : c.args.number < length c.args.memory.now.slots.image.memory.row.items =
     (let used = c.used.ensures.used in let below = c.if-number-used.false in omega (arith, used, below)) in
-    slot_shown (image_of c.args.memory.now) s h c.args.number c.slot_at-slot.result c.shown_held.result within c.slot_at-slot.ensures
-    c.shown_held.ensures.only
+    slot_shown (image_of c.args.memory.now) s h c.args.number c.slot_at.result within c.slot_at.ensures

@@ -6,12 +6,9 @@ use Rattle.uv_sections.proofs.freeing.collect_request.Goals as goal
 pub begin_body-requires-clause-few : goal.begin_body-requires-clause-few
 begin_body-requires-clause-few c =
     few_calls c.free_request.new.memory.step_record (held c.args.memory.now) (held c.free_request.new.memory) c.requires.ready
-    c.in-Some.ensures.recorded After
-    c.line_after-line.result.0
+    c.in-Some.ensures.recorded After c.in-Some.request.name
 
 pub returns-in-Some-clause-goes : goal.returns-in-Some-clause-goes
 returns-in-Some-clause-goes c s h reached =
-    let f = c.in-Some.freed in
-    collect_goes c.args.script.now c.args.run (image_of c.free_request.new.memory) (image_of c.begin_body.new.memory) s f.0 f.1
-    c.line_after-line.result.0 c.line_after-line.result.1 (c.in-Some.ensures.gone s h reached) c.line_after-line.ensures.name
-    c.line_after-line.ensures.line c.begin_body.ensures.calls
+    collect_goes c.args.script.now c.args.run (image_of c.free_request.new.memory) (image_of c.begin_body.new.memory) s c.in-Some.id
+    c.in-Some.request _ (c.in-Some.ensures.gone s h reached) c.digest.ensures c.begin_body.ensures.calls
