@@ -5,7 +5,7 @@ ghost use Rattle.uv_step.specs.Image.{held};
 ghost use Rattle.uv_step.specs.Parts.{unwind, unwind_parts, undo, naming_parts, change_parts, Bound as bound};
 ghost use Rattle.uv_step.specs.Fit.{IsFit};
 ghost use Rattle.uv_step.specs.Undo.{CanUnwind, CanRename, CanUndo};
-ghost use Rattle.uv_step.specs.Does.{moved_by, closed_by, ended_by};
+ghost use Rattle.uv_step.specs.Does.{moved_by};
 ghost use Rattle.uv_step.specs.Lies.{smaller, change_of, larger, lain, taken_off};
 
 use crate::large::Large;
@@ -15,14 +15,13 @@ use crate::memory::Memory;
 use crate::record::{Added, Naming};
 use crate::small::Small;
 use uv_arena::PushUndo;
-use uv_handle::{DelistUndo, ListUndo, RecordUndo};
+use uv_handle::{DelistUndo, RecordUndo};
 use uv_heap::HeapRemoveUndo;
 use uv_ids::{Id, Var};
-use uv_records::{HandleRecord, Named};
-use uv_requests::{CancelUndo, FinishUndo, QueueUndo};
+use uv_records::Named;
 use uv_timer::{CollectUndo, TimerParts, TimerUndo, undo_collect_one, undo_reschedule};
 use uv_watch::{WalkUndo, undo_take};
-use uv_work::{Content, Request};
+use uv_work::Content;
 
 impl<P: Copy> Memory<P> {
     /// Gives back the very memory from before the step of this record.
@@ -117,9 +116,9 @@ impl<P: Copy> Memory<P> {
                 pushed,
                 woken: None,
             }),
-            Small::Queued(undo) => self.undo_queued(undo),
-            Small::Taken(undo) => self.undo_taken(undo),
-            Small::Finished(undo) => self.undo_finished(undo),
+            Small::Queued(undo) => self.requests.undo_queue(&mut self.slots, undo),
+            Small::Taken(undo) => self.requests.undo_take(&mut self.slots, undo),
+            Small::Finished(undo) => self.requests.undo_finish(&mut self.slots, undo),
             Small::InMedium => {}
             Small::InLarge => {}
         }
@@ -133,9 +132,9 @@ impl<P: Copy> Memory<P> {
         ensures pieces { self.new.slots.room ≡ self.old.slots.room }
     {
         match change {
-            Medium::Edited(undo) => self.undo_edited(undo),
-            Medium::Enlisted(undo) => self.undo_enlisted(undo),
-            Medium::Delisted(undo) => self.undo_delisted(undo),
+            Medium::Edited(undo) => self.handles.undo_change(&mut self.slots, undo),
+            Medium::Enlisted(undo) => self.handles.undo_enlist(&mut self.slots, undo),
+            Medium::Delisted(undo) => self.handles.undo_delist(&mut self.slots, undo),
             Medium::Reset(delisted) => self.undo_timer(TimerUndo {
                 removed: None,
                 delisted,
@@ -167,8 +166,12 @@ impl<P: Copy> Memory<P> {
                 pushed,
                 woken: Some(woken),
             }),
-            Medium::Closed(undo, handle) => self.undo_closed(undo, handle),
-            Medium::Cancelled(undo) => self.undo_cancelled(undo),
+            Medium::Closed(undo, handle) => {
+                let content = Content::Handle(handle);
+                self.handles
+                    .undo_take_closing(&mut self.slots, undo, content);
+            },
+            Medium::Cancelled(undo) => self.requests.undo_cancel(&mut self.slots, undo),
         }
     }
 
@@ -182,7 +185,10 @@ impl<P: Copy> Memory<P> {
         match change {
             Large::Timer(undo) => self.undo_timer(undo),
             Large::Moved(pushed, timer) => self.undo_moved(CollectUndo { timer, pushed }),
-            Large::Ended(undo, request) => self.undo_ended(undo, request),
+            Large::Ended(undo, request) => {
+                self.requests
+                    .undo_collect(&mut self.slots, undo, request);
+            },
         }
     }
 
@@ -198,33 +204,6 @@ impl<P: Copy> Memory<P> {
             });
         }
         self.handles.undo_add(&mut self.slots, undo.added);
-    }
-
-    fn undo_edited(&mut self, undo: RecordUndo)
-        requires { CanUndo (held self.old).room (change.Edited undo) (held self.old).image }
-        ensures image { (held self.new).image ≡ unwind_parts (change_parts (change.Edited undo)) (held self.old).image }
-        ensures room { (held self.new).room ≡ (held self.old).room }
-        ensures pieces { self.new.slots.room ≡ self.old.slots.room }
-    {
-        self.handles.undo_change(&mut self.slots, undo);
-    }
-
-    fn undo_enlisted(&mut self, undo: ListUndo)
-        requires { CanUndo (held self.old).room (change.Enlisted undo) (held self.old).image }
-        ensures image { (held self.new).image ≡ unwind_parts (change_parts (change.Enlisted undo)) (held self.old).image }
-        ensures room { (held self.new).room ≡ (held self.old).room }
-        ensures pieces { self.new.slots.room ≡ self.old.slots.room }
-    {
-        self.handles.undo_enlist(&mut self.slots, undo);
-    }
-
-    fn undo_delisted(&mut self, undo: DelistUndo)
-        requires { CanUndo (held self.old).room (change.Delisted undo) (held self.old).image }
-        ensures image { (held self.new).image ≡ unwind_parts (change_parts (change.Delisted undo)) (held self.old).image }
-        ensures room { (held self.new).room ≡ (held self.old).room }
-        ensures pieces { self.new.slots.room ≡ self.old.slots.room }
-    {
-        self.handles.undo_delist(&mut self.slots, undo);
     }
 
     fn undo_timer(&mut self, undo: TimerUndo)
@@ -268,62 +247,6 @@ impl<P: Copy> Memory<P> {
         ensures pieces { self.new.slots.room ≡ self.old.slots.room }
     {
         undo_take(&mut self.handles, &mut self.slots, undo);
-    }
-
-    fn undo_closed(&mut self, undo: uv_handle::TakeUndo, handle: HandleRecord)
-        requires { CanUndo (held self.old).room (closed_by handle undo) (held self.old).image }
-        ensures image { (held self.new).image ≡ unwind_parts (change_parts (closed_by handle undo)) (held self.old).image }
-        ensures room { (held self.new).room ≡ (held self.old).room }
-        ensures pieces { self.new.slots.room ≡ self.old.slots.room }
-    {
-        let content = Content::Handle(handle);
-        self.handles
-            .undo_take_closing(&mut self.slots, undo, content);
-    }
-
-    fn undo_queued(&mut self, undo: QueueUndo)
-        requires { CanUndo (held self.old).room (change.Queued undo) (held self.old).image }
-        ensures image { (held self.new).image ≡ unwind_parts (change_parts (change.Queued undo)) (held self.old).image }
-        ensures room { (held self.new).room ≡ (held self.old).room }
-        ensures pieces { self.new.slots.room ≡ self.old.slots.room }
-    {
-        self.requests.undo_queue(&mut self.slots, undo);
-    }
-
-    fn undo_taken(&mut self, undo: uv_requests::TakeWorkUndo)
-        requires { CanUndo (held self.old).room (change.Taken undo) (held self.old).image }
-        ensures image { (held self.new).image ≡ unwind_parts (change_parts (change.Taken undo)) (held self.old).image }
-        ensures room { (held self.new).room ≡ (held self.old).room }
-        ensures pieces { self.new.slots.room ≡ self.old.slots.room }
-    {
-        self.requests.undo_take(&mut self.slots, undo);
-    }
-
-    fn undo_finished(&mut self, undo: FinishUndo)
-        requires { CanUndo (held self.old).room (change.Finished undo) (held self.old).image }
-        ensures image { (held self.new).image ≡ unwind_parts (change_parts (change.Finished undo)) (held self.old).image }
-        ensures room { (held self.new).room ≡ (held self.old).room }
-        ensures pieces { self.new.slots.room ≡ self.old.slots.room }
-    {
-        self.requests.undo_finish(&mut self.slots, undo);
-    }
-
-    fn undo_cancelled(&mut self, undo: CancelUndo)
-        requires { CanUndo (held self.old).room (change.Cancelled undo) (held self.old).image }
-        ensures image { (held self.new).image ≡ unwind_parts (change_parts (change.Cancelled undo)) (held self.old).image }
-        ensures room { (held self.new).room ≡ (held self.old).room }
-        ensures pieces { self.new.slots.room ≡ self.old.slots.room }
-    {
-        self.requests.undo_cancel(&mut self.slots, undo);
-    }
-
-    fn undo_ended(&mut self, undo: uv_requests::CollectWorkUndo, request: Request)
-        requires { CanUndo (held self.old).room (ended_by request undo) (held self.old).image }
-        ensures image { (held self.new).image ≡ unwind_parts (change_parts (ended_by request undo)) (held self.old).image }
-        ensures room { (held self.new).room ≡ (held self.old).room }
-        ensures pieces { self.new.slots.room ≡ self.old.slots.room }
-    {
-        self.requests.undo_collect(&mut self.slots, undo, request);
     }
 }
 
