@@ -1,14 +1,11 @@
 -- What a slot of the arena holds.
-use Rattle.std.specs.Prelude.{Bool, true, false, ℕ, List, Option, Some, None}
-use Rattle.uv_ids.specs.declared.id.Var.{Var}
-use Rattle.uv_work.specs.declared.task.Task.{Task}
+use Rattle.std.specs.Prelude.{Bool, true, false, Option, Some, None}
 use Rattle.uv_records.specs.declared.handle.HandleRecord.{HandleRecord}
 use Rattle.uv_records.specs.Handles.{keeps_alive}
-use Rattle.uv_work.specs.declared.outcome.Outcome.{Outcome}
-use Rattle.uv_work.specs.declared.outcome.Outcome.TheVariants as outcome
 use Rattle.uv_work.specs.declared.content.Content.{Content}
 use Rattle.uv_work.specs.declared.content.Content.TheVariants as content
 use Rattle.uv_work.specs.declared.request.Request.{Request}
+use Rattle.uv_work.specs.Content.{handle_of, request_of}
 
 -- the handle that a slot holds, if it holds one
 abbrev pub handle_in : Option Content → Option HandleRecord
