@@ -63,7 +63,7 @@ use Rattle.uv_model.specs.declared.place.Place.{Place}
 use Rattle.uv_model.specs.declared.place.Place.TheVariants.{Main, Running}
 use Rattle.uv_work.specs.declared.request.Request.{Request}
 use Rattle.uv_model.specs.Found.{found_or}
-use Rattle.uv_model.specs.Ids.{same_id, without_id, has_some}
+use Rattle.uv_model.specs.Ids.{same_id, without_id}
 use Rattle.uv_work.specs.Requests.{queued, digest_in}
 use Rattle.uv_model.specs.Content.{handle_in}
 use Rattle.uv_model.specs.State.{State, fresh, named, handle, with_handle, request, with_named, with_id, live, live_handle, live_request, front, front_request, watched, with_watched, refreshed}
@@ -71,7 +71,7 @@ use Rattle.uv_records.specs.Names.{unbound, counted, count_of}
 use Rattle.uv_model.specs.Timers.{taken_off, stopped, started, restarted}
 use Rattle.uv_model.specs.Ops as ops
 use Rattle.uv_model.specs.Ops.{do_op, refuses}
-use Rattle.uv_model.specs.Next.{Next, Moves, Refuses, next, loop_step, main_step, run_step, body_step, stage_step, tick, sent_to, take, next_work, finish, work_of, cancels, begin_done, collect_request, timers, collected, first_due, fire, way, time_at, idled_at, idled_then, goes_by, turns, refreshes, ends, calls, may_leave, is_default, body_from, goes, begin_walk, after_walk, front_moved, walk, walk_async, close_front, stage_of}
+use Rattle.uv_model.specs.Next.{Next, Moves, Refuses, next, loop_step, main_step, run_step, body_step, stage_step, tick, sent_to, take, next_work, finish, work_of, cancels, begin_done, collect_request, timers, collected, first_due, fire, way, time_at, idled_at, idled_then, goes_by, turns, refreshes, ends, calls, may_leave, body_from, goes, begin_walk, after_walk, front_moved, walk, walk_async, close_front, stage_of}
 use Rattle.uv_model.specs.After.{after, goes_on, state_of}
 use Rattle.uv_model.specs.Bounds.{line_of, HoldsBefore, StartsBefore, CanStep}
 use Rattle.uv_model.proofs.Found.{found_both}

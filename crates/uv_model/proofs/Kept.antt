@@ -1,15 +1,17 @@
 -- What the plain loop keeps, and what it answers, after a step that is taken, refused or without memory.
-use Rattle.std.proofs.Common.{◌≡◌, ◌<◌, List, [], ◌∷◌, ◌++◌, length, length-append, Option, Some, None, Ok, Err, ap, sym, ◌∙◌, subst, arith}
+use Rattle.std.proofs.Common.{◌≡◌, ◌<◌, ℕ, List, [], ◌∷◌, ◌++◌, length, length-append, Option, Some, None, Ok, Err, ap, sym, ◌∙◌, subst, arith}
 use Rattle.uv_ids.specs.declared.event.Event.{Event}
 use Rattle.uv_ids.specs.declared.fault.Fault.{Fault}
 use Rattle.uv_ids.specs.declared.fault.Fault.TheVariants as fault
 use Rattle.uv_ids.specs.declared.fault.Why.{Why}
 use Rattle.uv_ids.specs.declared.seen.Seen.{Seen}
 use Rattle.uv_script.specs.Program.{Program}
+use Rattle.uv_work.specs.declared.job.Job.{Job}
 use Rattle.uv_model.specs.declared.machine.Outcome.{Outcome}
 use Rattle.uv_model.specs.State.{State}
 use Rattle.uv_model.specs.Next.{Next, Moves, Refuses, next}
 use Rattle.uv_model.specs.After.{after, refusal_of, IsMove, Answers, STEPS}
+use Rattle.uv_model.specs.Handing.{RefusesResult, AnswersResult}
 use Rattle.uv_model.specs.Steps.{Steps}
 use Rattle.uv_model.specs.Trail.{Trail, IsAfter}
 use Rattle.uv_model.proofs.Runs.{after-moves, seen_by-moves}
@@ -68,3 +70,9 @@ pub answers_refused : (x : Trail) (p : Program) (es fs : List Event) (s : State)
     refusal_of (next p s e) ≡ Some why → Answers STEPS x.program x.standing e (Err (fault.Refused why)) fs
 answers_refused x p es fs s e why k same r =
     (rw (← k.seen_as) k.few, same, rw (← k.seen_as) (rw (← k.state_is) (is_refused (next p s e) why r)))
+
+-- a result that may not be handed in is refused
+pub answers_refused_result : (x : Trail) (p : Program) (es fs : List Event) (s : State) (worker : ℕ) (job : Job) (why : Why) → IsKept x p es s →
+    fs ≡ x.standing → RefusesResult p s worker job why → AnswersResult STEPS x.program x.standing worker job (Err (fault.Refused why)) fs
+answers_refused_result x p es fs s worker job why k same r =
+    (rw (← k.seen_as) k.few, same, rw (← k.seen_as) (rw (← k.state_is) r))

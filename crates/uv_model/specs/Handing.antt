@@ -8,7 +8,7 @@ use Rattle.uv_ids.specs.declared.fault.Why.{Why}
 use Rattle.uv_ids.specs.declared.fault.Why.TheVariants.{NoWork}
 use Rattle.uv_ids.specs.declared.id.Id.{Id}
 use Rattle.uv_script.specs.Program.{Program}
-use Rattle.uv_work.specs.Tasks.{text_of}
+use Rattle.uv_work.specs.Requests.{job_of}
 use Rattle.uv_work.specs.declared.job.Job.{Job}
 use Rattle.uv_model.specs.declared.machine.Outcome.{Outcome}
 use Rattle.uv_work.specs.declared.request.Request.{Request}
@@ -16,10 +16,7 @@ use Rattle.uv_model.specs.State.{State}
 use Rattle.uv_model.specs.Next.{Refuses, next, work_of}
 use Rattle.uv_model.specs.After.{after, Answers}
 
--- what a request asks for, under its id
-abbrev pub job_of : Id → Request → Job
-job_of id r = record { req = id; rounds = r.task.rounds; text = text_of r.task }
-
+-- the job of the request that a worker may finish, if there is one
 abbrev pub job_in : Result (Id × Request) Why → Option Job
 job_in (Ok t) = Some (job_of t.0 t.1)
 job_in (Err why) = None

@@ -2,7 +2,6 @@
 use Rattle.std.specs.Prelude.{◌≡◌, ℕ, ◌+◌, List, [], ◌∷◌, map, length, Option, Some, None, slice_get}
 use Rattle.uv_ids.specs.declared.id.Id.{Id}
 use Rattle.uv_ids.specs.declared.due.Due.{Due}
-use Rattle.uv_records.specs.declared.lists.Ends.{Ends}
 use Rattle.uv_records.specs.declared.lists.ListName.{ListName}
 use Rattle.uv_records.specs.Lists.{all_lists}
 use Rattle.uv_records.specs.Linked.{first, ends_of, IsIn}

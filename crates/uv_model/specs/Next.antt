@@ -1,5 +1,5 @@
 -- One step of the loop: a place and what holds there give the line and the next place (design overview, the orders of 1.44 and 1.45).
-use Rattle.std.specs.Prelude.{ℕ, ◌+◌, ◌^◌, List, [], ◌∷◌, ◌++◌, Bool, true, false, ◌&&◌, not, drop, Option, Some, None, Result, Ok, Err, slice_get, slice_set, length, nat_le, nat_lt, ◌||◌, if◌then◌else◌}
+use Rattle.std.specs.Prelude.{ℕ, ◌+◌, List, [], ◌∷◌, ◌++◌, Bool, true, false, ◌&&◌, not, drop, Option, Some, None, Result, Ok, Err, slice_get, slice_set, length, nat_le, nat_lt, ◌||◌, if◌then◌else◌}
 use Rattle.uv_ids.specs.declared.id.Id.{Id}
 use Rattle.uv_ids.specs.declared.id.Var.{Var}
 use Rattle.uv_ids.specs.declared.due.Due.{Due}

@@ -13,7 +13,7 @@ use std::marker::Model;
 use uv_ids::{Code, Due, Id, Var};
 use uv_records::{HandleRecord, Named};
 use uv_script::Script;
-use uv_work::Request;
+use uv_work::{Content, Request};
 
 mod ops;
 mod phases;

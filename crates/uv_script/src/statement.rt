@@ -109,7 +109,7 @@ fn queue(names: &Names, mut fields: Fields<'_>) -> Option<Op>
 }
 
 /// A task of so many rounds, if there may be so many.
-#[tactic(auto, using(crate::proofs::TaskLemmas::tasks))]
+#[tactic(auto, using(uv_work::proofs::TaskLemmas::tasks))]
 fn task(rounds: u64, text: &[u8]) -> Option<Task>
     ensures { result ≡ task_of rounds text.now }
 {

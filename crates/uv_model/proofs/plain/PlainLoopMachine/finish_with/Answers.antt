@@ -1,6 +1,6 @@
-use Rattle.std.proofs.Common.{arith}
+use Rattle.std.proofs.Common.{refl, arith}
 use Rattle.uv_ids.specs.declared.event.Event.TheVariants.{Finish}
-use Rattle.uv_model.proofs.Kept.{stays, kept_more}
+use Rattle.uv_model.proofs.Kept.{stays, kept_more, answers_refused_result}
 use Rattle.uv_model.proofs.plain.PlainLoopMachine.finish_with.Goals as goal
 
 pub invariant_of-self : goal.invariant_of-self
@@ -15,3 +15,10 @@ invariant_of-self-2 c = kept_more _ _ _ _ _ _ _ (Finish c.args.worker) c.in-Ok-f
     (rw c.reserve_step.ensures.steps at c.push_reserved.ensures.items)
     (rw c.reserve_step.ensures.seen at c.push_reserved-2.ensures.items)
     c.in-Ok-finish_with.ensures
+
+pub returns-in-Some-clause-answer : goal.returns-in-Some-clause-answer
+returns-in-Some-clause-answer c = answers_refused_result c.args.self.now c.self.inside.script c.self.inside.steps.items _
+    c.self.inside.state c.args.worker c.args.work.job c.in-Some.why
+    (record { seen_as = c.self.view_is; state_is = c.self.invariant.state_is; few = omega arith })
+    refl
+    (rw c.job.ensures at c.in-Some.ensures.some)
