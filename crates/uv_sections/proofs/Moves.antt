@@ -16,7 +16,7 @@ use Rattle.uv_arena.specs.Image.{IsSound, plain_slots}
 use Rattle.uv_handle.specs.Counted.{record_at}
 use Rattle.uv_handle.proofs.Counts as handles
 use Rattle.uv_requests.specs.Working.{id_in}
-use Rattle.uv_requests.proofs.Holding.{slots_set, listed_id}
+use Rattle.uv_requests.proofs.Holding.{listed_id}
 use Rattle.uv_watch.specs.declared.undo.WalkUndo.{WalkUndo}
 use Rattle.uv_watch.specs.Watch.{IsMovedOn, pending_of}
 use Rattle.uv_model.specs.declared.place.Place.{Place}
