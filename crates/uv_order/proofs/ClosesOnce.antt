@@ -35,11 +35,10 @@ use Rattle.uv_work.specs.declared.content.Content.{Content}
 use Rattle.uv_work.specs.declared.content.Content.TheVariants as content
 use Rattle.uv_records.specs.declared.named.Named.{Named}
 use Rattle.uv_work.specs.declared.request.Request.{Request}
-use Rattle.uv_work.specs.Requests.{digest_in}
+use Rattle.uv_work.specs.Requests.{digest_in, is_open}
 use Rattle.uv_model.specs.Content.{request_in}
 use Rattle.uv_work.specs.Tasks.{text_of}
 use Rattle.uv_work.specs.Digests.{digest_of}
-use Rattle.uv_work.specs.Requests.{is_open}
 use Rattle.uv_work.specs.declared.outcome.Outcome.TheVariants.{Finished}
 use Rattle.uv_model.specs.declared.place.Body.{Body}
 use Rattle.uv_model.specs.declared.place.Run.{Run}

@@ -14,8 +14,7 @@ use Rattle.uv_work.specs.declared.content.Content.TheVariants as content
 use Rattle.uv_model.specs.Content.{handle_in}
 use Rattle.uv_model.specs.Ids.{same_id, without_id}
 use Rattle.uv_model.specs.Timers.{with_timer, without_timer}
-use Rattle.uv_order.specs.Active.{Has, InOrder}
-use Rattle.uv_order.specs.Active.{has_id, AreDistinct}
+use Rattle.uv_order.specs.Active.{Has, InOrder, has_id, AreDistinct}
 use Rattle.uv_order.proofs.Contents.{slot_with, holds, Turns, set_turns, emptied, emptied_turns, as_handle}
 use Rattle.uv_order.proofs.IdLists.{same, other, turned, Each, each_mapped, each_without, absent, distinct_without, still_there, without_absent, each_middle, distinct_middle, has_new_middle, has_old_middle, each_but, distinct_but, has_but}
 use Rattle.uv_order.proofs.TimerKeys.{one_id, not_before_itself, before_each, still_has, had, in_order_without, IsNew, has_new, has_old, new_or_old, in_order_with, is_new}

@@ -20,10 +20,9 @@ use Rattle.uv_model.specs.Ids.{has_some}
 use Rattle.uv_model.specs.State.{State}
 use Rattle.uv_model.specs.Timeout.{is_alive, poll_timeout_by, until_first}
 use Rattle.uv_model.specs.Next.{goes}
-use Rattle.uv_order.specs.Active.{has_id}
+use Rattle.uv_order.specs.Active.{has_id, run_ids}
 use Rattle.uv_order.specs.Alive.{is_kept_by, has_handle, has_run, has_request, closes_some, lives, until_due, waits, may_wait}
 use Rattle.uv_order.proofs.IdLists.{itself}
-use Rattle.uv_order.specs.Active.{run_ids}
 use Rattle.uv_order.proofs.Works.{asked_at, AllAsk, IsOpen, HasEnded}
 use Rattle.uv_order.proofs.Working.{Working}
 

@@ -32,7 +32,7 @@ use Rattle.uv_script.specs.Program.{Program, arena_size, worker_count, lines_in,
 use Rattle.uv_work.specs.Tasks.{text_of}
 use Rattle.uv_work.specs.Digests.{digest_of}
 use Rattle.uv_work.specs.Pool.{Pool, Done as Ended, empty_pool, waits, runs, is_done, has, without, collected_from, after_event, then_event, after_events, replay}
-use Rattle.uv_work.specs.Requests.{is_open}
+use Rattle.uv_work.specs.Requests.{is_open, queued}
 use Rattle.uv_work.specs.declared.event.PoolEvent.{PoolEvent}
 use Rattle.uv_work.specs.declared.event.PoolEvent.TheVariants as event
 use Rattle.uv_work.specs.declared.outcome.Outcome.TheVariants.{Finished, Cancelled}
@@ -41,7 +41,6 @@ use Rattle.uv_work.specs.declared.content.Content.TheVariants as content
 use Rattle.uv_work.specs.declared.request.Request.{Request}
 use Rattle.uv_model.specs.declared.place.Body.{Body}
 use Rattle.uv_model.specs.declared.place.Run.{Run}
-use Rattle.uv_work.specs.Requests.{queued}
 use Rattle.uv_model.specs.Content.{request_in}
 use Rattle.uv_model.specs.Ids.{same_id, without_id}
 use Rattle.uv_model.specs.State.{State, fresh, request, live, live_handle, live_request, front, front_request, watched, refreshed}

@@ -12,8 +12,7 @@ use Rattle.uv_ids.specs.declared.id.Id.{Id}
 use Rattle.uv_ids.specs.declared.due.Due.{Due}
 use Rattle.uv_model.specs.Ids.{same_id}
 use Rattle.uv_model.specs.Timers.{with_timer, without_timer}
-use Rattle.uv_order.specs.Active.{Has, Before, InOrder}
-use Rattle.uv_order.specs.Active.{has_id, AreDistinct}
+use Rattle.uv_order.specs.Active.{Has, Before, InOrder, has_id, AreDistinct}
 use Rattle.uv_model.proofs.Order.{due_cmp_total, another}
 use Rattle.uv_order.proofs.IdLists.{same}
 

@@ -14,13 +14,12 @@ use Rattle.uv_script.specs.declared.op.Op.TheVariants as op
 use Rattle.uv_work.specs.declared.task.Task.{Task}
 use Rattle.uv_script.specs.Program.{Program, op_at}
 use Rattle.uv_records.specs.Slots.{Slots, held}
-use Rattle.uv_work.specs.Requests.{is_open}
+use Rattle.uv_work.specs.Requests.{is_open, queued, digest_in}
 use Rattle.uv_work.specs.declared.outcome.Outcome.{Outcome}
 use Rattle.uv_work.specs.declared.outcome.Outcome.TheVariants.{Open, Finished, Cancelled}
 use Rattle.uv_work.specs.declared.content.Content.{Content}
 use Rattle.uv_work.specs.declared.content.Content.TheVariants as content
 use Rattle.uv_work.specs.declared.request.Request.{Request}
-use Rattle.uv_work.specs.Requests.{queued, digest_in}
 use Rattle.uv_model.specs.Content.{request_in}
 use Rattle.uv_model.specs.Ids.{same_id}
 use Rattle.uv_order.specs.Active.{has_id}

@@ -1,5 +1,5 @@
 -- A run up to a break, by how its next step ends.
-use Rattle.std.proofs.Common.{◌≡◌, ℕ, zero, suc, ◌+◌, ◌-◌, ◌<◌, ◌≤◌, List, length, take, Bool, true, false, Result, Ok, Err, refl, ap, sym, subst, ◌∙◌, arith}
+use Rattle.std.proofs.Common.{◌≡◌, ℕ, zero, suc, ◌+◌, ◌<◌, List, length, true, false, Result, Ok, Err, ap, sym, subst, ◌∙◌, arith}
 use Rattle.uv_ids.specs.declared.event.Event.{Event}
 use Rattle.uv_ids.specs.declared.fault.Fault.{Fault}
 use Rattle.uv_model.specs.declared.machine.Outcome.{Outcome}

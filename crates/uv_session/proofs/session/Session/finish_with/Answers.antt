@@ -1,7 +1,9 @@
-use Rattle.std.proofs.Common.{take, arith}
+use Rattle.std.proofs.Common.{take, refl, arith, length-take}
 use Rattle.std.proofs.lemmas.Grind.{common_steps}
+use Rattle.std.proofs.lemmas.Result.{err_from_is_err_and}
 use Rattle.uv_model.proofs.Runs.{accepts-push, accepts-take}
 use Rattle.uv_ids.specs.declared.event.Event.TheVariants.{Finish}
+use Rattle.uv_session.proofs.Handed.{responds_err}
 use Rattle.uv_session.proofs.session.Session.finish_with.Goals as goal
 
 pub invariant_of-self-2 : goal.invariant_of-self-2
@@ -17,3 +19,16 @@ invariant_of-self-2 g c =
           (accepts-take p c.self.inside.standing c.self.inside.events.items c.self.invariant.accepted) moved);
       limit_is = c.self.invariant.limit_is;
     }
+
+pub returns-in_err-outcome : goal.returns-in_err-outcome
+returns-in_err-outcome g c =
+    let p = err_from_is_err_and c.from_residual.result c.from_residual.ensures.1 in
+    let h = c.self.invariant in
+    rw (← c.self.view_is, p.1, p.2, c.reserve.ensures.items) (record {
+      same_program = c.in_err-outcome.ensures.program;
+      same_limit = refl;
+      same_breaks = refl;
+      answer = responds_err _ _ _ _ _ _ _ _ h.steps_are (rw length-take (omega (arith, h.within, c.if-standing-self.false))) h.limit_is
+          c.in_err-outcome.ensures.answer;
+      taken_back = refl;
+    })
