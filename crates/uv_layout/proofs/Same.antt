@@ -22,11 +22,12 @@ module _ (i : Image Place) (s : State) (h : StandsFor i s) where
   slots_as : map (λ (c : Cell Content). c.slot) i.arena.memory.row.items ≡ s.arena.slots
   slots_as = ap (λ (q : plain.Slots Content). q.slots) h.slots
 
+  pub slots_long : length i.arena.memory.row.items ≡ length s.arena.slots
+  slots_long =
+      sym (length-map i.arena.memory.row.items (λ (c : Cell Content). c.slot)) ∙ ap (λ (ss : List (Slot Content)). length ss) slots_as
+
   pub past_shown : (n : ℕ) → length i.arena.memory.row.items ≤ n → slice_get s.arena.slots n ≡ None
-  past_shown n l =
-      let long = length-map i.arena.memory.row.items (λ (c : Cell Content). c.slot) in
-      let same = ap (λ (ss : List (Slot Content)). length ss) slots_as in
-      slice_get_past s.arena.slots n (omega (arith, l, long, same))
+  past_shown n l = let long = slots_long in slice_get_past s.arena.slots n (omega (arith, l, long))
 
   -- a slot that was used
   pub slot_shown : (n : ℕ) (t : Slot Content) → n < length i.arena.memory.row.items → t ≡ slot_at i.arena.memory n

@@ -1,17 +1,9 @@
-use Rattle.std.proofs.Common.{Some, sym, subst}
-use Rattle.uv_ids.specs.declared.event.Event.TheVariants.{Finish}
-use Rattle.uv_ids.specs.declared.seen.Seen.TheVariants as seen
-use Rattle.uv_step.specs.Image.{held, image_of}
-use Rattle.uv_loop.specs.Course.{Leads}
+use Rattle.uv_step.specs.Image.{held}
 use Rattle.uv_loop.proofs.Finishes.{finish_leads}
 use Rattle.uv_loop.proofs.pooling.finish_work.Goals as goal
 
 pub returns-clause-leads : goal.returns-clause-leads
 returns-clause-leads c p =
-    let i = image_of c.args.memory.now in
-    let j = image_of c.finish.new.self in
-    subst (λ n. Leads p i j (Finish c.args.worker) (Some (seen.Finish c.args.worker n c.args.id))) (sym c.name.ensures)
-    (finish_leads c.finish.new.self.step_record (held c.args.memory.now) (held c.finish.new.self) c.args.worker c.args.id _ c.args.request
-    c.args.work.job
-    c.args.work.digest _ c.requires.may c.requires.job c.args.work.is_digest c.finish.ensures.does.does c.finish.ensures.recorded
-    c.finish.ensures.does.is c.is_sound.ensures p)
+    finish_leads c.finish.new.self.step_record (held c.args.memory.now) (held c.finish.new.self) c.args.worker c.args.id _ c.args.request
+    c.args.work.job c.args.work.digest _ c.requires.may c.requires.job c.args.work.is_digest c.finish.ensures.does.does
+    c.finish.ensures.recorded c.finish.ensures.does.is c.is_sound.ensures p
