@@ -13,11 +13,10 @@ use crate::trace::{push_id, push_timeout};
 use std::alloc::{AllocError, Global};
 use uv_ids::{Callback, Fault, Id, Kind, Var};
 use uv_model::{Body, Machine, Numbers, Place, Run, Stage, TimersOf, Timing};
-use uv_work::{Content, Request};
 use uv_records::{Calls, HandleRecord, ListName, Named};
 use uv_script::{Script, push_number, push_task_text};
 use uv_session::Session;
-use uv_work::Outcome;
+use uv_work::{Content, Outcome, Request};
 
 /// The text of a session's state: its numbers, its place, its names, its slots and its lists.
 pub fn state_text<M: Machine>(alloc: Global, session: &Session<M>) -> Result<Vec<u8>, Fault>

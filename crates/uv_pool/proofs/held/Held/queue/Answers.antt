@@ -10,6 +10,5 @@ returns-clause-contents c =
 pub returns-clause-kept : goal.returns-clause-kept
 returns-clause-kept c =
     let s = c.args.self.now in
-    let known = rw c.req.ensures at c.note.ensures in
     kept_queue s _ c.args.job c.push-number.result _ c.requires.kept c.requires.unknown
-    (omega (arith, c.push-number.ensures.number, s.waiting.places.ok.0)) (search rules) c.push_reserved.ensures.items known
+    (omega (arith, c.push-number.ensures.number, s.waiting.places.ok.0)) (search rules) c.push_reserved.ensures.items c.note.ensures

@@ -15,7 +15,6 @@ index_mut-requires c =
 pub returns-clause-kept : goal.returns-clause-kept
 returns-clause-kept c =
     let s = c.args.self.now in
-    let known = rw c.req.ensures at c.note.ensures in
     let q = c.pop.new.self in
     kept_take s _ c.args.k c.in_ok-job.job q.first q.places.items _ c.requires.kept c.requires.idle c.in_ok-job.ensures.job (search rules)
-    c.push_reserved.ensures.items known
+    c.push_reserved.ensures.items c.note.ensures
