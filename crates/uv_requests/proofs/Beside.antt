@@ -10,6 +10,7 @@ use Rattle.uv_arena.specs.Chains.{IsIn}
 use Rattle.uv_arena.specs.Image.{Image, members, held, on_list, plain_slots}
 use Rattle.uv_arena.proofs.Lists.{in_left, in_right, in_either}
 use Rattle.uv_work.specs.declared.request.Request.{Request}
+use Rattle.uv_work.specs.Requests.{is_open, IsDigest}
 use Rattle.uv_work.specs.Pool.{Pool, Done, size, has}
 use Rattle.uv_requests.specs.Working.{Running, working, id_in, request_in, done_in, was_finished, pool_of, IsHeld, IsRun, IsWork}
 use Rattle.uv_requests.proofs.Holding.{held_id, one_held, one_id}
@@ -72,9 +73,20 @@ module _ {X : Type 0} (read : X → Option Request) (i j : Image X) (r q : Runni
     pub waits : a ≡ true → IsHeld read j d true
     pub is_done : b ≡ true → IsHeld read j d false × (done_in read j d.slot ≡ m)
     pub listed : (e : Id) → e.slot ≡ d.slot → IsHeld read j e true → on_list j e ≡ true → a ≡ true
+    pub told : (e : Id) (x : Request) → e.slot ≡ d.slot → request_in read j e ≡ Some x → IsDigest x.task x.outcome
     -- worker k runs d now, and each other one what it ran before
     pub runs : (c : ℕ) (e : Id) → slice_get q.workers c ≡ Some (Some e)
         → ((c ≡ k) × (e ≡ d) × IsRun read j d) ⊎ ((e.slot ≢ d.slot) × (slice_get r.workers c ≡ Some (Some e)))
+
+-- what is told of the request in a slot, of whatever id that slot has
+pub told_by : {X : Type 0} (read : X → Option Request) (j : Image X) (d : Id) (y : Request) → request_in read j d ≡ Some y
+    → IsDigest y.task y.outcome → (e : Id) (x : Request) → e.slot ≡ d.slot → request_in read j e ≡ Some x → IsDigest x.task x.outcome
+told_by read j d y is told e x s h =
+    let one : e ≡ d = one_held read j d e (is_open y.outcome) (is_open x.outcome) (record { request = y; is = is; outcome = refl })
+    (record { request = x; is = h; outcome = refl }) s in
+    let there : request_in read j d ≡ Some x = subst (λ z. request_in read j z ≡ Some x) one h in
+    let same : y ≡ x = cc (is, there) in
+    subst (λ (z : Request). IsDigest z.task z.outcome) same told
 
 pub ends_stay : {X : Type 0} (i : Image X) (d : Id) {ys es : List ℕ} → without eqb (members i EndedYet) d.slot ≡ ys
     → without eqb (members i Ended) d.slot ≡ es → without eqb (members i EndedYet ++ members i Ended) d.slot ≡ ys ++ es
@@ -158,6 +170,10 @@ module _ {X : Type 0} {read : X → Option Request} {i j : Image X} {r q : Runni
       | inl y ↦ elim (f.runs c e h) [ inl z ↦ y.0 ∙ sym z.0 | inr n ↦ absurd (n.0 (ap (λ (z : Id). z.slot) y.1)) ]
       | inr n ↦ elim (f.runs c e h) [ inl z ↦ absurd (n.0 (ap (λ (u : Id). u.slot) z.1)) | inr o ↦ w.apart b c e n.1 o.1 ]
     ];
+    digests = λ e x h. elim (eqb_tells e.slot d.slot) [
+      | inl y ↦ f.told e x y.1 h
+      | inr n ↦ w.digests e x (sym (ap (option_and_then read) (f.same e n.1)) ∙ h)
+    ];
     count = count ∙ ap size (sym pool_now);
   }
 
@@ -201,6 +217,7 @@ module _ {X : Type 0} (read : X → Option Request) (i j : Image X) (d : Id) (r 
       waits = λ e. cc;
       is_done = λ e. cc;
       listed = λ e s h on. let none = after e s in cc (h.is, none);
+      told = λ e x s h. let none = after e s in cc (h, none);
       runs = λ c e g. inr (elsewhere w d before e true (w.running c e g).request, g);
     }
 

@@ -75,6 +75,10 @@ collect_done {X = X} {read = read} {make = make} {i = i} {a = a} {j = j} {d = d}
   others : (l : ListName) → l ≢ EndedYet → members j l ≡ members i l
   others l n = rem.lists l ∙ un.lists l ∙ f.others l n
 
+  gone : (e : Id) → e.slot ≡ d.slot → request_in read j e ≡ None
+  gone e s = ap (λ (q : plain.Slots X). option_and_then read (plain.held q.slots e)) rem.plain
+      ∙ ap (option_and_then read) (freed_slot (plain_slots a) d e (make from) rem.was s a.last)
+
   left : Leaves read i j r (with_count (r.count - 1) r) d 0 (members i Waiting) (f.rest ++ members i Ended) false false (done_in read j d.slot)
   left = record {
     same = λ e n. rem.contents e n ∙ un.slots.contents e;
@@ -85,9 +89,8 @@ collect_done {X = X} {read = read} {make = make} {i = i} {a = a} {j = j} {d = d}
     ended = λ l. (rem.lists EndedYet ∙ un.lists EndedYet ∙ f.after) l ++ others Ended (λ e. cc) l;
     waits = λ e. cc;
     is_done = λ e. cc;
-    listed = λ e s h on.
-        let gone = ap (λ (q : plain.Slots X). option_and_then read (plain.held q.slots e)) rem.plain
-        ∙ ap (option_and_then read) (freed_slot (plain_slots a) d e (make from) rem.was s a.last) in cc (h.is, gone);
+    listed = λ e s h on. let none = gone e s in cc (h.is, none);
+    told = λ e x s h. let none = gone e s in cc (h, none);
     runs = λ c e g. inr (run_elsewhere read i d false (front_held read i EndedYet d false f w.yet) f.listed.listed e (w.running c e g), g);
   }
 

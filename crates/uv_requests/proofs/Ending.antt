@@ -19,14 +19,14 @@ use Rattle.uv_arena.proofs.Readings.{apart_from}
 use Rattle.uv_work.specs.Ids.{same_id}
 use Rattle.uv_work.specs.declared.job.Job.{Job}
 use Rattle.uv_work.specs.declared.request.Request.{Request}
-use Rattle.uv_work.specs.Requests.{is_open, is_finished, ended, finished, cancelled, reopened, job_of, cancel_refusal}
+use Rattle.uv_work.specs.Requests.{is_open, is_finished, ended, finished, cancelled, reopened, job_of, cancel_refusal, IsDigest}
 use Rattle.uv_work.specs.Pool.{waits, without}
 use Rattle.uv_work.specs.declared.outcome.Outcome.{Outcome}
 use Rattle.uv_work.specs.declared.outcome.Outcome.TheVariants.{Open, Finished, Cancelled}
 use Rattle.uv_requests.specs.Working.{Running, working, found, id_in, request_in, done_in, was_finished, pool_of, IsHeld, IsRun, IsWork}
 use Rattle.uv_requests.specs.Undo.{with_run, reopened_by, reopened_in, finish_undone, cancel_undone, CanReopen}
 use Rattle.uv_requests.specs.Calls.{IsFinished, IsCancelled}
-use Rattle.uv_requests.proofs.Beside.{Leaves, pool_now, work_now, ends_stay, run_elsewhere}
+use Rattle.uv_requests.proofs.Beside.{Leaves, told_by, pool_now, work_now, ends_stay, run_elsewhere}
 use Rattle.uv_requests.proofs.Holding.{held_id, one_held, not_both, member, list_apart}
 use Rattle.uv_requests.proofs.Rules.{not_same, none_of, waits_in, without_in, finish_rule, finish_size, cancel_rule, cancel_size}
 
@@ -44,6 +44,7 @@ pub record Ends {X : Type 0} (read : X → Option Request) (make : Request → X
   pub gives_back : (r : Request) → read (make r) ≡ Some r
   pub opened : is_open from.outcome ≡ true
   pub closed : is_open o ≡ false
+  pub told : IsDigest from.task o
   pub set : IsSet a k d (make (ended o from)) (make from)
   pub pushed : IsPushed k j Ended d (members k Ended ++ d.slot ∷ [])
 
@@ -96,6 +97,7 @@ module _ {X : Type 0} {read : X → Option Request} {make : Request → X} {a k 
       waits = λ e. cc;
       is_done = λ e. (held_now, done_now);
       listed = λ e s h on. absurd (not_both read j d (subst (λ z. IsHeld read j z true) (one_held read j d e false true held_now h s) h) held_now);
+      told = told_by read j d (ended o from) request_now f.told;
       runs = λ b e g. inr (runs b e g);
     }
 
@@ -103,10 +105,10 @@ module _ {X : Type 0} {read : X → Option Request} {make : Request → X} {a k 
 pub finish_done : {X : Type 0} {read : X → Option Request} {make : Request → X} {i k j : Image X} {d : Id} {from : Request} {digest : List ℕ} {c : ℕ}
     {r : Running} {asked : Job} → ((q : Request) → read (make q) ≡ Some q) → IsSound i → IsWork read (working i r)
     → slice_get r.workers c ≡ Some (Some d) → request_in read i d ≡ Some from → IsSet i k d (make (finished digest from)) (make from)
-    → IsPushed k j Ended d (members k Ended ++ d.slot ∷ []) → job_of d from ≡ asked
+    → IsPushed k j Ended d (members k Ended ++ d.slot ∷ []) → job_of d from ≡ asked → IsDigest from.task (Finished digest)
     → IsFinished read make (working i r) (working j (with_run c None r)) c d asked digest (record { worker = c; id = d })
 finish_done {read = read} {make = make} {i = i} {k = k} {j = j} {d = d} {from = from} {digest = digest} {c = c} {r = r} gives_back s w runs
-    there set p job = record {
+    there set p job told = record {
       rule = finish_rule (pool_of read (working i r)) c d runs ∙ ap Some (sym (pool_now w frame));
       from = from;
       was = there;
@@ -136,7 +138,7 @@ finish_done {read = read} {make = make} {i = i} {k = k} {j = j} {d = d} {from = 
       opened = let same : run.request.request ≡ from = cc (run.request.is, there) in rw same at run.request.outcome
 
       ends : Ends read make i k j d from (Finished digest)
-      ends = record { gives_back = gives_back; opened = opened; closed = refl; set = set; pushed = p }
+      ends = record { gives_back = gives_back; opened = opened; closed = refl; told = told; set = set; pushed = p }
 
       loose : (l : ListName) → slots_without eqb (members i l) d.slot ≡ members i l
       loose = apart_from i s d (let x = content_of read i d from there in ap is_some x.1) run.loose

@@ -26,5 +26,6 @@ module _ {X : Type 0} (read : X → Option Request) (capacity last workers : ℕ
     listed = λ d h on. cc;
     running = λ k d e. absurd (none_runs workers k d e);
     apart = λ j k d e f. absurd (none_runs workers j d e);
+    digests = λ d r e. cc;
     count = let none = none_busy workers in omega (arith, none);
   }

@@ -11,15 +11,24 @@ use Rattle.uv_arena.specs.Image.{Image, members, on_list, IsSound}
 use Rattle.uv_arena.specs.Undo.{insert_undone, push_undone, CanUndoInsert, CanUndoPush}
 use Rattle.uv_arena.specs.Calls.{IsFirst, IsInserted, IsPushed, IsUnlinked}
 use Rattle.uv_arena.proofs.Contents.{set_back, set_here, set_there}
+use Rattle.uv_work.specs.declared.task.Task.{Task}
+use Rattle.uv_work.specs.declared.outcome.Outcome.{Outcome}
+use Rattle.uv_work.specs.declared.outcome.Outcome.TheVariants.{Open, Finished, Cancelled}
 use Rattle.uv_work.specs.declared.request.Request.{Request}
-use Rattle.uv_work.specs.Requests.{is_open}
+use Rattle.uv_work.specs.Requests.{is_open, IsDigest}
 use Rattle.uv_requests.specs.Working.{Running, working, id_in, request_in, done_in, pool_of, IsHeld, IsRun, IsWork}
 use Rattle.uv_requests.specs.Undo.{with_count, with_run, queue_undone, take_undone}
 use Rattle.uv_requests.specs.Calls.{IsQueued, IsTaken}
 use Rattle.uv_requests.proofs.Bounds.{pool_fits}
-use Rattle.uv_requests.proofs.Beside.{Leaves, pool_now, work_now, ends_stay, run_elsewhere, elsewhere, none_waits, none_ends, not_in, none_before}
+use Rattle.uv_requests.proofs.Beside.{Leaves, told_by, pool_now, work_now, ends_stay, run_elsewhere, elsewhere, none_waits, none_ends, not_in, none_before}
 use Rattle.uv_requests.proofs.Holding.{listed_id, one_held, front_held}
 use Rattle.uv_requests.proofs.Rules.{queue_rule, queue_size, take_rule, take_size}
+
+-- an open request was finished with no digest
+open_told : (task : Task) (o : Outcome) → is_open o ≡ true → IsDigest task o
+open_told task Open e = tt
+open_told task (Finished digest) e = cc
+open_told task Cancelled e = tt
 
 -- a request is put in a new slot, and behind those that wait; and its count fits
 pub queue_done : {X : Type 0} {read : X → Option Request} {make : Request → X} {i k j : Image X} {d : Id} {req : Request} {u : InsertUndo}
@@ -66,6 +75,7 @@ queue_done {read = read} {make = make} {i = i} {k = k} {j = j} {d = d} {req = re
     waits = λ e. record { request = req; is = request_now; outcome = opened };
     is_done = λ e. cc;
     listed = λ e s h on. refl;
+    told = told_by read j d req request_now (open_told req.task req.outcome opened);
     runs = λ c e g. inr (elsewhere w d none e true (w.running c e g).request, g);
   }
 
@@ -119,6 +129,7 @@ take_done {read = read} {i = i} {j = j} {d = d} {t = t} {k = k} {r = r} w idle f
     is_done = λ e. cc;
     listed = λ e s h on.
         let off : on_list j e ≡ false = subst (λ z. on_list j z ≡ false) (sym (one_held read j d e true true run_now.request h s)) un.loose in cc;
+    told = λ e x s h. w.digests e x (sym (ap (option_and_then read) (un.slots.contents e)) ∙ h);
     runs = λ c e g. elim (eqb_tells c k) [
       | inl y ↦ inl (y.1, cc (set_here r.workers k None (Some d) idle, ap (slice_get (with_run k (Some d) r).workers) y.1, g), run_now)
       | inr n ↦

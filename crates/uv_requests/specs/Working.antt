@@ -5,7 +5,7 @@ use Rattle.uv_records.specs.declared.lists.ListName.TheVariants.{Waiting, Done a
 use Rattle.uv_arena.specs.Chains.{IsIn}
 use Rattle.uv_arena.specs.Image.{Image, slot_at, members, held, on_list}
 use Rattle.uv_work.specs.declared.request.Request.{Request}
-use Rattle.uv_work.specs.Requests.{is_open, is_finished}
+use Rattle.uv_work.specs.Requests.{is_open, is_finished, IsDigest}
 use Rattle.uv_work.specs.Pool.{Pool, Done, size}
 
 pub record Running : Type 0 where
@@ -77,5 +77,7 @@ module _ {X : Type 0} (read : X → Option Request) where
     pub running : (k : ℕ) (d : Id) → slice_get w.running.workers k ≡ Some (Some d) → IsRun w.arena d
     -- no two workers run one
     pub apart : (j k : ℕ) (d : Id) → slice_get w.running.workers j ≡ Some (Some d) → slice_get w.running.workers k ≡ Some (Some d) → j ≡ k
+    -- the digest that a request was finished with is that of its task
+    pub digests : (d : Id) (r : Request) → request_in w.arena d ≡ Some r → IsDigest r.task r.outcome
     -- the count is that of the pool
     pub count : w.running.count ≡ size (pool_of w)

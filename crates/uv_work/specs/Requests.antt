@@ -1,10 +1,12 @@
 -- The record of a request, what becomes of it, and when its cancel is refused.
-use Rattle.std.specs.Prelude.{ℕ, List, Bool, true, false, cond, Option, Some, None}
+use Rattle.std.specs.Prelude.{◌≡◌, ℕ, List, Bool, true, false, cond, Option, Some, None}
 use Rattle.uv_ids.specs.declared.id.Id.{Id}
 use Rattle.uv_ids.specs.declared.id.Var.{Var}
 use Rattle.uv_ids.specs.declared.code.Code.{Code}
 use Rattle.uv_ids.specs.declared.code.Code.TheVariants.{Estale, Ekind, Ebusy}
 use Rattle.uv_work.specs.declared.task.Task.{Task}
+use Rattle.uv_work.specs.Tasks.{text_of}
+use Rattle.uv_work.specs.Digests.{digest_of}
 use Rattle.uv_work.specs.declared.request.Request.{Request}
 use Rattle.uv_work.specs.declared.job.Job.{Job}
 use Rattle.uv_work.specs.declared.outcome.Outcome.{Outcome}
@@ -20,6 +22,12 @@ abbrev pub is_finished : Outcome → Bool
 is_finished Open = false
 is_finished (Finished digest) = true
 is_finished Cancelled = false
+
+-- a digest that a request was finished with is that of its task
+abbrev pub IsDigest : Task → Outcome → Type 0
+IsDigest task Open = Unit {0}
+IsDigest task (Finished digest) = digest ≡ digest_of task.rounds (text_of task)
+IsDigest task Cancelled = Unit {0}
 
 -- a request as `queue` makes it
 abbrev pub queued : Var → Task → Request

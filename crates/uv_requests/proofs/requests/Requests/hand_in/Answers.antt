@@ -1,3 +1,7 @@
+use Rattle.std.proofs.Common.{sym, ap, ◌∙◌}
+use Rattle.uv_work.specs.declared.job.Job.{Job}
+use Rattle.uv_work.specs.Tasks.{text_of}
+use Rattle.uv_work.specs.Digests.{digest_of}
 use Rattle.uv_arena.proofs.Contents.{set_done}
 use Rattle.uv_requests.proofs.Ending.{finish_done}
 use Rattle.uv_requests.proofs.requests.Requests.hand_in.Goals as goal
@@ -9,4 +13,5 @@ returns-clause-finished g c =
     c.set.new.self.image c.of.result c.set.result c.set.ensures.none c.set.ensures.some in
     rw c.set_running.ensures
     (finish_done K.gives_back c.is_sound.ensures c.requires.work c.requires.runs c.requires.found (rw (c.of.ensures, c.finished.ensures) at done)
-    c.push_back.ensures.pushed c.requires.job)
+    c.push_back.ensures.pushed c.requires.job
+    (c.args.work.is_digest ∙ ap (λ (job : Job). digest_of job.task.rounds (text_of job.task)) (sym c.requires.job)))

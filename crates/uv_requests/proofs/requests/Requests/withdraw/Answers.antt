@@ -13,6 +13,7 @@ returns-clause-cancelled g c =
       gives_back = K.gives_back;
       opened = c.requires.opened;
       closed = refl;
+      told = tt;
       set = rw (c.of.ensures, c.cancelled.ensures) at done;
       pushed = c.push_back.ensures.pushed;
     })
