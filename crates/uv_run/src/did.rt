@@ -1,24 +1,15 @@
 //! What a step of the loop did to the thread pool, by the line that it appended.
-ghost use Rattle.std.specs.Prelude.{◌≡◌, ◌∷◌, [], Some, option_to_list};
+ghost use Rattle.std.specs.Prelude.{◌≡◌, Some, option_to_list};
 ghost use Rattle.uv_ids.specs.declared.seen.Seen.TheVariants as seen;
-ghost use Rattle.uv_work.specs.declared.event.PoolEvent.TheVariants as event;
 ghost use Rattle.uv_order.specs.PoolEvents.{op_events};
 ghost use Rattle.uv_script.specs.Program.{op_at};
 ghost use Rattle.uv_live.specs.Course.{events_of, job_of};
 ghost use Rattle.uv_run.specs.Events.{events_in, events_of_loop, job_asked, job_at, job_by};
 
-use uv_ids::{Answer, Id, Seen, Site};
+use uv_ids::{Answer, Seen, Site};
 use uv_live::Did;
 use uv_script::{Op, Script};
-use uv_work::{Job, PoolEvent, Task};
-
-/// A request was queued.
-fn queued(id: Id, task: Task) -> Did
-    ensures events { events_of result ≡ event.Queue id ∷ [] }
-    ensures job { job_of result ≡ Some record { req = id; task = task } }
-{
-    Did::Queued(Job { req: id, task })
-}
+use uv_work::{Job, PoolEvent};
 
 /// What an op did that answered this.
 fn did_op(op: Op, answer: Answer) -> Did
@@ -26,7 +17,7 @@ fn did_op(op: Op, answer: Answer) -> Did
     ensures job { job_of result ≡ job_asked op answer }
 {
     match (op, answer) {
-        (Op::Queue(_, task), Answer::Id(id)) => queued(id, task),
+        (Op::Queue(_, task), Answer::Id(req)) => Did::Queued(Job { req, task }),
         (Op::Cancel(_), Answer::Cancelled(id)) => Did::Cancelled(id),
         _ => Did::Nothing,
     }
