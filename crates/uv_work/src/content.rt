@@ -9,3 +9,6 @@ pub enum Content {
     Handle(HandleRecord),
     Request(Request),
 }
+
+// Each slot has so much room for it.
+const _: () = prove!(std::mem::size_of::<Content>() <= 112);
