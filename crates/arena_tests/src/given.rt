@@ -5,8 +5,7 @@ ghost use Rattle.uv_work.specs.Content.{handle_of};
 
 use uv_arena::Slots;
 use uv_ids::{Id, Var};
-use uv_work::Content;
-use uv_work::Request;
+use uv_work::{Content, Request, Task};
 
 /// The id of the first that a slot holds.
 pub fn id(slot: u32) -> Id {
@@ -20,9 +19,9 @@ pub fn id(slot: u32) -> Id {
 pub fn put_request(slots: &mut Slots<Content>, name: u32) -> Option<Id>
     ensures { alive_count handle_of slots.new.image ≡ alive_count handle_of slots.old.image }
 {
-    match Request::new(Var(name), 1, b"") {
+    match Task::new(1, b"") {
         None => None,
-        Some(request) => put(slots, request),
+        Some(task) => put(slots, Request::new(Var(name), task)),
     }
 }
 

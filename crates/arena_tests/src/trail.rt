@@ -10,7 +10,7 @@ use uv_requests::CollectWorkUndo;
 use uv_step::{Large, LastStep, Medium, Naming};
 use uv_trail::Trail;
 use uv_watch::WalkUndo;
-use uv_work::Request;
+use uv_work::{Request, Task};
 
 const PLACE: ChainPlace = ChainPlace {
     list: 3,
@@ -53,7 +53,8 @@ fn ended(last: &mut LastStep<u64>, place: u64) {
             retired: true,
         },
     };
-    if let Some(request) = Request::new(Var(1), 1, b"abc") {
+    if let Some(task) = Task::new(1, b"abc") {
+        let request = Request::new(Var(1), task);
         last.note_large(place, Large::Ended(collected, request));
     }
 }

@@ -2,7 +2,7 @@
 
 use std::process::Abort;
 use uv_ids::{Id, Var};
-use uv_work::{Job, Outcome, Request, WorkResult};
+use uv_work::{Job, Outcome, Request, Task, WorkResult};
 
 const TEXT: &[u8; 64] = b"the quick brown fox jumps over the lazy dog, and over the lazy c";
 
@@ -166,8 +166,15 @@ const REQ: Id = Id {
     generation: 1,
 };
 
+fn task<R: Abort>(rt: &R, text: &[u8], rounds: u16) -> Task {
+    Task::new(rounds, text).expect(rt, "within the limits")
+}
+
 fn job<R: Abort>(rt: &R, text: &[u8], rounds: u16) -> Job {
-    Job::new(REQ, text, rounds).expect(rt, "within the limits")
+    Job {
+        req: REQ,
+        task: task(rt, text, rounds),
+    }
 }
 
 /// Whether so many rounds of the first bytes of the text, so many, have this digest.
@@ -188,57 +195,46 @@ fn digests_are_those_of_sha256sum(rt: HostRuntime) {
     }
 }
 
-/// Whether there is a job of this text and of so many rounds.
-fn is_job(text: &[u8], rounds: u16) -> bool {
-    Job::new(REQ, text, rounds).is_some()
+/// Whether there is a task of this text and of so many rounds.
+fn is_task(text: &[u8], rounds: u16) -> bool {
+    Task::new(rounds, text).is_some()
 }
 
 /// Whether a job is the one that was asked for.
 fn is_asked(job: Job, text: &[u8], rounds: u16) -> bool {
-    job.req == REQ && job.text() == text && job.rounds() == rounds
+    job.req == REQ && job.task.text() == text && job.task.rounds() == rounds
 }
 
 #[test]
-fn jobs_are_within_the_limits(rt: HostRuntime) {
+fn tasks_are_within_the_limits(rt: HostRuntime) {
     let longest = job(&rt, text(), 1000);
     assert!(&rt; is_asked(longest, text(), 1000));
     assert!(&rt; longest.is(WorkResult::compute(longest).job()));
-    assert!(&rt; !is_job(text(), 0) && !is_job(text(), 1001) && !is_job(too_long(), 1));
-}
-
-/// Whether there is a request of this text and of so many rounds.
-fn is_request(text: &[u8], rounds: u16) -> bool {
-    Request::new(Var(2), rounds, text).is_some()
-}
-
-#[test]
-fn requests_are_within_the_limits(rt: HostRuntime) {
-    assert!(&rt; is_request(text(), 1000));
-    assert!(&rt; !is_request(text(), 0) && !is_request(text(), 1001) && !is_request(too_long(), 1));
+    assert!(&rt; !is_task(text(), 0) && !is_task(text(), 1001) && !is_task(too_long(), 1));
 }
 
 /// Whether a request is open, and its job the one that was asked for.
 fn opens(request: Request) -> bool {
-    request.name() == Var(2)
-        && request.rounds() == 1
-        && request.text().is_empty()
+    request.name == Var(2)
         && request.is_open()
-        && request.outcome() == Outcome::Open
+        && request.outcome == Outcome::Open
+        && request.digest().is_none()
         && is_asked(request.job(REQ), &[], 1)
 }
 
 /// Whether a request ends with this digest, and opens again.
 fn ends(request: Request, digest: [u8; 32]) -> bool {
     let finished = request.finished(WorkResult::compute(request.job(REQ)));
-    finished.outcome() == Outcome::Finished(digest)
+    finished.outcome == Outcome::Finished(digest)
+        && finished.digest() == Some(digest)
         && !finished.is_open()
         && finished.reopened() == request
 }
 
 #[test]
 fn what_becomes_of_a_request(rt: HostRuntime) {
-    let request = Request::new(Var(2), 1, b"").expect(&rt, "within the limits");
+    let request = Request::new(Var(2), task(&rt, b"", 1));
     let (_, _, digest) = digests().first().expect(&rt, "the digest of nothing");
     assert!(&rt; opens(request) && ends(request, *digest));
-    assert!(&rt; request.cancelled().outcome() == Outcome::Cancelled);
+    assert!(&rt; request.cancelled().outcome == Outcome::Cancelled);
 }

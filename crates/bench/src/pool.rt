@@ -11,7 +11,7 @@ use std::thread::{Threads, join, map_indices};
 use std::time::Instant;
 use uv_ids::{Fault, Id, MOST_ROUNDS, Why};
 use uv_pool::{Desk, Gate, LockedBook, PoolBook, worker};
-use uv_work::{Job, WorkResult};
+use uv_work::{Job, Task, WorkResult};
 
 struct Quiet;
 
@@ -38,11 +38,12 @@ impl Load {
     }
 
     fn job(self, slot: u32) -> Option<Job> {
-        let id = Id {
+        let req = Id {
             slot,
             generation: 0,
         };
-        Job::new(id, b"", self.rounds.min(u32::from(MOST_ROUNDS)) as u16)
+        let task = Task::new(self.rounds.min(u32::from(MOST_ROUNDS)) as u16, b"")?;
+        Some(Job { req, task })
     }
 }
 

@@ -3,7 +3,7 @@
 use std::process::Abort;
 use uv_ids::{Fault, Id};
 use uv_pool::Gate;
-use uv_work::Job;
+use uv_work::{Job, Task};
 
 pub struct Quiet;
 
@@ -23,7 +23,10 @@ pub fn id(slot: u32) -> Id {
 }
 
 pub fn job<R: Abort>(rt: &R, slot: u32) -> Job {
-    Job::new(id(slot), b"abc", 1).expect(rt, "within the limits")
+    Job {
+        req: id(slot),
+        task: Task::new(1, b"abc").expect(rt, "within the limits"),
+    }
 }
 
 pub fn put<T: Drop>(all: &mut Vec<T>, item: T) -> Result<(), Fault> {

@@ -17,7 +17,7 @@ use uv_run::LiveSession;
 use uv_script::Script;
 use uv_session::Session;
 use uv_wake::{Board, LoopSeat};
-use uv_work::{Job, WorkResult};
+use uv_work::{Job, Task, WorkResult};
 
 /// A session of a script in which no step stands.
 fn begun<M: Machine>(alloc: Global, text: &[u8]) -> Result<Session<M>, Fault>
@@ -30,7 +30,10 @@ fn begun<M: Machine>(alloc: Global, text: &[u8]) -> Result<Session<M>, Fault>
 
 /// A job of one round.
 fn job<R: Abort>(rt: &R, id: Id, text: &[u8]) -> Job {
-    Job::new(id, text, 1).expect(rt, "within the limits")
+    Job {
+        req: id,
+        task: Task::new(1, text).expect(rt, "within the limits"),
+    }
 }
 
 /// The shift of the one worker of a book, which has done one job. The book is closed.
@@ -238,8 +241,9 @@ fn queued_by_a_turn<M: Machine, R: Abort>(
 
 #[test]
 fn a_turn_queues_the_job_of_its_line(rt: HostRuntime) -> Result<(), Fault> {
-    let wanted = Job::new(id(0), b"abc", 3);
-    assert!(&rt; queued_by_a_turn::<PlainLoop, _>(&rt, rt.alloc())? == (wanted, 1));
+    let task = Task::new(3, b"abc").expect(&rt, "within the limits");
+    let wanted = Job { req: id(0), task };
+    assert!(&rt; queued_by_a_turn::<PlainLoop, _>(&rt, rt.alloc())? == (Some(wanted), 1));
     Ok(())
 }
 

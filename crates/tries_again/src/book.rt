@@ -8,7 +8,7 @@ use std::io::{Print, Read};
 use std::sync::ledger::{Blank, Ledger};
 use uv_ids::{Fault, Id};
 use uv_pool::PoolBook;
-use uv_work::Job;
+use uv_work::{Job, Task};
 
 const REQUEST: Id = Id {
     slot: 0,
@@ -16,8 +16,8 @@ const REQUEST: Id = Id {
 };
 
 fn submits<L: Ledger>(book: &mut PoolBook<L>) -> bool {
-    match Job::new(REQUEST, b"abc", 1) {
-        Some(job) => book.submit(job).is_ok(),
+    match Task::new(1, b"abc") {
+        Some(task) => book.submit(Job { req: REQUEST, task }).is_ok(),
         None => false,
     }
 }

@@ -13,7 +13,7 @@ use uv_records::ListName;
 use uv_requests::{
     CancelUndo, CollectWorkUndo, FinishUndo, QueueUndo, Requests, TakeWorkUndo, request_at,
 };
-use uv_work::{Request, WorkResult};
+use uv_work::{Request, Task, WorkResult};
 
 /// What takes a call back.
 #[derive(Clone, Copy)]
@@ -83,12 +83,12 @@ fn queue(
     ensures work { IsWork asked (working slots.new.image requests.new) }
 {
     let name = u32::try_from((number >> 8) % 100).unwrap_or(0);
-    match Request::new(Var(name), 1, b"abc") {
+    match Task::new(1, b"abc") {
         None => {
             score.note(false);
             Token::Nothing
         }
-        Some(request) => match requests.queue(slots, request) {
+        Some(task) => match requests.queue(slots, Request::new(Var(name), task)) {
             Ok((id, undo)) => {
                 plain.queue(id, score);
                 Token::Queued(undo)
@@ -230,7 +230,7 @@ fn collect(
     let expected = plain.collect();
     match requests.collect(slots) {
         Some(collected) => {
-            score.note(expected == Some((collected.0, collected.1.outcome())));
+            score.note(expected == Some((collected.0, collected.1.outcome)));
             Token::Collected(collected.2, collected.1)
         }
         None => {

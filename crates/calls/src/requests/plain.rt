@@ -199,7 +199,7 @@ fn are_done(slots: &Slots<Held>, list: ListName, members: &[(Id, Outcome)]) -> b
     let mut next = slots.first(list);
     for (id, outcome) in members {
         let same = match request_at(slots, *id) {
-            Ok(request) => request.outcome() == *outcome,
+            Ok(request) => request.outcome == *outcome,
             Err(_) => false,
         };
         if !same || next != Some(*id) {
