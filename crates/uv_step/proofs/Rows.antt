@@ -129,9 +129,13 @@ module _ {P : Type 0} where
       })
 
   -- a record is unwound as its two halves are
-  pub unwound_by : (r : Record P) (i a b : Image P) → a ≡ unwind_parts (naming_parts r.naming) (standing r.place i)
-      → b ≡ unwind_parts (change_parts r.change) a → b ≡ unwind r i
-  unwound_by r i a b e f = f ∙ ap (unwind_parts (change_parts r.change)) e ∙ sym (unwind_apart r i)
+  -- what is undone part by part is unwound, where these are the record's parts
+  pub unwound_by : (r : Record P) (i a b : Image P) (place : P) (n : Naming) (c : Change) → place ≡ r.place → n ≡ r.naming → c ≡ r.change
+      → a ≡ unwind_parts (naming_parts n) (standing place i) → b ≡ unwind_parts (change_parts c) a → b ≡ unwind r i
+  unwound_by r i a b place n c stood same is e f =
+      let before : a ≡ unwind_parts (naming_parts r.naming) (standing r.place i) =
+      e ∙ (λ l. unwind_parts (naming_parts (same l)) (standing (stood l) i)) in
+      f ∙ (λ l. unwind_parts (change_parts (is l)) (before l)) ∙ sym (unwind_apart r i)
 
   -- where the loop stands doesn't matter to what is unwound
   stand_back : (r : Record P) (i : Image P) (place : P) → unwind r (standing place i) ≡ unwind r i

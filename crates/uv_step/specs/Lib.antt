@@ -1,4 +1,6 @@
 pub mod Fit
+pub mod Kept
+pub mod View
 pub mod Image
 pub mod Parts
 pub mod Undo

@@ -7,7 +7,6 @@ ghost use Rattle.uv_work.specs.declared.content.Content.TheVariants.{Handle as h
 ghost use Rattle.uv_step.specs.Change.{Added as added, Edited as edited};
 ghost use Rattle.uv_work.specs.Content.{handle_of};
 ghost use Rattle.uv_step.specs.Image.{held, Untouched, counted_of, timed_of};
-ghost use Rattle.uv_step.specs.Fit.{IsFit};
 ghost use Rattle.uv_step.specs.Undo.{Recorded};
 ghost use Rattle.uv_step.specs.Does.{By, IsMade, IsShut, changed, moved_by};
 
@@ -24,7 +23,6 @@ impl<P: Copy> Memory<P> {
     /// Makes a handle (uv_timer_init and the like). An async one goes to the end of its list. It takes memory where the piece of the
     /// handle's slot isn't there yet, before it changes anything.
     pub fn init(&mut self, name: Var, kind: Kind) -> Result<Id, InsertFault>
-        requires fit { IsFit (held self.old).image }
         ensures recorded { IfOk result (λ _. Recorded self.new.step_record (held self.old) (held self.new)) }
         ensures made { IfOk result (λ id. By added (λ u. IsMade
             (counted_of (held self.old).image) (counted_of (held self.new).image) name kind id u) self.new.step_record.change) }
@@ -51,7 +49,6 @@ impl<P: Copy> Memory<P> {
 
     /// Gives a handle another record, and touches no list (uv_ref, uv_unref, uv_timer_set_repeat, uv_async_send).
     pub fn edit(&mut self, id: Id, from: HandleRecord, to: HandleRecord)
-        requires fit { IsFit (held self.old).image }
         requires found { record_at handle_of (held self.old).image.arena id ≡ Some from }
         ensures recorded { Recorded self.new.step_record (held self.old) (held self.new) }
         ensures does { By edited (λ u. IsChanged handle_of handle
@@ -64,7 +61,6 @@ impl<P: Copy> Memory<P> {
 
     /// Closes a handle: it is stopped, and goes to the front of the closing list (uv_close).
     pub fn close(&mut self, id: Id, from: HandleRecord)
-        requires fit { IsFit (held self.old).image }
         requires found { record_at handle_of (held self.old).image.arena id ≡ Some from }
         ensures recorded { Recorded self.new.step_record (held self.old) (held self.new) }
         ensures does { By moved_by (λ u. IsShut (held self.new).room

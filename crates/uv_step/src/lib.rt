@@ -10,6 +10,7 @@ mod law;
 mod medium;
 mod memory;
 mod pool;
+mod reading;
 mod record;
 mod small;
 mod timers;

@@ -7,6 +7,7 @@ ghost use Rattle.uv_step.specs.Fit.{IsFit};
 
 use crate::last::LastStep;
 use std::alloc::{AllocError, Global};
+use std::marker::Model;
 use uv_arena::Slots;
 use uv_handle::Handles;
 use uv_heap::TimerHeap;
@@ -18,22 +19,36 @@ use uv_work::Content;
 /// All that the steps of a loop change, and what takes the last one back. `P` says where the loop stands.
 #[derive(Drop)]
 pub struct Memory<P: Copy> {
-    pub place: P,
-    pub names: Vec<Named>,
-    pub slots: Slots<Content>,
-    pub handles: Handles,
-    pub requests: Requests,
-    pub heap: TimerHeap,
+    pub(crate) place: P,
+    pub(crate) names: Vec<Named>,
+    pub(crate) slots: Slots<Content>,
+    pub(crate) handles: Handles,
+    pub(crate) requests: Requests,
+    pub(crate) heap: TimerHeap,
     /// The loop's time, and the next start number.
-    pub times: Times,
+    pub(crate) times: Times,
     /// The clock in ms.
-    pub clock: u64,
+    pub(crate) clock: u64,
     /// The run is to end before its next iteration (uv_stop).
-    pub stop_flag: bool,
+    pub(crate) stop_flag: bool,
     /// An idle handle was active as the iteration began.
-    pub idled: bool,
+    pub(crate) idled: bool,
     /// The record of the last step that was done, which takes it back. It is no part of what a step changes.
-    pub step_record: LastStep<P>,
+    pub(crate) step_record: LastStep<P>,
+}
+
+impl<P: Copy> Model for Memory<P> {
+    ghost use Rattle.uv_step.specs.Kept.{Kept};
+    ghost use Rattle.uv_step.specs.Image.{image_of};
+    ghost use Rattle.uv_step.specs.Fit.{IsFit};
+
+    ghost Value = { Kept P };
+
+    ghost use Rattle.uv_step.specs.View.{kept};
+
+    ghost view = { kept };
+
+    ghost invariant = { λ m. IsFit (image_of (kept m)) };
 }
 
 impl<P: Copy> Memory<P> {

@@ -11,7 +11,6 @@ ghost use Rattle.uv_work.specs.declared.content.Content.TheVariants.{Request as 
 ghost use Rattle.uv_step.specs.Change.{Queued as queued, Taken as taken, Finished as finished, Cancelled as cancelled, Begun as begun, Polled as polled};
 ghost use Rattle.uv_work.specs.Content.{request_of};
 ghost use Rattle.uv_step.specs.Image.{held, Untouched, working_of};
-ghost use Rattle.uv_step.specs.Fit.{IsFit};
 ghost use Rattle.uv_step.specs.Undo.{Recorded};
 ghost use Rattle.uv_step.specs.Does.{By, ended_by};
 
@@ -28,7 +27,6 @@ impl<P: Copy> Memory<P> {
     /// Puts a request in a slot, open, behind those that wait (uv_queue_work). It takes memory where the slot's piece isn't there yet,
     /// before it changes anything.
     pub fn queue(&mut self, request: Request) -> Result<Id, InsertFault>
-        requires { IsFit (held self.old).image }
         ensures recorded { IfOk result (λ _. Recorded self.new.step_record (held self.old) (held self.new)) }
         ensures does { IfOk result (λ id. By queued (λ u. IsQueued request_of asked
             (working_of (held self.old).image) (working_of (held self.new).image) (reopened request) id u) self.new.step_record.change) }
@@ -47,7 +45,6 @@ impl<P: Copy> Memory<P> {
 
     /// A worker that runs nothing takes this request, which waits longest.
     pub fn take(&mut self, worker: u16, id: Id)
-        requires fit { IsFit (held self.old).image }
         requires idle { slice_get (held self.old).image.running.workers worker ≡ Some None }
         requires first { IsFirst (held self.old).image.arena Waiting id }
         ensures recorded { Recorded self.new.step_record (held self.old) (held self.new) }
@@ -60,7 +57,6 @@ impl<P: Copy> Memory<P> {
 
     /// A worker hands in the result of this request, which it runs.
     pub fn finish(&mut self, worker: u16, id: Id, request: Request, work: WorkResult)
-        requires fit { IsFit (held self.old).image }
         requires runs { slice_get (held self.old).image.running.workers worker ≡ Some (Some id) }
         requires found { held_request request_of (held self.old).image.arena id ≡ Some request }
         requires job { job_of id request ≡ work.job }
@@ -77,7 +73,6 @@ impl<P: Copy> Memory<P> {
 
     /// Cancels a request that waits (uv_cancel).
     pub fn cancel(&mut self, id: Id) -> Result<(), Code>
-        requires fit { IsFit (held self.old).image }
         ensures recorded { IfOk result (λ _. Recorded self.new.step_record (held self.old) (held self.new)) }
         ensures does { IfOk result (λ _. By cancelled (λ u. IsCancelled request_of asked
             (working_of (held self.old).image) (working_of (held self.new).image) id u) self.new.step_record.change) }
@@ -96,7 +91,6 @@ impl<P: Copy> Memory<P> {
 
     /// Begins the done section: all that are done have yet to be called back.
     pub fn begin_done(&mut self)
-        requires fit { IsFit (held self.old).image }
         requires empty { members (held self.old).image.arena DoneYet ≡ [] }
         ensures recorded { Recorded self.new.step_record (held self.old) (held self.new) }
         ensures does { By begun (λ u. IsBegun request_of
@@ -108,7 +102,6 @@ impl<P: Copy> Memory<P> {
 
     /// The poll is over: the loop's time is that of the clock, and the done section begins.
     pub fn leave_poll(&mut self)
-        requires fit { IsFit (held self.old).image }
         requires empty { members (held self.old).image.arena DoneYet ≡ [] }
         ensures recorded { Recorded self.new.step_record (held self.old) (held self.new) }
         ensures time { (held self.new).image.times.time ≡ (held self.old).image.clock }
@@ -125,7 +118,6 @@ impl<P: Copy> Memory<P> {
     /// Takes the front of those that have yet to be called back off its list, and frees its slot: the request as it was. None, and
     /// nothing changed, where there is none.
     pub fn end_request(&mut self) -> Option<(Id, Request)>
-        requires fit { IsFit (held self.old).image }
         ensures recorded { IfSome result (λ _. Recorded self.new.step_record (held self.old) (held self.new)) }
         ensures does { IfSome result (λ r. By (ended_by r.1) (λ u. IsCollected request_of asked
             (working_of (held self.old).image) (working_of (held self.new).image) r.0 r.1 u) self.new.step_record.change) }

@@ -9,7 +9,6 @@ ghost use Rattle.uv_work.specs.declared.content.Content.TheVariants.{Handle as h
 ghost use Rattle.uv_step.specs.Change.{Timer as timer};
 ghost use Rattle.uv_work.specs.Content.{handle_of};
 ghost use Rattle.uv_step.specs.Image.{held, Untouched, timed_of};
-ghost use Rattle.uv_step.specs.Fit.{IsFit};
 ghost use Rattle.uv_step.specs.Undo.{Recorded};
 ghost use Rattle.uv_step.specs.Does.{By, moved_by};
 
@@ -21,7 +20,6 @@ impl<P: Copy> Memory<P> {
     /// This becomes of a timer that is started, stopped or started again (uv_timer_start, uv_timer_stop, uv_timer_again). The room on
     /// the heap has to be reserved before.
     pub fn reschedule(&mut self, id: Id, change: uv_timer::TimerChange)
-        requires fit { IsFit (held self.old).image }
         requires found { record_at handle_of (held self.old).image.arena id ≡ Some change.from }
         requires room { IfSome change.due (λ _. id.slot < (held self.old).room) }
         requires starts { IfSome change.due (λ _. (held self.old).image.times.next_start < 2 ^ 64 - 1) }
@@ -44,7 +42,6 @@ impl<P: Copy> Memory<P> {
 
     /// Moves the first timer, if it is due, to the end of the ready list. None, and nothing changed, where none is due.
     pub fn collect_timer(&mut self) -> Option<Id>
-        requires fit { IsFit (held self.old).image }
         ensures recorded { IfSome result (λ _. Recorded self.new.step_record (held self.old) (held self.new)) }
         ensures does { IfSome result (λ id. By moved_by (λ u. IsCollected handle_of handle (held self.new).room
             (timed_of (held self.old).image) (timed_of (held self.new).image) id u) self.new.step_record.change) }
@@ -69,7 +66,6 @@ impl<P: Copy> Memory<P> {
     /// Takes the front of the ready list off it, and sets it again from now if it repeats: its callback is to be called. None, and
     /// nothing changed, where none is ready.
     pub fn fire_timer(&mut self) -> Option<Id>
-        requires fit { IsFit (held self.old).image }
         requires room { (d : Id) → IsFirst (held self.old).image.arena Ready d → d.slot < (held self.old).room }
         requires starts { (held self.old).image.times.next_start < 2 ^ 64 - 1 }
         ensures recorded { IfSome result (λ _. Recorded self.new.step_record (held self.old) (held self.new)) }

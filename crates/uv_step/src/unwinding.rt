@@ -76,7 +76,8 @@ impl<P: Copy> Memory<P> {
 
     /// A change is undone.
     fn undo(&mut self, change: Lying)
-        requires { CanUndo (held self.old).room (lain change) (held self.old).image }
+        requires can { CanUndo (held self.old).room (lain change) (held self.old).image }
+        requires fit { IsFit (unwind_parts (change_parts (lain change)) (held self.old).image) }
         ensures image { (held self.new).image ≡ unwind_parts (change_parts (lain change)) (held self.old).image }
         ensures room { (held self.new).room ≡ (held self.old).room }
         ensures pieces { self.new.slots.room ≡ self.old.slots.room }
@@ -90,7 +91,8 @@ impl<P: Copy> Memory<P> {
 
     /// A small change is undone.
     fn undo_small(&mut self, change: Small)
-        requires { CanUndo (held self.old).room (smaller change) (held self.old).image }
+        requires can { CanUndo (held self.old).room (smaller change) (held self.old).image }
+        requires fit { IsFit (unwind_parts (change_parts (smaller change)) (held self.old).image) }
         ensures image { (held self.new).image ≡ unwind_parts (change_parts (smaller change)) (held self.old).image }
         ensures room { (held self.new).room ≡ (held self.old).room }
         ensures pieces { self.new.slots.room ≡ self.old.slots.room }
@@ -126,7 +128,8 @@ impl<P: Copy> Memory<P> {
 
     /// A medium change is undone.
     fn undo_medium(&mut self, change: Medium)
-        requires { CanUndo (held self.old).room (change_of change) (held self.old).image }
+        requires can { CanUndo (held self.old).room (change_of change) (held self.old).image }
+        requires fit { IsFit (unwind_parts (change_parts (change_of change)) (held self.old).image) }
         ensures image { (held self.new).image ≡ unwind_parts (change_parts (change_of change)) (held self.old).image }
         ensures room { (held self.new).room ≡ (held self.old).room }
         ensures pieces { self.new.slots.room ≡ self.old.slots.room }
@@ -177,7 +180,8 @@ impl<P: Copy> Memory<P> {
 
     /// A large change is undone.
     fn undo_large(&mut self, change: Large)
-        requires { CanUndo (held self.old).room (larger change) (held self.old).image }
+        requires can { CanUndo (held self.old).room (larger change) (held self.old).image }
+        requires fit { IsFit (unwind_parts (change_parts (larger change)) (held self.old).image) }
         ensures image { (held self.new).image ≡ unwind_parts (change_parts (larger change)) (held self.old).image }
         ensures room { (held self.new).room ≡ (held self.old).room }
         ensures pieces { self.new.slots.room ≡ self.old.slots.room }
@@ -186,14 +190,14 @@ impl<P: Copy> Memory<P> {
             Large::Timer(undo) => self.undo_timer(undo),
             Large::Moved(pushed, timer) => self.undo_moved(CollectUndo { timer, pushed }),
             Large::Ended(undo, request) => {
-                self.requests
-                    .undo_collect(&mut self.slots, undo, request);
+                self.requests.undo_collect(&mut self.slots, undo, request);
             },
         }
     }
 
     fn undo_added(&mut self, undo: Added)
-        requires { CanUndo (held self.old).room (change.Added undo) (held self.old).image }
+        requires can { CanUndo (held self.old).room (change.Added undo) (held self.old).image }
+        requires fit { IsFit (unwind_parts (change_parts (change.Added undo)) (held self.old).image) }
         ensures image { (held self.new).image ≡ unwind_parts (change_parts (change.Added undo)) (held self.old).image }
         ensures room { (held self.new).room ≡ (held self.old).room }
         ensures pieces { self.new.slots.room ≡ self.old.slots.room }
@@ -207,7 +211,8 @@ impl<P: Copy> Memory<P> {
     }
 
     fn undo_timer(&mut self, undo: TimerUndo)
-        requires { CanUndo (held self.old).room (change.Timer undo) (held self.old).image }
+        requires can { CanUndo (held self.old).room (change.Timer undo) (held self.old).image }
+        requires fit { IsFit (unwind_parts (change_parts (change.Timer undo)) (held self.old).image) }
         ensures image { (held self.new).image ≡ unwind_parts (change_parts (change.Timer undo)) (held self.old).image }
         ensures room { (held self.new).room ≡ (held self.old).room }
         ensures pieces { self.new.slots.room ≡ self.old.slots.room }
@@ -224,7 +229,8 @@ impl<P: Copy> Memory<P> {
     }
 
     fn undo_moved(&mut self, undo: CollectUndo)
-        requires { CanUndo (held self.old).room (moved_by undo) (held self.old).image }
+        requires can { CanUndo (held self.old).room (moved_by undo) (held self.old).image }
+        requires fit { IsFit (unwind_parts (change_parts (moved_by undo)) (held self.old).image) }
         ensures image { (held self.new).image ≡ unwind_parts (change_parts (moved_by undo)) (held self.old).image }
         ensures room { (held self.new).room ≡ (held self.old).room }
         ensures pieces { self.new.slots.room ≡ self.old.slots.room }
@@ -241,7 +247,8 @@ impl<P: Copy> Memory<P> {
     }
 
     fn undo_walked(&mut self, undo: WalkUndo)
-        requires { CanUndo (held self.old).room (change.Walked undo) (held self.old).image }
+        requires can { CanUndo (held self.old).room (change.Walked undo) (held self.old).image }
+        requires fit { IsFit (unwind_parts (change_parts (change.Walked undo)) (held self.old).image) }
         ensures image { (held self.new).image ≡ unwind_parts (change_parts (change.Walked undo)) (held self.old).image }
         ensures room { (held self.new).room ≡ (held self.old).room }
         ensures pieces { self.new.slots.room ≡ self.old.slots.room }

@@ -3,7 +3,6 @@ ghost use Rattle.std.specs.Prelude.{◌≡◌, ◌<◌, ◌+◌, ◌^◌, ◌-�
 ghost use Rattle.uv_step.specs.declared.record.Naming.TheVariants.{Same as same};
 ghost use Rattle.uv_records.specs.Names.{count_of, named, binding, calling};
 ghost use Rattle.uv_step.specs.Image.{held, standing};
-ghost use Rattle.uv_step.specs.Fit.{IsFit};
 ghost use Rattle.uv_step.specs.Undo.{Recorded, CanUnwind, Extended};
 
 use crate::memory::Memory;
@@ -15,7 +14,6 @@ use uv_records::Named;
 impl<P: Copy> Memory<P> {
     /// The clock goes on by so many ms.
     pub fn tick(&mut self, ms: u64)
-        requires fit { IsFit (held self.old).image }
         requires fits { (held self.old).image.clock + ms < 2 ^ 64 }
         ensures recorded { Recorded self.new.step_record (held self.old) (held self.new) }
         ensures image { (held self.new).image ≡ record (held self.old).image { clock = (held self.old).image.clock + ms } }
@@ -27,7 +25,6 @@ impl<P: Copy> Memory<P> {
 
     /// The loop's time is that of the clock (uv_update_time).
     pub fn update_time(&mut self)
-        requires fit { IsFit (held self.old).image }
         ensures recorded { Recorded self.new.step_record (held self.old) (held self.new) }
         ensures image { (held self.new).image
             ≡ record (held self.old).image { times = record (held self.old).image.times { time = (held self.old).image.clock } } }
@@ -39,7 +36,6 @@ impl<P: Copy> Memory<P> {
 
     /// The run is to end before its next iteration (uv_stop), or not.
     pub fn set_stop(&mut self, stop: bool)
-        requires fit { IsFit (held self.old).image }
         ensures recorded { Recorded self.new.step_record (held self.old) (held self.new) }
         ensures image { (held self.new).image ≡ record (held self.old).image { stop_flag = stop } }
     {
@@ -50,7 +46,6 @@ impl<P: Copy> Memory<P> {
 
     /// Whether an idle handle is active as the iteration begins.
     pub fn set_idled(&mut self, idled: bool)
-        requires fit { IsFit (held self.old).image }
         ensures recorded { Recorded self.new.step_record (held self.old) (held self.new) }
         ensures image { (held self.new).image ≡ record (held self.old).image { idled = idled } }
     {
@@ -61,7 +56,6 @@ impl<P: Copy> Memory<P> {
 
     /// The loop's time is that of the clock, and no idle handle counts as active as the iteration begins.
     pub fn begin_iteration(&mut self)
-        requires fit { IsFit (held self.old).image }
         ensures recorded { Recorded self.new.step_record (held self.old) (held self.new) }
         ensures image { (held self.new).image ≡ record (held self.old).image {
           times = record (held self.old).image.times { time = (held self.old).image.clock };
@@ -77,7 +71,6 @@ impl<P: Copy> Memory<P> {
     /// The loop stands here after the last step.
     pub fn stand_at(&mut self, place: P)
         requires can { CanUnwind (held self.old).room self.old.step_record (held self.old).image }
-        requires fit { IsFit (held self.old).image }
         ensures place { (held self.new).image ≡ standing place (held self.old).image }
         ensures same { self.new.step_record ≡ self.old.step_record }
         ensures extended { Extended self.old.step_record self.new.step_record (held self.old) (held self.new) }
@@ -98,7 +91,6 @@ impl<P: Copy> Memory<P> {
     /// The last step binds a name to this as well.
     pub fn bind(&mut self, name: Var, id: Option<Id>)
         requires can { CanUnwind (held self.old).room self.old.step_record (held self.old).image }
-        requires fit { IsFit (held self.old).image }
         requires unnamed { self.old.step_record.naming ≡ same }
         requires name { name.0 < length (held self.old).image.names }
         ensures image { (held self.new).image ≡ record (held self.old).image { names = binding name.0 id (held self.old).image.names } }
@@ -115,7 +107,6 @@ impl<P: Copy> Memory<P> {
     /// The last step calls a callback of a name as well.
     pub fn count_call(&mut self, name: Var, callback: Callback)
         requires can { CanUnwind (held self.old).room self.old.step_record (held self.old).image }
-        requires fit { IsFit (held self.old).image }
         requires unnamed { self.old.step_record.naming ≡ same }
         requires name { name.0 < length (held self.old).image.names }
         requires few { count_of callback (named (held self.old).image.names name.0).calls < 2 ^ 32 - 1 }

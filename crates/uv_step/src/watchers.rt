@@ -14,7 +14,6 @@ ghost use Rattle.uv_work.specs.declared.content.Content.TheVariants.{Handle as h
 ghost use Rattle.uv_step.specs.Change.{Enlisted as enlisted, Delisted as delisted, Begun as begun, Walked as walked};
 ghost use Rattle.uv_work.specs.Content.{handle_of};
 ghost use Rattle.uv_step.specs.Image.{held, Untouched, counted_of};
-ghost use Rattle.uv_step.specs.Fit.{IsFit};
 ghost use Rattle.uv_step.specs.Undo.{Recorded};
 ghost use Rattle.uv_step.specs.Does.{By, FirstIs, NoHandleFirst, closed_by};
 
@@ -29,7 +28,6 @@ impl<P: Copy> Memory<P> {
     /// Starts an idle, prepare or check handle that is inactive and on no list: it goes to the front of its list (uv_idle_start and the
     /// like).
     pub fn start_watcher(&mut self, id: Id, from: HandleRecord)
-        requires fit { IsFit (held self.old).image }
         requires found { record_at handle_of (held self.old).image.arena id ≡ Some from }
         requires allowed { start_watcher_refusal from ≡ None }
         requires inactive { from.active ≡ false }
@@ -45,7 +43,6 @@ impl<P: Copy> Memory<P> {
 
     /// Stops an idle, prepare or check handle (uv_idle_stop and the like). One that closes stays on the closing list.
     pub fn stop_watcher(&mut self, id: Id, from: HandleRecord)
-        requires fit { IsFit (held self.old).image }
         requires found { record_at handle_of (held self.old).image.arena id ≡ Some from }
         ensures recorded { Recorded self.new.step_record (held self.old) (held self.new) }
         ensures does { By delisted (λ u. IsStopped handle_of handle
@@ -58,7 +55,6 @@ impl<P: Copy> Memory<P> {
 
     /// Begins a section of watchers: the whole list is yet to run.
     pub fn begin(&mut self, kind: WatcherKind)
-        requires fit { IsFit (held self.old).image }
         requires empty { members (held self.old).image.arena (yet_of kind) ≡ [] }
         ensures recorded { Recorded self.new.step_record (held self.old) (held self.new) }
         ensures does { By begun (λ u. IsBegun (held self.old).image.arena (held self.new).image.arena kind u) self.new.step_record.change }
@@ -70,7 +66,6 @@ impl<P: Copy> Memory<P> {
     /// Moves the front of those yet to run to the end of its list: its id, its record as it was, and whether a callback was due by a
     /// send. None, and nothing changed, where there is none.
     pub fn walk(&mut self, kind: WatcherKind) -> Option<(Id, HandleRecord, bool)>
-        requires fit { IsFit (held self.old).image }
         ensures recorded { IfSome result (λ _. Recorded self.new.step_record (held self.old) (held self.new)) }
         ensures front { IfSome result (λ r. FirstIs (held self.old).image.arena (yet_of kind) r.0 r.1) }
         ensures does { IfSome result (λ r. By walked (λ u. IsMovedOn handle_of handle
@@ -85,7 +80,6 @@ impl<P: Copy> Memory<P> {
 
     /// Begins the closing section.
     pub fn begin_closing(&mut self)
-        requires fit { IsFit (held self.old).image }
         requires empty { members (held self.old).image.arena ClosingYet ≡ [] }
         ensures recorded { Recorded self.new.step_record (held self.old) (held self.new) }
         ensures does { By begun (λ u. IsSpliced
@@ -98,7 +92,6 @@ impl<P: Copy> Memory<P> {
     /// Takes the front of those that have yet to be closed off its list, and frees its slot: its close callback is to be called.
     /// None, and nothing changed, where there is none.
     pub fn end_handle(&mut self) -> Option<Id>
-        requires fit { IsFit (held self.old).image }
         ensures recorded { IfSome result (λ _. Recorded self.new.step_record (held self.old) (held self.new)) }
         ensures does { IfSome result (λ id. (h : HandleRecord) × By (closed_by h) (λ u. IsTaken handle_of handle
             (counted_of (held self.old).image) (counted_of (held self.new).image) id (handle h) u) self.new.step_record.change) }

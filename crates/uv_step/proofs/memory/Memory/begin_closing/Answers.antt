@@ -1,7 +1,14 @@
+use Rattle.uv_step.specs.View.{kept}
 use Rattle.uv_step.specs.Image.{image_of}
 use Rattle.uv_step.proofs.Steps.{begun_closing}
 use Rattle.uv_step.proofs.memory.Memory.begin_closing.Goals as goal
 
+pub invariant_of-self : goal.invariant_of-self
+invariant_of-self g c =
+    (begun_closing (image_of (kept c.self.inside)) c.begin_closing-undo.new.slots.image c.self.inside.heap.room _ _ c.self.invariant
+    c.begin_closing-undo.ensures.spliced c.note_small.ensures).fit
+
 pub returns-clause-recorded : goal.returns-clause-recorded
-returns-clause-recorded g c = begun_closing (image_of c.args.self.now) c.begin_closing-undo.new.slots.image _ _ _ c.requires.fit
-    c.begin_closing-undo.ensures.spliced c.note_small.ensures
+returns-clause-recorded g c =
+    rw (← c.self.view_is) (begun_closing (image_of (kept c.self.inside)) c.begin_closing-undo.new.slots.image _ _ _ c.self.invariant
+    c.begin_closing-undo.ensures.spliced c.note_small.ensures)

@@ -1,11 +1,12 @@
 use Rattle.std.proofs.Common.{◌+◌, arith}
 use Rattle.std.proofs.lemmas.Grind.{common_steps}
+use Rattle.uv_step.specs.View.{kept}
 use Rattle.uv_step.specs.Image.{image_of}
 use Rattle.uv_step.proofs.Rows.{called}
 use Rattle.uv_step.proofs.memory.Memory.count_call.Goals as goal
 
 pub returns-clause-extended : goal.returns-clause-extended
 returns-clause-extended g c =
-    called c.args.self.now.step_record _ (image_of c.args.self.now) _ c.args.name c.args.callback
-    (c.of-count.result + 1) c.of-count.result _ c.requires.can c.requires.fit c.requires.unnamed c.requires.name
-    (grind (arith, common_steps)) (grind (arith, common_steps)) c.rename.ensures
+    rw (← c.self.view_is) (called c.self.inside.step_record _ (image_of (kept c.self.inside)) _ c.args.name c.args.callback (c.of-count.result + 1)
+    c.of-count.result _ (rw (← c.self.view_is) at c.requires.can) c.self.invariant (rw (← c.self.view_is) at c.requires.unnamed) (rw (←
+    c.self.view_is) at c.requires.name) (grind (arith, common_steps)) (grind (arith, common_steps)) c.rename.ensures)

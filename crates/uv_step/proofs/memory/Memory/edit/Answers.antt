@@ -1,7 +1,14 @@
+use Rattle.uv_step.specs.View.{kept}
 use Rattle.uv_step.specs.Image.{image_of}
 use Rattle.uv_step.proofs.Steps.{edited}
 use Rattle.uv_step.proofs.memory.Memory.edit.Goals as goal
 
+pub invariant_of-self : goal.invariant_of-self
+invariant_of-self g c =
+    (edited (image_of (kept c.self.inside)) c.change-undo.new.slots.image c.change-undo.new.self c.self.inside.heap.room _ _ _ _ _ c.self.invariant
+    (rw (← c.self.view_is) at c.requires.found) c.change-undo.ensures.changed c.note_medium.ensures).fit
+
 pub returns-clause-recorded : goal.returns-clause-recorded
-returns-clause-recorded g c = edited (image_of c.args.self.now) c.change-undo.new.slots.image c.change-undo.new.self _ _ _ _ _ _ c.requires.fit
-    c.requires.found c.change-undo.ensures.changed c.note_medium.ensures
+returns-clause-recorded g c =
+    rw (← c.self.view_is) (edited (image_of (kept c.self.inside)) c.change-undo.new.slots.image c.change-undo.new.self _ _ _ _ _ _ c.self.invariant
+    (rw (← c.self.view_is) at c.requires.found) c.change-undo.ensures.changed c.note_medium.ensures)

@@ -1,0 +1,6 @@
+use Rattle.std.proofs.Common.{subst, rules}
+use Rattle.uv_step.specs.Fit.{IsFit}
+use Rattle.uv_step.proofs.memory.Memory.undo_moved.Goals as goal
+
+pub invariant_of-self : goal.invariant_of-self
+invariant_of-self g c = subst (λ k. IsFit k) (search rules) c.requires.fit
