@@ -11,14 +11,13 @@ use uv_step::Memory;
 
 /// Binds a name, if there is such a name: the step stands at 7 besides.
 fn bind(memory: &mut Memory<u32>, name: Var, id: Id) -> bool
-    requires fit { IsFit (held memory.old).image }
     ensures can { IsTrue result → CanUnwind (held memory.new).room memory.new.step_record (held memory.new).image }
     ensures fit { IsFit (held memory.new).image }
 {
-    if name.0 as usize >= memory.names.len() {
+    if name.0 as usize >= memory.names().len() {
         return false;
     }
-    memory.step_record.pass(memory.place);
+    memory.pass();
     memory.stand_at(7);
     memory.bind(name, Some(id));
     true
@@ -26,25 +25,24 @@ fn bind(memory: &mut Memory<u32>, name: Var, id: Id) -> bool
 
 /// Counts a call of a name, if there is such a name.
 fn count(memory: &mut Memory<u32>, name: Var) -> bool
-    requires fit { IsFit (held memory.old).image }
     ensures can { IsTrue result → CanUnwind (held memory.new).room memory.new.step_record (held memory.new).image }
     ensures fit { IsFit (held memory.new).image }
 {
-    if name.0 as usize >= memory.names.len()
+    if name.0 as usize >= memory.names().len()
         || memory.names[name.0 as usize].calls.close == u32::MAX
     {
         return false;
     }
-    memory.step_record.pass(memory.place);
+    memory.pass();
     memory.count_call(name, Callback::Close);
     true
 }
 
 /// Whether the loop stands here, and a name is bound to this and its close callback was called so often.
 fn is_named(memory: &Memory<u32>, place: u32, id: Option<Id>, calls: u32) -> bool {
-    match memory.names.get(1) {
+    match memory.names().get(1) {
         None => false,
-        Some(named) => memory.place == place && named.id == id && named.calls.close == calls,
+        Some(named) => memory.place() == place && named.id == id && named.calls.close == calls,
     }
 }
 

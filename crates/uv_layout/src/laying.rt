@@ -21,12 +21,12 @@ fn laid_slot(memory: &Memory<Place>, number: u32) -> LaidSlot
     requires { number < length (held memory.now).image.arena.memory.row.items }
     ensures { ShowsSlot (held memory.now).image number result }
 {
-    let links = memory.slots.links(number);
+    let links = memory.slots().links(number);
     LaidSlot {
-        slot: memory.slots.slot_at(number),
+        slot: memory.slots().slot_at(number),
         prev: links.prev,
         next: links.next,
-        place: memory.heap.place_of(number),
+        place: memory.heap().place_of(number),
     }
 }
 
@@ -35,7 +35,7 @@ fn laid_slots(memory: &Memory<Place>, alloc: Global) -> Result<Vec<LaidSlot>, Al
     ensures { IfOk result (λ slots. ShowsSlots (held memory.now).image slots.items) }
 {
     let mut slots = Vec::new(alloc);
-    'slots: for number in 0..memory.slots.used() {
+    'slots: for number in 0..memory.slots().used() {
         slots.push(laid_slot(memory, number))?;
     }
     Ok(slots)
@@ -88,22 +88,22 @@ pub fn layout_of(memory: &Memory<Place>, alloc: Global) -> Result<Layout, AllocE
     ensures { IfOk result (λ layout. ShowsAll layout (held memory.now).image) }
 {
     Ok(Layout {
-        place: memory.place,
+        place: memory.place(),
         numbers: Numbers {
-            time: memory.times.time,
-            clock: memory.clock,
-            next_start: memory.times.next_start,
-            stop_flag: memory.stop_flag,
-            idled: memory.idled,
+            time: memory.times().time,
+            clock: memory.clock(),
+            next_start: memory.times().next_start,
+            stop_flag: memory.stop_flag(),
+            idled: memory.idled(),
         },
-        names: Vec::from_slice(alloc, &memory.names)?,
+        names: Vec::from_slice(alloc, memory.names())?,
         slots: laid_slots(memory, alloc)?,
-        unused: memory.slots.capacity() - memory.slots.used(),
-        running: Vec::from_slice(alloc, memory.requests.workers())?,
-        free: free_ends(&memory.slots),
-        lists: laid_lists(&memory.slots, alloc)?,
-        heap: Vec::from_slice(alloc, memory.heap.entries())?,
-        active: memory.handles.active_referenced(),
-        opened: memory.requests.open_requests(),
+        unused: memory.slots().capacity() - memory.slots().used(),
+        running: Vec::from_slice(alloc, memory.requests().workers())?,
+        free: free_ends(memory.slots()),
+        lists: laid_lists(memory.slots(), alloc)?,
+        heap: Vec::from_slice(alloc, memory.heap().entries())?,
+        active: memory.handles().active_referenced(),
+        opened: memory.requests().open_requests(),
     })
 }

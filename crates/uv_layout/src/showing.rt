@@ -22,17 +22,17 @@ pub fn shown_name(memory: &Memory<Place>, name: Var) -> Named
 pub fn shown_slot(memory: &Memory<Place>, number: u32) -> Option<Slot<Content>>
     ensures { (s : State) → StandsFor (held_by memory.now).image s → slice_get s.arena.slots number ≡ result }
 {
-    if number >= memory.slots.used() {
+    if number >= memory.slots().used() {
         return None;
     }
-    Some(memory.slots.slot_at(number))
+    Some(memory.slots().slot_at(number))
 }
 
 /// What is held under an id.
 pub fn shown(memory: &Memory<Place>, id: Id) -> Option<Content>
     ensures { (s : State) → StandsFor (held_by memory.now).image s → held s.arena.slots id ≡ result }
 {
-    memory.slots.get(id)
+    memory.slots().get(id)
 }
 
 /// What a worker runs, by what each of them runs.

@@ -57,7 +57,6 @@ pub(crate) fn act(
 
 /// The clock goes on by so many ms.
 fn go_on(memory: &mut Memory<Place>, ms: u64) -> Seen
-    requires fit { IsFit (held memory.old).image }
     requires may { (held memory.old).image.clock + ms ≤ LATEST }
     ensures returns { Returns memory.new.step_record (held memory.old) (held memory.new) }
     ensures leads { (p : Program) → Leads p (held memory.old).image (held memory.new).image (Tick ms) (Some result) }
@@ -68,12 +67,11 @@ fn go_on(memory: &mut Memory<Place>, ms: u64) -> Seen
 
 /// A worker takes the request that waits longest.
 fn take_next(memory: &mut Memory<Place>, worker: u16) -> Seen
-    requires fit { IsFit (held memory.old).image }
     requires may { (d : Id) × (r : Request) × MayTake (held memory.old).image worker d r }
     ensures returns { Returns memory.new.step_record (held memory.old) (held memory.new) }
     ensures leads { (p : Program) → Leads p (held memory.old).image (held memory.new).image (Take worker) (Some result) }
 {
-    match memory.requests.next_work(&memory.slots, worker) {
+    match memory.requests().next_work(memory.slots(), worker) {
         Err(_) => unreachable!(),
         Ok((id, request)) => take_work(memory, worker, id, request),
     }
@@ -81,12 +79,11 @@ fn take_next(memory: &mut Memory<Place>, worker: u16) -> Seen
 
 /// A worker finishes the request that it runs: its job is done here.
 fn finish_own(memory: &mut Memory<Place>, worker: u16) -> Seen
-    requires fit { IsFit (held memory.old).image }
     requires may { (d : Id) × (r : Request) × MayFinish (held memory.old).image worker d r }
     ensures returns { Returns memory.new.step_record (held memory.old) (held memory.new) }
     ensures leads { (p : Program) → Leads p (held memory.old).image (held memory.new).image (Finish worker) (Some result) }
 {
-    match memory.requests.work_of(&memory.slots, worker) {
+    match memory.requests().work_of(memory.slots(), worker) {
         Err(_) => unreachable!(),
         Ok((id, request)) => {
             let work = WorkResult::compute(request.job(id));

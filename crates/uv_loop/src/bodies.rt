@@ -35,7 +35,7 @@ fn leave_body(memory: &mut Memory<Place>, run: Run)
     ensures turns { (p : Program) → (body : Body) → Turns (λ s. body_step p s run body None)
         memory.new.step_record (held memory.old) (held memory.new) None }
 {
-    memory.step_record.pass(memory.place);
+    memory.pass();
     let place = Place::Running(Run { body: None, ..run });
     stand_at(memory, place);
 }

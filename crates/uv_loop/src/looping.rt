@@ -27,7 +27,7 @@ pub(crate) fn turn(memory: &mut Memory<Place>, script: &Script) -> Result<Option
     ensures turns { IfOk result (λ line. Turns (λ s. next script.now s Loop) memory.new.step_record (held memory.old) (held memory.new) line) }
     ensures memory { IfErr result (λ _. WantsPiece memory.old memory.new) }
 {
-    match memory.place {
+    match memory.place() {
         Place::Main(line) => in_main(memory, script, line),
         Place::Running(run) => in_run(memory, script, run),
     }

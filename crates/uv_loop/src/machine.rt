@@ -40,7 +40,7 @@ impl Machine for ArenaLoop {
         let Ok(memory) = fresh_memory(alloc, &script) else {
             return Err(Fault::Memory);
         };
-        memory.slots.is_sound();
+        memory.is_sound();
         Ok(ArenaLoop {
             alloc,
             script,
@@ -84,7 +84,7 @@ impl Machine for ArenaLoop {
         if self.steps.seen.len() >= STEPS {
             return Err(Fault::StepsFull);
         }
-        let (id, request) = match self.memory.requests.work_of(&self.memory.slots, worker) {
+        let (id, request) = match self.memory.requests().work_of(self.memory.slots(), worker) {
             Err(why) => return Err(Fault::Refused(why)),
             Ok(asked) => asked,
         };
@@ -130,16 +130,16 @@ impl Machine for ArenaLoop {
     }
 
     fn place(&self) -> Place {
-        self.memory.place
+        self.memory.place()
     }
 
     fn numbers(&self) -> Numbers {
         Numbers {
-            time: self.memory.times.time,
-            clock: self.memory.clock,
-            next_start: self.memory.times.next_start,
-            stop_flag: self.memory.stop_flag,
-            idled: self.memory.idled,
+            time: self.memory.times().time,
+            clock: self.memory.clock(),
+            next_start: self.memory.times().next_start,
+            stop_flag: self.memory.stop_flag(),
+            idled: self.memory.idled(),
         }
     }
 
@@ -148,7 +148,7 @@ impl Machine for ArenaLoop {
     }
 
     fn used(&self) -> u32 {
-        self.memory.slots.used()
+        self.memory.slots().used()
     }
 
     fn slot(&self, number: u32) -> Option<Slot<Content>> {
@@ -156,7 +156,7 @@ impl Machine for ArenaLoop {
     }
 
     fn is_free(&self, number: u32) -> bool {
-        self.memory.slots.is_free(number)
+        self.memory.slots().is_free(number)
     }
 
     fn held(&self, id: Id) -> Option<Content> {
@@ -164,12 +164,12 @@ impl Machine for ArenaLoop {
     }
 
     fn free(&self) -> Result<Vec<u32>, Fault> {
-        let free = free_slots(&self.memory.slots, self.alloc)?;
+        let free = free_slots(self.memory.slots(), self.alloc)?;
         Ok(free)
     }
 
     fn unused(&self) -> u32 {
-        self.memory.slots.capacity() - self.memory.slots.used()
+        self.memory.slots().capacity() - self.memory.slots().used()
     }
 
     fn timers(&self) -> Result<Vec<Id>, Fault> {
@@ -178,19 +178,19 @@ impl Machine for ArenaLoop {
     }
 
     fn workers(&self) -> usize {
-        self.memory.requests.workers().len()
+        self.memory.requests().workers().len()
     }
 
     fn run_by(&self, worker: usize) -> Option<Id> {
-        run_at(self.memory.requests.workers(), worker)
+        run_at(self.memory.requests().workers(), worker)
     }
 
     fn worker_of(&self, id: Id) -> Option<usize> {
-        runner_of(self.memory.requests.workers(), id)
+        runner_of(self.memory.requests().workers(), id)
     }
 
     fn members(&self, list: ListName) -> Result<Vec<Id>, Fault> {
-        let ids = listed_ids(&self.memory.slots, list, self.alloc)?;
+        let ids = listed_ids(self.memory.slots(), list, self.alloc)?;
         Ok(ids)
     }
 

@@ -24,13 +24,12 @@ pub(crate) fn take_work(
     id: Id,
     request: Request,
 ) -> Seen
-    requires fit { IsFit (held memory.old).image }
     requires may { MayTake (held memory.old).image worker id request }
     ensures recorded { Recorded memory.new.step_record (held memory.old) (held memory.new) }
     ensures leads { (p : Program) → Leads p (held memory.old).image (held memory.new).image (Take worker) (Some result) }
 {
     memory.take(worker, id);
-    memory.slots.is_sound();
+    memory.is_sound();
     Seen::Take(worker, request.name, id)
 }
 
@@ -42,20 +41,18 @@ pub(crate) fn finish_work(
     request: Request,
     work: WorkResult,
 ) -> Seen
-    requires fit { IsFit (held memory.old).image }
     requires may { MayFinish (held memory.old).image worker id request }
     requires job { job_of id request ≡ work.job }
     ensures recorded { Recorded memory.new.step_record (held memory.old) (held memory.new) }
     ensures leads { (p : Program) → Leads p (held memory.old).image (held memory.new).image (Finish worker) (Some result) }
 {
     memory.finish(worker, id, request, work);
-    memory.slots.is_sound();
+    memory.is_sound();
     Seen::Finish(worker, request.name, id)
 }
 
 /// Cancels the request of a name: what that answers.
 pub(crate) fn cancel_named(memory: &mut Memory<Place>, name: Var) -> Answer
-    requires fit { IsFit (held memory.old).image }
     requires name { name.0 < length (held memory.old).image.names }
     ensures returns { Returns memory.new.step_record (held memory.old) (held memory.new) }
     ensures leads { (p : Program)

@@ -44,7 +44,7 @@ pub(crate) fn refusal(memory: &Memory<Place>, script: &Script, event: Event) -> 
 fn tick_refusal(memory: &Memory<Place>, ms: u64) -> Option<Why>
     ensures { (p : Program) → Refusal p (Tick ms) (held memory.now).image result }
 {
-    match later(memory.clock, ms) {
+    match later(memory.clock(), ms) {
         None => Some(Why::Range),
         Some(_) => None,
     }
@@ -55,7 +55,7 @@ fn name_refusal(memory: &Memory<Place>, name: Var) -> Option<Why>
     ensures sends { (p : Program) → Refusal p (Send name) (held memory.now).image result }
     ensures cancels { (p : Program) → Refusal p (Cancel name) (held memory.now).image result }
 {
-    if name.0 as usize >= memory.names.len() {
+    if name.0 as usize >= memory.names().len() {
         return Some(Why::Range);
     }
     None
@@ -66,7 +66,7 @@ fn take_refusal(memory: &Memory<Place>, worker: u16) -> Option<Why>
     requires fit { IsFit (held memory.now).image }
     ensures { (p : Program) → Refusal p (Take worker) (held memory.now).image result }
 {
-    match memory.requests.next_work(&memory.slots, worker) {
+    match memory.requests().next_work(memory.slots(), worker) {
         Err(why) => Some(why),
         Ok(_) => None,
     }
@@ -77,7 +77,7 @@ fn finish_refusal(memory: &Memory<Place>, worker: u16) -> Option<Why>
     requires fit { IsFit (held memory.now).image }
     ensures { (p : Program) → Refusal p (Finish worker) (held memory.now).image result }
 {
-    match memory.requests.work_of(&memory.slots, worker) {
+    match memory.requests().work_of(memory.slots(), worker) {
         Err(why) => Some(why),
         Ok(_) => None,
     }
@@ -88,7 +88,7 @@ fn loop_refusal(memory: &Memory<Place>, script: &Script) -> Option<Why>
     ensures why { OfEach (held memory.now).image (λ s. refusal_of (next script.now s Loop) ≡ result) }
     ensures may { IfNone result (MayAt script.now (held memory.now).image.place (held memory.now).image) }
 {
-    match memory.place {
+    match memory.place() {
         Place::Main(line) => main_refusal(script, line),
         Place::Running(run) => run_refusal(memory, run),
     }

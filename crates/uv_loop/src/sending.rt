@@ -15,7 +15,6 @@ use uv_step::Memory;
 
 /// Sends to the async handle of a name: what that answers.
 pub(crate) fn send_to(memory: &mut Memory<Place>, name: Var) -> Code
-    requires fit { IsFit (held memory.old).image }
     requires name { name.0 < length (held memory.old).image.names }
     ensures returns { Returns memory.new.step_record (held memory.old) (held memory.new) }
     ensures leads { (p : Program)

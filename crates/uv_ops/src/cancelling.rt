@@ -20,16 +20,16 @@ pub fn cancel(memory: &mut Memory<Place>, name: Var) -> Answer
 {
     match bound_id(memory, name) {
         None => {
-            memory.step_record.pass(memory.place);
+            memory.pass();
             Answer::Code(Code::Estale)
         }
         Some(id) => match memory.cancel(id) {
             Err(code) => {
-                memory.step_record.pass(memory.place);
+                memory.pass();
                 Answer::Code(code)
             }
             Ok(()) => {
-                memory.slots.is_sound();
+                memory.is_sound();
                 Answer::Cancelled(id)
             }
         },

@@ -20,13 +20,12 @@ use uv_step::Memory;
 
 /// Gives a handle another record.
 pub(crate) fn edit(memory: &mut Memory<Place>, id: Id, from: HandleRecord, to: HandleRecord)
-    requires fit { IsFit (held memory.old).image }
     requires found { record_at handle_of (held memory.old).image.arena id ≡ Some from }
     ensures returns { Returns memory.new.step_record (held memory.old) (held memory.new) }
     ensures stands { (s : State) → StandsFor (held memory.old).image s → StandsFor (held memory.new).image (with_handle s id to) }
 {
     memory.edit(id, from, to);
-    memory.slots.is_sound();
+    memory.is_sound();
 }
 
 /// References a handle, or not (uv_ref, uv_unref).

@@ -37,7 +37,7 @@ pub fn perform(memory: &mut Memory<Place>, op: Op) -> Result<Answer, AllocError>
     ensures performs { IfOk result (λ answer. Performs op (held memory.old).image (held memory.new).image answer) }
     ensures memory { IfErr result (λ _. WantsPiece memory.old memory.new) }
 {
-    memory.step_record.pass(memory.place);
+    memory.pass();
     match op {
         Op::Init(name, kind) => init(memory, name, kind),
         Op::Queue(name, task) => queue(memory, name, task),

@@ -39,14 +39,14 @@ pub(crate) fn due_in(memory: &Memory<Place>, name: Var) -> Result<Answer, Code>
     ensures { Performs (op.DueIn name) (held memory.now).image (held memory.now).image (answered result) }
 {
     let (_, handle) = allowed(memory, name, Ask::Timer)?;
-    Ok(Answer::Number(handle.due_in(memory.times.time)))
+    Ok(Answer::Number(handle.due_in(memory.times().time)))
 }
 
 /// The loop's time in ms (uv_now).
 pub(crate) fn now(memory: &Memory<Place>) -> Answer
     ensures { Performs op.Now (held memory.now).image (held memory.now).image result }
 {
-    Answer::Number(memory.times.time)
+    Answer::Number(memory.times().time)
 }
 
 /// Whether the loop is alive (uv_loop_alive).

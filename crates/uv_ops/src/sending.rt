@@ -22,7 +22,7 @@ pub fn send(memory: &mut Memory<Place>, name: Var) -> Code
 {
     match allowed(memory, name, Ask::Send) {
         Err(code) => {
-            memory.step_record.pass(memory.place);
+            memory.pass();
             code
         }
         Ok((id, handle)) => {

@@ -29,7 +29,7 @@ pub(crate) fn start_watcher(memory: &mut Memory<Place>, name: Var) -> Result<Ans
         return Ok(Answer::Code(Code::Ok));
     }
     memory.start_watcher(id, handle);
-    memory.slots.is_sound();
+    memory.is_sound();
     Ok(Answer::Code(Code::Ok))
 }
 
@@ -42,5 +42,5 @@ pub(crate) fn stop_watcher(memory: &mut Memory<Place>, id: Id, handle: HandleRec
     ensures does { Does (λ s. stop s id handle) (held memory.old).image (held memory.new).image (answer.Code code.Ok) }
 {
     memory.stop_watcher(id, handle);
-    memory.slots.is_sound();
+    memory.is_sound();
 }

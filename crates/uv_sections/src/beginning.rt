@@ -35,19 +35,17 @@ fn stage_of(kind: WatcherKind) -> Stage
 
 /// The whole list of a kind is yet to run.
 fn make_all_yet(memory: &mut Memory<Place>, kind: WatcherKind)
-    requires fit { IsFit (held memory.old).image }
     requires empty { members (held memory.old).image.arena (yet_of kind) ≡ [] }
     ensures recorded { Recorded memory.new.step_record (held memory.old) (held memory.new) }
     ensures stands { (s : State) → StandsFor (held memory.old).image s
         → StandsFor (held memory.new).image (with_watched s kind (all_yet (watched s kind))) }
 {
     memory.begin(kind);
-    memory.slots.is_sound();
+    memory.is_sound();
 }
 
 /// Begins a section of watchers.
 pub fn begin_walk(memory: &mut Memory<Place>, run: Run, kind: WatcherKind) -> Seen
-    requires fit { IsFit (held memory.old).image }
     requires empty { members (held memory.old).image.arena (yet_of kind) ≡ [] }
     ensures returns { Returns memory.new.step_record (held memory.old) (held memory.new) }
     ensures goes { Goes (λ s. begin_walk s run kind) (held memory.old).image (held memory.new).image (Some result) }
@@ -59,19 +57,17 @@ pub fn begin_walk(memory: &mut Memory<Place>, run: Run, kind: WatcherKind) -> Se
 
 /// The handles that close are yet to be called.
 fn close_all_yet(memory: &mut Memory<Place>)
-    requires fit { IsFit (held memory.old).image }
     requires empty { members (held memory.old).image.arena ClosingYet ≡ [] }
     ensures recorded { Recorded memory.new.step_record (held memory.old) (held memory.new) }
     ensures stands { (s : State) → StandsFor (held memory.old).image s
         → StandsFor (held memory.new).image (record s { closing = all_yet s.closing }) }
 {
     memory.begin_closing();
-    memory.slots.is_sound();
+    memory.is_sound();
 }
 
 /// Begins the closing section.
 pub fn begin_closing(memory: &mut Memory<Place>, run: Run) -> Seen
-    requires fit { IsFit (held memory.old).image }
     requires empty { members (held memory.old).image.arena ClosingYet ≡ [] }
     ensures returns { Returns memory.new.step_record (held memory.old) (held memory.new) }
     ensures goes { Goes (λ s. begin_closing s run) (held memory.old).image (held memory.new).image (Some result) }
@@ -83,19 +79,17 @@ pub fn begin_closing(memory: &mut Memory<Place>, run: Run) -> Seen
 
 /// The time is refreshed, and the requests that are done are yet to call back.
 fn end_all_yet(memory: &mut Memory<Place>)
-    requires fit { IsFit (held memory.old).image }
     requires empty { members (held memory.old).image.arena DoneYet ≡ [] }
     ensures recorded { Recorded memory.new.step_record (held memory.old) (held memory.new) }
     ensures stands { (s : State) → StandsFor (held memory.old).image s
         → StandsFor (held memory.new).image (record (refreshed s) { done = all_yet s.done }) }
 {
     memory.leave_poll();
-    memory.slots.is_sound();
+    memory.is_sound();
 }
 
 /// Leaves the poll.
 pub fn begin_done(memory: &mut Memory<Place>, run: Run) -> Seen
-    requires fit { IsFit (held memory.old).image }
     requires empty { members (held memory.old).image.arena DoneYet ≡ [] }
     ensures returns { Returns memory.new.step_record (held memory.old) (held memory.new) }
     ensures goes { Goes (λ s. begin_done s run) (held memory.old).image (held memory.new).image (Some result) }
@@ -107,7 +101,6 @@ pub fn begin_done(memory: &mut Memory<Place>, run: Run) -> Seen
 
 /// The loop's time is that of the clock.
 fn refresh(memory: &mut Memory<Place>)
-    requires fit { IsFit (held memory.old).image }
     ensures recorded { Recorded memory.new.step_record (held memory.old) (held memory.new) }
     ensures stands { (s : State) → StandsFor (held memory.old).image s → StandsFor (held memory.new).image (refreshed s) }
 {
@@ -116,23 +109,21 @@ fn refresh(memory: &mut Memory<Place>)
 
 /// The loop's time is that of the clock in a default run in the order of 1.45, and stays in another one.
 fn refresh_in(memory: &mut Memory<Place>, order: Order, mode: Mode)
-    requires fit { IsFit (held memory.old).image }
     ensures recorded { Recorded memory.new.step_record (held memory.old) (held memory.new) }
     ensures stands { (s : State) → StandsFor (held memory.old).image s
         → StandsFor (held memory.new).image (if refreshes order mode then refreshed s else s) }
 {
     match order {
-        Order::V144 => memory.step_record.pass(memory.place),
+        Order::V144 => memory.pass(),
         Order::V145 => match mode {
             Mode::Default => refresh(memory),
-            Mode::Once | Mode::Nowait => memory.step_record.pass(memory.place),
+            Mode::Once | Mode::Nowait => memory.pass(),
         },
     }
 }
 
 /// Begins a run of a line of the main program (uv_run).
 pub fn begin_run(memory: &mut Memory<Place>, script: &Script, line: usize, mode: Mode) -> Seen
-    requires fit { IsFit (held memory.old).image }
     ensures returns { Returns memory.new.step_record (held memory.old) (held memory.new) }
     ensures goes { Goes (λ s. main_step (order_of script.now) s line (Some (run_line mode)))
         (held memory.old).image (held memory.new).image (Some result) }

@@ -25,7 +25,6 @@ pub fn begin_body(
     name: Var,
 )
     requires can { CanUnwind (held memory.old).room memory.old.step_record (held memory.old).image }
-    requires fit { IsFit (held memory.old).image }
     requires unnamed { memory.old.step_record.naming ≡ same }
     requires few { count_of callback (named (held memory.old).image.names name.0).calls < 2 ^ 31 }
     ensures extended { Extended memory.old.step_record memory.new.step_record (held memory.old) (held memory.new) }

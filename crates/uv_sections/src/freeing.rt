@@ -22,7 +22,6 @@ use uv_work::Request;
 /// Takes the front of the requests that are yet to call back off its list, and frees its slot. None, and nothing changed, where there
 /// is none.
 fn free_request(memory: &mut Memory<Place>, script: &Script) -> Option<(Id, Request)>
-    requires fit { IsFit (held memory.old).image }
     requires last { (held memory.old).image.arena.last ≡ (arena_size script.now).last_generation }
     ensures recorded { IfSome result (λ _. Recorded memory.new.step_record (held memory.old) (held memory.new)) }
     ensures gone { IfSome result (λ r. OfEach (held memory.old).image
@@ -33,7 +32,7 @@ fn free_request(memory: &mut Memory<Place>, script: &Script) -> Option<(Id, Requ
     match memory.end_request() {
         None => None,
         Some(ended) => {
-            memory.slots.is_sound();
+            memory.is_sound();
             Some(ended)
         }
     }
@@ -42,7 +41,6 @@ fn free_request(memory: &mut Memory<Place>, script: &Script) -> Option<(Id, Requ
 /// Takes the front of the handles that are yet to be closed off its list, and frees its slot. None, and nothing changed, where there
 /// is none.
 fn free_handle(memory: &mut Memory<Place>, script: &Script) -> Option<(Id, HandleRecord)>
-    requires fit { IsFit (held memory.old).image }
     requires last { (held memory.old).image.arena.last ≡ (arena_size script.now).last_generation }
     ensures recorded { IfSome result (λ _. Recorded memory.new.step_record (held memory.old) (held memory.new)) }
     ensures gone { IfSome result (λ r. OfEach (held memory.old).image
@@ -55,7 +53,7 @@ fn free_handle(memory: &mut Memory<Place>, script: &Script) -> Option<(Id, Handl
         Some((id, handle)) => match memory.end_handle() {
             None => None,
             Some(_) => {
-                memory.slots.is_sound();
+                memory.is_sound();
                 Some((id, handle))
             }
         },

@@ -20,7 +20,6 @@ use uv_step::Memory;
 
 /// Clears the stop flag.
 fn clear_stop(memory: &mut Memory<Place>)
-    requires fit { IsFit (held memory.old).image }
     ensures recorded { Recorded memory.new.step_record (held memory.old) (held memory.new) }
     ensures stands { (s : State) → StandsFor (held memory.old).image s
         → StandsFor (held memory.new).image (record s { stop_flag = false }) }
@@ -30,7 +29,6 @@ fn clear_stop(memory: &mut Memory<Place>)
 
 /// The run ends, and says whether the loop is alive; the stop flag is cleared.
 pub fn end_run(memory: &mut Memory<Place>, run: Run) -> Seen
-    requires fit { IsFit (held memory.old).image }
     requires line { run.line < 2 ^ 63 }
     ensures returns { Returns memory.new.step_record (held memory.old) (held memory.new) }
     ensures goes { Goes (λ s. ends s run) (held memory.old).image (held memory.new).image (Some result) }
@@ -45,26 +43,24 @@ pub fn end_run(memory: &mut Memory<Place>, run: Run) -> Seen
 fn goes(memory: &Memory<Place>) -> bool
     ensures { OfEach (held memory.now).image (λ s. goes s ≡ result) }
 {
-    is_alive(memory) && !memory.stop_flag
+    is_alive(memory) && !memory.stop_flag()
 }
 
 /// The loop's time, and whether it idled, as these timers begin.
 fn set_for_timers(memory: &mut Memory<Place>, order: Order, part: TimersOf)
-    requires fit { IsFit (held memory.old).image }
     ensures recorded { Recorded memory.new.step_record (held memory.old) (held memory.new) }
     ensures stands { (s : State) → StandsFor (held memory.old).image s
         → StandsFor (held memory.new).image (record s { time = time_at order part s; idled = idled_at order part s }) }
 {
     match (order, part) {
         (Order::V144, TimersOf::Entry) => memory.begin_iteration(),
-        (Order::V145, TimersOf::Entry) => memory.step_record.pass(memory.place),
+        (Order::V145, TimersOf::Entry) => memory.pass(),
         (_, TimersOf::Iteration) => memory.update_time(),
     }
 }
 
 /// Timers begin.
 fn begin_timers(memory: &mut Memory<Place>, order: Order, run: Run, part: TimersOf) -> Seen
-    requires fit { IsFit (held memory.old).image }
     ensures returns { Returns memory.new.step_record (held memory.old) (held memory.new) }
     ensures goes { Goes (λ s. goes_by order s run (to_timers part)) (held memory.old).image (held memory.new).image (Some result) }
 {
@@ -76,13 +72,12 @@ fn begin_timers(memory: &mut Memory<Place>, order: Order, run: Run, part: Timers
 
 /// Whether the loop idled, as the pending section begins: in the order of 1.45 it keeps whether an idle handle is active.
 fn note_idle(memory: &mut Memory<Place>, order: Order)
-    requires fit { IsFit (held memory.old).image }
     ensures recorded { Recorded memory.new.step_record (held memory.old) (held memory.new) }
     ensures stands { OfEach (held memory.old).image
         (λ s. StandsFor (held memory.new).image (record s { idled = idled_then order s })) }
 {
     match order {
-        Order::V144 => memory.step_record.pass(memory.place),
+        Order::V144 => memory.pass(),
         Order::V145 => {
             let idled = has_members(memory, ListName::Idle);
             memory.set_idled(idled);
@@ -92,7 +87,6 @@ fn note_idle(memory: &mut Memory<Place>, order: Order)
 
 /// The pending section begins.
 fn begin_pending(memory: &mut Memory<Place>, order: Order, run: Run) -> Seen
-    requires fit { IsFit (held memory.old).image }
     ensures returns { Returns memory.new.step_record (held memory.old) (held memory.new) }
     ensures goes { Goes (λ s. goes_by order s run to_pending) (held memory.old).image (held memory.new).image (Some result) }
 {
@@ -103,7 +97,6 @@ fn begin_pending(memory: &mut Memory<Place>, order: Order, run: Run) -> Seen
 
 /// The run goes on so.
 fn go_by(memory: &mut Memory<Place>, order: Order, run: Run, way: Way) -> Seen
-    requires fit { IsFit (held memory.old).image }
     requires line { run.line < 2 ^ 63 }
     ensures returns { Returns memory.new.step_record (held memory.old) (held memory.new) }
     ensures goes { Goes (λ s. goes_by order s run way) (held memory.old).image (held memory.new).image (Some result) }
@@ -117,7 +110,6 @@ fn go_by(memory: &mut Memory<Place>, order: Order, run: Run, way: Way) -> Seen
 
 /// The run goes on from a turn, in the order of the script.
 pub fn turn(memory: &mut Memory<Place>, script: &Script, run: Run, turn: Turn) -> Seen
-    requires fit { IsFit (held memory.old).image }
     requires line { run.line < 2 ^ 63 }
     ensures returns { Returns memory.new.step_record (held memory.old) (held memory.new) }
     ensures goes { Goes (λ s. turns (order_of script.now) s run turn) (held memory.old).image (held memory.new).image (Some result) }

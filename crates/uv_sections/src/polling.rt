@@ -21,7 +21,7 @@ fn deadline_of(memory: &Memory<Place>, timeout: Option<u64>) -> Option<u64>
 {
     match timeout {
         None => None,
-        Some(ms) => Some(memory.times.time + ms),
+        Some(ms) => Some(memory.times().time + ms),
     }
 }
 
@@ -33,7 +33,7 @@ pub fn begin_poll(memory: &mut Memory<Place>, run: Run) -> Seen
 {
     let timeout = poll_timeout(memory, run.mode);
     let deadline = deadline_of(memory, timeout);
-    memory.step_record.pass(memory.place);
+    memory.pass();
     stand_in(memory, run, Stage::Poll(deadline));
     Seen::Poll(timeout)
 }

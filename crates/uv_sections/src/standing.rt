@@ -13,7 +13,6 @@ use uv_step::Memory;
 /// After the last step the loop is at this place.
 pub fn stand_at(memory: &mut Memory<Place>, place: Place)
     requires can { CanUnwind (held memory.old).room memory.old.step_record (held memory.old).image }
-    requires fit { IsFit (held memory.old).image }
     ensures same { memory.new.step_record ≡ memory.old.step_record }
     ensures extended { Extended memory.old.step_record memory.new.step_record (held memory.old) (held memory.new) }
     ensures stands { (s : State) → StandsFor (held memory.old).image s
@@ -25,7 +24,6 @@ pub fn stand_at(memory: &mut Memory<Place>, place: Place)
 /// After the last step the run is at this stage, with no body under way.
 pub(crate) fn stand_in(memory: &mut Memory<Place>, run: Run, stage: Stage)
     requires can { CanUnwind (held memory.old).room memory.old.step_record (held memory.old).image }
-    requires fit { IsFit (held memory.old).image }
     ensures same { memory.new.step_record ≡ memory.old.step_record }
     ensures extended { Extended memory.old.step_record memory.new.step_record (held memory.old) (held memory.new) }
     ensures stands { (s : State) → StandsFor (held memory.old).image s → StandsFor (held memory.new).image (at s run stage) }

@@ -21,7 +21,6 @@ use uv_step::Memory;
 /// Moves the front of those that are yet to run to the end of its list: whether a callback of it was pending, which then isn't any
 /// more. None, and nothing changed, where there is none.
 fn move_on(memory: &mut Memory<Place>, kind: WatcherKind) -> Option<(Id, HandleRecord, bool)>
-    requires fit { IsFit (held memory.old).image }
     ensures recorded { IfSome result (λ _. Recorded memory.new.step_record (held memory.old) (held memory.new)) }
     ensures moved { IfSome result (λ r. OfEach (held memory.old).image
         (λ s. HandleMoved kind (held memory.new).image s r.0 r.1 r.2)) }
@@ -31,7 +30,7 @@ fn move_on(memory: &mut Memory<Place>, kind: WatcherKind) -> Option<(Id, HandleR
     match memory.walk(kind) {
         None => None,
         Some((id, handle, pending)) => {
-            memory.slots.is_sound();
+            memory.is_sound();
             Some((id, handle, pending))
         }
     }

@@ -9,12 +9,10 @@ use Rattle.uv_handle.specs.Counted.{record_at}
 use Rattle.uv_model.specs.declared.place.Place.{Place}
 use Rattle.uv_model.specs.Bounds.{line_of}
 use Rattle.uv_work.specs.Content.{handle_of}
-use Rattle.uv_step.specs.Fit.{IsFit}
 use Rattle.uv_step.specs.Image.{Held}
 use Rattle.uv_records.specs.Names.{named, count_of}
 
 pub record IsReady (h : Held Place) : Type 0 where
-  pub fit : IsFit h.image
   -- the heap has room for the timer of each slot that is used
   pub room : length h.image.arena.memory.row.items ≤ h.room
   pub starts : h.image.times.next_start < 2 ^ 63

@@ -4,7 +4,6 @@ ghost use Rattle.uv_model.specs.State.{State, live, live_handle};
 ghost use Rattle.uv_step.specs.declared.record.Naming.TheVariants.{Same as same};
 ghost use Rattle.uv_handle.specs.Counted.{record_at};
 ghost use Rattle.uv_work.specs.Content.{handle_of};
-ghost use Rattle.uv_step.specs.Fit.{IsFit};
 ghost use Rattle.uv_step.specs.Image.{held};
 ghost use Rattle.uv_records.specs.Names.{named, binding, calling, count_of};
 ghost use Rattle.uv_step.specs.Undo.{CanUnwind, Extended};
@@ -32,7 +31,7 @@ fn live_handle(memory: &Memory<Place>, name: Var) -> Result<(Id, HandleRecord), 
 {
     match bound_id(memory, name) {
         None => Err(Code::Estale),
-        Some(id) => match handle_at(&memory.slots, id) {
+        Some(id) => match handle_at(memory.slots(), id) {
             Err(code) => Err(code),
             Ok(handle) => Ok((id, handle)),
         },
@@ -58,20 +57,20 @@ pub fn is_live(memory: &Memory<Place>, name: Var) -> bool
 {
     match bound_id(memory, name) {
         None => false,
-        Some(id) => memory.slots.get(id).is_some(),
+        Some(id) => memory.slots().get(id).is_some(),
     }
 }
 
 /// The last step binds a name to this as well. A name that the loop doesn't have is bound to nothing.
 pub fn bind_name(memory: &mut Memory<Place>, name: Var, id: Id)
     requires can { CanUnwind (held memory.old).room memory.old.step_record (held memory.old).image }
-    requires fit { IsFit (held memory.old).image }
     requires unnamed { memory.old.step_record.naming ≡ same }
     ensures image { (held memory.new).image
         ≡ record (held memory.old).image { names = binding name.0 (Some id) (held memory.old).image.names } }
     ensures extended { Extended memory.old.step_record memory.new.step_record (held memory.old) (held memory.new) }
 {
-    if (name.0 as usize) < memory.names.len() {
+    memory.is_fit();
+    if (name.0 as usize) < memory.names().len() {
         memory.bind(name, Some(id));
     }
 }
@@ -80,7 +79,6 @@ pub fn bind_name(memory: &mut Memory<Place>, name: Var, id: Id)
 /// loop doesn't have.
 pub fn call_name(memory: &mut Memory<Place>, name: Var, callback: Callback) -> u32
     requires can { CanUnwind (held memory.old).room memory.old.step_record (held memory.old).image }
-    requires fit { IsFit (held memory.old).image }
     requires unnamed { memory.old.step_record.naming ≡ same }
     requires few { count_of callback (named (held memory.old).image.names name.0).calls < 2 ^ 32 - 1 }
     ensures count { result ≡ count_of callback (named (held memory.old).image.names name.0).calls + 1 }
@@ -88,7 +86,8 @@ pub fn call_name(memory: &mut Memory<Place>, name: Var, callback: Callback) -> u
         ≡ record (held memory.old).image { names = calling name.0 callback result (held memory.old).image.names } }
     ensures extended { Extended memory.old.step_record memory.new.step_record (held memory.old) (held memory.new) }
 {
-    if name.0 as usize >= memory.names.len() {
+    memory.is_fit();
+    if name.0 as usize >= memory.names().len() {
         return 1;
     }
     let count = memory.named(name).calls.of(callback) + 1;

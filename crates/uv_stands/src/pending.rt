@@ -15,7 +15,7 @@ use uv_step::Memory;
 fn pends(memory: &Memory<Place>, id: Id) -> bool
     ensures { result ≡ pends_at (held memory.now).image.arena id }
 {
-    match handle_at(&memory.slots, id) {
+    match handle_at(memory.slots(), id) {
         Ok(handle) => handle.pending,
         Err(_) => false,
     }
@@ -26,13 +26,14 @@ pub(crate) fn any_pending(memory: &Memory<Place>, list: ListName) -> bool
     ensures { result ≡ list_any (pends_at (held memory.now).image.arena)
         (map (id_in (held memory.now).image.arena) (members (held memory.now).image.arena list)) }
 {
-    memory.slots.is_sound();
-    let mut next = memory.slots.first(list);
+    memory.is_sound();
+    let slots = memory.slots();
+    let mut next = slots.first(list);
     while let Some(id) = next {
         if pends(memory, id) {
             return true;
         }
-        next = memory.slots.next(id);
+        next = slots.next(id);
     }
     false
 }

@@ -19,7 +19,7 @@ use uv_step::Memory;
 pub fn has_members(memory: &Memory<Place>, list: ListName) -> bool
     ensures { OfEach (held memory.now).image (λ s. has_some (members s list) ≡ result) }
 {
-    memory.slots.first(list).is_some()
+    memory.slots().first(list).is_some()
 }
 
 /// Whether a handle closes whose close callback is still to come.
@@ -40,10 +40,10 @@ fn has_idle(memory: &Memory<Place>) -> bool
 pub fn is_alive(memory: &Memory<Place>) -> bool
     ensures { OfEach (held memory.now).image (λ s. is_alive s ≡ result) }
 {
-    if memory.handles.active_referenced() > 0 {
+    if memory.handles().active_referenced() > 0 {
         return true;
     }
-    if memory.requests.open_requests() > 0 {
+    if memory.requests().open_requests() > 0 {
         return true;
     }
     has_closing(memory)
@@ -60,7 +60,7 @@ pub fn has_pending(memory: &Memory<Place>) -> bool
 pub fn may_leave(memory: &Memory<Place>, deadline: Option<u64>) -> bool
     ensures { OfEach (held memory.now).image (λ s. may_leave s deadline ≡ result) }
 {
-    has_passed(memory.clock, deadline) || has_members(memory, ListName::Done) || has_pending(memory)
+    has_passed(memory.clock(), deadline) || has_members(memory, ListName::Done) || has_pending(memory)
 }
 
 /// Whether the clock has reached a deadline.
@@ -82,10 +82,10 @@ fn until_first(memory: &Memory<Place>) -> Option<u64>
     ensures timeout { OfEach (held memory.now).image (λ s. until_first s.time s.timers ≡ result) }
     ensures short { IfSome result (λ ms. ms ≤ LONGEST_POLL) }
 {
-    match memory.heap.least() {
+    match memory.heap().least() {
         None => None,
         Some(entry) => {
-            let left = entry.due.at.saturating_sub(memory.times.time);
+            let left = entry.due.at.saturating_sub(memory.times().time);
             Some(left.min(LONGEST_POLL))
         }
     }
@@ -96,7 +96,7 @@ pub fn backend_timeout(memory: &Memory<Place>) -> Option<u64>
     ensures timeout { OfEach (held memory.now).image (λ s. backend_timeout s ≡ result) }
     ensures short { IfSome result (λ ms. ms ≤ LONGEST_POLL) }
 {
-    if memory.stop_flag || !is_alive(memory) || has_idle(memory) || has_closing(memory) {
+    if memory.stop_flag() || !is_alive(memory) || has_idle(memory) || has_closing(memory) {
         return Some(0);
     }
     until_first(memory)
@@ -110,7 +110,7 @@ pub fn poll_timeout(memory: &Memory<Place>, mode: Mode) -> Option<u64>
 {
     match mode {
         Mode::Nowait => Some(0),
-        Mode::Once if memory.idled => Some(0),
+        Mode::Once if memory.idled() => Some(0),
         Mode::Default | Mode::Once => backend_timeout(memory),
     }
 }

@@ -11,8 +11,9 @@ use uv_step::Memory;
 pub(crate) fn any_used(memory: &Memory<Place>) -> bool
     ensures { result ≡ list_any (λ slot. is_some slot.content) (held_slots (held memory.now).image.arena.memory) }
 {
-    for slot in 0..memory.slots.used() {
-        if memory.slots.slot_at(slot).content.is_some() {
+    let slots = memory.slots();
+    for slot in 0..slots.used() {
+        if slots.slot_at(slot).content.is_some() {
             return true;
         }
     }

@@ -19,8 +19,8 @@ use uv_work::Content;
 pub fn timer_ids(memory: &Memory<Place>, alloc: Global) -> Result<Vec<Id>, AllocError>
     ensures { IfOk result (λ ids. OfEach (held memory.now).image (λ s. ids.items ≡ timer_ids s)) }
 {
-    let entries = in_order(&memory.heap, alloc)?;
-    ids_of(&memory.slots, &entries, alloc)
+    let entries = in_order(memory.heap(), alloc)?;
+    ids_of(memory.slots(), &entries, alloc)
 }
 
 /// The entries of a heap, in the order in which they are due.

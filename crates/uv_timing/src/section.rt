@@ -36,10 +36,10 @@ pub fn fire_timer(memory: &mut Memory<Place>) -> Option<(Id, Var)>
     ensures none { IfNone result (FiresNone (held memory.old).image) }
     ensures unchanged { IfNone result (held memory.new ≡ held memory.old) }
 {
-    memory.slots.is_sound();
+    memory.is_sound();
     match memory.fire_timer() {
         None => None,
-        Some(id) => match handle_at(&memory.slots, id) {
+        Some(id) => match handle_at(memory.slots(), id) {
             Err(_) => unreachable!(),
             Ok(handle) => {
                 memory.is_sound();

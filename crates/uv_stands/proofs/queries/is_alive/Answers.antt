@@ -9,10 +9,10 @@ returns-then-active_referenced-gt0 c s h r =
 
 pub returns-then-open_requests-gt0 : goal.returns-then-open_requests-gt0
 returns-then-open_requests-gt0 c s h r =
-    alive_requests (image_of c.args.memory.now) s h r (omega (arith, c.if-open_requests-gt0.true, c.open_requests.ensures))
+    alive_requests (image_of c.args.memory.now) s h r (omega (arith, c.if-open_requests-gt0.true, rw c.requests.ensures at c.open_requests.ensures))
 
 pub returns : goal.returns
 returns c s h r =
     alive_closing (image_of c.args.memory.now) s h r (omega (arith, c.if-active_referenced-gt0.false, c.active_referenced.ensures))
-    (omega (arith, c.if-open_requests-gt0.false, c.open_requests.ensures))
+    (omega (arith, c.if-open_requests-gt0.false, rw c.requests.ensures at c.open_requests.ensures))
     ∙ c.has_closing.ensures s h r
