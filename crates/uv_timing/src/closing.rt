@@ -23,6 +23,7 @@ pub fn close_handle(memory: &mut Memory<Place>, id: Id, handle: HandleRecord)
     ensures returns { Returns memory.new.step_record (held memory.old) (held memory.new) }
     ensures does { Does (λ s. close s id handle) (held memory.old).image (held memory.new).image (code success) }
 {
+    memory.is_fit();
     memory.close(id, handle);
     memory.is_sound();
 }

@@ -18,6 +18,7 @@ pub fn collect_timer(memory: &mut Memory<Place>) -> Option<Id>
     ensures none { IfNone result (CollectsNone (held memory.old).image) }
     ensures unchanged { IfNone result (held memory.new ≡ held memory.old) }
 {
+    memory.is_fit();
     match memory.collect_timer() {
         None => None,
         Some(id) => {

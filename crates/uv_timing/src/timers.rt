@@ -25,6 +25,7 @@ pub fn stop_timer(memory: &mut Memory<Place>, id: Id, handle: HandleRecord)
     ensures returns { Returns memory.new.step_record (held memory.old) (held memory.new) }
     ensures does { Does (λ s. stop s id handle) (held memory.old).image (held memory.new).image (code success) }
 {
+    memory.is_fit();
     memory.reschedule(id, TimerChange::stopping(handle));
     memory.is_sound();
 }
@@ -43,8 +44,9 @@ pub fn start_timer(
     ensures returns { Returns memory.new.step_record (held memory.old) (held memory.new) }
     ensures does { Does (λ s. start s timeout repeat id handle) (held memory.old).image (held memory.new).image (code success) }
 {
+    memory.is_fit();
     memory.is_sound();
-    let change = TimerChange::starting(&memory.times, handle, timeout, repeat);
+    let change = TimerChange::starting(memory.times(), handle, timeout, repeat);
     memory.reschedule(id, change);
     memory.is_sound();
 }
@@ -57,8 +59,9 @@ pub fn start_again(memory: &mut Memory<Place>, id: Id, handle: HandleRecord)
     ensures returns { Returns memory.new.step_record (held memory.old) (held memory.new) }
     ensures does { Does (λ s. again s id handle) (held memory.old).image (held memory.new).image (code success) }
 {
+    memory.is_fit();
     memory.is_sound();
-    let change = TimerChange::again(&memory.times, handle);
+    let change = TimerChange::again(memory.times(), handle);
     memory.reschedule(id, change);
     memory.is_sound();
 }

@@ -7,5 +7,5 @@ pub returns-clause-does : goal.returns-clause-does
 returns-clause-does c =
     let did = c.close.ensures in
     let sound = c.is_sound.ensures in
-    close_does c.close.new.self.step_record (held c.args.memory.now) (held c.close.new.self) c.args.id c.args.handle c.requires.ready.fit
+    close_does c.close.new.self.step_record (held c.args.memory.now) (held c.close.new.self) c.args.id c.args.handle c.is_fit.ensures
     c.requires.allowed did.recorded (whole _ _ _ did.recorded sound.arena sound.heap sound.places) did.does

@@ -10,5 +10,5 @@ pub returns-in-Some-clause-collects : goal.returns-in-Some-clause-collects
 returns-in-Some-clause-collects c =
     let did = c.in-Some.ensures in
     let sound = c.is_sound.ensures in
-    timer_collects c.collect_timer.new.self.step_record (held c.args.memory.now) (held c.collect_timer.new.self) c.in-Some.id c.requires.ready.fit
+    timer_collects c.collect_timer.new.self.step_record (held c.args.memory.now) (held c.collect_timer.new.self) c.in-Some.id c.is_fit.ensures
     did.recorded (whole _ _ _ did.recorded sound.arena sound.heap sound.places) did.does

@@ -7,6 +7,6 @@ pub returns-clause-does : goal.returns-clause-does
 returns-clause-does c =
     let did = c.reschedule.ensures in
     let sound = c.is_sound-2.ensures in
-    start_does c.reschedule.new.self.step_record (held c.args.memory.now) (held c.reschedule.new.self) c.args.id c.args.handle _ c.requires.ready.fit
+    start_does c.reschedule.new.self.step_record (held c.args.memory.now) (held c.reschedule.new.self) c.args.id c.args.handle _ c.is_fit.ensures
     did.recorded (whole _ _ _ did.recorded sound.arena sound.heap sound.places) did.does c.args.timeout c.args.repeat c.requires.allowed
-    c.starting-change.ensures
+    (rw c.times.ensures at c.starting-change.ensures)

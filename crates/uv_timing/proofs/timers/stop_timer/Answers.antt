@@ -7,5 +7,5 @@ pub returns-clause-does : goal.returns-clause-does
 returns-clause-does c =
     let did = c.reschedule.ensures in
     let sound = c.is_sound.ensures in
-    stop_does c.reschedule.new.self.step_record (held c.args.memory.now) (held c.reschedule.new.self) c.args.id c.args.handle _ c.requires.ready.fit
+    stop_does c.reschedule.new.self.step_record (held c.args.memory.now) (held c.reschedule.new.self) c.args.id c.args.handle _ c.is_fit.ensures
     c.requires.timer did.recorded (whole _ _ _ did.recorded sound.arena sound.heap sound.places) c.stopping.ensures did.does
