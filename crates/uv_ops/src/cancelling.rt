@@ -1,7 +1,6 @@
 //! Requests are cancelled.
 ghost use Rattle.std.specs.Prelude.{◌≡◌};
 ghost use Rattle.uv_script.specs.declared.op.Op.TheVariants as op;
-ghost use Rattle.uv_step.specs.Fit.{IsFit};
 ghost use Rattle.uv_step.specs.Image.{held};
 ghost use Rattle.uv_stands.specs.Doing.{Performs, Returns};
 ghost use Rattle.uv_ops.specs.Outside.{Cancels};
@@ -13,7 +12,6 @@ use uv_step::Memory;
 
 /// Cancels a request (uv_cancel), for an op or from outside.
 pub fn cancel(memory: &mut Memory<Place>, name: Var) -> Answer
-    requires { IsFit (held memory.old).image }
     ensures returns { Returns memory.new.step_record (held memory.old) (held memory.new) }
     ensures cancels { Cancels name (held memory.old).image (held memory.new).image result }
     ensures performs { Performs (op.Cancel name) (held memory.old).image (held memory.new).image result }

@@ -6,7 +6,6 @@ ghost use Rattle.uv_handle.specs.Counted.{record_at};
 ghost use Rattle.uv_model.specs.State.{State, live_handle, with_handle};
 ghost use Rattle.uv_model.specs.Ops.{on_handle, set_referenced};
 ghost use Rattle.uv_work.specs.Content.{handle_of};
-ghost use Rattle.uv_step.specs.Fit.{IsFit};
 ghost use Rattle.uv_step.specs.Image.{held};
 ghost use Rattle.uv_stands.specs.Doing.{Does, Performs, Returns};
 ghost use Rattle.uv_stands.specs.Stands.{StandsFor};

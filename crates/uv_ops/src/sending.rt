@@ -2,7 +2,6 @@
 ghost use Rattle.std.specs.Prelude.{◌≡◌};
 ghost use Rattle.uv_ids.specs.declared.code.Answer.TheVariants as answer;
 ghost use Rattle.uv_script.specs.declared.op.Op.TheVariants as op;
-ghost use Rattle.uv_step.specs.Fit.{IsFit};
 ghost use Rattle.uv_step.specs.Image.{held};
 ghost use Rattle.uv_stands.specs.Doing.{Performs, Returns};
 ghost use Rattle.uv_ops.specs.Outside.{Sends};
@@ -15,7 +14,6 @@ use uv_step::Memory;
 
 /// Has an async handle called (uv_async_send), for an op or from outside.
 pub fn send(memory: &mut Memory<Place>, name: Var) -> Code
-    requires { IsFit (held memory.old).image }
     ensures returns { Returns memory.new.step_record (held memory.old) (held memory.new) }
     ensures sends { Sends name (held memory.old).image (held memory.new).image result }
     ensures performs { Performs (op.Send name) (held memory.old).image (held memory.new).image (answer.Code result) }

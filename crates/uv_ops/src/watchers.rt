@@ -41,6 +41,7 @@ pub(crate) fn stop_watcher(memory: &mut Memory<Place>, id: Id, handle: HandleRec
     ensures returns { Returns memory.new.step_record (held memory.old) (held memory.new) }
     ensures does { Does (λ s. stop s id handle) (held memory.old).image (held memory.new).image (answer.Code code.Ok) }
 {
+    memory.is_fit();
     memory.stop_watcher(id, handle);
     memory.is_sound();
 }

@@ -6,6 +6,7 @@ ghost use Rattle.uv_step.specs.contracts.last.LastStep as last;
 ghost use Rattle.uv_step.specs.Change as change;
 ghost use Rattle.uv_step.specs.Image.{held};
 ghost use Rattle.uv_step.specs.Fit.{IsFit};
+ghost use Rattle.uv_step.specs.Undo.{Recorded};
 ghost use Rattle.uv_step.specs.Does.{changed};
 
 use crate::last::LastStep;
@@ -109,7 +110,8 @@ impl<P: Copy> Memory<P> {
 
     /// A step that changes nothing.
     pub fn pass(&mut self)
-        ensures { self.new ≡ record self.old { step_record = changed self.old.place change.Nothing } }
+        ensures recorded { Recorded self.new.step_record (held self.old) (held self.new) }
+        ensures passed { self.new ≡ record self.old { step_record = changed self.old.place change.Nothing } }
     {
         self.step_record.pass(self.place);
     }

@@ -3,12 +3,13 @@ use Rattle.uv_ops.proofs.Sends.{send_refused, send_done, send_performs}
 use Rattle.uv_ops.proofs.sending.send.Goals as goal
 
 pub returns-in-Err-clause-sends : goal.returns-in-Err-clause-sends
-returns-in-Err-clause-sends c = send_refused (image_of c.args.memory.now) c.args.name c.in-Err.code c.in-Err.ensures
+returns-in-Err-clause-sends c =
+    rw c.pass.ensures.passed (send_refused (image_of c.args.memory.now) c.args.name c.in-Err.code c.in-Err.ensures)
 
 pub returns-in-Err-clause-performs : goal.returns-in-Err-clause-performs
 returns-in-Err-clause-performs c =
     let i = image_of c.args.memory.now in
-    send_performs c.args.name i i _ (send_refused i c.args.name c.in-Err.code c.in-Err.ensures)
+    rw c.pass.ensures.passed (send_performs c.args.name i i _ (send_refused i c.args.name c.in-Err.code c.in-Err.ensures))
 
 pub returns-in-Ok-clause-sends : goal.returns-in-Ok-clause-sends
 returns-in-Ok-clause-sends c =
