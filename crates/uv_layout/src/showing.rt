@@ -22,10 +22,11 @@ pub fn shown_name(memory: &Memory<Place>, name: Var) -> Named
 pub fn shown_slot(memory: &Memory<Place>, number: u32) -> Option<Slot<Content>>
     ensures { (s : State) → StandsFor (held_by memory.now).image s → slice_get s.arena.slots number ≡ result }
 {
-    if number >= memory.slots().used() {
+    let slots = memory.slots();
+    if number >= slots.used() {
         return None;
     }
-    Some(memory.slots().slot_at(number))
+    Some(slots.slot_at(number))
 }
 
 /// What is held under an id.

@@ -8,7 +8,6 @@ ghost use Rattle.uv_script.specs.Program.{order_of};
 ghost use Rattle.uv_script.specs.declared.op.MainOp.TheVariants.{Run as run_line};
 ghost use Rattle.uv_model.specs.State.{State, watched, with_watched, refreshed};
 ghost use Rattle.uv_model.specs.Next.{stage_of, begin_walk, begin_closing, begin_done, main_step, refreshes};
-ghost use Rattle.uv_step.specs.Fit.{IsFit};
 ghost use Rattle.uv_step.specs.Image.{held};
 ghost use Rattle.uv_step.specs.Undo.{Recorded};
 ghost use Rattle.uv_stands.specs.Doing.{Returns, Goes};

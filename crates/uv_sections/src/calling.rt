@@ -4,7 +4,6 @@ ghost use Rattle.uv_ids.specs.declared.seen.Seen.{Seen};
 ghost use Rattle.uv_model.specs.State.{State};
 ghost use Rattle.uv_model.specs.Next.{Moves, calls};
 ghost use Rattle.uv_step.specs.declared.record.Naming.TheVariants.{Same as same};
-ghost use Rattle.uv_step.specs.Fit.{IsFit};
 ghost use Rattle.uv_step.specs.Image.{held};
 ghost use Rattle.uv_records.specs.Names.{named, count_of};
 ghost use Rattle.uv_step.specs.Undo.{CanUnwind, Extended};

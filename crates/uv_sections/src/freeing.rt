@@ -3,7 +3,6 @@ ghost use Rattle.std.specs.Prelude.{◌≡◌, Option, Some, None, IfSome, IfNon
 ghost use Rattle.uv_script.specs.Program.{arena_size};
 ghost use Rattle.uv_model.specs.State.{State, front, front_request};
 ghost use Rattle.uv_model.specs.Next.{collect_request, close_front};
-ghost use Rattle.uv_step.specs.Fit.{IsFit};
 ghost use Rattle.uv_step.specs.Image.{held};
 ghost use Rattle.uv_step.specs.Undo.{Recorded};
 ghost use Rattle.uv_stands.specs.Doing.{OfEach, Returns, Goes};

@@ -18,9 +18,10 @@ pub(crate) fn front_handle(memory: &Memory<Place>, list: ListName) -> Option<(Id
     ensures none { IfNone result (NoHandleFirst (held memory.now).image.arena list) }
     ensures is { (s : State) → StandsFor (held memory.now).image s → front s (members s list) ≡ result }
 {
-    match memory.slots().first(list) {
+    let slots = memory.slots();
+    match slots.first(list) {
         None => None,
-        Some(id) => match handle_at(memory.slots(), id) {
+        Some(id) => match handle_at(slots, id) {
             Err(_) => None,
             Ok(handle) => Some((id, handle)),
         },

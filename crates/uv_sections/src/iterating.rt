@@ -4,7 +4,6 @@ ghost use Rattle.uv_model.specs.State.{State};
 ghost use Rattle.uv_script.specs.Program.{order_of};
 ghost use Rattle.uv_model.specs.declared.place.Way.TheVariants.{ToTimers as to_timers, ToPending as to_pending};
 ghost use Rattle.uv_model.specs.Next.{ends, goes, goes_by, idled_at, idled_then, time_at, turns};
-ghost use Rattle.uv_step.specs.Fit.{IsFit};
 ghost use Rattle.uv_step.specs.Image.{held};
 ghost use Rattle.uv_step.specs.Undo.{Recorded};
 ghost use Rattle.uv_stands.specs.Doing.{OfEach, Returns, Goes};

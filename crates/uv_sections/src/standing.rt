@@ -2,7 +2,6 @@
 ghost use Rattle.std.specs.Prelude.{◌≡◌};
 ghost use Rattle.uv_model.specs.State.{State};
 ghost use Rattle.uv_model.specs.Next.{at};
-ghost use Rattle.uv_step.specs.Fit.{IsFit};
 ghost use Rattle.uv_step.specs.Image.{held};
 ghost use Rattle.uv_step.specs.Undo.{CanUnwind, Extended};
 ghost use Rattle.uv_stands.specs.Stands.{StandsFor};

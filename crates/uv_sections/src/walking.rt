@@ -3,7 +3,6 @@ ghost use Rattle.std.specs.Prelude.{◌≡◌, ◌≢◌, Option, Some, None, If
 ghost use Rattle.uv_records.specs.declared.lists.WatcherKind.TheVariants.{Async as async};
 ghost use Rattle.uv_model.specs.State.{State, front, watched};
 ghost use Rattle.uv_model.specs.Next.{walk, walk_async};
-ghost use Rattle.uv_step.specs.Fit.{IsFit};
 ghost use Rattle.uv_step.specs.Image.{held};
 ghost use Rattle.uv_step.specs.Undo.{Recorded};
 ghost use Rattle.uv_stands.specs.Doing.{OfEach, Returns, Goes};

@@ -5,6 +5,6 @@ use Rattle.uv_sections.proofs.beginning.end_all_yet.Goals as goal
 pub returns-clause-stands : goal.returns-clause-stands
 returns-clause-stands c =
     let b = c.leave_poll in
-    done_begun b.new.self.step_record (held c.args.memory.now) (held b.new.self) b.ensures.recorded c.is_sound.ensures _ b.ensures.does.is
+    done_begun b.new.self.step_record (held c.args.memory.now) (held b.new.self) b.ensures.recorded c.is_sound.ensures.arena _ b.ensures.does.is
     b.ensures.time
     b.ensures.does.does

@@ -6,5 +6,5 @@ pub returns-in-Some-end_handle-clause-gone : goal.returns-in-Some-end_handle-cla
 returns-in-Some-end_handle-clause-gone c =
     let e = c.in-Some-end_handle.ensures in
     handle_gone c.end_handle.new.self.step_record (held c.args.memory.now) (held c.end_handle.new.self) _ c.requires.last e.recorded
-    c.is_sound.ensures
+    c.is_sound.ensures.arena
     c.in-Some-end_handle.field-0 c.in-Some.id c.in-Some.handle c.in-Some.ensures.some _ _ e.does.1.is e.does.1.does

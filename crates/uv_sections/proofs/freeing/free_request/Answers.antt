@@ -11,4 +11,4 @@ pub returns-in-Some-clause-gone : goal.returns-in-Some-clause-gone
 returns-in-Some-clause-gone c =
     request_gone c.end_request.new.self.step_record (held c.args.memory.now) (held c.end_request.new.self) _ c.requires.last
     c.in-Some.ensures.recorded
-    c.is_sound.ensures c.in-Some.ended.0 c.in-Some.ended.1 _ c.in-Some.ensures.does.is c.in-Some.ensures.does.does
+    c.is_sound.ensures.arena c.in-Some.ended.0 c.in-Some.ended.1 _ c.in-Some.ensures.does.is c.in-Some.ensures.does.does

@@ -5,8 +5,10 @@ use Rattle.uv_sections.proofs.fronts.front_handle.Goals as goal
 
 pub returns-in-Err-clause-is : goal.returns-in-Err-clause-is
 returns-in-Err-clause-is c s h =
-    front_is (image_of c.args.memory.now) s h c.args.list c.in-Some.id None c.in-Some.ensures.some c.in-Err.ensures.none
+    front_is (image_of c.args.memory.now) s h c.args.list c.in-Some.id None
+    (rw c.slots-slots.ensures at c.in-Some.ensures.some) (rw c.slots-slots.ensures at c.in-Err.ensures.none)
 
 pub returns-in-Ok-clause-is : goal.returns-in-Ok-clause-is
 returns-in-Ok-clause-is c s h =
-    front_is (image_of c.args.memory.now) s h c.args.list c.in-Some.id (Some c.in-Ok.handle) c.in-Some.ensures.some c.in-Ok.ensures.ok.0
+    front_is (image_of c.args.memory.now) s h c.args.list c.in-Some.id (Some c.in-Ok.handle)
+    (rw c.slots-slots.ensures at c.in-Some.ensures.some) (rw c.slots-slots.ensures at c.in-Ok.ensures.ok.0)

@@ -5,7 +5,7 @@ use Rattle.uv_sections.proofs.walking.move_on.Goals as goal
 pub returns-in-Some-clause-moved : goal.returns-in-Some-clause-moved
 returns-in-Some-clause-moved c s h reached =
     let e = c.in-Some.ensures in
-    handle_moved c.walk.new.self.step_record (held c.args.memory.now) (held c.walk.new.self) e.recorded c.is_sound.ensures c.args.kind _
+    handle_moved c.walk.new.self.step_record (held c.args.memory.now) (held c.walk.new.self) e.recorded c.is_sound.ensures.arena c.args.kind _
     c.in-Some.pending _ e.does.is e.does.does c.in-Some.id c.in-Some.handle e.front s h
 
 pub returns-in-None-clause-none : goal.returns-in-None-clause-none
