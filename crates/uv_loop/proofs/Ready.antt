@@ -35,7 +35,6 @@ module _ (p : Program) (es : List Event) (seen : List (Option Seen)) (rs : List 
       let stands : StandsFor h.image s = course_stands p es seen rs h c in
       let able : CanStep s = after_able p es (let few = c.few in omega (arith, few)) in
       record {
-        fit = c.fit;
         room = room;
         starts = (let small = able.small.starts in let same = stands.next_start in omega (arith, small, same));
         time = (let small = able.small.time in let same = stands.time in omega (arith, small, same));

@@ -5,7 +5,6 @@ ghost use Rattle.uv_ids.specs.declared.id.Id.{Id};
 ghost use Rattle.uv_ids.specs.declared.event.Event.TheVariants.{Take, Finish, Tick};
 ghost use Rattle.uv_script.specs.Program.{Program, arena_size};
 ghost use Rattle.uv_work.specs.declared.request.Request.{Request};
-ghost use Rattle.uv_step.specs.Fit.{IsFit};
 ghost use Rattle.uv_step.specs.Image.{held};
 ghost use Rattle.uv_stands.specs.Doing.{Returns};
 ghost use Rattle.uv_stands.specs.Ready.{IsReady};
@@ -71,7 +70,7 @@ fn take_next(memory: &mut Memory<Place>, worker: u16) -> Seen
     ensures returns { Returns memory.new.step_record (held memory.old) (held memory.new) }
     ensures leads { (p : Program) → Leads p (held memory.old).image (held memory.new).image (Take worker) (Some result) }
 {
-    match memory.requests().next_work(memory.slots(), worker) {
+    match memory.next_work(worker) {
         Err(_) => unreachable!(),
         Ok((id, request)) => take_work(memory, worker, id, request),
     }
@@ -83,7 +82,7 @@ fn finish_own(memory: &mut Memory<Place>, worker: u16) -> Seen
     ensures returns { Returns memory.new.step_record (held memory.old) (held memory.new) }
     ensures leads { (p : Program) → Leads p (held memory.old).image (held memory.new).image (Finish worker) (Some result) }
 {
-    match memory.requests().work_of(memory.slots(), worker) {
+    match memory.work_of(worker) {
         Err(_) => unreachable!(),
         Ok((id, request)) => {
             let work = WorkResult::compute(request.job(id));

@@ -55,7 +55,7 @@ impl Model for ArenaLoop {
       program = a.script;
       standing = events_of a.steps.seen.items;
       walk = record { image = (held a.memory).image; records = a.steps.trail.records };
-      pieces = a.memory.slots().room;
+      pieces = a.memory.slots.room;
     } };
 
     ghost invariant = { λ a. IsCourse a.script (events_of a.steps.seen.items) a.steps.seen.items a.steps.trail.records (held a.memory) };

@@ -71,7 +71,7 @@ impl Machine for ArenaLoop {
         let Ok(seen) = act(&mut self.memory, &self.script, event) else {
             return Err(Fault::Memory);
         };
-        self.steps.push(seen, &self.memory.step_record);
+        self.steps.push(seen, self.memory.step_record());
         Ok(Outcome { seen })
     }
 
@@ -84,7 +84,7 @@ impl Machine for ArenaLoop {
         if self.steps.seen.len() >= STEPS {
             return Err(Fault::StepsFull);
         }
-        let (id, request) = match self.memory.requests().work_of(self.memory.slots(), worker) {
+        let (id, request) = match self.memory.work_of(worker) {
             Err(why) => return Err(Fault::Refused(why)),
             Ok(asked) => asked,
         };
@@ -96,7 +96,7 @@ impl Machine for ArenaLoop {
         }
         let line = finish_work(&mut self.memory, worker, id, request, work);
         let seen = Some(line);
-        self.steps.push(seen, &self.memory.step_record);
+        self.steps.push(seen, self.memory.step_record());
         Ok(Outcome { seen })
     }
 
@@ -110,7 +110,7 @@ impl Machine for ArenaLoop {
         if self.steps.is_empty() {
             return Ok(false);
         }
-        self.steps.pop(&mut self.memory.step_record);
+        self.steps.pop(self.memory.step_record_mut());
         self.memory.unwind();
         Ok(true)
     }
@@ -134,10 +134,11 @@ impl Machine for ArenaLoop {
     }
 
     fn numbers(&self) -> Numbers {
+        let times = self.memory.times();
         Numbers {
-            time: self.memory.times().time,
+            time: times.time,
             clock: self.memory.clock(),
-            next_start: self.memory.times().next_start,
+            next_start: times.next_start,
             stop_flag: self.memory.stop_flag(),
             idled: self.memory.idled(),
         }
@@ -169,7 +170,8 @@ impl Machine for ArenaLoop {
     }
 
     fn unused(&self) -> u32 {
-        self.memory.slots().capacity() - self.memory.slots().used()
+        let slots = self.memory.slots();
+        slots.capacity() - slots.used()
     }
 
     fn timers(&self) -> Result<Vec<Id>, Fault> {

@@ -4,7 +4,6 @@ ghost use Rattle.uv_ids.specs.declared.event.Event.TheVariants.{Take, Finish, Ca
 ghost use Rattle.uv_ids.specs.declared.seen.Seen.TheVariants.{Cancel as cancelled};
 ghost use Rattle.uv_script.specs.Program.{Program};
 ghost use Rattle.uv_work.specs.Requests.{job_of};
-ghost use Rattle.uv_step.specs.Fit.{IsFit};
 ghost use Rattle.uv_step.specs.Image.{held};
 ghost use Rattle.uv_step.specs.Undo.{Recorded};
 ghost use Rattle.uv_stands.specs.Doing.{Returns};

@@ -5,7 +5,6 @@ ghost use Rattle.uv_model.specs.Next.{main_step, run_step, stage_step, next};
 ghost use Rattle.uv_model.specs.After.{refusal_of};
 ghost use Rattle.uv_model.specs.State.{State};
 ghost use Rattle.uv_script.specs.Program.{Program, order_of};
-ghost use Rattle.uv_step.specs.Fit.{IsFit};
 ghost use Rattle.uv_step.specs.Image.{held};
 ghost use Rattle.uv_stands.specs.Doing.{OfEach};
 ghost use Rattle.uv_loop.specs.Acting.{MayBehind, MayIn, MayAt, Refusal};
@@ -27,7 +26,6 @@ fn later(clock: u64, ms: u64) -> Option<u64>
 
 /// Why an event is to be refused, if it is. Nothing else refuses it.
 pub(crate) fn refusal(memory: &Memory<Place>, script: &Script, event: Event) -> Option<Why>
-    requires fit { IsFit (held memory.now).image }
     ensures { Refusal script.now event (held memory.now).image result }
 {
     match event {
@@ -63,10 +61,9 @@ fn name_refusal(memory: &Memory<Place>, name: Var) -> Option<Why>
 
 /// A worker takes a request where it runs none, and one waits.
 fn take_refusal(memory: &Memory<Place>, worker: u16) -> Option<Why>
-    requires fit { IsFit (held memory.now).image }
     ensures { (p : Program) → Refusal p (Take worker) (held memory.now).image result }
 {
-    match memory.requests().next_work(memory.slots(), worker) {
+    match memory.next_work(worker) {
         Err(why) => Some(why),
         Ok(_) => None,
     }
@@ -74,10 +71,9 @@ fn take_refusal(memory: &Memory<Place>, worker: u16) -> Option<Why>
 
 /// A worker finishes what it runs.
 fn finish_refusal(memory: &Memory<Place>, worker: u16) -> Option<Why>
-    requires fit { IsFit (held memory.now).image }
     ensures { (p : Program) → Refusal p (Finish worker) (held memory.now).image result }
 {
-    match memory.requests().work_of(memory.slots(), worker) {
+    match memory.work_of(worker) {
         Err(why) => Some(why),
         Ok(_) => None,
     }

@@ -3,7 +3,6 @@ ghost use Rattle.std.specs.Prelude.{◌<◌, Some, length};
 ghost use Rattle.uv_ids.specs.declared.event.Event.TheVariants.{Send};
 ghost use Rattle.uv_ids.specs.declared.seen.Seen.TheVariants.{Send as sent};
 ghost use Rattle.uv_script.specs.Program.{Program};
-ghost use Rattle.uv_step.specs.Fit.{IsFit};
 ghost use Rattle.uv_step.specs.Image.{held};
 ghost use Rattle.uv_stands.specs.Doing.{Returns};
 ghost use Rattle.uv_loop.specs.Course.{Leads};

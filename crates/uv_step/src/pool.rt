@@ -6,7 +6,8 @@ ghost use Rattle.uv_arena.specs.Image.{members};
 ghost use Rattle.uv_work.specs.Requests.{reopened, cancel_refusal, job_of};
 ghost use Rattle.uv_work.specs.Pool.{waits};
 ghost use Rattle.uv_requests.specs.Working.{found, pool_of, request_in as held_request};
-ghost use Rattle.uv_requests.specs.Calls.{IsQueued, IsTaken, IsFinished, IsCancelled, IsBegun, IsCollected};
+ghost use Rattle.uv_work.specs.declared.job.Job.{Job};
+ghost use Rattle.uv_requests.specs.Calls.{RefusesTake, RefusesFinish, IsQueued, IsTaken, IsFinished, IsCancelled, IsBegun, IsCollected};
 ghost use Rattle.uv_work.specs.declared.content.Content.TheVariants.{Request as asked};
 ghost use Rattle.uv_step.specs.Change.{Queued as queued, Taken as taken, Finished as finished, Cancelled as cancelled, Begun as begun, Polled as polled};
 ghost use Rattle.uv_work.specs.Content.{request_of};
@@ -20,7 +21,7 @@ use crate::memory::Memory;
 use crate::record::Polled;
 use crate::small::Small;
 use uv_arena::InsertFault;
-use uv_ids::{Code, Id};
+use uv_ids::{Code, Id, Why};
 use uv_work::{Request, WorkResult};
 
 impl<P: Copy> Memory<P> {
@@ -43,6 +44,17 @@ impl<P: Copy> Memory<P> {
         }
     }
 
+    /// What a worker may take: the request that waits longest. Refused if there is no such worker, if it runs one already, or if none
+    /// waits.
+    pub fn next_work(&self, worker: u16) -> Result<(Id, Request), Why>
+        ensures idle { IfOk result (λ r. slice_get (held self.now).image.running.workers worker ≡ Some None) }
+        ensures first { IfOk result (λ r. IsFirst (held self.now).image.arena Waiting r.0) }
+        ensures request { IfOk result (λ r. held_request request_of (held self.now).image.arena r.0 ≡ Some r.1) }
+        ensures err { IfErr result (λ why. RefusesTake request_of (working_of (held self.now).image) worker why) }
+    {
+        self.requests.next_work(&self.slots, worker)
+    }
+
     /// A worker that runs nothing takes this request, which waits longest.
     pub fn take(&mut self, worker: u16, id: Id)
         requires idle { slice_get (held self.old).image.running.workers worker ≡ Some None }
@@ -53,6 +65,15 @@ impl<P: Copy> Memory<P> {
     {
         let undo = self.requests.start_work(&mut self.slots, worker, id);
         self.step_record.note_small(self.place, Small::Taken(undo));
+    }
+
+    /// What a worker may finish: the request that it runs. Refused if there is no such worker, or if it runs nothing.
+    pub fn work_of(&self, worker: u16) -> Result<(Id, Request), Why>
+        ensures runs { IfOk result (λ r. slice_get (held self.now).image.running.workers worker ≡ Some (Some r.0)) }
+        ensures request { IfOk result (λ r. held_request request_of (held self.now).image.arena r.0 ≡ Some r.1) }
+        ensures err { IfErr result (λ why. (job : Job) → RefusesFinish request_of (working_of (held self.now).image) worker job why) }
+    {
+        self.requests.work_of(&self.slots, worker)
     }
 
     /// A worker hands in the result of this request, which it runs.

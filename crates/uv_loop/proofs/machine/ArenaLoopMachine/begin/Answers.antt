@@ -12,4 +12,4 @@ invariant_of-result c =
     let is = c.in-Ok.ensures.image in
     course_new c.args.script (events_of c.new.result.seen.items) c.new.result.seen.items c.new.result.trail.records (held c.in-Ok.memory)
     (events_same c.new.ensures.seen) c.new.ensures.seen c.new.ensures.records c.in-Ok.ensures.fit
-    is (fresh_stands c.args.script (subst (λ i. IsSound i) (ap (λ i. i.arena) is) c.is_sound.ensures))
+    is (fresh_stands c.args.script (subst (λ i. IsSound i) (ap (λ i. i.arena) is) c.is_sound.ensures.arena))

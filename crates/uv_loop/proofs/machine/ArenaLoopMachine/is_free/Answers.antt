@@ -11,4 +11,4 @@ pub returns : goal.returns
 returns c =
     asked _ _ _ _ (held c.self.inside.memory) _ c.self.view_is c.self.invariant
     (λ s. c.is_free.result ≡ is_free s c.args.number)
-    (λ s h. c.is_free.ensures ∙ ap (λ (q : Slots Content). list_any (λ n. n == c.args.number) q.free) h.slots)
+    (λ s h. (rw c.slots.ensures at c.is_free.ensures) ∙ ap (λ (q : Slots Content). list_any (λ n. n == c.args.number) q.free) h.slots)

@@ -85,7 +85,7 @@ invariant_of-self-2 c =
     (held c.act.new.memory) c.act.new.memory.step_record c.args.event line
     (events_told c.args.event roomier c.in-Ok.ensures.leads c.push.ensures.seen c.reserve.ensures.same.seen)
     (c.push.ensures.seen ∙ ap (λ xs. xs ++ line ∷ []) c.reserve.ensures.same.seen)
-    (c.push.ensures.records ∙ ap (λ xs. xs ++ c.act.new.memory.step_record ∷ []) c.reserve.ensures.same.records)
+    ((rw c.step_record.ensures at c.push.ensures.records) ∙ ap (λ xs. xs ++ c.act.new.memory.step_record ∷ []) c.reserve.ensures.same.records)
     few roomier c.in-Ok.ensures.returns c.in-Ok.ensures.leads
 
 pub returns-clause-answer : goal.returns-clause-answer

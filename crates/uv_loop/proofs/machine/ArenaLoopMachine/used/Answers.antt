@@ -7,4 +7,4 @@ use Rattle.uv_loop.proofs.machine.ArenaLoopMachine.used.Goals as goal
 pub returns : goal.returns
 returns c =
     asked _ _ _ _ (held c.self.inside.memory) _ c.self.view_is c.self.invariant
-    (λ s. c.used.result ≡ length s.arena.slots) (λ s h. c.used.ensures.used ∙ slots_long (image_of c.self.inside.memory) s h)
+    (λ s. c.used.result ≡ length s.arena.slots) (λ s h. (rw c.slots.ensures at c.used.ensures.used) ∙ slots_long (image_of c.self.inside.memory) s h)

@@ -8,4 +8,4 @@ pub returns : goal.returns
 returns c =
     asked _ _ _ _ (held c.self.inside.memory) _ c.self.view_is c.self.invariant
     (λ s. length c.workers.result.now ≡ length s.running)
-    (λ s h. ap (λ (rs : List (Option Id)). length rs) (c.workers.ensures ∙ h.running))
+    (λ s h. ap (λ (rs : List (Option Id)). length rs) ((rw c.requests.ensures at c.workers.ensures) ∙ h.running))
