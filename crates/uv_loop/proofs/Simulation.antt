@@ -14,6 +14,7 @@ use Rattle.uv_model.specs.State.{State}
 use Rattle.uv_model.specs.Queries.{members}
 use Rattle.uv_work.specs.declared.content.Content.{Content}
 use Rattle.uv_step.specs.Image.{Image}
+use Rattle.uv_stands.proofs.Lists.{beside_lists}
 use Rattle.uv_stands.specs.Stands.{StandsFor}
 use Rattle.uv_loop.specs.Course.{first_image}
 
@@ -23,19 +24,7 @@ none_busy (suc n) = none_busy n
 
 none_listed : (p : Program) (l : ListName) → members (state.fresh p) l ≡ []
 none_listed p name.Ready = refl
-none_listed p name.Idle = refl
-none_listed p name.IdleYet = refl
-none_listed p name.Prepare = refl
-none_listed p name.PrepareYet = refl
-none_listed p name.Check = refl
-none_listed p name.CheckYet = refl
-none_listed p name.Async = refl
-none_listed p name.AsyncYet = refl
-none_listed p name.Closing = refl
-none_listed p name.ClosingYet = refl
-none_listed p name.Waiting = refl
-none_listed p name.Done = refl
-none_listed p name.DoneYet = refl
+none_listed p l = refl
 
 no_members : (capacity last : ℕ) (l : ListName) → arena.members (fresh_image Content capacity last) l ≡ []
 unfolding list_of walk
@@ -68,23 +57,6 @@ fresh_stands p sound =
       opened = let none = none_busy (worker_count p) in omega (arith, none);
     }
 
--- the lists of a state are the same at another clock
-clocked : (s : State) (m : ℕ) (l : ListName) → members (record s { clock = m }) l ≡ members s l
-clocked s m name.Ready = refl
-clocked s m name.Idle = refl
-clocked s m name.IdleYet = refl
-clocked s m name.Prepare = refl
-clocked s m name.PrepareYet = refl
-clocked s m name.Check = refl
-clocked s m name.CheckYet = refl
-clocked s m name.Async = refl
-clocked s m name.AsyncYet = refl
-clocked s m name.Closing = refl
-clocked s m name.ClosingYet = refl
-clocked s m name.Waiting = refl
-clocked s m name.Done = refl
-clocked s m name.DoneYet = refl
-
 -- the clock is no part of the rest
 pub ticked : (i : Image Place) (s : State) (n m : ℕ) → n ≡ m → StandsFor i s → StandsFor (record i { clock = n }) (record s { clock = m })
 ticked i s n m same h = record {
@@ -97,7 +69,8 @@ ticked i s n m same h = record {
   idled = h.idled;
   slots = h.slots;
   running = h.running;
-  lists = λ l. clocked s m l ∙ h.lists l;
+  lists = λ l.
+      beside_lists s s.place s.names s.arena s.timers s.running s.time m s.next_start s.stop_flag s.idled l ∙ h.lists l;
   sound = h.sound;
   heap = h.heap;
   places = h.places;

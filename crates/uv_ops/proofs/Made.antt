@@ -79,20 +79,8 @@ module _ (i : Image Place) (s : State) (h : StandsFor i s) (k : arena.Image Cont
     with_asyncs = record s { arena = taken d v s.arena; async = record { list = asyncs; yet = s.async.yet } }
 
     beside_asyncs : (l : ListName) → l ≢ name.Async → members with_asyncs l ≡ members s l
-    beside_asyncs name.Ready ne = refl
-    beside_asyncs name.Idle ne = refl
-    beside_asyncs name.IdleYet ne = refl
-    beside_asyncs name.Prepare ne = refl
-    beside_asyncs name.PrepareYet ne = refl
-    beside_asyncs name.Check ne = refl
-    beside_asyncs name.CheckYet ne = refl
     beside_asyncs name.Async ne = absurd (ne refl)
-    beside_asyncs name.AsyncYet ne = refl
-    beside_asyncs name.Closing ne = refl
-    beside_asyncs name.ClosingYet ne = refl
-    beside_asyncs name.Waiting ne = refl
-    beside_asyncs name.Done ne = refl
-    beside_asyncs name.DoneYet ne = refl
+    beside_asyncs l ne = refl
 
     pub handle_stands : (m : ℕ) → ((l : ListName) → l ≢ name.Async → arena.members k l ≡ arena.members i.arena l)
         → Listed k with_asyncs name.Async → IsSound k → IsCounted handle_of (counted k m)

@@ -22,15 +22,11 @@ use Rattle.uv_work.specs.Content.{handle_of}
 use Rattle.uv_step.specs.Image.{Image}
 use Rattle.uv_stands.specs.Stands.{StandsFor, timer_in}
 use Rattle.uv_stands.proofs.Holding.{slots_set, ids_kept, map_same}
+use Rattle.uv_stands.proofs.Lists.{Listed}
 
 -- a list of ids is that list of the arena
 abbrev pub IsList : arena.Image Content → List Id → ListName → Type 0
 IsList k xs l = xs ≡ map (id_in k) (arena.members k l)
-
--- a list that a section walks, with those that it has yet to run
-pub record IsWalk (k : arena.Image Content) (w : Walk Id) (list yet : ListName) : Type 0 where
-  pub all : IsList k w.list list
-  pub rest : IsList k w.yet yet
 
 module _ (i : Image Place) (s : State) (h : StandsFor i s) (k : arena.Image Content) (m : ℕ) (d : Id) (from to : HandleRecord)
     (there : record_at handle_of i.arena d ≡ Some from)
@@ -46,34 +42,7 @@ module _ (i : Image Place) (s : State) (h : StandsFor i s) (k : arena.Image Cont
     abbrev pub relisted : State
     relisted = record (with_handle s d to) { ready = ready; idle = idle; prepare = prepare; check = check; async = async; closing = closing }
 
-    -- these are the lists of the arena
-    pub record AreRelisted : Type 0 where
-      pub of_ready : IsList k ready name.Ready
-      pub of_idle : IsWalk k idle name.Idle name.IdleYet
-      pub of_prepare : IsWalk k prepare name.Prepare name.PrepareYet
-      pub of_check : IsWalk k check name.Check name.CheckYet
-      pub of_async : IsWalk k async name.Async name.AsyncYet
-      pub of_closing : IsWalk k closing name.Closing name.ClosingYet
-      pub of_waiting : IsList k s.waiting name.Waiting
-      pub of_done : IsWalk k s.done name.Done name.DoneYet
-
-    each_list : AreRelisted → (l : ListName) → members relisted l ≡ map (id_in k) (arena.members k l)
-    each_list a name.Ready = a.of_ready
-    each_list a name.Idle = a.of_idle.all
-    each_list a name.IdleYet = a.of_idle.rest
-    each_list a name.Prepare = a.of_prepare.all
-    each_list a name.PrepareYet = a.of_prepare.rest
-    each_list a name.Check = a.of_check.all
-    each_list a name.CheckYet = a.of_check.rest
-    each_list a name.Async = a.of_async.all
-    each_list a name.AsyncYet = a.of_async.rest
-    each_list a name.Closing = a.of_closing.all
-    each_list a name.ClosingYet = a.of_closing.rest
-    each_list a name.Waiting = a.of_waiting
-    each_list a name.Done = a.of_done.all
-    each_list a name.DoneYet = a.of_done.rest
-
-    pub relisted_stands : AreRelisted → IsSound k → IsCounted handle_of (counted k m) → StandsFor (record i { arena = k; active = m }) relisted
+    pub relisted_stands : ((l : ListName) → Listed k relisted l) → IsSound k → IsCounted handle_of (counted k m) → StandsFor (record i { arena = k; active = m }) relisted
     relisted_stands lists sound counts = record {
       place = h.place;
       names = h.names;
@@ -84,7 +53,7 @@ module _ (i : Image Place) (s : State) (h : StandsFor i s) (k : arena.Image Cont
       idled = h.idled;
       slots = slots;
       running = h.running;
-      lists = each_list lists;
+      lists = lists;
       sound = sound;
       heap = h.heap;
       places = h.places;

@@ -40,9 +40,9 @@ use Rattle.uv_stands.specs.Asking.{Allows}
 use Rattle.uv_stands.specs.Doing.{Performs}
 use Rattle.uv_stands.specs.Stands.{StandsFor}
 use Rattle.uv_stands.proofs.Holding.{map_same}
-use Rattle.uv_stands.proofs.Lists.{list_stays}
+use Rattle.uv_stands.proofs.Lists.{Listed, all_but_one}
 use Rattle.uv_ops.proofs.Frames.{enlisted_frame}
-use Rattle.uv_ops.proofs.Relisted.{IsList, IsWalk, same_ids, relisted_stands}
+use Rattle.uv_ops.proofs.Relisted.{same_ids, relisted_stands}
 
 -- ---- the watcher was inactive
 
@@ -51,12 +51,6 @@ module _ (i : Image Place) (s : State) (h : StandsFor i s) (k : arena.Image Cont
     ids : (x : ℕ) → id_in k x ≡ id_in i.arena x
     ids = same_ids i s h k m d from (activated from) c.there c.plain
 
-    stays : (a : ListName) → a ≢ l → IsList k (members s a) a
-    stays a ne = list_stays i s h k s a ids (c.others a ne) refl
-
-    walk : (a b : ListName) → a ≢ l → b ≢ l → IsWalk k (record { list = members s a; yet = members s b }) a b
-    walk a b na nb = record { all = stays a na; rest = stays b nb }
-
     first : d ∷ members s l ≡ map (id_in k) (arena.members k l)
     first =
         let was = handles.content_of handle_of i.arena d from c.there in
@@ -64,57 +58,35 @@ module _ (i : Image Place) (s : State) (h : StandsFor i s) (k : arena.Image Cont
         ∙ ap (λ xs. id_in k d.slot ∷ xs) (sym (map_same (id_in k) (id_in i.arena) ids (arena.members i.arena l)))
         ∙ ap (map (id_in k)) (sym c.lists)
 
+    -- a state that differs in this list alone
+    relisted : (t : State) → ((b : ListName) → b ≢ l → members t b ≡ members s b) → members t l ≡ d ∷ members s l → (b : ListName) → Listed k t b
+    relisted t same here = all_but_one i s h k t ids l c.others same (here ∙ first)
+
+  started_others : (kind : WatcherKind) (b : ListName) → b ≢ list_of kind → members (watcher_started s kind d from) b ≡ members s b
+  started_others watcher.Idle name.Idle ne = absurd (ne refl)
+  started_others watcher.Idle b ne = refl
+  started_others watcher.Prepare name.Prepare ne = absurd (ne refl)
+  started_others watcher.Prepare b ne = refl
+  started_others watcher.Check name.Check ne = absurd (ne refl)
+  started_others watcher.Check b ne = refl
+  started_others watcher.Async name.Async ne = absurd (ne refl)
+  started_others watcher.Async b ne = refl
+
   started_stands : (kind : WatcherKind) (u : ListUndo)
       → IsEnlisted handle_of Handle (counted_of i) (counted k m) d from (activated from) (list_of kind) u
       → StandsFor (record i { arena = k; active = m }) (watcher_started s kind d from)
   started_stands watcher.Idle u c =
       relisted_stands i s h k m d from (activated from) c.there c.plain s.ready (with_first s.idle d) s.prepare s.check s.async s.closing
-      (record {
-        of_ready = stays name.Idle u c name.Ready (λ e. cc);
-        of_idle = record { all = first name.Idle u c; rest = stays name.Idle u c name.IdleYet (λ e. cc) };
-        of_prepare = walk name.Idle u c name.Prepare name.PrepareYet (λ e. cc) (λ e. cc);
-        of_check = walk name.Idle u c name.Check name.CheckYet (λ e. cc) (λ e. cc);
-        of_async = walk name.Idle u c name.Async name.AsyncYet (λ e. cc) (λ e. cc);
-        of_closing = walk name.Idle u c name.Closing name.ClosingYet (λ e. cc) (λ e. cc);
-        of_waiting = stays name.Idle u c name.Waiting (λ e. cc);
-        of_done = walk name.Idle u c name.Done name.DoneYet (λ e. cc) (λ e. cc);
-      }) sound c.counts
+      (relisted name.Idle u c (watcher_started s watcher.Idle d from) (started_others watcher.Idle) refl) sound c.counts
   started_stands watcher.Prepare u c =
       relisted_stands i s h k m d from (activated from) c.there c.plain s.ready s.idle (with_first s.prepare d) s.check s.async s.closing
-      (record {
-        of_ready = stays name.Prepare u c name.Ready (λ e. cc);
-        of_idle = walk name.Prepare u c name.Idle name.IdleYet (λ e. cc) (λ e. cc);
-        of_prepare = record { all = first name.Prepare u c; rest = stays name.Prepare u c name.PrepareYet (λ e. cc) };
-        of_check = walk name.Prepare u c name.Check name.CheckYet (λ e. cc) (λ e. cc);
-        of_async = walk name.Prepare u c name.Async name.AsyncYet (λ e. cc) (λ e. cc);
-        of_closing = walk name.Prepare u c name.Closing name.ClosingYet (λ e. cc) (λ e. cc);
-        of_waiting = stays name.Prepare u c name.Waiting (λ e. cc);
-        of_done = walk name.Prepare u c name.Done name.DoneYet (λ e. cc) (λ e. cc);
-      }) sound c.counts
+      (relisted name.Prepare u c (watcher_started s watcher.Prepare d from) (started_others watcher.Prepare) refl) sound c.counts
   started_stands watcher.Check u c =
       relisted_stands i s h k m d from (activated from) c.there c.plain s.ready s.idle s.prepare (with_first s.check d) s.async s.closing
-      (record {
-        of_ready = stays name.Check u c name.Ready (λ e. cc);
-        of_idle = walk name.Check u c name.Idle name.IdleYet (λ e. cc) (λ e. cc);
-        of_prepare = walk name.Check u c name.Prepare name.PrepareYet (λ e. cc) (λ e. cc);
-        of_check = record { all = first name.Check u c; rest = stays name.Check u c name.CheckYet (λ e. cc) };
-        of_async = walk name.Check u c name.Async name.AsyncYet (λ e. cc) (λ e. cc);
-        of_closing = walk name.Check u c name.Closing name.ClosingYet (λ e. cc) (λ e. cc);
-        of_waiting = stays name.Check u c name.Waiting (λ e. cc);
-        of_done = walk name.Check u c name.Done name.DoneYet (λ e. cc) (λ e. cc);
-      }) sound c.counts
+      (relisted name.Check u c (watcher_started s watcher.Check d from) (started_others watcher.Check) refl) sound c.counts
   started_stands watcher.Async u c =
       relisted_stands i s h k m d from (activated from) c.there c.plain s.ready s.idle s.prepare s.check (with_first s.async d) s.closing
-      (record {
-        of_ready = stays name.Async u c name.Ready (λ e. cc);
-        of_idle = walk name.Async u c name.Idle name.IdleYet (λ e. cc) (λ e. cc);
-        of_prepare = walk name.Async u c name.Prepare name.PrepareYet (λ e. cc) (λ e. cc);
-        of_check = walk name.Async u c name.Check name.CheckYet (λ e. cc) (λ e. cc);
-        of_async = record { all = first name.Async u c; rest = stays name.Async u c name.AsyncYet (λ e. cc) };
-        of_closing = walk name.Async u c name.Closing name.ClosingYet (λ e. cc) (λ e. cc);
-        of_waiting = stays name.Async u c name.Waiting (λ e. cc);
-        of_done = walk name.Async u c name.Done name.DoneYet (λ e. cc) (λ e. cc);
-      }) sound c.counts
+      (relisted name.Async u c (watcher_started s watcher.Async d from) (started_others watcher.Async) refl) sound c.counts
 
 -- ---- what the op does
 

@@ -41,7 +41,8 @@ use Rattle.uv_stands.proofs.Holding.{map_same}
 use Rattle.uv_stands.proofs.Absent.{IsOn, has_first, has_second, own_id, holds_it, has_it, ready_stays, not_waiting, not_done, not_done_yet, not_closing, not_closing_yet}
 use Rattle.uv_stands.proofs.Without.{without_ids}
 use Rattle.uv_ops.proofs.Frames.{delisted_frame}
-use Rattle.uv_ops.proofs.Relisted.{IsList, IsWalk, same_ids, relisted_stands}
+use Rattle.uv_stands.proofs.Lists.{Listed}
+use Rattle.uv_ops.proofs.Relisted.{IsList, same_ids, relisted_stands}
 use Rattle.uv_ops.proofs.Leaving.{gone, kept}
 
 module _ (i : Image Place) (s : State) (h : StandsFor i s) (d : Id) (from : HandleRecord) (there : record_at handle_of i.arena d ≡ Some from) where
@@ -78,15 +79,14 @@ module _ (i : Image Place) (s : State) (h : StandsFor i s) (d : Id) (from : Hand
         let was = arena.members i.arena l in
         h.lists l ∙ map_ids was ∙ ap (map (id_in k)) (sym (kept from.closing was (arena.members k l) d.slot none (c.lists l)))
 
-    off_walk : (x : Kind) (a b : ListName) → AreActive s x (members s a ++ members s b)
-        → IsWalk k (walk_without_id (record { list = members s a; yet = members s b }) d) a b
-    off_walk x a b act =
+    off_both : (x : Kind) (a b : ListName) → AreActive s x (members s a ++ members s b)
+        → IsList k (without_id (members s a) d) a × IsList k (without_id (members s b) d) b
+    off_both x a b act =
         let none = idle_closing reached x (members s a ++ members s b) act in
-        let has = has_it i d from there s h in
-        record {
-          all = off a (λ e on. none e (has_first (members s a) (members s b) d (has a on)));
-          rest = off b (λ e on. none e (has_second (members s a) (members s b) d (has b on)));
-        }
+        let has = has_it i d from there s h in (
+          off a (λ e on. none e (has_first (members s a) (members s b) d (has a on))),
+          off b (λ e on. none e (has_second (members s a) (members s b) d (has b on))),
+        )
 
     abbrev pub state_after : State
     state_after = record (with_handle s d (records.stopped from)) {
@@ -97,25 +97,25 @@ module _ (i : Image Place) (s : State) (h : StandsFor i s) (d : Id) (from : Hand
       async = walk_without_id s.async d;
     }
 
+    listed : (l : ListName) → Listed k state_after l
+    listed name.Ready = off name.Ready (ready_stays i d from there s h reached)
+    listed name.Idle = (off_both kind.Idle name.Idle name.IdleYet reached.idle).0
+    listed name.IdleYet = (off_both kind.Idle name.Idle name.IdleYet reached.idle).1
+    listed name.Prepare = (off_both kind.Prepare name.Prepare name.PrepareYet reached.prepare).0
+    listed name.PrepareYet = (off_both kind.Prepare name.Prepare name.PrepareYet reached.prepare).1
+    listed name.Check = (off_both kind.Check name.Check name.CheckYet reached.check).0
+    listed name.CheckYet = (off_both kind.Check name.Check name.CheckYet reached.check).1
+    listed name.Async = (off_both kind.Async name.Async name.AsyncYet reached.async).0
+    listed name.AsyncYet = (off_both kind.Async name.Async name.AsyncYet reached.async).1
+    listed name.Closing = stays name.Closing (not_closing i d from there s h reached)
+    listed name.ClosingYet = stays name.ClosingYet (not_closing_yet i d from there s h reached)
+    listed name.Waiting = stays name.Waiting (λ e. not_waiting i d from there fit)
+    listed name.Done = stays name.Done (λ e. not_done i d from there fit)
+    listed name.DoneYet = stays name.DoneYet (λ e. not_done_yet i d from there fit)
+
     pub stopped_stands : IsSound k → StandsFor (record i { arena = k; active = m }) state_after
     stopped_stands sound = relisted_stands i s h k m d from (records.stopped from) c.there c.plain (without_id s.ready d) (walk_without_id s.idle d)
-        (walk_without_id s.prepare d) (walk_without_id s.check d) (walk_without_id s.async d) s.closing
-        (record {
-          of_ready = off name.Ready (ready_stays i d from there s h reached);
-          of_idle = off_walk kind.Idle name.Idle name.IdleYet reached.idle;
-          of_prepare = off_walk kind.Prepare name.Prepare name.PrepareYet reached.prepare;
-          of_check = off_walk kind.Check name.Check name.CheckYet reached.check;
-          of_async = off_walk kind.Async name.Async name.AsyncYet reached.async;
-          of_closing = record {
-            all = stays name.Closing (not_closing i d from there s h reached);
-            rest = stays name.ClosingYet (not_closing_yet i d from there s h reached);
-          };
-          of_waiting = stays name.Waiting (λ e. not_waiting i d from there fit);
-          of_done = record {
-            all = stays name.Done (λ e. not_done i d from there fit);
-            rest = stays name.DoneYet (λ e. not_done_yet i d from there fit);
-          };
-        }) sound c.counts
+        (walk_without_id s.prepare d) (walk_without_id s.check d) (walk_without_id s.async d) s.closing listed sound c.counts
 
     -- it is no timer
     pub stop_is : is_timer from.kind ≡ false → stop s d from ≡ record { state = state_after; answer = answer.Code code.Ok }

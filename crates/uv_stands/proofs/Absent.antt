@@ -140,49 +140,38 @@ module _ (i : Image Place) (d : Id) (h : HandleRecord) (there : record_at handle
       kind_of : (k : Kind) → IsActive s k d → h.kind ≡ k
       kind_of k a = let same : a.its ≡ h = cc (a.holds, holds_it) in ap (λ (z : HandleRecord). z.kind) (sym same) ∙ a.kind
 
-      -- on the list of a kind, or yet to run
-      kind_on : (k : Kind) (xs ys : List Id) → AreActive s k (xs ++ ys) → (has_id xs d ≡ true) ⊎ (has_id ys d ≡ true) → h.kind ≡ k
-      kind_on k xs ys a (inl e) = kind_of k (a.each d (has_first xs ys d e))
-      kind_on k xs ys a (inr e) = kind_of k (a.each d (has_second xs ys d e))
+      -- on neither list of another kind of watchers
+      off_both : (k : Kind) (a b : ListName) → AreActive s k (members s a ++ members s b) → (h.kind ≡ k → ⊥) → (IsOn i a d → ⊥) × (IsOn i b d → ⊥)
+      off_both k a b act other = (
+        (λ on. other (kind_of k (act.each d (has_first (members s a) (members s b) d (has_it a on))))),
+        (λ on. other (kind_of k (act.each d (has_second (members s a) (members s b) d (has_it b on))))),
+      )
 
       module _ (timer : h.kind ≡ kind.Timer) where
-        pub not_idle : IsOn i name.Idle d → ⊥
-        not_idle on = let k = kind_on kind.Idle s.idle.list s.idle.yet reached.idle (inl (has_it name.Idle on)) in cc (k, timer)
+        pub not_idle : (IsOn i name.Idle d → ⊥) × (IsOn i name.IdleYet d → ⊥)
+        not_idle = off_both kind.Idle name.Idle name.IdleYet reached.idle (λ e. cc (e, timer))
 
-        pub not_idle_yet : IsOn i name.IdleYet d → ⊥
-        not_idle_yet on = let k = kind_on kind.Idle s.idle.list s.idle.yet reached.idle (inr (has_it name.IdleYet on)) in cc (k, timer)
+        pub not_prepare : (IsOn i name.Prepare d → ⊥) × (IsOn i name.PrepareYet d → ⊥)
+        not_prepare = off_both kind.Prepare name.Prepare name.PrepareYet reached.prepare (λ e. cc (e, timer))
 
-        pub not_prepare : IsOn i name.Prepare d → ⊥
-        not_prepare on = let k = kind_on kind.Prepare s.prepare.list s.prepare.yet reached.prepare (inl (has_it name.Prepare on)) in cc (k, timer)
+        pub not_check : (IsOn i name.Check d → ⊥) × (IsOn i name.CheckYet d → ⊥)
+        not_check = off_both kind.Check name.Check name.CheckYet reached.check (λ e. cc (e, timer))
 
-        pub not_prepare_yet : IsOn i name.PrepareYet d → ⊥
-        not_prepare_yet on =
-            let k = kind_on kind.Prepare s.prepare.list s.prepare.yet reached.prepare (inr (has_it name.PrepareYet on)) in cc (k, timer)
-
-        pub not_check : IsOn i name.Check d → ⊥
-        not_check on = let k = kind_on kind.Check s.check.list s.check.yet reached.check (inl (has_it name.Check on)) in cc (k, timer)
-
-        pub not_check_yet : IsOn i name.CheckYet d → ⊥
-        not_check_yet on = let k = kind_on kind.Check s.check.list s.check.yet reached.check (inr (has_it name.CheckYet on)) in cc (k, timer)
-
-        pub not_async : IsOn i name.Async d → ⊥
-        not_async on = let k = kind_on kind.Async s.async.list s.async.yet reached.async (inl (has_it name.Async on)) in cc (k, timer)
-
-        pub not_async_yet : IsOn i name.AsyncYet d → ⊥
-        not_async_yet on = let k = kind_on kind.Async s.async.list s.async.yet reached.async (inr (has_it name.AsyncYet on)) in cc (k, timer)
+        pub not_async : (IsOn i name.Async d → ⊥) × (IsOn i name.AsyncYet d → ⊥)
+        not_async = off_both kind.Async name.Async name.AsyncYet reached.async (λ e. cc (e, timer))
 
         -- nor is it on any list, where it isn't set aside and doesn't close
         pub not_watched : (l : ListName) → (IsOn i name.Ready d → ⊥) → (IsOn i name.Closing d → ⊥) → (IsOn i name.ClosingYet d → ⊥) → IsFit i
             → IsOn i l d → ⊥
         not_watched name.Ready ready closing yet fit on = ready on
-        not_watched name.Idle ready closing yet fit on = not_idle on
-        not_watched name.IdleYet ready closing yet fit on = not_idle_yet on
-        not_watched name.Prepare ready closing yet fit on = not_prepare on
-        not_watched name.PrepareYet ready closing yet fit on = not_prepare_yet on
-        not_watched name.Check ready closing yet fit on = not_check on
-        not_watched name.CheckYet ready closing yet fit on = not_check_yet on
-        not_watched name.Async ready closing yet fit on = not_async on
-        not_watched name.AsyncYet ready closing yet fit on = not_async_yet on
+        not_watched name.Idle ready closing yet fit on = not_idle.0 on
+        not_watched name.IdleYet ready closing yet fit on = not_idle.1 on
+        not_watched name.Prepare ready closing yet fit on = not_prepare.0 on
+        not_watched name.PrepareYet ready closing yet fit on = not_prepare.1 on
+        not_watched name.Check ready closing yet fit on = not_check.0 on
+        not_watched name.CheckYet ready closing yet fit on = not_check.1 on
+        not_watched name.Async ready closing yet fit on = not_async.0 on
+        not_watched name.AsyncYet ready closing yet fit on = not_async.1 on
         not_watched name.Closing ready closing yet fit on = closing on
         not_watched name.ClosingYet ready closing yet fit on = yet on
         not_watched name.Waiting ready closing yet fit on = not_waiting fit on

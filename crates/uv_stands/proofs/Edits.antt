@@ -28,25 +28,9 @@ use Rattle.uv_step.specs.Parts.{unwind}
 use Rattle.uv_step.specs.Image.{Image, counted_of}
 use Rattle.uv_stands.specs.Stands.{StandsFor, timer_in}
 use Rattle.uv_stands.proofs.Holding.{slots_set, ids_kept, map_same}
+use Rattle.uv_stands.proofs.Lists.{beside_lists}
 
 -- ---- a handle gets another record
-
--- the lists are the same
-listed_same : (s : State) (d : Id) (to : HandleRecord) (l : ListName) → members (with_handle s d to) l ≡ members s l
-listed_same s d to name.Ready = refl
-listed_same s d to name.Idle = refl
-listed_same s d to name.IdleYet = refl
-listed_same s d to name.Prepare = refl
-listed_same s d to name.PrepareYet = refl
-listed_same s d to name.Check = refl
-listed_same s d to name.CheckYet = refl
-listed_same s d to name.Async = refl
-listed_same s d to name.AsyncYet = refl
-listed_same s d to name.Closing = refl
-listed_same s d to name.ClosingYet = refl
-listed_same s d to name.Waiting = refl
-listed_same s d to name.Done = refl
-listed_same s d to name.DoneYet = refl
 
 pub changed_stands : (i : Image Place) (s : State) (k : arena.Image Content) (m : ℕ) (d : Id) (from to : HandleRecord) (u : RecordUndo)
     → StandsFor i s → IsSound k → record_at handle_of i.arena d ≡ Some from
@@ -66,7 +50,8 @@ changed_stands i s k m d from to u h sound there c =
       idled = h.idled;
       slots = slots;
       running = h.running;
-      lists = λ l. listed_same s d to l ∙ h.lists l ∙ sym (map_same (id_in k) (id_in i.arena) ids (arena.members i.arena l))
+      lists = λ l. beside_lists s s.place s.names (with_handle s d to).arena s.timers s.running s.time s.clock s.next_start s.stop_flag s.idled l
+          ∙ h.lists l ∙ sym (map_same (id_in k) (id_in i.arena) ids (arena.members i.arena l))
           ∙ ap (map (id_in k)) (sym (c.set.lists l));
       sound = sound;
       heap = h.heap;

@@ -35,19 +35,7 @@ pub beside_lists : (s : State) (place : Place) (names : List Named) (a : plain.S
       idled = idled;
     }) l ≡ members s l
 beside_lists s place names a timers running time clock next stop idled name.Ready = refl
-beside_lists s place names a timers running time clock next stop idled name.Idle = refl
-beside_lists s place names a timers running time clock next stop idled name.IdleYet = refl
-beside_lists s place names a timers running time clock next stop idled name.Prepare = refl
-beside_lists s place names a timers running time clock next stop idled name.PrepareYet = refl
-beside_lists s place names a timers running time clock next stop idled name.Check = refl
-beside_lists s place names a timers running time clock next stop idled name.CheckYet = refl
-beside_lists s place names a timers running time clock next stop idled name.Async = refl
-beside_lists s place names a timers running time clock next stop idled name.AsyncYet = refl
-beside_lists s place names a timers running time clock next stop idled name.Closing = refl
-beside_lists s place names a timers running time clock next stop idled name.ClosingYet = refl
-beside_lists s place names a timers running time clock next stop idled name.Waiting = refl
-beside_lists s place names a timers running time clock next stop idled name.Done = refl
-beside_lists s place names a timers running time clock next stop idled name.DoneYet = refl
+beside_lists s place names a timers running time clock next stop idled l = refl
 
 -- a list is this one, or another
 pub list_is : (l a : ListName) → (l ≡ a) ⊎ (l ≢ a)

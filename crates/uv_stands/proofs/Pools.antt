@@ -146,20 +146,10 @@ module _ (i : Image Place) (s : State) (h : StandsFor i s) (k : arena.Image Cont
   same l x y z = sym (map_same (id_in k) (id_in i.arena) ids (arena.members i.arena l)) ∙ ap (map (id_in k)) (sym (others l x y z))
 
   lists : (l : ListName) → members t l ≡ map (id_in k) (arena.members k l)
-  lists name.Ready = h.lists name.Ready ∙ same name.Ready (λ e. cc) (λ e. cc) (λ e. cc)
-  lists name.Idle = h.lists name.Idle ∙ same name.Idle (λ e. cc) (λ e. cc) (λ e. cc)
-  lists name.IdleYet = h.lists name.IdleYet ∙ same name.IdleYet (λ e. cc) (λ e. cc) (λ e. cc)
-  lists name.Prepare = h.lists name.Prepare ∙ same name.Prepare (λ e. cc) (λ e. cc) (λ e. cc)
-  lists name.PrepareYet = h.lists name.PrepareYet ∙ same name.PrepareYet (λ e. cc) (λ e. cc) (λ e. cc)
-  lists name.Check = h.lists name.Check ∙ same name.Check (λ e. cc) (λ e. cc) (λ e. cc)
-  lists name.CheckYet = h.lists name.CheckYet ∙ same name.CheckYet (λ e. cc) (λ e. cc) (λ e. cc)
-  lists name.Async = h.lists name.Async ∙ same name.Async (λ e. cc) (λ e. cc) (λ e. cc)
-  lists name.AsyncYet = h.lists name.AsyncYet ∙ same name.AsyncYet (λ e. cc) (λ e. cc) (λ e. cc)
-  lists name.Closing = h.lists name.Closing ∙ same name.Closing (λ e. cc) (λ e. cc) (λ e. cc)
-  lists name.ClosingYet = h.lists name.ClosingYet ∙ same name.ClosingYet (λ e. cc) (λ e. cc) (λ e. cc)
   lists name.Waiting = waits
   lists name.Done = done
   lists name.DoneYet = yet
+  lists l = h.lists l ∙ same l (λ e. cc) (λ e. cc) (λ e. cc)
 
   pub pool_stands : plain_slots k ≡ a → n.workers ≡ r → IsSound k → IsFit j → StandsFor j t
   pool_stands slots running sound fit = record {

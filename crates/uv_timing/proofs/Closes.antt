@@ -42,20 +42,8 @@ use Rattle.uv_timing.proofs.TakenOff.{timers_left, lists_left}
 
 -- but for the closing list a handle that is closed is off its lists, and no more
 closed_lists : (s : State) (d : Id) (h : HandleRecord) (l : ListName) → l ≢ name.Closing → members (closed s d h) l ≡ members (taken_off s d h) l
-closed_lists s d h name.Ready ne = refl
-closed_lists s d h name.Idle ne = refl
-closed_lists s d h name.IdleYet ne = refl
-closed_lists s d h name.Prepare ne = refl
-closed_lists s d h name.PrepareYet ne = refl
-closed_lists s d h name.Check ne = refl
-closed_lists s d h name.CheckYet ne = refl
-closed_lists s d h name.Async ne = refl
-closed_lists s d h name.AsyncYet ne = refl
 closed_lists s d h name.Closing ne = absurd (ne refl)
-closed_lists s d h name.ClosingYet ne = refl
-closed_lists s d h name.Waiting ne = refl
-closed_lists s d h name.Done ne = refl
-closed_lists s d h name.DoneYet ne = refl
+closed_lists s d h l ne = refl
 
 unclosed_if : (b : Bool) → invalid_if b ≡ None → b ≡ false
 unclosed_if true e = cc e

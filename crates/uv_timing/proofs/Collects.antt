@@ -122,19 +122,7 @@ module _ (i j : Image Place) (room : ℕ) (d : Id) (u : CollectUndo) (c : IsColl
 
   others : (l : ListName) → l ≢ name.Ready → members t l ≡ members s l
   others name.Ready ne = absurd (ne refl)
-  others name.Idle ne = refl
-  others name.IdleYet ne = refl
-  others name.Prepare ne = refl
-  others name.PrepareYet ne = refl
-  others name.Check ne = refl
-  others name.CheckYet ne = refl
-  others name.Async ne = refl
-  others name.AsyncYet ne = refl
-  others name.Closing ne = refl
-  others name.ClosingYet ne = refl
-  others name.Waiting ne = refl
-  others name.Done ne = refl
-  others name.DoneYet ne = refl
+  others l ne = refl
 
   -- it is at the end of those that are set aside
   last : Listed j.arena t name.Ready

@@ -110,19 +110,7 @@ module _ (i : Image Place) (n : Timed Content) (room : ℕ) (d : Id) (h : Handle
 
   others : (l : ListName) → l ≢ name.Ready → members off l ≡ members s l
   others name.Ready ne = absurd (ne refl)
-  others name.Idle ne = refl
-  others name.IdleYet ne = refl
-  others name.Prepare ne = refl
-  others name.PrepareYet ne = refl
-  others name.Check ne = refl
-  others name.CheckYet ne = refl
-  others name.Async ne = refl
-  others name.AsyncYet ne = refl
-  others name.Closing ne = refl
-  others name.ClosingYet ne = refl
-  others name.Waiting ne = refl
-  others name.Done ne = refl
-  others name.DoneYet ne = refl
+  others l ne = refl
 
   module _ (ids : (x : ℕ) → id_in n.handles.arena x ≡ id_in i.arena x)
       (gone : (l : ListName) → arena.members n.handles.arena l ≡ without eqb (arena.members i.arena l) d.slot) where

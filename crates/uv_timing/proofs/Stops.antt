@@ -37,7 +37,7 @@ use Rattle.uv_stands.specs.Doing.{Does}
 use Rattle.uv_stands.specs.Stands.{StandsFor}
 use Rattle.uv_stands.proofs.Holding.{slots_set, ids_kept}
 use Rattle.uv_stands.proofs.Lists.{Listed, beside_lists, list_stays}
-use Rattle.uv_stands.proofs.Absent.{IsOn, timer_kind, held_handle, own_id, stays, ready_stays, not_idle, not_idle_yet, not_prepare, not_prepare_yet, not_check, not_check_yet, not_async, not_async_yet}
+use Rattle.uv_stands.proofs.Absent.{IsOn, timer_kind, held_handle, own_id, stays, ready_stays, not_idle, not_prepare, not_check, not_async}
 use Rattle.uv_timing.proofs.Retimed.{retimed, timer_frame, OnlyTimers, AreRetimed, IsWhole, stands_then, list_left, timers_are}
 use Rattle.uv_timing.proofs.TakenOff.{timers_left, lists_left}
 
@@ -87,19 +87,15 @@ module _ (i : Image Place) (n : Timed Content) (room : ℕ) (d : Id) (h : Handle
 
     stayed : (l : ListName) → Listed n.handles.arena t l
     stayed name.Ready = here name.Ready (off name.Ready (ready_stays i d h there s stands reached closing))
-    stayed name.Idle = here name.Idle (off name.Idle (not_idle i d h there s stands reached of_timer))
-    stayed name.IdleYet = here name.IdleYet (off name.IdleYet (not_idle_yet i d h there s stands reached of_timer))
-    stayed name.Prepare = here name.Prepare (off name.Prepare (not_prepare i d h there s stands reached of_timer))
-    stayed name.PrepareYet = here name.PrepareYet (off name.PrepareYet (not_prepare_yet i d h there s stands reached of_timer))
-    stayed name.Check = here name.Check (off name.Check (not_check i d h there s stands reached of_timer))
-    stayed name.CheckYet = here name.CheckYet (off name.CheckYet (not_check_yet i d h there s stands reached of_timer))
-    stayed name.Async = here name.Async (off name.Async (not_async i d h there s stands reached of_timer))
-    stayed name.AsyncYet = here name.AsyncYet (off name.AsyncYet (not_async_yet i d h there s stands reached of_timer))
-    stayed name.Closing = here name.Closing refl
-    stayed name.ClosingYet = here name.ClosingYet refl
-    stayed name.Waiting = here name.Waiting refl
-    stayed name.Done = here name.Done refl
-    stayed name.DoneYet = here name.DoneYet refl
+    stayed name.Idle = here name.Idle (off name.Idle (not_idle i d h there s stands reached of_timer).0)
+    stayed name.IdleYet = here name.IdleYet (off name.IdleYet (not_idle i d h there s stands reached of_timer).1)
+    stayed name.Prepare = here name.Prepare (off name.Prepare (not_prepare i d h there s stands reached of_timer).0)
+    stayed name.PrepareYet = here name.PrepareYet (off name.PrepareYet (not_prepare i d h there s stands reached of_timer).1)
+    stayed name.Check = here name.Check (off name.Check (not_check i d h there s stands reached of_timer).0)
+    stayed name.CheckYet = here name.CheckYet (off name.CheckYet (not_check i d h there s stands reached of_timer).1)
+    stayed name.Async = here name.Async (off name.Async (not_async i d h there s stands reached of_timer).0)
+    stayed name.AsyncYet = here name.AsyncYet (off name.AsyncYet (not_async i d h there s stands reached of_timer).1)
+    stayed l = here l refl
 
   listed : (b : Bool) → h.closing ≡ b → (l : ListName) → Listed n.handles.arena t l
   listed true e = stayed e

@@ -110,17 +110,9 @@ module _ (i : Image Place) (s : State) (stands : StandsFor i s) (reached : IsRea
 
   -- one that doesn't close is off all lists then
   pub lists_left : IsFit i → h.closing ≡ false → (l : ListName) → members (taken_off s d h) l ≡ without_id (members s l) d
-  lists_left fit unclosed name.Ready = refl
-  lists_left fit unclosed name.Idle = refl
-  lists_left fit unclosed name.IdleYet = refl
-  lists_left fit unclosed name.Prepare = refl
-  lists_left fit unclosed name.PrepareYet = refl
-  lists_left fit unclosed name.Check = refl
-  lists_left fit unclosed name.CheckYet = refl
-  lists_left fit unclosed name.Async = refl
-  lists_left fit unclosed name.AsyncYet = refl
   lists_left fit unclosed name.Closing = sym (stays i d h there s stands name.Closing (not_closing i d h there s stands reached unclosed))
   lists_left fit unclosed name.ClosingYet = sym (stays i d h there s stands name.ClosingYet (not_closing_yet i d h there s stands reached unclosed))
   lists_left fit unclosed name.Waiting = sym (stays i d h there s stands name.Waiting (not_waiting i d h there fit))
   lists_left fit unclosed name.Done = sym (stays i d h there s stands name.Done (not_done i d h there fit))
   lists_left fit unclosed name.DoneYet = sym (stays i d h there s stands name.DoneYet (not_done_yet i d h there fit))
+  lists_left fit unclosed l = refl
