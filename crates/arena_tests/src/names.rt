@@ -14,6 +14,7 @@ fn bind(memory: &mut Memory<u32>, name: Var, id: Id) -> bool
     ensures can { IsTrue result → CanUnwind (held memory.new).room memory.new.step_record (held memory.new).image }
     ensures fit { IsFit (held memory.new).image }
 {
+    memory.is_fit();
     if name.0 as usize >= memory.names().len() {
         return false;
     }
@@ -28,8 +29,9 @@ fn count(memory: &mut Memory<u32>, name: Var) -> bool
     ensures can { IsTrue result → CanUnwind (held memory.new).room memory.new.step_record (held memory.new).image }
     ensures fit { IsFit (held memory.new).image }
 {
+    memory.is_fit();
     if name.0 as usize >= memory.names().len()
-        || memory.names[name.0 as usize].calls.close == u32::MAX
+        || memory.names()[name.0 as usize].calls.close == u32::MAX
     {
         return false;
     }
