@@ -1,5 +1,5 @@
 -- A layout that shows all of a memory lies for each state that the memory stands for.
-use Rattle.std.proofs.Common.{◌≡◌, ℕ, zero, suc, ◌<◌, ◌≤◌, ◌+◌, ◌++◌, ◌⊎◌, List, [], ◌∷◌, map, length, length-append, slice_get, Option, Some, None, option_map, IfNone, IfSome, refl, inl, inr, sym, ap, ◌∙◌, subst, arith}
+use Rattle.std.proofs.Common.{◌≡◌, ℕ, zero, suc, ◌<◌, ◌≤◌, ◌+◌, ◌++◌, ◌⊎◌, List, [], ◌∷◌, map, length, length-append, slice_get, Option, Some, None, IfNone, IfSome, refl, inl, inr, sym, ap, ◌∙◌, subst, arith}
 use Rattle.uv_layout.proofs.Walked.{by_links}
 use Rattle.std.proofs.lemmas.Bool.Decides.{eqb_tells}
 use Rattle.std.proofs.lemmas.List.{length-map}

@@ -5,7 +5,6 @@ use Rattle.uv_ids.specs.declared.seen.Seen.{Seen}
 use Rattle.uv_script.specs.Program.{Program, arena_size}
 use Rattle.uv_model.specs.declared.place.Place.{Place}
 use Rattle.uv_model.specs.Bounds.{CanStep, line_of}
-use Rattle.uv_model.specs.State.{State}
 use Rattle.uv_model.specs.After.{after}
 use Rattle.uv_model.proofs.Bounded.{after_able}
 use Rattle.uv_model.proofs.Calls.{at_name, count_below}

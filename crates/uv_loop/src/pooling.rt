@@ -17,12 +17,7 @@ use uv_step::Memory;
 use uv_work::{Request, WorkResult};
 
 /// A worker takes a request: what that appends.
-pub(crate) fn take_work(
-    memory: &mut Memory<Place>,
-    worker: u16,
-    id: Id,
-    request: Request,
-) -> Seen
+pub(crate) fn take_work(memory: &mut Memory<Place>, worker: u16, id: Id, request: Request) -> Seen
     requires may { MayTake (held memory.old).image worker id request }
     ensures recorded { Recorded memory.new.step_record (held memory.old) (held memory.new) }
     ensures leads { (p : Program) → Leads p (held memory.old).image (held memory.new).image (Take worker) (Some result) }

@@ -3,7 +3,6 @@ use Rattle.std.proofs.Common.{◌≡◌, ℕ, List, map, Some, sym, ap, ◌∙�
 use Rattle.uv_ids.specs.declared.id.Id.{Id}
 use Rattle.uv_records.specs.declared.handle.HandleRecord.{HandleRecord}
 use Rattle.uv_records.specs.declared.lists.ListName.{ListName}
-use Rattle.uv_records.specs.declared.lists.ListName.TheVariants as name
 use Rattle.uv_records.specs.Slots as plain
 use Rattle.uv_records.specs.Walks.{Walk}
 use Rattle.uv_records.specs.Count.{active_count}
@@ -15,7 +14,6 @@ use Rattle.uv_heap.specs.declared.entry.Entry.{Entry}
 use Rattle.uv_requests.specs.Working.{id_in}
 use Rattle.uv_model.specs.declared.place.Place.{Place}
 use Rattle.uv_model.specs.State.{State, with_handle}
-use Rattle.uv_model.specs.Queries.{members}
 use Rattle.uv_work.specs.declared.content.Content.{Content}
 use Rattle.uv_work.specs.declared.content.Content.TheVariants.{Handle}
 use Rattle.uv_work.specs.Content.{handle_of}

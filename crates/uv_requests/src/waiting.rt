@@ -77,12 +77,7 @@ impl Requests {
         }
     }
 
-    fn withdraw<T: HoldsWork>(
-        &self,
-        slots: &mut Slots<T>,
-        id: Id,
-        request: Request,
-    ) -> CancelUndo
+    fn withdraw<T: HoldsWork>(&self, slots: &mut Slots<T>, id: Id, request: Request) -> CancelUndo
         requires work { IsWork T.held_request (working slots.old.image self.now) }
         requires found { request_in T.held_request slots.old.image id ≡ Some request }
         requires opened { is_open request.outcome ≡ true }

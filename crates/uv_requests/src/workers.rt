@@ -94,11 +94,7 @@ impl Requests {
     }
 
     /// What a worker may finish: the request that it runs. Refused if there is no such worker, or if it runs nothing.
-    pub fn work_of<T: HoldsWork>(
-        &self,
-        slots: &Slots<T>,
-        worker: u16,
-    ) -> Result<(Id, Request), Why>
+    pub fn work_of<T: HoldsWork>(&self, slots: &Slots<T>, worker: u16) -> Result<(Id, Request), Why>
         requires { IsWork T.held_request (working slots.now.image self.now) }
         ensures runs { IfOk result (λ r. slice_get self.now.workers worker ≡ Some (Some r.0)) }
         ensures request { IfOk result (λ r. request_in T.held_request slots.now.image r.0 ≡ Some r.1) }

@@ -10,7 +10,6 @@ use Rattle.uv_records.specs.declared.handle.HandleRecord.{HandleRecord}
 use Rattle.uv_records.specs.declared.lists.WatcherKind.{WatcherKind}
 use Rattle.uv_records.specs.declared.lists.WatcherKind.TheVariants as watcher
 use Rattle.uv_records.specs.Handles.{woken}
-use Rattle.uv_records.specs.Slots.{freed}
 use Rattle.uv_work.specs.declared.request.Request.{Request}
 use Rattle.uv_script.specs.Program.{Program, arena_size}
 use Rattle.uv_model.specs.declared.place.Run.{Run}

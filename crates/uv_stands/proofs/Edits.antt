@@ -1,9 +1,7 @@
 -- A handle gets another record: what the memory stands for then.
-use Rattle.std.proofs.Common.{◌≡◌, ℕ, map, Some, refl, sym, ap, ◌∙◌}
+use Rattle.std.proofs.Common.{◌≡◌, ℕ, map, Some, sym, ap, ◌∙◌}
 use Rattle.uv_ids.specs.declared.id.Id.{Id}
 use Rattle.uv_records.specs.declared.handle.HandleRecord.{HandleRecord}
-use Rattle.uv_records.specs.declared.lists.ListName.{ListName}
-use Rattle.uv_records.specs.declared.lists.ListName.TheVariants as name
 use Rattle.uv_records.specs.Slots as plain
 use Rattle.uv_records.specs.Count.{active_count}
 use Rattle.uv_arena.specs.Image as arena
@@ -16,7 +14,6 @@ use Rattle.uv_heap.specs.declared.entry.Entry.{Entry}
 use Rattle.uv_requests.specs.Working.{id_in}
 use Rattle.uv_model.specs.declared.place.Place.{Place}
 use Rattle.uv_model.specs.State.{State, with_handle}
-use Rattle.uv_model.specs.Queries.{members}
 use Rattle.uv_work.specs.declared.content.Content.{Content}
 use Rattle.uv_work.specs.declared.content.Content.TheVariants.{Handle}
 use Rattle.uv_step.specs.declared.record.Naming.TheVariants as naming

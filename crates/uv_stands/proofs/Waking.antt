@@ -1,5 +1,5 @@
 -- Who was sent to is on a list of async handles.
-use Rattle.std.proofs.Common.{◌≡◌, ℕ, ◌<◌, suc, ◌||◌, Bool, true, false, if◌then◌else◌, eqb, List, [], ◌∷◌, ◌++◌, append-nil, map, length, Option, Some, None, IfSome, option_map, option_and_then, refl, sym, ap, ◌∙◌, subst, inl, inr, arith}
+use Rattle.std.proofs.Common.{◌≡◌, ℕ, ◌<◌, suc, ◌||◌, Bool, true, false, if◌then◌else◌, eqb, List, [], ◌∷◌, ◌++◌, append-nil, map, length, Option, Some, None, IfSome, option_and_then, refl, sym, ap, ◌∙◌, subst, inl, inr, arith}
 use Rattle.std.specs.List.{list_any}
 use Rattle.std.specs.Cmp as tests
 use Rattle.std.proofs.lemmas.Bool.Decides.{eqb_tells}

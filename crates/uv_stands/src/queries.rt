@@ -60,7 +60,9 @@ pub fn has_pending(memory: &Memory<Place>) -> bool
 pub fn may_leave(memory: &Memory<Place>, deadline: Option<u64>) -> bool
     ensures { OfEach (held memory.now).image (λ s. may_leave s deadline ≡ result) }
 {
-    has_passed(memory.clock(), deadline) || has_members(memory, ListName::Done) || has_pending(memory)
+    has_passed(memory.clock(), deadline)
+        || has_members(memory, ListName::Done)
+        || has_pending(memory)
 }
 
 /// Whether the clock has reached a deadline.

@@ -1,11 +1,8 @@
 -- The memory after a change of one handle and of the timers, and what it stands for.
-use Rattle.std.proofs.Common.{◌≡◌, ℕ, eqb, List, map, Some, refl, sym, ap, ◌∙◌, subst}
+use Rattle.std.proofs.Common.{◌≡◌, ℕ, eqb, List, map, refl, sym, ap, ◌∙◌, subst}
 use Rattle.uv_ids.specs.declared.id.Id.{Id}
 use Rattle.uv_ids.specs.declared.due.Due.{Due}
-use Rattle.uv_records.specs.declared.handle.HandleRecord.{HandleRecord}
 use Rattle.uv_records.specs.declared.lists.ListName.{ListName}
-use Rattle.uv_records.specs.declared.slot.Slot.{Slot}
-use Rattle.uv_records.specs.Slots as plain
 use Rattle.uv_records.specs.Walks.{without}
 use Rattle.uv_arena.specs.Image as arena
 use Rattle.uv_arena.specs.Image.{IsSound, plain_slots}

@@ -1,5 +1,5 @@
 -- Steps over two rows: which change is whose.
-use Rattle.std.specs.Prelude.{◌≡◌, ◌<◌, ℕ, suc, List, [], ◌∷◌, ◌++◌, map, length}
+use Rattle.std.specs.Prelude.{◌≡◌, ℕ, suc, List, [], ◌∷◌, map, length}
 use Rattle.uv_step.specs.declared.record.Naming.{Naming}
 use Rattle.uv_step.specs.Change.{Change}
 use Rattle.uv_step.specs.Record.{Record}
