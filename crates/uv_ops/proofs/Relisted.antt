@@ -40,7 +40,8 @@ module _ (i : Image Place) (s : State) (h : StandsFor i s) (k : arena.Image Cont
     abbrev pub relisted : State
     relisted = record (with_handle s d to) { ready = ready; idle = idle; prepare = prepare; check = check; async = async; closing = closing }
 
-    pub relisted_stands : ((l : ListName) → Listed k relisted l) → IsSound k → IsCounted handle_of (counted k m) → StandsFor (record i { arena = k; active = m }) relisted
+    pub relisted_stands : ((l : ListName) → Listed k relisted l) → IsSound k → IsCounted handle_of (counted k m)
+        → StandsFor (record i { arena = k; active = m }) relisted
     relisted_stands lists sound counts = record {
       place = h.place;
       names = h.names;

@@ -53,7 +53,8 @@ room_sound p (Orders o) e = tt
 room_sound p (InThread line) e = ltb-true (line_count p) MOST_LINES e
 
 room_complete : (p : Program) (s : Statement) → HasRoom p s → has_room p s ≡ true
-room_complete p (Declares name) h = and_from (nat_lt (line_count p) MOST_LINES) (nat_lt (length p.names) MOST_NAMES) (lt-ltb (line_count p) MOST_LINES h.0)
+room_complete p (Declares name) h =
+    and_from (nat_lt (line_count p) MOST_LINES) (nat_lt (length p.names) MOST_NAMES) (lt-ltb (line_count p) MOST_LINES h.0)
     (lt-ltb (length p.names) MOST_NAMES h.1)
 room_complete p (InMain op) h = lt-ltb (line_count p) MOST_LINES h
 room_complete p (InCallback kind v line) h = lt-ltb (line_count p) MOST_LINES h

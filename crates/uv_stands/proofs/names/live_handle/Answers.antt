@@ -8,4 +8,5 @@ returns-in-Err-clause-is c s h =
 
 pub returns-in-Ok-clause-is : goal.returns-in-Ok-clause-is
 returns-in-Ok-clause-is c s h =
-    some_handle (image_of c.args.memory.now) s c.args.name h c.in-Some.id c.in-Ok.handle c.in-Some.ensures (rw c.slots.ensures at c.in-Ok.ensures.ok.0)
+    some_handle (image_of c.args.memory.now) s c.args.name h c.in-Some.id c.in-Ok.handle c.in-Some.ensures
+    (rw c.slots.ensures at c.in-Ok.ensures.ok.0)

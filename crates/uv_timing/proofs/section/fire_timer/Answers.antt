@@ -11,4 +11,5 @@ returns-in-Ok-clause-fires c =
     let did = c.in-Some.ensures in
     let sound = c.is_sound-in-Ok.ensures in
     timer_fires c.fire_timer.new.self.step_record (held c.args.memory.now) (held c.fire_timer.new.self) c.in-Some.id _ did.does.does
-    did.recorded did.does.is (whole _ _ _ did.recorded sound.arena sound.heap sound.places) c.in-Ok.handle (rw c.slots.ensures at c.in-Ok.ensures.ok.0)
+    did.recorded did.does.is (whole _ _ _ did.recorded sound.arena sound.heap sound.places) c.in-Ok.handle
+    (rw c.slots.ensures at c.in-Ok.ensures.ok.0)

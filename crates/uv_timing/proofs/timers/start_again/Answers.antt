@@ -8,4 +8,5 @@ returns-clause-does c =
     let did = c.reschedule.ensures in
     let sound = c.is_sound-2.ensures in
     again_does c.reschedule.new.self.step_record (held c.args.memory.now) (held c.reschedule.new.self) c.args.id c.args.handle _ c.is_fit.ensures
-    did.recorded (whole _ _ _ did.recorded sound.arena sound.heap sound.places) did.does c.requires.allowed (rw c.times.ensures at c.again-change.ensures)
+    did.recorded (whole _ _ _ did.recorded sound.arena sound.heap sound.places) did.does c.requires.allowed
+    (rw c.times.ensures at c.again-change.ensures)

@@ -58,7 +58,8 @@ invariant_of-self-2 c =
     (events_told (Finish c.args.worker) c.self.invariant (c.finish_work-line.ensures.leads c.self.inside.script)
     c.push.ensures.seen c.reserve.ensures.same.seen)
     (c.push.ensures.seen ∙ ap (λ xs. xs ++ Some line ∷ []) c.reserve.ensures.same.seen)
-    ((rw c.step_record.ensures at c.push.ensures.records) ∙ ap (λ xs. xs ++ c.finish_work-line.new.memory.step_record ∷ []) c.reserve.ensures.same.records)
+    ((rw c.step_record.ensures at c.push.ensures.records)
+    ∙ ap (λ xs. xs ++ c.finish_work-line.new.memory.step_record ∷ []) c.reserve.ensures.same.records)
     few c.self.invariant (recorded_returns c.finish_work-line.ensures.recorded) (c.finish_work-line.ensures.leads c.self.inside.script)
 
 pub returns-clause-answer : goal.returns-clause-answer

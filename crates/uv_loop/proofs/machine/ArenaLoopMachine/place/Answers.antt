@@ -4,4 +4,5 @@ use Rattle.uv_loop.proofs.Courses.{asked}
 use Rattle.uv_loop.proofs.machine.ArenaLoopMachine.place.Goals as goal
 
 pub returns : goal.returns
-returns c = asked _ _ _ _ (held c.self.inside.memory) _ c.self.view_is c.self.invariant (λ s. c.place.result ≡ s.place) (λ s h. c.place.ensures ∙ h.place)
+returns c =
+    asked _ _ _ _ (held c.self.inside.memory) _ c.self.view_is c.self.invariant (λ s. c.place.result ≡ s.place) (λ s h. c.place.ensures ∙ h.place)

@@ -8,4 +8,5 @@ pub returns : goal.returns
 returns c =
     asked _ _ _ _ (held c.self.inside.memory) _ c.self.view_is c.self.invariant
     (λ s. c.run_at.result ≡ run_by s c.args.worker)
-    (λ s h. c.run_at.ensures ∙ ap (λ rs. option_and_then (λ run. run) (slice_get rs c.args.worker)) ((rw c.requests.ensures at c.workers.ensures) ∙ h.running))
+    (λ s h. c.run_at.ensures
+    ∙ ap (λ rs. option_and_then (λ run. run) (slice_get rs c.args.worker)) ((rw c.requests.ensures at c.workers.ensures) ∙ h.running))

@@ -28,15 +28,14 @@ returns-clause-does g c =
     let new = c.reschedule-timer.new.parts in rw (← c.self.view_is) (record {
       undo = record {
         timer = c.reschedule-timer.result;
-        pushed =
-            c.push_front-pushed.result;
+        pushed = c.push_front-pushed.result;
       };
       is = ap (λ (r : Record _). r.change) c.note_moved.ensures;
       does = record {
         mid = new.1.0.image;
-        changed = subst (λ
-            (to : HandleRecord). IsRescheduled handle_of Handle new.1.1.0.room (timed_of (image_of (kept c.self.inside))) (timed new.1.0.image new.0
-            new.1.1.0 new.1.1.1.0) c.args.id (becoming c.args.from to None) c.reschedule-timer.result) c.closed.ensures c.reschedule-timer.ensures.changed;
+        changed = subst (λ (to : HandleRecord). IsRescheduled handle_of Handle new.1.1.0.room (timed_of (image_of (kept c.self.inside)))
+            (timed new.1.0.image new.0 new.1.1.0 new.1.1.1.0) c.args.id (becoming c.args.from to None) c.reschedule-timer.result)
+            c.closed.ensures c.reschedule-timer.ensures.changed;
         listed = c.push_front-pushed.ensures.pushed;
       };
     })
