@@ -73,6 +73,7 @@ module _ {X : Type 0} (read : X → Option Request) (i j : Image X) (r q : Runni
     pub waits : a ≡ true → IsHeld read j d true
     pub is_done : b ≡ true → IsHeld read j d false × (done_in read j d.slot ≡ m)
     pub listed : (e : Id) → e.slot ≡ d.slot → IsHeld read j e true → on_list j e ≡ true → a ≡ true
+    -- a request in d's slot was finished with its task's digest, if it was
     pub told : (e : Id) (x : Request) → e.slot ≡ d.slot → request_in read j e ≡ Some x → IsDigest x.task x.outcome
     -- worker k runs d now, and each other one what it ran before
     pub runs : (c : ℕ) (e : Id) → slice_get q.workers c ≡ Some (Some e)

@@ -8,7 +8,7 @@ use Rattle.uv_requests.specs.Working.{Running, Working, working, idle_workers}
 use Rattle.uv_arena.specs.Image as arena
 use Rattle.uv_work.specs.declared.content.Content.{Content}
 use Rattle.uv_records.specs.declared.named.Named.{Named}
-use Rattle.uv_step.specs.Kept.{Kept}
+use Rattle.uv_step.specs.MemoryParts.{MemoryParts}
 use Rattle.uv_records.specs.Names.{unbound}
 
 pub record Image (P : Type 0) : Type 0 where
@@ -38,7 +38,7 @@ pub record Held (P : Type 0) : Type 0 where
   pub room : ℕ
 
 module _ {P : Type 0} where
-  abbrev pub image_of : Kept P → Image P
+  abbrev pub image_of : MemoryParts P → Image P
   image_of m = record {
     place = m.place;
     names = m.names;
@@ -52,11 +52,11 @@ module _ {P : Type 0} where
     idled = m.idled;
   }
 
-  abbrev pub held : Kept P → Held P
+  abbrev pub held : MemoryParts P → Held P
   held m = record { image = image_of m; room = m.heap.room }
 
   -- nothing of it changed, what takes the last step back is the same, and so is how many slots there is memory for
-  abbrev pub Untouched : Kept P → Kept P → Type 0
+  abbrev pub Untouched : MemoryParts P → MemoryParts P → Type 0
   Untouched old new = (held new ≡ held old) × (new.step_record ≡ old.step_record) × (new.slots.room ≡ old.slots.room)
 
   -- what the calls of handles see and change

@@ -1,5 +1,5 @@
 pub mod Fit
-pub mod Kept
+pub mod MemoryParts
 pub mod View
 pub mod Image
 pub mod Parts

@@ -1,8 +1,8 @@
 -- What the memory of a loop shows, from how it lies there.
-use Rattle.uv_step.specs.Kept.{Kept}
+use Rattle.uv_step.specs.MemoryParts.{MemoryParts}
 use Rattle.uv_step.specs.declared.memory.Memory.TheInside.{Inside}
 
-abbrev pub kept : {P : Type 0} → Inside P → Kept P
+abbrev pub kept : {P : Type 0} → Inside P → MemoryParts P
 kept m = record {
   place = m.place;
   names = m.names.items;

@@ -38,11 +38,11 @@ pub struct Memory<P: Copy> {
 }
 
 impl<P: Copy> Model for Memory<P> {
-    ghost use Rattle.uv_step.specs.Kept.{Kept};
+    ghost use Rattle.uv_step.specs.MemoryParts.{MemoryParts};
     ghost use Rattle.uv_step.specs.Image.{image_of};
     ghost use Rattle.uv_step.specs.Fit.{IsFit};
 
-    ghost Value = { Kept P };
+    ghost Value = { MemoryParts P };
 
     ghost use Rattle.uv_step.specs.View.{kept};
 

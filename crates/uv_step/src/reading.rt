@@ -41,24 +41,28 @@ impl<P: Copy> Memory<P> {
         &self.names
     }
 
+    /// The slots, their links, and the ends of the lists.
     pub fn slots(&self) -> &Slots<Content>
         ensures { result.now ≡ self.now.slots }
     {
         &self.slots
     }
 
+    /// The count of the handles that are active and referenced.
     pub fn handles(&self) -> &Handles
         ensures { result.now ≡ self.now.handles }
     {
         &self.handles
     }
 
+    /// What each worker runs, and how many requests are open.
     pub fn requests(&self) -> &Requests
         ensures { result.now ≡ self.now.requests }
     {
         &self.requests
     }
 
+    /// The timers that are set, in the array of their heap.
     pub fn heap(&self) -> &TimerHeap
         ensures { result.now ≡ self.now.heap }
     {

@@ -191,7 +191,7 @@ impl<P: Copy> Memory<P> {
             Large::Moved(pushed, timer) => self.undo_moved(CollectUndo { timer, pushed }),
             Large::Ended(undo, request) => {
                 self.requests.undo_collect(&mut self.slots, undo, request);
-            },
+            }
         }
     }
 

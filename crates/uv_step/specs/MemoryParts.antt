@@ -8,7 +8,7 @@ use Rattle.uv_timer.specs.declared.change.Times.{Times}
 use Rattle.uv_work.specs.declared.content.Content.{Content}
 use Rattle.uv_step.specs.Record.{Record}
 
-pub record Kept (P : Type 0) : Type 0 where
+pub record MemoryParts (P : Type 0) : Type 0 where
   -- where the loop stands
   pub place : P
   pub names : List Named
