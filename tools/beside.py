@@ -12,10 +12,10 @@ import tempfile
 from dataclasses import dataclass
 from pathlib import Path
 
-from conversation import ROOT, Fault
+from conversation import OUT, ROOT, Fault
 
 SOURCES = ROOT / "tools" / "libuv"
-BUILT = ROOT / "out" / "libuv"
+BUILT = OUT / "libuv"
 SECONDS = 600
 LOAD = "require(process.argv[1]).run(process.argv[2], process.argv[3])"
 
@@ -41,7 +41,7 @@ def make(target: str, absent: str) -> None:
     for word, what in (("make", "`make`"), (os.environ.get("CC", "cc"), "a C compiler")):
         if shutil.which(word) is None:
             raise Fault(f"the runner can't be built: there is no {what} here")
-    ran = subprocess.run(["make", "-s", "-C", str(SOURCES), target], capture_output=True, text=True)
+    ran = subprocess.run(["make", "-s", "-C", str(SOURCES), f"out={BUILT}", target], capture_output=True, text=True)
     if ran.returncode != 0:
         said = ran.stdout + ran.stderr
         # the compiler finds no header, or the linker no library

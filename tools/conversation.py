@@ -5,6 +5,7 @@ What is here speaks the program's own words (docs/FORMAT.md) and has no loop of 
 
 from __future__ import annotations
 
+import functools
 import os
 import re
 import signal
@@ -15,6 +16,19 @@ from pathlib import Path
 from typing import Iterator
 
 ROOT = Path(__file__).resolve().parent.parent
+# Whether these are the tools of tools/package, without a repository.
+INSTALLED = (ROOT / "version").is_file()
+
+
+def out_folder() -> Path:
+    """Where the tools compile what they need: below the repository, or for installed tools in a folder of the user's and their version's."""
+    if not INSTALLED:
+        return ROOT / "out"
+    cache = Path(os.environ.get("XDG_CACHE_HOME") or Path.home() / ".cache")
+    return cache / "uvt" / (ROOT / "version").read_text(encoding="ascii").strip()
+
+
+OUT = out_folder()
 
 # The two lines that end an answer: that of `back 0`, which changes nothing, and that of a line that is no command. No
 # answer has the second one right behind the first one but at its end.
@@ -162,15 +176,16 @@ def read_state(lines: list[str]) -> State:
     return state
 
 
+@functools.lru_cache(maxsize=None)
 def built_program() -> str:
-    """The program that `./uvt build` has built, or the one that UVT names."""
+    """The program that a call of the launcher would start, which says so where it is the one before its proofs; or the one that UVT names."""
     named = os.environ.get("UVT")
     if named:
         return named
-    built = ROOT / "out" / "uvt" / "uvt"
-    if not built.is_file():
-        raise Fault("the program isn't built yet: `./uvt build` does that, once")
-    return str(built)
+    asked = subprocess.run([str(ROOT / "uvt"), "path"], stdin=subprocess.DEVNULL, stdout=subprocess.PIPE, text=True)
+    if asked.returncode:
+        raise Fault("there is no program to talk with")
+    return asked.stdout.rstrip("\n")
 
 
 class Conversation:

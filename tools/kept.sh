@@ -5,6 +5,7 @@
 #   stats   the same files, and the kit's, as the file system has them: while nothing differs here, nothing was changed
 #   log     what rt said of the crate that failed last
 #   lock    held while a call builds: a second call waits, and then starts what the first one built
+#   unproved/   the same for the program before its proofs, which is never taken for a built one: uvt, sums, stats, lock
 
 # Whether the files that the stored list names, and those beside them, are as they were when it was written.
 # Its first line names the folders, so that nothing else has to be read.
@@ -43,6 +44,8 @@ sums() {
 is_built() {
     is_unchanged && return
     [ -x "$kept/uvt" ] && [ -s "$kept/sums" ] || return
+    # (what the program before its proofs was compiled from is something else)
+    ! (kept=$kept/unproved && is_unchanged) || return
     list_sources
     cmp -s "$kept/sums" "$kept/sums.$$" && mv -f "$kept/stats.$$" "$kept/stats" && rm -f "$kept/sums.$$" && return
     drop_lists
@@ -95,12 +98,24 @@ keep() {
     cp "$1" "$kept/uvt.new" || fail "cannot copy the program to $kept"
     # (without the lists a call builds again, so one that ends between these steps does no harm)
     rm -f "$kept/stats" "$kept/sums"
+    rm -rf "$kept/unproved"
     mv -f "$kept/uvt.new" "$kept/uvt" && mv -f "$kept/sums.$$" "$kept/sums" && mv -f "$kept/stats.$$" "$kept/stats" ||
         fail "cannot write to $kept"
 }
 
+# Compiles the program before its proofs, if need be, while no other call does. $kept is its folder then.
+compile_alone() {
+    is_built && return
+    command -v rt >/dev/null && command -v python3 >/dev/null && alone compile_changed
+}
+
 # Builds, if need be, while no other call does; with a word it says so where nothing is to be done.
 build_alone() {
+    alone build_changed "$@"
+}
+
+# Calls what follows while no other call does so in $kept.
+alone() {
     mkdir -p "$kept" || fail "cannot write to $kept"
     if command -v flock >/dev/null; then
         exec 9>"$kept/lock"
@@ -116,7 +131,7 @@ build_alone() {
         done
         held=$kept/lock.d
     fi
-    build_changed "$@"
+    "$@"
     built=$?
     exec 9>&-
     [ -z "$held" ] || rmdir "$held"
@@ -133,8 +148,22 @@ build_changed() {
     command -v rt >/dev/null || fail "the program has to be built, and the kit's command rt, which proves and builds it, isn't on the PATH"
     command -v python3 >/dev/null || fail "the program has to be built, and the command python3, which the kit needs too, isn't on the PATH"
     list_sources
+    make "$root/crates/uvt/out/uvt" build.py "$root" "$kept" $crates || return 70
+}
+
+# The same for the program before its proofs.
+compile_changed() {
+    is_built && return
+    list_sources
+    make "$kept/compiled" unproved.py "$root" "$kept/compiled" && rm -f "$kept/compiled"
+}
+
+# Runs a tool that makes the program, and keeps what it has made.
+make() {
+    made=$1 tool=$root/tools/$2
+    shift 2
     # (a signal ends the build with all that it has started)
-    python3 "$root/tools/build.py" "$root" "$kept" $crates </dev/null 9>&- &
+    python3 "$tool" "$@" </dev/null 9>&- &
     builder=$!
     trap 'kill "$builder" 2>/dev/null' INT HUP TERM
     while :; do
@@ -145,9 +174,9 @@ build_changed() {
     done
     trap - INT HUP TERM
     if [ "$status" = 0 ]; then
-        keep "$root/crates/uvt/out/uvt"
+        keep "$made"
     else
         drop_lists
-        return 70
+        return "$status"
     fi
 }

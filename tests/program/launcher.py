@@ -219,7 +219,7 @@ def stand_in(folder: str, program: str) -> StandIn:
 
 
 def try_first_call(check: Check, kit: StandIn) -> None:
-    """Without a built program: the answer of the try, the words that go with it, and when there is none."""
+    """Without a built program: the answer of the one before its proofs, and the words that go with it. It is compiled once."""
     for words, said in ((['help'], b'uvt runs a script'), (['replay', 'none'], b'uvt: there is no file none\n')):
         status, output, errors = kit.call(words)
         check('%r before a build' % words, (status, output) == (2, b'') and errors.startswith(said), 'got %r' % errors)
@@ -237,7 +237,7 @@ def try_first_call(check: Check, kit: StandIn) -> None:
         check('first call %d of two at once' % at, real[:2] == (0, b'init t timer = 0.0\n'), 'got %r' % (real,))
         check('first call %d of two, what is said' % at,
               b'before its proofs' in real[2] and b'./uvt build' in real[2] and b'none of it proved' in real[2], 'got %r' % real[2])
-    same(check, 'a first answer builds nothing', [line[0] for line in kit.log()], ['tries', 'tries'])
+    check('one of two first calls waits', sum(b'another call is building' in it[2] for it in ended) == 1, 'got %r' % ended)
     script = os.path.join(kit.room, 'script.uvt')
     with open(script, 'wb') as file:
         file.write(SCRIPT)
@@ -251,6 +251,20 @@ def try_first_call(check: Check, kit: StandIn) -> None:
     check('a first call of a bad script', (status, output) == (2, b'') and b'\nuvt: bad script line 2\n' in errors, 'got %r' % errors)
     status, output, errors = kit.call(['replay', os.path.join(ROOT, 'examples', 'changed-program.rec')])
     check('a first call of replay FILE', (status, output) == (3, b'differs at 1\n') and b'\nuvt: differs at 1\n' in errors, 'got %r' % errors)
+    text = b'var i\nmain init i idle\nmain start i\nmain run default\nbegin\nloop 200000\n'
+    status, output, errors = kit.call(['debug'], text)
+    check('a first call with a long output', status == 0 and output.count(b'\n') > 100000, 'status %d, %d lines' % (status, output.count(b'\n')))
+    with open(os.path.join(ROOT, 'examples', 'late-timer.uvt'), 'rb') as file:
+        status, output, errors = kit.call(['why', 'beat'], file.read())
+    check('a first call of a tool', status == 0 and b'late by 35 ms' in output and b'none of it proved' in errors, 'got %r' % ((status, output, errors),))
+    status, output, errors = kit.call(['path'])
+    same(check, 'the path of the program before its proofs', output, os.path.join(kit.folder, 'out', 'uvt', 'unproved', 'uvt').encode() + b'\n')
+    same(check, 'first answers build nothing, and compile once', [line[0] for line in kit.log()], ['tries'])
+    source = os.path.join(kit.folder, 'crates', 'uv_cli', 'src', 'lib.rt')
+    with open(source, 'ab') as file:
+        file.write(b'// changed before a build\n')
+    same(check, 'a first call behind a change', kit.call(['debug'], SCRIPT)[:2], (0, b'init t timer = 0.0\n'))
+    same(check, 'it compiles anew', [line[0] for line in kit.log()], ['tries', 'tries'])
 
 
 def order_faults(log: List[List[str]], below: 'dict[str, List[str]]') -> List[str]:
@@ -362,27 +376,31 @@ def try_order(check: Check, kit: StandIn) -> None:
 
 
 def try_unanswered(check: Check, kit: StandIn) -> None:
-    """What a try can't answer is built: an output that is too long, an input without an end."""
+    """Where the program before its proofs can't be had it is built; one that is interrupted builds nothing, and keeps nothing."""
     kit.write('took', '0.01')
-    for what, send_end in (('a long output', True), ('an open pipe', False)):
+    for fails, said in (('try', b"doesn't compile it"), ('link', b'leaves no program behind')):
         begin_anew(kit)
-        text = b'var i\nmain init i idle\nmain start i\nmain run default\nbegin\nloop %d\n' % (200000 if send_end else 5)
-        call = subprocess.Popen([kit.uvt(), 'debug'], env=kit.env(), stdin=subprocess.PIPE, stdout=subprocess.PIPE, stderr=subprocess.PIPE)
-        call.stdin.write(text)
-        call.stdin.flush()
-        if not send_end:
-            until = time.monotonic() + SECONDS
-            while not os.path.exists(os.path.join(kit.folder, 'out', 'uvt', 'stats')) and time.monotonic() < until:
-                time.sleep(0.2)
-            call.stdin.write(b'loop\n')
-        output, errors = call.communicate(timeout=SECONDS)
-        same(check, what + ' is answered by the built program', (call.returncode, output.count(b'\n') > 100000 if send_end else output),
-             (0, True if send_end else b'init i idle = 0.0\nstart i = ok\nrun default\ntimers\npending\nidle\n'))
-        check(what + ', what is said', b'only the built program can' in errors and b'built after' in errors, 'got %r' % errors)
+        kit.write('fails', fails)
+        status, output, errors = kit.call(['debug'], SCRIPT)
+        check('a first call where %s fails' % fails, (status, output) == (0, b'init t timer = 0.0\n') and said in errors and b'built after' in errors,
+              'got %r' % ((status, output, errors),))
+    begin_anew(kit)
+    kit.write('fails', '')
+    kit.write('took', '20')
+    call = subprocess.Popen([kit.uvt(), 'debug'], env=kit.env(), stdin=subprocess.DEVNULL, stdout=subprocess.PIPE, stderr=subprocess.PIPE,
+                            start_new_session=True)
+    until = time.monotonic() + SECONDS
+    while not kit.log() and time.monotonic() < until:
+        time.sleep(0.05)
+    os.killpg(call.pid, signal.SIGINT)
+    output, errors = call.communicate(timeout=SECONDS)
+    same(check, 'a first call that is interrupted', (call.returncode, output, [line[0] for line in kit.log()]), (130, b'', ['tries']))
+    same(check, 'what it leaves', sorted(os.listdir(os.path.join(kit.folder, 'out', 'uvt', 'unproved'))), ['lock'])
+    kit.write('took', '0.05')
 
 
 def try_typed(check: Check, kit: StandIn) -> None:
-    """At a terminal, what is typed is answered by the built program."""
+    """What is typed is answered by the program before its proofs too: at a terminal behind a file, and over a pipe a line at a time."""
     begin_anew(kit)
     script = os.path.join(kit.room, 'script.uvt')
     with open(script, 'wb') as file:
@@ -394,12 +412,20 @@ def try_typed(check: Check, kit: StandIn) -> None:
     output, errors = call.communicate(timeout=SECONDS)
     os.close(ours)
     same(check, 'a first call at a terminal', (call.returncode, output), (0, b'init t timer = 0.0\nrefused ended\n'))
-    check('a first call at a terminal, what is said',
-          b'what is typed can only be answered by the built one' in errors and b'built after' in errors, 'got %r' % errors)
+    check('a first call at a terminal, what is said', b'before its proofs' in errors and b'after the file you may type' in errors, 'got %r' % errors)
+    begin_anew(kit)
+    call = subprocess.Popen([kit.uvt(), 'debug'], env=kit.env(), stdin=subprocess.PIPE, stdout=subprocess.PIPE, stderr=subprocess.DEVNULL)
+    call.stdin.write(SCRIPT)
+    call.stdin.flush()
+    same(check, 'a first call over an open pipe', call.stdout.readline(), b'init t timer = 0.0\n')
+    call.stdin.write(b'loop\n')
+    same(check, 'a first call over an open pipe, the rest', call.communicate(timeout=SECONDS)[0], b'refused ended\n')
 
 
 def try_changes(check: Check, kit: StandIn) -> None:
     """A source that changed is no longer what was built; one that was only touched is."""
+    same(check, 'a build behind first answers', kit.call(['build'])[:2], (0, b''))
+    check('a build leaves no program before its proofs', not os.path.exists(os.path.join(kit.folder, 'out', 'uvt', 'unproved')))
     source = os.path.join(kit.folder, 'crates', 'uv_cli', 'src', 'lib.rt')
     os.utime(source)
     same(check, 'a source that was touched', kit.call(['debug'], SCRIPT), (0, b'init t timer = 0.0\n', b''))
@@ -429,7 +455,12 @@ def try_with_kit(check: Check, copy: str, folder: str) -> None:
     with open(os.path.join(copy, 'examples', 'late-timer.uvt'), 'rb') as script, open(os.path.join(copy, 'examples', 'late-timer.out'), 'rb') as due:
         ended = subprocess.run([uvt, 'debug'], stdin=script, stdout=subprocess.PIPE, stderr=subprocess.PIPE, timeout=600, env=env)
         same(check, 'the first answer', (ended.returncode, ended.stdout), (0, due.read()))
-    check('the first answer, what is said', ended.stderr.count(b'\n') == 3 and ended.stderr.count(b'uvt: ') == 3, 'got %r' % ended.stderr)
+    check('the first answer, what is said', ended.stderr.count(b'\n') == 2 and ended.stderr.count(b'uvt: ') == 2, 'got %r' % ended.stderr)
+    with open(os.path.join(copy, 'examples', 'late-timer.uvt'), 'rb') as script:
+        began = time.monotonic()
+        again = subprocess.run([uvt, 'why', 'beat'], stdin=script, stdout=subprocess.PIPE, stderr=subprocess.PIPE, timeout=600, env=env)
+        check('a second answer, by a tool', again.returncode == 0 and b'late by 35 ms' in again.stdout and time.monotonic() - began < 10,
+              'got %r after %d seconds' % ((again.returncode, again.stderr), time.monotonic() - began))
     for turn in (1, 2):
         build = subprocess.Popen([uvt, 'build'], stderr=subprocess.PIPE, env=env)
         # (a build that ends ends the lines)

@@ -12,7 +12,7 @@ import tempfile
 from dataclasses import dataclass
 from pathlib import Path
 
-from conversation import ROOT, Fault, built_program
+from conversation import INSTALLED, OUT, Fault, built_program
 from record_differences import PAGE, heading_of, says
 from record_follow import CALLS, MANY_WORKERS, Follower, NeedsWake, Outcome
 from record_log import Log, read_log
@@ -20,7 +20,7 @@ from record_names import name_addresses, named_log
 from record_script import Program, program_of
 
 RECORDER = Path(__file__).resolve().parent / "recorder"
-BUILT = ROOT / "out" / "recorder" / "recorder.so"
+BUILT = OUT / "recorder" / "recorder.so"
 def write(path: Path, data: bytes) -> None:
     """Writes a file whole, or leaves what was there."""
     part = path.with_name(path.name + ".part")
@@ -113,7 +113,7 @@ def told(made: Made, loop: int, path: Path, note: str) -> list[str]:
     if outcome.wakes:
         lines.append(f"    {outcome.wakes} times something woke the loop that called nobody: the handle `wake` stands for it")
     lines += [f"    {count} {text}" for text, count in program.notes.items()]
-    return lines + [f"    tools/uvt-shell {path}"]
+    return lines + [f"    {'uvt shell' if INSTALLED else 'tools/uvt-shell'} {path}"]
 
 
 def from_data(data: bytes, log: Log, name: str) -> tuple[list[str], bool]:

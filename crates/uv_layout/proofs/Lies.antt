@@ -39,6 +39,9 @@ use Rattle.uv_step.specs.Image.{Image}
 use Rattle.uv_stands.specs.Stands.{StandsFor, timer_in}
 use Rattle.uv_stands.proofs.Onto.{list_named}
 use Rattle.uv_layout.specs.Laid.{ShowsSlot, ShowsSlots, ShowsAll, shown_ends}
+use Rattle.uv_step.specs.Fit.{IsFit}
+use Rattle.uv_stands.proofs.Pools.{active_fit, opened_fit}
+use Rattle.uv_stands.proofs.Single.{names_is, place_is, running_is}
 
 slots_same : (cs : List LaidSlot) (ks : List (Cell Content)) → length cs ≡ length ks
     → ((x : ℕ) (c : LaidSlot) → slice_get cs x ≡ Some c → c.slot ≡ slot_in (slice_get ks x))
@@ -66,7 +69,7 @@ entries_as : (a : arena.Image Content) (es : List Entry) → map entry_of (map (
 entries_as a [] = refl
 entries_as a (e ∷ es) = ap (λ ys. e ∷ ys) (entries_as a es)
 
-module _ (i : Image Place) (s : State) (h : StandsFor i s) (cs : List LaidSlot) (shown : ShowsSlots i cs) where
+module _ (i : Image Place) (s : State) (h : StandsFor i s) (sound : IsSound i.arena) (cs : List LaidSlot) (shown : ShowsSlots i cs) where
   neighbours : (k x : ℕ) (p n : Option ℕ) → slice_get (chains i.arena.memory).links x ≡ Some (link k p n) → HasNeighbours (slice_get cs x) p n
   neighbours k x p n e = at (slice_get cs x) refl where
     there : links_at i.arena.memory x ≡ link k p n
@@ -96,7 +99,7 @@ module _ (i : Image Place) (s : State) (h : StandsFor i s) (cs : List LaidSlot) 
 
   chain_below : (k : Option ListName) → chain_no k < CHAIN_COUNT
   chain_below None = omega arith
-  chain_below (Some l) = let small = h.sound.names.below (number l) (number_below l) in omega (arith, small)
+  chain_below (Some l) = let small = sound.names.below (number l) (number_below l) in omega (arith, small)
 
   on_chain : (k : Option ListName) → slots_on s k ≡ chain i.arena.memory (chain_no k)
   on_chain None = ap (λ (q : plain.Slots Content). q.free) (sym h.slots)
@@ -105,7 +108,7 @@ module _ (i : Image Place) (s : State) (h : StandsFor i s) (cs : List LaidSlot) 
   pub are_walked : (k : Option ListName) → AreWalked cs None (slots_on s k)
   are_walked k =
       subst (λ xs. AreWalked cs None xs) (sym (on_chain k))
-      (walked_as (chain_no k) None (chain i.arena.memory (chain_no k)) (h.sound.linked.stands.lists (chain_no k) (chain_below k)).segment)
+      (walked_as (chain_no k) None (chain i.arena.memory (chain_no k)) (sound.linked.stands.lists (chain_no k) (chain_below k)).segment)
 
   pub ends_as : (ls : List ListName) → map (shown_ends i.arena) ls ≡ map (with_ends s) ls
   ends_as [] = refl
@@ -138,14 +141,14 @@ module _ (i : Image Place) (s : State) (h : StandsFor i s) (cs : List LaidSlot) 
       → (m : Links) × (slice_get (chains i.arena.memory).links x ≡ Some m) × (m.list ≡ Some (chain_no k))
   on_its k x on =
       segment_tells (chains i.arena.memory).links (chain_no k) None (chain i.arena.memory (chain_no k)) None
-      (h.sound.linked.stands.lists (chain_no k) (chain_below k)).segment x (subst (λ xs. IsIn x xs) (on_chain k) on)
+      (sound.linked.stands.lists (chain_no k) (chain_below k)).segment x (subst (λ xs. IsIn x xs) (on_chain k) on)
 
   one_name : (j k : Option ListName) → chain_no j ≡ chain_no k → j ≡ k
   one_name None None e = refl
-  one_name None (Some l) e = let small = h.sound.names.below (number l) (number_below l) in absurd (omega (arith, e, small))
-  one_name (Some l) None e = let small = h.sound.names.below (number l) (number_below l) in absurd (omega (arith, e, small))
+  one_name None (Some l) e = let small = sound.names.below (number l) (number_below l) in absurd (omega (arith, e, small))
+  one_name (Some l) None e = let small = sound.names.below (number l) (number_below l) in absurd (omega (arith, e, small))
   one_name (Some l) (Some m) e =
-      ap (λ z. Some z) (number_apart l m (h.sound.names.apart (number l) (number m) (number_below l) (number_below m) e))
+      ap (λ z. Some z) (number_apart l m (sound.names.apart (number l) (number m) (number_below l) (number_below m) e))
 
   pub on_once : (j k : Option ListName) (x : ℕ) → IsIn x (slots_on s j) → IsIn x (slots_on s k) → j ≡ k
   on_once j k x a b =
@@ -159,7 +162,7 @@ module _ (i : Image Place) (s : State) (h : StandsFor i s) (cs : List LaidSlot) 
   listed_as : (x k : ℕ) → k < CHAIN_COUNT → IsIn x (chain i.arena.memory k) → (l : Option ListName) × IsIn x (slots_on s l)
   listed_as x k small on = elim (below_or k small) [
     | inl is ↦ (None, subst (λ xs. IsIn x xs) (sym (on_chain None)) (subst (λ n. IsIn x (chain i.arena.memory n)) is on))
-    | inr less ↦ (let l = list_named i.arena h.sound k less in
+    | inr less ↦ (let l = list_named i.arena sound k less in
         (Some l.0, subst (λ xs. IsIn x xs) (sym (on_chain (Some l.0))) (subst (λ n. IsIn x (chain i.arena.memory n)) (sym l.1) on)))
   ] where
     below_or : (n : ℕ) → n < CHAIN_COUNT → (n ≡ FREE) ⊎ (n < LIST_COUNT)
@@ -174,11 +177,11 @@ module _ (i : Image Place) (s : State) (h : StandsFor i s) (cs : List LaidSlot) 
     by_list : (cell : Cell Content) → slice_get i.arena.memory.row.items x ≡ Some cell → (l : Option ℕ) → cell.links.list ≡ l
         → (c.prev ≡ None) × (c.next ≡ None)
     by_list cell q None on =
-        let rest : cell.links ≡ loose = h.sound.linked.stands.rest x cell.links (get-links i.arena.memory.row.items x cell q) on in
+        let rest : cell.links ≡ loose = sound.linked.stands.rest x cell.links (get-links i.arena.memory.row.items x cell q) on in
         let links : links_at i.arena.memory x ≡ loose = ap (λ (o : Option (Cell Content)). links_in o) q ∙ rest in
         (its.prev ∙ ap (λ (z : Links). z.prev) links, its.next ∙ ap (λ (z : Links). z.next) links)
     by_list cell q (Some k) on =
-        let there = h.sound.linked.stands.listed x cell.links k (get-links i.arena.memory.row.items x cell q) on in
+        let there = sound.linked.stands.listed x cell.links k (get-links i.arena.memory.row.items x cell q) on in
         let l = listed_as x k there.0 there.1 in
         absurd (none l.0 l.1)
 
@@ -227,35 +230,42 @@ shows_more i n slots c before its = record {
 
 -- ---- all of it
 
-pub lies_for : (l : Layout) (i : Image Place) (s : State) → ShowsAll l i → StandsFor i s → LiesFor l s
-lies_for l i s d h = record {
-  place = d.place ∙ h.place;
+-- what always holds of a memory, whatever it stands for
+pub record IsWhole (i : Image Place) : Type 0 where
+  pub fit : IsFit i
+  pub sound : IsSound i.arena
+  pub heap : IsHeap i.heap
+  pub places : SlotsDiffer i.heap
+
+pub lies_for : (l : Layout) (i : Image Place) (s : State) → ShowsAll l i → IsWhole i → StandsFor i s → LiesFor l s
+lies_for l i s d whole h = record {
+  place = d.place ∙ place_is h;
   numbers =
       d.numbers ∙ (λ q. (let n : Numbers = record {
-        time = h.time q;
-        clock = h.clock q;
-        next_start = h.next_start q;
-        stop_flag = h.stop_flag q;
-        idled = h.idled q;
+        time = (h.values q).time;
+        clock = (h.values q).clock;
+        next_start = (h.values q).next_start;
+        stop_flag = (h.values q).stop_flag;
+        idled = (h.values q).idled;
       } in n));
-  names = d.names ∙ h.names;
+  names = d.names ∙ names_is h;
   slots =
       slots_same l.slots.items i.arena.memory.row.items d.slots.all (λ x c e. (d.slots.each x c e).slot)
       ∙ ap (λ (q : plain.Slots Content). q.slots) h.slots;
   unused = d.unused ∙ ap (λ (q : plain.Slots Content). q.unused) h.slots;
-  running = d.running ∙ h.running;
-  walked = are_walked i s h l.slots.items d.slots;
+  running = d.running ∙ running_is h;
+  walked = are_walked i s h whole.sound l.slots.items d.slots;
   free = d.free ∙ ap ends_of (ap (λ (q : plain.Slots Content). q.free) h.slots);
-  lists = d.lists ∙ ends_as i s h l.slots.items d.slots all_lists;
-  ids = are_now i s h l.slots.items d.slots;
-  once = on_once i s h l.slots.items d.slots;
-  loose = are_loose i s h l.slots.items d.slots;
-  heap = subst IsHeap (sym d.heap) h.heap;
-  differ = subst SlotsDiffer (sym d.heap) h.places;
+  lists = d.lists ∙ ends_as i s h whole.sound l.slots.items d.slots all_lists;
+  ids = are_now i s h whole.sound l.slots.items d.slots;
+  once = on_once i s h whole.sound l.slots.items d.slots;
+  loose = are_loose i s h whole.sound l.slots.items d.slots;
+  heap = subst IsHeap (sym d.heap) whole.heap;
+  differ = subst SlotsDiffer (sym d.heap) whole.places;
   timers =
       subst (λ a. IsInOrder a (map entry_of s.timers)) (sym d.heap)
       (subst (λ ts. IsInOrder i.heap ts) (sym (ap (map entry_of) h.timers.same ∙ entries_as i.arena h.timers.entries)) h.timers.ordered);
   places = λ x c e. (d.slots.each x c e).place ∙ ap (λ a. place_in a x) (sym d.heap);
-  active = d.active ∙ h.active;
-  opened = d.opened ∙ h.opened;
+  active = d.active ∙ active_fit i s whole.fit h.slots;
+  opened = d.opened ∙ opened_fit i s whole.fit (running_is h) h.lists;
 }

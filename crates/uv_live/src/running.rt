@@ -5,6 +5,8 @@ ghost use Rattle.uv_wake.specs.Seats.{names_of};
 ghost use Rattle.uv_live.specs.Course.{AreNamed};
 ghost use Rattle.uv_live.specs.Running.{HaltsAt, RunSettles, PassesTo};
 ghost use Rattle.uv_live.specs.Turning.{Refuses};
+ghost use Rattle.uv_live.specs.Working.{is_at_work};
+ghost use Rattle.std.specs.Prelude.{IfSome, None, Err, OnErr, IfErr};
 
 use crate::clock::Clock;
 use crate::crew::{Crew, join_workers, start_workers};
@@ -52,6 +54,8 @@ fn unblock<S: Follower, L: Ledger, C: Clock, R: Threads + Wait>(
 ) -> Result<(), Fault>
     ensures board { outside.new.board.now.board ≡ outside.old.board.now.board }
     ensures plan { S.plan session.new ≡ S.plan session.old }
+    ensures works { is_at_work (S.plan session.old).workers (S.course session.old).events ≡ true → S.course session.new ≡ S.course session.old }
+    ensures unasked { is_at_work (S.plan session.old).workers (S.course session.old).events ≡ true → C.hours clock.new ≡ C.hours clock.old }
 {
     if session.is_working() {
         book.wait_finished(rt, session.pool_events().len());
@@ -122,7 +126,8 @@ fn run<S: Follower, L: Ledger, C: Clock, R: Threads + Wait>(
 
 /// The fault of a run: the loop's own, or else the lowest worker's, or else `Stalled` where the book was closed.
 fn fault_of(halt: Result<bool, Fault>, workers: Option<Fault>) -> Option<Fault>
-    ensures { IfNone result (halt ≡ Ok true) }
+    ensures none { IfNone result (halt ≡ Ok true) }
+    ensures own { IfErr halt (λ f. result ≡ Some f) }
 {
     match halt {
         Err(own) => Some(own),

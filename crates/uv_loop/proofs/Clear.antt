@@ -15,6 +15,7 @@ use Rattle.uv_order.specs.Reached.{IsReached, BeginsBehind, BeginsIn, BeginsAt}
 use Rattle.uv_step.specs.Image.{Image}
 use Rattle.uv_stands.specs.Stands.{StandsFor}
 use Rattle.uv_loop.specs.Begins.{IsClear, IsClearAt, IsClearIn, IsClearBehind}
+use Rattle.uv_stands.proofs.Single.{place_is}
 
 none_mapped : {A B : Type 0} (f : A → B) (xs : List A) → [] ≡ map f xs → xs ≡ []
 none_mapped f [] e = refl
@@ -45,4 +46,4 @@ module _ (i : Image Place) (s : State) (h : StandsFor i s) where
   at (Running run) e = inside run.body run.stage e
 
   pub is_clear : IsReached s → IsClear i
-  is_clear r = subst (λ p. IsClearAt p i.arena) (sym h.place) (at s.place r.begins)
+  is_clear r = subst (λ p. IsClearAt p i.arena) (sym (place_is h)) (at s.place r.begins)

@@ -21,14 +21,15 @@ use Rattle.uv_stands.specs.Stands.{StandsFor}
 use Rattle.uv_ops.specs.Outside.{Sends, Cancels}
 use Rattle.uv_loop.specs.Course.{Leads}
 use Rattle.uv_loop.proofs.Simulation.{ticked}
+use Rattle.uv_stands.proofs.Single.{clock_is, names_is}
 
 pub tick_moves : (p : Program) (i : Image Place) (s : State) (ms : ℕ) → StandsFor i s → i.clock + ms ≤ LATEST
     → next p s (Tick ms) ≡ Moves (record s { clock = i.clock + ms }) (Some (seen.Tick ms))
 unfolding next
 tick_moves p i s ms h l =
-    let later : s.clock + ms ≤ LATEST = (let e = h.clock in omega (arith, l, e)) in
+    let later : s.clock + ms ≤ LATEST = (let e = (clock_is h) in omega (arith, l, e)) in
     let moves : ℕ → Next = λ n. Moves (record s { clock = n + ms }) (Some (seen.Tick ms)) in
-    ap (λ (b : Bool). if b then moves s.clock else Refuses Range) (le-leb (s.clock + ms) LATEST later) ∙ ap moves (sym h.clock)
+    ap (λ (b : Bool). if b then moves s.clock else Refuses Range) (le-leb (s.clock + ms) LATEST later) ∙ ap moves (sym (clock_is h))
 
 pub tick_refused : (p : Program) (i : Image Place) (s : State) (ms : ℕ) → StandsFor i s → LATEST < i.clock + ms
     → next p s (Tick ms) ≡ Refuses Range
@@ -36,13 +37,13 @@ unfolding next
 tick_refused p i s ms h l =
     let moves = Moves (record s { clock = s.clock + ms }) (Some (seen.Tick ms)) in
     elim (leb_tells (s.clock + ms) LATEST) [
-      | inl q ↦ absurd (let e = h.clock in let k = q.1 in omega (arith, l, e, k))
+      | inl q ↦ absurd (let e = (clock_is h) in let k = q.1 in omega (arith, l, e, k))
       | inr q ↦ ap (λ (b : Bool). if b then moves else Refuses Range) q.0
     ]
 
 -- as many names
 names_as : (i : Image Place) (s : State) → StandsFor i s → length i.names ≡ length s.names
-names_as i s h = ap (λ ns. length ns) h.names
+names_as i s h = ap (λ ns. length ns) (names_is h)
 
 pub send_moves : (p : Program) (i : Image Place) (s : State) (v : Var) → StandsFor i s → v.0 < length i.names
     → next p s (Send v) ≡ Moves (send s (live_handle s v)).state (Some (seen.Send v (send s (live_handle s v)).code))

@@ -13,7 +13,6 @@ use Rattle.uv_records.specs.declared.lists.ListName.TheVariants as name
 use Rattle.uv_records.specs.Slots as plain
 use Rattle.uv_records.specs.Walks.{with_last}
 use Rattle.uv_arena.specs.Image as arena
-use Rattle.uv_arena.specs.Image.{IsSound, plain_slots}
 use Rattle.uv_work.specs.declared.job.Job.{Job}
 use Rattle.uv_work.specs.Digests.{digest_of}
 use Rattle.uv_work.specs.declared.request.Request.{Request}
@@ -33,17 +32,14 @@ use Rattle.uv_model.specs.After.{IsMove}
 use Rattle.uv_model.specs.Handing.{job_in, job_run, RefusesResult}
 use Rattle.uv_work.specs.declared.content.Content.{Content}
 use Rattle.uv_work.specs.declared.content.Content.TheVariants.{Request as Asked}
-use Rattle.uv_step.specs.Change as change
-use Rattle.uv_step.specs.Record.{Record}
 use Rattle.uv_work.specs.Content.{request_of}
-use Rattle.uv_step.specs.Fit.{IsFit}
-use Rattle.uv_step.specs.Image.{Image, Held, working_of}
-use Rattle.uv_step.specs.Undo.{Recorded}
+use Rattle.uv_step.specs.Image.{Image, Held, working_of, OnlyWork}
 use Rattle.uv_stands.specs.Stands.{StandsFor}
 use Rattle.uv_loop.specs.Course.{Leads}
 use Rattle.uv_loop.specs.Pooling.{MayFinish}
 use Rattle.uv_stands.proofs.Holding.{slots_set, ids_kept}
-use Rattle.uv_stands.proofs.Pools.{asked_there, run_there, list_same, done_more, frame_of, change_back, pool_stands}
+use Rattle.uv_stands.proofs.Pools.{asked_there, run_there, list_same, done_more, pool_stands}
+use Rattle.uv_stands.proofs.Single.{running_is}
 
 -- ---- what the event does
 
@@ -129,7 +125,7 @@ finishes i k d r job why.Range may is e = e
 
 module _ (i j : Image Place) (k : ℕ) (d e : Id) (r : Request) (job : Job) (digest : List ℕ) (u : FinishUndo) (may : MayFinish i k d r)
     (is : job_of d r ≡ job) (made : digest ≡ digest_of job.task.rounds (text_of job.task))
-    (c : IsFinished request_of Asked (working_of i) (working_of j) k e job digest u) (sound : IsSound j.arena) where
+    (c : IsFinished request_of Asked (working_of i) (working_of j) k e job digest u) where
   one : e ≡ d
   one = cc (c.runs, may.runs)
 
@@ -153,9 +149,8 @@ module _ (i j : Image Place) (k : ℕ) (d e : Id) (r : Request) (job : Job) (dig
         made ∙ ap (λ (z : Job). digest_of z.task.rounds (text_of z.task)) (sym is) in
         λ l. record (from l) { outcome = outcome.Finished (done l) }
 
-    pub finished_stands : IsFit (record i { arena = j.arena; running = j.running })
-        → StandsFor (record i { arena = j.arena; running = j.running }) (finished_state i s k e r h c.runs asked_now)
-    finished_stands fit = pool_stands i s h j.arena j.running
+    pub finished_stands : StandsFor (record i { arena = j.arena; running = j.running }) (finished_state i s k e r h c.runs asked_now)
+    finished_stands = pool_stands i s h j.arena j.running
         (record s.arena { slots = plain.with_held s.arena.slots e (Asked ended) }) s.waiting (slice_set s.running k None)
         (with_last s.done e) ids
         (λ l a b x. c.others l b)
@@ -164,23 +159,20 @@ module _ (i j : Image Place) (k : ℕ) (d e : Id) (r : Request) (job : Job) (dig
         (list_same i j.arena ids name.DoneYet s.done.yet (h.lists name.DoneYet) (c.others name.DoneYet (λ z. cc)))
         (slots_set i s j.arena e (Asked (finished digest c.from)) h c.plain
         ∙ ap (λ (q : Request). (let z : plain.Slots Content = record s.arena { slots = plain.with_held s.arena.slots e (Asked q) } in z)) to)
-        (ap (λ (z : work.Running). z.workers) c.running ∙ ap (λ rs. slice_set rs k None) h.running)
-        sound fit
+        (ap (λ (z : work.Running). z.workers) c.running ∙ ap (λ rs. slice_set rs k None) (running_is h))
 
-pub finish_leads : (r' : Record Place) (h w : Held Place) (k : ℕ) (d e : Id) (r : Request) (job : Job) (digest : List ℕ) (u : FinishUndo)
+pub finish_leads : (h w : Held Place) (k : ℕ) (d e : Id) (r : Request) (job : Job) (digest : List ℕ) (u : FinishUndo)
     → MayFinish h.image k d r → job_of d r ≡ job → digest ≡ digest_of job.task.rounds (text_of job.task)
-    → IsFinished request_of Asked (working_of h.image) (working_of w.image) k e job digest u → Recorded r' h w → r'.change ≡ change.Finished u
-    → IsSound w.image.arena → (p : Program) → Leads p h.image w.image (Finish k) (Some (seen.Finish k r.name d))
-finish_leads r' h w k d e r job digest u may same made c recorded is sound p s stands reached =
+    → IsFinished request_of Asked (working_of h.image) (working_of w.image) k e job digest u → OnlyWork h.image w.image
+    → (p : Program) → Leads p h.image w.image (Finish k) (Some (seen.Finish k r.name d))
+finish_leads h w k d e r job digest u may same made c frame p s stands reached =
     let i = h.image in
     let j = w.image in
-    let frame : j ≡ record i { arena = j.arena; running = j.running } =
-    frame_of i j r'.place _ _ (change_back r' (change.Finished u) h w recorded is) recorded.place in
-    let at = asked_now i j k d e r job digest u may same made c sound in (
+    let at = asked_now i j k d e r job digest u may same made c in (
       finished_state i s k e r stands c.runs at,
       finish_moves i s k e r stands c.runs at p
           ∙ ap (λ (z : Id). Moves (finished_state i s k e r stands c.runs at) (Some (seen.Finish k r.name z)))
-          (one i j k d e r job digest u may same made c sound),
+          (one i j k d e r job digest u may same made c),
       subst (λ q. StandsFor q (finished_state i s k e r stands c.runs at)) (sym frame)
-          (finished_stands i j k d e r job digest u may same made c sound s stands (subst (λ q. IsFit q) frame recorded.fit)),
+          (finished_stands i j k d e r job digest u may same made c s stands),
     )

@@ -21,6 +21,8 @@ use Rattle.uv_loop.specs.Begins.{IsClear}
 use Rattle.uv_loop.proofs.Clear.{is_clear}
 use Rattle.uv_loop.proofs.Lasts.{unwound_limits}
 use Rattle.uv_loop.proofs.Courses.{course_stands}
+use Rattle.uv_stands.proofs.Single.{names_is, place_is, start_is, time_is}
+use Rattle.uv_arena.specs.Image.{IsSound}
 
 -- what an answer says that is no fault
 pub granted : {T E P : Type 0} (r : Result T E) → OnOk r P → is_ok r ≡ true → P
@@ -28,20 +30,20 @@ granted (Ok x) p e = p
 granted (Err x) p e = cc
 
 module _ (p : Program) (es : List Event) (seen : List (Option Seen)) (rs : List (Record Place)) (h : Held Place) (c : IsCourse p es seen rs h) where
-  pub course_ready : length h.image.arena.memory.row.items ≤ h.room → IsReady h
-  course_ready room =
+  pub course_ready : IsSound h.image.arena → length h.image.arena.memory.row.items ≤ h.room → IsReady h
+  course_ready sound room =
       let s = after p es in
       let stands : StandsFor h.image s = course_stands p es seen rs h c in
       let able : CanStep s = after_able p es (let few = c.few in omega (arith, few)) in
       record {
         room = room;
-        starts = (let small = able.small.starts in let same = stands.next_start in omega (arith, small, same));
-        time = (let small = able.small.time in let same = stands.time in omega (arith, small, same));
-        line = subst (λ q. line_of q < 2 ^ 63) (sym stands.place) able.small.line;
-        calls = λ v k. subst (λ (ns : List Named). count_of k (named ns v).calls < 2 ^ 31) (sym stands.names)
+        starts = (let small = able.small.starts in let same = (start_is stands) in omega (arith, small, same));
+        time = (let small = able.small.time in let same = (time_is stands) in omega (arith, small, same));
+        line = subst (λ q. line_of q < 2 ^ 63) (sym (place_is stands)) able.small.line;
+        calls = λ v k. subst (λ (ns : List Named). count_of k (named ns v).calls < 2 ^ 31) (sym (names_is stands))
             (count_below (2 ^ 31) k (named s.names v).calls
             (at_name (2 ^ 31) s.names v (slice_get s.names v) refl able.small.counts (omega arith)));
-        loose = λ d r there. idle_loose h.image s stands (reached p es) c.fit d r there;
+        loose = λ d r there. idle_loose h.image s stands (reached p es) c.fit d r there sound;
       }
 
   pub course_last : h.image.arena.last ≡ (arena_size p).last_generation

@@ -16,15 +16,16 @@ use Rattle.uv_stands.specs.Doing.{OfEach}
 use Rattle.uv_stands.specs.Stands.{StandsFor}
 use Rattle.uv_loop.specs.Acting.{MayAt, Refusal}
 use Rattle.uv_loop.specs.Turning.{Turns}
+use Rattle.uv_stands.proofs.Single.{place_is}
 
 module _ (p : Program) (i : Image Place) (s : State) (h : StandsFor i s) where
   pub main_there : (line : ℕ) → i.place ≡ Main line → next p s Loop ≡ main_step (order_of p) s line (slice_get p.main line)
   unfolding next
-  main_there line is = ap (loop_step p s) (sym h.place ∙ is)
+  main_there line is = ap (loop_step p s) (sym (place_is h) ∙ is)
 
   pub run_there : (run : Run) → i.place ≡ Running run → next p s Loop ≡ run_step p s run run.body
   unfolding next
-  run_there run is = ap (loop_step p s) (sym h.place ∙ is)
+  run_there run is = ap (loop_step p s) (sym (place_is h) ∙ is)
 
 -- a step that does the same to each state answers the same
 pub turns_by : (f g : State → Next) (r : Record Place) (h k : Held Place) (line : Option Seen)

@@ -1,13 +1,12 @@
 -- A memory that was never run stands for the state in which its script begins, and each step goes on from there.
-use Rattle.std.proofs.Common.{◌≡◌, ◌-◌, ℕ, zero, suc, [], map, replicate, None, refl, sym, ap, ◌∙◌, arith}
+use Rattle.std.proofs.Common.{◌≡◌, ◌-◌, ℕ, [], map, refl, sym, ap, ◌∙◌, arith}
 use Rattle.uv_records.specs.declared.lists.ListName.{ListName}
 use Rattle.uv_records.specs.declared.lists.ListName.TheVariants as name
 use Rattle.uv_arena.specs.Chains.{list_of, walk}
 use Rattle.uv_arena.specs.Image as arena
-use Rattle.uv_arena.specs.Image.{IsSound, fresh_image, plain_slots}
-use Rattle.uv_work.specs.Pool.{busy}
+use Rattle.uv_arena.specs.Image.{fresh_image, plain_slots}
 use Rattle.uv_requests.specs.Working.{id_in}
-use Rattle.uv_script.specs.Program.{Program, arena_size, worker_count}
+use Rattle.uv_script.specs.Program.{Program, arena_size}
 use Rattle.uv_model.specs.declared.place.Place.{Place}
 use Rattle.uv_model.specs.State as state
 use Rattle.uv_model.specs.State.{State}
@@ -17,10 +16,6 @@ use Rattle.uv_step.specs.Image.{Image}
 use Rattle.uv_stands.proofs.Lists.{beside_lists}
 use Rattle.uv_stands.specs.Stands.{StandsFor}
 use Rattle.uv_loop.specs.Course.{first_image}
-
-none_busy : (n : ℕ) → busy (replicate n None) ≡ 0
-none_busy zero = refl
-none_busy (suc n) = none_busy n
 
 none_listed : (p : Program) (l : ListName) → members (state.fresh p) l ≡ []
 none_listed p name.Ready = refl
@@ -34,47 +29,23 @@ no_slots : (capacity last : ℕ) → plain_slots (fresh_image Content capacity l
 unfolding list_of walk
 no_slots capacity last = let whole : capacity - 0 ≡ capacity = omega arith in λ l. record { slots = []; free = []; unused = whole l }
 
-pub fresh_stands : (p : Program) → IsSound (first_image p).arena → StandsFor (first_image p) (state.fresh p)
-fresh_stands p sound =
+pub fresh_stands : (p : Program) → StandsFor (first_image p) (state.fresh p)
+fresh_stands p =
     let capacity = (arena_size p).slots in
     let last = (arena_size p).last_generation in
     record {
-      place = refl;
-      names = refl;
-      time = refl;
-      clock = refl;
-      next_start = refl;
-      stop_flag = refl;
-      idled = refl;
+      values = refl;
       slots = no_slots capacity last;
-      running = refl;
       lists = λ l. none_listed p l ∙ sym (ap (map (id_in (first_image p).arena)) (no_members capacity last l));
-      sound = sound;
-      heap = λ i l. absurd (omega (arith, l));
-      places = λ i j l m e. absurd (omega (arith, l));
       timers = record { entries = []; ordered = record { ordered = tt; same = λ e. refl }; same = refl };
-      active = refl;
-      opened = let none = none_busy (worker_count p) in omega (arith, none);
     }
 
 -- the clock is no part of the rest
 pub ticked : (i : Image Place) (s : State) (n m : ℕ) → n ≡ m → StandsFor i s → StandsFor (record i { clock = n }) (record s { clock = m })
 ticked i s n m same h = record {
-  place = h.place;
-  names = h.names;
-  time = h.time;
-  clock = same;
-  next_start = h.next_start;
-  stop_flag = h.stop_flag;
-  idled = h.idled;
+  values = λ l. record (h.values l) { clock = same l };
   slots = h.slots;
-  running = h.running;
   lists = λ l.
       beside_lists s s.place s.names s.arena s.timers s.running s.time m s.next_start s.stop_flag s.idled l ∙ h.lists l;
-  sound = h.sound;
-  heap = h.heap;
-  places = h.places;
   timers = h.timers;
-  active = h.active;
-  opened = h.opened;
 }

@@ -8,7 +8,6 @@ use Rattle.uv_ids.specs.declared.fault.Why.TheVariants as why
 use Rattle.uv_script.specs.Program.{Program}
 use Rattle.uv_records.specs.declared.lists.ListName.TheVariants as name
 use Rattle.uv_arena.specs.Calls.{IsFirst}
-use Rattle.uv_arena.specs.Image.{IsSound}
 use Rattle.uv_work.specs.declared.request.Request.{Request}
 use Rattle.uv_requests.specs.declared.undo.TakeWorkUndo.{TakeWorkUndo}
 use Rattle.uv_requests.specs.Working as work
@@ -20,17 +19,14 @@ use Rattle.uv_model.specs.Found.{found_or}
 use Rattle.uv_model.specs.State.{State, with_id, front_request}
 use Rattle.uv_model.specs.Next.{Moves, Refuses, next, take, next_work}
 use Rattle.uv_model.specs.After.{IsMove}
-use Rattle.uv_step.specs.Change as change
-use Rattle.uv_step.specs.Record.{Record}
 use Rattle.uv_work.specs.Content.{request_of}
-use Rattle.uv_step.specs.Fit.{IsFit}
-use Rattle.uv_step.specs.Image.{Image, Held, working_of}
-use Rattle.uv_step.specs.Undo.{Recorded}
+use Rattle.uv_step.specs.Image.{Image, Held, working_of, OnlyWork}
 use Rattle.uv_stands.specs.Stands.{StandsFor}
 use Rattle.uv_loop.specs.Course.{Leads}
 use Rattle.uv_loop.specs.Pooling.{MayTake}
 use Rattle.uv_stands.proofs.Holding.{map_same}
-use Rattle.uv_stands.proofs.Pools.{asked_there, front_there, first_one, run_there, list_same, ids_moved, frame_of, change_back, pool_stands}
+use Rattle.uv_stands.proofs.Pools.{asked_there, front_there, first_one, run_there, list_same, ids_moved, pool_stands}
+use Rattle.uv_stands.proofs.Single.{running_is}
 
 -- ---- what the event does
 
@@ -84,37 +80,34 @@ takes i k d r why.Range may e = e
 -- ---- what the memory stands for then
 
 module _ (i j : Image Place) (k : ℕ) (d e : Id) (r : Request) (u : TakeWorkUndo) (may : MayTake i k d r)
-    (c : IsTaken request_of (working_of i) (working_of j) k e u) (sound : IsSound j.arena) where
+    (c : IsTaken request_of (working_of i) (working_of j) k e u) where
   there : work.request_in request_of i.arena e ≡ Some r
   there = subst (λ z. work.request_in request_of i.arena z ≡ Some r) (sym (first_one i.arena name.Waiting d e may.first c.first)) may.request
 
   ids : (x : ℕ) → id_in j.arena x ≡ id_in i.arena x
   ids = ids_moved i.arena j.arena c.slots.plain
 
-  taken_stands : IsFit (record i { arena = j.arena; running = j.running }) → (s : State) → (h : StandsFor i s)
+  taken_stands : (s : State) → (h : StandsFor i s)
       → StandsFor (record i { arena = j.arena; running = j.running }) (taken i s k e r h c.idle c.first there)
-  taken_stands fit s h = pool_stands i s h j.arena j.running s.arena (map (id_in i.arena) c.first.rest) (slice_set s.running k (Some e)) s.done ids
+  taken_stands s h = pool_stands i s h j.arena j.running s.arena (map (id_in i.arena) c.first.rest) (slice_set s.running k (Some e)) s.done ids
       (λ l a b x. c.others l a)
       (sym (map_same (id_in j.arena) (id_in i.arena) ids c.first.rest) ∙ ap (map (id_in j.arena)) (sym c.waiting))
       (list_same i j.arena ids name.Done s.done.list (h.lists name.Done) (c.others name.Done (λ z. cc)))
       (list_same i j.arena ids name.DoneYet s.done.yet (h.lists name.DoneYet) (c.others name.DoneYet (λ z. cc)))
       (c.slots.plain ∙ h.slots)
-      (ap (λ (z : work.Running). z.workers) c.running ∙ ap (λ rs. slice_set rs k (Some e)) h.running)
-      sound fit
+      (ap (λ (z : work.Running). z.workers) c.running ∙ ap (λ rs. slice_set rs k (Some e)) (running_is h))
 
-pub take_leads : (r' : Record Place) (h w : Held Place) (k : ℕ) (d e : Id) (r : Request) (u : TakeWorkUndo) → MayTake h.image k d r
-    → IsTaken request_of (working_of h.image) (working_of w.image) k e u → Recorded r' h w → r'.change ≡ change.Taken u → IsSound w.image.arena
+pub take_leads : (h w : Held Place) (k : ℕ) (d e : Id) (r : Request) (u : TakeWorkUndo) → MayTake h.image k d r
+    → IsTaken request_of (working_of h.image) (working_of w.image) k e u → OnlyWork h.image w.image
     → (p : Program) → Leads p h.image w.image (Take k) (Some (seen.Take k r.name d))
-take_leads r' h w k d e r u may c recorded is sound p s stands reached =
+take_leads h w k d e r u may c frame p s stands reached =
     let i = h.image in
     let j = w.image in
-    let frame : j ≡ record i { arena = j.arena; running = j.running } =
-    frame_of i j r'.place _ _ (change_back r' (change.Taken u) h w recorded is) recorded.place in
-    let at = there i j k d e r u may c sound in (
+    let at = there i j k d e r u may c in (
       taken i s k e r stands c.idle c.first at,
       take_moves i s k e r stands c.idle c.first at p
           ∙ ap (λ (z : Id). Moves (taken i s k e r stands c.idle c.first at) (Some (seen.Take k r.name z)))
           (first_one i.arena name.Waiting d e may.first c.first),
       subst (λ q. StandsFor q (taken i s k e r stands c.idle c.first at)) (sym frame)
-          (taken_stands i j k d e r u may c sound (subst (λ q. IsFit q) frame recorded.fit) s stands),
+          (taken_stands i j k d e r u may c s stands),
     )

@@ -40,7 +40,6 @@ impl Machine for ArenaLoop {
         let Ok(memory) = fresh_memory(alloc, &script) else {
             return Err(Fault::Memory);
         };
-        memory.is_sound();
         Ok(ArenaLoop {
             alloc,
             script,
@@ -68,6 +67,7 @@ impl Machine for ArenaLoop {
         if self.memory.reserve().is_err() {
             return Err(Fault::Memory);
         }
+        self.memory.is_sound();
         let Ok(seen) = act(&mut self.memory, &self.script, event) else {
             return Err(Fault::Memory);
         };
@@ -203,6 +203,8 @@ impl Machine for ArenaLoop {
         ensures err { IfErr result (λ fault. fault ≡ Memory) }
     {
         self.stands();
+        self.memory.is_fit();
+        self.memory.is_sound();
         let Ok(layout) = layout_of(&self.memory, self.alloc) else {
             return Err(Fault::Memory);
         };

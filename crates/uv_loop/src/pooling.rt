@@ -23,7 +23,6 @@ pub(crate) fn take_work(memory: &mut Memory<Place>, worker: u16, id: Id, request
     ensures leads { (p : Program) → Leads p (held memory.old).image (held memory.new).image (Take worker) (Some result) }
 {
     memory.take(worker, id);
-    memory.is_sound();
     Seen::Take(worker, request.name, id)
 }
 
@@ -41,7 +40,6 @@ pub(crate) fn finish_work(
     ensures leads { (p : Program) → Leads p (held memory.old).image (held memory.new).image (Finish worker) (Some result) }
 {
     memory.finish(worker, id, request, work);
-    memory.is_sound();
     Seen::Finish(worker, request.name, id)
 }
 

@@ -12,7 +12,6 @@ use Rattle.uv_records.specs.declared.lists.ListName.TheVariants as name
 use Rattle.uv_records.specs.Slots as plain
 use Rattle.uv_records.specs.Walks.{with_last, without}
 use Rattle.uv_arena.specs.Image as arena
-use Rattle.uv_arena.specs.Image.{IsSound}
 use Rattle.uv_work.specs.Pool.{Pool, waits}
 use Rattle.uv_work.specs.Requests.{cancelled, cancel_refusal}
 use Rattle.uv_requests.specs.declared.undo.CancelUndo.{CancelUndo}
@@ -32,17 +31,16 @@ use Rattle.uv_step.specs.Change as change
 use Rattle.uv_step.specs.Record.{Record}
 use Rattle.uv_work.specs.Content.{request_of}
 use Rattle.uv_step.specs.Does.{By}
-use Rattle.uv_step.specs.Fit.{IsFit}
-use Rattle.uv_step.specs.Image.{Image, Held, working_of}
+use Rattle.uv_step.specs.Image.{Image, Held, working_of, OnlyWork}
 use Rattle.uv_records.specs.Names.{named}
-use Rattle.uv_step.specs.Undo.{Recorded}
 use Rattle.uv_stands.specs.Doing.{Performs}
 use Rattle.uv_stands.specs.Stands.{StandsFor}
 use Rattle.uv_stands.proofs.Holding.{held_there, slots_set, ids_kept, map_same}
 use Rattle.uv_stands.proofs.Naming.{live_by}
-use Rattle.uv_stands.proofs.Pools.{asked_there, list_same, done_more, frame_of, change_back, pool_stands}
+use Rattle.uv_stands.proofs.Pools.{asked_there, list_same, done_more, pool_stands}
 use Rattle.uv_stands.proofs.Without.{without_ids}
 use Rattle.uv_ops.specs.Outside.{Cancels}
+use Rattle.uv_stands.proofs.Single.{running_is}
 
 -- ---- who waits
 
@@ -92,8 +90,7 @@ some_cut : (b : Bool) (p q : Pool) → cond b (Some p) None ≡ Some q → b ≡
 some_cut true p q e = refl
 some_cut false p q e = cc
 
-module _ (i j : Image Place) (d : Id) (u : CancelUndo) (c : IsCancelled request_of Asked (working_of i) (working_of j) d u)
-    (sound : IsSound j.arena) where
+module _ (i j : Image Place) (d : Id) (u : CancelUndo) (c : IsCancelled request_of Asked (working_of i) (working_of j) d u) where
   waited : waits (pool_of request_of (working_of i)).waiting d ≡ true
   waited = some_cut _ _ _ c.rule
 
@@ -122,9 +119,8 @@ module _ (i j : Image Place) (d : Id) (u : CancelUndo) (c : IsCancelled request_
         ∙ ap (λ o. cancel s (as_request (with_id d o))) (asked_there i s d c.from h c.was)
         ∙ ap (λ (b : Bool). if b then done else refuses s code.Ebusy) (waits_there i s d true h waited)
 
-    cancelled_stands : IsFit (record i { arena = j.arena; running = j.running })
-        → StandsFor (record i { arena = j.arena; running = j.running }) cancelled_state
-    cancelled_stands fit = pool_stands i s h j.arena j.running
+    cancelled_stands : StandsFor (record i { arena = j.arena; running = j.running }) cancelled_state
+    cancelled_stands = pool_stands i s h j.arena j.running
         (record s.arena { slots = plain.with_held s.arena.slots d (Asked (cancelled c.from)) }) (without_id s.waiting d) s.running
         (with_last s.done d) ids
         (λ l a b x. c.others l a b)
@@ -135,27 +131,24 @@ module _ (i j : Image Place) (d : Id) (u : CancelUndo) (c : IsCancelled request_
         (done_more i s j.arena d h one ids c.done)
         (list_same i j.arena ids name.DoneYet s.done.yet (h.lists name.DoneYet) (c.others name.DoneYet (λ z. cc) (λ z. cc)))
         (slots_set i s j.arena d (Asked (cancelled c.from)) h c.plain)
-        (ap (λ (z : work.Running). z.workers) c.running ∙ h.running)
-        sound fit
+        (ap (λ (z : work.Running). z.workers) c.running ∙ (running_is h))
 
-module _ (r : Record Place) (h w : Held Place) (recorded : Recorded r h w) (sound : IsSound w.image.arena) (v : Var) (d : Id)
-    (bound : Some d ≡ (named h.image.names v.0).id) where
-  done_with : (u : CancelUndo) → r.change ≡ change.Cancelled u → IsCancelled request_of Asked (working_of h.image) (working_of w.image) d u
+module _ (r : Record Place) (h w : Held Place) (frame : OnlyWork h.image w.image) (v : Var)
+    (d : Id) (bound : Some d ≡ (named h.image.names v.0).id) where
+  done_with : (u : CancelUndo) → IsCancelled request_of Asked (working_of h.image) (working_of w.image) d u
       → Cancels v h.image w.image (answer.Cancelled d)
-  done_with u is c s stands =
+  done_with u c s stands =
       let i = h.image in
       let j = w.image in
-      let t = cancelled_state i j d u c sound s stands in
-      let frame : j ≡ record i { arena = j.arena; running = j.running } =
-      frame_of i j r.place _ _ (change_back r (change.Cancelled u) h w recorded is) recorded.place in (
+      let t = cancelled_state i j d u c s stands in (
         t,
-        cancelled_is i j d u c sound s stands v bound,
-        subst (λ q. StandsFor q t) (sym frame) (cancelled_stands i j d u c sound s stands (subst (λ q. IsFit q) frame recorded.fit)),
+        cancelled_is i j d u c s stands v bound,
+        subst (λ q. StandsFor q t) (sym frame) (cancelled_stands i j d u c s stands),
       )
 
   pub cancel_done : By change.Cancelled (λ u. IsCancelled request_of Asked (working_of h.image) (working_of w.image) d u) r.change
       → Cancels v h.image w.image (answer.Cancelled d)
-  cancel_done by = done_with by.undo by.is by.does
+  cancel_done by = done_with by.undo by.does
 
 -- the same as an op
 pub cancel_performs : (v : Var) (i j : Image Place) (a : Answer) → Cancels v i j a → Performs (op.Cancel v) i j a

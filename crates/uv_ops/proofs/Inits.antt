@@ -13,7 +13,7 @@ use Rattle.uv_records.specs.Handles.{inited}
 use Rattle.uv_records.specs.Slots.{taken}
 use Rattle.uv_records.specs.Walks.{with_last}
 use Rattle.uv_arena.specs.Image as arena
-use Rattle.uv_arena.specs.Image.{IsSound, plain_slots}
+use Rattle.uv_arena.specs.Image.{plain_slots}
 use Rattle.uv_requests.proofs.Holding.{id_is}
 use Rattle.uv_model.specs.declared.place.Place.{Place}
 use Rattle.uv_model.specs.State.{State, live}
@@ -24,14 +24,12 @@ use Rattle.uv_step.specs.declared.record.Added.{Added}
 use Rattle.uv_step.specs.Change as change
 use Rattle.uv_step.specs.Record.{Record}
 use Rattle.uv_step.specs.Does.{By, IsMade, JoinsIf, is_async}
-use Rattle.uv_step.specs.Image.{Image, Held, counted_of}
+use Rattle.uv_step.specs.Image.{Image, Held, counted_of, OnlyHandles}
 use Rattle.uv_records.specs.Names.{binding}
-use Rattle.uv_step.specs.Undo.{Recorded}
 use Rattle.uv_stands.specs.Doing.{Performs}
 use Rattle.uv_stands.specs.Stands.{StandsFor}
 use Rattle.uv_stands.proofs.Lists.{list_stays}
 use Rattle.uv_stands.proofs.Values.{bound_stands}
-use Rattle.uv_ops.proofs.Frames.{added_frame}
 use Rattle.uv_ops.proofs.Made.{make_done, taken_ids, at_end, with_asyncs, handle_stands}
 
 -- which kinds are listed as they are made, in the memory and in the state
@@ -42,8 +40,8 @@ async_as kind.Prepare = refl
 async_as kind.Check = refl
 async_as kind.Async = refl
 
-module _ (r : Record Place) (h w : Held Place) (recorded : Recorded r h w) (sound : IsSound w.image.arena) (v : Var) (k : Kind) (d : Id) (u : Added)
-    (is : r.change ≡ change.Added u) (c : IsMade (counted_of h.image) (counted_of w.image) v k d u) where
+module _ (h w : Held Place) (frame : OnlyHandles h.image w.image) (v : Var) (k : Kind) (d : Id)
+    (u : Added) (c : IsMade (counted_of h.image) (counted_of w.image) v k d u) where
   abbrev new : Content
   new = Handle (inited v k)
 
@@ -71,8 +69,7 @@ module _ (r : Record Place) (h w : Held Place) (recorded : Recorded r h w) (soun
         subst (λ (b : Bool). StandsFor mid (if b then record t { async = with_last t.async d } else t))
         (sym apart)
         (handle_stands h.image s stands a d new c.added.inserted.next plain s.async.list w.image.active (others false e)
-        (list_stays h.image s stands a s name.Async ids (ap (λ q. arena.members q name.Async) e ∙ c.added.inserted.lists name.Async) refl)
-        sound recorded.fit.counts)
+        (list_stays h.image s stands a s name.Async ids (ap (λ q. arena.members q name.Async) e ∙ c.added.inserted.lists name.Async) refl))
     listed_stands true joins e =
         let plain = slots true e in
         let t = with_asyncs h.image s stands a d new c.added.inserted.next plain s.async.list in
@@ -81,22 +78,21 @@ module _ (r : Record Place) (h w : Held Place) (recorded : Recorded r h w) (soun
         (sym joins)
         (handle_stands h.image s stands a d new c.added.inserted.next plain (s.async.list ++ d ∷ []) w.image.active (others true e)
         (at_end h.image s stands a d new c.added.inserted.next plain name.Async one
-        (e.lists ∙ ap (λ xs. xs ++ d.slot ∷ []) (c.added.inserted.lists name.Async)))
-        sound recorded.fit.counts)
+        (e.lists ∙ ap (λ xs. xs ++ d.slot ∷ []) (c.added.inserted.lists name.Async))))
 
     new_stands : StandsFor (record w.image { names = binding v.0 (Some d) w.image.names }) (with_new s v k d)
     new_stands =
         let t = listed_last (record s { arena = taken d new s.arena }) k d in
         bound_stands w.image t v d
-        (subst (λ q. StandsFor q t) (sym (added_frame r h w recorded u is)) (listed_stands u.listed (async_as k ∙ sym c.listed) c.joins))
+        (subst (λ q. StandsFor q t) (sym frame) (listed_stands u.listed (async_as k ∙ sym c.listed) c.joins))
 
   pub inits : ((s : State) → StandsFor h.image s → is_some (live s v) ≡ false)
       → (j : Image Place) → j ≡ record w.image { names = binding v.0 (Some d) w.image.names } → Performs (op.Init v k) h.image j (answer.Id d)
   inits free j same = make_done h.image v (λ s. with_new s v k) free j d c.added.inserted.next
       (λ s stands. subst (λ q. StandsFor q (with_new s v k d)) (sym same) (new_stands s stands))
 
-pub inits_by : (r : Record Place) (h w : Held Place) → Recorded r h w → IsSound w.image.arena → (v : Var) (k : Kind) (d : Id)
+pub inits_by : (r : Record Place) (h w : Held Place) → OnlyHandles h.image w.image → (v : Var) (k : Kind) (d : Id)
     → By change.Added (λ u. IsMade (counted_of h.image) (counted_of w.image) v k d u) r.change
     → ((s : State) → StandsFor h.image s → is_some (live s v) ≡ false)
     → (j : Image Place) → j ≡ record w.image { names = binding v.0 (Some d) w.image.names } → Performs (op.Init v k) h.image j (answer.Id d)
-inits_by r h w recorded sound v k d by = inits r h w recorded sound v k d by.undo by.is by.does
+inits_by r h w frame v k d by = inits h w frame v k d by.undo by.does

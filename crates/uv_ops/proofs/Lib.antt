@@ -1,4 +1,3 @@
-pub mod Frames
 pub mod Edited
 pub mod Valued
 pub mod Relisted

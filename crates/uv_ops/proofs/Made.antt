@@ -7,12 +7,9 @@ use Rattle.uv_ids.specs.declared.code.Code.TheVariants as code
 use Rattle.uv_ids.specs.declared.code.Answer.TheVariants as answer
 use Rattle.uv_records.specs.declared.lists.ListName.{ListName}
 use Rattle.uv_records.specs.declared.lists.ListName.TheVariants as name
-use Rattle.uv_records.specs.Slots as plain
 use Rattle.uv_records.specs.Slots.{next_free, taken}
-use Rattle.uv_records.specs.Count.{active_count}
 use Rattle.uv_arena.specs.Image as arena
-use Rattle.uv_arena.specs.Image.{IsSound, plain_slots}
-use Rattle.uv_handle.specs.Counted.{counted, IsCounted}
+use Rattle.uv_arena.specs.Image.{plain_slots}
 use Rattle.uv_heap.specs.declared.entry.Entry.{Entry}
 use Rattle.uv_requests.specs.Working.{id_in}
 use Rattle.uv_model.specs.declared.place.Place.{Place}
@@ -21,7 +18,6 @@ use Rattle.uv_model.specs.State.{State, live}
 use Rattle.uv_model.specs.Ops.{make, refuses}
 use Rattle.uv_model.specs.Queries.{members}
 use Rattle.uv_work.specs.declared.content.Content.{Content}
-use Rattle.uv_work.specs.Content.{handle_of}
 use Rattle.uv_step.specs.Image.{Image}
 use Rattle.uv_stands.specs.Doing.{Does}
 use Rattle.uv_stands.specs.Stands.{StandsFor, timer_in}
@@ -83,28 +79,15 @@ module _ (i : Image Place) (s : State) (h : StandsFor i s) (k : arena.Image Cont
     beside_asyncs l ne = refl
 
     pub handle_stands : (m : ℕ) → ((l : ListName) → l ≢ name.Async → arena.members k l ≡ arena.members i.arena l)
-        → Listed k with_asyncs name.Async → IsSound k → IsCounted handle_of (counted k m)
-        → StandsFor (record i { arena = k; active = m }) with_asyncs
-    handle_stands m others listed sound counts = record {
-      place = h.place;
-      names = h.names;
-      time = h.time;
-      clock = h.clock;
-      next_start = h.next_start;
-      stop_flag = h.stop_flag;
-      idled = h.idled;
+        → Listed k with_asyncs name.Async → StandsFor (record i { arena = k; active = m }) with_asyncs
+    handle_stands m others listed = record {
+      values = h.values;
       slots = taken_slots;
-      running = h.running;
       lists = all_but_one i s h k with_asyncs taken_ids name.Async others beside_asyncs listed;
-      sound = sound;
-      heap = h.heap;
-      places = h.places;
       timers = record {
         entries = h.timers.entries;
         ordered = h.timers.ordered;
         same = h.timers.same
             ∙ sym (map_same (timer_in k) (timer_in i.arena) (λ (e : Entry). ap (λ z. (e.due, z)) (taken_ids e.slot)) h.timers.entries);
       };
-      active = counts ∙ ap (λ (q : plain.Slots Content). active_count handle_of q.slots) taken_slots;
-      opened = h.opened;
     }

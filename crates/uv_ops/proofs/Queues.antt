@@ -7,10 +7,10 @@ use Rattle.uv_script.specs.declared.op.Op.TheVariants as op
 use Rattle.uv_work.specs.declared.task.Task.{Task}
 use Rattle.uv_records.specs.declared.lists.ListName.TheVariants as name
 use Rattle.uv_records.specs.Slots.{taken}
-use Rattle.uv_arena.specs.Image.{IsSound, plain_slots}
+use Rattle.uv_arena.specs.Image.{plain_slots}
 use Rattle.uv_work.specs.declared.request.Request.{Request}
 use Rattle.uv_requests.specs.declared.undo.QueueUndo.{QueueUndo}
-use Rattle.uv_requests.specs.Working.{id_in}
+use Rattle.uv_requests.specs.Working.{Working, id_in}
 use Rattle.uv_requests.specs.Calls.{IsQueued}
 use Rattle.uv_requests.proofs.Holding.{id_is, content_of}
 use Rattle.uv_model.specs.declared.place.Place.{Place}
@@ -23,33 +23,29 @@ use Rattle.uv_step.specs.Change as change
 use Rattle.uv_step.specs.Record.{Record}
 use Rattle.uv_work.specs.Content.{request_of}
 use Rattle.uv_step.specs.Does.{By}
-use Rattle.uv_step.specs.Fit.{IsFit}
-use Rattle.uv_step.specs.Image.{Image, Held, working_of}
+use Rattle.uv_step.specs.Image.{Image, Held, working_of, OnlyWork}
 use Rattle.uv_records.specs.Names.{binding}
-use Rattle.uv_step.specs.Undo.{Recorded}
 use Rattle.uv_stands.specs.Doing.{Performs}
 use Rattle.uv_stands.specs.Stands.{StandsFor}
-use Rattle.uv_stands.proofs.Pools.{change_back, frame_of, list_same, pool_stands}
+use Rattle.uv_stands.proofs.Pools.{list_same, pool_stands}
 use Rattle.uv_stands.proofs.Values.{bound_stands}
 use Rattle.uv_ops.proofs.Made.{make_done, taken_ids, taken_slots, at_end}
+use Rattle.uv_stands.proofs.Single.{running_is}
 
-module _ (r : Record Place) (h w : Held Place) (recorded : Recorded r h w) (sound : IsSound w.image.arena) (v : Var) (task : Task) (d : Id)
+module _ (r : Record Place) (h w : Held Place) (frame : OnlyWork h.image w.image) (v : Var) (task : Task) (d : Id)
     (q : Request) (is : q ≡ queued v task) where
   abbrev new : Content
   new = Asked (queued v task)
 
-  module _ (u : QueueUndo) (by : r.change ≡ change.Queued u) (c : IsQueued request_of Asked (working_of h.image) (working_of w.image) q d u) where
+  module _ (u : QueueUndo) (c : IsQueued request_of Asked (working_of h.image) (working_of w.image) q d u) where
     slots : plain_slots w.image.arena ≡ taken d new (plain_slots h.image.arena)
     slots = c.plain ∙ ap (λ (z : Request). taken d (Asked z) (plain_slots h.image.arena)) is
 
     one : id_in w.image.arena d.slot ≡ d
     one = let x = content_of request_of w.image.arena d q c.request in id_is w.image.arena d x.0 x.1
 
-    frame : w.image ≡ record h.image { arena = w.image.arena; running = w.image.running }
-    frame = frame_of h.image w.image r.place _ _ (change_back r (change.Queued u) h w recorded by) recorded.place
-
     workers : w.image.running.workers ≡ h.image.running.workers
-    workers = ap (λ (z : Image Place). z.running.workers) (change_back r (change.Queued u) h w recorded by)
+    workers = ap (λ (z : Working Content). z.running.workers) c.undone
 
     queued_stands : (s : State) → StandsFor h.image s
         → StandsFor (record w.image { names = binding v.0 (Some d) w.image.names }) (with_queued s v task d)
@@ -65,7 +61,7 @@ module _ (r : Record Place) (h w : Held Place) (recorded : Recorded r h w) (soun
         (list_same i k ids name.Done s.done.list (stands.lists name.Done) (c.others name.Done (λ e. cc)))
         (list_same i k ids name.DoneYet s.done.yet (stands.lists name.DoneYet) (c.others name.DoneYet (λ e. cc)))
         (taken_slots i s stands k d new c.next slots)
-        (workers ∙ stands.running) sound (subst (λ z. IsFit z) frame recorded.fit) in
+        (workers ∙ (running_is stands)) in
         bound_stands w.image t v d (subst (λ z. StandsFor z t) (sym frame) mid)
 
     queues_with : ((s : State) → StandsFor h.image s → is_some (live s v) ≡ false) → (j : Image Place)
@@ -76,4 +72,4 @@ module _ (r : Record Place) (h w : Held Place) (recorded : Recorded r h w) (soun
   pub queues : By change.Queued (λ u. IsQueued request_of Asked (working_of h.image) (working_of w.image) q d u) r.change
       → ((s : State) → StandsFor h.image s → is_some (live s v) ≡ false) → (j : Image Place)
       → j ≡ record w.image { names = binding v.0 (Some d) w.image.names } → Performs (op.Queue v task) h.image j (answer.Id d)
-  queues by = queues_with by.undo by.is by.does
+  queues by = queues_with by.undo by.does

@@ -5,10 +5,9 @@ use Rattle.uv_records.specs.declared.handle.HandleRecord.{HandleRecord}
 use Rattle.uv_records.specs.declared.lists.ListName.{ListName}
 use Rattle.uv_records.specs.Slots as plain
 use Rattle.uv_records.specs.Walks.{Walk}
-use Rattle.uv_records.specs.Count.{active_count}
 use Rattle.uv_arena.specs.Image as arena
-use Rattle.uv_arena.specs.Image.{IsSound, plain_slots}
-use Rattle.uv_handle.specs.Counted.{counted, record_at, IsCounted}
+use Rattle.uv_arena.specs.Image.{plain_slots}
+use Rattle.uv_handle.specs.Counted.{record_at}
 use Rattle.uv_handle.proofs.Counts as handles
 use Rattle.uv_heap.specs.declared.entry.Entry.{Entry}
 use Rattle.uv_requests.specs.Working.{id_in}
@@ -40,28 +39,15 @@ module _ (i : Image Place) (s : State) (h : StandsFor i s) (k : arena.Image Cont
     abbrev pub relisted : State
     relisted = record (with_handle s d to) { ready = ready; idle = idle; prepare = prepare; check = check; async = async; closing = closing }
 
-    pub relisted_stands : ((l : ListName) → Listed k relisted l) → IsSound k → IsCounted handle_of (counted k m)
-        → StandsFor (record i { arena = k; active = m }) relisted
-    relisted_stands lists sound counts = record {
-      place = h.place;
-      names = h.names;
-      time = h.time;
-      clock = h.clock;
-      next_start = h.next_start;
-      stop_flag = h.stop_flag;
-      idled = h.idled;
+    pub relisted_stands : ((l : ListName) → Listed k relisted l) → StandsFor (record i { arena = k; active = m }) relisted
+    relisted_stands lists = record {
+      values = h.values;
       slots = slots;
-      running = h.running;
       lists = lists;
-      sound = sound;
-      heap = h.heap;
-      places = h.places;
       timers = record {
         entries = h.timers.entries;
         ordered = h.timers.ordered;
         same = h.timers.same
             ∙ sym (map_same (timer_in k) (timer_in i.arena) (λ (e : Entry). ap (λ z. (e.due, z)) (same_ids e.slot)) h.timers.entries);
       };
-      active = counts ∙ ap (λ (q : plain.Slots Content). active_count handle_of q.slots) slots;
-      opened = h.opened;
     }

@@ -14,7 +14,6 @@ use Rattle.uv_records.specs.Handles.{activated}
 use Rattle.uv_records.specs.Lists.{list_of, watcher_kind}
 use Rattle.uv_records.specs.Walks.{with_first}
 use Rattle.uv_arena.specs.Image as arena
-use Rattle.uv_arena.specs.Image.{IsSound}
 use Rattle.uv_handle.specs.declared.undo.ListUndo.{ListUndo}
 use Rattle.uv_handle.specs.Counted.{counted}
 use Rattle.uv_handle.specs.Changes.{IsEnlisted}
@@ -33,20 +32,18 @@ use Rattle.uv_step.specs.Change as change
 use Rattle.uv_step.specs.Record.{Record}
 use Rattle.uv_work.specs.Content.{handle_of}
 use Rattle.uv_step.specs.Does.{By}
-use Rattle.uv_step.specs.Image.{Image, Held, counted_of}
-use Rattle.uv_step.specs.Undo.{Recorded}
+use Rattle.uv_step.specs.Image.{Image, Held, counted_of, OnlyHandles}
 use Rattle.uv_stands.specs.declared.ask.Ask.TheVariants as ask
 use Rattle.uv_stands.specs.Asking.{Allows}
 use Rattle.uv_stands.specs.Doing.{Performs}
 use Rattle.uv_stands.specs.Stands.{StandsFor}
 use Rattle.uv_stands.proofs.Holding.{map_same}
 use Rattle.uv_stands.proofs.Lists.{Listed, all_but_one}
-use Rattle.uv_ops.proofs.Frames.{enlisted_frame}
 use Rattle.uv_ops.proofs.Relisted.{same_ids, relisted_stands}
 
 -- ---- the watcher was inactive
 
-module _ (i : Image Place) (s : State) (h : StandsFor i s) (k : arena.Image Content) (m : ℕ) (d : Id) (from : HandleRecord) (sound : IsSound k) where
+module _ (i : Image Place) (s : State) (h : StandsFor i s) (k : arena.Image Content) (m : ℕ) (d : Id) (from : HandleRecord) where
   module _ (l : ListName) (u : ListUndo) (c : IsEnlisted handle_of Handle (counted_of i) (counted k m) d from (activated from) l u) where
     ids : (x : ℕ) → id_in k x ≡ id_in i.arena x
     ids = same_ids i s h k m d from (activated from) c.there c.plain
@@ -77,24 +74,24 @@ module _ (i : Image Place) (s : State) (h : StandsFor i s) (k : arena.Image Cont
       → StandsFor (record i { arena = k; active = m }) (watcher_started s kind d from)
   started_stands watcher.Idle u c =
       relisted_stands i s h k m d from (activated from) c.there c.plain s.ready (with_first s.idle d) s.prepare s.check s.async s.closing
-      (relisted name.Idle u c (watcher_started s watcher.Idle d from) (started_others watcher.Idle) refl) sound c.counts
+      (relisted name.Idle u c (watcher_started s watcher.Idle d from) (started_others watcher.Idle) refl)
   started_stands watcher.Prepare u c =
       relisted_stands i s h k m d from (activated from) c.there c.plain s.ready s.idle (with_first s.prepare d) s.check s.async s.closing
-      (relisted name.Prepare u c (watcher_started s watcher.Prepare d from) (started_others watcher.Prepare) refl) sound c.counts
+      (relisted name.Prepare u c (watcher_started s watcher.Prepare d from) (started_others watcher.Prepare) refl)
   started_stands watcher.Check u c =
       relisted_stands i s h k m d from (activated from) c.there c.plain s.ready s.idle s.prepare (with_first s.check d) s.async s.closing
-      (relisted name.Check u c (watcher_started s watcher.Check d from) (started_others watcher.Check) refl) sound c.counts
+      (relisted name.Check u c (watcher_started s watcher.Check d from) (started_others watcher.Check) refl)
   started_stands watcher.Async u c =
       relisted_stands i s h k m d from (activated from) c.there c.plain s.ready s.idle s.prepare s.check (with_first s.async d) s.closing
-      (relisted name.Async u c (watcher_started s watcher.Async d from) (started_others watcher.Async) refl) sound c.counts
+      (relisted name.Async u c (watcher_started s watcher.Async d from) (started_others watcher.Async) refl)
 
 -- ---- what the op does
 
-pub starts : (r : Record Place) (h w : Held Place) → Recorded r h w → IsSound w.image.arena → (v : Var) (d : Id) (from : HandleRecord)
+pub starts : (r : Record Place) (h w : Held Place) → OnlyHandles h.image w.image → (v : Var) (d : Id) (from : HandleRecord)
     → Allows h.image v ask.StartWatcher d from
     → By change.Enlisted (λ u. IsStarted handle_of Handle (counted_of h.image) (counted_of w.image) d u) r.change
     → Performs (op.StartWatcher v) h.image w.image (answer.Code code.Ok)
-starts r h w recorded sound v d from allows by s stands reached =
+starts r h w frame v d from allows by s stands reached =
     let a = by.does in
     let one : a.from ≡ from = cc (a.enlisted.there, allows.found) in (
       watcher_started s a.kind d a.from,
@@ -102,6 +99,6 @@ starts r h w recorded sound v d from allows by s stands reached =
           ∙ ap (start_watcher s d) (sym one)
           ∙ ap (λ b. succeeds (if b then s else found_or (watcher_kind a.from.kind) (λ kind. watcher_started s kind d a.from) s)) a.inactive
           ∙ ap (λ o. succeeds (found_or o (λ kind. watcher_started s kind d a.from) s)) a.is_kind,
-      subst (λ q. StandsFor q (watcher_started s a.kind d a.from)) (sym (enlisted_frame r h w recorded by.undo by.is))
-          (started_stands h.image s stands w.image.arena w.image.active d a.from sound a.kind by.undo a.enlisted),
+      subst (λ q. StandsFor q (watcher_started s a.kind d a.from)) (sym frame)
+          (started_stands h.image s stands w.image.arena w.image.active d a.from a.kind by.undo a.enlisted),
     )

@@ -13,7 +13,6 @@ use Rattle.uv_records.specs.Handles as records
 use Rattle.uv_records.specs.Handles.{is_timer}
 use Rattle.uv_records.specs.Walks.{without}
 use Rattle.uv_arena.specs.Image as arena
-use Rattle.uv_arena.specs.Image.{IsSound}
 use Rattle.uv_handle.specs.declared.undo.DelistUndo.{DelistUndo}
 use Rattle.uv_handle.specs.Counted.{counted, record_at}
 use Rattle.uv_watch.specs.Watch.{IsStopped}
@@ -33,14 +32,12 @@ use Rattle.uv_step.specs.Record.{Record}
 use Rattle.uv_work.specs.Content.{handle_of}
 use Rattle.uv_step.specs.Does.{By}
 use Rattle.uv_step.specs.Fit.{IsFit}
-use Rattle.uv_step.specs.Image.{Image, Held, counted_of}
-use Rattle.uv_step.specs.Undo.{Recorded}
+use Rattle.uv_step.specs.Image.{Image, Held, counted_of, OnlyHandles}
 use Rattle.uv_stands.specs.Doing.{Does}
 use Rattle.uv_stands.specs.Stands.{StandsFor}
 use Rattle.uv_stands.proofs.Holding.{map_same}
 use Rattle.uv_stands.proofs.Absent.{IsOn, has_first, has_second, own_id, holds_it, has_it, ready_stays, not_waiting, not_done, not_done_yet, not_closing, not_closing_yet}
 use Rattle.uv_stands.proofs.Without.{without_ids}
-use Rattle.uv_ops.proofs.Frames.{delisted_frame}
 use Rattle.uv_stands.proofs.Lists.{Listed}
 use Rattle.uv_ops.proofs.Relisted.{IsList, same_ids, relisted_stands}
 use Rattle.uv_ops.proofs.Leaving.{gone, kept}
@@ -113,9 +110,9 @@ module _ (i : Image Place) (s : State) (h : StandsFor i s) (d : Id) (from : Hand
     listed name.Done = stays name.Done (λ e. not_done i d from there fit)
     listed name.DoneYet = stays name.DoneYet (λ e. not_done_yet i d from there fit)
 
-    pub stopped_stands : IsSound k → StandsFor (record i { arena = k; active = m }) state_after
-    stopped_stands sound = relisted_stands i s h k m d from (records.stopped from) c.there c.plain (without_id s.ready d) (walk_without_id s.idle d)
-        (walk_without_id s.prepare d) (walk_without_id s.check d) (walk_without_id s.async d) s.closing listed sound c.counts
+    pub stopped_stands : StandsFor (record i { arena = k; active = m }) state_after
+    stopped_stands = relisted_stands i s h k m d from (records.stopped from) c.there c.plain (without_id s.ready d) (walk_without_id s.idle d)
+        (walk_without_id s.prepare d) (walk_without_id s.check d) (walk_without_id s.async d) s.closing listed
 
     -- it is no timer
     pub stop_is : is_timer from.kind ≡ false → stop s d from ≡ record { state = state_after; answer = answer.Code code.Ok }
@@ -124,14 +121,14 @@ module _ (i : Image Place) (s : State) (h : StandsFor i s) (d : Id) (from : Hand
 
 -- ---- what the call does
 
-pub stops : (r : Record Place) (h w : Held Place) → Recorded r h w → IsSound w.image.arena → IsFit h.image → (d : Id) (from : HandleRecord)
+pub stops : (r : Record Place) (h w : Held Place) → OnlyHandles h.image w.image → IsFit h.image → (d : Id) (from : HandleRecord)
     → is_timer from.kind ≡ false → By change.Delisted (λ u. IsStopped handle_of Handle (counted_of h.image) (counted_of w.image) d from u) r.change
     → Does (λ s. stop s d from) h.image w.image (answer.Code code.Ok)
-stops r h w recorded sound fit d from no_timer by s stands reached =
+stops r h w frame fit d from no_timer by s stands reached =
     let c = by.does in
     let t = state_after h.image s stands d from c.there reached fit w.image.arena w.image.active by.undo c in (
       t,
       stop_is h.image s stands d from c.there reached fit w.image.arena w.image.active by.undo c no_timer,
-      subst (λ q. StandsFor q t) (sym (delisted_frame r h w recorded by.undo by.is))
-          (stopped_stands h.image s stands d from c.there reached fit w.image.arena w.image.active by.undo c sound),
+      subst (λ q. StandsFor q t) (sym frame)
+          (stopped_stands h.image s stands d from c.there reached fit w.image.arena w.image.active by.undo c),
     )

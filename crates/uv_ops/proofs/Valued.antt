@@ -18,11 +18,11 @@ module _ (i j : Image Place) where
         refl,
         subst (λ q. StandsFor q t)
             (sym (is ∙ (λ l. record i {
-              place = h.place l;
-              times = record { time = h.time l; next_start = h.next_start l };
-              clock = h.clock l;
+              place = (h.values l).place;
+              times = record { time = (h.values l).time; next_start = (h.values l).next_start };
+              clock = (h.values l).clock;
               stop_flag = true;
-              idled = h.idled l;
+              idled = (h.values l).idled;
             })))
             (valued i s s.place s.time s.clock s.next_start true s.idled h),
       )
@@ -33,11 +33,11 @@ module _ (i j : Image Place) where
     refl,
     subst (λ q. StandsFor q (refreshed s))
         (sym (is ∙ (λ l. record i {
-          place = h.place l;
-          times = record { time = h.clock l; next_start = h.next_start l };
-          clock = h.clock l;
-          stop_flag = h.stop_flag l;
-          idled = h.idled l;
+          place = (h.values l).place;
+          times = record { time = (h.values l).clock; next_start = (h.values l).next_start };
+          clock = (h.values l).clock;
+          stop_flag = (h.values l).stop_flag;
+          idled = (h.values l).idled;
         })))
         (valued i s s.place s.clock s.clock s.next_start s.stop_flag s.idled h),
   )

@@ -26,10 +26,7 @@ pub fn cancel(memory: &mut Memory<Place>, name: Var) -> Answer
                 memory.pass();
                 Answer::Code(code)
             }
-            Ok(()) => {
-                memory.is_sound();
-                Answer::Cancelled(id)
-            }
+            Ok(()) => Answer::Cancelled(id),
         },
     }
 }

@@ -24,7 +24,6 @@ pub(crate) fn edit(memory: &mut Memory<Place>, id: Id, from: HandleRecord, to: H
     ensures stands { (s : State) → StandsFor (held memory.old).image s → StandsFor (held memory.new).image (with_handle s id to) }
 {
     memory.edit(id, from, to);
-    memory.is_sound();
 }
 
 /// References a handle, or not (uv_ref, uv_unref).

@@ -29,7 +29,6 @@ pub(crate) fn init(memory: &mut Memory<Place>, name: Var, kind: Kind) -> Result<
         Err(InsertFault::Memory) => Err(AllocError),
         Err(InsertFault::Full) => Ok(Answer::Code(Code::Efull)),
         Ok(id) => {
-            memory.is_sound();
             bind_name(memory, name, id);
             Ok(Answer::Id(id))
         }
@@ -50,7 +49,6 @@ pub(crate) fn queue(memory: &mut Memory<Place>, name: Var, task: Task) -> Result
         Err(InsertFault::Memory) => Err(AllocError),
         Err(InsertFault::Full) => Ok(Answer::Code(Code::Efull)),
         Ok(id) => {
-            memory.is_sound();
             bind_name(memory, name, id);
             Ok(Answer::Id(id))
         }

@@ -29,7 +29,6 @@ pub(crate) fn start_watcher(memory: &mut Memory<Place>, name: Var) -> Result<Ans
         return Ok(Answer::Code(Code::Ok));
     }
     memory.start_watcher(id, handle);
-    memory.is_sound();
     Ok(Answer::Code(Code::Ok))
 }
 
@@ -43,5 +42,4 @@ pub(crate) fn stop_watcher(memory: &mut Memory<Place>, id: Id, handle: HandleRec
 {
     memory.is_fit();
     memory.stop_watcher(id, handle);
-    memory.is_sound();
 }

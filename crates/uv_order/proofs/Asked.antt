@@ -1,15 +1,13 @@
 -- Requests as steps find them: the front of a list, what a worker may take, and what one may finish.
-use Rattle.std.proofs.Common.{◌≡◌, ℕ, ◌+◌, ◌==◌, List, [], ◌∷◌, Option, Some, None, Ok, Err, drop, slice_get, slice_set, refl, ap, subst, ◌∙◌}
+use Rattle.std.proofs.Common.{arith, ◌≡◌, ℕ, ◌+◌, ◌==◌, List, [], ◌∷◌, Some, None, Ok, drop, slice_get, slice_set}
 use Rattle.std.proofs.lemmas.Bool.{cond_both}
 use Rattle.uv_ids.specs.declared.id.Id.{Id}
-use Rattle.uv_ids.specs.declared.fault.Why.TheVariants.{IdleWorker, NoWork}
 use Rattle.uv_records.specs.declared.slot.Slot.{Slot}
 use Rattle.uv_records.specs.Slots.{Slots, held, freed}
 use Rattle.uv_work.specs.declared.content.Content.{Content}
 use Rattle.uv_work.specs.declared.content.Content.TheVariants as content
 use Rattle.uv_work.specs.declared.request.Request.{Request}
-use Rattle.uv_model.specs.Found.{found_or}
-use Rattle.uv_model.specs.State.{State, request, with_id, front_request}
+use Rattle.uv_model.specs.State.{State, front_request}
 use Rattle.uv_model.specs.Next.{next_work, work_of}
 use Rattle.uv_order.proofs.Contents.{Turns, slot_with, emptied_turns, holds, set_turns, as_request}
 use Rattle.uv_order.proofs.OpCases.{with_id_is}
@@ -37,14 +35,7 @@ pub record FrontRequest (s : State) (ids : List Id) (t : Id × Request) : Type 0
 
 pub request_front : (s : State) (ids : List Id) (t : Id × Request) → front_request s ids ≡ Some t → FrontRequest s ids t
 request_front s [] t e = cc e
-request_front s (id ∷ ids) t e =
-    let is = with_id_is id (request s id) t e in
-    record {
-      rest = ids;
-      are = ap (λ (i : Id). i ∷ ids) is.0;
-      behind = refl;
-      holds = subst (λ (i : Id). held s.arena.slots i ≡ Some (content.Request t.1)) is.0 (as_request (held s.arena.slots id) t.1 is.1);
-    }
+request_front s (id ∷ ids) t e = grind (arith, holds, as_request, with_id_is)
 
 -- what a worker may take
 pub record TakesFront (s : State) (n : ℕ) (t : Id × Request) : Type 0 where
@@ -52,16 +43,7 @@ pub record TakesFront (s : State) (n : ℕ) (t : Id × Request) : Type 0 where
   pub front : FrontRequest s s.waiting t
 
 pub takes_front : (s : State) (n : ℕ) (t : Id × Request) → next_work s (slice_get s.running n) ≡ Ok t → TakesFront s n t
-takes_front s n t e = at (slice_get s.running n) refl e where
-  found : (o : Option (Id × Request)) → front_request s s.waiting ≡ o → slice_get s.running n ≡ Some None → found_or o Ok (Err NoWork) ≡ Ok t →
-      TakesFront s n t
-  found None f g h = cc h
-  found (Some u) f g h = let is : u ≡ t = cc h in record { idle = g; front = request_front s s.waiting t (f ∙ ap Some is) }
-
-  at : (o : Option (Option Id)) → slice_get s.running n ≡ o → next_work s o ≡ Ok t → TakesFront s n t
-  at None f g = cc g
-  at (Some (Some id)) f g = cc g
-  at (Some None) f g = found (front_request s s.waiting) refl f g
+takes_front s n t e = grind (arith, request_front)
 
 -- what a worker may finish
 pub record RunsWork (s : State) (n : ℕ) (t : Id × Request) : Type 0 where
@@ -69,15 +51,4 @@ pub record RunsWork (s : State) (n : ℕ) (t : Id × Request) : Type 0 where
   pub holds : held s.arena.slots t.0 ≡ Some (content.Request t.1)
 
 pub runs_work : (s : State) (n : ℕ) (t : Id × Request) → work_of s (slice_get s.running n) ≡ Ok t → RunsWork s n t
-runs_work s n t e = at (slice_get s.running n) refl e where
-  found : (id : Id) (o : Option Request) → request s id ≡ o → slice_get s.running n ≡ Some (Some id) →
-      found_or (with_id id o) Ok (Err IdleWorker) ≡ Ok t → RunsWork s n t
-  found id None f g h = cc h
-  found id (Some r) f g h =
-      let is : (id, r) ≡ t = cc h in
-      subst (RunsWork s n) is (record { busy = g; holds = as_request (held s.arena.slots id) r f })
-
-  at : (o : Option (Option Id)) → slice_get s.running n ≡ o → work_of s o ≡ Ok t → RunsWork s n t
-  at None f g = cc g
-  at (Some None) f g = cc g
-  at (Some (Some id)) f g = found id (request s id) refl f g
+runs_work s n t e = grind (arith, holds, as_request)

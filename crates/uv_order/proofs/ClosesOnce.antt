@@ -1,5 +1,5 @@
 -- Each handle closes once: every op and every step of the loop appends a line that may follow those before it.
-use Rattle.std.proofs.Common.{◌≡◌, ◌⊎◌, inl, inr, ℕ, zero, suc, ◌+◌, ◌==◌, ◌||◌, List, [], ◌∷◌, ◌++◌, Bool, true, false, drop, Option, Some, None, Result, Ok, Err, length, map, slice_get, slice_set, unwrap_or, option_map, replicate, nat_le, nat_lt, refl, ap, sym, subst, ◌∙◌, arith}
+use Rattle.std.proofs.Common.{◌≡◌, ◌⊎◌, inl, inr, ℕ, zero, suc, ◌+◌, ◌==◌, ◌||◌, List, [], ◌∷◌, ◌++◌, Bool, true, false, drop, Option, Some, None, Ok, length, slice_get, slice_set, unwrap_or, replicate, refl, ap, sym, subst, ◌∙◌, arith}
 use Rattle.std.proofs.lemmas.Bool.{cond_both, both_ways, eqb-true, or_right, false_from_ne_true}
 use Rattle.std.proofs.lemmas.Option.{same_Some, none-some}
 use Rattle.uv_ids.specs.declared.id.Id.{Id}
@@ -7,24 +7,16 @@ use Rattle.uv_ids.specs.declared.id.Var.{Var}
 use Rattle.uv_ids.specs.declared.code.Code.{Code}
 use Rattle.uv_ids.specs.declared.code.Code.TheVariants as code
 use Rattle.uv_ids.specs.declared.code.Answer.TheVariants as answer
-use Rattle.uv_ids.specs.declared.fault.Why.{Why}
-use Rattle.uv_ids.specs.declared.event.Event.{Event}
-use Rattle.uv_ids.specs.declared.event.Event.TheVariants.{Loop, Take, Finish, Cancel, Send, Tick}
 use Rattle.uv_ids.specs.declared.phase.Kind.{Kind}
-use Rattle.uv_ids.specs.declared.phase.Kind.TheVariants as kind
 use Rattle.uv_ids.specs.declared.phase.Phase.{Phase}
 use Rattle.uv_ids.specs.declared.phase.Phase.TheVariants as phase
 use Rattle.uv_ids.specs.declared.seen.Callback.TheVariants as callback
 use Rattle.uv_ids.specs.declared.seen.Seen.{Seen}
 use Rattle.uv_ids.specs.declared.seen.Seen.TheVariants as seen
 use Rattle.uv_ids.specs.declared.seen.Site.{Site}
-use Rattle.uv_ids.specs.declared.seen.Site.TheVariants as site
-use Rattle.uv_script.specs.declared.op.CallbackLine.{CallbackLine}
-use Rattle.uv_script.specs.declared.op.MainOp.{MainOp}
-use Rattle.uv_script.specs.declared.op.MainOp.TheVariants as main
 use Rattle.uv_script.specs.declared.op.Op.{Op}
 use Rattle.uv_script.specs.declared.op.Op.TheVariants as op
-use Rattle.uv_script.specs.Program.{Program, op_at, arena_size, worker_count, lines_in, main_op, order_of}
+use Rattle.uv_script.specs.Program.{Program, op_at, arena_size, worker_count}
 use Rattle.uv_records.specs.declared.handle.HandleRecord.{HandleRecord}
 use Rattle.uv_records.specs.declared.lists.WatcherKind.{WatcherKind}
 use Rattle.uv_records.specs.declared.lists.WatcherKind.TheVariants as watcher
@@ -40,49 +32,30 @@ use Rattle.uv_model.specs.Content.{request_in}
 use Rattle.uv_work.specs.Tasks.{text_of}
 use Rattle.uv_work.specs.Digests.{digest_of}
 use Rattle.uv_work.specs.declared.outcome.Outcome.TheVariants.{Finished}
-use Rattle.uv_model.specs.declared.place.Body.{Body}
 use Rattle.uv_model.specs.declared.place.Run.{Run}
 use Rattle.uv_model.specs.declared.place.Stage.{Stage}
-use Rattle.uv_model.specs.declared.place.Stage.TheVariants.{Entry, Pending, Idle, Prepare, Poll, Done, Async, Check, Closing, Timers}
-use Rattle.uv_model.specs.declared.place.TimersOf.{TimersOf}
-use Rattle.uv_model.specs.declared.place.Turn.{Turn}
-use Rattle.uv_model.specs.declared.place.Turn.TheVariants.{AtEntry, Behind, BehindClosing}
-use Rattle.uv_model.specs.declared.place.Way.{Way}
-use Rattle.uv_model.specs.declared.place.Way.TheVariants.{ToTimers, ToPending, ToEnd}
-use Rattle.uv_model.specs.declared.place.Timing.{Timing}
-use Rattle.uv_model.specs.declared.place.Timing.TheVariants.{Collecting, Firing}
-use Rattle.uv_model.specs.declared.place.Place.{Place}
-use Rattle.uv_model.specs.declared.place.Place.TheVariants.{Main, Running}
+use Rattle.uv_model.specs.declared.place.Stage.TheVariants.{Idle, Prepare, Done, Async, Check, Closing}
 use Rattle.uv_records.specs.Walks.{Walk, all_yet}
 use Rattle.uv_model.specs.Ids.{same_id}
 use Rattle.uv_order.specs.Active.{has_id, AreDistinct, run_ids}
-use Rattle.uv_model.specs.Timeout.{is_alive, poll_timeout}
-use Rattle.uv_model.specs.State.{State, fresh, handle, live_handle, live_request, with_handle, with_request, front, front_request, watched, with_watched, refreshed}
+use Rattle.uv_model.specs.State.{State, fresh, handle, live_handle, live_request, with_handle, with_request, watched, with_watched, refreshed}
 use Rattle.uv_records.specs.Names.{unbound}
 use Rattle.uv_model.specs.Timers.{started, restarted}
 use Rattle.uv_model.specs.Ops as ops
 use Rattle.uv_model.specs.Ops.{do_op}
 use Rattle.uv_model.specs.Next as step
 use Rattle.uv_model.specs.Next.{Next, Moves, Refuses, next, call, calls, first_due, collected, front_moved, goes, is_default, may_leave, next_work, work_of}
-use Rattle.uv_model.specs.After.{state_of, lines}
-use Rattle.uv_model.proofs.Found.{found_both}
-use Rattle.uv_order.specs.Line.{Line}
-use Rattle.uv_order.specs.History.{line_of_step, history_from, history}
-use Rattle.uv_order.specs.Documented.{Told, nothing_told, told_by, Position, Between}
-use Rattle.uv_order.specs.Once.{SaysTrue, CancelSays, OpSays, MayFollow, OnceFrom, Once}
-use Rattle.uv_order.proofs.OpCases.{names_at, IsRefusal, cancel_both}
+use Rattle.uv_order.specs.Once.{SaysTrue, CancelSays, OpSays, MayFollow}
+use Rattle.uv_order.proofs.OpCases.{kind_as, IsRefusal, cancel_both}
 use Rattle.uv_order.proofs.IdLists.{Each, each_back, same, itself, turned, has_new_middle, distinct_back}
 use Rattle.uv_order.proofs.Holding.{names_turned, same_handles, is_held, put_same, Fits, its_handle, Everyone}
-use Rattle.uv_order.proofs.Asked.{request_turns, freed_turns, FrontRequest, request_front, TakesFront, takes_front, RunsWork, runs_work}
+use Rattle.uv_order.proofs.Asked.{request_turns, freed_turns, FrontRequest, TakesFront, RunsWork}
 use Rattle.uv_order.proofs.Works.{AllAsk, IsOpen, has_middle, once_middle, Takes, takes, LetsGo, lets_go, none_run}
-use Rattle.uv_order.proofs.Working.{Working, StaysWorking, next_working, fresh_working}
+use Rattle.uv_order.proofs.Working.{Working}
 use Rattle.uv_order.proofs.Keeping.{has_number, Watches, Closes, Rests, Kept, members, not_free}
-use Rattle.uv_order.proofs.KeptSteps.{FrontOf, front_of, first_of, opened, next_kept, fresh_kept, StaysKept}
-use Rattle.uv_order.proofs.Histories.{lines-history}
-use Rattle.uv_order.proofs.Sends.{SentAt, SentFollows, next_sent, sent_fresh}
-use Rattle.uv_order.proofs.Standing as order
-use Rattle.uv_order.proofs.Standing.{Stands}
-use Rattle.uv_order.proofs.Follows.{follows, rested_at, calm_at, stands_fresh}
+use Rattle.uv_order.proofs.Did as row
+use Rattle.uv_order.proofs.Did.{Did, did, FrontOf, IsStill, timed}
+use Rattle.uv_order.proofs.KeptSteps.{everyone, opened}
 use Rattle.uv_order.proofs.Gone.{IsGone, gone_turned, gone_emptied, gone_now}
 use Rattle.uv_order.proofs.Worked.{Worked, IsIdle, worked_ended, worked_taken, worked_finished, worked_collected, not_called, says_true}
 use Rattle.uv_order.proofs.Known.{id_in, counted_ids, Known, not_closed, not_over, known_names, IsQuiet, known_told, known_quiet, known_gone}
@@ -101,31 +74,21 @@ plain : (p : Program) (past : List Seen) (l : Seen) (t : State) → MayFollow p 
     Follows p past (Moves t (Some l))
 plain p past l t may q k = (may, known_quiet p past l t.arena t.names q.0 q.1 k)
 
-section_line : (p : Program) (word : Phase) → IsQuiet p (seen.Section word) × IsIdle p (seen.Section word)
-section_line p word = (
-  record { binding = λ v b. refl; made = λ i. refl; closing = refl; closed = λ id. refl },
-  record { queued = λ id. refl; taken = λ id. refl; finished = λ id. refl; over = λ id. refl; cancelled = λ id. refl },
-)
+still_line : (p : Program) (l : Seen) → IsStill (Some l) → IsQuiet p l × IsIdle p l
+still_line p l (row.section word) = grind arith
+still_line p l each = grind arith
+
+still_may : (p : Program) (past : List Seen) (l : Seen) → IsStill (Some l) → MayFollow p past l
+still_may p past l (row.section word) = tt
+still_may p past l each = tt
+
+still_known : (p : Program) (past : List Seen) (t : State) (l : Option Seen) → IsStill l → KnownAt p past t → Follows p past (Moves t l)
+still_known p past t None row.unseen k = k
+still_known p past t (Some l) q k = plain p past l t (still_may p past l q) (still_line p l q) k
 
 begins_known : (p : Program) (past : List Seen) (s : State) (run : Run) (x : Stage) (word : Phase) → KnownAt p past s →
     Follows p past (step.begins s run x word)
-begins_known p past s run x word k = plain p past (seen.Section word) (step.at s run x) tt (section_line p word) k
-
-ends_known : (p : Program) (past : List Seen) (s : State) (run : Run) → KnownAt p past s → Follows p past (step.ends s run)
-ends_known p past s run k = (
-  tt,
-  known_quiet p past (seen.End (is_alive s)) s.arena s.names (record { binding = λ v b. refl; made = λ i. refl; closing = refl; closed = λ id. refl })
-      (record { queued = λ i. refl; taken = λ i. refl; finished = λ i. refl; over = λ i. refl; cancelled = λ i. refl }) k,
-)
-
-turn_known : (p : Program) (past : List Seen) (s : State) (run : Run) (turn : Turn) → KnownAt p past s →
-    Follows p past (step.turns (order_of p) s run turn)
-turn_known p past s run turn k = by (step.way (order_of p) run.mode (goes s) turn) where
-  by : (w : Way) → Follows p past (step.goes_by (order_of p) s run w)
-  by (ToTimers part) = begins_known p past (record s { time = step.time_at (order_of p) part s; idled = step.idled_at (order_of p) part s }) run
-      (Timers part Collecting) phase.Timers k
-  by ToPending = begins_known p past (record s { idled = step.idled_then (order_of p) s }) run Pending phase.Pending k
-  by ToEnd = ends_known p past s run k
+begins_known p past s run x word k = still_known p past (step.at s run x) (Some (seen.Section word)) (row.section word) k
 
 -- a callback counts one call more of its name
 called_known : (p : Program) (past : List Seen) (s : State) (v : Var) (x : Named) → x.id ≡ id_in s.names v → KnownAt p past s →
@@ -143,28 +106,16 @@ call_known p past s run id v h e stays k = (
 )
 
 -- the front of the ready list is called
-fire_known : (p : Program) (past : List Seen) (s : State) (run : Run) (part : TimersOf) → Kept s → KnownAt p past s →
-    Follows p past (step.fire p s run part)
-fire_known p past s run part kept k = found_both (front s s.ready) _ _ (Follows p past) (λ t e. fired t (front_of s s.ready t e))
-    (λ e. turn_known p past s run (Behind part) k)
-  where
-    fired : (t : Id × HandleRecord) → FrontOf s s.ready t →
-        Follows p past (call p (restarted (record s { ready = drop 1 s.ready }) t.0 t.1) (record run { stage = Timers part Firing }) t.0 t.1.name)
-    fired t f =
-        let each : Fits s.arena.slots Rests t.0 = (subst (Each (Fits s.arena.slots Rests)) f.are kept.ready.each).0 in
-        let stays : t.1.closing ≡ false = (its_handle s.arena.slots Rests t.0 t.1 f.holds each).stays in
-        let u : State = record s { ready = drop 1 s.ready } in
-        let r : Run = record run { stage = Timers part Firing } in
-        cond_both (t.1.repeat == 0) u (started u t.0 t.1 t.1.repeat t.1.repeat) (λ (x : State). Follows p past (call p x r t.0 t.1.name))
-        (λ z. call_known p past u r t.0 t.1.name t.1 f.holds stays k)
-        (λ z. call_known p past (started u t.0 t.1 t.1.repeat t.1.repeat) r t.0 t.1.name _ (put_same s.arena.slots t.0 t.1 _ f.holds) stays
-        (changed p past u t _ f.holds refl refl k))
-
-timers_known : (p : Program) (past : List Seen) (s : State) (run : Run) (part : TimersOf) (timing : Timing) → Kept s → KnownAt p past s →
-    Follows p past (step.timers p s run part timing)
-timers_known p past s run part Collecting kept k = found_both (first_due s s.timers) _ _ (Follows p past)
-    (λ t e. changed p past s t (records.stopped t.1) (first_of s s.timers t e).holds refl refl k) (λ e. fire_known p past s run part kept k)
-timers_known p past s run part Firing kept k = fire_known p past s run part kept k
+fired_known : (p : Program) (past : List Seen) (s : State) (run : Run) (t : Id × HandleRecord) → FrontOf s s.ready t → Kept s → KnownAt p past s →
+    Follows p past (call p (restarted (record s { ready = drop 1 s.ready }) t.0 t.1) run t.0 t.1.name)
+fired_known p past s run t f kept k =
+    let each : Fits s.arena.slots Rests t.0 = (subst (Each (Fits s.arena.slots Rests)) f.are kept.ready.each).0 in
+    let stays : t.1.closing ≡ false = (its_handle s.arena.slots Rests t.0 t.1 f.holds each).stays in
+    let u : State = record s { ready = drop 1 s.ready } in
+    cond_both (t.1.repeat == 0) u (started u t.0 t.1 t.1.repeat t.1.repeat) (λ (x : State). Follows p past (call p x run t.0 t.1.name))
+    (λ z. call_known p past u run t.0 t.1.name t.1 f.holds stays k)
+    (λ z. call_known p past (started u t.0 t.1 t.1.repeat t.1.repeat) run t.0 t.1.name _ (put_same s.arena.slots t.0 t.1 _ f.holds) stays
+    (changed p past u t _ f.holds refl refl k))
 
 -- ---- sections of watchers
 
@@ -173,20 +124,6 @@ begin_known p past s run watcher.Idle k = begins_known p past (with_watched s wa
 begin_known p past s run watcher.Prepare k = begins_known p past (with_watched s watcher.Prepare (all_yet s.prepare)) run Prepare phase.Prepare k
 begin_known p past s run watcher.Check k = begins_known p past (with_watched s watcher.Check (all_yet s.check)) run Check phase.Check k
 begin_known p past s run watcher.Async k = begins_known p past (with_watched s watcher.Async (all_yet s.async)) run Async phase.Async k
-
-poll_known : (p : Program) (past : List Seen) (s : State) (run : Run) → KnownAt p past s → Follows p past (step.begin_poll s run)
-poll_known p past s run k = (
-  tt,
-  known_quiet p past (seen.Poll (poll_timeout s run.mode)) s.arena s.names
-      (record { binding = λ v b. refl; made = λ i. refl; closing = refl; closed = λ id. refl })
-      (record { queued = λ i. refl; taken = λ i. refl; finished = λ i. refl; over = λ i. refl; cancelled = λ i. refl }) k,
-)
-
-after_known : (p : Program) (past : List Seen) (s : State) (run : Run) (q : WatcherKind) → KnownAt p past s → Follows p past (step.after_walk s run q)
-after_known p past s run watcher.Idle k = begin_known p past s run watcher.Prepare k
-after_known p past s run watcher.Prepare k = poll_known p past s run k
-after_known p past s run watcher.Check k = begins_known p past (record s { closing = all_yet s.closing }) run Closing phase.Closing k
-after_known p past s run watcher.Async k = begin_known p past s run watcher.Check k
 
 -- who is yet to run doesn't close
 front_stays : (s : State) (q : Kind) (w : Walk Id) (t : Id × HandleRecord) → Everyone s.arena.slots (Watches q) (members w) → FrontOf s w.yet t →
@@ -198,58 +135,36 @@ front_stays s q w t every f kept =
 
 moved_known : (p : Program) (past : List Seen) (s : State) (q : WatcherKind) (id : Id) → KnownAt p past s → KnownAt p past (front_moved s q id)
 moved_known p past s watcher.Idle id k = k
-moved_known p past s watcher.Prepare id k = k
-moved_known p past s watcher.Check id k = k
-moved_known p past s watcher.Async id k = k
+moved_known p past s each id k = k
 
 moved_holds : (s : State) (q : WatcherKind) (id i : Id) → handle (front_moved s q id) i ≡ handle s i
 moved_holds s watcher.Idle id i = refl
-moved_holds s watcher.Prepare id i = refl
-moved_holds s watcher.Check id i = refl
-moved_holds s watcher.Async id i = refl
+moved_holds s each id i = refl
 
 watched_stays : (s : State) (q : WatcherKind) (t : Id × HandleRecord) → FrontOf s (watched s q).yet t → Kept s → t.1.closing ≡ false
-watched_stays s watcher.Idle t f kept = front_stays s kind.Idle s.idle t kept.idle f kept
-watched_stays s watcher.Prepare t f kept = front_stays s kind.Prepare s.prepare t kept.prepare f kept
-watched_stays s watcher.Check t f kept = front_stays s kind.Check s.check t kept.check f kept
-watched_stays s watcher.Async t f kept = front_stays s kind.Async s.async t kept.async f kept
+watched_stays s q t f kept = front_stays s (kind_as q) (watched s q) t (everyone s q kept) f kept
 
-walk_known : (p : Program) (past : List Seen) (s : State) (run : Run) (q : WatcherKind) → Kept s → KnownAt p past s →
-    Follows p past (step.walk p s run q)
-walk_known p past s run q kept k = found_both (front s (watched s q).yet) _ _ (Follows p past)
-    (λ t e. let f = front_of s (watched s q).yet t e in
+walked_known : (p : Program) (past : List Seen) (s : State) (run : Run) (q : WatcherKind) (t : Id × HandleRecord) → FrontOf s (watched s q).yet t →
+    Kept s → KnownAt p past s → Follows p past (call p (front_moved s q t.0) run t.0 t.1.name)
+walked_known p past s run q t f kept k =
     call_known p past (front_moved s q t.0) run t.0 t.1.name t.1 (moved_holds s q t.0 t.0 ∙ f.holds) (watched_stays s q t f kept)
-    (moved_known p past s q t.0 k))
-    (λ e. after_known p past s run q k)
+    (moved_known p past s q t.0 k)
 
-async_known : (p : Program) (past : List Seen) (s : State) (run : Run) → Kept s → KnownAt p past s → Follows p past (step.walk_async p s run)
-async_known p past s run kept k = found_both (front s s.async.yet) _ _ (Follows p past)
-    (λ t e. let f = front_of s s.async.yet t e in
-    cond_both t.1.pending _ _ (Follows p past)
-    (λ on. call_known p past (with_handle (front_moved s watcher.Async t.0) t.0 (records.woken t.1)) run t.0 t.1.name _
-    (put_same s.arena.slots t.0 t.1 _ f.holds) (watched_stays s watcher.Async t f kept) (changed p past s t (records.woken t.1) f.holds refl refl k))
-    (λ off. k))
-    (λ e. after_known p past s run watcher.Async k)
+woken_known : (p : Program) (past : List Seen) (s : State) (run : Run) (t : Id × HandleRecord) → FrontOf s s.async.yet t → Kept s → KnownAt p past s →
+    Follows p past (call p (with_handle (front_moved s watcher.Async t.0) t.0 (records.woken t.1)) run t.0 t.1.name)
+woken_known p past s run t f kept k =
+    call_known p past (with_handle (front_moved s watcher.Async t.0) t.0 (records.woken t.1)) run t.0 t.1.name _
+    (put_same s.arena.slots t.0 t.1 _ f.holds) (watched_stays s watcher.Async t f kept) (changed p past s t (records.woken t.1) f.holds refl refl k)
 
 -- a slot is freed or retired
 gone_freed : (s : State) (last : ℕ) (id : Id) (c : Content) → held s.arena.slots id ≡ Some c → Kept s → (i : Id) →
     IsGone s.arena.slots s.arena.free i → IsGone (freed last id s.arena).slots (freed last id s.arena).free i
-gone_freed s last id c e kept i g = cond_both (id.generation == last) _ _ (λ (u : Slots Content). IsGone u.slots u.free i)
-    (λ at. gone_emptied s.arena.slots s.arena.free s.arena.free id c id.generation i e (omega arith) (λ m d f. f) g)
-    (λ more. gone_emptied s.arena.slots s.arena.free (id.slot ∷ s.arena.free) id c (id.generation + 1) i e (omega arith) still g)
-  where
-    still : (m : ℕ) → (m ≡ id.slot → ⊥) → has_number s.arena.free m ≡ false → ((id.slot == m) || has_number s.arena.free m) ≡ false
-    still m d f = at (id.slot == m) refl where
-      at : (b : Bool) → (id.slot == m) ≡ b → (b || has_number s.arena.free m) ≡ false
-      at true g = absurd (d (sym (eqb-true id.slot m g)))
-      at false g = f
+gone_freed s last id c e kept i g = grind (arith, gone_emptied)
 
 -- and its id is gone
 freed_gone : (s : State) (last : ℕ) (id : Id) (c : Content) → held s.arena.slots id ≡ Some c → Kept s →
     IsGone (freed last id s.arena).slots (freed last id s.arena).free id
-freed_gone s last id c e kept = cond_both (id.generation == last) _ _ (λ (u : Slots Content). IsGone u.slots u.free id)
-    (λ at. gone_now s.arena.slots s.arena.free id c id.generation e (inr (not_free s.arena.slots id c s.arena.free e kept.free)))
-    (λ more. gone_now s.arena.slots (id.slot ∷ s.arena.free) id c (id.generation + 1) e (inl (omega arith)))
+freed_gone s last id c e kept = grind (arith, not_free, gone_now)
 
 -- ---- the closing section
 
@@ -269,87 +184,55 @@ freed_known p past s t e kept k = cond_both (t.0.generation == (arena_size p).la
       at true g = absurd (d (sym (eqb-true t.0.slot m g)))
       at false g = f
 
-close_front_known : (p : Program) (past : List Seen) (s : State) (run : Run) → Kept s → KnownAt p past s → Follows p past (step.close_front p s run)
-close_front_known p past s run kept k = found_both (front s s.closing.yet) _ _ (Follows p past)
-    (λ t e. gone t (front_of s s.closing.yet t e))
-    (λ e. turn_known p past s run BehindClosing k)
-  where
-    gone : (t : Id × HandleRecord) → FrontOf s s.closing.yet t →
-        Follows p past (calls p (record s {
-          arena = freed (arena_size p).last_generation t.0 s.arena;
-          closing = record s.closing { yet = drop 1 s.closing.yet };
-        }) run callback.Close t.1.name (seen.Closed t.1.name t.0))
-    gone t f =
-        let yet = each_back (Fits s.arena.slots Closes) s.closing.list s.closing.yet kept.closing.lists.each in
-        let its : Fits s.arena.slots Closes t.0 = (subst (Each (Fits s.arena.slots Closes)) f.are yet).0 in (
-          (k.closing t.0 its, not_over p past s.arena s.names t.0 t.1 f.holds k),
-          known_names p (seen.Closed t.1.name t.0 ∷ past) (freed (arena_size p).last_generation t.0 s.arena) _ s.names
-              (counted_ids s.names t.1.name _ refl) (freed_known p past s t f.holds kept k),
-        )
+closed_known : (p : Program) (past : List Seen) (s : State) (run : Run) (t : Id × HandleRecord) → FrontOf s s.closing.yet t → Kept s →
+    KnownAt p past s → Follows p past (calls p (record s {
+      arena = freed (arena_size p).last_generation t.0 s.arena;
+      closing = record s.closing { yet = drop 1 s.closing.yet };
+    }) run callback.Close t.1.name (seen.Closed t.1.name t.0))
+closed_known p past s run t f kept k =
+    let yet = each_back (Fits s.arena.slots Closes) s.closing.list s.closing.yet kept.closing.lists.each in
+    let its : Fits s.arena.slots Closes t.0 = (subst (Each (Fits s.arena.slots Closes)) f.are yet).0 in (
+      (k.closing t.0 its, not_over p past s.arena s.names t.0 t.1 f.holds k),
+      known_names p (seen.Closed t.1.name t.0 ∷ past) (freed (arena_size p).last_generation t.0 s.arena) _ s.names
+          (counted_ids s.names t.1.name _ refl) (freed_known p past s t f.holds kept k),
+    )
 
 -- ---- the section of the requests that are done
 
-collect_known : (p : Program) (past : List Seen) (s : State) (run : Run) → Kept s → Working s → KnownAt p past s →
-    Follows p past (step.collect_request p s run)
-collect_known p past s run kept work k = found_both (front_request s s.done.yet) _ _ (Follows p past)
-    (λ t e. called t (request_front s s.done.yet t e)) (λ e. begin_known p past s run watcher.Async k)
-  where
-    last : ℕ
-    last = (arena_size p).last_generation
-
-    called : (t : Id × Request) → FrontRequest s s.done.yet t →
-        Follows p past (calls p (record s {
-          arena = freed last t.0 s.arena;
-          done = record s.done { yet = drop 1 s.done.yet };
-        }) run callback.After t.1.name (seen.After (digest_in t.1.outcome) t.1.name t.0))
-    called t f =
-        let turns = freed_turns last s.arena t.0 (content.Request t.1) f.holds in
-        let gone : (i : Id) → IsGone s.arena.slots s.arena.free i → IsGone (freed last t.0 s.arena).slots (freed last t.0 s.arena).free i =
-        λ i g. gone_freed s last t.0 (content.Request t.1) f.holds kept i g in
-        let asked = work.ended.each t.0 (ap (λ (ids : List Id). has_id (s.done.list ++ ids) t.0) f.are ∙ has_new_middle s.done.list f.rest t.0) in
-        let ended : is_open t.1.outcome ≡ false =
-        ap (λ (x : Request). is_open x.outcome) (same_Some _ _ (sym (ap request_in f.holds) ∙ asked.holds)) ∙ asked.fits in (
-          record {
-            task = t.1.task;
-            queued = k.worked.queued t.0 t.1 (ap request_in f.holds);
-            first = not_called p past s.arena s.waiting (run_ids s.running) t.0 t.1 f.holds k.worked;
-            says = says_true past t.0 t.1.task t.1.outcome ended (k.worked.ended t.0 t.1 (ap request_in f.holds));
-          },
-          known_names p (seen.After (digest_in t.1.outcome) t.1.name t.0 ∷ past) (freed last t.0 s.arena) _ s.names
-              (counted_ids s.names t.1.name _ refl)
-              (known_told p past (seen.After (digest_in t.1.outcome) t.1.name t.0) s.arena (freed last t.0 s.arena) s.names
-              (record { binding = λ u b. refl; made = λ i. refl; closing = refl; closed = λ i. refl })
-              (same_handles s.arena.slots _ t.0 _ _ turns refl refl) (names_turned s.arena.slots _ t.0 _ _ turns (λ u g. cc g)) gone
-              (worked_collected p past s.arena (freed last t.0 s.arena) s.waiting (run_ids s.running) (digest_in t.1.outcome) t.1.name t.0 t.1 turns
-              (freed_gone s last t.0 (content.Request t.1) f.holds kept) gone k.worked) k),
-        )
+ended_known : (p : Program) (past : List Seen) (s : State) (run : Run) (t : Id × Request) → FrontRequest s s.done.yet t → Kept s → Working s →
+    KnownAt p past s → Follows p past (calls p (record s {
+      arena = freed (arena_size p).last_generation t.0 s.arena;
+      done = record s.done { yet = drop 1 s.done.yet };
+    }) run callback.After t.1.name (seen.After (digest_in t.1.outcome) t.1.name t.0))
+ended_known p past s run t f kept work k =
+    let last = (arena_size p).last_generation in
+    let turns = freed_turns last s.arena t.0 (content.Request t.1) f.holds in
+    let gone : (i : Id) → IsGone s.arena.slots s.arena.free i → IsGone (freed last t.0 s.arena).slots (freed last t.0 s.arena).free i =
+    λ i g. gone_freed s last t.0 (content.Request t.1) f.holds kept i g in
+    let asked = work.ended.each t.0 (ap (λ (ids : List Id). has_id (s.done.list ++ ids) t.0) f.are ∙ has_new_middle s.done.list f.rest t.0) in
+    let ended : is_open t.1.outcome ≡ false =
+    ap (λ (x : Request). is_open x.outcome) (same_Some _ _ (sym (ap request_in f.holds) ∙ asked.holds)) ∙ asked.fits in (
+      record {
+        task = t.1.task;
+        queued = k.worked.queued t.0 t.1 (ap request_in f.holds);
+        first = not_called p past s.arena s.waiting (run_ids s.running) t.0 t.1 f.holds k.worked;
+        says = says_true p past t.0 t.1.task t.1.outcome ended (k.worked.ended t.0 t.1 (ap request_in f.holds));
+      },
+      known_names p (seen.After (digest_in t.1.outcome) t.1.name t.0 ∷ past) (freed last t.0 s.arena) _ s.names
+          (counted_ids s.names t.1.name _ refl)
+          (known_told p past (seen.After (digest_in t.1.outcome) t.1.name t.0) s.arena (freed last t.0 s.arena) s.names
+          (record { binding = λ u b. refl; made = λ i. refl; closing = refl; closed = λ i. refl })
+          (same_handles s.arena.slots _ t.0 _ _ turns refl refl) (names_turned s.arena.slots _ t.0 _ _ turns (λ u g. cc g)) gone
+          (worked_collected p past s.arena (freed last t.0 s.arena) s.waiting (run_ids s.running) (digest_in t.1.outcome) t.1.name t.0 t.1 turns
+          (freed_gone s last t.0 (content.Request t.1) f.holds kept) gone k.worked) k),
+    )
 
 -- ---- any step
-
-stage_known : (p : Program) (past : List Seen) (s : State) (run : Run) (x : Stage) → Kept s → Working s → KnownAt p past s →
-    Follows p past (step.stage_step p s run x)
-stage_known p past s run Entry kept work k = turn_known p past s run AtEntry k
-stage_known p past s run Pending kept work k = begin_known p past s run watcher.Idle k
-stage_known p past s run Idle kept work k = walk_known p past s run watcher.Idle kept k
-stage_known p past s run Prepare kept work k = walk_known p past s run watcher.Prepare kept k
-stage_known p past s run (Poll deadline) kept work k = cond_both (may_leave s deadline) _ _ (Follows p past)
-    (λ h. begins_known p past (record (refreshed s) { done = all_yet s.done }) run Done phase.Done k) (λ h. tt)
-stage_known p past s run Done kept work k = collect_known p past s run kept work k
-stage_known p past s run Async kept work k = async_known p past s run kept k
-stage_known p past s run Check kept work k = walk_known p past s run watcher.Check kept k
-stage_known p past s run Closing kept work k = close_front_known p past s run kept k
-stage_known p past s run (Timers part timing) kept work k = timers_known p past s run part timing kept k
 
 -- a cancel answers the id of what it cancelled, or why it is refused
 refused_says : (p : Program) (past : List Seen) (v : Var) (c : Code) → IsRefusal c → CancelSays p past v (answer.Code c)
 refused_says p past v code.Ok no_success = absurd (no_success refl)
-refused_says p past v code.Einval no_success = tt
-refused_says p past v code.Ebusy no_success = tt
-refused_says p past v code.Ecanceled no_success = tt
-refused_says p past v code.Ebound no_success = tt
-refused_says p past v code.Efull no_success = tt
-refused_says p past v code.Estale no_success = tt
-refused_says p past v code.Ekind no_success = tt
+refused_says p past v each no_success = tt
 
 cancel_says : (p : Program) (past : List Seen) (s : State) (v : Var) → KnownAt p past s →
     CancelSays p past v (ops.cancel s (live_request s v)).answer
@@ -365,162 +248,100 @@ cancel_says p past s v k = cancel_both s v (λ (d : ops.Done). CancelSays p past
 
 op_says : (p : Program) (past : List Seen) (s : State) (o : Op) → KnownAt p past s → OpSays p past (Some o) (do_op s o).answer
 op_says p past s (op.Cancel v) k = cancel_says p past s v k
-op_says p past s (op.Init v q) k = tt
-op_says p past s (op.Queue v task) k = tt
-op_says p past s (op.Start v timeout repeat) k = tt
-op_says p past s (op.StartWatcher v) k = tt
-op_says p past s (op.Stop v) k = tt
-op_says p past s (op.Again v) k = tt
-op_says p past s (op.SetRepeat v n) k = tt
-op_says p past s (op.DueIn v) k = tt
-op_says p past s (op.Close v) k = tt
-op_says p past s (op.Ref v) k = tt
-op_says p past s (op.Unref v) k = tt
-op_says p past s (op.HasRef v) k = tt
-op_says p past s (op.IsActive v) k = tt
-op_says p past s (op.IsClosing v) k = tt
-op_says p past s (op.Send v) k = tt
-op_says p past s op.StopLoop k = tt
-op_says p past s op.UpdateTime k = tt
-op_says p past s op.Now k = tt
-op_says p past s op.IsAlive k = tt
-op_says p past s op.Timeout k = tt
-op_says p past s op.CloseLoop k = tt
+op_says p past s each k = tt
 
 -- the line of an op that is done
 op_line : (p : Program) (past : List Seen) (s : State) (place : Site) (o : Op) → op_at p place ≡ Some o → KnownAt p past s →
     MayFollow p past (seen.Op place (do_op s o).answer)
 op_line p past s place o e k = subst (λ (x : Option Op). OpSays p past x (do_op s o).answer) (sym e) (op_says p past s o k)
 
-body_known : (p : Program) (past : List Seen) (s : State) (run : Run) (body : Body) (l : Option CallbackLine) →
-    slice_get (lines_in p body.callback body.name) body.next ≡ l → Kept s → KnownAt p past s → Follows p past (step.body_step p s run body l)
-body_known p past s run body None e kept k = k
-body_known p past s run body (Some line) e kept k = (
-  op_line p past s (site.In body.callback body.name body.next) line.op (ap (option_map (λ (x : CallbackLine). x.op)) e) k,
-  op_known p past s line.op kept k (site.In body.callback body.name body.next) (ap (option_map (λ (x : CallbackLine). x.op)) e),
-)
-
-main_known : (p : Program) (past : List Seen) (s : State) (i : ℕ) (x : Option MainOp) → slice_get p.main i ≡ x → Kept s → KnownAt p past s →
-    Follows p past (step.main_step (order_of p) s i x)
-main_known p past s i None e kept k = tt
-main_known p past s i (Some (main.Run m)) e kept k = (
-  tt,
-  cond_both (step.refreshes (order_of p) m) (refreshed s) s (KnownAt p (seen.Run m ∷ past)) (λ d. begun) (λ d. begun),
-) where
-  begun : KnownAt p (seen.Run m ∷ past) s
-  begun = known_quiet p past (seen.Run m) s.arena s.names (record { binding = λ v b. refl; made = λ i. refl; closing = refl; closed = λ id. refl })
-      (record { queued = λ i. refl; taken = λ i. refl; finished = λ i. refl; over = λ i. refl; cancelled = λ i. refl }) k
-main_known p past s i (Some (main.Op o)) e kept k = (
-  op_line p past s (site.Main i) o (ap main_op e) k,
-  op_known p past s o kept k (site.Main i)
-      (ap main_op e),
-)
-
-run_known : (p : Program) (past : List Seen) (s : State) (run : Run) (body : Option Body) → Kept s → Working s → KnownAt p past s →
-    Follows p past (step.run_step p s run body)
-run_known p past s run None kept work k = stage_known p past s run run.stage kept work k
-run_known p past s run (Some body) kept work k = body_known p past s run body _ refl kept k
-
-place_known : (p : Program) (past : List Seen) (s : State) (x : Place) → Kept s → Working s → KnownAt p past s →
-    Follows p past (step.loop_step p s x)
-place_known p past s (Main i) kept work k = main_known p past s i _ refl kept k
-place_known p past s (Running run) kept work k = run_known p past s run run.body kept work k
-
 -- no request stands twice on the lists of those that wait and are run
 apart_ids : (ids : List Id) (id i : Id) → AreDistinct (id ∷ ids) → has_id ids i ≡ true → same_id id i ≡ false
 apart_ids ids id i d e = false_from_ne_true (same_id id i) (λ s. both_ways (has_id ids id) d.0 (ap (has_id ids) (same id i s) ∙ e))
 
-take_known : (p : Program) (past : List Seen) (s : State) (n : ℕ) → Working s → KnownAt p past s →
-    Follows p past (step.take s n (next_work s (slice_get s.running n)))
-take_known p past s n work k = at (next_work s (slice_get s.running n)) refl where
-  taken : (t : Id × Request) → TakesFront s n t → Follows p past (step.take s n (Ok t))
-  taken t f =
-      let rest = f.front.rest in
-      let waits : has_id s.waiting t.0 ≡ true = ap (λ (ids : List Id). has_id ids t.0) f.front.are ∙ rw (itself t.0 t.0 refl) refl in
-      let all : AllAsk s.arena.slots IsOpen ((t.0 ∷ rest) ++ run_ids s.running) =
-      subst (λ (ids : List Id). AllAsk s.arena.slots IsOpen (ids ++ run_ids s.running)) f.front.are work.open_ones in
-      let asked = all.each t.0 (rw (itself t.0 t.0 refl) refl) in
-      let opened : is_open t.1.outcome ≡ true =
-      ap (λ (x : Request). is_open x.outcome) (same_Some _ _ (sym (ap request_in f.front.holds) ∙ asked.holds)) ∙ asked.fits in
-      let r = takes s.running n t.0 f.idle in (
-        (k.worked.waits t.0 waits, not_called p past s.arena s.waiting (run_ids s.running) t.0 t.1 f.front.holds k.worked),
-        known_told p past (seen.Take n t.1.name t.0) s.arena s.arena s.names
-            (record { binding = λ u b. refl; made = λ i. refl; closing = refl; closed = λ i. refl })
-            (λ i. refl) (λ i u g. g) (λ i g. g)
-            (worked_taken p past s.arena s.waiting (run_ids s.running) (drop 1 s.waiting) (run_ids (slice_set s.running n (Some t.0))) n t.1.name t.0
-            t.1 (ap request_in f.front.holds) opened waits
-            (λ i e. fewer_wait t f i (ap (λ (ids : List Id). has_id ids i) (sym f.front.behind) ∙ e) all.distinct)
-            (λ i e. most t r i (ap (λ (ids : List Id). has_id ids i) (sym r.are) ∙ e)) k.worked) k,
+taken_known : (p : Program) (past : List Seen) (s : State) (n : ℕ) (t : Id × Request) → TakesFront s n t → Working s → KnownAt p past s →
+    Follows p past (step.take s n (Ok t))
+taken_known p past s n t f work k =
+    let rest = f.front.rest in
+    let waits : has_id s.waiting t.0 ≡ true = ap (λ (ids : List Id). has_id ids t.0) f.front.are ∙ rw (itself t.0 t.0 refl) refl in
+    let all : AllAsk s.arena.slots IsOpen ((t.0 ∷ rest) ++ run_ids s.running) =
+    subst (λ (ids : List Id). AllAsk s.arena.slots IsOpen (ids ++ run_ids s.running)) f.front.are work.open_ones in
+    let asked = all.each t.0 (rw (itself t.0 t.0 refl) refl) in
+    let opened : is_open t.1.outcome ≡ true =
+    ap (λ (x : Request). is_open x.outcome) (same_Some _ _ (sym (ap request_in f.front.holds) ∙ asked.holds)) ∙ asked.fits in
+    let r = takes s.running n t.0 f.idle in (
+      (
+        k.worked.waits t.0 waits,
+        not_called p past s.arena s.waiting (run_ids s.running) t.0 t.1 f.front.holds k.worked,
+        k.worked.uncancelled t.0 waits,
+      ),
+      known_told p past (seen.Take n t.1.name t.0) s.arena s.arena s.names
+          (record { binding = λ u b. refl; made = λ i. refl; closing = refl; closed = λ i. refl })
+          (λ i. refl) (λ i u g. g) (λ i g. g)
+          (worked_taken p past s.arena s.waiting (run_ids s.running) (drop 1 s.waiting) (run_ids (slice_set s.running n (Some t.0))) n t.1.name t.0
+          t.1 (ap request_in f.front.holds) opened waits
+          (λ i e. fewer_wait t f i (ap (λ (ids : List Id). has_id ids i) (sym f.front.behind) ∙ e) all.distinct)
+          (λ i e. most t r i (ap (λ (ids : List Id). has_id ids i) (sym r.are) ∙ e)) k.worked) k,
+    )
+  where
+    in_front : (xs ys : List Id) (i : Id) → has_id xs i ≡ true → has_id (xs ++ ys) i ≡ true
+    in_front [] ys i e = cc e
+    in_front (x ∷ xs) ys i e = by (same_id x i) e (in_front xs ys i) where
+      by : (b : Bool) → (b || has_id xs i) ≡ true → (has_id xs i ≡ true → has_id (xs ++ ys) i ≡ true) → (b || has_id (xs ++ ys) i) ≡ true
+      by true g rest = refl
+      by false g rest = rest g
+
+    fewer_wait : (u : Id × Request) (g : TakesFront s n u) (i : Id) → has_id g.front.rest i ≡ true →
+        AreDistinct ((u.0 ∷ g.front.rest) ++ run_ids s.running) → (has_id s.waiting i ≡ true) × (same_id u.0 i ≡ false)
+    fewer_wait u g i e d = (
+      ap (λ (ids : List Id). has_id ids i) g.front.are ∙ or_right (same_id u.0 i) (has_id g.front.rest i) e,
+      apart_ids (g.front.rest ++ run_ids s.running) u.0 i d (in_front g.front.rest (run_ids s.running) i e),
+    )
+
+    most : (u : Id × Request) (r : Takes s.running n u.0) (i : Id) → has_id (r.front ++ u.0 ∷ r.behind) i ≡ true →
+        (u.0 ≡ i) ⊎ (has_id (run_ids s.running) i ≡ true)
+    most u r i e = by (same_id i u.0) refl where
+      by : (b : Bool) → same_id i u.0 ≡ b → (u.0 ≡ i) ⊎ (has_id (run_ids s.running) i ≡ true)
+      by true s = inl (sym (same i u.0 s))
+      by false s = inr (ap (λ (ids : List Id). has_id ids i) r.were ∙ sym (has_middle r.front r.behind u.0 i s) ∙ e)
+
+finished_known : (p : Program) (past : List Seen) (s : State) (n : ℕ) (t : Id × Request) → RunsWork s n t → Working s → KnownAt p past s →
+    Follows p past (step.finish s n (Ok t))
+finished_known p past s n t f work k =
+    let x : Request = record t.1 { outcome = Finished (digest_of t.1.task.rounds (text_of t.1.task)) } in
+    let g = lets_go s.running n t.0 f.busy in
+    let on : has_id (run_ids s.running) t.0 ≡ true =
+    ap (λ (ids : List Id). has_id ids t.0) g.were ∙ has_new_middle g.front g.behind t.0 in
+    let was = k.worked.runs_now t.0 on in
+    let apart : AreDistinct (g.front ++ t.0 ∷ g.behind) = subst AreDistinct g.were (distinct_back s.waiting
+    (run_ids s.running) work.open_ones.distinct)
+    in
+    let told : Worked p (seen.Finish n t.1.name t.0 ∷ past) s.arena s.waiting (run_ids (slice_set s.running n None)) =
+    worked_finished p past s.arena s.waiting (run_ids s.running) (run_ids (slice_set s.running n None)) n t.1.name t.0 on
+    (λ i e. fewer_run t g apart i (ap (λ (ids : List Id). has_id ids i) (sym g.are) ∙ e)) k.worked in
+    let ends : SaysTrue p (seen.Finish n t.1.name t.0 ∷ past) t.0 t.1.task (Some (digest_of t.1.task.rounds (text_of t.1.task))) =
+    (was.0, rw (itself t.0 t.0 refl) refl, refl) in
+    let gone : (i : Id) → IsGone s.arena.slots s.arena.free i → IsGone (with_request s t.0 x).arena.slots (with_request s t.0 x).arena.free i =
+    λ i h. gone_turned s.arena.slots s.arena.free t.0 (content.Request t.1) (Some (content.Request x)) i f.holds h in (
+      was,
+      known_told p past (seen.Finish n t.1.name t.0) s.arena (with_request s t.0 x).arena s.names
+          (record { binding = λ u b. refl; made = λ i. refl; closing = refl; closed = λ i. refl })
+          (same_handles s.arena.slots _ t.0 _ _ (request_turns s.arena.slots t.0 t.1 x f.holds) refl refl)
+          (names_turned s.arena.slots _ t.0 _ _ (request_turns s.arena.slots t.0 t.1 x f.holds) (λ u h. h)) gone
+          (worked_ended p (seen.Finish n t.1.name t.0 ∷ past) s.arena (with_request s t.0 x).arena s.waiting
+          (run_ids (slice_set s.running n None)) t.0 t.1 x (request_turns s.arena.slots t.0 t.1 x f.holds) refl ends gone told) k,
+    )
+  where
+    fewer_run : (u : Id × Request) (g : LetsGo s.running n u.0) → AreDistinct (g.front ++ u.0 ∷ g.behind) → (i : Id) →
+        has_id (g.front ++ g.behind) i ≡ true → (has_id (run_ids s.running) i ≡ true) × (same_id u.0 i ≡ false)
+    fewer_run u g d i e = by (same_id i u.0) refl where
+      by : (b : Bool) → same_id i u.0 ≡ b → (has_id (run_ids s.running) i ≡ true) × (same_id u.0 i ≡ false)
+      by true s = absurd (both_ways (has_id (g.front ++ g.behind) u.0) (once_middle g.front g.behind u.0 d)
+          (ap (has_id (g.front ++ g.behind)) (sym (same i u.0 s)) ∙ e))
+      by false s = (
+        ap (λ (ids : List Id). has_id ids i) g.were ∙ has_middle g.front g.behind u.0 i s ∙ e,
+        turned u.0 i ∙ s,
       )
-    where
-      in_front : (xs ys : List Id) (i : Id) → has_id xs i ≡ true → has_id (xs ++ ys) i ≡ true
-      in_front [] ys i e = cc e
-      in_front (x ∷ xs) ys i e = by (same_id x i) e (in_front xs ys i) where
-        by : (b : Bool) → (b || has_id xs i) ≡ true → (has_id xs i ≡ true → has_id (xs ++ ys) i ≡ true) → (b || has_id (xs ++ ys) i) ≡ true
-        by true g rest = refl
-        by false g rest = rest g
-
-      fewer_wait : (u : Id × Request) (g : TakesFront s n u) (i : Id) → has_id g.front.rest i ≡ true →
-          AreDistinct ((u.0 ∷ g.front.rest) ++ run_ids s.running) → (has_id s.waiting i ≡ true) × (same_id u.0 i ≡ false)
-      fewer_wait u g i e d = (
-        ap (λ (ids : List Id). has_id ids i) g.front.are ∙ or_right (same_id u.0 i) (has_id g.front.rest i) e,
-        apart_ids (g.front.rest ++ run_ids s.running) u.0 i d (in_front g.front.rest (run_ids s.running) i e),
-      )
-
-      most : (u : Id × Request) (r : Takes s.running n u.0) (i : Id) → has_id (r.front ++ u.0 ∷ r.behind) i ≡ true →
-          (u.0 ≡ i) ⊎ (has_id (run_ids s.running) i ≡ true)
-      most u r i e = by (same_id i u.0) refl where
-        by : (b : Bool) → same_id i u.0 ≡ b → (u.0 ≡ i) ⊎ (has_id (run_ids s.running) i ≡ true)
-        by true s = inl (sym (same i u.0 s))
-        by false s = inr (ap (λ (ids : List Id). has_id ids i) r.were ∙ sym (has_middle r.front r.behind u.0 i s) ∙ e)
-
-  at : (t : Result (Id × Request) Why) → next_work s (slice_get s.running n) ≡ t → Follows p past (step.take s n t)
-  at (Err why) e = tt
-  at (Ok t) e = taken t (takes_front s n t e)
-
-finish_known : (p : Program) (past : List Seen) (s : State) (n : ℕ) → Working s → KnownAt p past s →
-    Follows p past (step.finish s n (work_of s (slice_get s.running n)))
-finish_known p past s n work k = at (work_of s (slice_get s.running n)) refl where
-  done : (t : Id × Request) → RunsWork s n t → Follows p past (step.finish s n (Ok t))
-  done t f =
-      let x : Request = record t.1 { outcome = Finished (digest_of t.1.task.rounds (text_of t.1.task)) } in
-      let g = lets_go s.running n t.0 f.busy in
-      let on : has_id (run_ids s.running) t.0 ≡ true =
-      ap (λ (ids : List Id). has_id ids t.0) g.were ∙ has_new_middle g.front g.behind t.0 in
-      let was = k.worked.runs_now t.0 on in
-      let apart : AreDistinct (g.front ++ t.0 ∷ g.behind) = subst AreDistinct g.were (distinct_back s.waiting
-      (run_ids s.running) work.open_ones.distinct)
-      in
-      let told : Worked p (seen.Finish n t.1.name t.0 ∷ past) s.arena s.waiting (run_ids (slice_set s.running n None)) =
-      worked_finished p past s.arena s.waiting (run_ids s.running) (run_ids (slice_set s.running n None)) n t.1.name t.0 on
-      (λ i e. fewer_run t g apart i (ap (λ (ids : List Id). has_id ids i) (sym g.are) ∙ e)) k.worked in
-      let ends : SaysTrue (seen.Finish n t.1.name t.0 ∷ past) t.0 t.1.task (Some (digest_of t.1.task.rounds (text_of t.1.task))) =
-      (was.0, rw (itself t.0 t.0 refl) refl, refl) in
-      let gone : (i : Id) → IsGone s.arena.slots s.arena.free i → IsGone (with_request s t.0 x).arena.slots (with_request s t.0 x).arena.free i =
-      λ i h. gone_turned s.arena.slots s.arena.free t.0 (content.Request t.1) (Some (content.Request x)) i f.holds h in (
-        was,
-        known_told p past (seen.Finish n t.1.name t.0) s.arena (with_request s t.0 x).arena s.names
-            (record { binding = λ u b. refl; made = λ i. refl; closing = refl; closed = λ i. refl })
-            (same_handles s.arena.slots _ t.0 _ _ (request_turns s.arena.slots t.0 t.1 x f.holds) refl refl)
-            (names_turned s.arena.slots _ t.0 _ _ (request_turns s.arena.slots t.0 t.1 x f.holds) (λ u h. h)) gone
-            (worked_ended p (seen.Finish n t.1.name t.0 ∷ past) s.arena (with_request s t.0 x).arena s.waiting
-            (run_ids (slice_set s.running n None)) t.0 t.1 x (request_turns s.arena.slots t.0 t.1 x f.holds) refl ends gone told) k,
-      )
-    where
-      fewer_run : (u : Id × Request) (g : LetsGo s.running n u.0) → AreDistinct (g.front ++ u.0 ∷ g.behind) → (i : Id) →
-          has_id (g.front ++ g.behind) i ≡ true → (has_id (run_ids s.running) i ≡ true) × (same_id u.0 i ≡ false)
-      fewer_run u g d i e = by (same_id i u.0) refl where
-        by : (b : Bool) → same_id i u.0 ≡ b → (has_id (run_ids s.running) i ≡ true) × (same_id u.0 i ≡ false)
-        by true s = absurd (both_ways (has_id (g.front ++ g.behind) u.0) (once_middle g.front g.behind u.0 d)
-            (ap (has_id (g.front ++ g.behind)) (sym (same i u.0 s)) ∙ e))
-        by false s = (
-          ap (λ (ids : List Id). has_id ids i) g.were ∙ has_middle g.front g.behind u.0 i s ∙ e,
-          turned u.0 i ∙ s,
-        )
-
-  at : (t : Result (Id × Request) Why) → work_of s (slice_get s.running n) ≡ t → Follows p past (step.finish s n t)
-  at (Err why) e = tt
-  at (Ok t) e = done t (runs_work s n t e)
 
 -- a cancel from outside
 cancel_outside : (p : Program) (past : List Seen) (s : State) (v : Var) → KnownAt p past s →
@@ -533,30 +354,25 @@ cancel_outside p past s v k = cancel_both s v (λ (d : ops.Done). KnownAt p (see
     (record { queued = λ i. refl; taken = λ i. refl; finished = λ i. refl; over = λ i. refl; cancelled = λ i. refl })
     (record { binding = λ u b. refl; made = λ i. refl; closing = refl; closed = λ i. refl }) live.holds on k)
 
-pub next_known : (p : Program) (past : List Seen) (s : State) (e : Event) → Kept s → Working s → KnownAt p past s → Follows p past (next p s e)
-unfolding next
-next_known p past s Loop kept work k = place_known p past s s.place kept work k
-next_known p past s (Take n) kept work k = take_known p past s n work k
-next_known p past s (Finish n) kept work k = finish_known p past s n work k
-next_known p past s (Cancel v) kept work k = cond_both (nat_lt v.0 (length s.names)) _ _ (Follows p past)
-    (λ h. (cancel_says p past s v k, cancel_outside p past s v k)) (λ h. tt)
-next_known p past s (Send v) kept work k = cond_both (nat_lt v.0 (length s.names)) _ _ (Follows p past)
-    (λ h. plain p past (seen.Send v (ops.send s (live_handle s v)).code) (ops.send s (live_handle s v)).state tt (
-      record { binding = λ u b. refl; made = λ i. refl; closing = refl; closed = λ id. refl },
-      record {
-        queued = λ i. refl;
-        taken = λ i. refl;
-        finished = λ i. refl;
-        over = λ i. refl;
-        cancelled = λ i. refl;
-      },
-    ) (send_known p past s v k)) (λ h. tt)
-next_known p past s (Tick ms) kept work k = cond_both (nat_le (s.clock + ms) 4611686018427387904) _ _ (Follows p past)
-    (λ h. plain p past (seen.Tick ms) (record s { clock = s.clock + ms }) tt (
-      record { binding = λ u b. refl; made = λ i. refl; closing = refl; closed = λ id. refl },
-      record { queued = λ i. refl; taken = λ i. refl; finished = λ i. refl; over = λ i. refl; cancelled = λ i. refl },
-    ) k)
-    (λ h. tt)
+pub did_known : (p : Program) (past : List Seen) (s : State) (n : Next) → Did p s n → Kept s → Working s → KnownAt p past s → Follows p past n
+did_known p past s n (row.refused why) kept work k = tt
+did_known p past s n (row.still x time clock stop idled l q) kept work k = still_known p past (timed s x time clock stop idled) l q k
+did_known p past s n (row.op x at o e) kept work k = (op_line p past s at o e k, op_known p past s o kept k at e)
+did_known p past s n (row.begun run q e) kept work k = begin_known p past s run q k
+did_known p past s n (row.begun_closing run e) kept work k = begins_known p past (record s { closing = all_yet s.closing }) run Closing phase.Closing k
+did_known p past s n (row.begun_done run e) kept work k = begins_known p past (record (refreshed s) { done = all_yet s.done }) run Done phase.Done k
+did_known p past s n (row.collected run part t f) kept work k = changed p past s t (records.stopped t.1) f.holds refl refl k
+did_known p past s n (row.fired run t f) kept work k = fired_known p past s run t f kept k
+did_known p past s n (row.walked run q t sync f) kept work k = walked_known p past s run q t f kept k
+did_known p past s n (row.passed run t f off) kept work k = k
+did_known p past s n (row.woken run t f on) kept work k = woken_known p past s run t f kept k
+did_known p past s n (row.closed run t f) kept work k = closed_known p past s run t f kept k
+did_known p past s n (row.ended run t f) kept work k = ended_known p past s run t f kept work k
+did_known p past s n (row.taken n' t f) kept work k = taken_known p past s n' t f work k
+did_known p past s n (row.finished n' t f) kept work k = finished_known p past s n' t f work k
+did_known p past s n (row.sent v) kept work k =
+    plain p past (seen.Send v (ops.send s (live_handle s v)).code) (ops.send s (live_handle s v)).state tt (grind arith) (send_known p past s v k)
+did_known p past s n (row.cancelled v) kept work k = (cancel_says p past s v k, cancel_outside p past s v k)
 
 -- ---- all steps
 
@@ -587,31 +403,3 @@ known_fresh p = record {
   unbound_id zero i = refl
   unbound_id (suc n) zero = refl
   unbound_id (suc n) (suc i) = unbound_id n i
-
-abbrev seens : List Line → List Seen
-seens ls = map (λ (l : Line). l.seen) ls
-
--- the lines from a state on, by those of its next step and those from the state after it
-one_more : (p : Program) (told : Told) (past : List Seen) (s : State) (at : Position) (n : Next) (es : List Event) → Kept s → StaysKept n →
-    SentAt told.sent s → SentFollows p told s n → Working s → StaysWorking n → Stands p told s at → order.Follows p told at s n → KnownAt p past s →
-    Follows p past n → ((told' : Told) (before : List Seen) (t : State) (to : Position) → Kept t → SentAt told'.sent t → Working t →
-    Stands p told' t to → KnownAt p before t →
-    OnceFrom p before (seens (history_from p t es))) → OnceFrom p past (seens (line_of_step s n ++ history_from p (state_of s n) es))
-one_more p told past s at (Moves t (Some l)) es kept j a i w x h f k g more =
-    (g.0, more (told_by p told (names_at s) l) (l ∷ past) t f.to j i x f.stands g.1)
-one_more p told past s at (Moves t None) es kept j a i w x h f k g more = more told past t at j i x f.0 g
-one_more p told past s at (Refuses why) es kept j a i w x h f k g more = more told past s at kept a w h k
-
-once_from : (p : Program) (es : List Event) (told : Told) (past : List Seen) (s : State) (at : Position) → Kept s → SentAt told.sent s →
-    Working s → Stands p told s at → KnownAt p past s → OnceFrom p past (seens (history_from p s es))
-once_from p [] told past s at kept sent w h k = tt
-once_from p (e ∷ es) told past s at kept sent w h k =
-    one_more p told past s at (next p s e) es kept (next_kept p s e (rested_at p s s.place at h.stands) kept) sent (next_sent p told s e kept sent) w
-    (next_working p s e (calm_at p s s.place at h.stands) kept w) h (follows p told s at e kept sent w h) k (next_known p past s e kept w k)
-    (once_from p es)
-
--- by the lines of any events each handle closes once
-pub once : (p : Program) (es : List Event) → Once p (lines p es)
-unfolding history
-once p es = subst (Once p) (sym (lines-history p es))
-    (once_from p es nothing_told [] (fresh p) (Between 0) (fresh_kept p) (sent_fresh p) (fresh_working p) (stands_fresh p) (known_fresh p))

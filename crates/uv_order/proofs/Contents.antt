@@ -77,16 +77,11 @@ ids_alike : (a b : Id) → a.slot ≡ b.slot → a.generation ≡ b.generation �
 ids_alike a b e f = rw (eq-eqb a.slot b.slot e, eq-eqb a.generation b.generation f) refl
 
 pub other_generation : (i : Id) (slot : Slot Content) → (slot.generation ≡ i.generation → ⊥) → look i (Some slot) ≡ None
-other_generation i slot d = by (slot.generation == i.generation) refl where
-  by : (b : Bool) → (slot.generation == i.generation) ≡ b → cond b slot.content None ≡ None
-  by true f = absurd (d (eqb-true slot.generation i.generation f))
-  by false f = refl
+other_generation i slot d = grind arith
 
 -- whatever is put into the slot, the ids of other slots are held as before
 elsewhere : (slots : List (Slot Content)) (n : ℕ) (i : Id) (y : Slot Content) → (i.slot == n) ≡ false → held (slice_set slots n y) i ≡ held slots i
-elsewhere slots n i y f = ap (look i) (get_set_other slots n i.slot y (λ g. clash f (eq-eqb i.slot n g))) where
-  clash : (i.slot == n) ≡ false → (i.slot == n) ≡ true → ⊥
-  clash a b = cc (a, b)
+elsewhere slots n i y f = grind (arith, get_set_other)
 
 -- ---- one id turns
 
@@ -121,10 +116,7 @@ emptied slots id generation = slice_set slots id.slot (record { generation = gen
 
 -- nothing is held in an empty slot
 nothing_in : (i : Id) (generation : ℕ) → look i (Some (record { generation = generation; content = None })) ≡ None
-nothing_in i generation = by (generation == i.generation) where
-  by : (b : Bool) → ◌≡◌ {A = Option Content} (cond b None None) None
-  by true = refl
-  by false = refl
+nothing_in i generation = grind arith
 
 pub emptied_turns : (slots : List (Slot Content)) (id : Id) (c : Content) (generation : ℕ) → held slots id ≡ Some c →
     Turns slots (emptied slots id generation) id (Some c) None

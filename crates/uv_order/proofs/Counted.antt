@@ -71,12 +71,7 @@ told_call callback.Close v id told = record told { closed = v ∷ told.closed }
 -- whoever is sent to, the calls are as before
 pub counted_sent : (p : Program) (names : List Named) (told : Told) (sent : List Id) → Counted p names told →
     Counted p names (record told { sent = sent })
-counted_sent p names told sent k = record { long = k.long; calls = λ kind v l. at kind v l } where
-  at : (kind : Callback) (v : Var) → v.0 < length p.callbacks →
-      count_of kind (counts_in names v) ≡ times (told_of kind (record told { sent = sent })) v
-  at callback.Handle v l = k.calls callback.Handle v l
-  at callback.After v l = k.calls callback.After v l
-  at callback.Close v l = k.calls callback.Close v l
+counted_sent p names told sent k = grind arith
 
 -- one more of a callback is none more of another
 told_more : (kind other : Callback) (v u : Var) (id : Id) (told : Told) (c : Calls) → (v.0 == u.0) ≡ true →

@@ -1,5 +1,5 @@
 -- A whole step goes on from where the state stands, and so does every list of them.
-use Rattle.std.proofs.Common.{◌≡◌, ℕ, suc, ◌+◌, ◌||◌, List, [], ◌∷◌, ◌++◌, Bool, true, false, Option, Some, None, Result, Ok, Err, drop, length, slice_get, slice_set, nat_le, nat_lt, refl, ap, sym, ◌∙◌, if◌then◌else◌}
+use Rattle.std.proofs.Common.{arith, ◌≡◌, ℕ, suc, ◌+◌, ◌||◌, ◌&&◌, List, [], ◌∷◌, ◌++◌, Bool, true, false, Option, Some, None, Result, Ok, Err, drop, length, slice_get, slice_set, nat_le, nat_lt, refl, ap, sym, ◌∙◌, if◌then◌else◌}
 use Rattle.std.specs.Prelude.{option_map}
 use Rattle.std.specs.List.{list_any}
 use Rattle.std.proofs.lemmas.Bool.{cond_both, eq-eqb}
@@ -14,6 +14,7 @@ use Rattle.uv_ids.specs.declared.code.Answer.{Answer}
 use Rattle.uv_ids.specs.declared.code.Answer.TheVariants as answer
 use Rattle.uv_ids.specs.declared.phase.Mode.{Mode}
 use Rattle.uv_ids.specs.declared.phase.Mode.TheVariants.{Default, Once, Nowait}
+use Rattle.uv_ids.specs.declared.phase.Phase.{Phase}
 use Rattle.uv_ids.specs.declared.phase.Phase.TheVariants as phase
 use Rattle.uv_ids.specs.declared.seen.Seen.TheVariants as seen
 use Rattle.uv_ids.specs.declared.seen.Site.{Site}
@@ -37,8 +38,6 @@ use Rattle.uv_model.specs.declared.place.Body.{Body}
 use Rattle.uv_model.specs.declared.place.Run.{Run}
 use Rattle.uv_model.specs.declared.place.Stage.{Stage}
 use Rattle.uv_model.specs.declared.place.Stage.TheVariants as stage
-use Rattle.uv_model.specs.declared.place.TimersOf.{TimersOf}
-use Rattle.uv_model.specs.declared.place.TimersOf.TheVariants as timers_of
 use Rattle.uv_model.specs.declared.place.Turn.TheVariants.{AtEntry}
 use Rattle.uv_model.specs.declared.place.Timing.TheVariants.{Collecting, Firing}
 use Rattle.uv_model.specs.declared.place.Place.{Place}
@@ -51,21 +50,21 @@ use Rattle.uv_model.specs.Ops.{do_op}
 use Rattle.uv_model.specs.Next as step
 use Rattle.uv_model.specs.Next.{Next, Moves, Refuses, next, goes, is_default, call, calls, first_due, collected, front_moved, may_leave, body_from, next_work, work_of}
 use Rattle.uv_order.specs.Documented as doc
-use Rattle.uv_order.specs.Documented.{Told, nothing_told, told_of, told_by, Lasting, lasting, at_first, Section, Entry, In, word_of, part_after, part_of, Walk, Opens, IsOver, CallsNext, MayCall, is_called, callback_in, IsCallLine, Standing, Begun, Within, Polling, MayLeave, PollsFor, Position, Between, Running, Goes, GoesOn, cut, line, Documented, body_of, next_call, taken_off}
+use Rattle.uv_order.specs.Documented.{Names, Told, nothing_told, told_of, told_by, Lasting, lasting, at_first, Section, Entry, In, word_of, part_after, part_of, Walk, Opens, IsOver, CallsNext, MayCall, is_called, callback_in, IsCallLine, Standing, Begun, Within, Polling, MayLeave, PollsFor, Position, Between, Running, Goes, GoesOn, cut, line, Documented, body_of, next_call, taken_off}
+use Rattle.uv_order.specs.Reached.{BeginsIn, BeginsAt}
 use Rattle.uv_order.proofs.IdLists.{left_of, none_off, more_off}
-use Rattle.uv_order.proofs.Holding.{SameHandles, same_handles}
+use Rattle.uv_order.proofs.Holding.{name_in, SameHandles, same_handles}
 use Rattle.uv_order.proofs.OpCases.{names_at, live_held, send_both, cancel_both}
 use Rattle.uv_order.proofs.Keeping.{Kept}
-use Rattle.uv_order.proofs.KeptSteps.{IsRestedAt, IsRestedIn}
-use Rattle.uv_order.proofs.Working.{Working, IsCalmIn, IsCalmAt}
+use Rattle.uv_order.proofs.Working.{Working}
 use Rattle.uv_order.proofs.Lives.{lives_is, some_of}
-use Rattle.uv_order.proofs.Asked.{runs_work, request_turns}
+use Rattle.uv_order.proofs.Asked.{takes_front, runs_work, request_turns}
 use Rattle.uv_order.proofs.Bodies.{IsBody, is_body}
-use Rattle.uv_order.proofs.OpEffects.{Effect, op_effect}
+use Rattle.uv_order.proofs.OpEffects.{op_effect}
 use Rattle.uv_order.proofs.Counted.{Counted, counted_kept, counted_sent, counted_fresh}
 use Rattle.uv_order.proofs.Sends.{pends_in, pends, SentAt, still_sent, pass_more, pends_more}
-use Rattle.uv_order.proofs.Standing.{bare, begun_with, are_ended, section_of, StandsIn, waiting, rest, Leaves, NobodyLeft, due_now, StandsAt, Stands, FollowsLine, Follows, idle_next, done_next, bare_over, async_moved, begun, pending, idle, prepare, polls, done, async, check, closing, collects, fires, between, running}
-use Rattle.uv_order.proofs.TimersFollow.{turn_follows, timers_left, left_timers, fire_follows, collect_follows}
+use Rattle.uv_order.proofs.Standing.{left_all, bare, begun_with, are_ended, section_of, StandsIn, waiting, rest_in, AsyncIn, rest, Leaves, NobodyLeft, due_now, StandsAt, Stands, FollowsLine, Follows, idle_next, done_next, bare_over, async_moved, begun, pending, idle, prepare, polls, done, async, check, closing, collects, fires, between, running}
+use Rattle.uv_order.proofs.TimersFollow.{turn_follows, fire_follows, collect_follows}
 use Rattle.uv_order.proofs.WatchersFollow.{begin_follows, walk_follows, async_follows, done_follows, closing_follows}
 
 -- ---- a stage
@@ -97,20 +96,12 @@ pub left_poll : (p : Program) (told : Told) (s : State) (run : Run) (deadline : 
 left_poll p told s run deadline sent g c e = cond_both (may_leave s deadline) _ _ (Follows p told (Running run.mode run.line (Polling deadline)) s)
     (λ h. record {
       to = Running run.mode run.line (Within (In phase.Done) (begun_with s.done.list));
-      goes = doc.section (In phase.Done) (more_or (has_passed s.clock deadline) (has_some s.done.list) (has_pending s) (has_some told.sent)
-          (λ on. let r = found_pending s.arena.slots on in some_of told.sent r.0 (sent.are r.0 ∙ r.1)) h)
+      goes = doc.section (In phase.Done) (more_or (has_passed s.clock deadline) (has_some s.done.list) (has_pending s) (has_some told.sent && has_pending s)
+          (λ on. let r = found_pending s.arena.slots on in rw (some_of told.sent r.0 (sent.are r.0 ∙ r.1), on) refl) h)
           (done_next (order_of p) run.mode (doc.goes_on s)) refl
           (record { list = (refl, are_ended s e.done g); off = refl; sent = refl; body = refl }) refl;
       stands = record {
-        stands = running (done refl) (record {
-          timers = e.timers;
-          idle = e.idle;
-          prepare = e.prepare;
-          check = e.check;
-          async = e.async;
-          closing = e.closing;
-          done = sym (none_off s.done.list);
-        });
+        stands = running (done refl) (left_all e.timers e.idle e.prepare e.check e.async e.closing (sym (none_off s.done.list)));
         counted = c;
       };
     })
@@ -120,36 +111,14 @@ pub stage_follows : (p : Program) (told : Told) (s : State) (run : Run) (x : Sta
     SentAt told.sent s → Working s → Counted p s.names told → StandsIn p None x at → Leaves (rest (waiting x s.ready (due_now s)) s) at →
     Follows p told (Running run.mode run.line at) s (step.stage_step p s
     run x)
-stage_follows p told s run stage.Entry at st k h g c begun l = turn_follows p told s run AtEntry Begun (lives_is s g) refl tt k c (record {
-  timers = l.timers;
-  idle = l.idle;
-  prepare = l.prepare;
-  check = l.check;
-  async = l.async;
-  closing = l.closing;
-  done = l.done;
-})
+stage_follows p told s run stage.Entry at st k h g c begun l = turn_follows p told s run AtEntry Begun (lives_is s g) refl tt k c l
 stage_follows p told s run stage.Pending at st k h g c pending l =
-    begin_follows p told s run watcher.Idle (Within (In phase.Pending) bare) (bare_over phase.Pending) idle_next k h c (record {
-      timers = l.timers;
-      idle = l.idle;
-      prepare = l.prepare;
-      check = l.check;
-      async = l.async;
-      closing = l.closing;
-      done = l.done;
-    })
+    begin_follows p told s run watcher.Idle (Within (In phase.Pending) bare) (bare_over phase.Pending) idle_next k h c (left_all l.timers l.idle
+    l.prepare l.check l.async l.closing l.done)
 stage_follows p told s run stage.Idle at st k h g c (idle b) l = walk_follows p told s run watcher.Idle _ (lives_is s g) tt st k h c l b
 stage_follows p told s run stage.Prepare at st k h g c (prepare b) l = walk_follows p told s run watcher.Prepare _ (lives_is s g) tt st k h c l b
-stage_follows p told s run (stage.Poll deadline) at st k h g c polls l = left_poll p told s run deadline h g c (record {
-  timers = l.timers;
-  idle = l.idle;
-  prepare = l.prepare;
-  check = l.check;
-  async = l.async;
-  closing = l.closing;
-  done = l.done;
-})
+stage_follows p told s run (stage.Poll deadline) at st k h g c polls l = left_poll p told s run deadline h g c (left_all l.timers l.idle l.prepare
+    l.check l.async l.closing l.done)
 stage_follows p told s run stage.Done at st k h g c (done b) l = done_follows p told s run _ st k h g c l b
 stage_follows p told s run stage.Async at st k h g c (async b) l = async_follows p told s run _ (lives_is s g) st k h c l b
 stage_follows p told s run stage.Check at st k h g c (check b) l = walk_follows p told s run watcher.Check _ (lives_is s g) tt st k h c l b
@@ -172,171 +141,65 @@ abbrev pub done_one : State → Op → Section → Walk → List Site → Walk
 done_one s o part w rest_of_body = record w { off = taken_off (word_of part) (names_at s) o (do_op s o).answer ++ w.off; body = rest_of_body }
 
 pub none_left : (s : State) (o : Op) → Kept s → NobodyLeft (rest s.ready s) → NobodyLeft (rest (do_op s o).state.ready (do_op s o).state)
-none_left s o k l =
-    let f = op_effect s o k in
-    record {
-      timers = still_none _ s.ready _ f.ready l.timers;
-      idle = still_none _ s.idle.yet _ f.idle l.idle;
-      prepare = still_none _ s.prepare.yet _ f.prepare l.prepare;
-      check = still_none _ s.check.yet _ f.check l.check;
-      async = still_none _ s.async.yet _ f.async l.async;
-      closing = f.closing ∙ l.closing;
-      done = f.done ∙ l.done;
-    }
+none_left s o k l = grind (arith, op_effect, left_all, still_none)
 
 -- who is left after an op, in each section that calls
 abbrev pub LeavesAfter : State → Op → Section → Walk → List Site → Type 0
 LeavesAfter s o part w more = Leaves (rest (do_op s o).state.ready (do_op s o).state) (Within part (done_one s o part w more))
 
-pub idle_left : (s : State) (o : Op) (w : Walk) (more : List Site) → Kept s → Leaves (rest s.ready s) (Within (In phase.Idle) w) → LeavesAfter s o (In
-    phase.Idle) w more
-idle_left s o w more k l =
-    let f = op_effect s o k in
-    record {
-      timers = still_none _ s.ready _ f.ready l.timers;
-      idle = more_left w.ahead w.off _ s.idle.yet _ f.idle l.idle;
-      prepare = still_none _ s.prepare.yet _ f.prepare l.prepare;
-      check = still_none _ s.check.yet _ f.check l.check;
-      async = still_none _ s.async.yet _ f.async l.async;
-      closing = f.closing ∙ l.closing;
-      done = f.done ∙ l.done;
-    }
+-- of the list of one section, in another one or the same
+left_in : (x word : Phase) (names : Names) (o : Op) (a : Answer) (w : Walk) (more : List Site) (now was : List Id) →
+    now ≡ left_of was (taken_off x names o a) → was ≡ rest_in x word w →
+    now ≡ rest_in x word (record w { off = taken_off word names o a ++ w.off; body = more })
+left_in phase.Idle phase.Idle names o a w more now was e h = more_left w.ahead w.off now was _ e h
+left_in phase.Prepare phase.Prepare names o a w more now was e h = more_left w.ahead w.off now was _ e h
+left_in phase.Check phase.Check names o a w more now was e h = more_left w.ahead w.off now was _ e h
+left_in phase.Timers phase.Timers names o a w more now was e h = more_left w.ahead w.off now was _ e h
+left_in phase.Closing phase.Closing names o a w more now was e h = more_left w.ahead w.off now was _ e h
+left_in phase.Done phase.Done names o a w more now was e h = more_left w.ahead w.off now was _ e h
+left_in x word names o a w more now was e h = still_none now was _ e h
 
-pub prepare_left : (s : State) (o : Op) (w : Walk) (more : List Site) → Kept s → Leaves (rest s.ready s) (Within (In phase.Prepare) w) →
-    LeavesAfter s o
-    (In phase.Prepare) w more
-prepare_left s o w more k l =
+async_in : (s : State) (told : Told) (o : Op) (word : Phase) (w : Walk) (more : List Site) → Kept s → SentAt told.sent s →
+    AsyncIn word s.arena.slots w s.async.yet → AsyncIn word (do_op s o).state.arena.slots
+    (record w { off = taken_off word (names_at s) o (do_op s o).answer ++ w.off; body = more }) (do_op s o).state.async.yet
+async_in s told o phase.Async w more k h l =
     let f = op_effect s o k in
     record {
-      timers = still_none _ s.ready _ f.ready l.timers;
-      idle = still_none _ s.idle.yet _ f.idle l.idle;
-      prepare = more_left w.ahead w.off _ s.prepare.yet _ f.prepare l.prepare;
-      check = still_none _ s.check.yet _ f.check l.check;
-      async = still_none _ s.async.yet _ f.async l.async;
-      closing = f.closing ∙ l.closing;
-      done = f.done ∙ l.done;
+      gone = l.gone;
+      behind = l.behind;
+      all = l.all;
+      left = more_left l.behind w.off _ s.async.yet _ f.async l.left;
+      passed = pass_more (taken_off phase.Async (names_at s) o (do_op s o).answer) w.off w.sent l.gone l.passed;
+      still = still_sent s told o s.async.yet _ w.sent k h f.async l.still;
     }
-
-pub check_left : (s : State) (o : Op) (w : Walk) (more : List Site) → Kept s → Leaves (rest s.ready s) (Within (In phase.Check) w) →
-    LeavesAfter s o (In
-    phase.Check) w more
-check_left s o w more k l =
-    let f = op_effect s o k in
-    record {
-      timers = still_none _ s.ready _ f.ready l.timers;
-      idle = still_none _ s.idle.yet _ f.idle l.idle;
-      prepare = still_none _ s.prepare.yet _ f.prepare l.prepare;
-      check = more_left w.ahead w.off _ s.check.yet _ f.check l.check;
-      async = still_none _ s.async.yet _ f.async l.async;
-      closing = f.closing ∙ l.closing;
-      done = f.done ∙ l.done;
-    }
-
-pub async_left : (s : State) (told : Told) (o : Op) (w : Walk) (more : List Site) → Kept s → SentAt told.sent s →
-    Leaves (rest s.ready s) (Within (In phase.Async) w) → LeavesAfter s o (In phase.Async) w more
-async_left s told o w more k h l =
-    let f = op_effect s o k in
-    record {
-      timers = still_none _ s.ready _ f.ready l.timers;
-      idle = still_none _ s.idle.yet _ f.idle l.idle;
-      prepare = still_none _ s.prepare.yet _ f.prepare l.prepare;
-      check = still_none _ s.check.yet _ f.check l.check;
-      async = record {
-        gone = l.async.gone;
-        behind = l.async.behind;
-        all = l.async.all;
-        left = more_left l.async.behind w.off _ s.async.yet _ f.async l.async.left;
-        passed = pass_more (taken_off phase.Async (names_at s) o (do_op s o).answer) w.off w.sent l.async.gone l.async.passed;
-        still = still_sent s told o s.async.yet _ w.sent k h f.async l.async.still;
-      };
-      closing = f.closing ∙ l.closing;
-      done = f.done ∙ l.done;
-    }
+async_in s told o word w more k h l = still_none _ s.async.yet _ (op_effect s o k).async l
 
 -- no op takes a handle off the closing list
 pub closing_takes_none : (s : State) (o : Op) (a : Answer) → taken_off phase.Closing (names_at s) o a ≡ []
 closing_takes_none s o (answer.Code code.Ok) = refl
-closing_takes_none s o (answer.Code code.Einval) = refl
-closing_takes_none s o (answer.Code code.Ebusy) = refl
-closing_takes_none s o (answer.Code code.Ecanceled) = refl
-closing_takes_none s o (answer.Code code.Ebound) = refl
-closing_takes_none s o (answer.Code code.Efull) = refl
-closing_takes_none s o (answer.Code code.Estale) = refl
-closing_takes_none s o (answer.Code code.Ekind) = refl
-closing_takes_none s o (answer.Id id) = refl
-closing_takes_none s o (answer.Cancelled id) = refl
-closing_takes_none s o (answer.Number n) = refl
-closing_takes_none s o (answer.Flag b) = refl
-closing_takes_none s o (answer.Timeout t) = refl
-
-pub closing_left : (s : State) (o : Op) (w : Walk) (more : List Site) → Kept s → Leaves (rest s.ready s) (Within (In phase.Closing) w) →
-    LeavesAfter s o
-    (In phase.Closing) w more
-closing_left s o w more k l =
-    let f = op_effect s o k in
-    record {
-      timers = still_none _ s.ready _ f.ready l.timers;
-      idle = still_none _ s.idle.yet _ f.idle l.idle;
-      prepare = still_none _ s.prepare.yet _ f.prepare l.prepare;
-      check = still_none _ s.check.yet _ f.check l.check;
-      async = still_none _ s.async.yet _ f.async l.async;
-      closing = f.closing ∙ l.closing
-          ∙ ap (λ (off : List Id). left_of w.ahead (off ++ w.off)) (sym (closing_takes_none s o (do_op s o).answer));
-      done = f.done ∙ l.done;
-    }
+closing_takes_none s o each = refl
 
 -- nor a request off the list of those that are done
 pub done_takes_none : (s : State) (o : Op) (a : Answer) → taken_off phase.Done (names_at s) o a ≡ []
 done_takes_none s o (answer.Code code.Ok) = refl
-done_takes_none s o (answer.Code code.Einval) = refl
-done_takes_none s o (answer.Code code.Ebusy) = refl
-done_takes_none s o (answer.Code code.Ecanceled) = refl
-done_takes_none s o (answer.Code code.Ebound) = refl
-done_takes_none s o (answer.Code code.Efull) = refl
-done_takes_none s o (answer.Code code.Estale) = refl
-done_takes_none s o (answer.Code code.Ekind) = refl
-done_takes_none s o (answer.Id id) = refl
-done_takes_none s o (answer.Cancelled id) = refl
-done_takes_none s o (answer.Number n) = refl
-done_takes_none s o (answer.Flag b) = refl
-done_takes_none s o (answer.Timeout t) = refl
+done_takes_none s o each = refl
 
-pub done_left : (s : State) (o : Op) (w : Walk) (more : List Site) → Kept s → Leaves (rest s.ready s) (Within (In phase.Done) w) →
-    LeavesAfter s o (In phase.Done) w more
-done_left s o w more k l =
-    let f = op_effect s o k in
-    record {
-      timers = still_none _ s.ready _ f.ready l.timers;
-      idle = still_none _ s.idle.yet _ f.idle l.idle;
-      prepare = still_none _ s.prepare.yet _ f.prepare l.prepare;
-      check = still_none _ s.check.yet _ f.check l.check;
-      async = still_none _ s.async.yet _ f.async l.async;
-      closing = f.closing ∙ l.closing;
-      done = f.done ∙ l.done
-          ∙ ap (λ (off : List Id). left_of w.ahead (off ++ w.off)) (sym (done_takes_none s o (do_op s o).answer));
-    }
+-- no list is touched by an op that takes nobody off it
+untouched : (now was off : List Id) → now ≡ was → off ≡ [] → now ≡ left_of was off
+untouched now was off e h = e ∙ sym (none_off was) ∙ ap (left_of was) (sym h)
 
-pub timers_after_op : (s : State) (o : Op) (part : TimersOf) (w : Walk) (more : List Site) → Kept s →
-    Leaves (rest s.ready s) (Within (section_of part)
-    w) →
-    LeavesAfter s o (section_of part) w more
-timers_after_op s o part w more k l =
+op_left : (s : State) (told : Told) (o : Op) (part : Section) (w : Walk) (more : List Site) → Kept s → SentAt told.sent s →
+    Leaves (rest s.ready s) (Within part w) → LeavesAfter s o part w more
+op_left s told o part w more k h l =
     let f = op_effect s o k in
-    let left = left_timers part (rest s.ready s) w l in
-    timers_left part _ (done_one s o (section_of part) w more) (record {
-      ready = ready part f left.ready;
-      idle = still_none _ s.idle.yet _ f.idle left.idle;
-      prepare = still_none _ s.prepare.yet _ f.prepare left.prepare;
-      check = still_none _ s.check.yet _ f.check left.check;
-      async = still_none _ s.async.yet _ f.async left.async;
-      closing = f.closing ∙ left.closing;
-      done = f.done ∙ left.done;
-    })
-  where
-    ready : (x : TimersOf) → Effect s o (do_op s o) → s.ready ≡ left_of w.ahead w.off → (do_op s o).state.ready ≡ left_of w.ahead (done_one s o
-        (section_of x) w more).off
-    ready timers_of.Entry f e = more_left w.ahead w.off _ s.ready _ f.ready e
-    ready timers_of.Iteration f e = more_left w.ahead w.off _ s.ready _ f.ready e
+    let a = (do_op s o).answer in
+    (left_all (left_in phase.Timers (word_of part) (names_at s) o a w more _ s.ready f.ready l.timers)
+    (left_in phase.Idle (word_of part) (names_at s) o a w more _ s.idle.yet f.idle l.idle)
+    (left_in phase.Prepare (word_of part) (names_at s) o a w more _ s.prepare.yet f.prepare l.prepare)
+    (left_in phase.Check (word_of part) (names_at s) o a w more _ s.check.yet f.check l.check)
+    (async_in s told o (word_of part) w more k h l.async)
+    (left_in phase.Closing (word_of part) (names_at s) o a w more _ s.closing.yet (untouched _ s.closing.yet _ f.closing (closing_takes_none s o a)) l.closing)
+    (left_in phase.Done (word_of part) (names_at s) o a w more _ s.done.yet (untouched _ s.done.yet _ f.done (done_takes_none s o a)) l.done))
 
 pub nothing_there : {A : Type 0} {o : Option A} {x : A} → o ≡ None → o ≡ Some x → ⊥
 nothing_there e f = cc (e, f)
@@ -382,19 +245,19 @@ body_follows p told s run body x at None st e k h c (closing b) l = absurd (noth
 body_follows p told s run body x at None st e k h c (done b) l = absurd (nothing_there e b.there)
 body_follows p told s run body x at None st e k h c (fires b) l = absurd (nothing_there e b.there)
 body_follows p told s run body x at (Some y) st e k h c (idle {w = w} b) l =
-    op_follows p told s run body (In phase.Idle) w y e k c b (λ more is. rw st (running (idle is) (idle_left s y.op w more k l)))
+    op_follows p told s run body (In phase.Idle) w y e k c b (λ more is. rw st (running (idle is) (op_left s told y.op (In phase.Idle) w more k h l)))
 body_follows p told s run body x at (Some y) st e k h c (prepare {w = w} b) l =
-    op_follows p told s run body (In phase.Prepare) w y e k c b (λ more is. rw st (running (prepare is) (prepare_left s y.op w more k l)))
+    op_follows p told s run body (In phase.Prepare) w y e k c b (λ more is. rw st (running (prepare is) (op_left s told y.op (In phase.Prepare) w more k h l)))
 body_follows p told s run body x at (Some y) st e k h c (check {w = w} b) l =
-    op_follows p told s run body (In phase.Check) w y e k c b (λ more is. rw st (running (check is) (check_left s y.op w more k l)))
+    op_follows p told s run body (In phase.Check) w y e k c b (λ more is. rw st (running (check is) (op_left s told y.op (In phase.Check) w more k h l)))
 body_follows p told s run body x at (Some y) st e k h c (async {w = w} b) l =
-    op_follows p told s run body (In phase.Async) w y e k c b (λ more is. rw st (running (async is) (async_left s told y.op w more k h l)))
+    op_follows p told s run body (In phase.Async) w y e k c b (λ more is. rw st (running (async is) (op_left s told y.op (In phase.Async) w more k h l)))
 body_follows p told s run body x at (Some y) st e k h c (closing {w = w} b) l =
-    op_follows p told s run body (In phase.Closing) w y e k c b (λ more is. rw st (running (closing is) (closing_left s y.op w more k l)))
+    op_follows p told s run body (In phase.Closing) w y e k c b (λ more is. rw st (running (closing is) (op_left s told y.op (In phase.Closing) w more k h l)))
 body_follows p told s run body x at (Some y) st e k h c (done {w = w} b) l =
-    op_follows p told s run body (In phase.Done) w y e k c b (λ more is. rw st (running (done is) (done_left s y.op w more k l)))
+    op_follows p told s run body (In phase.Done) w y e k c b (λ more is. rw st (running (done is) (op_left s told y.op (In phase.Done) w more k h l)))
 body_follows p told s run body x at (Some y) st e k h c (fires {part = part} {w = w} b) l =
-    op_follows p told s run body (section_of part) w y e k c b (λ more is. rw st (running (fires is) (timers_after_op s y.op part w more k l)))
+    op_follows p told s run body (section_of part) w y e k c b (λ more is. rw st (running (fires is) (op_left s told y.op (section_of part) w more k h l)))
 
 -- ---- the main program, and a whole step
 
@@ -419,15 +282,7 @@ main_follows p told s i (Some (main.Run m)) e k c l = record {
 
   begun_at : (time : ℕ) → Stands p told (begun_in (record s { time = time })) (Running m i Begun)
   begun_at time = record {
-    stands = running begun (record {
-      timers = l.timers;
-      idle = l.idle;
-      prepare = l.prepare;
-      check = l.check;
-      async = l.async;
-      closing = l.closing;
-      done = l.done;
-    });
+    stands = running begun l;
     counted = c;
   }
 main_follows p told s i (Some (main.Op o)) e k c l = record {
@@ -485,24 +340,9 @@ send_follows p told s at v h = cond_both (nat_lt v.0 (length s.names)) _ _ (Foll
   where
     moved : (t : Id × HandleRecord) → handle s t.0 ≡ Some t.1 → (x : Place) (y : Position) → StandsAt p s x y →
         StandsAt p (with_handle s t.0 (records.sent t.1)) x y
-    moved t f (place.Main i) y (between e) = between (record {
-      timers = e.timers;
-      idle = e.idle;
-      prepare = e.prepare;
-      check = e.check;
-      async = e.async;
-      closing = e.closing;
-      done = e.done;
-    })
-    moved t f (place.Running run) y (running {at = b} a l) = running a (record {
-      timers = l.timers;
-      idle = l.idle;
-      prepare = l.prepare;
-      check = l.check;
-      async = async_moved s.arena.slots _ (pends_more s.arena.slots t.0 t.1 (records.sent t.1) f refl) b s.async.yet l.async;
-      closing = l.closing;
-      done = l.done;
-    })
+    moved t f (place.Main i) y (between e) = between (left_all e.timers e.idle e.prepare e.check e.async e.closing e.done)
+    moved t f (place.Running run) y (running {at = b} a l) = running a (left_all l.timers l.idle l.prepare l.check
+        (async_moved s.arena.slots _ (pends_more s.arena.slots t.0 t.1 (records.sent t.1) f refl) b s.async.yet l.async) l.closing l.done)
 
 -- the lists of requests are no places
 works_on : (p : Program) (s : State) (ids : List Id) (workers : List (Option Id)) (x : Place) (at : Position) → StandsAt p s x at →
@@ -510,12 +350,12 @@ works_on : (p : Program) (s : State) (ids : List Id) (workers : List (Option Id)
 works_on p s ids workers (place.Main i) at (between e) = between e
 works_on p s ids workers (place.Running run) at (running a l) = running a l
 
-take_follows : (p : Program) (told : Told) (s : State) (at : Position) (n : ℕ) (t : Result (Id × Request) Why) → Stands p told s at →
-    Follows p told at s (step.take s n t)
-take_follows p told s at n (Err why) h = tt
-take_follows p told s at n (Ok t) h = record {
+take_follows : (p : Program) (told : Told) (s : State) (at : Position) (n : ℕ) (t : Result (Id × Request) Why) →
+    next_work s (slice_get s.running n) ≡ t → Stands p told s at → Follows p told at s (step.take s n t)
+take_follows p told s at n (Err why) e h = tt
+take_follows p told s at n (Ok t) e h = record {
   to = at;
-  goes = doc.taken n t.1.name t.0 refl refl;
+  goes = doc.taken n t.1.name t.0 refl (ap (option_map name_in) (takes_front s n t e).front.holds) refl;
   stands = record { stands = works_on p s (drop 1 s.waiting) (slice_set s.running n (Some t.0)) s.place at h.stands; counted = h.counted };
 }
 
@@ -523,26 +363,11 @@ take_follows p told s at n (Ok t) h = record {
 ends_on : (p : Program) (s : State) (t : Id × Request) (x : Request) (ids : List Id) (workers : List (Option Id)) →
     held s.arena.slots t.0 ≡ Some (content.Request t.1) → (y : Place) (at : Position) → StandsAt p s y at →
     StandsAt p (record (with_request s t.0 x) { waiting = ids; running = workers; done = record s.done { list = s.done.list ++ t.0 ∷ [] } }) y at
-ends_on p s t x ids workers e (place.Main i) at (between l) = between (record {
-  timers = l.timers;
-  idle = l.idle;
-  prepare = l.prepare;
-  check = l.check;
-  async = l.async;
-  closing = l.closing;
-  done = l.done;
-})
-ends_on p s t x ids workers e (place.Running run) at (running {at = b} a l) = running a (record {
-  timers = l.timers;
-  idle = l.idle;
-  prepare = l.prepare;
-  check = l.check;
-  async = async_moved s.arena.slots _ (λ i on. ap pends_in (same i) ∙ on) b s.async.yet l.async;
-  closing = l.closing;
-  done = l.done;
-}) where
-  same : SameHandles (with_request s t.0 x).arena.slots s.arena.slots
-  same = same_handles s.arena.slots _ t.0 _ _ (request_turns s.arena.slots t.0 t.1 x e) refl refl
+ends_on p s t x ids workers e (place.Main i) at (between l) = between (left_all l.timers l.idle l.prepare l.check l.async l.closing l.done)
+ends_on p s t x ids workers e (place.Running run) at (running {at = b} a l) = running a (left_all l.timers l.idle l.prepare l.check
+    (async_moved s.arena.slots _ (λ i on. ap pends_in (same i) ∙ on) b s.async.yet l.async) l.closing l.done) where
+      same : SameHandles (with_request s t.0 x).arena.slots s.arena.slots
+      same = same_handles s.arena.slots _ t.0 _ _ (request_turns s.arena.slots t.0 t.1 x e) refl refl
 
 finish_follows : (p : Program) (told : Told) (s : State) (at : Position) (n : ℕ) → Stands p told s at →
     Follows p told at s (step.finish s n (work_of s (slice_get s.running n)))
@@ -551,7 +376,7 @@ finish_follows p told s at n h = by (work_of s (slice_get s.running n)) refl whe
   by (Err why) e = tt
   by (Ok t) e = record {
     to = at;
-    goes = doc.finished n t.1.name t.0 refl refl;
+    goes = doc.finished n t.1.name t.0 refl (ap (option_map name_in) (runs_work s n t e).holds) refl;
     stands = record {
       stands = ends_on p s t _ s.waiting (slice_set s.running n None) (runs_work s n t e).holds s.place at h.stands;
       counted = h.counted;
@@ -576,7 +401,7 @@ pub follows : (p : Program) (told : Told) (s : State) (at : Position) (e : Event
     Follows p told at s (next p s e)
 unfolding next
 follows p told s at Loop k sent g h = place_follows p told s s.place at k sent g h.counted h.stands
-follows p told s at (Take n) k sent g h = take_follows p told s at n (next_work s (slice_get s.running n)) h
+follows p told s at (Take n) k sent g h = take_follows p told s at n (next_work s (slice_get s.running n)) refl h
 follows p told s at (Finish n) k sent g h = finish_follows p told s at n h
 follows p told s at (Cancel v) k sent g h = cancel_follows p told s at v h
 follows p told s at (Send v) k sent g h = send_follows p told s at v h
@@ -585,46 +410,24 @@ follows p told s at (Tick ms) k sent g h = tick_follows p told s at ms h
 -- ---- all steps
 
 -- a section begins only where none of its list is yet to run
-pub rested_in : (p : Program) (s : State) (body : Option Body) (x : Stage) (at : Standing) → StandsIn p body x at →
-    Leaves (rest (waiting x s.ready (due_now s)) s) at → IsRestedIn body x s
-rested_in p s (Some body) x at h l = tt
-rested_in p s None stage.Entry at h l = tt
-rested_in p s None stage.Pending at pending l = l.idle
-rested_in p s None stage.Idle at (idle b) l = l.prepare
-rested_in p s None stage.Prepare at h l = tt
-rested_in p s None (stage.Poll deadline) at h l = tt
-rested_in p s None stage.Done at (done b) l = l.async
-rested_in p s None stage.Async at (async b) l = l.check
-rested_in p s None stage.Check at (check b) l = l.closing
-rested_in p s None stage.Closing at h l = tt
-rested_in p s None (stage.Timers part timing) at h l = tt
+pub begins_in : (p : Program) (s : State) (body : Option Body) (x : Stage) (at : Standing) → StandsIn p body x at →
+    Leaves (rest (waiting x s.ready (due_now s)) s) at → BeginsIn body x s
+begins_in p s (Some body) x at h l = tt
+begins_in p s None stage.Pending at pending l = l.idle
+begins_in p s None stage.Idle at (idle b) l = l.prepare
+begins_in p s None (stage.Poll deadline) at polls l = l.done
+begins_in p s None stage.Done at (done b) l = l.async
+begins_in p s None stage.Async at (async b) l = l.check
+begins_in p s None stage.Check at (check b) l = l.closing
+begins_in p s None each at h l = tt
 
--- and the poll is left only where no request that is done is yet to call back
-calm_in : (p : Program) (s : State) (body : Option Body) (x : Stage) (at : Standing) → StandsIn p body x at →
-    Leaves (rest (waiting x s.ready (due_now s)) s) at → IsCalmIn body x s
-calm_in p s (Some body) x at h l = tt
-calm_in p s None stage.Entry at h l = tt
-calm_in p s None stage.Pending at h l = tt
-calm_in p s None stage.Idle at h l = tt
-calm_in p s None stage.Prepare at h l = tt
-calm_in p s None (stage.Poll deadline) at polls l = l.done
-calm_in p s None stage.Done at h l = tt
-calm_in p s None stage.Async at h l = tt
-calm_in p s None stage.Check at h l = tt
-calm_in p s None stage.Closing at h l = tt
-calm_in p s None (stage.Timers part timing) at h l = tt
-
-pub calm_at : (p : Program) (s : State) (x : Place) (at : Position) → StandsAt p s x at → IsCalmAt x s
-calm_at p s (place.Main i) at h = tt
-calm_at p s (place.Running run) at (running h l) = calm_in p s run.body run.stage _ h l
-
-pub rested_at : (p : Program) (s : State) (x : Place) (at : Position) → StandsAt p s x at → IsRestedAt x s
-rested_at p s (place.Main i) at h = tt
-rested_at p s (place.Running run) at (running h l) = rested_in p s run.body run.stage _ h l
+pub begins_at : (p : Program) (s : State) (x : Place) (at : Position) → StandsAt p s x at → BeginsAt x s
+begins_at p s (place.Main i) at h = tt
+begins_at p s (place.Running run) at (running h l) = begins_in p s run.body run.stage _ h l
 
 -- where every script begins
 pub stands_fresh : (p : Program) → Stands p nothing_told (fresh p) (Between 0)
 stands_fresh p = record {
-  stands = between (record { timers = refl; idle = refl; prepare = refl; check = refl; async = refl; closing = refl; done = refl });
+  stands = between (left_all refl refl refl refl refl refl refl);
   counted = counted_fresh p;
 }

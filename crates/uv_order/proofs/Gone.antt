@@ -1,14 +1,13 @@
 -- Ids that will never be held again: the slot has a later generation, or is empty for good.
-use Rattle.std.proofs.Common.{◌≡◌, ◌⊎◌, inl, inr, ℕ, ◌<◌, ◌≤◌, ◌==◌, List, [], ◌∷◌, ◌++◌, Bool, true, false, cond, Option, Some, None, slice_get, slice_set, refl, ap, sym, ◌∙◌, arith}
-use Rattle.std.proofs.lemmas.Bool.{or_parts, both_ways, eqb-true, eq-eqb}
-use Rattle.std.proofs.lemmas.Option.{same_Some}
+use Rattle.std.proofs.Common.{◌≡◌, ◌⊎◌, inl, inr, ℕ, ◌<◌, ◌≤◌, ◌==◌, List, [], ◌∷◌, ◌++◌, true, false, Option, Some, None, slice_get, slice_set, refl, arith}
+use Rattle.std.proofs.lemmas.Bool.{or_parts, eq-eqb}
 use Rattle.uv_ids.specs.declared.id.Id.{Id}
 use Rattle.uv_records.specs.declared.handle.HandleRecord.{HandleRecord}
 use Rattle.uv_records.specs.declared.slot.Slot.{Slot}
 use Rattle.uv_records.specs.Slots.{held}
 use Rattle.uv_work.specs.declared.content.Content.{Content}
 use Rattle.uv_work.specs.declared.content.Content.TheVariants as content
-use Rattle.uv_order.proofs.Contents.{look, slot_with, emptied, holds, other_generation, get_set_same, get_set_other, get_push}
+use Rattle.uv_order.proofs.Contents.{slot_with, emptied, holds, get_set_same, get_set_other, get_push}
 use Rattle.uv_order.proofs.Holding.{held_at, is_held, put}
 use Rattle.uv_order.proofs.Keeping.{has_number}
 
@@ -20,14 +19,7 @@ pub record IsGone (slots : List (Slot Content)) (free : List ℕ) (id : Id) : Ty
 
 -- nothing is held under it
 pub none_held : (slots : List (Slot Content)) (free : List ℕ) (id : Id) → IsGone slots free id → held slots id ≡ None
-none_held slots free id k = ap (look id) k.there ∙ at k.past where
-  empty : k.slot.content ≡ None → (b : Bool) → cond b k.slot.content None ≡ None
-  empty e true = e
-  empty e false = refl
-
-  at : (id.generation < k.slot.generation) ⊎ ((k.slot.content ≡ None) × (has_number free id.slot ≡ false)) → look id (Some k.slot) ≡ None
-  at (inl later) = other_generation id k.slot (λ e. omega (arith, later, e))
-  at (inr (e, f)) = empty e (k.slot.generation == id.generation)
+none_held slots free id k = grind arith
 
 pub not_held : (slots : List (Slot Content)) (free : List ℕ) (id : Id) (c : Content) → IsGone slots free id → held slots id ≡ Some c → ⊥
 not_held slots free id c k e = cc (none_held slots free id k, e)
@@ -37,38 +29,12 @@ pub gone_set : (slots : List (Slot Content)) (free more : List ℕ) (n : ℕ) (o
     old.generation ≤ new.generation → (old.content ≡ None → has_number free n ≡ true) →
     ((m : ℕ) → (m ≡ n → ⊥) → has_number free m ≡ false → has_number more m ≡ false) → IsGone slots free id →
     IsGone (slice_set slots n new) more id
-gone_set slots free more n old new id e grows unless others k = at (id.slot == n) refl where
-  at : (b : Bool) → (id.slot == n) ≡ b → IsGone (slice_set slots n new) more id
-  at true f =
-      let here : id.slot ≡ n = eqb-true id.slot n f in
-      let one : k.slot ≡ old = same_Some _ _ (sym k.there ∙ ap (slice_get slots) here ∙ e) in
-      record { slot = new; there = ap (slice_get (slice_set slots n new)) here ∙ get_set_same slots n new old e; past = later one here k.past }
-    where
-      later : k.slot ≡ old → id.slot ≡ n →
-          (id.generation < k.slot.generation) ⊎ ((k.slot.content ≡ None) × (has_number free id.slot ≡ false)) →
-          (id.generation < new.generation) ⊎ ((new.content ≡ None) × (has_number more id.slot ≡ false))
-      later one here (inl l) = let same : k.slot.generation ≡ old.generation = ap (λ (s : Slot Content). s.generation) one in inl (omega arith)
-      later one here (inr (c, g)) =
-          absurd (both_ways (has_number free n) (ap (has_number free) (sym here) ∙ g) (unless (ap (λ (s : Slot Content). s.content) (sym one) ∙ c)))
-  at false f = record { slot = k.slot; there = get_set_other slots n id.slot new away ∙ k.there; past = still k.past } where
-    away : id.slot ≡ n → ⊥
-    away g = both_ways (id.slot == n) f (eq-eqb id.slot n g)
-
-    still : (id.generation < k.slot.generation) ⊎ ((k.slot.content ≡ None) × (has_number free id.slot ≡ false)) →
-        (id.generation < k.slot.generation) ⊎ ((k.slot.content ≡ None) × (has_number more id.slot ≡ false))
-    still (inl l) = inl l
-    still (inr (c, g)) = inr (c, others id.slot away g)
+gone_set slots free more n old new id e grows unless others k = grind (arith, get_set_same, get_set_other)
 
 -- a slot that holds something isn't empty
 pub is_filled : (slots : List (Slot Content)) (id : Id) (c : Content) (slot : Slot Content) → held slots id ≡ Some c →
     slice_get slots id.slot ≡ Some slot → slot.content ≡ None → ⊥
-is_filled slots id c slot e f none =
-    let k = holds slots id c e in
-    let one : k.at.slot ≡ slot = same_Some _ _ (sym k.at.there ∙ f) in
-    clash (sym (ap (λ (s : Slot Content). s.content) one ∙ none) ∙ k.content)
-  where
-    clash : ◌≡◌ {A = Option Content} None (Some c) → ⊥
-    clash g = cc g
+is_filled slots id c slot e f none = grind arith
 
 -- something else is put into a slot that holds something
 pub gone_turned : (slots : List (Slot Content)) (free : List ℕ) (id : Id) (c : Content) (d : Option Content) (i : Id) → held slots id ≡ Some c →

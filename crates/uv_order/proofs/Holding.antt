@@ -48,13 +48,7 @@ NoNewNames now was = (i : Id) (v : Var) → name_at now i ≡ Some v → name_at
 -- one id turns, and what it stands for, if anything, is called as before
 pub names_turned : (slots more : List (Slot Content)) (id : Id) (was is : Option Content) → Turns slots more id was is →
     ((v : Var) → option_map name_in is ≡ Some v → option_map name_in was ≡ Some v) → NoNewNames more slots
-names_turned slots more id was is t f i v e = at (same_id i id) refl where
-  at : (b : Bool) → same_id i id ≡ b → name_at slots i ≡ Some v
-  at true s =
-      let here = same i id s in
-      ap (name_at slots) here ∙ ap (option_map name_in) t.before
-      ∙ f v (sym (ap (option_map name_in) t.here) ∙ ap (name_at more) (sym here) ∙ e)
-  at false s = sym (ap (option_map name_in) (t.others i (other i id s))) ∙ e
+names_turned slots more id was is t f i v e = grind arith
 
 pub is_held : (slots : List (Slot Content)) (id : Id) (h : HandleRecord) → held_at slots id ≡ Some h → held slots id ≡ Some (content.Handle h)
 is_held slots id h e = as_handle (held slots id) h e
@@ -106,12 +100,7 @@ SameHandles more slots = (i : Id) → held_at more i ≡ held_at slots i
 -- one id turns, which stands for no handle before and after
 pub same_handles : (slots more : List (Slot Content)) (id : Id) (was is : Option Content) → Turns slots more id was is → handle_in was ≡ None →
     handle_in is ≡ None → SameHandles more slots
-same_handles slots more id was is t e f i = at (same_id i id) refl where
-  at : (b : Bool) → same_id i id ≡ b → held_at more i ≡ held_at slots i
-  at true s =
-      let here = same i id s in
-      ap (held_at more) here ∙ ap handle_in t.here ∙ f ∙ sym (ap (held_at slots) here ∙ ap handle_in t.before ∙ e)
-  at false s = ap handle_in (t.others i (other i id s))
+same_handles slots more id was is t e f i = grind arith
 
 -- ---- ids of handles of which something holds
 
@@ -153,17 +142,7 @@ fitted slots P id h x e i d k = record { handle = k.handle; holds = sym (put_oth
 pub fits_back : (slots : List (Slot Content)) (P : HandleRecord → Type 0) (id : Id) (h x : HandleRecord) → held_at slots id ≡ Some h → (P x → P h) →
     (i : Id) →
     Fits (put slots id x) P i → Fits slots P i
-fits_back slots P id h x e g i l = at (same_id i id) refl where
-  at : (b : Bool) → same_id i id ≡ b → Fits slots P i
-  at true s =
-      let is = same i id s in
-      record {
-        handle = h;
-        holds = ap (held_at slots) is ∙ e;
-        fits = g
-            (its_handle (put slots id x) P id x (put_same slots id h x e) (subst (Fits (put slots id x) P) is l));
-      }
-  at false s = fitted slots P id h x e i (other i id s) l
+fits_back slots P id h x e g i l = grind (arith, holds, same, other, fitted, its_handle, put_same)
 
 -- no handle changes
 pub fits_same : (slots more : List (Slot Content)) (P : HandleRecord → Type 0) → SameHandles more slots → (i : Id) → Fits slots P i → Fits more P i
@@ -195,10 +174,7 @@ lists_without slots P id h x ids e k = record {
 
 pub lists_same : (slots more : List (Slot Content)) (P : HandleRecord → Type 0) (ids : List Id) → SameHandles more slots → Lists slots P ids →
     Lists more P ids
-lists_same slots more P ids f k = record {
-  each = each_mapped (Fits slots P) (Fits more P) (fits_same slots more P f) ids k.each;
-  distinct = k.distinct;
-}
+lists_same slots more P ids f k = grind (arith, each_mapped, fits_same)
 
 -- a handle that doesn't fit is on no such list
 pub not_listed : (slots : List (Slot Content)) (P : HandleRecord → Type 0) (id : Id) (h : HandleRecord) (ids : List Id) → held_at slots id ≡ Some h
@@ -214,20 +190,13 @@ pub record Everyone (slots : List (Slot Content)) (P : HandleRecord → Type 0) 
 
 pub everyone_same : (slots more : List (Slot Content)) (P : HandleRecord → Type 0) (ids : List Id) → SameHandles more slots → Everyone slots P ids →
     Everyone more P ids
-everyone_same slots more P ids f k = record {
-  lists = lists_same slots more P ids f k.lists;
-  all = λ i l. k.all i (fits_same more slots P (λ j. sym (f j)) i l);
-}
+everyone_same slots more P ids f k = grind (arith, fits_same, lists_same)
 
 -- a handle is changed that fits before and after, or doesn't
 pub everyone_put : (slots : List (Slot Content)) (P : HandleRecord → Type 0) (id : Id) (h x : HandleRecord) (ids : List Id) → held_at slots id ≡
     Some h →
     (P h → P x) → (P x → P h) → Everyone slots P ids → Everyone (put slots id x) P ids
-everyone_put slots P id h x ids e f g k = record {
-  lists = lists_put slots P id h x ids e f k.lists;
-  all = λ i l. k.all i
-      (fits_back slots P id h x e g i l);
-}
+everyone_put slots P id h x ids e f g k = grind (arith, fits_back, lists_put)
 
 -- one that doesn't fit any more is taken off
 pub everyone_without : (slots : List (Slot Content)) (P : HandleRecord → Type 0) (id : Id) (h x : HandleRecord) (ids : List Id) → held_at slots id ≡
@@ -262,38 +231,23 @@ everyone_front slots P id h x ids e f g k =
 
 pub fits_grown : (slots more : List (Slot Content)) (P : HandleRecord → Type 0) (id : Id) (x : HandleRecord) → Grown slots more id x → (i : Id) →
     Fits slots P i → Fits more P i
-fits_grown slots more P id x g i k = record {
-  handle = k.handle;
-  holds = g.others i (λ e. clash (ap (held_at slots) (sym e) ∙ k.holds)) ∙ k.holds;
-  fits = k.fits;
-} where
-  clash : held_at slots id ≡ Some k.handle → ⊥
-  clash e = cc (sym g.new ∙ e)
+fits_grown slots more P id x g i k = grind arith
 
 -- it fitted before, unless it is the new one
 pub fitted_grown : (slots more : List (Slot Content)) (P : HandleRecord → Type 0) (id : Id) (x : HandleRecord) → Grown slots more id x → (i : Id) →
     Fits more P i →
     ((i ≡ id) × P x) ⊎ Fits slots P i
-fitted_grown slots more P id x g i l = by (same_id i id) refl where
-  by : (b : Bool) → same_id i id ≡ b → ((i ≡ id) × P x) ⊎ Fits slots P i
-  by true s = let is = same i id s in inl (is, its_handle more P id x g.here (subst (Fits more P) is l))
-  by false s = inr (record { handle = l.handle; holds = sym (g.others i (other i id s)) ∙ l.holds; fits = l.fits })
+fitted_grown slots more P id x g i l = grind arith
 
 pub lists_grown : (slots more : List (Slot Content)) (P : HandleRecord → Type 0) (id : Id) (x : HandleRecord) (ids : List Id) → Grown slots more id
     x →
     Lists slots P ids → Lists more P ids
-lists_grown slots more P id x ids g k = record {
-  each = each_mapped (Fits slots P) (Fits more P) (fits_grown slots more P id x g) ids k.each;
-  distinct = k.distinct;
-}
+lists_grown slots more P id x ids g k = grind (arith, each_mapped, fits_grown)
 
 pub everyone_grown : (slots more : List (Slot Content)) (P : HandleRecord → Type 0) (id : Id) (x : HandleRecord) (ids : List Id) → Grown slots more
     id x → (P x → ⊥) →
     Everyone slots P ids → Everyone more P ids
-everyone_grown slots more P id x ids g d k = record {
-  lists = lists_grown slots more P id x ids g k.lists;
-  all = λ i l. elim (fitted_grown slots more P id x g i l) [ inl new ↦ absurd (d new.1) | inr old ↦ k.all i old ];
-}
+everyone_grown slots more P id x ids g d k = grind (arith, fitted_grown, lists_grown)
 
 -- the new one is listed, anywhere
 pub everyone_listed : (slots more : List (Slot Content)) (P : HandleRecord → Type 0) (id : Id) (x : HandleRecord) (xs ys : List Id) → Grown slots
@@ -351,10 +305,7 @@ lists_emptied slots P id h n ids e d k = record {
 pub everyone_emptied : (slots : List (Slot Content)) (P : HandleRecord → Type 0) (id : Id) (h : HandleRecord) (n : ℕ) (ids : List Id) → held_at
     slots id ≡ Some h → (P h → ⊥) →
     Everyone slots P ids → Everyone (emptied slots id n) P ids
-everyone_emptied slots P id h n ids e d k = record {
-  lists = lists_emptied slots P id h n ids e d k.lists;
-  all = λ i l. k.all i (fitted_emptied slots P id h n e i l).1;
-}
+everyone_emptied slots P id h n ids e d k = grind (arith, fitted_emptied, lists_emptied)
 
 -- the one whose slot is emptied is the first of a list, and leaves it
 pub everyone_rest : (slots : List (Slot Content)) (P : HandleRecord → Type 0) (id : Id) (h : HandleRecord) (n : ℕ) (xs ys : List Id) → held_at slots
@@ -384,20 +335,12 @@ pub record Times (slots : List (Slot Content)) (drawn : ℕ) (ts : List (Due × 
 
 pub times_same : (slots more : List (Slot Content)) (drawn : ℕ) (ts : List (Due × Id)) → SameHandles more slots → Times slots drawn ts →
     Times more drawn ts
-times_same slots more drawn ts f k = record {
-  each = λ key i l. let m = k.each key i l in (fits_same slots more (IsSet key) f i m.0, m.1);
-  all = λ key i l. k.all key i (fits_same more slots (IsSet key) (λ j. sym (f j)) i l);
-  sorted = k.sorted;
-}
+times_same slots more drawn ts f k = grind arith
 
 -- a handle is changed that is no active timer, before or after
 pub times_put : (slots : List (Slot Content)) (drawn : ℕ) (ts : List (Due × Id)) (id : Id) (h x : HandleRecord) → held_at slots id ≡ Some h →
     ((key : Due) → IsSet key h → IsSet key x) → ((key : Due) → IsSet key x → IsSet key h) → Times slots drawn ts → Times (put slots id x) drawn ts
-times_put slots drawn ts id h x e f g k = record {
-  each = λ key i l. let m = k.each key i l in (fits_put slots (IsSet key) id h x e (f key) i m.0, m.1);
-  all = λ key i l. k.all key i (fits_back slots (IsSet key) id h x e (g key) i l);
-  sorted = k.sorted;
-}
+times_put slots drawn ts id h x e f g k = grind (arith, fits_back, fits_put)
 
 -- an active timer becomes inactive
 pub times_without : (slots : List (Slot Content)) (drawn : ℕ) (ts : List (Due × Id)) (key : Due) (id : Id) (h x : HandleRecord) → held_at slots id ≡
@@ -486,22 +429,10 @@ times_with slots drawn more ts key id h x e off a number less k = record {
 pub times_grown : (slots more : List (Slot Content)) (drawn : ℕ) (ts : List (Due × Id)) (id : Id) (x : HandleRecord) → Grown slots more id x → ((key
     : Due) → IsSet key x → ⊥) →
     Times slots drawn ts → Times more drawn ts
-times_grown slots more drawn ts id x g d k = record {
-  each = λ key i l. let m = k.each key i l in (fits_grown slots more (IsSet key) id x g i m.0, m.1);
-  all = λ key i l. elim (fitted_grown slots more (IsSet key) id x g i l) [ inl new ↦ absurd (d key new.1) | inr old ↦ k.all key i old ];
-  sorted = k.sorted;
-}
+times_grown slots more drawn ts id x g d k = grind arith
 
 -- and one less
 pub times_emptied : (slots : List (Slot Content)) (drawn : ℕ) (ts : List (Due × Id)) (id : Id) (h : HandleRecord) (n : ℕ) → held_at slots id ≡ Some
     h →
     ((key : Due) → IsSet key h → ⊥) → Times slots drawn ts → Times (emptied slots id n) drawn ts
-times_emptied slots drawn ts id h n e d k = record {
-  each = λ key i l.
-      let m = k.each key i l in (
-        fits_emptied slots (IsSet key) id h n e i (λ is. d key (its_handle slots (IsSet key) id h e (subst (Fits slots (IsSet key)) is m.0))) m.0,
-        m.1,
-      );
-  all = λ key i l. k.all key i (fitted_emptied slots (IsSet key) id h n e i l).1;
-  sorted = k.sorted;
-}
+times_emptied slots drawn ts id h n e d k = grind (arith, fits_emptied, fitted_emptied, its_handle)

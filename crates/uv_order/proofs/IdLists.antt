@@ -1,7 +1,7 @@
 -- Lists of ids, and what was taken off them.
-use Rattle.std.proofs.Common.{◌≡◌, ℕ, ◌==◌, List, [], ◌∷◌, ◌++◌, Bool, true, false, refl, ap, ap₂, sym, subst, ◌∙◌, if◌then◌else◌}
-use Rattle.std.specs.Prelude.{filter, not, ◌||◌}
-use Rattle.std.proofs.lemmas.Bool.{eqb-true, eq-eqb, and_parts, or_parts, both_ways}
+use Rattle.std.proofs.Common.{arith, ◌≡◌, List, [], ◌∷◌, ◌++◌, Bool, true, false, refl, ap, sym, ◌∙◌, if◌then◌else◌}
+use Rattle.std.specs.Prelude.{filter, not}
+use Rattle.std.proofs.lemmas.Bool.{eq-eqb, or_parts, both_ways}
 use Rattle.uv_ids.specs.declared.id.Id.{Id}
 use Rattle.uv_model.specs.Ids.{same_id, without_id}
 use Rattle.uv_order.specs.Active.{has_id, AreDistinct}
@@ -9,15 +9,8 @@ use Rattle.uv_order.specs.Documented.{AllOff}
 
 -- ---- one id and another
 
-abbrev id_of : ℕ → ℕ → Id
-id_of slot generation = record { slot = slot; generation = generation }
-
-same_parts : (a b : Id) → a.slot ≡ b.slot → a.generation ≡ b.generation → a ≡ b
-same_parts a b e f = ap₂ id_of e f
-
 pub same : (a b : Id) → same_id a b ≡ true → a ≡ b
-same a b e = let parts = and_parts (a.slot == b.slot) (a.generation == b.generation) e in same_parts a b (eqb-true a.slot b.slot parts.0)
-    (eqb-true a.generation b.generation parts.1)
+same a b e = grind arith
 
 pub itself : (a b : Id) → a ≡ b → same_id a b ≡ true
 itself a b e = rw (eq-eqb a.slot b.slot (ap (λ (i : Id). i.slot) e), eq-eqb a.generation b.generation (ap (λ (i : Id). i.generation) e)) refl
@@ -26,12 +19,7 @@ pub other : (a b : Id) → same_id a b ≡ false → a ≡ b → ⊥
 other a b e h = both_ways (same_id a b) e (itself a b h)
 
 pub turned : (a b : Id) → same_id a b ≡ same_id b a
-turned a b = at (same_id a b) refl (same_id b a) refl where
-  at : (x : Bool) → same_id a b ≡ x → (y : Bool) → same_id b a ≡ y → x ≡ y
-  at true e true f = refl
-  at false e false f = refl
-  at true e false f = absurd (other b a f (sym (same a b e)))
-  at false e true f = absurd (other a b e (sym (same b a f)))
+turned a b = grind (arith, other, same)
 
 -- ---- members
 
@@ -44,10 +32,6 @@ pub each_mapped : (P Q : Id → Type 0) → ((id : Id) → P id → Q id) → (i
 each_mapped P Q f [] h = tt
 each_mapped P Q f (id ∷ ids) h = (f id h.0, each_mapped P Q f ids h.1)
 
-pub each_front : (P : Id → Type 0) (xs ys : List Id) → Each P (xs ++ ys) → Each P xs
-each_front P [] ys h = tt
-each_front P (x ∷ xs) ys h = (h.0, each_front P xs ys h.1)
-
 pub each_back : (P : Id → Type 0) (xs ys : List Id) → Each P (xs ++ ys) → Each P ys
 each_back P [] ys h = h
 each_back P (x ∷ xs) ys h = each_back P xs ys h.1
@@ -59,53 +43,29 @@ each_push P (x ∷ xs) y h k = (h.0, each_push P xs y h.1 k)
 -- whoever stays is another one
 pub each_without : (P Q : Id → Type 0) (x : Id) → ((id : Id) → (id ≡ x → ⊥) → P id → Q id) → (ids : List Id) → Each P ids → Each Q (without_id ids x)
 each_without P Q x f [] h = tt
-each_without P Q x f (id ∷ ids) h = at (same_id id x) refl (each_without P Q x f ids h.1) where
-  at : (b : Bool) → same_id id x ≡ b → Each Q (without_id ids x) → Each Q (if not b then id ∷ without_id ids x else without_id ids x)
-  at true e rest = rest
-  at false e rest = (f id (other id x e) h.0, rest)
+each_without P Q x f (id ∷ ids) h = grind (arith, other, each_without P Q x f ids h.1)
 
 -- an id of which that doesn't hold isn't there
 pub absent : (P : Id → Type 0) (x : Id) → (P x → ⊥) → (ids : List Id) → Each P ids → has_id ids x ≡ false
 absent P x f [] h = refl
-absent P x f (id ∷ ids) h = at (same_id id x) refl (absent P x f ids h.1) where
-  at : (b : Bool) → same_id id x ≡ b → has_id ids x ≡ false → (b || has_id ids x) ≡ false
-  at true e rest = absurd (f (subst P (same id x e) h.0))
-  at false e rest = rest
+absent P x f (id ∷ ids) h = grind (arith, same, absent P x f ids h.1)
 
 pub without_itself : (ids : List Id) (x : Id) → has_id (without_id ids x) x ≡ false
 without_itself [] x = refl
-without_itself (id ∷ ids) x = at (same_id id x) refl (without_itself ids x) where
-  at : (b : Bool) → same_id id x ≡ b → has_id (without_id ids x) x ≡ false →
-      has_id (if not b then id ∷ without_id ids x else without_id ids x) x ≡ false
-  at true e rest = rest
-  at false e rest = rw (e, rest) refl
+without_itself (id ∷ ids) x = grind (arith, without_itself ids x)
 
 pub still_absent : (ids : List Id) (x i : Id) → has_id ids i ≡ false → has_id (without_id ids x) i ≡ false
 still_absent [] x i h = refl
-still_absent (id ∷ ids) x i h = at (same_id id x) refl (still_absent ids x i (or_parts (same_id id i) (has_id ids i) h).1) where
-  at : (b : Bool) → same_id id x ≡ b → has_id (without_id ids x) i ≡ false →
-      has_id (if not b then id ∷ without_id ids x else without_id ids x) i ≡ false
-  at true e rest = rest
-  at false e rest = rw ((or_parts (same_id id i) (has_id ids i) h).0, rest) refl
+still_absent (id ∷ ids) x i h = grind (arith, or_parts, still_absent ids x i)
 
 pub still_there : (ids : List Id) (x i : Id) → same_id i x ≡ false → has_id ids i ≡ true → has_id (without_id ids x) i ≡ true
 still_there [] x i d h = h
-still_there (id ∷ ids) x i d h = at (same_id id x) refl (same_id id i) refl h (still_there ids x i d) where
-  at : (b : Bool) → same_id id x ≡ b → (c : Bool) → same_id id i ≡ c → (c || has_id ids i) ≡ true →
-      (has_id ids i ≡ true → has_id (without_id ids x) i ≡ true) →
-      has_id (if not b then id ∷ without_id ids x else without_id ids x) i ≡ true
-  at true e true f k rest = absurd (both_ways (same_id i x) d (itself i x (sym (same id i f) ∙ same id x e)))
-  at true e false f k rest = rest k
-  at false e true f k rest = rw f refl
-  at false e false f k rest = rw f (rest k)
+still_there (id ∷ ids) x i d h = grind (arith, itself, same, still_there ids x i d)
 
 -- what holds of each member holds of this one
 pub member : (P : Id → Type 0) (ids : List Id) → Each P ids → (id : Id) → has_id ids id ≡ true → P id
 member P [] h id e = cc e
-member P (x ∷ ids) h id e = at (same_id x id) refl e (member P ids h.1 id) where
-  at : (b : Bool) → same_id x id ≡ b → (b || has_id ids id) ≡ true → (has_id ids id ≡ true → P id) → P id
-  at true f k rest = subst P (same x id f) h.0
-  at false f k rest = rest k
+member P (x ∷ ids) h id e = grind (arith, same, member P ids h.1 id)
 
 pub without_absent : (ids : List Id) (x : Id) → has_id ids x ≡ false → without_id ids x ≡ ids
 without_absent [] x h = refl
@@ -136,10 +96,7 @@ distinct_back (x ∷ xs) ys h = distinct_back xs ys h.1
 
 pub distinct_without : (ids : List Id) (x : Id) → AreDistinct ids → AreDistinct (without_id ids x)
 distinct_without [] x h = tt
-distinct_without (id ∷ ids) x h = at (same_id id x) (distinct_without ids x h.1) where
-  at : (b : Bool) → AreDistinct (without_id ids x) → AreDistinct (if not b then id ∷ without_id ids x else without_id ids x)
-  at true rest = rest
-  at false rest = (still_absent ids x id h.0, rest)
+distinct_without (id ∷ ids) x h = grind (arith, still_absent, distinct_without ids x h.1)
 
 pub distinct_push : (ids : List Id) (x : Id) → AreDistinct ids → has_id ids x ≡ false → AreDistinct (ids ++ x ∷ [])
 distinct_push [] x h k = (refl, tt)
@@ -165,21 +122,11 @@ distinct_middle (x ∷ xs) ys id h d =
 
 pub has_new_middle : (xs ys : List Id) (id : Id) → has_id (xs ++ id ∷ ys) id ≡ true
 has_new_middle [] ys id = rw (itself id id refl) refl
-has_new_middle (x ∷ xs) ys id = at (same_id x id) (has_new_middle xs ys id) where
-  at : (b : Bool) → has_id (xs ++ id ∷ ys) id ≡ true → (b || has_id (xs ++ id ∷ ys) id) ≡ true
-  at true h = refl
-  at false h = h
+has_new_middle (x ∷ xs) ys id = grind (arith, has_new_middle xs ys id)
 
 pub has_old_middle : (xs ys : List Id) (id i : Id) → has_id (xs ++ ys) i ≡ true → has_id (xs ++ id ∷ ys) i ≡ true
-has_old_middle [] ys id i h = at (same_id id i) where
-  at : (b : Bool) → (b || has_id ys i) ≡ true
-  at true = refl
-  at false = h
-has_old_middle (x ∷ xs) ys id i h = at (same_id x i) h (has_old_middle xs ys id i) where
-  at : (b : Bool) → (b || has_id (xs ++ ys) i) ≡ true → (has_id (xs ++ ys) i ≡ true → has_id (xs ++ id ∷ ys) i ≡ true) → (b || has_id (xs ++ id ∷
-      ys) i) ≡ true
-  at true k rest = refl
-  at false k rest = rest k
+has_old_middle [] ys id i h = grind arith
+has_old_middle (x ∷ xs) ys id i h = grind (arith, has_old_middle xs ys id i)
 
 -- the one in the middle goes
 has_no_other : (xs ys : List Id) (id i : Id) → has_id (xs ++ id ∷ ys) i ≡ false → has_id (xs ++ ys) i ≡ false
@@ -192,15 +139,8 @@ distinct_but [] ys id h = h.1
 distinct_but (x ∷ xs) ys id h = (has_no_other xs ys id x h.0, distinct_but xs ys id h.1)
 
 pub has_but : (xs ys : List Id) (id i : Id) → (i ≡ id → ⊥) → has_id (xs ++ id ∷ ys) i ≡ true → has_id (xs ++ ys) i ≡ true
-has_but [] ys id i d h = at (same_id id i) refl h where
-  at : (b : Bool) → same_id id i ≡ b → (b || has_id ys i) ≡ true → has_id ys i ≡ true
-  at true e k = absurd (d (sym (same id i e)))
-  at false e k = k
-has_but (x ∷ xs) ys id i d h = at (same_id x i) h (has_but xs ys id i d) where
-  at : (b : Bool) → (b || has_id (xs ++ id ∷ ys) i) ≡ true → (has_id (xs ++ id ∷ ys) i ≡ true → has_id (xs ++ ys) i ≡ true) → (b || has_id (xs ++
-      ys) i) ≡ true
-  at true k rest = refl
-  at false k rest = rest k
+has_but [] ys id i d h = grind (arith, same)
+has_but (x ∷ xs) ys id i d h = grind (arith, has_but xs ys id i d)
 
 -- none of the others is that one
 gone : (xs ys : List Id) (id x : Id) → has_id (xs ++ id ∷ ys) x ≡ false → x ≡ id → ⊥
@@ -231,28 +171,16 @@ none_off (id ∷ ids) = ap (λ (rest : List Id). id ∷ rest) (none_off ids)
 -- one more is taken off
 pub one_off : (ids off : List Id) (x : Id) → left_of ids (x ∷ off) ≡ without_id (left_of ids off) x
 one_off [] off x = refl
-one_off (id ∷ ids) off x = at (same_id x id) refl (has_id off id) (one_off ids off x) where
-  at : (a : Bool) → same_id x id ≡ a → (b : Bool) → left_of ids (x ∷ off) ≡ without_id (left_of ids off) x →
-      (if not (a || b) then id ∷ left_of ids (x ∷ off) else left_of ids (x ∷ off)) ≡ without_id
-      (if not b then id ∷ left_of ids off else left_of ids off) x
-  at true e true rest = rest
-  at true e false rest = rw (turned id x, e) rest
-  at false e true rest = rest
-  at false e false rest = rw (turned id x, e) (ap (λ (more : List Id). id ∷ more) rest)
+one_off (id ∷ ids) off x = grind (arith, turned, one_off ids off x)
 
 -- some were taken off, and then others
 pub more_off : (ids off others : List Id) → left_of (left_of ids off) others ≡ left_of ids (others ++ off)
 more_off ids off [] = none_off (left_of ids off)
-more_off ids off (x ∷ others) = one_off (left_of ids off) others x ∙ ap (λ (is : List Id). without_id is x) (more_off ids off others)
-    ∙ sym (one_off ids (others ++ off) x)
+more_off ids off (x ∷ others) = grind (arith, one_off, more_off ids off others)
 
 pub all_off : (ids off : List Id) → left_of ids off ≡ [] → AllOff off ids
 all_off [] off h = tt
-all_off (id ∷ ids) off h = at (has_id off id) refl h (all_off ids off) where
-  at : (b : Bool) → has_id off id ≡ b → ◌≡◌ {A = List Id} (if not b then id ∷ left_of ids off else left_of ids off) [] →
-      (left_of ids off ≡ [] → AllOff off ids) → AllOff off (id ∷ ids)
-  at true e none rest = (e, rest none)
-  at false e none rest = cc none
+all_off (id ∷ ids) off h = grind (arith, all_off ids off)
 
 -- the first that is left
 pub record FirstLeft (ids away : List Id) (first : Id) (more : List Id) : Type 0 where

@@ -1,7 +1,7 @@
 -- What every step keeps: the lists and the handles agree. The order of timers has just the active ones, the ready list has inactive
 -- timers, and the lists of watchers, async and closing handles have just those of their kind; no id stands twice on a list. A handle that
 -- closes is inactive. The free slots are empty.
-use Rattle.std.proofs.Common.{◌≡◌, ℕ, zero, suc, ◌+◌, ◌==◌, ◌&&◌, ◌||◌, List, [], ◌∷◌, ◌++◌, Bool, true, false, Option, Some, None, length, slice_get, slice_set, refl, ap, sym, subst, ◌∙◌, append_assoc, arith, if◌then◌else◌}
+use Rattle.std.proofs.Common.{◌≡◌, ℕ, zero, suc, ◌+◌, ◌==◌, ◌&&◌, ◌||◌, List, [], ◌∷◌, ◌++◌, Bool, true, false, Some, None, length, slice_get, slice_set, refl, ap, sym, subst, ◌∙◌, append_assoc, arith, if◌then◌else◌}
 use Rattle.std.specs.Prelude.{not, option_and_then}
 use Rattle.std.proofs.lemmas.Bool.{cond_both, and_parts, both_ways, or_parts, eqb-true, eq-eqb}
 use Rattle.std.proofs.lemmas.Option.{same_Some}
@@ -29,7 +29,7 @@ use Rattle.uv_model.specs.Ops as ops
 use Rattle.uv_model.specs.Ops.{do_op}
 use Rattle.uv_order.specs.Active.{has_id}
 use Rattle.uv_order.proofs.IdLists.{same, other, without_absent, without_itself}
-use Rattle.uv_order.proofs.Contents.{slot_with, IsThere, holds, Turns, set_turns, pushed_turns, get_set_other, get_push}
+use Rattle.uv_order.proofs.Contents.{slot_with, IsThere, Turns, set_turns, pushed_turns, get_set_other}
 use Rattle.uv_order.proofs.Holding.{held_at, is_held, put, slot_of, SameHandles, Grown, grown, Lists, lists_same, everyone_same, times_same, lists_put, lists_without, lists_grown, Everyone, everyone_put, everyone_without, everyone_front, everyone_grown, everyone_listed, IsSet, Times, times_put, times_without, times_with, times_grown, put_same, put_other}
 use Rattle.uv_order.proofs.OpCases.{timer_kind, kind_as}
 
@@ -88,6 +88,15 @@ pub record Agree (slots : Slots Content) (drawn : ℕ) (ts : List (Due × Id)) (
   pub async : Everyone slots.slots (Watches kind.Async) (members wakers)
   pub closing : Everyone slots.slots Closes (members closers)
 
+pub kept_all : {slots : Slots Content} {drawn : ℕ} {ts : List (Due × Id)} {resting : List Id}
+    {idlers preparers checkers wakers closers : Walk Id} → AllSound slots.slots → AreFree slots.slots slots.free → Times slots.slots drawn ts →
+    Lists slots.slots Rests resting → Everyone slots.slots (Watches kind.Idle) (members idlers) →
+    Everyone slots.slots (Watches kind.Prepare) (members preparers) → Everyone slots.slots (Watches kind.Check) (members checkers) →
+    Everyone slots.slots (Watches kind.Async) (members wakers) → Everyone slots.slots Closes (members closers) →
+    Agree slots drawn ts resting idlers preparers checkers wakers closers
+kept_all a b c d e f g h i =
+    record { sound = a; free = b; timers = c; ready = d; idle = e; prepare = f; check = g; async = h; closing = i }
+
 abbrev pub Kept : State → Type 0
 Kept s = Agree s.arena s.next_start s.timers s.ready s.idle s.prepare s.check s.async s.closing
 
@@ -124,28 +133,15 @@ off_list slots P id h x ids e d k = subst (Lists (put slots id x) P) (without_ab
 
 pub sound_put : (slots : List (Slot Content)) (id : Id) (h x : HandleRecord) → held_at slots id ≡ Some h → IsSound x → AllSound slots → AllSound (put
     slots id x)
-sound_put slots id h x e f k i y l = at (same_id i id) refl where
-  at : (b : Bool) → same_id i id ≡ b → IsSound y
-  at true s = subst IsSound (same_Some x y (sym (put_same slots id h x e) ∙ ap (held_at (put slots id x)) (sym (same i id s)) ∙ l)) f
-  at false s = k i y (sym (put_other slots id i h x e (other i id s)) ∙ l)
+sound_put slots id h x e f k i y l = grind (arith, same, other, put_same, put_other)
 
 -- a slot that holds something is not empty
 pub filled : (slots : List (Slot Content)) (id : Id) (c : Content) (n : ℕ) → held slots id ≡ Some c → IsEmpty slots n → n ≡ id.slot → ⊥
-filled slots id c n e k g =
-    let f = holds slots id c e in
-    let one : f.at.slot ≡ k.slot = same_Some _ _ (sym f.at.there ∙ ap (slice_get slots) (sym g) ∙ k.there) in
-    clash (sym (ap (λ (s : Slot Content). s.content) one ∙ k.empty) ∙ f.content)
-  where
-    clash : ◌≡◌ {A = Option Content} None (Some c) → ⊥
-    clash d = cc d
+filled slots id c n e k g = grind arith
 
 pub empty_held : (slots : List (Slot Content)) (id : Id) (c : Content) (y : Slot Content) (n : ℕ) → held slots id ≡ Some c → IsEmpty slots n →
     IsEmpty (slice_set slots id.slot y) n
-empty_held slots id c y n e k = record {
-  slot = k.slot;
-  there = get_set_other slots id.slot n y (λ g. filled slots id c n e k g) ∙ k.there;
-  empty = k.empty;
-}
+empty_held slots id c y n e k = grind (arith, get_set_other, filled)
 
 -- a slot that holds something is changed
 pub free_held : (slots : List (Slot Content)) (id : Id) (c : Content) (y : Slot Content) (free : List ℕ) → held slots id ≡ Some c →
@@ -156,18 +152,6 @@ free_held slots id c y (n ∷ ns) e k = (empty_held slots id c y n e k.0, k.1, f
 pub free_put : (slots : List (Slot Content)) (id : Id) (h x : HandleRecord) (free : List ℕ) → held_at slots id ≡ Some h → AreFree slots free → AreFree
     (put slots id x) free
 free_put slots id h x free e k = free_held slots id (content.Handle h) (slot_of id x) free (is_held slots id h e) k
-
-pub free_push : (slots : List (Slot Content)) (y : Slot Content) (free : List ℕ) → AreFree slots free → AreFree (slots ++ y ∷ []) free
-free_push slots y [] k = tt
-free_push slots y (n ∷ ns) k = (
-  record {
-    slot = k.0.slot;
-    there = get_push slots y k.0.slot n k.0.there;
-    empty = k.0.empty;
-  },
-  k.1,
-  free_push slots y ns k.2,
-)
 
 -- a slot that isn't one of these is changed
 pub free_set : (slots : List (Slot Content)) (i : ℕ) (y : Slot Content) (free : List ℕ) → has_number free i ≡ false → AreFree slots free → AreFree
@@ -188,10 +172,7 @@ free_set slots i y (n ∷ ns) d k =
 pub not_free : (slots : List (Slot Content)) (id : Id) (c : Content) (free : List ℕ) → held slots id ≡ Some c → AreFree slots free →
     has_number free id.slot ≡ false
 not_free slots id c [] e k = refl
-not_free slots id c (n ∷ ns) e k = at (n == id.slot) refl (not_free slots id c ns e k.2) where
-  at : (b : Bool) → (n == id.slot) ≡ b → has_number ns id.slot ≡ false → (b || has_number ns id.slot) ≡ false
-  at true f rest = absurd (filled slots id c n e k.0 (eqb-true n id.slot f))
-  at false f rest = rest
+not_free slots id c (n ∷ ns) e k = grind (arith, eqb-true, filled, not_free slots id c ns e k.2)
 
 -- ---- the changes
 
@@ -199,17 +180,7 @@ not_free slots id c (n ∷ ns) e k = at (n == id.slot) refl (not_free slots id c
 pub agree_same : (now was : Slots Content) (s : State) → SameHandles now.slots was.slots → AreFree now.slots now.free →
     Agree was s.next_start s.timers s.ready s.idle s.prepare s.check s.async s.closing →
     Agree now s.next_start s.timers s.ready s.idle s.prepare s.check s.async s.closing
-agree_same now was s f free k = record {
-  sound = λ i h e. k.sound i h (sym (f i) ∙ e);
-  free = free;
-  timers = times_same was.slots now.slots s.next_start s.timers f k.timers;
-  ready = lists_same was.slots now.slots Rests s.ready f k.ready;
-  idle = everyone_same was.slots now.slots (Watches kind.Idle) (members s.idle) f k.idle;
-  prepare = everyone_same was.slots now.slots (Watches kind.Prepare) (members s.prepare) f k.prepare;
-  check = everyone_same was.slots now.slots (Watches kind.Check) (members s.check) f k.check;
-  async = everyone_same was.slots now.slots (Watches kind.Async) (members s.async) f k.async;
-  closing = everyone_same was.slots now.slots Closes (members s.closing) f k.closing;
-}
+agree_same now was s f free k = grind (arith, lists_same, everyone_same, times_same, kept_all)
 
 -- a handle is changed in what the lists don't speak of
 pub put_kept : (s : State) (id : Id) (h x : HandleRecord) → handle s id ≡ Some h → x.kind ≡ h.kind → x.active ≡ h.active → x.due ≡ h.due → x.closing
@@ -359,59 +330,35 @@ pub watcher_started_kept : (s : State) (k : WatcherKind) (id : Id) (h : HandleRe
 watcher_started_kept s watcher.Idle id h e t off stays k =
     let x = activated h in
     let still = activated_sound s id h e stays k in
-    record {
-      sound = still.0;
-      free = still.1;
-      timers = others_times s id h x kind.Idle e t t (λ f. cc f) k;
-      ready = others_ready s id h x kind.Idle e t (λ f. cc f) k;
-      idle = in_front s id h x kind.Idle (members s.idle) e off t refl k.idle;
-      prepare = others s.arena.slots kind.Idle kind.Prepare id h x (members s.prepare) e t t (λ f. cc f) k.prepare;
-      check = others s.arena.slots kind.Idle kind.Check id h x (members s.check) e t t (λ f. cc f) k.check;
-      async = others s.arena.slots kind.Idle kind.Async id h x (members s.async) e t t (λ f. cc f) k.async;
-      closing = still.2;
-    }
+    (kept_all still.0 still.1 (others_times s id h x kind.Idle e t t (λ f. cc f) k) (others_ready s id h x kind.Idle e t (λ f. cc f) k)
+    (in_front s id h x kind.Idle (members s.idle) e off t refl k.idle)
+    (others s.arena.slots kind.Idle kind.Prepare id h x (members s.prepare) e t t (λ f. cc f) k.prepare)
+    (others s.arena.slots kind.Idle kind.Check id h x (members s.check) e t t (λ f. cc f) k.check)
+    (others s.arena.slots kind.Idle kind.Async id h x (members s.async) e t t (λ f. cc f) k.async) still.2)
 watcher_started_kept s watcher.Prepare id h e t off stays k =
     let x = activated h in
     let still = activated_sound s id h e stays k in
-    record {
-      sound = still.0;
-      free = still.1;
-      timers = others_times s id h x kind.Prepare e t t (λ f. cc f) k;
-      ready = others_ready s id h x kind.Prepare e t (λ f. cc f) k;
-      idle = others s.arena.slots kind.Prepare kind.Idle id h x (members s.idle) e t t (λ f. cc f) k.idle;
-      prepare = in_front s id h x kind.Prepare (members s.prepare) e off t refl k.prepare;
-      check = others s.arena.slots kind.Prepare kind.Check id h x (members s.check) e t t (λ f. cc f) k.check;
-      async = others s.arena.slots kind.Prepare kind.Async id h x (members s.async) e t t (λ f. cc f) k.async;
-      closing = still.2;
-    }
+    (kept_all still.0 still.1 (others_times s id h x kind.Prepare e t t (λ f. cc f) k) (others_ready s id h x kind.Prepare e t (λ f. cc f) k)
+    (others s.arena.slots kind.Prepare kind.Idle id h x (members s.idle) e t t (λ f. cc f) k.idle)
+    (in_front s id h x kind.Prepare (members s.prepare) e off t refl k.prepare)
+    (others s.arena.slots kind.Prepare kind.Check id h x (members s.check) e t t (λ f. cc f) k.check)
+    (others s.arena.slots kind.Prepare kind.Async id h x (members s.async) e t t (λ f. cc f) k.async) still.2)
 watcher_started_kept s watcher.Check id h e t off stays k =
     let x = activated h in
     let still = activated_sound s id h e stays k in
-    record {
-      sound = still.0;
-      free = still.1;
-      timers = others_times s id h x kind.Check e t t (λ f. cc f) k;
-      ready = others_ready s id h x kind.Check e t (λ f. cc f) k;
-      idle = others s.arena.slots kind.Check kind.Idle id h x (members s.idle) e t t (λ f. cc f) k.idle;
-      prepare = others s.arena.slots kind.Check kind.Prepare id h x (members s.prepare) e t t (λ f. cc f) k.prepare;
-      check = in_front s id h x kind.Check (members s.check) e off t refl k.check;
-      async = others s.arena.slots kind.Check kind.Async id h x (members s.async) e t t (λ f. cc f) k.async;
-      closing = still.2;
-    }
+    (kept_all still.0 still.1 (others_times s id h x kind.Check e t t (λ f. cc f) k) (others_ready s id h x kind.Check e t (λ f. cc f) k)
+    (others s.arena.slots kind.Check kind.Idle id h x (members s.idle) e t t (λ f. cc f) k.idle)
+    (others s.arena.slots kind.Check kind.Prepare id h x (members s.prepare) e t t (λ f. cc f) k.prepare)
+    (in_front s id h x kind.Check (members s.check) e off t refl k.check)
+    (others s.arena.slots kind.Check kind.Async id h x (members s.async) e t t (λ f. cc f) k.async) still.2)
 watcher_started_kept s watcher.Async id h e t off stays k =
     let x = activated h in
     let still = activated_sound s id h e stays k in
-    record {
-      sound = still.0;
-      free = still.1;
-      timers = others_times s id h x kind.Async e t t (λ f. cc f) k;
-      ready = others_ready s id h x kind.Async e t (λ f. cc f) k;
-      idle = others s.arena.slots kind.Async kind.Idle id h x (members s.idle) e t t (λ f. cc f) k.idle;
-      prepare = others s.arena.slots kind.Async kind.Prepare id h x (members s.prepare) e t t (λ f. cc f) k.prepare;
-      check = others s.arena.slots kind.Async kind.Check id h x (members s.check) e t t (λ f. cc f) k.check;
-      async = in_front s id h x kind.Async (members s.async) e off t refl k.async;
-      closing = still.2;
-    }
+    (kept_all still.0 still.1 (others_times s id h x kind.Async e t t (λ f. cc f) k) (others_ready s id h x kind.Async e t (λ f. cc f) k)
+    (others s.arena.slots kind.Async kind.Idle id h x (members s.idle) e t t (λ f. cc f) k.idle)
+    (others s.arena.slots kind.Async kind.Prepare id h x (members s.prepare) e t t (λ f. cc f) k.prepare)
+    (others s.arena.slots kind.Async kind.Check id h x (members s.check) e t t (λ f. cc f) k.check)
+    (in_front s id h x kind.Async (members s.async) e off t refl k.async) still.2)
 
 -- ---- a new handle
 
@@ -452,25 +399,17 @@ takes s free id x e k n =
     (grown s.slots (arena.taken_from free id (content.Handle x) s).slots id x f.0, f.1)
 
 pub sound_grown : (slots more : List (Slot Content)) (id : Id) (x : HandleRecord) → Grown slots more id x → IsSound x → AllSound slots → AllSound more
-sound_grown slots more id x g f k i y l = at (same_id i id) refl where
-  at : (b : Bool) → same_id i id ≡ b → IsSound y
-  at true s = subst IsSound (same_Some x y (sym g.here ∙ ap (held_at more) (sym (same i id s)) ∙ l)) f
-  at false s = k i y (sym (g.others i (other i id s)) ∙ l)
+sound_grown slots more id x g f k i y l = grind arith
 
 -- an inactive handle, which is none of the lists'
 pub new_unset : (v : Var) (q : Kind) (key : Due) → IsSet key (inited v q) → ⊥
 new_unset v kind.Timer key a = absurd (on_off (inited v kind.Timer) a.active refl)
-new_unset v kind.Idle key a = on_off (inited v kind.Idle) a.active refl
-new_unset v kind.Prepare key a = on_off (inited v kind.Prepare) a.active refl
-new_unset v kind.Check key a = on_off (inited v kind.Check) a.active refl
 new_unset v kind.Async key a = cc a.kind
+new_unset v each key a = on_off (inited v each) a.active refl
 
 pub new_unwatched : (v : Var) (q r : Kind) → Apart kind.Async r → Watches r (inited v q) → ⊥
-new_unwatched v kind.Timer r d w = on_off (inited v kind.Timer) w.active refl
-new_unwatched v kind.Idle r d w = on_off (inited v kind.Idle) w.active refl
-new_unwatched v kind.Prepare r d w = on_off (inited v kind.Prepare) w.active refl
-new_unwatched v kind.Check r d w = on_off (inited v kind.Check) w.active refl
 new_unwatched v kind.Async r d w = d w.kind
+new_unwatched v each r d w = on_off (inited v each) w.active refl
 
 pub new_by : (s : State) (v : Var) (q : Kind) (id : Id) (w : Walk Id) → Takes s.arena s.arena.free id (inited v q) →
     Everyone (taken id (content.Handle (inited v q)) s.arena).slots (Watches kind.Async) (members w) → Kept s →
@@ -498,19 +437,9 @@ new_by s v q id w t async k =
 -- the list of async handles, where the new one is of another kind
 pub async_still : (s : State) (v : Var) (q : Kind) (id : Id) → is_async q ≡ false → Takes s.arena s.arena.free id (inited v q) → Kept s →
     Everyone (taken id (content.Handle (inited v q)) s.arena).slots (Watches kind.Async) (members s.async)
-async_still s v q id e t k =
-    everyone_grown s.arena.slots (taken id (content.Handle (inited v q)) s.arena).slots (Watches kind.Async) id (inited v q) (members s.async) t.0
-    (λ w. on_off (inited v q) w.active e) k.async
+async_still s v q id e t k = grind (arith, everyone_grown, on_off)
 
 pub new_kept : (s : State) (v : Var) (q : Kind) (id : Id) → next_free s.arena ≡ Some id → Kept s → Kept (ops.with_new s v q id)
-new_kept s v kind.Timer id e k = let t = takes s.arena s.arena.free id (inited v kind.Timer) refl k.free e in new_by s v kind.Timer id s.async t
-    (async_still s v kind.Timer id refl t k) k
-new_kept s v kind.Idle id e k = let t = takes s.arena s.arena.free id (inited v kind.Idle) refl k.free e in new_by s v kind.Idle id s.async t
-    (async_still s v kind.Idle id refl t k) k
-new_kept s v kind.Prepare id e k = let t = takes s.arena s.arena.free id (inited v kind.Prepare) refl k.free e in new_by s v kind.Prepare id s.async
-    t (async_still s v kind.Prepare id refl t k) k
-new_kept s v kind.Check id e k = let t = takes s.arena s.arena.free id (inited v kind.Check) refl k.free e in new_by s v kind.Check id s.async t
-    (async_still s v kind.Check id refl t k) k
 new_kept s v kind.Async id e k =
     let x = inited v kind.Async in
     let t = takes s.arena s.arena.free id x refl k.free e in
@@ -521,3 +450,5 @@ new_kept s v kind.Async id e k =
     }) k.async in
     new_by s v kind.Async id (with_last s.async id) t (subst (Everyone more (Watches kind.Async)) (sym (append_assoc s.async.list (id ∷ [])
     s.async.yet)) listed) k
+new_kept s v each id e k = let t = takes s.arena s.arena.free id (inited v each) refl k.free e in new_by s v each id s.async t
+    (async_still s v each id refl t k) k

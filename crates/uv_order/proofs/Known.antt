@@ -1,6 +1,6 @@
 -- What the lines of a trace tell of the names and of the handles that close, and how each change of the slots keeps it.
-use Rattle.std.proofs.Common.{◌≡◌, ◌⊎◌, inl, inr, ℕ, zero, suc, ◌<◌, ◌≤◌, ◌==◌, ◌||◌, List, [], ◌∷◌, Bool, true, false, Option, Some, None, slice_get, slice_set, unwrap_or, option_map, refl, ap, sym, subst, ◌∙◌, if◌then◌else◌}
-use Rattle.std.proofs.lemmas.Bool.{both_ways, eqb-true, eq-eqb, or_left, or_right, or_cases, false_from_ne_true}
+use Rattle.std.proofs.Common.{arith, ◌≡◌, ◌⊎◌, inl, inr, ℕ, zero, suc, ◌<◌, ◌≤◌, ◌==◌, ◌||◌, List, [], ◌∷◌, Bool, true, false, Option, Some, None, slice_get, slice_set, unwrap_or, option_map, refl, ap, sym, subst, ◌∙◌, if◌then◌else◌}
+use Rattle.std.proofs.lemmas.Bool.{both_ways, eqb-true, eq-eqb, or_left, or_right, or_cases}
 use Rattle.std.proofs.lemmas.Option.{same_Some, none-some}
 use Rattle.uv_ids.specs.declared.id.Id.{Id}
 use Rattle.uv_ids.specs.declared.id.Var.{Var}
@@ -26,7 +26,7 @@ use Rattle.uv_order.proofs.Contents.{emptied, emptied_turns}
 use Rattle.uv_order.proofs.Holding.{name_at, NoNewNames, put_names, names_turned, held_at, is_held, put, put_same, put_other, emptied_same, emptied_other, Fits, fits_put, fits_same, SameHandles, Grown}
 use Rattle.uv_order.proofs.Counted.{set_there}
 use Rattle.uv_order.proofs.Keeping.{has_number, Closes, open_shut}
-use Rattle.uv_order.proofs.Gone.{IsGone, not_held, gone_put, gone_emptied, gone_now}
+use Rattle.uv_order.proofs.Gone.{IsGone, gone_put, gone_emptied, gone_now}
 use Rattle.uv_order.proofs.Works.{SameRequests, same_requests, same_put}
 use Rattle.uv_order.proofs.Worked.{Worked, IsIdle, worked_idle, worked_same}
 
@@ -77,30 +77,19 @@ pub record Known (p : Program) (past : List Seen) (arena : Slots Content) (names
 -- a held handle that doesn't close was not closed
 pub not_closed : {waiting runs : List Id} (p : Program) (past : List Seen) (arena : Slots Content) (names : List Named) (id : Id) (h : HandleRecord) →
     held_at arena.slots id ≡ Some h → h.closing ≡ false → Known p past arena names waiting runs → was_closed p past id ≡ false
-not_closed p past arena names id h e stays k = false_from_ne_true (was_closed p past id) (λ c. shut (k.closed id c)) where
-  shut : IsShut arena id → ⊥
-  shut (inl f) = open_shut f.handle f.fits (ap (λ (x : HandleRecord). x.closing) (same_Some _ _ (sym f.holds ∙ e)) ∙ stays)
-  shut (inr g) = not_held arena.slots arena.free id (content.Handle h) g (is_held arena.slots id h e)
+not_closed p past arena names id h e stays k = grind arith
 
 -- a held handle has no `closed` line
 pub not_over : {waiting runs : List Id} (p : Program) (past : List Seen) (arena : Slots Content) (names : List Named) (id : Id) (h : HandleRecord) →
     held_at arena.slots id ≡ Some h → Known p past arena names waiting runs → has_closed_line past id ≡ false
-not_over p past arena names id h e k = false_from_ne_true (has_closed_line past id) (λ c.
-    not_held arena.slots arena.free id (content.Handle h) (k.over id c) (is_held arena.slots id h e))
+not_over p past arena names id h e k = grind arith
 
 -- ---- changes without a line
 
 pub known_names : {waiting runs : List Id} (p : Program) (past : List Seen) (arena : Slots Content) (now was : List Named) → SameIds now was →
     Known p past arena was waiting runs →
     Known p past arena now waiting runs
-known_names p past arena now was same k = record {
-  binding = λ v id e. k.binding v id (sym (same v) ∙ e);
-  made = k.made;
-  closing = k.closing;
-  closed = k.closed;
-  over = k.over;
-  worked = k.worked;
-}
+known_names p past arena now was same k = grind arith
 
 -- a handle changes that closes as before
 pub known_put : {waiting runs : List Id} (p : Program) (past : List Seen) (arena : Slots Content) (names : List Named) (id : Id)
@@ -146,28 +135,11 @@ pub known_told : {waiting runs few more : List Id} (p : Program) (past : List Se
     IsQuiet p l → SameHandles now.slots arena.slots → NoNewNames now.slots arena.slots →
     ((i : Id) → IsGone arena.slots arena.free i → IsGone now.slots now.free i) →
     Worked p (l ∷ past) now few more → Known p past arena names waiting runs → Known p (l ∷ past) now names few more
-known_told p past l arena now names q f called gone w k = record {
-  binding = λ v id e. q.binding v (bound p past v) ∙ k.binding v id e;
-  made = λ id v e. ap (λ (o : Option Var). first_of o (made_as p past id)) (q.made id) ∙ k.made id v (called id v e);
-  closing = λ id c. same_closed id ∙ k.closing id (fits_same now.slots arena.slots Closes (λ j. sym (f j)) id c);
-  closed = λ id c. later id (k.closed id (sym (same_closed id) ∙ c));
-  over = λ id c. gone id (k.over id (sym (same_over id) ∙ c));
-  worked = w;
-} where
-  same_closed : (id : Id) → was_closed p (l ∷ past) id ≡ was_closed p past id
-  same_closed id = rw q.closing refl
-
-  same_over : (id : Id) → has_closed_line (l ∷ past) id ≡ has_closed_line past id
-  same_over id = rw (q.closed id) refl
-
-  later : (i : Id) → IsShut arena i → IsShut now i
-  later i (inl c) = inl (fits_same arena.slots now.slots Closes f i c)
-  later i (inr g) = inr (gone i g)
+known_told p past l arena now names q f called gone w k = grind arith
 
 pub known_quiet : {waiting runs : List Id} (p : Program) (past : List Seen) (l : Seen) (arena : Slots Content) (names : List Named) → IsQuiet p l →
     IsIdle p l → Known p past arena names waiting runs → Known p (l ∷ past) arena names waiting runs
-known_quiet p past l arena names q idle k =
-    known_told p past l arena arena names q (λ i. refl) (λ i v e. e) (λ i g. g) (worked_idle p past l arena _ _ idle k.worked) k
+known_quiet p past l arena names q idle k = grind (arith, worked_idle, known_told)
 
 -- an op that neither binds a name nor closes a handle
 pub record IsQuietOp (o : Op) (a : Answer) : Type 0 where
@@ -184,21 +156,10 @@ pub is_answered : (p : Program) (place : Site) (o : Op) (a : Answer) → op_at p
 is_answered p place o a e = ap (option_map (λ (x : Op). record { op = x; answer = a })) e
 
 pub quiet_op : (p : Program) (place : Site) (o : Op) (a : Answer) → op_at p place ≡ Some o → IsQuietOp o a → IsQuiet p (seen.Op place a)
-quiet_op p place o a e q = record {
-  binding = λ v before. rw (is_answered p place o a e) (q.binding v before);
-  made = λ id. rw (is_answered p place o a e) (q.made id);
-  closing = rw (is_answered p place o a e) q.closing;
-  closed = λ id. refl;
-}
+quiet_op p place o a e q = grind arith
 
 pub idle_op : (p : Program) (place : Site) (o : Op) (a : Answer) → op_at p place ≡ Some o → IsIdleOp o a → IsIdle p (seen.Op place a)
-idle_op p place o a e q = record {
-  queued = λ id. rw (is_answered p place o a e) (q id).0;
-  taken = λ id. refl;
-  finished = λ id. refl;
-  over = λ id. refl;
-  cancelled = λ id. rw (is_answered p place o a e) (q id).1;
-}
+idle_op p place o a e q = grind arith
 
 -- a handle that doesn't close is closed
 pub known_close : {waiting runs : List Id} (p : Program) (past : List Seen) (place : Site) (v : Var) (arena : Slots Content) (names : List Named)
@@ -296,42 +257,14 @@ pub known_grown : {waiting runs : List Id} (p : Program) (past : List Seen) (are
     ((i : Id) (v : Var) → name_at more.slots i ≡ Some v → made_as p past i ≡ Some v) →
     ((i : Id) → IsGone arena.slots arena.free i → IsGone more.slots more.free i) →
     Known p past arena names waiting runs → Known p past more names waiting runs
-known_grown p past arena more names id x grown same_asked stays called gone k = record {
-  binding = k.binding;
-  made = called;
-  closing = λ i f. k.closing i (earlier i f (same_id i id) refl);
-  closed = λ i c. later i (k.closed i c);
-  over = λ i c. gone i (k.over i c);
-  worked = worked_same p past arena more _ _ same_asked gone k.worked;
-} where
-  earlier : (i : Id) → Fits more.slots Closes i → (b : Bool) → same_id i id ≡ b → Fits arena.slots Closes i
-  earlier i f true s =
-      let y : f.handle ≡ x = same_Some _ _ (sym f.holds ∙ ap (held_at more.slots) (same i id s) ∙ grown.here) in
-      absurd (open_shut f.handle f.fits (ap (λ (z : HandleRecord). z.closing) y ∙ stays))
-  earlier i f false s = record { handle = f.handle; holds = sym (grown.others i (other i id s)) ∙ f.holds; fits = f.fits }
-
-  later : (i : Id) → IsShut arena i → IsShut more i
-  later i (inl f) = inl (record { handle = f.handle; holds = grown.others i (away f) ∙ f.holds; fits = f.fits }) where
-    away : Fits arena.slots Closes i → i ≡ id → ⊥
-    away f same = none-some f.handle (sym grown.new ∙ ap (held_at arena.slots) (sym same) ∙ f.holds)
-  later i (inr g) = inr (gone i g)
+known_grown p past arena more names id x grown same_asked stays called gone k = grind (arith, same, other, open_shut, worked_same)
 
 -- no handle changes
 pub known_same : {waiting runs few more : List Id} (p : Program) (past : List Seen) (arena now : Slots Content) (names : List Named) →
     SameHandles now.slots arena.slots → NoNewNames now.slots arena.slots →
     ((i : Id) → IsGone arena.slots arena.free i → IsGone now.slots now.free i) → Worked p past now few more →
     Known p past arena names waiting runs → Known p past now names few more
-known_same p past arena now names f called gone w k = record {
-  binding = k.binding;
-  made = λ i v e. k.made i v (called i v e);
-  closing = λ i c. k.closing i (fits_same now.slots arena.slots Closes (λ j. sym (f j)) i c);
-  closed = λ i c. later i (k.closed i c);
-  over = λ i c. gone i (k.over i c);
-  worked = w;
-} where
-  later : (i : Id) → IsShut arena i → IsShut now i
-  later i (inl c) = inl (fits_same arena.slots now.slots Closes f i c)
-  later i (inr g) = inr (gone i g)
+known_same p past arena now names f called gone w k = grind arith
 
 -- a closing handle has its `closed` line, and its slot is freed or retired
 pub known_gone : {waiting runs : List Id} (p : Program) (past : List Seen) (v : Var) (arena : Slots Content) (more : List ℕ) (names : List Named)

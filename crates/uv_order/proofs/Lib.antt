@@ -7,6 +7,7 @@ pub mod Histories
 mod OpCases
 mod Asked
 mod Keeping
+mod Did
 mod KeptSteps
 mod Quiet
 mod Working
@@ -23,11 +24,11 @@ mod Gone
 mod Worked
 mod Known
 mod OpsOnce
-pub mod ClosesOnce
-pub mod Documents
+mod ClosesOnce
 pub mod RefusedOnce
 pub mod RefusedOrder
 pub mod RefusedTimers
-pub mod Pooling
+mod Pooling
+pub mod Documents
 pub mod Taking
 pub mod Reaching

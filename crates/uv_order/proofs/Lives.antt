@@ -1,5 +1,5 @@
 -- Whether the loop is alive by its lists is whether it is by what its slots hold.
-use Rattle.std.proofs.Common.{◌≡◌, ℕ, zero, suc, ◌==◌, ◌&&◌, ◌||◌, List, [], ◌∷◌, ◌++◌, Bool, true, false, Option, Some, None, refl, ap, sym, ◌∙◌, if◌then◌else◌}
+use Rattle.std.proofs.Common.{arith, ◌≡◌, ℕ, zero, suc, ◌==◌, ◌&&◌, ◌||◌, List, [], ◌∷◌, ◌++◌, Bool, true, false, Option, Some, None, refl, ap, sym, ◌∙◌, if◌then◌else◌}
 use Rattle.std.proofs.Math.Bool.{or-true, or_assoc}
 use Rattle.std.specs.Prelude.{not}
 use Rattle.std.specs.List.{list_any}
@@ -18,10 +18,10 @@ use Rattle.uv_work.specs.declared.request.Request.{Request}
 use Rattle.uv_model.specs.Content.{content_keeps, request_in}
 use Rattle.uv_model.specs.Ids.{has_some}
 use Rattle.uv_model.specs.State.{State}
-use Rattle.uv_model.specs.Timeout.{is_alive, poll_timeout_by, until_first}
+use Rattle.uv_model.specs.Timeout.{is_alive, poll_timeout_by}
 use Rattle.uv_model.specs.Next.{goes}
 use Rattle.uv_order.specs.Active.{has_id, run_ids}
-use Rattle.uv_order.specs.Alive.{is_kept_by, has_handle, has_run, has_request, closes_some, lives, until_due, waits, may_wait}
+use Rattle.uv_order.specs.Alive.{is_kept_by, has_handle, has_run, has_request, closes_some, lives, waits, may_wait}
 use Rattle.uv_order.proofs.IdLists.{itself}
 use Rattle.uv_order.proofs.Works.{asked_at, AllAsk, IsOpen, HasEnded}
 use Rattle.uv_order.proofs.Working.{Working}
@@ -148,16 +148,8 @@ lives_is s w =
 pub goes_is : (s : State) → lives s ≡ is_alive s → (lives s && not s.stop_flag) ≡ goes s
 goes_is s e = ap (λ (b : Bool). b && not s.stop_flag) e
 
-until_is : (time : ℕ) (timers : List (Due × Id)) → until_first time timers ≡ until_due time timers
-until_is time [] = refl
-until_is time (t ∷ ts) = refl
-
 waits_is : (s : State) (timers : List (Due × Id)) → lives s ≡ is_alive s → poll_timeout_by s timers Default ≡ waits s timers
-waits_is s timers e =
-    ap (λ (n : Option ℕ). if s.stop_flag then Some 0 else (if not (is_alive s) then Some 0 else (if has_some s.idle.list || has_some s.idle.yet
-    then Some 0 else (if closes_some s then Some 0 else n)))) (until_is s.time timers)
-    ∙ ap (λ (b : Bool). if s.stop_flag then Some 0 else (if not b then Some 0 else (if has_some s.idle.list || has_some s.idle.yet
-    then Some 0 else (if closes_some s then Some 0 else until_due s.time timers)))) (sym e)
+waits_is s timers e = grind arith
 
 pub may_wait_is : (s : State) (timers : List (Due × Id)) (m : Mode) → lives s ≡ is_alive s → poll_timeout_by s timers m ≡ may_wait s timers m
 may_wait_is s timers Default e = waits_is s timers e

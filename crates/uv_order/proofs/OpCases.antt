@@ -1,13 +1,14 @@
 -- An op by its cases: it is refused, or done with the handle of a live name.
-use Rattle.std.proofs.Common.{◌≡◌, Bool, true, false, Option, Some, None, Result, Ok, Err, refl, ap, subst, ◌∙◌}
+use Rattle.std.proofs.Common.{arith, ℕ, ◌≡◌, Bool, true, false, Option, Some, None, Result, Ok, Err, refl, ap}
 use Rattle.std.specs.Prelude.{not, ◌||◌}
 use Rattle.std.specs.List.{list_any}
-use Rattle.std.proofs.lemmas.Bool.{or_parts, cond_both, both_ways}
+use Rattle.std.proofs.lemmas.Bool.{cond_both}
 use Rattle.std.proofs.lemmas.Option.{same_Some}
 use Rattle.uv_ids.specs.declared.id.Id.{Id}
 use Rattle.uv_ids.specs.declared.id.Var.{Var}
 use Rattle.uv_ids.specs.declared.code.Code.{Code}
 use Rattle.uv_ids.specs.declared.code.Code.TheVariants.{Ok as Success, Ebusy, Ebound, Efull}
+use Rattle.uv_ids.specs.declared.code.Answer.{Answer}
 use Rattle.uv_ids.specs.declared.code.Answer.TheVariants as answer
 use Rattle.uv_ids.specs.declared.phase.Kind.{Kind}
 use Rattle.uv_ids.specs.declared.phase.Kind.TheVariants as kind
@@ -18,13 +19,17 @@ use Rattle.uv_records.specs.Handles.{is_timer, is_async, sent}
 use Rattle.uv_records.specs.Lists.{watcher_kind}
 use Rattle.uv_records.specs.Refusals.{only_if, invalid_if, is_watcher, timer_refusal, start_timer_refusal, start_watcher_refusal, stop_refusal, again_refusal, close_refusal, send_refusal, no_refusal}
 use Rattle.uv_records.specs.Slots.{held, next_free}
+use Rattle.uv_script.specs.declared.op.Op.{Op}
+use Rattle.uv_script.specs.declared.op.Op.TheVariants as op
+use Rattle.uv_work.specs.declared.task.Task.{Task}
 use Rattle.uv_work.specs.declared.content.Content.{Content}
 use Rattle.uv_work.specs.declared.content.Content.TheVariants as content
 use Rattle.uv_work.specs.declared.request.Request.{Request}
 use Rattle.uv_model.specs.Content.{handle_in}
 use Rattle.uv_model.specs.Ids.{same_id}
-use Rattle.uv_model.specs.State.{State, handle, named, live, live_id, live_handle, live_request, as_handle, handle_at, as_request, request_at, with_id, with_handle}
+use Rattle.uv_model.specs.State.{State, handle, named, live, live_handle, live_request, as_handle, as_request, with_id, with_handle, refreshed}
 use Rattle.uv_model.specs.Ops as ops
+use Rattle.uv_model.specs.Ops.{do_op}
 use Rattle.uv_model.proofs.Found.{found_both}
 use Rattle.uv_order.specs.Documented.{Names}
 use Rattle.uv_order.proofs.Holding.{name_at}
@@ -33,10 +38,7 @@ use Rattle.uv_order.proofs.Holding.{name_at}
 
 pub timer_kind : (k : Kind) → is_timer k ≡ true → k ≡ kind.Timer
 timer_kind kind.Timer e = refl
-timer_kind kind.Idle e = cc e
-timer_kind kind.Prepare e = cc e
-timer_kind kind.Check e = cc e
-timer_kind kind.Async e = cc e
+timer_kind each e = cc e
 
 abbrev pub kind_as : WatcherKind → Kind
 kind_as watcher.Idle = kind.Idle
@@ -46,19 +48,14 @@ kind_as watcher.Async = kind.Async
 
 pub as_watcher : (q : Kind) (k : WatcherKind) → watcher_kind q ≡ Some k → q ≡ kind_as k
 as_watcher kind.Timer k e = cc e
-as_watcher kind.Idle k e = ap kind_as (same_Some _ _ e)
-as_watcher kind.Prepare k e = ap kind_as (same_Some _ _ e)
-as_watcher kind.Check k e = ap kind_as (same_Some _ _ e)
-as_watcher kind.Async k e = ap kind_as (same_Some _ _ e)
+as_watcher each k e = ap kind_as (same_Some _ _ e)
 
 -- ---- live names
 
 -- what is found under an id
 pub with_id_is : {X : Type 0} (id : Id) (o : Option X) (t : Id × X) → with_id id o ≡ Some t → (id ≡ t.0) × (o ≡ Some t.1)
 with_id_is id None t e = cc e
-with_id_is {X} id (Some x) t e =
-    let is : (id, x) ≡ t = same_Some _ _ e in
-    (ap (λ (w : Id × X). w.0) is, ap (λ (w : Id × X). Some w.1) is)
+with_id_is {X} id (Some x) t e = grind (arith, same_Some)
 
 -- what the names of a state are bound to, and what is held is called
 abbrev pub names_at : State → Names
@@ -69,39 +66,11 @@ pub record IsLive (s : State) (v : Var) (id : Id) (c : Content) : Type 0 where
   pub bound : (named s v).id ≡ Some id
   pub holds : held s.arena.slots id ≡ Some c
 
-is_live : (s : State) (v : Var) (u : Id × Content) → live s v ≡ Some u → IsLive s v u.0 u.1
-is_live s v u e = at (named s v).id refl e where
-  at : (o : Option Id) → (named s v).id ≡ o → live_id s o ≡ Some u → IsLive s v u.0 u.1
-  at None f g = cc g
-  at (Some i) f g =
-      let is = with_id_is i (held s.arena.slots i) u g in
-      record { bound = f ∙ ap Some is.0; holds = subst (λ (j : Id). held s.arena.slots j ≡ Some u.1) is.0 is.1 }
-
 pub live_as_handle : (s : State) (v : Var) (t : Id × HandleRecord) → live_handle s v ≡ Ok t → IsLive s v t.0 (content.Handle t.1)
-live_as_handle s v t e = at (live s v) refl e where
-  by : (u : Id × Content) → IsLive s v u.0 u.1 → (c : Content) → u.1 ≡ c → handle_at u.0 c ≡ Ok t → IsLive s v t.0 (content.Handle t.1)
-  by u k (content.Request r) f g = cc g
-  by u k (content.Handle h) f g =
-      let is : (u.0, h) ≡ t = cc g in
-      let here : IsLive s v u.0 (content.Handle h) = subst (IsLive s v u.0) f k in
-      subst (λ (w : Id × HandleRecord). IsLive s v w.0 (content.Handle w.1)) is here
-
-  at : (o : Option (Id × Content)) → live s v ≡ o → as_handle o ≡ Ok t → IsLive s v t.0 (content.Handle t.1)
-  at None f g = cc g
-  at (Some u) f g = by u (is_live s v u f) u.1 refl g
+live_as_handle s v t e = grind arith
 
 pub live_as_request : (s : State) (v : Var) (t : Id × Request) → live_request s v ≡ Ok t → IsLive s v t.0 (content.Request t.1)
-live_as_request s v t e = at (live s v) refl e where
-  by : (u : Id × Content) → IsLive s v u.0 u.1 → (c : Content) → u.1 ≡ c → request_at u.0 c ≡ Ok t → IsLive s v t.0 (content.Request t.1)
-  by u k (content.Handle h) f g = cc g
-  by u k (content.Request r) f g =
-      let is : (u.0, r) ≡ t = cc g in
-      let here : IsLive s v u.0 (content.Request r) = subst (IsLive s v u.0) f k in
-      subst (λ (w : Id × Request). IsLive s v w.0 (content.Request w.1)) is here
-
-  at : (o : Option (Id × Content)) → live s v ≡ o → as_request o ≡ Ok t → IsLive s v t.0 (content.Request t.1)
-  at None f g = cc g
-  at (Some u) f g = by u (is_live s v u f) u.1 refl g
+live_as_request s v t e = grind arith
 
 -- a live name's handle is held
 pub live_held : (s : State) (v : Var) (t : Id × HandleRecord) → live_handle s v ≡ Ok t → handle s t.0 ≡ Some t.1
@@ -165,16 +134,11 @@ invalid_passes : (b : Bool) → invalid_if b ≡ None → b ≡ false
 invalid_passes true e = cc e
 invalid_passes false e = refl
 
-pub timer_passes : (h : HandleRecord) → timer_refusal h ≡ None → h.kind ≡ kind.Timer
-timer_passes h e = timer_kind h.kind (only_passes (is_timer h.kind) None e).0
-
 pub start_passes : (h : HandleRecord) → start_timer_refusal h ≡ None → (h.kind ≡ kind.Timer) × (h.closing ≡ false)
 start_passes h e = let parts = only_passes (is_timer h.kind) (invalid_if h.closing) e in (timer_kind h.kind parts.0, invalid_passes h.closing parts.1)
 
 pub again_passes : (h : HandleRecord) → again_refusal h ≡ None → (h.kind ≡ kind.Timer) × (h.closing ≡ false)
-again_passes h e =
-    let parts = only_passes (is_timer h.kind) (invalid_if (h.closing || not h.begun)) e in
-    (timer_kind h.kind parts.0, (or_parts h.closing (not h.begun) (invalid_passes (h.closing || not h.begun) parts.1)).0)
+again_passes h e = grind arith
 
 pub start_watcher_passes : (h : HandleRecord) → start_watcher_refusal h ≡ None → h.closing ≡ false
 start_watcher_passes h e = invalid_passes h.closing (only_passes (is_watcher h.kind) (invalid_if h.closing) e).1
@@ -184,36 +148,19 @@ close_passes h e = invalid_passes h.closing e
 
 -- what an async handle isn't asked
 pub stop_passes : (h : HandleRecord) → stop_refusal h ≡ None → h.kind ≡ kind.Async → ⊥
-stop_passes h e q =
-    let parts = only_passes (not (is_async h.kind)) None e in
-    both_ways (not (is_async h.kind)) (ap (λ k. not (is_async k)) q) parts.0
-
-async_kind : (k : Kind) → is_async k ≡ true → k ≡ kind.Async
-async_kind kind.Timer e = cc e
-async_kind kind.Idle e = cc e
-async_kind kind.Prepare e = cc e
-async_kind kind.Check e = cc e
-async_kind kind.Async e = refl
+stop_passes h e q = grind arith
 
 pub send_passes : (h : HandleRecord) → send_refusal h ≡ None → (h.kind ≡ kind.Async) × (h.closing ≡ false)
-send_passes h e =
-    let parts = only_passes (is_async h.kind) (invalid_if h.closing) e in
-    (async_kind h.kind parts.0, invalid_passes h.closing parts.1)
+send_passes h e = grind arith
 
 -- what isn't a live handle or request refuses
 no_handle : (o : Option (Id × Content)) (c : Code) → as_handle o ≡ Err c → IsRefusal c
 no_handle None c e ok = cc (e, ok)
-no_handle (Some u) c e ok = at u.1 e where
-  at : (x : Content) → handle_at u.0 x ≡ Err c → ⊥
-  at (content.Handle h) f = cc f
-  at (content.Request r) f = cc (f, ok)
+no_handle (Some u) c e ok = grind arith
 
 pub no_request : (o : Option (Id × Content)) (c : Code) → as_request o ≡ Err c → IsRefusal c
 no_request None c e ok = cc (e, ok)
-no_request (Some u) c e ok = at u.1 e where
-  at : (x : Content) → request_at u.0 x ≡ Err c → ⊥
-  at (content.Handle h) f = cc (f, ok)
-  at (content.Request r) f = cc f
+no_request (Some u) c e ok = grind arith
 
 pub on_handle_both : (s : State) (v : Var) (why : HandleRecord → Option Code) (f : Id → HandleRecord → ops.Done) (P : ops.Done → Type 0) → Refuses
     why →
@@ -249,3 +196,96 @@ pub make_both : (s : State) (t : Option (Id × Content)) (made : Id → State) (
     ((id : Id) → next_free s.arena ≡ Some id → P (record { state = made id; answer = answer.Id id })) → P (ops.make s t made)
 make_both s (Some t) made P refused done = refused Ebound (λ ok. cc ok)
 make_both s None made P refused done = found_both (next_free s.arena) _ _ P done (λ none. refused Efull (λ ok. cc ok))
+
+-- ---- what an op does
+
+-- it only answers; a watcher that is active isn't started again
+pub data IsAsked : Op → Type 0 where
+  due_in : (v : Var) → IsAsked (op.DueIn v)
+  has_ref : (v : Var) → IsAsked (op.HasRef v)
+  is_active : (v : Var) → IsAsked (op.IsActive v)
+  is_closing : (v : Var) → IsAsked (op.IsClosing v)
+  start_watcher : (v : Var) → IsAsked (op.StartWatcher v)
+  now : IsAsked op.Now
+  is_alive : IsAsked op.IsAlive
+  asks_timeout : IsAsked op.Timeout
+  close_loop : IsAsked op.CloseLoop
+
+pub data IsRef : Op → Type 0 where
+  ref : (v : Var) → IsRef (op.Ref v)
+  unref : (v : Var) → IsRef (op.Unref v)
+
+abbrev pub MayRefuse : Op → Type 0
+MayRefuse op.StopLoop = ⊥
+MayRefuse op.UpdateTime = ⊥
+MayRefuse o = Unit {0}
+
+pub data DidOp (s : State) : Op → ops.Done → Type 0 where
+  refused : (o : Op) (c : Code) → IsRefusal c → MayRefuse o → DidOp s o (ops.refuses s c)
+  asked : (o : Op) (a : Answer) → IsAsked o → DidOp s o (ops.says s a)
+  loop_stopped : DidOp s op.StopLoop (ops.succeeds (record s { stop_flag = true }))
+  time_updated : DidOp s op.UpdateTime (ops.succeeds (refreshed s))
+  -- a slot is taken
+  made : (v : Var) (q : Kind) (id : Id) → next_free s.arena ≡ Some id
+      → DidOp s (op.Init v q) (record { state = ops.with_new s v q id; answer = answer.Id id })
+  queued : (v : Var) (task : Task) (id : Id) → next_free s.arena ≡ Some id
+      → DidOp s (op.Queue v task) (record { state = ops.with_queued s v task id; answer = answer.Id id })
+  -- the record of a request changes
+  cancelled : (v : Var) (t : Id × Request) → IsLive s v t.0 (content.Request t.1) → list_any (same_id t.0) s.waiting ≡ true
+      → DidOp s (op.Cancel v) (record { state = ops.cancelled s t.0 t.1; answer = answer.Cancelled t.0 })
+  -- that of a handle
+  started : (v : Var) (timeout repeat : ℕ) (t : Id × HandleRecord) → live_handle s v ≡ Ok t → t.1.kind ≡ kind.Timer → t.1.closing ≡ false
+      → DidOp s (op.Start v timeout repeat) (ops.start s timeout repeat t.0 t.1)
+  again : (v : Var) (t : Id × HandleRecord) → live_handle s v ≡ Ok t → t.1.kind ≡ kind.Timer → t.1.closing ≡ false
+      → DidOp s (op.Again v) (ops.again s t.0 t.1)
+  watching : (v : Var) (q : WatcherKind) (t : Id × HandleRecord) → live_handle s v ≡ Ok t → t.1.kind ≡ kind_as q → t.1.active ≡ false
+      → t.1.closing ≡ false → DidOp s (op.StartWatcher v) (ops.succeeds (ops.watcher_started s q t.0 t.1))
+  stopped : (v : Var) (t : Id × HandleRecord) → live_handle s v ≡ Ok t → (t.1.kind ≡ kind.Async → ⊥) → DidOp s (op.Stop v) (ops.stop s t.0 t.1)
+  closed : (v : Var) (t : Id × HandleRecord) → live_handle s v ≡ Ok t → t.1.closing ≡ false → DidOp s (op.Close v) (ops.close s t.0 t.1)
+  repeated : (v : Var) (n : ℕ) (t : Id × HandleRecord) → live_handle s v ≡ Ok t → DidOp s (op.SetRepeat v n) (ops.set_repeat s n t.0 t.1)
+  referenced : (o : Op) (v : Var) (flag : Bool) (t : Id × HandleRecord) → live_handle s v ≡ Ok t → IsRef o
+      → DidOp s o (ops.set_referenced s flag t.0 t.1)
+  sent_to : (v : Var) (t : Id × HandleRecord) → live_handle s v ≡ Ok t → t.1.kind ≡ kind.Async → t.1.closing ≡ false
+      → DidOp s (op.Send v) (record { state = with_handle s t.0 (sent t.1); answer = answer.Code Success })
+
+watcher_did : (s : State) (v : Var) (t : Id × HandleRecord) → live_handle s v ≡ Ok t → t.1.closing ≡ false →
+    DidOp s (op.StartWatcher v) (ops.start_watcher s t.0 t.1)
+watcher_did s v t e stays =
+    let by : State → Type 0 = λ u. DidOp s (op.StartWatcher v) (ops.succeeds u) in
+    cond_both t.1.active s _ by (λ on. asked _ _ (start_watcher v))
+    (λ off. found_both (watcher_kind t.1.kind) _ s by (λ q is. watching v q t e (as_watcher t.1.kind q is) off stays)
+    (λ none. asked _ _ (start_watcher v)))
+
+-- an op on a handle
+held_did : (s : State) (o : Op) (v : Var) (why : HandleRecord → Option Code) (f : Id → HandleRecord → ops.Done) → MayRefuse o → Refuses why →
+    ((t : Id × HandleRecord) → live_handle s v ≡ Ok t → why t.1 ≡ None → DidOp s o (f t.0 t.1)) → DidOp s o (ops.on_handle s (live_handle s v) why f)
+held_did s o v why f may codes done = on_handle_both s v why f (DidOp s o) codes (λ c r. refused o c r may) done
+
+pub op_did : (s : State) (o : Op) → DidOp s o (do_op s o)
+op_did s (op.Init v q) = make_both s (live s v) (ops.with_new s v q) (DidOp s (op.Init v q)) (λ c r. refused _ c r tt) (λ id e. made v q id e)
+op_did s (op.Queue v task) =
+    make_both s (live s v) (ops.with_queued s v task) (DidOp s (op.Queue v task)) (λ c r. refused _ c r tt) (λ id e. queued v task id e)
+op_did s (op.Cancel v) = cancel_both s v (DidOp s (op.Cancel v)) (λ c r. refused _ c r tt) (λ t live on. cancelled v t live on)
+op_did s (op.Start v timeout repeat) = held_did s (op.Start v timeout repeat) v start_timer_refusal _ tt refuses_start
+    (λ t e is. let p = start_passes t.1 is in started v timeout repeat t e p.0 p.1)
+op_did s (op.StartWatcher v) = held_did s (op.StartWatcher v) v start_watcher_refusal _ tt refuses_start_watcher
+    (λ t e is. watcher_did s v t e (start_watcher_passes t.1 is))
+op_did s (op.Stop v) = held_did s (op.Stop v) v stop_refusal _ tt refuses_stop (λ t e is. stopped v t e (stop_passes t.1 is))
+op_did s (op.Again v) = held_did s (op.Again v) v again_refusal _ tt refuses_again
+    (λ t e is. let p = again_passes t.1 is in again v t e p.0 p.1)
+op_did s (op.SetRepeat v n) = held_did s (op.SetRepeat v n) v timer_refusal _ tt refuses_timer (λ t e is. repeated v n t e)
+op_did s (op.DueIn v) = held_did s (op.DueIn v) v timer_refusal _ tt refuses_timer (λ t e is. asked _ _ (due_in v))
+op_did s (op.Close v) = held_did s (op.Close v) v close_refusal _ tt refuses_close (λ t e is. closed v t e (close_passes t.1 is))
+op_did s (op.Ref v) = held_did s (op.Ref v) v no_refusal _ tt refuses_none (λ t e is. referenced _ v true t e (ref v))
+op_did s (op.Unref v) = held_did s (op.Unref v) v no_refusal _ tt refuses_none (λ t e is. referenced _ v false t e (unref v))
+op_did s (op.HasRef v) = held_did s (op.HasRef v) v no_refusal _ tt refuses_none (λ t e is. asked _ _ (has_ref v))
+op_did s (op.IsActive v) = held_did s (op.IsActive v) v no_refusal _ tt refuses_none (λ t e is. asked _ _ (is_active v))
+op_did s (op.IsClosing v) = held_did s (op.IsClosing v) v no_refusal _ tt refuses_none (λ t e is. asked _ _ (is_closing v))
+op_did s (op.Send v) = send_both s v (λ (c : ops.Coded). DidOp s (op.Send v) (ops.says_code c)) (λ c r. refused _ c r tt)
+    (λ t e is. let p = send_passes t.1 is in sent_to v t e p.0 p.1)
+op_did s op.StopLoop = loop_stopped
+op_did s op.UpdateTime = time_updated
+op_did s op.Now = asked _ _ now
+op_did s op.IsAlive = asked _ _ is_alive
+op_did s op.Timeout = asked _ _ asks_timeout
+op_did s op.CloseLoop = cond_both (ops.is_in_use s) _ _ (DidOp s op.CloseLoop) (λ e. refused _ _ (λ ok. cc ok) tt) (λ e. asked _ _ close_loop)

@@ -1,5 +1,5 @@
 -- What an op leaves of the lists that a section walks, of the counts of calls, and of what lasts from line to line.
-use Rattle.std.proofs.Common.{◌≡◌, ℕ, ◌==◌, List, [], ◌∷◌, false, Option, Some, None, Ok, length, slice_get, slice_set, unwrap_or, refl, ap, sym, ◌∙◌, zero, suc}
+use Rattle.std.proofs.Common.{Bool, true, false, arith, ◌≡◌, ℕ, ◌==◌, List, [], ◌∷◌, false, Option, Some, None, Ok, length, slice_get, slice_set, unwrap_or, refl, ap, sym, ◌∙◌, zero, suc}
 use Rattle.std.proofs.lemmas.Bool.{cond_both}
 use Rattle.uv_ids.specs.declared.id.Id.{Id}
 use Rattle.uv_ids.specs.declared.id.Var.{Var}
@@ -13,17 +13,12 @@ use Rattle.uv_ids.specs.declared.phase.Phase.{Phase}
 use Rattle.uv_ids.specs.declared.phase.Phase.TheVariants as phase
 use Rattle.uv_script.specs.declared.op.Op.{Op}
 use Rattle.uv_script.specs.declared.op.Op.TheVariants as op
-use Rattle.uv_work.specs.declared.task.Task.{Task}
-use Rattle.uv_work.specs.declared.content.Content.{Content}
 use Rattle.uv_records.specs.declared.handle.HandleRecord.{HandleRecord}
 use Rattle.uv_records.specs.declared.named.Named.{Named}
-use Rattle.uv_records.specs.declared.lists.WatcherKind.{WatcherKind}
 use Rattle.uv_records.specs.declared.lists.WatcherKind.TheVariants as watcher
-use Rattle.uv_records.specs.Lists.{watcher_kind}
-use Rattle.uv_records.specs.Refusals.{no_refusal, timer_refusal, start_timer_refusal, start_watcher_refusal, stop_refusal, again_refusal, close_refusal}
 use Rattle.uv_records.specs.Walks.{Walk}
 use Rattle.uv_model.specs.Ids.{without_id}
-use Rattle.uv_model.specs.State.{State, handle, live, live_handle, live_request}
+use Rattle.uv_model.specs.State.{State, handle, live_handle}
 use Rattle.uv_records.specs.Names.{unbound}
 use Rattle.uv_model.specs.Timers.{stopped, started}
 use Rattle.uv_model.specs.Ops as ops
@@ -33,8 +28,8 @@ use Rattle.uv_order.specs.Documented.{Names, lasting, after_op, taken_off, ids_o
 use Rattle.uv_order.proofs.IdLists.{left_of, none_off, one_off, without_absent, has_back}
 use Rattle.uv_order.proofs.Holding.{Everyone, not_listed}
 use Rattle.uv_order.proofs.Keeping.{Kept, Watches, members}
-use Rattle.uv_model.proofs.Found.{found_both}
-use Rattle.uv_order.proofs.OpCases.{names_at, live_held, live_bound, IsRefusal, refuses_none, refuses_timer, refuses_start, refuses_start_watcher, refuses_stop, refuses_again, refuses_close, start_passes, again_passes, on_handle_both, send_both, cancel_both, make_both}
+use Rattle.uv_order.proofs.OpCases as which
+use Rattle.uv_order.proofs.OpCases.{DidOp, IsAsked, MayRefuse, op_did, names_at, live_held, live_bound, IsRefusal, refuses_none, refuses_timer, refuses_start, refuses_start_watcher, refuses_stop, refuses_again, refuses_close, start_passes, again_passes, on_handle_both, send_both, cancel_both, make_both}
 
 -- ---- counts of calls
 
@@ -91,8 +86,13 @@ record SameLists (now was : State) : Type 0 where
   closing : now.closing.yet ≡ was.closing.yet
   done : now.done.yet ≡ was.done.yet
 
+lists : {now was : State} → now.ready ≡ was.ready → now.idle.yet ≡ was.idle.yet → now.prepare.yet ≡ was.prepare.yet →
+    now.check.yet ≡ was.check.yet → now.async.yet ≡ was.async.yet → now.closing.yet ≡ was.closing.yet → now.done.yet ≡ was.done.yet →
+    SameLists now was
+lists r i p c a cl d = record { ready = r; idle = i; prepare = p; check = c; async = a; closing = cl; done = d }
+
 same_lists : (s : State) → SameLists s s
-same_lists s = record { ready = refl; idle = refl; prepare = refl; check = refl; async = refl; closing = refl; done = refl }
+same_lists s = lists refl refl refl refl refl refl refl
 
 -- nobody is taken off, and the lists stay
 quiet : (s : State) (o : Op) (d : ops.Done) → TakesNone (names_at s) o d.answer → lasting d.state ≡ after_op o s → SameCalls d.state.names s.names →
@@ -113,13 +113,7 @@ quiet s o d none lasts calls lists = record {
 
 pub refusal_takes_none : (names : Names) (o : Op) (c : Code) → IsRefusal c → TakesNone names o (answer.Code c)
 refusal_takes_none names o code.Ok no_success word = absurd (no_success refl)
-refusal_takes_none names o code.Einval no_success word = refl
-refusal_takes_none names o code.Ebusy no_success word = refl
-refusal_takes_none names o code.Ecanceled no_success word = refl
-refusal_takes_none names o code.Ebound no_success word = refl
-refusal_takes_none names o code.Efull no_success word = refl
-refusal_takes_none names o code.Estale no_success word = refl
-refusal_takes_none names o code.Ekind no_success word = refl
+refusal_takes_none names o each no_success word = refl
 
 -- an op that is refused, or that only answers
 says_effect : (s : State) (o : Op) (a : Answer) → TakesNone (names_at s) o a → after_op o s ≡ lasting s → Effect s o (ops.says s a)
@@ -129,6 +123,14 @@ refused_effect : (s : State) (o : Op) → after_op o s ≡ lasting s → (c : Co
 refused_effect s o lasts c no_success = says_effect s o (answer.Code c) (refusal_takes_none (names_at s) o c no_success) lasts
 
 -- ---- stopping
+
+-- a handle of another kind isn't on a list of watchers
+not_yet : (s : State) (q : Kind) (w : Walk Id) (id : Id) (h : HandleRecord) → handle s id ≡ Some h → (h.kind ≡ q → ⊥) →
+    Everyone s.arena.slots (Watches q) (members w) →
+    without_id w.yet id ≡ left_of w.yet []
+not_yet s q w id h e d l =
+    let away : has_id w.yet id ≡ false = has_back w.list w.yet id (not_listed s.arena.slots (Watches q) id h (members w) e (λ x. d x.kind) l.lists) in
+    without_absent w.yet id away ∙ sym (none_off w.yet)
 
 left_one : (ids : List Id) (id : Id) → without_id ids id ≡ left_of ids (id ∷ [])
 left_one ids id = sym (one_off ids [] id ∙ ap (λ (is : List Id). without_id is id) (none_off ids))
@@ -141,41 +143,24 @@ taken_one : (s : State) (v : Var) (t : Id × HandleRecord) (ids : List Id) → l
     without_id ids t.0 ≡ left_of ids (ids_of (names_at s) (Some v))
 taken_one s v t ids e = rw (one_taken s v t e) (left_one ids t.0)
 
-stop_effect : (s : State) (v : Var) (t : Id × HandleRecord) → live_handle s v ≡ Ok t → Effect s (op.Stop v) (ops.stop s t.0 t.1)
-stop_effect s v t e = record {
+stop_effect : (s : State) (v : Var) (t : Id × HandleRecord) → live_handle s v ≡ Ok t → (t.1.kind ≡ kind.Async → ⊥) → Kept s →
+    Effect s (op.Stop v) (ops.stop s t.0 t.1)
+stop_effect s v t e apart k = record {
   lasts = refl;
   calls = same_calls s.names;
   ready = taken_one s v t s.ready e;
   idle = taken_one s v t s.idle.yet e;
   prepare = taken_one s v t s.prepare.yet e;
   check = taken_one s v t s.check.yet e;
-  async = taken_one s v t s.async.yet e;
+  async = not_yet s kind.Async s.async t.0 t.1 (live_held s v t e) apart k.async;
   closing = refl;
   done = refl;
 }
 
 close_effect : (s : State) (v : Var) (t : Id × HandleRecord) → live_handle s v ≡ Ok t → Effect s (op.Close v) (ops.close s t.0 t.1)
-close_effect s v t e = record {
-  lasts = refl;
-  calls = same_calls s.names;
-  ready = taken_one s v t s.ready e;
-  idle = taken_one s v t s.idle.yet e;
-  prepare = taken_one s v t s.prepare.yet e;
-  check = taken_one s v t s.check.yet e;
-  async = taken_one s v t s.async.yet e;
-  closing = refl;
-  done = refl;
-}
+close_effect s v t e = grind arith
 
 -- ---- timers
-
--- a handle of another kind isn't on a list of watchers
-not_yet : (s : State) (q : Kind) (w : Walk Id) (id : Id) (h : HandleRecord) → handle s id ≡ Some h → (h.kind ≡ q → ⊥) →
-    Everyone s.arena.slots (Watches q) (members w) →
-    without_id w.yet id ≡ left_of w.yet []
-not_yet s q w id h e d l =
-    let away : has_id w.yet id ≡ false = has_back w.list w.yet id (not_listed s.arena.slots (Watches q) id h (members w) e (λ x. d x.kind) l.lists) in
-    without_absent w.yet id away ∙ sym (none_off w.yet)
 
 -- a timer is not a watcher
 apart : (h : HandleRecord) (q : Kind) → h.kind ≡ kind.Timer → (kind.Timer ≡ q → ⊥) → h.kind ≡ q → ⊥
@@ -207,20 +192,14 @@ timer_effect s u o v t e is k off lasts same names lists = record {
 
 pub start_off : (v : Var) (timeout repeat : ℕ) (word : Phase) → off_by word (op.Start v timeout repeat) ≡ off_by word (op.Again v)
 start_off v timeout repeat phase.Pending = refl
-start_off v timeout repeat phase.Idle = refl
-start_off v timeout repeat phase.Prepare = refl
-start_off v timeout repeat phase.Done = refl
-start_off v timeout repeat phase.Async = refl
-start_off v timeout repeat phase.Check = refl
-start_off v timeout repeat phase.Closing = refl
-start_off v timeout repeat phase.Timers = refl
+start_off v timeout repeat each = refl
 
 start_effect : (s : State) (v : Var) (timeout repeat : ℕ) (t : Id × HandleRecord) → live_handle s v ≡ Ok t → t.1.kind ≡ kind.Timer → Kept s →
     Effect s (op.Start v timeout repeat) (ops.start s timeout repeat t.0 t.1)
 start_effect s v timeout repeat t e is k =
     timer_effect s (started (stopped s t.0 t.1) t.0 t.1 timeout repeat) (op.Start v timeout repeat) v t e is k
     (start_off v timeout repeat) refl refl refl
-    (record { ready = refl; idle = refl; prepare = refl; check = refl; async = refl; closing = refl; done = refl })
+    (lists refl refl refl refl refl refl refl)
 
 again_effect : (s : State) (v : Var) (t : Id × HandleRecord) → live_handle s v ≡ Ok t → t.1.kind ≡ kind.Timer → Kept s →
     Effect s (op.Again v) (ops.again
@@ -228,25 +207,8 @@ again_effect : (s : State) (v : Var) (t : Id × HandleRecord) → live_handle s 
 again_effect s v t e is k =
     cond_both (t.1.repeat == 0) (stopped s t.0 t.1) (started (stopped s t.0 t.1) t.0 t.1 t.1.repeat t.1.repeat) (λ (u : State). Effect s (op.Again
     v) (ops.succeeds u))
-    (λ z. by (stopped s t.0 t.1) refl refl (record {
-      ready = refl;
-      idle = refl;
-      prepare = refl;
-      check = refl;
-      async = refl;
-      closing = refl;
-      done =
-          refl;
-    }))
-    (λ z. by (started (stopped s t.0 t.1) t.0 t.1 t.1.repeat t.1.repeat) refl refl (record {
-      ready = refl;
-      idle = refl;
-      prepare = refl;
-      check = refl;
-      async = refl;
-      closing = refl;
-      done = refl;
-    }))
+    (λ z. by (stopped s t.0 t.1) refl refl (lists refl refl refl refl refl refl refl))
+    (λ z. by (started (stopped s t.0 t.1) t.0 t.1 t.1.repeat t.1.repeat) refl refl (lists refl refl refl refl refl refl refl))
   where
     by : (u : State) → lasting u ≡ lasting s → u.names ≡ s.names → SameLists u (stopped s t.0 t.1) → Effect s (op.Again v) (ops.succeeds u)
     by u same names lists = timer_effect s u (op.Again v) v t e is k (λ word. refl) refl same names lists
@@ -255,18 +217,7 @@ again_effect s v t e is k =
 
 pub none_taken : (names : Names) (o : Op) (a : Answer) → ((word : Phase) → off_by word o ≡ None) → TakesNone names o a
 none_taken names o (answer.Code code.Ok) e word = ap (ids_of names) (e word)
-none_taken names o (answer.Code code.Einval) e word = refl
-none_taken names o (answer.Code code.Ebusy) e word = refl
-none_taken names o (answer.Code code.Ecanceled) e word = refl
-none_taken names o (answer.Code code.Ebound) e word = refl
-none_taken names o (answer.Code code.Efull) e word = refl
-none_taken names o (answer.Code code.Estale) e word = refl
-none_taken names o (answer.Code code.Ekind) e word = refl
-none_taken names o (answer.Id id) e word = refl
-none_taken names o (answer.Cancelled id) e word = refl
-none_taken names o (answer.Number n) e word = refl
-none_taken names o (answer.Flag b) e word = refl
-none_taken names o (answer.Timeout t) e word = refl
+none_taken names o each e word = refl
 
 -- such an op takes nobody off in any section
 abbrev pub Harmless : Op → Type 0
@@ -283,197 +234,61 @@ by_word o a b c d e f g h phase.Check = f
 by_word o a b c d e f g h phase.Closing = g
 by_word o a b c d e f g h phase.Timers = h
 
+-- all but these are such
+abbrev pub takes : Op → Bool
+takes (op.Start v timeout repeat) = true
+takes (op.Stop v) = true
+takes (op.Again v) = true
+takes (op.Close v) = true
+takes o = false
+
+pub harmless : (o : Op) → takes o ≡ false → Harmless o
+harmless (op.Start v timeout repeat) e = cc e
+harmless (op.Stop v) e = cc e
+harmless (op.Again v) e = cc e
+harmless (op.Close v) e = cc e
+harmless each e = by_word each refl refl refl refl refl refl refl refl
+
 -- it leaves all of that as it was
-still : (s : State) (o : Op) (d : ops.Done) → Harmless o → lasting d.state ≡ after_op o s → SameCalls d.state.names s.names → SameLists d.state s →
-    Effect s o d
-still s o d harmless = quiet s o d (none_taken (names_at s) o d.answer harmless)
-
-new_effect : (s : State) (v : Var) (q : Kind) (id : Id) → Effect s (op.Init v q) (record { state = ops.with_new s v q id; answer = answer.Id id })
-new_effect s v kind.Timer id = still s (op.Init v kind.Timer) _ (by_word (op.Init v kind.Timer) refl refl refl refl refl refl refl refl) refl
-    (bound_calls s.names v.0 _ refl)
-    (record { ready = refl; idle = refl; prepare = refl; check = refl; async = refl; closing = refl; done = refl })
-new_effect s v kind.Idle id = still s (op.Init v kind.Idle) _ (by_word (op.Init v kind.Idle) refl refl refl refl refl refl refl refl) refl
-    (bound_calls s.names v.0 _ refl)
-    (record { ready = refl; idle = refl; prepare = refl; check = refl; async = refl; closing = refl; done = refl })
-new_effect s v kind.Prepare id = still s (op.Init v kind.Prepare) _ (by_word (op.Init v kind.Prepare) refl refl refl refl refl refl refl refl) refl
-    (bound_calls s.names v.0 _ refl)
-    (record { ready = refl; idle = refl; prepare = refl; check = refl; async = refl; closing = refl; done = refl })
-new_effect s v kind.Check id = still s (op.Init v kind.Check) _ (by_word (op.Init v kind.Check) refl refl refl refl refl refl refl refl) refl
-    (bound_calls s.names v.0 _ refl)
-    (record { ready = refl; idle = refl; prepare = refl; check = refl; async = refl; closing = refl; done = refl })
-new_effect s v kind.Async id = still s (op.Init v kind.Async) _ (by_word (op.Init v kind.Async) refl refl refl refl refl refl refl refl) refl
-    (bound_calls s.names v.0 _ refl)
-    (record { ready = refl; idle = refl; prepare = refl; check = refl; async = refl; closing = refl; done = refl })
-
-queued_effect : (s : State) (v : Var) (task : Task) (id : Id) →
-    Effect s (op.Queue v task) (record { state = ops.with_queued s v task id; answer = answer.Id id })
-queued_effect s v task id = still s (op.Queue v task) _ (by_word (op.Queue v task) refl refl refl refl refl refl refl refl) refl
-    (bound_calls s.names v.0 _ refl)
-    (record { ready = refl; idle = refl; prepare = refl; check = refl; async = refl; closing = refl; done = refl })
-
-init_effect : (s : State) (v : Var) (q : Kind) (t : Option (Id × Content)) → Effect s (op.Init v q) (ops.make s t (ops.with_new s v q))
-init_effect s v q t = make_both s t (ops.with_new s v q) (Effect s (op.Init v q)) (refused_effect s (op.Init v q) refl)
-    (λ id e. new_effect s v q id)
-
-queue_effect : (s : State) (v : Var) (task : Task) (t : Option (Id × Content)) →
-    Effect s (op.Queue v task) (ops.make s t (ops.with_queued s v task))
-queue_effect s v task t = make_both s t (ops.with_queued s v task) (Effect s (op.Queue v task)) (refused_effect s (op.Queue v task) refl)
-    (λ id e. queued_effect s v task id)
-
-start_watcher_effect : (s : State) (v : Var) (id : Id) (h : HandleRecord) → Effect s (op.StartWatcher v) (ops.start_watcher s id h)
-start_watcher_effect s v id h = cond_both h.active s _ (λ (u : State). Effect s (op.StartWatcher v) (ops.succeeds u))
-    (λ on. by s refl (same_calls s.names) (same_lists s))
-    (λ off. found_both (watcher_kind h.kind) _ s (λ (u : State). Effect s (op.StartWatcher v) (ops.succeeds u)) (λ q is. put q) (λ none. by s refl
-    (same_calls s.names) (same_lists s)))
-  where
-    by : (u : State) → lasting u ≡ lasting s → SameCalls u.names s.names → SameLists u s → Effect s (op.StartWatcher v) (ops.succeeds u)
-    by u = still s (op.StartWatcher v) (ops.succeeds u) (by_word (op.StartWatcher v) refl refl refl refl refl refl refl refl)
-
-    put : (k : WatcherKind) → Effect s (op.StartWatcher v) (ops.succeeds (ops.watcher_started s k id h))
-    put watcher.Idle = by _ refl (same_calls s.names) (record {
-      ready = refl;
-      idle = refl;
-      prepare = refl;
-      check = refl;
-      async = refl;
-      closing = refl;
-      done = refl;
-    })
-    put watcher.Prepare = by _ refl (same_calls s.names) (record {
-      ready = refl;
-      idle = refl;
-      prepare = refl;
-      check = refl;
-      async = refl;
-      closing = refl;
-      done = refl;
-    })
-    put watcher.Check = by _ refl (same_calls s.names) (record {
-      ready = refl;
-      idle = refl;
-      prepare = refl;
-      check = refl;
-      async = refl;
-      closing = refl;
-      done = refl;
-    })
-    put watcher.Async = by _ refl (same_calls s.names) (record {
-      ready = refl;
-      idle = refl;
-      prepare = refl;
-      check = refl;
-      async = refl;
-      closing = refl;
-      done = refl;
-    })
+still : (s : State) (o : Op) (d : ops.Done) → takes o ≡ false → lasting d.state ≡ after_op o s → SameCalls d.state.names s.names →
+    SameLists d.state s → Effect s o d
+still s o d e = quiet s o d (none_taken (names_at s) o d.answer (harmless o e))
 
 -- such an op changes one record, or nothing
-simple : (s : State) (o : Op) (d : ops.Done) → Harmless o → lasting d.state ≡ after_op o s → d.state.names ≡ s.names → SameLists d.state s →
+simple : (s : State) (o : Op) (d : ops.Done) → takes o ≡ false → lasting d.state ≡ after_op o s → d.state.names ≡ s.names → SameLists d.state s →
     Effect s o d
-simple s o d harmless lasts names lists = still s o d harmless lasts (rw names (same_calls s.names)) lists
+simple s o d e lasts names lists = still s o d e lasts (rw names (same_calls s.names)) lists
 
-pub send_effect : (s : State) (v : Var) → Effect s (op.Send v) (ops.says_code (ops.send s (live_handle s v)))
-send_effect s v = send_both s v (λ (c : ops.Coded). Effect s (op.Send v) (ops.says_code c)) (refused_effect s (op.Send v) refl)
-    (λ t e stays. simple s (op.Send v) _ (by_word (op.Send v) refl refl refl refl refl refl refl refl) refl refl (record {
-      ready = refl;
-      idle = refl;
-      prepare = refl;
-      check = refl;
-      async = refl;
-      closing = refl;
-      done = refl;
-    }))
+new_effect : (s : State) (v : Var) (q : Kind) (id : Id) → Effect s (op.Init v q) (record { state = ops.with_new s v q id; answer = answer.Id id })
+new_effect s v kind.Timer id = still s (op.Init v kind.Timer) _ refl refl (bound_calls s.names v.0 _ refl)
+    (lists refl refl refl refl refl refl refl)
+new_effect s v each id = still s (op.Init v each) _ refl refl (bound_calls s.names v.0 _ refl) (lists refl refl refl refl refl refl refl)
 
-cancel_effect : (s : State) (v : Var) → Effect s (op.Cancel v) (ops.cancel s (live_request s v))
-cancel_effect s v = cancel_both s v (Effect s (op.Cancel v)) (refused_effect s (op.Cancel v) refl)
-    (λ t live on. simple s (op.Cancel v) _ (by_word (op.Cancel v) refl refl refl refl refl refl refl refl) refl refl (record {
-      ready = refl;
-      idle = refl;
-      prepare = refl;
-      check = refl;
-      async = refl;
-      closing = refl;
-      done = refl;
-    }))
+asked_effect : (s : State) (o : Op) (a : Answer) → IsAsked o → Effect s o (ops.says s a)
+asked_effect s o a (which.due_in v) = simple s (op.DueIn v) _ refl refl refl (same_lists s)
+asked_effect s o a each = simple s o _ refl refl refl (same_lists s)
+
+lasts_refused : (s : State) (o : Op) → MayRefuse o → after_op o s ≡ lasting s
+lasts_refused s op.StopLoop may = absurd may
+lasts_refused s op.UpdateTime may = absurd may
+lasts_refused s each may = refl
+
+did_op_effect : (s : State) (o : Op) (d : ops.Done) → DidOp s o d → Kept s → Effect s o d
+did_op_effect s o d (which.refused o' c r may) k = refused_effect s o' (lasts_refused s o' may) c r
+did_op_effect s o d (which.asked o' a is) k = asked_effect s o' a is
+did_op_effect s o d (which.made v q id e) k = new_effect s v q id
+did_op_effect s o d (which.queued v task id e) k =
+    still s (op.Queue v task) _ refl refl (bound_calls s.names v.0 _ refl) (lists refl refl refl refl refl refl refl)
+did_op_effect s o d (which.started v timeout repeat t e is stays) k = start_effect s v timeout repeat t e is k
+did_op_effect s o d (which.again v t e is stays) k = again_effect s v t e is k
+did_op_effect s o d (which.stopped v t e sync) k = stop_effect s v t e sync k
+did_op_effect s o d (which.closed v t e stays) k = close_effect s v t e
+did_op_effect s o d (which.watching v watcher.Idle t e is off stays) k =
+    simple s (op.StartWatcher v) _ refl refl refl (lists refl refl refl refl refl refl refl)
+did_op_effect s o d (which.watching v each t e is off stays) k =
+    simple s (op.StartWatcher v) _ refl refl refl (lists refl refl refl refl refl refl refl)
+did_op_effect s o d (which.referenced o' u flag t e (which.ref v)) k = simple s o _ refl refl refl (lists refl refl refl refl refl refl refl)
+did_op_effect s o d each k = simple s o d refl refl refl (lists refl refl refl refl refl refl refl)
 
 pub op_effect : (s : State) (o : Op) → Kept s → Effect s o (do_op s o)
-op_effect s (op.Init v q) k = init_effect s v q (live s v)
-op_effect s (op.Queue v task) k = queue_effect s v task (live s v)
-op_effect s (op.Cancel v) k = cancel_effect s v
-op_effect s (op.Start v timeout repeat) k =
-    on_handle_both s v start_timer_refusal _ (Effect s (op.Start v timeout repeat)) refuses_start (refused_effect s (op.Start v timeout repeat) refl)
-    (λ t e is. start_effect s v timeout repeat t e (start_passes t.1 is).0 k)
-op_effect s (op.StartWatcher v) k = on_handle_both s v start_watcher_refusal _ (Effect s (op.StartWatcher v)) refuses_start_watcher (refused_effect
-    s (op.StartWatcher v) refl)
-    (λ t e is. start_watcher_effect s v t.0 t.1)
-op_effect s (op.Stop v) k = on_handle_both s v stop_refusal _ (Effect s (op.Stop v)) refuses_stop (refused_effect s (op.Stop v) refl) (λ t e is.
-    stop_effect s v t e)
-op_effect s (op.Again v) k = on_handle_both s v again_refusal _ (Effect s (op.Again v)) refuses_again (refused_effect s (op.Again v) refl)
-    (λ t e is. again_effect s v t e (again_passes t.1 is).0 k)
-op_effect s (op.Close v) k = on_handle_both s v close_refusal _ (Effect s (op.Close v)) refuses_close (refused_effect s (op.Close v) refl) (λ t e
-    is. close_effect s v t e)
-op_effect s (op.SetRepeat v n) k = on_handle_both s v timer_refusal _ (Effect s (op.SetRepeat v n)) refuses_timer (refused_effect s (op.SetRepeat v
-    n) refl)
-    (λ t e is. simple s (op.SetRepeat v n) _ (by_word (op.SetRepeat v n) refl refl refl refl refl refl refl refl) refl refl (record {
-      ready = refl;
-      idle = refl;
-      prepare = refl;
-      check = refl;
-      async = refl;
-      closing = refl;
-      done = refl;
-    }))
-op_effect s (op.DueIn v) k = on_handle_both s v timer_refusal _ (Effect s (op.DueIn v)) refuses_timer (refused_effect s (op.DueIn v) refl)
-    (λ t e is. simple s (op.DueIn v) _ (by_word (op.DueIn v) refl refl refl refl refl refl refl refl) refl refl (same_lists s))
-op_effect s (op.Ref v) k = on_handle_both s v no_refusal _ (Effect s (op.Ref v)) refuses_none (refused_effect s (op.Ref v) refl)
-    (λ t e is. simple s (op.Ref v) _ (by_word (op.Ref v) refl refl refl refl refl refl refl refl) refl refl (record {
-      ready = refl;
-      idle = refl;
-      prepare = refl;
-      check = refl;
-      async = refl;
-      closing = refl;
-      done = refl;
-    }))
-op_effect s (op.Unref v) k = on_handle_both s v no_refusal _ (Effect s (op.Unref v)) refuses_none (refused_effect s (op.Unref v) refl)
-    (λ t e is. simple s (op.Unref v) _ (by_word (op.Unref v) refl refl refl refl refl refl refl refl) refl refl (record {
-      ready = refl;
-      idle = refl;
-      prepare = refl;
-      check = refl;
-      async = refl;
-      closing = refl;
-      done = refl;
-    }))
-op_effect s (op.HasRef v) k = on_handle_both s v no_refusal _ (Effect s (op.HasRef v)) refuses_none (refused_effect s (op.HasRef v) refl)
-    (λ t e is. simple s (op.HasRef v) _ (by_word (op.HasRef v) refl refl refl refl refl refl refl refl) refl refl (same_lists s))
-op_effect s (op.IsActive v) k = on_handle_both s v no_refusal _ (Effect s (op.IsActive v)) refuses_none (refused_effect s (op.IsActive v) refl)
-    (λ t e is. simple s (op.IsActive v) _ (by_word (op.IsActive v) refl refl refl refl refl refl refl refl) refl refl (same_lists s))
-op_effect s (op.IsClosing v) k = on_handle_both s v no_refusal _ (Effect s (op.IsClosing v)) refuses_none (refused_effect s (op.IsClosing v) refl)
-    (λ t e is. simple s (op.IsClosing v) _ (by_word (op.IsClosing v) refl refl refl refl refl refl refl refl) refl refl (same_lists s))
-op_effect s (op.Send v) k = send_effect s v
-op_effect s op.StopLoop k = simple s op.StopLoop _ (by_word op.StopLoop refl refl refl refl refl refl refl refl) refl refl (record {
-  ready = refl;
-  idle = refl;
-  prepare = refl;
-  check = refl;
-  async = refl;
-  closing = refl;
-  done = refl;
-})
-op_effect s op.UpdateTime k = simple s op.UpdateTime _ (by_word op.UpdateTime refl refl refl refl refl refl refl refl) refl refl (record {
-  ready =
-      refl;
-  idle = refl;
-  prepare = refl;
-  check = refl;
-  async = refl;
-  closing = refl;
-  done = refl;
-})
-op_effect s op.Now k = simple s op.Now _ (by_word op.Now refl refl refl refl refl refl refl refl) refl refl (same_lists s)
-op_effect s op.IsAlive k = simple s op.IsAlive _ (by_word op.IsAlive refl refl refl refl refl refl refl refl) refl refl (same_lists s)
-op_effect s op.Timeout k = simple s op.Timeout _ (by_word op.Timeout refl refl refl refl refl refl refl refl) refl refl (same_lists s)
-op_effect s op.CloseLoop k = cond_both (ops.is_in_use s) _ _ (Effect s op.CloseLoop)
-    (λ e. refused_effect s op.CloseLoop refl code.Ebusy (λ f. cc f))
-    (λ e. simple s op.CloseLoop _ (by_word op.CloseLoop refl refl refl refl refl refl refl refl) refl refl (same_lists s))
+op_effect s o k = did_op_effect s o (do_op s o) (op_did s o) k

@@ -1,7 +1,7 @@
 -- What happens once, by the ops: what the line of each tells, and that the handles and the requests are as it tells.
-use Rattle.std.proofs.Common.{option_map, ◌≡◌, ◌⊎◌, inl, inr, ℕ, ◌<◌, zero, suc, ◌==◌, ◌||◌, List, [], ◌∷◌, ◌++◌, Bool, true, false, Option, Some, None, length, slice_get, slice_set, if◌then◌else◌, refl, ap, sym, subst, ◌∙◌, arith}
+use Rattle.std.proofs.Common.{◌≡◌, ◌⊎◌, inl, inr, ℕ, ◌<◌, zero, suc, ◌==◌, ◌||◌, List, [], ◌∷◌, ◌++◌, Bool, true, false, Option, Some, None, length, slice_get, slice_set, if◌then◌else◌, refl, ap, sym, ◌∙◌, arith}
 use Rattle.std.specs.List.{list_any}
-use Rattle.std.proofs.lemmas.Bool.{cond_both, both_ways, eq-eqb, false_from_ne_true}
+use Rattle.std.proofs.lemmas.Bool.{cond_both, both_ways, eq-eqb, or_left, false_from_ne_true}
 use Rattle.std.specs.Prelude.{option_and_then}
 use Rattle.std.proofs.lemmas.Option.{same_Some}
 use Rattle.uv_ids.specs.declared.id.Id.{Id}
@@ -25,8 +25,6 @@ use Rattle.uv_records.specs.declared.lists.WatcherKind.TheVariants as watcher
 use Rattle.uv_records.specs.declared.slot.Slot.{Slot}
 use Rattle.uv_records.specs.Handles as records
 use Rattle.uv_records.specs.Handles.{inited, referenced_as, repeating}
-use Rattle.uv_records.specs.Lists.{watcher_kind}
-use Rattle.uv_records.specs.Refusals.{no_refusal, timer_refusal, start_timer_refusal, start_watcher_refusal, stop_refusal, again_refusal, close_refusal}
 use Rattle.uv_records.specs.Slots.{Slots, held, taken, taken_from, next_free, next_id, next_unused, id_of}
 use Rattle.uv_work.specs.declared.content.Content.{Content}
 use Rattle.uv_work.specs.declared.content.Content.TheVariants as content
@@ -40,18 +38,18 @@ use Rattle.uv_model.specs.State.{State, named, handle, live, live_handle, with_r
 use Rattle.uv_model.specs.Timers.{stopped, restarted}
 use Rattle.uv_model.specs.Ops as ops
 use Rattle.uv_model.specs.Ops.{do_op}
-use Rattle.uv_model.proofs.Found.{found_both}
-use Rattle.uv_order.specs.Once.{Answered, binds, makes, made_by, made_as, first_of, closes, has_take_line, queued_task}
-use Rattle.uv_order.proofs.IdLists.{same, other, turned, still_absent, without_itself}
-use Rattle.uv_order.proofs.Contents.{Turns, slot_with}
+use Rattle.uv_order.specs.Once.{binds, makes, made_as, closes, has_take_line, has_cancel_line, queued_task}
+use Rattle.uv_order.proofs.IdLists.{same, itself, turned, still_absent, without_itself}
+use Rattle.uv_order.proofs.Contents.{Turns}
 use Rattle.uv_order.proofs.Holding.{name_in, name_at, names_turned, same_handles, put, put_same}
-use Rattle.uv_order.proofs.OpCases.{live_held, live_bound, IsRefusal, refuses_none, refuses_timer, refuses_start, refuses_start_watcher, refuses_stop, refuses_again, refuses_close, on_handle_both, send_both, cancel_both, make_both}
+use Rattle.uv_order.proofs.OpCases as which
+use Rattle.uv_order.proofs.OpCases.{DidOp, IsAsked, IsLive, op_did, live_held, live_bound, IsRefusal, refuses_none, refuses_timer, refuses_start, refuses_start_watcher, refuses_stop, refuses_again, refuses_close, on_handle_both, send_both, cancel_both, make_both}
 use Rattle.uv_order.proofs.Asked.{request_turns}
 use Rattle.uv_order.proofs.Works.{same_requests}
 use Rattle.uv_order.proofs.Keeping.{has_number, AreFree, Kept, fills, takes as taken_handle}
 use Rattle.uv_order.proofs.Gone.{IsGone, gone_push, gone_fill, gone_turned}
 use Rattle.uv_order.proofs.Worked.{Worked, Tells, worked_told, worked_idle, worked_ended, worked_fewer, worked_queued}
-use Rattle.uv_order.proofs.Known.{Known, IsQuiet, is_answered, known_told, known_put, known_quiet, IsQuietOp, IsIdleOp, quiet_op, idle_op, known_close, known_bound, known_grown, known_same}
+use Rattle.uv_order.proofs.Known.{Known, IsQuiet, is_answered, known_told, known_put, known_quiet, IsQuietOp, IsIdleOp, quiet_op, idle_op, known_close, known_bound, known_grown}
 
 -- ---- ops
 
@@ -74,22 +72,7 @@ known_by p past o d q k place e = known_quiet p past (seen.Op place d.answer) d.
 -- a refused `close` closes nothing
 pub refused_close : (v : Var) (c : Code) → IsRefusal c → IsQuietOp (op.Close v) (answer.Code c) × IsIdleOp (op.Close v) (answer.Code c)
 refused_close v code.Ok no_success = absurd (no_success refl)
-refused_close v code.Einval no_success = (record { binding = λ u b. refl; closing = refl; made = λ i. refl }, λ i. (refl, refl))
-refused_close v code.Ebusy no_success = (record { binding = λ u b. refl; closing = refl; made = λ i. refl }, λ i. (refl, refl))
-refused_close v code.Ecanceled no_success = (record { binding = λ u b. refl; closing = refl; made = λ i. refl }, λ i. (refl, refl))
-refused_close v code.Ebound no_success = (record { binding = λ u b. refl; closing = refl; made = λ i. refl }, λ i. (refl, refl))
-refused_close v code.Efull no_success = (record { binding = λ u b. refl; closing = refl; made = λ i. refl }, λ i. (refl, refl))
-refused_close v code.Estale no_success = (record { binding = λ u b. refl; closing = refl; made = λ i. refl }, λ i. (refl, refl))
-refused_close v code.Ekind no_success = (record { binding = λ u b. refl; closing = refl; made = λ i. refl }, λ i. (refl, refl))
-
--- an op on a handle that goes on closing or not as before
-pub on_held : (p : Program) (past : List Seen) (s : State) (o : Op) (v : Var) (why : HandleRecord → Option Code) (f : Id → HandleRecord → ops.Done) →
-    Harmless o → ((h : HandleRecord) (c : Code) → why h ≡ Some c → IsRefusal c) → KnownAt p past s →
-    ((t : Id × HandleRecord) → handle s t.0 ≡ Some t.1 → KnownAt p past (f t.0 t.1).state) →
-    KnownBy p past o (ops.on_handle s (live_handle s v) why f)
-on_held p past s o v why f harmless codes k done = on_handle_both s v why f (KnownBy p past o) codes
-    (λ c no_success. known_by p past o (ops.refuses s c) (harmless (answer.Code c)) k)
-    (λ t e is. known_by p past o (f t.0 t.1) (harmless (f t.0 t.1).answer) (done t (live_held s v t e)))
+refused_close v each no_success = (record { binding = λ u b. refl; closing = refl; made = λ i. refl }, λ i. (refl, refl))
 
 -- the record of a handle changes, which goes on closing or not as before
 pub changed : (p : Program) (past : List Seen) (s : State) (t : Id × HandleRecord) (x : HandleRecord) → handle s t.0 ≡ Some t.1 →
@@ -109,29 +92,12 @@ pub again_known : (p : Program) (past : List Seen) (s : State) (t : Id × Handle
 again_known p past s t e k = cond_both (t.1.repeat == 0) _ _ (KnownAt p past) (λ z. changed p past s t (records.stopped t.1) e refl refl k)
     (λ z. twice p past s t (records.stopped t.1) _ e refl refl refl refl k)
 
-pub start_watcher_known : (p : Program) (past : List Seen) (s : State) (t : Id × HandleRecord) → handle s t.0 ≡ Some t.1 → KnownAt p past s →
-    KnownAt p past (ops.start_watcher s t.0 t.1).state
-start_watcher_known p past s t e k = cond_both t.1.active s _ (KnownAt p past) (λ on. k)
-    (λ off. found_both (watcher_kind t.1.kind) _ s (KnownAt p past) (λ q is. by q) (λ none. k))
-  where
-    by : (q : WatcherKind) → KnownAt p past (ops.watcher_started s q t.0 t.1)
-    by watcher.Idle = changed p past s t (records.activated t.1) e refl refl k
-    by watcher.Prepare = changed p past s t (records.activated t.1) e refl refl k
-    by watcher.Check = changed p past s t (records.activated t.1) e refl refl k
-    by watcher.Async = changed p past s t (records.activated t.1) e refl refl k
-
 -- the next taking
 pub gone_taken : (s : Slots Content) (free : List ℕ) (id : Id) (x : Content) → s.free ≡ free → AreFree s.slots free → next_id s.slots s.unused free ≡
     Some id →
     (i : Id) → IsGone s.slots free i → IsGone (taken_from free id x s).slots (taken_from free id x s).free i
-gone_taken s [] id x same free e i g =
-    subst (λ (more : List ℕ). IsGone (s.slots ++ slot_with (record { slot = 0; generation = 0 }) (Some x) ∷ []) more i) (sym same)
-    (gone_push s.slots [] (slot_with (record { slot = 0; generation = 0 }) (Some x)) i g)
-gone_taken s (n ∷ ns) id x same free e i g =
-    let at = free.0 in
-    let is : id_of n at.slot ≡ id = same_Some _ _ (sym (ap (option_and_then (λ (slot : Slot Content). Some (id_of n slot))) at.there) ∙ e) in
-    subst (λ (j : Id). IsGone (slice_set s.slots j.slot (slot_with j (Some x))) ns i) is
-    (gone_fill s.slots n ns at.slot (slot_with (id_of n at.slot) (Some x)) i at.there (omega arith) g)
+gone_taken s [] id x same free e i g = grind (arith, same, gone_push)
+gone_taken s (n ∷ ns) id x same free e i g = grind (arith, same_Some, gone_fill)
 
 -- the id that the next taking gives isn't gone
 pub next_not_gone : (s : Slots Content) (free : List ℕ) (id : Id) → s.free ≡ free → AreFree s.slots free → next_id s.slots s.unused free ≡ Some id →
@@ -165,18 +131,12 @@ next_not_gone s (n ∷ ns) id same free e g =
 -- an id is new: nothing is held under it, and so what is held has the name that it had
 new_name : (slots more : List (Slot Content)) (id : Id) (c : Option Content) (v : Var) (i : Id) (u : Var) → Turns slots more id None c →
     name_at slots i ≡ Some u → (if same_id id i then Some v else name_at slots i) ≡ Some u
-new_name slots more id c v i u t e = at (same_id id i) refl where
-  at : (b : Bool) → same_id id i ≡ b → (if b then Some v else name_at slots i) ≡ Some u
-  at true s = cc (sym (ap (option_map name_in) t.before) ∙ ap (name_at slots) (same id i s) ∙ e)
-  at false s = e
+new_name slots more id c v i u t e = grind arith
 
 -- what is held now under the new id is called as the line says, and all else as before
 new_or_old : (slots more : List (Slot Content)) (id : Id) (c : Content) (v : Var) (i : Id) (u : Var) → name_in c ≡ v →
     Turns slots more id None (Some c) → name_at more i ≡ Some u → (if same_id id i then Some v else name_at slots i) ≡ Some u
-new_or_old slots more id c v i u is t e = at (same_id id i) refl where
-  at : (b : Bool) → same_id id i ≡ b → (if b then Some v else name_at slots i) ≡ Some u
-  at true s = ap Some (sym is) ∙ sym (ap (option_map name_in) t.here) ∙ ap (name_at more) (same id i s) ∙ e
-  at false s = sym (ap (option_map name_in) (t.others i (other i id (turned i id ∙ s)))) ∙ e
+new_or_old slots more id c v i u is t e = grind arith
 
 -- so the lines tell it of each
 made_now : (p : Program) (past : List Seen) (place : Site) (o : Op) (slots more : List (Slot Content)) (id : Id) (c : Content) (v : Var) (i : Id)
@@ -184,13 +144,7 @@ made_now : (p : Program) (past : List Seen) (place : Site) (o : Op) (slots more 
     Turns slots more id None (Some c) →
     ((j : Id) (w : Var) → name_at slots j ≡ Some w → made_as p (seen.Op place (answer.Id id) ∷ past) j ≡ Some w) →
     name_at more i ≡ Some u → made_as p (seen.Op place (answer.Id id) ∷ past) i ≡ Some u
-made_now p past place o slots more id c v i u e m is t k h = at (same_id id i) refl (new_or_old slots more id c v i u is t h) where
-  at : (b : Bool) → same_id id i ≡ b → (if b then Some v else name_at slots i) ≡ Some u →
-      made_as p (seen.Op place (answer.Id id) ∷ past) i ≡ Some u
-  at true s f = ap (λ (x : Option Var). first_of x (made_as p past i))
-      (ap (λ (x : Option Answered). made_by x i) (is_answered p place o (answer.Id id) e) ∙ m i ∙ ap (λ (b : Bool). if b then Some v else None) s)
-      ∙ f
-  at false s f = k i u f
+made_now p past place o slots more id c v i u e m is t k h = grind arith
 
 pub new_known : (p : Program) (past : List Seen) (s : State) (v : Var) (q : Kind) (id : Id) → next_free s.arena ≡ Some id → Kept s →
     KnownAt p past s →
@@ -226,17 +180,7 @@ new_known p past s v q id e kept k place at = by q at where
 
   by : (x : Kind) → op_at p place ≡ Some (op.Init v x) → KnownAt p (seen.Op place (answer.Id id) ∷ past) (ops.with_new s v x id)
   by kind.Timer f = bind kind.Timer f (λ u b. refl) (λ i. refl) refl (λ i. (refl, refl))
-  by kind.Idle f = bind kind.Idle f (λ u b. refl) (λ i. refl) refl (λ i. (refl, refl))
-  by kind.Prepare f = bind kind.Prepare f (λ u b. refl) (λ i. refl) refl (λ i. (refl, refl))
-  by kind.Check f = bind kind.Check f (λ u b. refl) (λ i. refl) refl (λ i. (refl, refl))
-  by kind.Async f = bind kind.Async f (λ u b. refl) (λ i. refl) refl (λ i. (refl, refl))
-
-pub init_known : (p : Program) (past : List Seen) (s : State) (v : Var) (q : Kind) → Kept s → KnownAt p past s →
-    KnownBy p past (op.Init v q) (ops.make s (live s v) (ops.with_new s v q))
-init_known p past s v q kept k = make_both s (live s v) (ops.with_new s v q) (KnownBy p past (op.Init v q))
-    (λ c no_success. known_by p past (op.Init v q) (ops.refuses s c)
-    (record { binding = λ u b. refl; closing = refl; made = λ i. refl }, λ i. (refl, refl)) k)
-    (λ id e. new_known p past s v q id e kept k)
+  by each f = bind each f (λ u b. refl) (λ i. refl) refl (λ i. (refl, refl))
 
 -- a slot is taken for a request
 pub queued_known : (p : Program) (past : List Seen) (s : State) (v : Var) (task : Task) (id : Id) → next_free s.arena ≡ Some id → Kept s →
@@ -265,70 +209,31 @@ queued_known p past s v task id e kept k place at =
       by true h rest = inr refl
       by false h rest = rest h
 
-pub queue_known : (p : Program) (past : List Seen) (s : State) (v : Var) (task : Task) → Kept s → KnownAt p past s →
-    KnownBy p past (op.Queue v task) (ops.make s (live s v) (ops.with_queued s v task))
-queue_known p past s v task kept k = make_both s (live s v) (ops.with_queued s v task) (KnownBy p past (op.Queue v task))
-    (λ c no_success. known_by p past (op.Queue v task) (ops.refuses s c)
-    (record { binding = λ u b. refl; closing = refl; made = λ i. refl }, λ i. (refl, refl)) k)
-    (λ id e. queued_known p past s v task id e kept k)
-
--- a request's record changes
-pub request_known : {waiting runs few more : List Id} (p : Program) (past : List Seen) (s : State) (id : Id) (r x : Request) →
-    held s.arena.slots id ≡ Some (content.Request r) → x.name ≡ r.name → Worked p past (with_request s id x).arena few more →
-    Known p past s.arena s.names waiting runs → Known p past (with_request s id x).arena s.names few more
-request_known p past s id r x e called w k = known_same p past s.arena (with_request s id x).arena s.names
-    (same_handles s.arena.slots _ id _ _ (request_turns s.arena.slots id r x e) refl refl)
-    (names_turned s.arena.slots _ id _ _ (request_turns s.arena.slots id r x e) (λ v f. ap Some (sym called) ∙ f))
-    (λ i g. gone_turned s.arena.slots s.arena.free id (content.Request r) (Some (content.Request x)) i e g) w k
-
 -- who waits, as the loop asks it and as the lines do
 pub on_list : (ids : List Id) (id : Id) → list_any (same_id id) ids ≡ true → has_id ids id ≡ true
 on_list [] id e = cc e
-on_list (x ∷ ids) id e = at (same_id id x) refl e (on_list ids id) where
-  at : (b : Bool) → same_id id x ≡ b → (b || list_any (same_id id) ids) ≡ true → (list_any (same_id id) ids ≡ true → has_id ids id ≡ true) →
-      (same_id x id || has_id ids id) ≡ true
-  at true s h rest = rw (turned x id, s) refl
-  at false s h rest = rw (turned x id, s) (rest h)
+on_list (x ∷ ids) id e = grind (arith, turned, on_list ids id)
 
 pub fewer : (ids : List Id) (id i : Id) → has_id (without_id ids id) i ≡ true → has_id ids i ≡ true
-fewer ids id i e = at (has_id ids i) refl where
-  at : (b : Bool) → has_id ids i ≡ b → b ≡ true
-  at true h = refl
-  at false h = absurd (both_ways (has_id (without_id ids id) i) (still_absent ids id i h) e)
+fewer ids id i e = grind (arith, still_absent)
 
-pub cancelled_known : (p : Program) (past : List Seen) (s : State) (t : Id × Request) → held s.arena.slots t.0 ≡ Some (content.Request t.1) →
-    list_any (same_id t.0) s.waiting ≡ true → KnownAt p past s → KnownAt p past (ops.cancelled s t.0 t.1)
-cancelled_known p past s t e on k =
-    let x : Request = record t.1 { outcome = Cancelled } in
-    let ends : has_take_line past t.0 ≡ false = k.worked.waits t.0 (on_list s.waiting t.0 on) in
-    let now = worked_ended p past s.arena (with_request s t.0 x).arena s.waiting (run_ids s.running) t.0 t.1 x
-    (request_turns s.arena.slots t.0 t.1 x e) refl ends
-    (λ i g. gone_turned s.arena.slots s.arena.free t.0 (content.Request t.1) (Some (content.Request x)) i e g) k.worked in
-    request_known p past s t.0 t.1 x e refl
-    (worked_fewer p past (with_request s t.0 x).arena s.waiting (run_ids s.running) (without_id s.waiting t.0) (run_ids s.running)
-    (λ i h. fewer s.waiting t.0 i h) (λ i h. h) now) k
-
-pub close_known : (p : Program) (past : List Seen) (s : State) (v : Var) → KnownAt p past s → KnownBy p past (op.Close v) (do_op s (op.Close v))
-close_known p past s v k = on_handle_both s v close_refusal _ (KnownBy p past (op.Close v)) refuses_close
-    (λ c no_success. known_by p past (op.Close v) (ops.refuses s c) (refused_close v c no_success) k)
-    (λ t e is place at. known_close p past place v s.arena s.names t.0 t.1 (records.closed t.1) at (live_bound s v t e)
-    (live_held s v t e) refl refl k)
-
-pub send_known : (p : Program) (past : List Seen) (s : State) (v : Var) → KnownAt p past s → KnownAt p past (ops.send s (live_handle s v)).state
-send_known p past s v k = send_both s v (λ (c : ops.Coded). KnownAt p past c.state) (λ c no_success. k)
-    (λ t e stays. changed p past s t (records.sent t.1) (live_held s v t e) refl refl k)
-
-pub silent : (p : Program) (past : List Seen) (s : State) (o : Op) → Harmless o → KnownAt p past (do_op s o).state → KnownBy p past o (do_op s o)
-silent p past s o harmless k = known_by p past o (do_op s o) (harmless (do_op s o).answer) k
-
--- the line of an accepted cancel, which tells of its request
+-- the line of an accepted cancel: its request waits no more, the line tells of it, and it ended so
 pub cancel_told : (p : Program) (past : List Seen) (l : Seen) (s : State) (t : Id × Request) →
     Tells p l (λ i. same_id t.0 i) → IsQuiet p l → held s.arena.slots t.0 ≡ Some (content.Request t.1) →
     list_any (same_id t.0) s.waiting ≡ true → KnownAt p past s → KnownAt p (l ∷ past) (ops.cancelled s t.0 t.1)
 cancel_told p past l s t tells q e on k =
-    let now = cancelled_known p past s t e on k in
-    known_told p past l _ _ s.names q (λ i. refl) (λ i v f. f) (λ i g. g)
-    (worked_told p past l _ (without_id s.waiting t.0) (run_ids s.running) (λ i. same_id t.0 i) tells was_queued gone now.worked) now
+    let x : Request = record t.1 { outcome = Cancelled } in
+    let rest : List Id = without_id s.waiting t.0 in
+    let runs : List Id = run_ids s.running in
+    let turns = request_turns s.arena.slots t.0 t.1 x e in
+    let still : (i : Id) → IsGone s.arena.slots s.arena.free i → IsGone (with_request s t.0 x).arena.slots (with_request s t.0 x).arena.free i =
+    λ i g. gone_turned s.arena.slots s.arena.free t.0 (content.Request t.1) (Some (content.Request x)) i e g in
+    let few : Worked p past s.arena rest runs =
+    worked_fewer p past s.arena s.waiting runs rest runs (λ i h. fewer s.waiting t.0 i h) (λ i h. h) k.worked in
+    let said : Worked p (l ∷ past) s.arena rest runs = worked_told p past l s.arena rest runs (λ i. same_id t.0 i) tells was_queued gone few in
+    known_told p past l s.arena (with_request s t.0 x).arena s.names q (same_handles s.arena.slots _ t.0 _ _ turns refl refl)
+    (names_turned s.arena.slots _ t.0 _ _ turns (λ v f. f)) still
+    (worked_ended p (l ∷ past) s.arena (with_request s t.0 x).arena rest runs t.0 t.1 x turns refl (untaken, its_line) still said) k
   where
     was_queued : (i : Id) → same_id t.0 i ≡ true → queued_task p past i ≡ None → ⊥
     was_queued i f none = cc (sym none ∙ ap (queued_task p past) (sym (same t.0 i f)) ∙ k.worked.queued t.0 t.1 (ap request_in e))
@@ -337,18 +242,11 @@ cancel_told p past l s t tells q e on k =
     gone i h = false_from_ne_true (same_id t.0 i) (λ f.
         both_ways (has_id (without_id s.waiting t.0) t.0) (without_itself s.waiting t.0) (ap (has_id (without_id s.waiting t.0)) (same t.0 i f) ∙ h))
 
-pub cancel_op_known : (p : Program) (past : List Seen) (s : State) (v : Var) → KnownAt p past s → KnownBy p past (op.Cancel v) (do_op s (op.Cancel v))
-cancel_op_known p past s v k = cancel_both s v (KnownBy p past (op.Cancel v))
-    (λ c no_success. known_by p past (op.Cancel v) (ops.refuses s c)
-    (record { binding = λ u b. refl; closing = refl; made = λ i. refl }, λ i. (refl, refl)) k)
-    (λ t live on place at. cancel_told p past (seen.Op place (answer.Cancelled t.0)) s t (record {
-      queued = λ i. rw (is_answered p place (op.Cancel v) (answer.Cancelled t.0) at) refl;
-      taken = λ i. refl;
-      finished = λ i. refl;
-      over = λ i. refl;
-      cancelled = λ i. rw (is_answered p place (op.Cancel v) (answer.Cancelled t.0) at) refl;
-    })
-    (quiet_op p place (op.Cancel v) (answer.Cancelled t.0) at (record { binding = λ u b. refl; closing = refl; made = λ i. refl })) live.holds on k)
+    untaken : has_take_line (l ∷ past) t.0 ≡ false
+    untaken = rw (tells.taken t.0) (k.worked.waits t.0 (on_list s.waiting t.0 on))
+
+    its_line : has_cancel_line p (l ∷ past) t.0 ≡ true
+    its_line = or_left _ _ (tells.cancelled t.0 ∙ itself t.0 t.0 refl)
 
 -- all but these tell nothing of names, of closing and of requests
 abbrev is_harmless : Op → Bool
@@ -363,66 +261,66 @@ harmless (op.Init v q) e a = cc e
 harmless (op.Queue v task) e a = cc e
 harmless (op.Cancel v) e a = cc e
 harmless (op.Close v) e a = cc e
-harmless (op.Start v timeout repeat) e a = (record { binding = λ u b. refl; closing = refl; made = λ i. refl }, λ i. (refl, refl))
-harmless (op.StartWatcher v) e a = (record { binding = λ u b. refl; closing = refl; made = λ i. refl }, λ i. (refl, refl))
-harmless (op.Stop v) e a = (record { binding = λ u b. refl; closing = refl; made = λ i. refl }, λ i. (refl, refl))
-harmless (op.Again v) e a = (record { binding = λ u b. refl; closing = refl; made = λ i. refl }, λ i. (refl, refl))
-harmless (op.SetRepeat v n) e a = (record { binding = λ u b. refl; closing = refl; made = λ i. refl }, λ i. (refl, refl))
-harmless (op.DueIn v) e a = (record { binding = λ u b. refl; closing = refl; made = λ i. refl }, λ i. (refl, refl))
-harmless (op.Ref v) e a = (record { binding = λ u b. refl; closing = refl; made = λ i. refl }, λ i. (refl, refl))
-harmless (op.Unref v) e a = (record { binding = λ u b. refl; closing = refl; made = λ i. refl }, λ i. (refl, refl))
-harmless (op.HasRef v) e a = (record { binding = λ u b. refl; closing = refl; made = λ i. refl }, λ i. (refl, refl))
-harmless (op.IsActive v) e a = (record { binding = λ u b. refl; closing = refl; made = λ i. refl }, λ i. (refl, refl))
-harmless (op.IsClosing v) e a = (record { binding = λ u b. refl; closing = refl; made = λ i. refl }, λ i. (refl, refl))
-harmless (op.Send v) e a = (record { binding = λ u b. refl; closing = refl; made = λ i. refl }, λ i. (refl, refl))
-harmless op.StopLoop e a = (record { binding = λ u b. refl; closing = refl; made = λ i. refl }, λ i. (refl, refl))
-harmless op.UpdateTime e a = (record { binding = λ u b. refl; closing = refl; made = λ i. refl }, λ i. (refl, refl))
-harmless op.Now e a = (record { binding = λ u b. refl; closing = refl; made = λ i. refl }, λ i. (refl, refl))
-harmless op.IsAlive e a = (record { binding = λ u b. refl; closing = refl; made = λ i. refl }, λ i. (refl, refl))
-harmless op.Timeout e a = (record { binding = λ u b. refl; closing = refl; made = λ i. refl }, λ i. (refl, refl))
-harmless op.CloseLoop e a = (record { binding = λ u b. refl; closing = refl; made = λ i. refl }, λ i. (refl, refl))
+harmless each e a = (record { binding = λ u b. refl; closing = refl; made = λ i. refl }, λ i. (refl, refl))
+
+asked_harmless : (o : Op) → IsAsked o → is_harmless o ≡ true
+asked_harmless o (which.due_in v) = refl
+asked_harmless o each = refl
+
+refused_harmless : (o : Op) (c : Code) → IsRefusal c → IsQuietOp o (answer.Code c) × IsIdleOp o (answer.Code c)
+refused_harmless (op.Close v) c r = refused_close v c r
+refused_harmless each c r = (record { binding = λ u b. refl; closing = refl; made = λ i. refl }, λ i. (refl, refl))
+
+cancel_op_known : (p : Program) (past : List Seen) (s : State) (v : Var) (t : Id × Request) → IsLive s v t.0 (content.Request t.1) →
+    list_any (same_id t.0) s.waiting ≡ true → KnownAt p past s →
+    KnownBy p past (op.Cancel v) (record { state = ops.cancelled s t.0 t.1; answer = answer.Cancelled t.0 })
+cancel_op_known p past s v t live on k place at = cancel_told p past (seen.Op place (answer.Cancelled t.0)) s t (record {
+  queued = λ i. rw (is_answered p place (op.Cancel v) (answer.Cancelled t.0) at) refl;
+  taken = λ i. refl;
+  finished = λ i. refl;
+  over = λ i. refl;
+  cancelled = λ i. rw (is_answered p place (op.Cancel v) (answer.Cancelled t.0) at) refl;
+}) (quiet_op p place (op.Cancel v) (answer.Cancelled t.0) at (record { binding = λ u b. refl; closing = refl; made = λ i. refl })) live.holds on k
+
+did_op_known : (p : Program) (past : List Seen) (s : State) (o : Op) (d : ops.Done) → DidOp s o d → Kept s → KnownAt p past s → KnownBy p past o d
+did_op_known p past s o d (which.refused o' c r may) kept k = known_by p past o d (refused_harmless o' c r) k
+did_op_known p past s o d (which.asked o' a is) kept k = known_by p past o d (harmless o' (asked_harmless o' is) a) k
+did_op_known p past s o d which.loop_stopped kept k = known_by p past o d (harmless op.StopLoop refl _) k
+did_op_known p past s o d which.time_updated kept k = known_by p past o d (harmless op.UpdateTime refl _) k
+did_op_known p past s o d (which.made v q id e) kept k = new_known p past s v q id e kept k
+did_op_known p past s o d (which.queued v task id e) kept k = queued_known p past s v task id e kept k
+did_op_known p past s o d (which.cancelled v t live on) kept k = cancel_op_known p past s v t live on k
+did_op_known p past s o d (which.started v timeout repeat t e is stays) kept k =
+    known_by p past o d (harmless (op.Start v timeout repeat) refl _)
+    (twice p past s t (records.stopped t.1) _ (live_held s v t e) refl refl refl refl k)
+did_op_known p past s o d (which.again v t e is stays) kept k =
+    known_by p past o d (harmless (op.Again v) refl _) (again_known p past s t (live_held s v t e) k)
+did_op_known p past s o d (which.watching v q t e is off stays) kept k =
+    known_by p past o d (harmless (op.StartWatcher v) refl _) (by q) where
+      by : (q : WatcherKind) → KnownAt p past (ops.watcher_started s q t.0 t.1)
+      by watcher.Idle = changed p past s t (records.activated t.1) (live_held s v t e) refl refl k
+      by each = changed p past s t (records.activated t.1) (live_held s v t e) refl refl k
+did_op_known p past s o d (which.stopped v t e sync) kept k =
+    known_by p past o d (harmless (op.Stop v) refl _)
+    (changed p past s t (records.stopped t.1) (live_held s v t e) refl refl k)
+did_op_known p past s o d (which.closed v t e stays) kept k = λ place at.
+    known_close p past place v s.arena s.names t.0 t.1 (records.closed t.1) at (live_bound s v t e) (live_held s v t e) refl refl k
+did_op_known p past s o d (which.repeated v n t e) kept k =
+    known_by p past o d (harmless (op.SetRepeat v n) refl _)
+    (changed p past s t (repeating n t.1) (live_held s v t e) refl refl k)
+did_op_known p past s o d (which.referenced o' u flag t e (which.ref v)) kept k =
+    known_by p past o d (harmless (op.Ref v) refl _)
+    (changed p past s t (referenced_as flag t.1) (live_held s u t e) refl refl k)
+did_op_known p past s o d (which.referenced o' u flag t e (which.unref v)) kept k =
+    known_by p past o d (harmless (op.Unref v) refl _)
+    (changed p past s t (referenced_as flag t.1) (live_held s u t e) refl refl k)
+did_op_known p past s o d (which.sent_to v t e is stays) kept k =
+    known_by p past o d (harmless (op.Send v) refl _)
+    (changed p past s t (records.sent t.1) (live_held s v t e) refl refl k)
 
 pub op_known : (p : Program) (past : List Seen) (s : State) (o : Op) → Kept s → KnownAt p past s → KnownBy p past o (do_op s o)
-op_known p past s (op.Init v q) kept k = init_known p past s v q kept k
-op_known p past s (op.Queue v task) kept k = queue_known p past s v task kept k
-op_known p past s (op.Cancel v) kept k =
-    cancel_op_known p past s v k
-op_known p past s (op.Start v timeout repeat) kept k =
-    on_held p past s (op.Start v timeout repeat) v start_timer_refusal _ (harmless (op.Start v timeout repeat) refl) refuses_start k
-    (λ t e. twice p past s t (records.stopped t.1) _ e refl refl refl refl k)
-op_known p past s (op.StartWatcher v) kept k =
-    on_held p past s (op.StartWatcher v) v start_watcher_refusal _ (harmless (op.StartWatcher v) refl) refuses_start_watcher k
-    (λ t e. start_watcher_known p past s t e k)
-op_known p past s (op.Stop v) kept k =
-    on_held p past s (op.Stop v) v stop_refusal _ (harmless (op.Stop v) refl) refuses_stop k
-    (λ t e. changed p past s t (records.stopped t.1) e refl refl k)
-op_known p past s (op.Again v) kept k =
-    on_held p past s (op.Again v) v again_refusal _ (harmless (op.Again v) refl) refuses_again k
-    (λ t e. again_known p past s t e k)
-op_known p past s (op.SetRepeat v n) kept k =
-    on_held p past s (op.SetRepeat v n) v timer_refusal _ (harmless (op.SetRepeat v n) refl) refuses_timer k
-    (λ t e. changed p past s t (repeating n t.1) e refl refl k)
-op_known p past s (op.DueIn v) kept k =
-    on_held p past s (op.DueIn v) v timer_refusal _ (harmless (op.DueIn v) refl) refuses_timer k (λ t e. k)
-op_known p past s (op.Close v) kept k = close_known p past s v k
-op_known p past s (op.Ref v) kept k =
-    on_held p past s (op.Ref v) v no_refusal _ (harmless (op.Ref v) refl) refuses_none k
-    (λ t e. changed p past s t (referenced_as true t.1) e refl refl k)
-op_known p past s (op.Unref v) kept k =
-    on_held p past s (op.Unref v) v no_refusal _ (harmless (op.Unref v) refl) refuses_none k
-    (λ t e. changed p past s t (referenced_as false t.1) e refl refl k)
-op_known p past s (op.HasRef v) kept k =
-    on_held p past s (op.HasRef v) v no_refusal _ (harmless (op.HasRef v) refl) refuses_none k (λ t e. k)
-op_known p past s (op.IsActive v) kept k =
-    on_held p past s (op.IsActive v) v no_refusal _ (harmless (op.IsActive v) refl) refuses_none k (λ t e. k)
-op_known p past s (op.IsClosing v) kept k =
-    on_held p past s (op.IsClosing v) v no_refusal _ (harmless (op.IsClosing v) refl) refuses_none k (λ t e. k)
-op_known p past s (op.Send v) kept k = silent p past s (op.Send v) (harmless (op.Send v) refl)
-    (send_known p past s v k)
-op_known p past s op.StopLoop kept k = silent p past s op.StopLoop (harmless op.StopLoop refl) k
-op_known p past s op.UpdateTime kept k = silent p past s op.UpdateTime (harmless op.UpdateTime refl) k
-op_known p past s op.Now kept k = silent p past s op.Now (harmless op.Now refl) k
-op_known p past s op.IsAlive kept k = silent p past s op.IsAlive (harmless op.IsAlive refl) k
-op_known p past s op.Timeout kept k = silent p past s op.Timeout (harmless op.Timeout refl) k
-op_known p past s op.CloseLoop kept k = silent p past s op.CloseLoop (harmless op.CloseLoop refl)
-    (cond_both (ops.is_in_use s) _ _ (λ (d : ops.Done). KnownAt p past d.state) (λ e. k) (λ e. k))
+op_known p past s o kept k = did_op_known p past s o (do_op s o) (op_did s o) kept k
+
+pub send_known : (p : Program) (past : List Seen) (s : State) (v : Var) → KnownAt p past s → KnownAt p past (ops.send s (live_handle s v)).state
+send_known p past s v k = send_both s v (λ (c : ops.Coded). KnownAt p past c.state) (λ c no_success. k)
+    (λ t e stays. changed p past s t (records.sent t.1) (live_held s v t e) refl refl k)

@@ -58,60 +58,26 @@ cancelled p past (x ∷ before) id e =
 says_first : (p : Program) (past : List Seen) (v : Var) (a : Answer) (id : Id) → CancelSays p past v a → cancels (op.Cancel v) a id ≡ true →
     has_cancel_line p past id ≡ false
 says_first p past v (answer.Cancelled i) id h e = ap (has_cancel_line p past) (sym (same i id e)) ∙ h.once
-says_first p past v (answer.Code c) id h e = cc e
-says_first p past v (answer.Id i) id h e = cc e
-says_first p past v (answer.Number n) id h e = cc e
-says_first p past v (answer.Flag b) id h e = cc e
-says_first p past v (answer.Timeout t) id h e = cc e
+says_first p past v each id h e = cc e
 
 op_first : (p : Program) (past : List Seen) (o : Option Op) (a : Answer) (id : Id) → OpSays p past o a →
     cancelled_by (option_map (λ (x : Op). record { op = x; answer = a }) o) id ≡ true → has_cancel_line p past id ≡ false
 op_first p past None a id h e = cc e
 op_first p past (Some (op.Cancel v)) a id h e = says_first p past v a id h e
-op_first p past (Some (op.Init v q)) a id h e = cc e
-op_first p past (Some (op.Queue v task)) a id h e = cc e
-op_first p past (Some (op.Start v timeout repeat)) a id h e = cc e
-op_first p past (Some (op.StartWatcher v)) a id h e = cc e
-op_first p past (Some (op.Stop v)) a id h e = cc e
-op_first p past (Some (op.Again v)) a id h e = cc e
-op_first p past (Some (op.SetRepeat v n)) a id h e = cc e
-op_first p past (Some (op.DueIn v)) a id h e = cc e
-op_first p past (Some (op.Close v)) a id h e = cc e
-op_first p past (Some (op.Ref v)) a id h e = cc e
-op_first p past (Some (op.Unref v)) a id h e = cc e
-op_first p past (Some (op.HasRef v)) a id h e = cc e
-op_first p past (Some (op.IsActive v)) a id h e = cc e
-op_first p past (Some (op.IsClosing v)) a id h e = cc e
-op_first p past (Some (op.Send v)) a id h e = cc e
-op_first p past (Some op.StopLoop) a id h e = cc e
-op_first p past (Some op.UpdateTime) a id h e = cc e
-op_first p past (Some op.Now) a id h e = cc e
-op_first p past (Some op.IsAlive) a id h e = cc e
-op_first p past (Some op.Timeout) a id h e = cc e
-op_first p past (Some op.CloseLoop) a id h e = cc e
+op_first p past (Some each) a id h e = cc e
 
 line_first : (p : Program) (past : List Seen) (l : Seen) (id : Id) → MayFollow p past l → is_cancel_line p l id ≡ true →
     has_cancel_line p past id ≡ false
 line_first p past (seen.Cancel v a) id h e = says_first p past v a id h e
 line_first p past (seen.Op place a) id h e = op_first p past (op_at p place) a id h e
-line_first p past (seen.Call v i) id h e = cc e
-line_first p past (seen.After digest v i) id h e = cc e
-line_first p past (seen.Closed v i) id h e = cc e
-line_first p past (seen.Run m) id h e = cc e
-line_first p past (seen.Section word) id h e = cc e
-line_first p past (seen.Poll timeout) id h e = cc e
-line_first p past (seen.End alive) id h e = cc e
-line_first p past (seen.Take n v i) id h e = cc e
-line_first p past (seen.Finish n v i) id h e = cc e
-line_first p past (seen.Send v code) id h e = cc e
-line_first p past (seen.Tick ms) id h e = cc e
+line_first p past each id h e = cc e
 
 or_false : (a : Bool) → a ≡ true → (a || false) ≡ true
 or_false a e = rw e refl
 
 pub refused : (p : Program) (before more : List Seen) → RefusedOnce p before more
 refused p before more = record {
-  lost_result = λ v id e h. both_ways (has_take_line (turned [] before) id) (follows p before more [] (seen.After None v id) h).says
+  lost_result = λ v id e h. both_ways (has_take_line (turned [] before) id) (follows p before more [] (seen.After None v id) h).says.0
       (taken [] before id (or_false _ e));
   late_take = λ k v id e h. both_ways (has_after_line (turned [] before) id) (follows p before more [] (seen.Take k v id) h).1
       (called [] before id (or_false _ e));

@@ -1,5 +1,5 @@
 -- What the documented order refuses.
-use Rattle.std.proofs.Common.{◌≡◌, ℕ, ◌&&◌, ◌||◌, List, [], ◌∷◌, ◌++◌, Bool, true, false, Option, Some, None, refl, ap, sym, subst, ◌∙◌, if◌then◌else◌}
+use Rattle.std.proofs.Common.{arith, ◌≡◌, ℕ, ◌&&◌, ◌||◌, List, [], ◌∷◌, ◌++◌, Bool, true, false, Option, Some, None, refl, ap, sym, subst, ◌∙◌, if◌then◌else◌}
 use Rattle.std.specs.Prelude.{not, option_map}
 use Rattle.std.proofs.lemmas.Bool.{both_ways}
 use Rattle.std.proofs.lemmas.Option.{same_Some}
@@ -29,7 +29,7 @@ use Rattle.uv_work.specs.declared.request.Request.{Request}
 use Rattle.uv_work.specs.Requests.{digest_in}
 use Rattle.uv_model.specs.Ids.{has_some, without_id, same_id}
 use Rattle.uv_model.specs.State.{State, request}
-use Rattle.uv_model.specs.Timeout.{deadline_of, has_passed}
+use Rattle.uv_model.specs.Timeout.{has_pending, deadline_of, has_passed}
 use Rattle.uv_order.specs.Line.{Line}
 use Rattle.uv_order.specs.Active.{has_id}
 use Rattle.uv_order.specs.Alive.{closes_some, has_request, has_handle, lives, waits, may_wait, until_due}
@@ -113,8 +113,8 @@ polls p told names l at to timeout e (doc.ends a b c d) = absurd (cc (e, c))
 polls p told names l at to timeout e (doc.call kind v id more a b c d f) = absurd (not_call l.before kind v id _ _ d e refl)
 polls p told names l at to timeout e (doc.body_op place rest o a b c d f) = absurd (cc (e, d))
 polls p told names l at to timeout e (doc.sent v x a b) = absurd (cc (e, a))
-polls p told names l at to timeout e (doc.taken n v id a b) = absurd (cc (e, a))
-polls p told names l at to timeout e (doc.finished n v id a b) = absurd (cc (e, a))
+polls p told names l at to timeout e (doc.taken n v id a called b) = absurd (cc (e, a))
+polls p told names l at to timeout e (doc.finished n v id a called b) = absurd (cc (e, a))
 polls p told names l at to timeout e (doc.cancelled v x a b) = absurd (cc (e, a))
 polls p told names l at to timeout e (doc.outside ms a b) = absurd (cc (e, a))
 
@@ -143,8 +143,8 @@ leaves p told names m i deadline l to word e (doc.section x a b c d f) = a
 leaves p told names m i deadline l to word e (doc.poll t a b c d f) = absurd (cc (e, d))
 leaves p told names m i deadline l to word e (doc.ends a b c d) = absurd (cc (e, c))
 leaves p told names m i deadline l to word e (doc.sent v x a b) = absurd (cc (e, a))
-leaves p told names m i deadline l to word e (doc.taken n v id a b) = absurd (cc (e, a))
-leaves p told names m i deadline l to word e (doc.finished n v id a b) = absurd (cc (e, a))
+leaves p told names m i deadline l to word e (doc.taken n v id a called b) = absurd (cc (e, a))
+leaves p told names m i deadline l to word e (doc.finished n v id a called b) = absurd (cc (e, a))
 leaves p told names m i deadline l to word e (doc.cancelled v x a b) = absurd (cc (e, a))
 leaves p told names m i deadline l to word e (doc.outside ms a b) = absurd (cc (e, a))
 
@@ -166,8 +166,8 @@ ends_alive p told names l at to alive e (doc.poll t a b c d f) = absurd (cc (e, 
 ends_alive p told names l at to alive e (doc.call kind v id more a b c d f) = absurd (not_call l.before kind v id _ _ d e refl)
 ends_alive p told names l at to alive e (doc.body_op place rest o a b c d f) = absurd (cc (e, d))
 ends_alive p told names l at to alive e (doc.sent v x a b) = absurd (cc (e, a))
-ends_alive p told names l at to alive e (doc.taken n v id a b) = absurd (cc (e, a))
-ends_alive p told names l at to alive e (doc.finished n v id a b) = absurd (cc (e, a))
+ends_alive p told names l at to alive e (doc.taken n v id a called b) = absurd (cc (e, a))
+ends_alive p told names l at to alive e (doc.finished n v id a called b) = absurd (cc (e, a))
 ends_alive p told names l at to alive e (doc.cancelled v x a b) = absurd (cc (e, a))
 ends_alive p told names l at to alive e (doc.outside ms a b) = absurd (cc (e, a))
 
@@ -197,8 +197,8 @@ called_so p told names l at to x id e (doc.section y a b c d f) = absurd (no_cal
 called_so p told names l at to x id e (doc.poll t a b c d f) = absurd (no_callback l.seen _ x id d refl e)
 called_so p told names l at to x id e (doc.body_op place rest o a b c d f) = absurd (no_callback l.seen _ x id d refl e)
 called_so p told names l at to x id e (doc.sent v y a b) = absurd (no_callback l.seen _ x id a refl e)
-called_so p told names l at to x id e (doc.taken n v i a b) = absurd (no_callback l.seen _ x id a refl e)
-called_so p told names l at to x id e (doc.finished n v i a b) = absurd (no_callback l.seen _ x id a refl e)
+called_so p told names l at to x id e (doc.taken n v i a called b) = absurd (no_callback l.seen _ x id a refl e)
+called_so p told names l at to x id e (doc.finished n v i a called b) = absurd (no_callback l.seen _ x id a refl e)
 called_so p told names l at to x id e (doc.cancelled v y a b) = absurd (no_callback l.seen _ x id a refl e)
 called_so p told names l at to x id e (doc.outside ms a b) = absurd (no_callback l.seen _ x id a refl e)
 
@@ -269,8 +269,8 @@ goes_on_there p told names l at to e (doc.ends a b c d) is off = cc (e, c)
 goes_on_there p told names l at to e (doc.call kind v id more a b c d f) is off = not_call l.before kind v id _ _ d e refl
 goes_on_there p told names l at to e (doc.body_op place rest o a b c d f) is off = cc (e, d)
 goes_on_there p told names l at to e (doc.sent v x a b) is off = cc (e, a)
-goes_on_there p told names l at to e (doc.taken n v id a b) is off = cc (e, a)
-goes_on_there p told names l at to e (doc.finished n v id a b) is off = cc (e, a)
+goes_on_there p told names l at to e (doc.taken n v id a called b) is off = cc (e, a)
+goes_on_there p told names l at to e (doc.finished n v id a called b) is off = cc (e, a)
 goes_on_there p told names l at to e (doc.cancelled v x a b) is off = cc (e, a)
 goes_on_there p told names l at to e (doc.outside ms a b) is off = cc (e, a)
 
@@ -295,8 +295,8 @@ begins p told names l at to word e (doc.ends a b c d) = absurd (cc (e, c))
 begins p told names l at to word e (doc.call kind v id more a b c d f) = absurd (not_call l.before kind v id _ _ d e refl)
 begins p told names l at to word e (doc.body_op place rest o a b c d f) = absurd (cc (e, d))
 begins p told names l at to word e (doc.sent v x a b) = absurd (cc (e, a))
-begins p told names l at to word e (doc.taken n v id a b) = absurd (cc (e, a))
-begins p told names l at to word e (doc.finished n v id a b) = absurd (cc (e, a))
+begins p told names l at to word e (doc.taken n v id a called b) = absurd (cc (e, a))
+begins p told names l at to word e (doc.finished n v id a called b) = absurd (cc (e, a))
 begins p told names l at to word e (doc.cancelled v x a b) = absurd (cc (e, a))
 begins p told names l at to word e (doc.outside ms a b) = absurd (cc (e, a))
 
@@ -333,8 +333,8 @@ calls p told names m i part w l to u id e (doc.poll t a b c d f) = absurd (cc (e
 calls p told names m i part w l to u id e (doc.ends a b c d) = absurd (cc (e, c))
 calls p told names m i part w l to u id e (doc.body_op place rest o a b c d f) = absurd (cc (e, d))
 calls p told names m i part w l to u id e (doc.sent v x a b) = absurd (cc (e, a))
-calls p told names m i part w l to u id e (doc.taken n v x a b) = absurd (cc (e, a))
-calls p told names m i part w l to u id e (doc.finished n v x a b) = absurd (cc (e, a))
+calls p told names m i part w l to u id e (doc.taken n v x a called b) = absurd (cc (e, a))
+calls p told names m i part w l to u id e (doc.finished n v x a called b) = absurd (cc (e, a))
 calls p told names m i part w l to u id e (doc.cancelled v x a b) = absurd (cc (e, a))
 calls p told names m i part w l to u id e (doc.outside ms a b) = absurd (cc (e, a))
 
@@ -361,8 +361,8 @@ does p told names m i part w l to place o x e g (doc.section y a b c d f) = absu
 does p told names m i part w l to place o x e g (doc.poll t a b c d f) = absurd (cc (e, d))
 does p told names m i part w l to place o x e g (doc.ends a b c d) = absurd (cc (e, c))
 does p told names m i part w l to place o x e g (doc.sent v y a b) = absurd (cc (e, a))
-does p told names m i part w l to place o x e g (doc.taken n v id a b) = absurd (cc (e, a))
-does p told names m i part w l to place o x e g (doc.finished n v id a b) = absurd (cc (e, a))
+does p told names m i part w l to place o x e g (doc.taken n v id a called b) = absurd (cc (e, a))
+does p told names m i part w l to place o x e g (doc.finished n v id a called b) = absurd (cc (e, a))
 does p told names m i part w l to place o x e g (doc.cancelled v y a b) = absurd (cc (e, a))
 does p told names m i part w l to place o x e g (doc.outside ms a b) = absurd (cc (e, a))
 
@@ -489,11 +489,7 @@ stays p told names m i part w l to e (doc.body_op place rest o x a b c d) =
 stays p told names m i part w l to e (doc.section x a b c d f) = absurd (not_within l.seen _ e c refl)
 stays p told names m i part w l to e (doc.poll t a b c d f) = absurd (not_within l.seen _ e d refl)
 stays p told names m i part w l to e (doc.ends a b c d) = absurd (not_within l.seen _ e c refl)
-stays p told names m i part w l to e (doc.sent v x a b) = record { walk = w; is = refl; grown = λ id h. h }
-stays p told names m i part w l to e (doc.taken n v x a b) = record { walk = w; is = refl; grown = λ id h. h }
-stays p told names m i part w l to e (doc.finished n v x a b) = record { walk = w; is = refl; grown = λ id h. h }
-stays p told names m i part w l to e (doc.cancelled v x a b) = record { walk = w; is = refl; grown = λ id h. h }
-stays p told names m i part w l to e (doc.outside ms a b) = record { walk = w; is = refl; grown = λ id h. h }
+stays p told names m i part w l to e goes = record { walk = w; is = refl; grown = λ id h. h }
 
 pub record WithinOn (p : Program) (m : Mode) (i : ℕ) (part : Section) (w : Walk) (told : Told) (past : List Seen) (ls : List Line) : Type 0 where
   pub walk : Walk
@@ -532,35 +528,13 @@ absent_ids sent (x ∷ gone) id e = still_absent (doc.without_ids sent gone) x i
 
 absent_init : (names : Names) (v : Var) (q : Kind) (a : Answer) (sent : List Id) (id : Id) → has_id sent id ≡ false →
     has_id (doc.sent_by (op.Init v q) a names sent) id ≡ false
-absent_init names v q (answer.Code code.Ok) sent id e = e
-absent_init names v q (answer.Code code.Einval) sent id e = e
-absent_init names v q (answer.Code code.Ebusy) sent id e = e
-absent_init names v q (answer.Code code.Ecanceled) sent id e = e
-absent_init names v q (answer.Code code.Ebound) sent id e = e
-absent_init names v q (answer.Code code.Efull) sent id e = e
-absent_init names v q (answer.Code code.Estale) sent id e = e
-absent_init names v q (answer.Code code.Ekind) sent id e = e
 absent_init names v q (answer.Id i) sent id e = still_absent sent i id e
-absent_init names v q (answer.Cancelled i) sent id e = e
-absent_init names v q (answer.Number n) sent id e = e
-absent_init names v q (answer.Flag b) sent id e = e
-absent_init names v q (answer.Timeout t) sent id e = e
+absent_init names v q each sent id e = e
 
 absent_close : (names : Names) (v : Var) (a : Answer) (sent : List Id) (id : Id) → has_id sent id ≡ false →
     has_id (doc.sent_by (op.Close v) a names sent) id ≡ false
 absent_close names v (answer.Code code.Ok) sent id e = absent_ids sent (ids_of names (Some v)) id e
-absent_close names v (answer.Code code.Einval) sent id e = e
-absent_close names v (answer.Code code.Ebusy) sent id e = e
-absent_close names v (answer.Code code.Ecanceled) sent id e = e
-absent_close names v (answer.Code code.Ebound) sent id e = e
-absent_close names v (answer.Code code.Efull) sent id e = e
-absent_close names v (answer.Code code.Estale) sent id e = e
-absent_close names v (answer.Code code.Ekind) sent id e = e
-absent_close names v (answer.Id i) sent id e = e
-absent_close names v (answer.Cancelled i) sent id e = e
-absent_close names v (answer.Number n) sent id e = e
-absent_close names v (answer.Flag b) sent id e = e
-absent_close names v (answer.Timeout t) sent id e = e
+absent_close names v each sent id e = e
 
 absent_op : (names : Names) (o : Option Op) (a : Answer) (sent : List Id) (id : Id) → is_send_op o ≡ false → has_id sent id ≡ false →
     has_id (doc.sent_after o a names sent) id ≡ false
@@ -568,41 +542,14 @@ absent_op names None a sent id e h = h
 absent_op names (Some (op.Init v q)) a sent id e h = absent_init names v q a sent id h
 absent_op names (Some (op.Close v)) a sent id e h = absent_close names v a sent id h
 absent_op names (Some (op.Send v)) a sent id e h = cc e
-absent_op names (Some (op.Queue v task)) a sent id e h = h
-absent_op names (Some (op.Cancel v)) a sent id e h = h
-absent_op names (Some (op.Start v timeout repeat)) a sent id e h = h
-absent_op names (Some (op.StartWatcher v)) a sent id e h = h
-absent_op names (Some (op.Stop v)) a sent id e h = h
-absent_op names (Some (op.Again v)) a sent id e h = h
-absent_op names (Some (op.SetRepeat v n)) a sent id e h = h
-absent_op names (Some (op.DueIn v)) a sent id e h = h
-absent_op names (Some (op.Ref v)) a sent id e h = h
-absent_op names (Some (op.Unref v)) a sent id e h = h
-absent_op names (Some (op.HasRef v)) a sent id e h = h
-absent_op names (Some (op.IsActive v)) a sent id e h = h
-absent_op names (Some (op.IsClosing v)) a sent id e h = h
-absent_op names (Some op.StopLoop) a sent id e h = h
-absent_op names (Some op.UpdateTime) a sent id e h = h
-absent_op names (Some op.Now) a sent id e h = h
-absent_op names (Some op.IsAlive) a sent id e h = h
-absent_op names (Some op.Timeout) a sent id e h = h
-absent_op names (Some op.CloseLoop) a sent id e h = h
+absent_op names (Some each) a sent id e h = h
 
 absent_line : (p : Program) (told : Told) (names : Names) (l : Seen) (id : Id) → is_send p l ≡ false → has_id told.sent id ≡ false →
     has_id (told_by p told names l).sent id ≡ false
 absent_line p told names (seen.Op place a) id e h = absent_op names (op_at p place) a told.sent id e h
 absent_line p told names (seen.Send v x) id e h = cc e
 absent_line p told names (seen.Call v i) id e h = still_absent told.sent i id h
-absent_line p told names (seen.Run m) id e h = h
-absent_line p told names (seen.Section word) id e h = h
-absent_line p told names (seen.Poll timeout) id e h = h
-absent_line p told names (seen.After digest v i) id e h = h
-absent_line p told names (seen.Closed v i) id e h = h
-absent_line p told names (seen.End alive) id e h = h
-absent_line p told names (seen.Take k v i) id e h = h
-absent_line p told names (seen.Finish k v i) id e h = h
-absent_line p told names (seen.Cancel v a) id e h = h
-absent_line p told names (seen.Tick ms) id e h = h
+absent_line p told names each id e h = h
 
 absent_on : (p : Program) (xs : List Line) (told : Told) (past : List Seen) (id : Id) → AllSilent p xs → has_id told.sent id ≡ false →
     has_id (told_after p told past xs).sent id ≡ false
@@ -624,7 +571,8 @@ unsent_wakes p told past at was l m more timeout e f late none nobody h =
     let k = polls_on p at told past was l timeout (m ∷ more) e h in
     let s = steps p (Running k.mode k.number (Polling (deadline_of l.before timeout))) told (seen.Poll timeout ∷ past) (lasting l.after) m
     (seen.Section phase.Done) more f k.rest in
-    all_false (has_passed m.before.clock (deadline_of l.before timeout)) (has_some m.before.done.list) (has_some told.sent) late none nobody
+    all_false (has_passed m.before.clock (deadline_of l.before timeout)) (has_some m.before.done.list) (has_some told.sent && has_pending m.before)
+    late none (ap (λ (b : Bool). b && has_pending m.before) nobody)
     (leaves p told (names_by p (seen.Poll timeout ∷ past)) k.mode k.number (deadline_of l.before timeout) m s.to phase.Done f s.goes)
 
 forgotten : (p : Program) (told : Told) (past : List Seen) (at : Position) (was : Lasting) (l : Line) (more : List Line) →
@@ -655,11 +603,7 @@ misnamed p told past at was l more v x id e made other h =
 off_started : (names : Names) (v : Var) (id : Id) (timeout repeat : ℕ) (word : Phase) (off : List Id) → word ≡ phase.Timers →
     names.bound v ≡ Some id →
     has_id (taken_off word names (op.Start v timeout repeat) (answer.Code Success) ++ off) id ≡ true
-off_started names v id timeout repeat word off e f =
-    ap (λ (x : Phase). has_id (taken_off x names (op.Start v timeout repeat) (answer.Code Success) ++ off) id) e ∙ at (names.bound v) f where
-      at : (o : Option Id) → o ≡ Some id → has_id (ids_of (record names { bound = λ (u : Var). o }) (Some v) ++ off) id ≡ true
-      at None g = cc g
-      at (Some i) g = rw (itself i id (same_Some _ _ g)) refl
+off_started names v id timeout repeat word off e f = grind (arith, itself)
 
 early_timer : (p : Program) (told : Told) (past : List Seen) (at : Position) (was : Lasting) (s l k : Line) (front mid more : List Line)
     (v x : Var) (id : Id) (place : Site) (timeout repeat : ℕ) → s.seen ≡ seen.Section phase.Timers → AllWithin front →

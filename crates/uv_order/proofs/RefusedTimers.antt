@@ -44,8 +44,8 @@ enters p told names l at to m e (doc.ends a b c d) = absurd (cc (e, c))
 enters p told names l at to m e (doc.call kind v id more a b c d f) = absurd (not_call l.before kind v id _ _ d e refl)
 enters p told names l at to m e (doc.body_op place rest o a b c d f) = absurd (cc (e, d))
 enters p told names l at to m e (doc.sent v x a b) = absurd (cc (e, a))
-enters p told names l at to m e (doc.taken n v id a b) = absurd (cc (e, a))
-enters p told names l at to m e (doc.finished n v id a b) = absurd (cc (e, a))
+enters p told names l at to m e (doc.taken n v id a called b) = absurd (cc (e, a))
+enters p told names l at to m e (doc.finished n v id a called b) = absurd (cc (e, a))
 enters p told names l at to m e (doc.cancelled v x a b) = absurd (cc (e, a))
 enters p told names l at to m e (doc.outside ms a b) = absurd (cc (e, a))
 
@@ -67,8 +67,8 @@ reaches p told names m i at l to word e (doc.ends a b c d) = absurd (cc (e, c))
 reaches p told names m i at l to word e (doc.call kind v id more a b c d f) = absurd (not_call l.before kind v id _ _ d e refl)
 reaches p told names m i at l to word e (doc.body_op place rest o a b c d f) = absurd (cc (e, d))
 reaches p told names m i at l to word e (doc.sent v x a b) = absurd (cc (e, a))
-reaches p told names m i at l to word e (doc.taken n v id a b) = absurd (cc (e, a))
-reaches p told names m i at l to word e (doc.finished n v id a b) = absurd (cc (e, a))
+reaches p told names m i at l to word e (doc.taken n v id a called b) = absurd (cc (e, a))
+reaches p told names m i at l to word e (doc.finished n v id a called b) = absurd (cc (e, a))
 reaches p told names m i at l to word e (doc.cancelled v x a b) = absurd (cc (e, a))
 reaches p told names m i at l to word e (doc.outside ms a b) = absurd (cc (e, a))
 
@@ -81,8 +81,8 @@ ended p told names m i at l to alive e (doc.poll t a b c d f) = absurd (cc (e, d
 ended p told names m i at l to alive e (doc.call kind v id more a b c d f) = absurd (not_call l.before kind v id _ _ d e refl)
 ended p told names m i at l to alive e (doc.body_op place rest o a b c d f) = absurd (cc (e, d))
 ended p told names m i at l to alive e (doc.sent v x a b) = absurd (cc (e, a))
-ended p told names m i at l to alive e (doc.taken n v id a b) = absurd (cc (e, a))
-ended p told names m i at l to alive e (doc.finished n v id a b) = absurd (cc (e, a))
+ended p told names m i at l to alive e (doc.taken n v id a called b) = absurd (cc (e, a))
+ended p told names m i at l to alive e (doc.finished n v id a called b) = absurd (cc (e, a))
 ended p told names m i at l to alive e (doc.cancelled v x a b) = absurd (cc (e, a))
 ended p told names m i at l to alive e (doc.outside ms a b) = absurd (cc (e, a))
 
@@ -100,11 +100,7 @@ same_run p told names m i at l to e (doc.poll t a b c d f) = record { at = _; is
 same_run p told names m i at l to e (doc.ends a b c d) = absurd (both_ways (is_inside l.seen) (ap is_inside c) e)
 same_run p told names m i at l to e (doc.call kind v id more a b c d f) = record { at = _; is = refl }
 same_run p told names m i at l to e (doc.body_op place rest o a b c d f) = record { at = _; is = refl }
-same_run p told names m i at l to e (doc.sent v x a b) = record { at = at; is = refl }
-same_run p told names m i at l to e (doc.taken n v id a b) = record { at = at; is = refl }
-same_run p told names m i at l to e (doc.finished n v id a b) = record { at = at; is = refl }
-same_run p told names m i at l to e (doc.cancelled v x a b) = record { at = at; is = refl }
-same_run p told names m i at l to e (doc.outside ms a b) = record { at = at; is = refl }
+same_run p told names m i at l to e goes = record { at = at; is = refl }
 
 -- and in the same part
 record SamePart (m : Mode) (i : ℕ) (was : doc.Part) (to : Position) : Type 0 where
@@ -119,11 +115,7 @@ same_part p told names m i at l to e (doc.poll t a b c d f) = absurd (not_within
 same_part p told names m i at l to e (doc.ends a b c d) = absurd (not_within l.seen _ e c refl)
 same_part p told names m i at l to e (doc.call kind v id more a b c d f) = record { at = _; is = refl; part = refl }
 same_part p told names m i at l to e (doc.body_op place rest o a b c d f) = record { at = _; is = refl; part = refl }
-same_part p told names m i at l to e (doc.sent v x a b) = record { at = at; is = refl; part = refl }
-same_part p told names m i at l to e (doc.taken n v id a b) = record { at = at; is = refl; part = refl }
-same_part p told names m i at l to e (doc.finished n v id a b) = record { at = at; is = refl; part = refl }
-same_part p told names m i at l to e (doc.cancelled v x a b) = record { at = at; is = refl; part = refl }
-same_part p told names m i at l to e (doc.outside ms a b) = record { at = at; is = refl; part = refl }
+same_part p told names m i at l to e goes = record { at = at; is = refl; part = refl }
 
 -- these lines go on in this run, in a part of which this holds
 record On (p : Program) (m : Mode) (i : ℕ) (P : doc.Part → Type 0) (ls : List Line) : Type 0 where
@@ -305,38 +297,12 @@ begins_145 Nowait false d = refl
 
 op_idles : (o : Op) (s : State) → (doc.after_op o s).idled ≡ s.idled
 op_idles (op.Init v q) s = refl
-op_idles (op.Close v) s = refl
-op_idles (op.Send v) s = refl
-op_idles (op.Queue v task) s = refl
-op_idles (op.Cancel v) s = refl
-op_idles (op.Start v timeout repeat) s = refl
-op_idles (op.StartWatcher v) s = refl
-op_idles (op.Stop v) s = refl
-op_idles (op.Again v) s = refl
-op_idles (op.SetRepeat v n) s = refl
-op_idles (op.DueIn v) s = refl
-op_idles (op.Ref v) s = refl
-op_idles (op.Unref v) s = refl
-op_idles (op.HasRef v) s = refl
-op_idles (op.IsActive v) s = refl
-op_idles (op.IsClosing v) s = refl
-op_idles op.StopLoop s = refl
-op_idles op.UpdateTime s = refl
-op_idles op.Now s = refl
-op_idles op.IsAlive s = refl
-op_idles op.Timeout s = refl
-op_idles op.CloseLoop s = refl
+op_idles each s = refl
 
 section_idles : (x : Section) (s : State) → s.idled ≡ false → (doc.after_section V144 x s).idled ≡ false
 section_idles Entry s e = refl
-section_idles (In phase.Pending) s e = e
-section_idles (In phase.Idle) s e = e
-section_idles (In phase.Prepare) s e = e
-section_idles (In phase.Done) s e = e
-section_idles (In phase.Async) s e = e
-section_idles (In phase.Check) s e = e
-section_idles (In phase.Closing) s e = e
 section_idles (In phase.Timers) s e = e
+section_idles (In word) s e = e
 
 -- what lasts behind a line is this, where the loop didn't idle
 idle_by : (x y : Lasting) → x ≡ y → y.idled ≡ false → x.idled ≡ false
@@ -354,8 +320,8 @@ still_idle p told names l at to is e (doc.ends a b c d) = idle_by _ _ d e
 still_idle p told names l at to is e (doc.call kind v id more a b c d f) = idle_by _ _ f e
 still_idle p told names l at to is e (doc.body_op place rest o a b c d f) = idle_by _ _ f (op_idles o l.before ∙ e)
 still_idle p told names l at to is e (doc.sent v x a b) = idle_by _ _ b e
-still_idle p told names l at to is e (doc.taken n v id a b) = idle_by _ _ b e
-still_idle p told names l at to is e (doc.finished n v id a b) = idle_by _ _ b e
+still_idle p told names l at to is e (doc.taken n v id a called b) = idle_by _ _ b e
+still_idle p told names l at to is e (doc.finished n v id a called b) = idle_by _ _ b e
 still_idle p told names l at to is e (doc.cancelled v x a b) = idle_by _ _ b e
 still_idle p told names l at to is e (doc.outside ms a b) = idle_by _ _ b e
 

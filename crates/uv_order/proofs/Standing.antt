@@ -1,5 +1,5 @@
 -- Where a state stands in the documented order, and the lists of the sections there.
-use Rattle.std.proofs.Common.{◌≡◌, ℕ, List, [], ◌++◌, Bool, true, false, Option, Some, None, refl, ap, sym, subst, ◌∙◌, append-nil}
+use Rattle.std.proofs.Common.{arith, ◌≡◌, ℕ, List, [], ◌++◌, Bool, true, false, Option, Some, None, refl, ap, sym, subst, ◌∙◌, append-nil}
 use Rattle.uv_ids.specs.declared.order.Order.{Order}
 use Rattle.uv_ids.specs.declared.order.Order.TheVariants.{V144, V145}
 use Rattle.uv_ids.specs.declared.id.Id.{Id}
@@ -30,7 +30,7 @@ use Rattle.uv_work.specs.declared.content.Content.{Content}
 use Rattle.uv_model.specs.State.{State}
 use Rattle.uv_model.specs.Next.{Next, Moves, Refuses, way, time_at, idled_at, idled_then}
 use Rattle.uv_order.specs.Line.{Line}
-use Rattle.uv_order.specs.Active.{has_id, IsTimer, AreTimers, AreDistinct, IsActive, AreActive, IsClosing, AreClosing, IsEnded, AreEnded, IsOpened, AreOpened, run_ids}
+use Rattle.uv_order.specs.Active.{has_id, IsTimer, AreTimers, AreDistinct, AreActive, AreClosing, IsEnded, AreEnded, IsOpened, AreOpened, run_ids}
 use Rattle.uv_order.specs.Documented as doc
 use Rattle.uv_order.specs.Documented.{Told, nothing_told, told_of, told_by, AllOffOrUnsent, Lasting, lasting, at_first, Section, Entry, In, word_of, part_after, part_of, Walk, Opens, IsOver, CallsNext, MayCall, is_called, callback_in, IsCallLine, Standing, Begun, Within, Polling, MayLeave, PollsFor, Position, Between, Running, Goes, GoesOn, cut, line, Documented, body_of, next_call, taken_off}
 use Rattle.uv_order.proofs.OpCases.{names_at}
@@ -121,23 +121,7 @@ AsyncLeft slots (Polling deadline) ids = ids ≡ []
 pub async_moved : (slots more : List (Slot Content)) → ((id : Id) → pends slots id ≡ true → pends more id ≡ true) → (at : Standing) (ids : List Id) →
     AsyncLeft slots at ids → AsyncLeft more at ids
 async_moved slots more f Begun ids k = k
-async_moved slots more f (Within part w) ids k = by (word_of part) k where
-  by : (word : Phase) → AsyncIn word slots w ids → AsyncIn word more w ids
-  by phase.Async l = record {
-    gone = l.gone;
-    behind = l.behind;
-    all = l.all;
-    left = l.left;
-    passed = l.passed;
-    still = λ id on was. f id (l.still id on was);
-  }
-  by phase.Pending l = l
-  by phase.Idle l = l
-  by phase.Prepare l = l
-  by phase.Done l = l
-  by phase.Check l = l
-  by phase.Closing l = l
-  by phase.Timers l = l
+async_moved slots more f (Within part w) ids k = grind arith
 async_moved slots more f (Polling deadline) ids k = k
 
 -- the members of the lists that sections walk, but for those that were called
@@ -174,15 +158,14 @@ pub record Leaves (r : Rest) (at : Standing) : Type 0 where
   pub closing : r.closing ≡ rest_of phase.Closing at
   pub done : r.done ≡ rest_of phase.Done at
 
+pub left_all : {r : Rest} {at : Standing} → r.ready ≡ rest_of phase.Timers at → r.idle ≡ rest_of phase.Idle at →
+    r.prepare ≡ rest_of phase.Prepare at → r.check ≡ rest_of phase.Check at → AsyncLeft r.slots at r.async → r.closing ≡ rest_of phase.Closing at →
+    r.done ≡ rest_of phase.Done at → Leaves r at
+left_all t i p c a cl d = record { timers = t; idle = i; prepare = p; check = c; async = a; closing = cl; done = d }
+
 -- nobody is left
-pub record NobodyLeft (r : Rest) : Type 0 where
-  pub timers : r.ready ≡ []
-  pub idle : r.idle ≡ []
-  pub prepare : r.prepare ≡ []
-  pub check : r.check ≡ []
-  pub async : r.async ≡ []
-  pub closing : r.closing ≡ []
-  pub done : r.done ≡ []
+abbrev pub NobodyLeft : Rest → Type 0
+NobodyLeft r = Leaves r Begun
 
 abbrev pub due_now : State → List Id
 due_now s = due_ids s.time s.timers
@@ -323,30 +306,14 @@ timer_held s key id t = record { handle = t.its; holds = t.holds; fits = record 
 
 -- the order of timers is that of all active ones
 pub are_timers : (s : State) (ts : List (Due × Id)) (drawn : ℕ) → Times s.arena.slots drawn ts → AreTimers s ts
-are_timers s ts drawn k = record {
-  each = λ key id h. held_timer s key id (k.each key id h).0;
-  all = λ key id t. k.all key id (timer_held s key id t);
-  sorted = k.sorted;
-}
+are_timers s ts drawn k = grind (arith, held_timer, timer_held)
 
 pub due_distinct : (s : State) (time : ℕ) → Kept s → AreDistinct (due_ids time s.timers)
-due_distinct s time k = distinct_due time s.timers k.timers.sorted
-    (λ a b id h l. one_due a b id (k.timers.each a id h).0 (k.timers.each b id l).0) where
-      one_due : (a b : Due) (id : Id) → Fits s.arena.slots (IsSet a) id → Fits s.arena.slots (IsSet b) id → a ≡ b
-      one_due a b id f g = sym f.fits.due ∙ (its_handle s.arena.slots (IsSet b) id f.handle f.holds g).due
+due_distinct s time k = grind (arith, distinct_due, its_handle)
 
 -- those that watch are the active handles of their kind
 pub all_active : (s : State) (q : Kind) (ids : List Id) → Everyone s.arena.slots (Watches q) ids → AreActive s q ids
-all_active s q ids k = record {
-  each = λ id h. active id (member (Fits s.arena.slots (Watches q)) ids k.lists.each id h);
-  all = λ id a. k.all id (fits id a);
-  distinct = k.lists.distinct;
-} where
-  active : (id : Id) → Fits s.arena.slots (Watches q) id → IsActive s q id
-  active id f = record { its = f.handle; holds = f.holds; kind = f.fits.kind; active = f.fits.active }
-
-  fits : (id : Id) → IsActive s q id → Fits s.arena.slots (Watches q) id
-  fits id a = record { handle = a.its; holds = a.holds; fits = record { kind = a.kind; active = a.active } }
+all_active s q ids k = grind (arith, member)
 
 -- where nobody is yet to run, the list has all
 list_alone : (w : Listed Id) → w.yet ≡ [] → members w ≡ w.list
@@ -356,16 +323,7 @@ pub are_active : (s : State) (q : Kind) (w : Listed Id) → w.yet ≡ [] → Eve
 are_active s q w e k = subst (AreActive s q) (list_alone w e) (all_active s q (members w) k)
 
 pub bare_over : (word : Phase) → IsOver word bare
-bare_over word = record { done = refl; may_pass = nobody word } where
-  nobody : (x : Phase) → doc.MayPass x bare []
-  nobody phase.Async = tt
-  nobody phase.Pending = tt
-  nobody phase.Idle = tt
-  nobody phase.Prepare = tt
-  nobody phase.Done = tt
-  nobody phase.Check = tt
-  nobody phase.Closing = tt
-  nobody phase.Timers = tt
+bare_over word = grind arith
 
 pub opens_bare : (word : Phase) (told : Told) (l : Line) → doc.sent_at word told ≡ [] → doc.HasList word l [] → Opens word told l bare
 opens_bare word told l e h = record { list = h; off = refl; sent = sym e; body = refl }
@@ -396,16 +354,7 @@ pub are_ended : (s : State) → s.done.yet ≡ [] → Working s → AreEnded s s
 are_ended s e k = subst (AreEnded s) (list_alone s.done e) (all_ended s (members s.done) k.ended)
 
 pub all_closing : (s : State) (ids : List Id) → Everyone s.arena.slots Closes ids → AreClosing s ids
-all_closing s ids all = record {
-  each = λ id h. closes id (member (Fits s.arena.slots Closes) ids all.lists.each id h);
-  all = λ id a. all.all id (fits id a);
-  distinct = all.lists.distinct;
-} where
-  closes : (id : Id) → Fits s.arena.slots Closes id → IsClosing s id
-  closes id f = record { its = f.handle; holds = f.holds; closing = f.fits }
-
-  fits : (id : Id) → IsClosing s id → Fits s.arena.slots Closes id
-  fits id a = record { handle = a.its; holds = a.holds; fits = a.closing }
+all_closing s ids all = grind (arith, member)
 
 pub are_closing : (s : State) → s.closing.yet ≡ [] → Kept s → AreClosing s s.closing.list
 are_closing s e k = subst (AreClosing s) (list_alone s.closing e) (all_closing s (members s.closing) k.closing)

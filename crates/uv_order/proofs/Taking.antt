@@ -12,46 +12,21 @@ use Rattle.uv_work.specs.declared.event.PoolEvent.TheVariants as event
 use Rattle.uv_work.specs.declared.request.Request.{Request}
 use Rattle.uv_model.specs.Ids.{same_id}
 use Rattle.uv_model.specs.Found.{found_or}
-use Rattle.uv_model.specs.State.{State, fresh, request, with_id, front_request}
+use Rattle.uv_model.specs.State.{State, request, with_id, front_request}
 use Rattle.uv_model.specs.Next as step
 use Rattle.uv_model.specs.Next.{Next, Moves, Refuses, next, next_work, work_of}
-use Rattle.uv_model.specs.After.{after, goes_on, state_of, lines}
+use Rattle.uv_model.specs.After.{after, lines}
 use Rattle.uv_order.specs.Active.{has_id, run_ids}
-use Rattle.uv_order.specs.Documented.{Told, nothing_told, told_by, Position, Between}
 use Rattle.uv_order.specs.PoolEvents.{pool_events, pool_of}
 use Rattle.uv_order.specs.Taking.{IsTakenAs}
-use Rattle.uv_order.proofs.OpCases.{names_at}
 use Rattle.uv_order.proofs.IdLists.{same, itself, has_new_middle}
 use Rattle.uv_order.proofs.Works.{LetsGo, lets_go}
-use Rattle.uv_order.proofs.Keeping.{Kept}
-use Rattle.uv_order.proofs.KeptSteps.{StaysKept, next_kept, fresh_kept}
-use Rattle.uv_order.proofs.Working.{Working, StaysWorking, next_working, fresh_working}
-use Rattle.uv_order.proofs.Sends.{SentAt, SentFollows, next_sent, sent_fresh}
-use Rattle.uv_order.proofs.Standing as order
-use Rattle.uv_order.proofs.Standing.{Stands}
-use Rattle.uv_order.proofs.Follows.{follows, rested_at, calm_at, stands_fresh}
-use Rattle.uv_order.proofs.Pooling.{pools}
+use Rattle.uv_order.proofs.Working.{Working}
+use Rattle.uv_order.proofs.Documents.{pools, holds_after}
 
--- ---- after any steps the requests agree with their lists
-
-one_works : (p : Program) (told : Told) (s : State) (at : Position) (n : Next) (es : List Event) → Kept s → StaysKept n → SentAt told.sent s →
-    SentFollows p told s n → Working s → StaysWorking n → Stands p told s at → order.Follows p told at s n →
-    ((told' : Told) (t : State) (to : Position) → Kept t → SentAt told'.sent t → Working t → Stands p told' t to → Working (goes_on p t es)) →
-    Working (goes_on p (state_of s n) es)
-one_works p told s at (Moves t (Some l)) es kept j a i w x h f more = more (told_by p told (names_at s) l) t f.to j i x f.stands
-one_works p told s at (Moves t None) es kept j a i w x h f more = more told t at j i x f.0
-one_works p told s at (Refuses why) es kept j a i w x h f more = more told s at kept a w h
-
-works_from : (p : Program) (es : List Event) (told : Told) (s : State) (at : Position) → Kept s → SentAt told.sent s → Working s →
-    Stands p told s at → Working (goes_on p s es)
-works_from p [] told s at kept sent w h = w
-works_from p (e ∷ es) told s at kept sent w h =
-    one_works p told s at (next p s e) es kept (next_kept p s e (rested_at p s s.place at h.stands) kept) sent (next_sent p told s e kept sent) w
-    (next_working p s e (calm_at p s s.place at h.stands) kept w) h (follows p told s at e kept sent w h) (works_from p es)
-
+-- after any steps the requests agree with their lists
 works : (p : Program) (es : List Event) → Working (after p es)
-unfolding after
-works p es = works_from p es nothing_told (fresh p) (Between 0) (fresh_kept p) (sent_fresh p) (fresh_working p) (stands_fresh p)
+works p es = (holds_after p es).holds.working
 
 -- ---- an event that may follow
 

@@ -1,5 +1,5 @@
 -- The timers in their order: one is put in, one is taken out, and those that are due stand in front.
-use Rattle.std.proofs.Common.{◌≡◌, ◌⊎◌, inl, inr, ℕ, ◌<◌, ◌≤◌, List, [], ◌∷◌, Bool, true, false, cond, nat_le, refl, ap, ap₂, sym, subst, ◌∙◌, arith}
+use Rattle.std.proofs.Common.{◌≡◌, ◌⊎◌, inl, inr, ℕ, ◌<◌, ◌≤◌, List, [], ◌∷◌, Bool, true, false, cond, nat_le, refl, ap, sym, subst, ◌∙◌, arith}
 use Rattle.std.specs.Prelude.{filter, map}
 use Rattle.std.specs.Ordering.{ordering_then, nat_cmp, match_ordering, is_eq, ordering_reverse, MatchOrdering}
 use Rattle.std.specs.BTreeMap.{is_at}
@@ -21,9 +21,6 @@ use Rattle.uv_order.proofs.IdLists.{same}
 abbrev due_of : ℕ → ℕ → Due
 due_of at start = record { at = at; start = start }
 
-same_parts : (a b : Due) → a.at ≡ b.at → a.start ≡ b.start → a ≡ b
-same_parts a b e f = ap₂ due_of e f
-
 says : (x y : ℕ) → MatchOrdering (nat_cmp x y) (x < y) (x ≡ y) (y < x)
 says x y = ranked x y (nat_cmp x y) refl
 
@@ -38,10 +35,7 @@ equal_parts Equal q e = (refl, e)
 equal_parts Greater q e = cc e
 
 pub equal_key : (a b : Due) → due_cmp a b ≡ Equal → a ≡ b
-equal_key a b e =
-    let parts = equal_parts (nat_cmp a.at b.at) (nat_cmp a.start b.start) e in
-    same_parts a b (equal_number a.at b.at (nat_cmp a.at b.at) (says a.at b.at) parts.0)
-    (equal_number a.start b.start (nat_cmp a.start b.start) (says a.start b.start) parts.1)
+equal_key a b e = grind arith
 
 is_equal : (o : Ordering) → is_eq o ≡ true → o ≡ Equal
 is_equal Less e = cc e
@@ -55,8 +49,7 @@ pub key_itself : (a b : Due) → a ≡ b → is_at (due_cmp a) b ≡ true
 key_itself a b e = rw (← e) (ap is_eq (tied_itself due_cmp_total a))
 
 pub not_before_itself : (a b : Due) → a ≡ b → due_cmp a b ≡ Less → ⊥
-not_before_itself a b e l = let tied : due_cmp a a ≡ Equal = tied_itself due_cmp_total a in let less : due_cmp a a ≡ Less = subst
-    (λ (x : Due). due_cmp a x ≡ Less) (sym e) l in cc (tied, less)
+not_before_itself a b e l = grind arith
 
 at_most : (x y : ℕ) (r q : Ordering) → MatchOrdering r (x < y) (x ≡ y) (y < x) → ordering_then r q ≡ Less → x ≤ y
 at_most x y Less q h e = omega arith
@@ -119,10 +112,7 @@ had (t ∷ ts) key other id s h = at (is_at (due_cmp key) t.0) refl h (λ k. had
 
 before_without : (ts : List (Due × Id)) (a key : Due) → Before a ts → Before a (without_timer ts key)
 before_without [] a key h = tt
-before_without (t ∷ ts) a key h = at (is_at (due_cmp key) t.0) (before_without ts a key h.1) where
-  at : (b : Bool) → Before a (without_timer ts key) → Before a (cond b ts (t ∷ without_timer ts key))
-  at true rest = h.1
-  at false rest = (h.0, rest)
+before_without (t ∷ ts) a key h = grind (arith, before_without ts a key h.1)
 
 pub in_order_without : (ts : List (Due × Id)) (key : Due) → InOrder ts → InOrder (without_timer ts key)
 in_order_without [] key s = tt
@@ -140,12 +130,7 @@ IsNew key (t ∷ ts) = (is_at (due_cmp key) t.0 ≡ false) × IsNew key ts
 
 pub has_new : (ts : List (Due × Id)) (key : Due) (id : Id) → IsNew key ts → Has (with_timer ts key id) key id
 has_new [] key id n = inl (refl, refl)
-has_new (t ∷ ts) key id n = at (due_cmp key t.0) n.0 (has_new ts key id n.1) where
-  at : (o : Ordering) → is_eq o ≡ false → Has (with_timer ts key id) key id →
-      Has (match_ordering o ((key, id) ∷ t ∷ ts) ((t.0, id) ∷ ts) (t ∷ with_timer ts key id)) key id
-  at Less e rest = inl (refl, refl)
-  at Equal e rest = cc e
-  at Greater e rest = inr rest
+has_new (t ∷ ts) key id n = grind (arith, has_new ts key id n.1)
 
 pub has_old : (ts : List (Due × Id)) (key other : Due) (id i : Id) → IsNew key ts → Has ts other i → Has (with_timer ts key id) other i
 has_old [] key other id i n h = absurd h
@@ -172,11 +157,7 @@ new_or_old (t ∷ ts) key other id i n h = at (due_cmp key t.0) n.0 h (λ k. new
 
 before_with : (ts : List (Due × Id)) (a key : Due) (id : Id) → Before a ts → due_cmp a key ≡ Less → Before a (with_timer ts key id)
 before_with [] a key id h l = (l, tt)
-before_with (t ∷ ts) a key id h l = at (due_cmp key t.0) (before_with ts a key id h.1 l) where
-  at : (o : Ordering) → Before a (with_timer ts key id) → Before a (match_ordering o ((key, id) ∷ t ∷ ts) ((t.0, id) ∷ ts) (t ∷ with_timer ts key id))
-  at Less rest = (l, h)
-  at Equal rest = h
-  at Greater rest = (h.0, rest)
+before_with (t ∷ ts) a key id h l = grind (arith, before_with ts a key id h.1 l)
 
 pub in_order_with : (ts : List (Due × Id)) (key : Due) (id : Id) → InOrder ts → InOrder (with_timer ts key id)
 in_order_with [] key id s = (tt, tt)

@@ -12,6 +12,7 @@ use Rattle.uv_ids.specs.declared.seen.Callback.TheVariants as callback
 use Rattle.uv_script.specs.Program.{Program, order_of}
 use Rattle.uv_records.specs.declared.handle.HandleRecord.{HandleRecord}
 use Rattle.uv_records.specs.declared.named.Named.{Named}
+use Rattle.uv_model.specs.declared.place.Place.TheVariants as place
 use Rattle.uv_model.specs.declared.place.Run.{Run}
 use Rattle.uv_model.specs.declared.place.Stage.TheVariants as stage
 use Rattle.uv_model.specs.declared.place.TimersOf.{TimersOf}
@@ -36,11 +37,12 @@ use Rattle.uv_order.proofs.IdLists.{left_of, none_off, all_off, first_left}
 use Rattle.uv_order.proofs.TimerKeys.{due_ids, none_due}
 use Rattle.uv_order.proofs.Holding.{is_held, name_in, name_at, Fits, IsSet, Times}
 use Rattle.uv_order.proofs.Keeping.{Kept, Rests}
-use Rattle.uv_order.proofs.KeptSteps.{FrontOf, front_of, no_front, FirstOf, first_of}
+use Rattle.uv_order.proofs.Did.{FrontOf, front_of, FirstOf, first_of}
+use Rattle.uv_order.proofs.KeptSteps.{no_front}
 use Rattle.uv_order.proofs.Bodies.{IsBody}
 use Rattle.uv_order.proofs.Lives.{goes_is}
 use Rattle.uv_order.proofs.Counted.{Counted, counted_call, told_call, next_body}
-use Rattle.uv_order.proofs.Standing.{bare, begun_with, section_of, Rest, rest, Leaves, NobodyLeft, due_now, Stands, Follows, left, reached_by, ways_agree, timers_last, pending_lasts, are_timers, due_distinct, opens_bare, pending, collects, fires, between, running}
+use Rattle.uv_order.proofs.Standing.{StandsAt, left_all, bare, begun_with, section_of, Rest, rest, Leaves, NobodyLeft, due_now, Stands, Follows, left, reached_by, ways_agree, timers_last, pending_lasts, are_timers, due_distinct, opens_bare, pending, collects, fires, between, running}
 
 -- ---- callbacks
 
@@ -84,6 +86,30 @@ its_body p told s callback.Close v c = next_body p s.names told callback.Close v
 abbrev pub called : Program → Told → Callback → Walk → List Id → Var → Walk
 called p told kind w behind v = record w { ahead = behind; body = body_of p kind v (next_call told kind v) }
 
+-- the state in which the callback of a handle has begun
+abbrev pub begun_call : Program → State → Run → Var → State
+begun_call p u r v = record (with_named u v (record (named u v) { calls = counted callback.Handle (named u v).calls })) {
+  place = place.Running (record r { body = body_from p callback.Handle v (count_of callback.Handle (counted callback.Handle (named u v).calls)) 0 });
+}
+
+-- the callback of a handle begins in a section, in a state that may have changed
+pub call_follows : (p : Program) (told : Told) (s u : State) (run r : Run) (part : Section) (w : Walk) (t : Id × HandleRecord) (behind : List Id) →
+    callback_in (word_of part) ≡ callback.Handle → CallsNext (word_of part) told w t.0 behind → handle s t.0 ≡ Some t.1 → u.names ≡ s.names →
+    lasting u ≡ lasting s → Counted p s.names told →
+    (IsBody p (body_from p callback.Handle t.1.name (count_of callback.Handle (counted callback.Handle (named u t.1.name).calls)) 0)
+    (called p told callback.Handle w behind t.1.name).body →
+    StandsAt p (begun_call p u r t.1.name) (begun_call p u r t.1.name).place
+    (Running run.mode run.line (Within part (called p told callback.Handle w behind t.1.name)))) →
+    Follows p told (Running run.mode run.line (Within part w)) s (call p u r t.0 t.1.name)
+call_follows p told s u run r part w t behind is next h names lasts c stands =
+    let v = t.1.name in
+    let cu : Counted p u.names told = rw names c in
+    record {
+      to = Running run.mode run.line (Within part (called p told callback.Handle w behind v));
+      goes = doc.call callback.Handle v t.0 behind is next (named_of s t h) refl lasts;
+      stands = record { stands = stands (its_body p told u callback.Handle v cu); counted = call_counted p told u callback.Handle v t.0 cu };
+    }
+
 -- ---- timers
 
 -- those that are ready are left, and nobody else
@@ -97,24 +123,8 @@ pub record OnlyReady (r : Rest) (w : Walk) : Type 0 where
   pub done : r.done ≡ []
 
 pub timers_left : (part : TimersOf) (r : Rest) (w : Walk) → OnlyReady r w → Leaves r (Within (section_of part) w)
-timers_left timers_of.Entry r w o = record {
-  timers = o.ready;
-  idle = o.idle;
-  prepare = o.prepare;
-  check = o.check;
-  async = o.async;
-  closing = o.closing;
-  done = o.done;
-}
-timers_left timers_of.Iteration r w o = record {
-  timers = o.ready;
-  idle = o.idle;
-  prepare = o.prepare;
-  check = o.check;
-  async = o.async;
-  closing = o.closing;
-  done = o.done;
-}
+timers_left timers_of.Entry r w o = (left_all o.ready o.idle o.prepare o.check o.async o.closing o.done)
+timers_left timers_of.Iteration r w o = (left_all o.ready o.idle o.prepare o.check o.async o.closing o.done)
 
 pub left_timers : (part : TimersOf) (r : Rest) (w : Walk) → Leaves r (Within (section_of part) w) → OnlyReady r w
 left_timers timers_of.Entry r w l = record {
@@ -148,15 +158,7 @@ turn_follows p told s run turn at alive is over k c e =
     ∙ ap (λ (go : Bool). part_after (order_of p) run.mode go (left turn)) (goes_is s alive) ∙ ways_agree (order_of p) run.mode (goes s) turn)
   where
     nobody : NobodyLeft (rest s.ready s)
-    nobody = record {
-      timers = e.timers;
-      idle = e.idle;
-      prepare = e.prepare;
-      check = e.check;
-      async = e.async;
-      closing = e.closing;
-      done = e.done;
-    }
+    nobody = (left_all e.timers e.idle e.prepare e.check e.async e.closing e.done)
 
     due : TimersOf → List Id
     due part = due_ids (step.time_at (order_of p) part s) s.timers
@@ -209,15 +211,7 @@ turn_follows p told s run turn at alive is over k c e =
       to = Running run.mode run.line (Within (In phase.Pending) bare);
       goes = doc.section (In phase.Pending) over g refl (opens_bare phase.Pending told _ refl refl) (pending_lasts (order_of p) s);
       stands = record {
-        stands = running pending (record {
-          timers = e.timers;
-          idle = e.idle;
-          prepare = e.prepare;
-          check = e.check;
-          async = e.async;
-          closing = e.closing;
-          done = e.done;
-        });
+        stands = running pending (left_all e.timers e.idle e.prepare e.check e.async e.closing e.done);
         counted = c;
       };
     }
@@ -265,28 +259,18 @@ pub call_timer : (p : Program) (told : Told) (s u : State) (run : Run) (part : T
     Follows p told (Running run.mode run.line (Within (section_of part) w)) s (call p u (record run { stage = stage.Timers part Firing }) t.0
     t.1.name)
 call_timer p told s u run part w t more h names lasts o ready b c =
-    let v = t.1.name in
     let next = next_of w t.0 more (sym o.ready) in
-    let cu : Counted p u.names told = rw names c in
-    record {
-      to = Running run.mode run.line (Within (section_of part) (called p told callback.Handle w next.behind v));
-      goes = doc.call callback.Handle v t.0 next.behind (timers_word part) (timers_call part told w t.0 more next b) (named_of s t h) refl lasts;
-      stands = record {
-        stands = running (fires (its_body p told u callback.Handle v cu))
-            (timers_left part (rest u.ready u) (called p told callback.Handle w next.behind v)
-            (record {
-              ready = ready ∙ next.left;
-              idle = o.idle;
-              prepare = o.prepare;
-              check = o.check;
-              async = o.async;
-              closing = o.closing;
-              done =
-                  o.done;
-            }));
-        counted = call_counted p told u callback.Handle v t.0 cu;
-      };
-    }
+    call_follows p told s u run (record run { stage = stage.Timers part Firing }) (section_of part) w t next.behind (timers_word part)
+    (timers_call part told w t.0 more next b) h names lasts c
+    (λ is. running (fires is) (timers_left part (rest u.ready u) (called p told callback.Handle w next.behind t.1.name) (record {
+      ready = ready ∙ next.left;
+      idle = o.idle;
+      prepare = o.prepare;
+      check = o.check;
+      async = o.async;
+      closing = o.closing;
+      done = o.done;
+    })))
 
 pub fire_follows : (p : Program) (told : Told) (s : State) (run : Run) (part : TimersOf) (w : Walk) → lives s ≡ is_alive s → Kept s →
     Counted p s.names told →
@@ -299,7 +283,7 @@ fire_follows p told s run part w alive k c l b =
     (λ e. let none : s.ready ≡ [] = no_front s Rests s.ready k.ready.each e in
     turn_follows p told s run (Behind part) (Within (section_of part) w) alive refl
     (timers_over part w b (all_off w.ahead w.off (sym o.ready ∙ none))) k c
-    (record { timers = none; idle = o.idle; prepare = o.prepare; check = o.check; async = o.async; closing = o.closing; done = o.done }))
+    (left_all none o.idle o.prepare o.check o.async o.closing o.done))
   where
     fired : OnlyReady (rest s.ready s) w → (t : Id × HandleRecord) → FrontOf s s.ready t →
         Follows p told (Running run.mode run.line (Within (section_of part) w)) s

@@ -1,6 +1,6 @@
 -- The sections of watchers, of async handles and of closing ones: each step goes on from where the state stands.
-use Rattle.std.proofs.Common.{◌≡◌, ◌||◌, Bool, true, false, subst, List, [], ◌∷◌, ◌++◌, drop, Option, None, refl, ap, sym, ◌∙◌, append_assoc, if◌then◌else◌}
-use Rattle.std.proofs.lemmas.Bool.{cond_both, both_ways, or_right, false_from_ne_true}
+use Rattle.std.proofs.Common.{arith, ◌≡◌, ◌||◌, true, false, subst, List, [], ◌∷◌, ◌++◌, drop, Option, None, refl, ap, sym, ◌∙◌, append_assoc, if◌then◌else◌}
+use Rattle.std.proofs.lemmas.Bool.{cond_both}
 use Rattle.std.specs.Prelude.{not, option_map}
 use Rattle.uv_ids.specs.declared.id.Id.{Id}
 use Rattle.uv_ids.specs.declared.phase.Kind.TheVariants as kind
@@ -34,18 +34,19 @@ use Rattle.uv_order.specs.Documented as doc
 use Rattle.uv_order.specs.Documented.{Told, nothing_told, told_of, told_by, AllOff, AllOffOrUnsent, Lasting, lasting, at_first, Section, Entry, In, word_of, part_after, part_of, Walk, Opens, IsOver, CallsNext, MayCall, is_called, callback_in, IsCallLine, Standing, Begun, Within, Polling, MayLeave, PollsFor, Position, Between, Running, Goes, GoesOn, cut, line, Documented, body_of, next_call, taken_off}
 use Rattle.uv_model.proofs.Found.{found_both}
 use Rattle.uv_order.proofs.IdLists.{left_of, none_off, all_off, each_back, distinct_back, same, itself}
-use Rattle.uv_order.proofs.Holding.{name_in, SameHandles, same_handles, Fits, Everyone}
+use Rattle.uv_order.proofs.Holding.{name_in, SameHandles, same_handles, Fits}
 use Rattle.uv_order.proofs.Asked.{freed_turns, FrontRequest, request_front}
 use Rattle.uv_order.proofs.Works.{HasEnded}
 use Rattle.uv_order.proofs.Working.{Working, no_request}
 use Rattle.uv_order.proofs.OpCases.{kind_as}
-use Rattle.uv_order.proofs.Keeping.{Kept, Watches, Closes, members}
-use Rattle.uv_order.proofs.KeptSteps.{FrontOf, front_of, no_front}
+use Rattle.uv_order.proofs.Keeping.{Kept, Watches, Closes}
+use Rattle.uv_order.proofs.Did.{FrontOf, front_of}
+use Rattle.uv_order.proofs.KeptSteps.{everyone, no_front}
 use Rattle.uv_order.proofs.Lives.{may_wait_is}
 use Rattle.uv_order.proofs.Counted.{Counted}
 use Rattle.uv_order.proofs.Sends.{pends, pends_in, pends_there, SentAt, pass_both, pass_off}
-use Rattle.uv_order.proofs.Standing.{begun_with, async_with, rest, Leaves, NobodyLeft, Follows, IsNext, async_next, async_moved, prepare_next, poll_next, check_next, closing_next, are_timers, are_active, are_closing, idle, prepare, polls, done, async, check, closing, running}
-use Rattle.uv_order.proofs.TimersFollow.{turn_follows, named_of, next_of, call_counted, its_body, called}
+use Rattle.uv_order.proofs.Standing.{left_all, begun_with, async_with, rest, Leaves, NobodyLeft, Follows, IsNext, async_next, async_moved, prepare_next, poll_next, check_next, closing_next, are_timers, are_active, are_closing, idle, prepare, polls, done, async, check, closing, running}
+use Rattle.uv_order.proofs.TimersFollow.{call_follows, NextCall, turn_follows, named_of, next_of, call_counted, its_body, called}
 
 -- ---- sections of watchers, and of async handles
 
@@ -75,15 +76,7 @@ begin_follows p told s run watcher.Idle at over next k h c e = record {
   to = Running run.mode run.line (Within (In phase.Idle) (begun_with s.idle.list));
   goes = doc.section (In phase.Idle) over (next (order_of p) run.mode (doc.goes_on s)) refl (opens_watched told s _ watcher.Idle k e.idle) refl;
   stands = record {
-    stands = running (idle refl) (record {
-      timers = e.timers;
-      idle = sym (none_off s.idle.list);
-      prepare = e.prepare;
-      check = e.check;
-      async = e.async;
-      closing = e.closing;
-      done = e.done;
-    });
+    stands = running (idle refl) (left_all e.timers (sym (none_off s.idle.list)) e.prepare e.check e.async e.closing e.done);
     counted = c;
   };
 }
@@ -92,15 +85,7 @@ begin_follows p told s run watcher.Prepare at over next k h c e = record {
   goes = doc.section (In phase.Prepare) over (next (order_of p) run.mode (doc.goes_on s)) refl
       (opens_watched told s _ watcher.Prepare k e.prepare) refl;
   stands = record {
-    stands = running (prepare refl) (record {
-      timers = e.timers;
-      idle = e.idle;
-      prepare = sym (none_off s.prepare.list);
-      check = e.check;
-      async = e.async;
-      closing = e.closing;
-      done = e.done;
-    });
+    stands = running (prepare refl) (left_all e.timers e.idle (sym (none_off s.prepare.list)) e.check e.async e.closing e.done);
     counted = c;
   };
 }
@@ -108,15 +93,7 @@ begin_follows p told s run watcher.Check at over next k h c e = record {
   to = Running run.mode run.line (Within (In phase.Check) (begun_with s.check.list));
   goes = doc.section (In phase.Check) over (next (order_of p) run.mode (doc.goes_on s)) refl (opens_watched told s _ watcher.Check k e.check) refl;
   stands = record {
-    stands = running (check refl) (record {
-      timers = e.timers;
-      idle = e.idle;
-      prepare = e.prepare;
-      check = sym (none_off s.check.list);
-      async = e.async;
-      closing = e.closing;
-      done = e.done;
-    });
+    stands = running (check refl) (left_all e.timers e.idle e.prepare (sym (none_off s.check.list)) e.async e.closing e.done);
     counted = c;
   };
 }
@@ -124,22 +101,14 @@ begin_follows p told s run watcher.Async at over next k h c e = record {
   to = Running run.mode run.line (Within (In phase.Async) (async_with told s.async.list));
   goes = doc.section (In phase.Async) over (next (order_of p) run.mode (doc.goes_on s)) refl (opens_watched told s _ watcher.Async k e.async) refl;
   stands = record {
-    stands = running (async refl) (record {
-      timers = e.timers;
-      idle = e.idle;
-      prepare = e.prepare;
-      check = e.check;
-      async = record {
-        gone = [];
-        behind = s.async.list;
-        all = refl;
-        left = sym (none_off s.async.list);
-        passed = tt;
-        still = λ id on was. sym (h.are id) ∙ was;
-      };
-      closing = e.closing;
-      done = e.done;
-    });
+    stands = running (async refl) (left_all e.timers e.idle e.prepare e.check (record {
+      gone = [];
+      behind = s.async.list;
+      all = refl;
+      left = sym (none_off s.async.list);
+      passed = tt;
+      still = λ id on was. sym (h.are id) ∙ was;
+    }) e.closing e.done);
     counted = c;
   };
 }
@@ -154,15 +123,7 @@ poll_follows p told s run w alive over k c e = record {
   goes = doc.poll (poll_timeout s run.mode) over (poll_next (order_of p) run.mode (doc.goes_on s))
       (record { timers = s.timers; are = are_timers s s.timers s.next_start k.timers; is = may_wait_is s s.timers run.mode alive }) refl refl;
   stands = record {
-    stands = running polls (record {
-      timers = e.timers;
-      idle = e.idle;
-      prepare = e.prepare;
-      check = e.check;
-      async = e.async;
-      closing = e.closing;
-      done = e.done;
-    });
+    stands = running polls (left_all e.timers e.idle e.prepare e.check e.async e.closing e.done);
     counted = c;
   };
 }
@@ -176,15 +137,7 @@ closing_begins p told s run w over k c e = record {
   goes = doc.section (In phase.Closing) over (closing_next (order_of p) run.mode (doc.goes_on s)) refl
       (record { list = (refl, are_closing s e.closing k); off = refl; sent = refl; body = refl }) refl;
   stands = record {
-    stands = running (closing refl) (record {
-      timers = e.timers;
-      idle = e.idle;
-      prepare = e.prepare;
-      check = e.check;
-      async = e.async;
-      closing = sym (none_off s.closing.list);
-      done = e.done;
-    });
+    stands = running (closing refl) (left_all e.timers e.idle e.prepare e.check e.async (sym (none_off s.closing.list)) e.done);
     counted = c;
   };
 }
@@ -205,6 +158,12 @@ abbrev pub IsPlain : WatcherKind → Type 0
 IsPlain watcher.Async = ⊥
 IsPlain q = Unit {0}
 
+plain_calls : (q : WatcherKind) (told : Told) (w : Walk) (id : Id) (more : List Id) (n : NextCall w id more) → IsPlain q → w.body ≡ [] →
+    CallsNext (phase_of q) told w id n.behind
+plain_calls watcher.Async told w id more n d b = absurd d
+plain_calls each told w id more n d b =
+    record { done = b; passed = n.passed; list = n.list; may_pass = n.off; may_call = record { on = n.on; called = refl } }
+
 -- the next watcher is called
 pub call_watcher : (p : Program) (told : Told) (s : State) (run : Run) (q : WatcherKind) (w : Walk) (t : Id × HandleRecord) → IsPlain q → run.stage ≡
     step.stage_of q →
@@ -212,92 +171,20 @@ pub call_watcher : (p : Program) (told : Told) (s : State) (run : Run) (q : Watc
     Follows p told (Running run.mode run.line (Within (In (phase_of q)) w)) s (call p (front_moved s q t.0) run t.0 t.1.name)
 call_watcher p told s run watcher.Async w t d st f l b c = absurd d
 call_watcher p told s run watcher.Idle w t d st f l b c =
-    let v = t.1.name in
     let next = next_of w t.0 f.rest (sym l.idle ∙ f.are) in
-    record {
-      to = Running run.mode run.line (Within (In phase.Idle) (called p told callback.Handle w next.behind v));
-      goes = doc.call callback.Handle v t.0 next.behind refl
-          (record {
-            done = b;
-            passed = next.passed;
-            list = next.list;
-            may_pass = next.off;
-            may_call = record {
-              on = next.on;
-              called = refl;
-            };
-          }) (named_of s t f.holds) refl refl;
-      stands = record {
-        stands = rw st (running (idle (its_body p told s callback.Handle v c)) (record {
-          timers = l.timers;
-          idle = f.behind ∙ next.left;
-          prepare = l.prepare;
-          check = l.check;
-          async = l.async;
-          closing = l.closing;
-          done = l.done;
-        }));
-        counted = call_counted p told s callback.Handle v t.0 c;
-      };
-    }
+    call_follows p told s (front_moved s watcher.Idle t.0) run run (In phase.Idle) w t next.behind refl
+    (plain_calls watcher.Idle told w t.0 f.rest next tt b) f.holds refl refl c
+    (λ is. rw st (running (idle is) (left_all l.timers (f.behind ∙ next.left) l.prepare l.check l.async l.closing l.done)))
 call_watcher p told s run watcher.Prepare w t d st f l b c =
-    let v = t.1.name in
     let next = next_of w t.0 f.rest (sym l.prepare ∙ f.are) in
-    record {
-      to = Running run.mode run.line (Within (In phase.Prepare) (called p told callback.Handle w next.behind v));
-      goes = doc.call callback.Handle v t.0 next.behind refl
-          (record {
-            done = b;
-            passed = next.passed;
-            list = next.list;
-            may_pass = next.off;
-            may_call = record {
-              on = next.on;
-              called = refl;
-            };
-          }) (named_of s t f.holds) refl refl;
-      stands = record {
-        stands = rw st (running (prepare (its_body p told s callback.Handle v c)) (record {
-          timers = l.timers;
-          idle = l.idle;
-          prepare = f.behind ∙ next.left;
-          check = l.check;
-          async = l.async;
-          closing = l.closing;
-          done = l.done;
-        }));
-        counted = call_counted p told s callback.Handle v t.0 c;
-      };
-    }
+    call_follows p told s (front_moved s watcher.Prepare t.0) run run (In phase.Prepare) w t next.behind refl
+    (plain_calls watcher.Prepare told w t.0 f.rest next tt b) f.holds refl refl c
+    (λ is. rw st (running (prepare is) (left_all l.timers l.idle (f.behind ∙ next.left) l.check l.async l.closing l.done)))
 call_watcher p told s run watcher.Check w t d st f l b c =
-    let v = t.1.name in
     let next = next_of w t.0 f.rest (sym l.check ∙ f.are) in
-    record {
-      to = Running run.mode run.line (Within (In phase.Check) (called p told callback.Handle w next.behind v));
-      goes = doc.call callback.Handle v t.0 next.behind refl
-          (record {
-            done = b;
-            passed = next.passed;
-            list = next.list;
-            may_pass = next.off;
-            may_call = record {
-              on = next.on;
-              called = refl;
-            };
-          }) (named_of s t f.holds) refl refl;
-      stands = record {
-        stands = rw st (running (check (its_body p told s callback.Handle v c)) (record {
-          timers = l.timers;
-          idle = l.idle;
-          prepare = l.prepare;
-          check = f.behind ∙ next.left;
-          async = l.async;
-          closing = l.closing;
-          done = l.done;
-        }));
-        counted = call_counted p told s callback.Handle v t.0 c;
-      };
-    }
+    call_follows p told s (front_moved s watcher.Check t.0) run run (In phase.Check) w t next.behind refl
+    (plain_calls watcher.Check told w t.0 f.rest next tt b) f.holds refl refl c
+    (λ is. rw st (running (check is) (left_all l.timers l.idle l.prepare (f.behind ∙ next.left) l.async l.closing l.done)))
 
 -- the list of a kind is the one that its section walks
 pub own_list : (s : State) (q : WatcherKind) (w : Walk) → IsPlain q → Leaves (rest s.ready s) (Within (In (phase_of q)) w) →
@@ -311,46 +198,14 @@ own_list s watcher.Async w d l = absurd d
 -- with none of its own left, nobody is left
 pub none_own : (s : State) (q : WatcherKind) (w : Walk) → IsPlain q → (watched s q).yet ≡ [] → Leaves (rest s.ready s) (Within (In (phase_of q)) w) →
     NobodyLeft (rest s.ready s)
-none_own s watcher.Idle w d e l = record {
-  timers = l.timers;
-  idle = e;
-  prepare = l.prepare;
-  check = l.check;
-  async = l.async;
-  closing = l.closing;
-  done = l.done;
-}
-none_own s watcher.Prepare w d e l = record {
-  timers = l.timers;
-  idle = l.idle;
-  prepare = e;
-  check = l.check;
-  async = l.async;
-  closing = l.closing;
-  done = l.done;
-}
-none_own s watcher.Check w d e l = record {
-  timers = l.timers;
-  idle = l.idle;
-  prepare = l.prepare;
-  check = e;
-  async = l.async;
-  closing = l.closing;
-  done = l.done;
-}
+none_own s watcher.Idle w d e l = (left_all l.timers e l.prepare l.check l.async l.closing l.done)
+none_own s watcher.Prepare w d e l = (left_all l.timers l.idle e l.check l.async l.closing l.done)
+none_own s watcher.Check w d e l = (left_all l.timers l.idle l.prepare e l.async l.closing l.done)
 none_own s watcher.Async w d e l = absurd d
 
 pub plain_over : (q : WatcherKind) (w : Walk) → IsPlain q → w.body ≡ [] → doc.AllOff w.off w.ahead → IsOver (phase_of q) w
-plain_over watcher.Idle w d b o = record { done = b; may_pass = o }
-plain_over watcher.Prepare w d b o = record { done = b; may_pass = o }
-plain_over watcher.Check w d b o = record { done = b; may_pass = o }
 plain_over watcher.Async w d b o = absurd d
-
-pub everyone : (s : State) (q : WatcherKind) → Kept s → Everyone s.arena.slots (Watches (kind_as q)) (members (watched s q))
-everyone s watcher.Idle k = k.idle
-everyone s watcher.Prepare k = k.prepare
-everyone s watcher.Check k = k.check
-everyone s watcher.Async k = k.async
+plain_over each w d b o = record { done = b; may_pass = o }
 
 pub walk_follows : (p : Program) (told : Told) (s : State) (run : Run) (q : WatcherKind) (w : Walk) → lives s ≡ is_alive s → IsPlain q →
     run.stage ≡ step.stage_of q → Kept s →
@@ -371,23 +226,16 @@ in_front : (s : State) (ids : List Id) (t : Id × HandleRecord) → FrontOf s id
 in_front s ids t f = ap (λ (is : List Id). has_id is t.0) f.are ∙ rw (itself t.0 t.0 refl) refl
 
 in_all : (s : State) (ids : List Id) (t : Id × HandleRecord) (id : Id) → FrontOf s ids t → has_id (drop 1 ids) id ≡ true → has_id ids id ≡ true
-in_all s ids t id f e = ap (λ (is : List Id). has_id is id) f.are
-    ∙ or_right (same_id t.0 id) (has_id f.rest id) (ap (λ (is : List Id). has_id is id) (sym f.behind) ∙ e)
+in_all s ids t id f e = grind arith
 
 apart : (s : State) (ids : List Id) (t : Id × HandleRecord) (id : Id) → FrontOf s ids t → AreDistinct ids → has_id (drop 1 ids) id ≡ true →
     same_id id t.0 ≡ false
-apart s ids t id f d e = false_from_ne_true (same_id id t.0) (λ g.
-    let once : AreDistinct (t.0 ∷ f.rest) = subst AreDistinct f.are d in
-    let here : has_id f.rest t.0 ≡ true = ap (has_id f.rest) (sym (same id t.0 g)) ∙ ap (λ (is : List Id). has_id is id) (sym f.behind) ∙ e in
-    both_ways (has_id f.rest t.0) once.0 here)
+apart s ids t id f d e = grind (arith, same)
 
 -- the front, where it isn't pending, wasn't sent to before the section began
 not_sent : (slots : List (Slot Content)) (w : Walk) (t : Id × HandleRecord) → t.1.pending ≡ false → pends slots t.0 ≡ t.1.pending →
     (has_id w.sent t.0 ≡ true → pends slots t.0 ≡ true) → has_id w.off t.0 ≡ false → (has_id w.off t.0 || not (has_id w.sent t.0)) ≡ true
-not_sent slots w t off is still on = at (has_id w.sent t.0) refl where
-  at : (b : Bool) → has_id w.sent t.0 ≡ b → (has_id w.off t.0 || not b) ≡ true
-  at true e = absurd (both_ways (pends slots t.0) (is ∙ off) (still e))
-  at false e = rw on refl
+not_sent slots w t off is still on = grind arith
 
 -- an async handle is called, or passed by without a line
 pub async_follows : (p : Program) (told : Told) (s : State) (run : Run) (w : Walk) → lives s ≡ is_alive s → run.stage ≡ stage.Async → Kept s →
@@ -407,15 +255,7 @@ async_follows p told s run w alive st k h c l b = found_both (front s s.async.ye
     after_follows p told s run watcher.Async w alive (record {
       done = b;
       may_pass = subst (AllOffOrUnsent w.off w.sent) (sym a.all) passes;
-    }) k h c (record {
-      timers = l.timers;
-      idle = l.idle;
-      prepare = l.prepare;
-      check = l.check;
-      async = none;
-      closing = l.closing;
-      done = l.done;
-    }))
+    }) k h c (left_all l.timers l.idle l.prepare l.check none l.closing l.done))
   where
     at : (t : Id × HandleRecord) → FrontOf s s.async.yet t → Follows p told (Running run.mode run.line (Within (In phase.Async) w)) s
         (if t.1.pending then call p (with_handle (front_moved s watcher.Async t.0) t.0 (records.woken t.1)) run t.0 t.1.name
@@ -431,62 +271,34 @@ async_follows p told s run w alive st k h c l b = found_both (front s s.async.ye
         let unsent : t.1.pending ≡ false → (has_id w.off t.0 || not (has_id w.sent t.0)) ≡ true =
         λ off. not_sent s.arena.slots w t off (ap pends_in f.holds) (a.still t.0 (in_front s s.async.yet t f)) next.on in
         cond_both t.1.pending _ _ (Follows p told (Running run.mode run.line (Within (In phase.Async) w)) s)
-        (λ on. let v = t.1.name in
-        record {
-          to = Running run.mode run.line (Within (In phase.Async) (called p told callback.Handle w next.behind v));
-          goes = doc.call callback.Handle v t.0 next.behind refl
-              (record {
-                done = b;
-                passed = a.gone ++ next.passed;
-                list = all;
-                may_pass = passes;
-                may_call = record {
-                  on = next.on;
-                  called = h.are t.0 ∙ ap pends_in f.holds ∙ on;
-                };
-              })
-              (named_of s t f.holds) refl refl;
-          stands = record {
-            stands = rw st (running (async (its_body p told s callback.Handle v c))
-                (record {
-                  timers = l.timers;
-                  idle = l.idle;
-                  prepare = l.prepare;
-                  check = l.check;
-                  async = record {
-                    gone = [];
-                    behind = next.behind;
-                    all = refl;
-                    left = f.behind ∙ next.left;
-                    passed = tt;
-                    still = λ id behind was. pends_there s.arena.slots t.0 id t.1 (records.woken t.1) f.holds
-                        (apart s s.async.yet t id f distinct behind)
-                        ∙ a.still id (in_all s s.async.yet t id f behind) was;
-                  };
-                  closing = l.closing;
-                  done = l.done;
-                }));
-            counted = call_counted p told s callback.Handle v t.0 c;
-          };
-        })
+        (λ on. call_follows p told s (with_handle (front_moved s watcher.Async t.0) t.0 (records.woken t.1)) run run (In phase.Async) w t next.behind
+        refl
+        (record {
+          done = b;
+          passed = a.gone ++ next.passed;
+          list = all;
+          may_pass = passes;
+          may_call = record { on = next.on; called = h.are t.0 ∙ ap pends_in f.holds ∙ on };
+        }) f.holds refl refl c
+        (λ is. rw st (running (async is) (left_all l.timers l.idle l.prepare l.check (record {
+          gone = [];
+          behind = next.behind;
+          all = refl;
+          left = f.behind ∙ next.left;
+          passed = tt;
+          still = λ id behind was. pends_there s.arena.slots t.0 id t.1 (records.woken t.1) f.holds (apart s s.async.yet t id f distinct behind)
+              ∙ a.still id (in_all s s.async.yet t id f behind) was;
+        }) l.closing l.done))))
         (λ off. (
           record {
-            stands = running (async b) (record {
-              timers = l.timers;
-              idle = l.idle;
-              prepare = l.prepare;
-              check = l.check;
-              async = record {
-                gone = (a.gone ++ next.passed) ++ t.0 ∷ [];
-                behind = next.behind;
-                all = all ∙ sym (append_assoc (a.gone ++ next.passed) (t.0 ∷ []) next.behind);
-                left = f.behind ∙ next.left;
-                passed = pass_both w.off w.sent (a.gone ++ next.passed) (t.0 ∷ []) passes (unsent off, tt);
-                still = λ id behind was. a.still id (in_all s s.async.yet t id f behind) was;
-              };
-              closing = l.closing;
-              done = l.done;
-            });
+            stands = running (async b) (left_all l.timers l.idle l.prepare l.check (record {
+              gone = (a.gone ++ next.passed) ++ t.0 ∷ [];
+              behind = next.behind;
+              all = all ∙ sym (append_assoc (a.gone ++ next.passed) (t.0 ∷ []) next.behind);
+              left = f.behind ∙ next.left;
+              passed = pass_both w.off w.sent (a.gone ++ next.passed) (t.0 ∷ []) passes (unsent off, tt);
+              still = λ id behind was. a.still id (in_all s s.async.yet t id f behind) was;
+            }) l.closing l.done);
             counted = c;
           },
           refl,
@@ -502,15 +314,8 @@ done_follows p told s run w st k h g c l b = found_both (front_request s s.done.
     (λ t e. at t (request_front s s.done.yet t e))
     (λ e. let none : s.done.yet ≡ [] = no_request s HasEnded s.done.list s.done.yet g.ended e in
     begin_follows p told s run watcher.Async (Within (In phase.Done) w)
-    (record { done = b; may_pass = all_off w.ahead w.off (sym l.done ∙ none) }) async_next k h c (record {
-      timers = l.timers;
-      idle = l.idle;
-      prepare = l.prepare;
-      check = l.check;
-      async = l.async;
-      closing = l.closing;
-      done = none;
-    }))
+    (record { done = b; may_pass = all_off w.ahead w.off (sym l.done ∙ none) }) async_next k h c (left_all l.timers l.idle l.prepare l.check l.async
+    l.closing none))
   where
     at : (t : Id × Request) → FrontRequest s s.done.yet t → Follows p told (Running run.mode run.line (Within (In phase.Done) w)) s
         (calls p (record s {
@@ -535,15 +340,9 @@ done_follows p told s run w st k h g c l b = found_both (front_request s s.done.
               }) (ap (option_map name_in) f.holds)
               (ap (λ (o : Option Content). option_map (λ (r : Request). seen.After (digest_in r.outcome) v t.0) (request_in o)) f.holds) refl;
           stands = record {
-            stands = rw st (running (done (its_body p told s callback.After v c)) (record {
-              timers = l.timers;
-              idle = l.idle;
-              prepare = l.prepare;
-              check = l.check;
-              async = async_moved s.arena.slots _ (λ i on. ap pends_in (same t f i) ∙ on) (Within (In phase.Done) w) s.async.yet l.async;
-              closing = l.closing;
-              done = f.behind ∙ next.left;
-            }));
+            stands = rw st (running (done (its_body p told s callback.After v c)) (left_all l.timers l.idle l.prepare l.check
+                (async_moved s.arena.slots _ (λ i on. ap pends_in (same t f i) ∙ on) (Within (In phase.Done) w) s.async.yet l.async) l.closing
+                (f.behind ∙ next.left)));
             counted = call_counted p told s callback.After v t.0 c;
           };
         }
@@ -564,15 +363,7 @@ closing_follows p told s run w alive st k c l b = found_both (front s s.closing.
     (λ e. let each = each_back (Fits s.arena.slots Closes) s.closing.list s.closing.yet k.closing.lists.each in
     let none : s.closing.yet ≡ [] = no_front s Closes s.closing.yet each e in
     turn_follows p told s run BehindClosing (Within (In phase.Closing) w) alive refl
-    (record { done = b; may_pass = all_off w.ahead w.off (sym l.closing ∙ none) }) k c (record {
-      timers = l.timers;
-      idle = l.idle;
-      prepare = l.prepare;
-      check = l.check;
-      async = l.async;
-      closing = none;
-      done = l.done;
-    }))
+    (record { done = b; may_pass = all_off w.ahead w.off (sym l.closing ∙ none) }) k c (left_all l.timers l.idle l.prepare l.check l.async none l.done))
   where
     at : (t : Id × HandleRecord) → FrontOf s s.closing.yet t → Follows p told (Running run.mode run.line (Within (In phase.Closing) w)) s
         (calls p (record s {
@@ -596,15 +387,8 @@ closing_follows p told s run w alive st k c l b = found_both (front s s.closing.
                 };
               }) (named_of s t f.holds) refl refl;
           stands = record {
-            stands = rw st (running (closing (its_body p told s callback.Close v c)) (record {
-              timers = l.timers;
-              idle = l.idle;
-              prepare = l.prepare;
-              check = l.check;
-              async = l.async;
-              closing = f.behind ∙ next.left;
-              done = l.done;
-            }));
+            stands = rw st (running (closing (its_body p told s callback.Close v c)) (left_all l.timers l.idle l.prepare l.check l.async
+                (f.behind ∙ next.left) l.done));
             counted = call_counted p told s callback.Close v t.0 c;
           };
         }

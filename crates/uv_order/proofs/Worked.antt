@@ -1,7 +1,7 @@
 -- What the lines of a trace tell of requests, and how each change keeps it.
-use Rattle.std.proofs.Common.{◌≡◌, ◌⊎◌, inl, inr, ℕ, ◌||◌, List, ◌∷◌, Bool, true, false, Option, Some, None, option_map, refl, ap, sym, subst, ◌∙◌, if◌then◌else◌}
+use Rattle.std.proofs.Common.{arith, ◌≡◌, ◌⊎◌, inl, inr, ℕ, ◌||◌, List, ◌∷◌, Bool, true, false, Option, Some, None, option_map, refl, ap, sym, subst, ◌∙◌, if◌then◌else◌}
 use Rattle.std.proofs.Math.Bool.{or-true}
-use Rattle.std.proofs.lemmas.Bool.{both_ways, or_cases, false_from_ne_true}
+use Rattle.std.proofs.lemmas.Bool.{both_ways, or_right, or_cases, false_from_ne_true}
 use Rattle.std.proofs.lemmas.Option.{same_Some, none-some}
 use Rattle.uv_ids.specs.declared.id.Id.{Id}
 use Rattle.uv_ids.specs.declared.id.Var.{Var}
@@ -32,10 +32,10 @@ use Rattle.uv_order.proofs.Gone.{IsGone, not_held}
 -- ---- what is known
 
 -- what the lines tell of a request that ended
-abbrev pub EndsTrue : List Seen → Id → Task → Outcome → Type 0
-EndsTrue past id task Open = Unit {0}
-EndsTrue past id task (Finished digest) = SaysTrue past id task (Some digest)
-EndsTrue past id task Cancelled = SaysTrue past id task None
+abbrev pub EndsTrue : Program → List Seen → Id → Task → Outcome → Type 0
+EndsTrue p past id task Open = Unit {0}
+EndsTrue p past id task (Finished digest) = SaysTrue p past id task (Some digest)
+EndsTrue p past id task Cancelled = SaysTrue p past id task None
 
 -- it is held still, or its id is gone
 pub record IsAsked (arena : Slots Content) (id : Id) : Type 0 where
@@ -53,7 +53,7 @@ pub record Worked (p : Program) (past : List Seen) (arena : Slots Content) (wait
   pub finished : (id : Id) → has_finish_line past id ≡ true → has_take_line past id ≡ true
   pub waits : (id : Id) → has_id waiting id ≡ true → has_take_line past id ≡ false
   pub runs_now : (id : Id) → has_id runs id ≡ true → (has_take_line past id ≡ true) × (has_finish_line past id ≡ false)
-  pub ended : (id : Id) (r : Request) → asked_at arena.slots id ≡ Some r → EndsTrue past id r.task r.outcome
+  pub ended : (id : Id) (r : Request) → asked_at arena.slots id ≡ Some r → EndsTrue p past id r.task r.outcome
   pub cancelled : (id : Id) → has_cancel_line p past id ≡ true → queued_task p past id ≡ None → ⊥
   pub uncancelled : (id : Id) → has_id waiting id ≡ true → has_cancel_line p past id ≡ false
 
@@ -114,10 +114,10 @@ worked_told p past l arena waiting runs told q were away k = record {
   same_over : (id : Id) → has_after_line (l ∷ past) id ≡ has_after_line past id
   same_over id = rw (q.over id) refl
 
-  ends : (id : Id) (task : Task) (o : Outcome) → EndsTrue past id task o → EndsTrue (l ∷ past) id task o
+  ends : (id : Id) (task : Task) (o : Outcome) → EndsTrue p past id task o → EndsTrue p (l ∷ past) id task o
   ends id task Open e = tt
   ends id task (Finished digest) e = (same_take id ∙ e.0, same_finish id ∙ e.1, e.2)
-  ends id task Cancelled e = same_take id ∙ e
+  ends id task Cancelled e = (same_take id ∙ e.0, or_cancel id ∙ or_right (told id) (has_cancel_line p past id) e.1)
 
 pub worked_idle : (p : Program) (past : List Seen) (l : Seen) (arena : Slots Content) (waiting runs : List Id) → IsIdle p l →
     Worked p past arena waiting runs → Worked p (l ∷ past) arena waiting runs
@@ -149,22 +149,11 @@ worked_same p past arena more waiting runs f gone k = record {
 pub worked_fewer : (p : Program) (past : List Seen) (arena : Slots Content) (waiting runs few_waiting few_runs : List Id) →
     ((i : Id) → has_id few_waiting i ≡ true → has_id waiting i ≡ true) → ((i : Id) → has_id few_runs i ≡ true → has_id runs i ≡ true) →
     Worked p past arena waiting runs → Worked p past arena few_waiting few_runs
-worked_fewer p past arena waiting runs few_waiting few_runs f g k = record {
-  queued = k.queued;
-  known = k.known;
-  over = k.over;
-  taken = k.taken;
-  finished = k.finished;
-  waits = λ i e. k.waits i (f i e);
-  runs_now = λ i e. k.runs_now i (g i e);
-  ended = k.ended;
-  cancelled = k.cancelled;
-  uncancelled = λ i e. k.uncancelled i (f i e);
-}
+worked_fewer p past arena waiting runs few_waiting few_runs f g k = grind arith
 
 -- a request ends, as the lines tell
 pub worked_ended : (p : Program) (past : List Seen) (arena more : Slots Content) (waiting runs : List Id) (id : Id) (r x : Request) →
-    Turns arena.slots more.slots id (Some (content.Request r)) (Some (content.Request x)) → x.task ≡ r.task → EndsTrue past id x.task x.outcome →
+    Turns arena.slots more.slots id (Some (content.Request r)) (Some (content.Request x)) → x.task ≡ r.task → EndsTrue p past id x.task x.outcome →
     ((i : Id) → IsGone arena.slots arena.free i → IsGone more.slots more.free i) → Worked p past arena waiting runs →
     Worked p past more waiting runs
 worked_ended p past arena more waiting runs id r x t same_task ends gone k = record {
@@ -194,10 +183,10 @@ worked_ended p past arena more waiting runs id r x t same_task ends gone k = rec
     at true s = inl (record { request = x; holds = ap (asked_at more.slots) (same i id s) ∙ ap request_in t.here })
     at false s = inl (record { request = a.request; holds = ap request_in (t.others i (other i id s)) ∙ a.holds })
 
-  ended_now : (i : Id) (y : Request) → asked_at more.slots i ≡ Some y → (b : Bool) → same_id i id ≡ b → EndsTrue past i y.task y.outcome
+  ended_now : (i : Id) (y : Request) → asked_at more.slots i ≡ Some y → (b : Bool) → same_id i id ≡ b → EndsTrue p past i y.task y.outcome
   ended_now i y e true s =
-      subst (λ (j : Id). EndsTrue past j y.task y.outcome) (sym (same i id s))
-      (subst (λ (z : Request). EndsTrue past id z.task z.outcome) (its i y e s) ends)
+      subst (λ (j : Id). EndsTrue p past j y.task y.outcome) (sym (same i id s))
+      (subst (λ (z : Request). EndsTrue p past id z.task z.outcome) (its i y e s) ends)
   ended_now i y e false s = k.ended i y (sym (ap request_in (t.others i (other i id s))) ∙ e)
 
 -- ---- the lines of requests
@@ -232,16 +221,16 @@ worked_taken p past arena waiting runs rest more n v id r holds opened waits few
   runs_now i (inl is) = (rw (itself id i is) refl, ap (has_finish_line past) (sym is) ∙ unfinished)
   runs_now i (inr e) = let was = k.runs_now i e in (rw was.0 (or-true (same_id id i)), was.1)
 
-  ends : (i : Id) (y : Request) → asked_at arena.slots i ≡ Some y → (o : Outcome) → y.outcome ≡ o → EndsTrue past i y.task o →
-      EndsTrue (seen.Take n v id ∷ past) i y.task o
+  ends : (i : Id) (y : Request) → asked_at arena.slots i ≡ Some y → (o : Outcome) → y.outcome ≡ o → EndsTrue p past i y.task o →
+      EndsTrue p (seen.Take n v id ∷ past) i y.task o
   ends i y e Open f g = tt
   ends i y e (Finished digest) f g = (rw g.0 (or-true (same_id id i)), g.1, g.2)
-  ends i y e Cancelled f g = at (same_id id i) refl where
+  ends i y e Cancelled f g = (at (same_id id i) refl, g.1) where
     clash : ◌≡◌ {A = Bool} false true → ⊥
     clash c = cc c
 
     at : (b : Bool) → same_id id i ≡ b → (b || has_take_line past i) ≡ false
-    at false s = g
+    at false s = g.0
     at true s =
         let is : r ≡ y = same_Some _ _ (sym holds ∙ ap (asked_at arena.slots) (same id i s) ∙ e) in
         absurd (clash (sym (ap (λ (z : Request). is_open z.outcome) is ∙ ap is_open f) ∙ opened))
@@ -250,29 +239,7 @@ worked_taken p past arena waiting runs rest more n v id r holds opened waits few
 pub worked_finished : (p : Program) (past : List Seen) (arena : Slots Content) (waiting runs few : List Id) (n : ℕ) (v : Var) (id : Id) →
     has_id runs id ≡ true → ((i : Id) → has_id few i ≡ true → (has_id runs i ≡ true) × (same_id id i ≡ false)) →
     Worked p past arena waiting runs → Worked p (seen.Finish n v id ∷ past) arena waiting few
-worked_finished p past arena waiting runs few n v id on fewer k = record {
-  queued = k.queued;
-  known = k.known;
-  over = k.over;
-  taken = k.taken;
-  finished = λ i e. finished i (or_cases (same_id id i) (has_finish_line past i) e);
-  waits = k.waits;
-  runs_now = λ i e. let f = fewer i e in let was = k.runs_now i f.0 in (was.0, rw (f.1, was.1) refl);
-  ended = λ i y e. ends i y.task y.outcome (k.ended i y e);
-  cancelled = k.cancelled;
-  uncancelled = k.uncancelled;
-} where
-  finished : (i : Id) → (same_id id i ≡ true) ⊎ (has_finish_line past i ≡ true) → has_take_line past i ≡ true
-  finished i (inl s) = ap (has_take_line past) (sym (same id i s)) ∙ (k.runs_now id on).0
-  finished i (inr e) = k.finished i e
-
-  ends : (i : Id) (task : Task) (o : Outcome) → EndsTrue past i task o → EndsTrue (seen.Finish n v id ∷ past) i task o
-  ends i task Open g = tt
-  ends i task (Finished digest) g = (g.0, at (same_id id i), g.2) where
-    at : (b : Bool) → (b || has_finish_line past i) ≡ true
-    at true = refl
-    at false = g.1
-  ends i task Cancelled g = g
+worked_finished p past arena waiting runs few n v id on fewer k = grind arith
 
 -- a request is queued under an id that isn't gone and stands for nothing
 pub worked_queued : (p : Program) (past : List Seen) (place : Site) (v : Var) (task : Task) (arena more : Slots Content)
@@ -347,13 +314,13 @@ worked_queued p past place v task arena more waiting runs listed id e t fresh mo
   waits i (inr h) = k.waits i h
 
   ended_now : (i : Id) (y : Request) → asked_at more.slots i ≡ Some y → (b : Bool) → same_id i id ≡ b →
-      EndsTrue (seen.Op place (answer.Id id) ∷ past) i y.task y.outcome
-  ended_now i y h true s = subst (λ (z : Request). EndsTrue (seen.Op place (answer.Id id) ∷ past) i z.task z.outcome) (its i y h s) tt
+      EndsTrue p (seen.Op place (answer.Id id) ∷ past) i y.task y.outcome
+  ended_now i y h true s = subst (λ (z : Request). EndsTrue p (seen.Op place (answer.Id id) ∷ past) i z.task z.outcome) (its i y h s) tt
   ended_now i y h false s = lines i y.task y.outcome (k.ended i y (sym (ap request_in (t.others i (other i id s))) ∙ h)) where
-    lines : (j : Id) (x : Task) (o : Outcome) → EndsTrue past j x o → EndsTrue (seen.Op place (answer.Id id) ∷ past) j x o
+    lines : (j : Id) (x : Task) (o : Outcome) → EndsTrue p past j x o → EndsTrue p (seen.Op place (answer.Id id) ∷ past) j x o
     lines j x Open g = tt
     lines j x (Finished digest) g = g
-    lines j x Cancelled g = g
+    lines j x Cancelled g = (g.0, no_cancel j ∙ g.1)
 
 -- the request's after callback begins, and its slot is freed
 pub worked_collected : (p : Program) (past : List Seen) (arena more : Slots Content) (waiting runs : List Id) (digest : Option (List ℕ)) (v : Var)
@@ -387,14 +354,14 @@ worked_collected p past arena more waiting runs digest v id r t now gone k = rec
   over i (inl s) = subst (IsGone more.slots more.free) (same id i s) now
   over i (inr e) = gone i (k.over i e)
 
-  lines : (j : Id) (x : Task) (o : Outcome) → EndsTrue past j x o → EndsTrue (seen.After digest v id ∷ past) j x o
+  lines : (j : Id) (x : Task) (o : Outcome) → EndsTrue p past j x o → EndsTrue p (seen.After digest v id ∷ past) j x o
   lines j x Open g = tt
   lines j x (Finished d) g = g
   lines j x Cancelled g = g
 
 -- what the after callback of a request that ended says
-pub says_true : (past : List Seen) (id : Id) (task : Task) (o : Outcome) → is_open o ≡ false → EndsTrue past id task o →
-    SaysTrue past id task (digest_in o)
-says_true past id task Open e f = cc e
-says_true past id task (Finished digest) e f = f
-says_true past id task Cancelled e f = f
+pub says_true : (p : Program) (past : List Seen) (id : Id) (task : Task) (o : Outcome) → is_open o ≡ false → EndsTrue p past id task o →
+    SaysTrue p past id task (digest_in o)
+says_true p past id task Open e f = cc e
+says_true p past id task (Finished digest) e f = f
+says_true p past id task Cancelled e f = f

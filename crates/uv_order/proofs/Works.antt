@@ -1,6 +1,6 @@
 -- The requests: those that wait for a worker or are run by one are open, those that are done are ended; none stands twice, and no other
 -- request is held.
-use Rattle.std.proofs.Common.{◌≡◌, ℕ, zero, suc, ◌||◌, List, [], ◌∷◌, ◌++◌, Bool, true, false, Option, Some, None, slice_get, slice_set, replicate, refl, ap, sym, subst, ◌∙◌, append_assoc, append-nil}
+use Rattle.std.proofs.Common.{arith, ◌≡◌, ℕ, zero, suc, ◌||◌, List, [], ◌∷◌, ◌++◌, Bool, true, false, Option, Some, None, slice_get, slice_set, replicate, refl, ap, sym, subst, ◌∙◌, append_assoc, append-nil}
 use Rattle.std.specs.List.{list_any}
 use Rattle.std.proofs.lemmas.Bool.{both_ways, false_from_ne_true}
 use Rattle.std.proofs.lemmas.Option.{same_Some}
@@ -47,12 +47,7 @@ SameRequests more slots = (i : Id) → asked_at more i ≡ asked_at slots i
 -- one id turns, which stands for no request before and after
 pub same_requests : (slots more : List (Slot Content)) (id : Id) (was is : Option Content) → Turns slots more id was is → request_in was ≡ None →
     request_in is ≡ None → SameRequests more slots
-same_requests slots more id was is t e f i = at (same_id i id) refl where
-  at : (b : Bool) → same_id i id ≡ b → asked_at more i ≡ asked_at slots i
-  at true s =
-      let here = same i id s in
-      ap (asked_at more) here ∙ ap request_in t.here ∙ f ∙ sym (ap (asked_at slots) here ∙ ap request_in t.before ∙ e)
-  at false s = ap request_in (t.others i (other i id s))
+same_requests slots more id was is t e f i = grind arith
 
 -- the record of a handle changes
 pub same_put : (slots : List (Slot Content)) (id : Id) (h x : HandleRecord) → held_at slots id ≡ Some h → SameRequests (put slots id x) slots
@@ -79,10 +74,7 @@ has_middle (x ∷ xs) ys id i d = ap (λ (b : Bool). same_id x i || b) (has_midd
 -- where none stands twice, it stands nowhere else
 pub once_middle : (xs ys : List Id) (id : Id) → AreDistinct (xs ++ id ∷ ys) → has_id (xs ++ ys) id ≡ false
 once_middle [] ys id d = d.0
-once_middle (x ∷ xs) ys id d = rw (apart, once_middle xs ys id d.1) refl where
-  apart : same_id x id ≡ false
-  apart = false_from_ne_true (same_id x id) (λ s.
-      both_ways (has_id (xs ++ id ∷ ys) x) d.0 (ap (has_id (xs ++ id ∷ ys)) (same x id s) ∙ has_new_middle xs ys id))
+once_middle (x ∷ xs) ys id d = grind (arith, false_from_ne_true, same, has_new_middle, once_middle xs ys id d.1)
 
 -- one that doesn't fit any more leaves
 pub less_middle : (slots more : List (Slot Content)) (P : Request → Type 0) (id : Id) (was is : Option Content) (xs ys : List Id) →

@@ -23,6 +23,12 @@ abbrev pub AreDistinct : List Id → Type 0
 AreDistinct [] = Unit {0}
 AreDistinct (id ∷ ids) = (has_id ids id ≡ false) × AreDistinct ids
 
+-- these are all of which this holds, and no others, and none twice
+pub record AreAll (P : Id → Type 0) (ids : List Id) : Type 0 where
+  pub each : (id : Id) → has_id ids id ≡ true → P id
+  pub all : (id : Id) → P id → has_id ids id ≡ true
+  pub distinct : AreDistinct ids
+
 -- ---- watchers
 
 -- the id is that of an active handle of this kind
@@ -32,11 +38,9 @@ pub record IsActive (s : State) (k : Kind) (id : Id) : Type 0 where
   pub kind : its.kind ≡ k
   pub active : its.active ≡ true
 
--- these are the active handles of this kind, all of them and no others, and none twice
-pub record AreActive (s : State) (k : Kind) (ids : List Id) : Type 0 where
-  pub each : (id : Id) → has_id ids id ≡ true → IsActive s k id
-  pub all : (id : Id) → IsActive s k id → has_id ids id ≡ true
-  pub distinct : AreDistinct ids
+-- these are the active handles of this kind
+abbrev pub AreActive : State → Kind → List Id → Type 0
+AreActive s k ids = AreAll (IsActive s k) ids
 
 -- ---- closing handles
 
@@ -46,11 +50,8 @@ pub record IsClosing (s : State) (id : Id) : Type 0 where
   pub holds : handle s id ≡ Some its
   pub closing : its.closing ≡ true
 
--- these are all of them and no others, and none twice
-pub record AreClosing (s : State) (ids : List Id) : Type 0 where
-  pub each : (id : Id) → has_id ids id ≡ true → IsClosing s id
-  pub all : (id : Id) → IsClosing s id → has_id ids id ≡ true
-  pub distinct : AreDistinct ids
+abbrev pub AreClosing : State → List Id → Type 0
+AreClosing s ids = AreAll (IsClosing s) ids
 
 -- ---- requests
 
@@ -60,11 +61,8 @@ pub record IsEnded (s : State) (id : Id) : Type 0 where
   pub holds : request s id ≡ Some its
   pub ended : is_open its.outcome ≡ false
 
--- these are all of them and no others, and none twice
-pub record AreEnded (s : State) (ids : List Id) : Type 0 where
-  pub each : (id : Id) → has_id ids id ≡ true → IsEnded s id
-  pub all : (id : Id) → IsEnded s id → has_id ids id ≡ true
-  pub distinct : AreDistinct ids
+abbrev pub AreEnded : State → List Id → Type 0
+AreEnded s ids = AreAll (IsEnded s) ids
 
 -- the requests that workers run
 abbrev pub run_ids : List (Option Id) → List Id
@@ -78,11 +76,8 @@ pub record IsOpened (s : State) (id : Id) : Type 0 where
   pub holds : request s id ≡ Some its
   pub opened : is_open its.outcome ≡ true
 
--- these are all of them and no others, and none twice
-pub record AreOpened (s : State) (ids : List Id) : Type 0 where
-  pub each : (id : Id) → has_id ids id ≡ true → IsOpened s id
-  pub all : (id : Id) → IsOpened s id → has_id ids id ≡ true
-  pub distinct : AreDistinct ids
+abbrev pub AreOpened : State → List Id → Type 0
+AreOpened s ids = AreAll (IsOpened s) ids
 
 -- ---- timers
 

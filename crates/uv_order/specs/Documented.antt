@@ -32,7 +32,7 @@ use Rattle.uv_work.specs.declared.request.Request.{Request}
 use Rattle.uv_work.specs.Requests.{digest_in}
 use Rattle.uv_model.specs.Ids.{has_some, without_id}
 use Rattle.uv_model.specs.State.{State, request}
-use Rattle.uv_model.specs.Timeout.{deadline_of, has_passed}
+use Rattle.uv_model.specs.Timeout.{deadline_of, has_passed, has_pending}
 use Rattle.uv_order.specs.Line.{Line}
 use Rattle.uv_order.specs.Once.{bound, made_as}
 use Rattle.uv_order.specs.Alive.{lives, may_wait}
@@ -277,6 +277,7 @@ HasList phase.Closing l ids = (ids ≡ l.before.closing.list) × AreClosing l.be
 abbrev pub off_by : Phase → Op → Option Var
 off_by phase.Done o = None
 off_by phase.Closing o = None
+off_by phase.Async (op.Stop v) = None
 off_by word (op.Stop v) = Some v
 off_by word (op.Close v) = Some v
 off_by phase.Timers (op.Start v timeout repeat) = Some v
@@ -368,7 +369,7 @@ part_of (Polling deadline) = Poll
 abbrev pub MayLeave : State → Told → Standing → Type 0
 MayLeave s told Begun = Unit {0}
 MayLeave s told (Within part w) = IsOver (word_of part) w
-MayLeave s told (Polling deadline) = (has_passed s.clock deadline || (has_some s.done.list || has_some told.sent)) ≡ true
+MayLeave s told (Polling deadline) = (has_passed s.clock deadline || (has_some s.done.list || (has_some told.sent && has_pending s))) ≡ true
 
 -- the poll may wait so long, by the active timers as the handles say
 pub record PollsFor (s : State) (m : Mode) (timeout : Option ℕ) : Type 0 where
@@ -458,10 +459,12 @@ pub data Goes (p : Program) (told : Told) (names : Names) : Position → Line �
       → Goes p told names at l at
   taken : {l : Line} {at : Position} (k : ℕ) (v : Var) (id : Id)
       → l.seen ≡ seen.Take k v id
+      → (made : names.made id ≡ Some v)
       → lasting l.after ≡ lasting l.before
       → Goes p told names at l at
   finished : {l : Line} {at : Position} (k : ℕ) (v : Var) (id : Id)
       → l.seen ≡ seen.Finish k v id
+      → (made : names.made id ≡ Some v)
       → lasting l.after ≡ lasting l.before
       → Goes p told names at l at
   cancelled : {l : Line} {at : Position} (v : Var) (a : Answer)

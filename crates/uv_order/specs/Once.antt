@@ -139,22 +139,6 @@ abbrev pub has_after_line : List Seen → Id → Bool
 has_after_line [] id = false
 has_after_line (l ∷ past) id = is_after_line l id || has_after_line past id
 
--- what an after callback says: with ECANCELED no worker took the request; else one took it and then finished it, and the digest is that of
--- the task that was queued
-abbrev pub SaysTrue : List Seen → Id → Task → Option (List ℕ) → Type 0
-SaysTrue past id task None = has_take_line past id ≡ false
-SaysTrue past id task (Some digest) =
-    (has_take_line past id ≡ true) × (has_finish_line past id ≡ true) × (digest ≡ digest_of task.rounds (text_of task))
-
--- an after callback of a request: it was queued, it has had none, and what it says is true
-pub record CallsBack (p : Program) (past : List Seen) (digest : Option (List ℕ)) (id : Id) : Type 0 where
-  pub task : Task
-  pub queued : queued_task p past id ≡ Some task
-  pub first : has_after_line past id ≡ false
-  pub says : SaysTrue past id task digest
-
--- ---- cancels
-
 -- a cancel of the request was accepted, by an op or from outside: its answer is the request's id
 abbrev pub cancels : Op → Answer → Id → Bool
 cancels (op.Cancel v) (answer.Cancelled i) id = same_id i id
@@ -171,6 +155,22 @@ is_cancel_line p l id = cancelled_by (answered p l) id
 abbrev pub has_cancel_line : Program → List Seen → Id → Bool
 has_cancel_line p [] id = false
 has_cancel_line p (l ∷ past) id = is_cancel_line p l id || has_cancel_line p past id
+
+-- what an after callback says: with ECANCELED no worker took the request, and a cancel of it was accepted; else one took it and then finished
+-- it, and the digest is that of the task that was queued
+abbrev pub SaysTrue : Program → List Seen → Id → Task → Option (List ℕ) → Type 0
+SaysTrue p past id task None = (has_take_line past id ≡ false) × (has_cancel_line p past id ≡ true)
+SaysTrue p past id task (Some digest) =
+    (has_take_line past id ≡ true) × (has_finish_line past id ≡ true) × (digest ≡ digest_of task.rounds (text_of task))
+
+-- an after callback of a request: it was queued, it has had none, and what it says is true
+pub record CallsBack (p : Program) (past : List Seen) (digest : Option (List ℕ)) (id : Id) : Type 0 where
+  pub task : Task
+  pub queued : queued_task p past id ≡ Some task
+  pub first : has_after_line past id ≡ false
+  pub says : SaysTrue p past id task digest
+
+-- ---- cancels
 
 -- a cancel is accepted: of the request that its name is bound to, which was queued, which no worker took, which wasn't cancelled before, and
 -- which has had no after callback
@@ -199,7 +199,8 @@ OpSays p past o a = Unit {0}
 abbrev pub MayFollow : Program → List Seen → Seen → Type 0
 MayFollow p past (seen.Call v id) = was_closed p past id ≡ false
 MayFollow p past (seen.Closed v id) = (was_closed p past id ≡ true) × (has_closed_line past id ≡ false)
-MayFollow p past (seen.Take k v id) = (has_take_line past id ≡ false) × (has_after_line past id ≡ false)
+MayFollow p past (seen.Take k v id) =
+    (has_take_line past id ≡ false) × (has_after_line past id ≡ false) × (has_cancel_line p past id ≡ false)
 MayFollow p past (seen.Finish k v id) = (has_take_line past id ≡ true) × (has_finish_line past id ≡ false)
 MayFollow p past (seen.After digest v id) = CallsBack p past digest id
 MayFollow p past (seen.Op place a) = OpSays p past (op_at p place) a

@@ -9,7 +9,7 @@ ghost use Rattle.uv_order.specs.Once.{Once};
 /// accepted `close`, and is not called behind that; and each request has at most one line `after`, behind its `queue`, with ECANCELED
 /// where no worker took it, else with the digest of what was queued, behind one `out take` and one `out finish` line. A cancel that is
 /// accepted has the id of a queued request that no worker took. It does nothing, and is called for its clause.
-#[tactic(auto, using(crate::proofs::ClosesOnce::once))]
+#[tactic(auto, using(crate::proofs::Documents::once))]
 pub fn closes_once()
     ensures { (p : Program) (es : List Event) → Once p (lines p es) }
 {}

@@ -9,7 +9,7 @@ ghost use Rattle.uv_order.specs.PoolEvents.{pool_events, pool_of};
 /// For every script and every list of steps, the events of the thread pool that the lines say can be one after another by its rules, and
 /// the pool after them is that of the state: so a log of these events stands for the steps. It does nothing, and is called for its
 /// clause.
-#[tactic(auto, using(crate::proofs::Pooling::pools))]
+#[tactic(auto, using(crate::proofs::Documents::pools))]
 pub fn pool_follows()
     ensures { (p : Program) (es : List Event) → replay (worker_count p) (pool_events p (lines p es)) ≡ Some (pool_of (after p es)) }
 {}

@@ -1,6 +1,9 @@
 //! The book under its lock.
 ghost use Rattle.std.specs.Prelude.{◌≡◌, ◌+◌, ◌<◌, IfOk, IfErr, cond, is_ok};
 ghost use Rattle.uv_pool.specs.Benches.{IsEnrolFault, IsTakeFault, IsFinishFault};
+ghost use Rattle.std.specs.Prelude.{◌⊎◌, true, length, IfSome, IfNone, Some, []};
+ghost use Rattle.uv_pool.specs.Calls.{run_at};
+ghost use Rattle.std.specs.Sync.Mutex.{mutex_guard_value};
 
 use crate::book::PoolBook;
 use std::sync::ledger::{Ledger, Share};
@@ -49,16 +52,23 @@ impl<L: Ledger> LockedBook<L> {
         self.book.lock(rt)
     }
 
-    /// Waits until the log is longer than n, or the book closed.
-    pub fn wait_past<R: Wait>(&self, rt: &R, n: usize) {
+    /// Waits until the log is longer than n, or the book closed, and gives the lock.
+    fn past<R: Wait>(&self, rt: &R, n: usize) -> MutexGuard<'_, PoolBook<L>>
+        ensures { (n < length (mutex_guard_value result).hold.contents.log) ⊎ ((mutex_guard_value result).rest.closed ≡ true) }
+    {
         let mut guard = self.book.lock(rt);
         for _ in rt.forever() {
             if guard.log().len() > n || guard.closed() {
-                return;
+                return guard;
             }
             guard = self.grown.wait(rt, guard);
         }
         unreachable!()
+    }
+
+    /// Waits until the log is longer than n, or the book closed.
+    pub fn wait_past<R: Wait>(&self, rt: &R, n: usize) {
+        drop(self.past(rt, n));
     }
 
     /// Waits until a job was finished past the log's first n entries, or the book closed.
@@ -97,27 +107,39 @@ impl<L: Ledger> LockedBook<L> {
         self.book.lock(rt).enrol_worker(k)
     }
 
-    /// Gives a worker a job; waits while nothing waits and the book is open.
-    pub(crate) fn take<R: Wait>(&self, rt: &R, k: u16) -> Result<Option<Job>, Fault>
-        ensures { IfErr result IsTakeFault }
+    /// Gives a worker a job; waits while nothing waits and the book is open. The lock is still held.
+    fn taken<R: Wait>(
+        &self,
+        rt: &R,
+        k: u16,
+    ) -> (Result<Option<Job>, Fault>, MutexGuard<'_, PoolBook<L>>)
+        ensures faults { IfErr result.0 IsTakeFault }
+        ensures runs { IfOk result.0 (λ given. IfSome given (λ job. run_at (mutex_guard_value result.1).hold k ≡ Some (Some job))) }
+        ensures closed { IfOk result.0 (λ given. IfNone given ((mutex_guard_value result.1).rest.closed ≡ true)) }
+        ensures over { IfOk result.0 (λ given. IfNone given ((mutex_guard_value result.1).hold.contents.waiting ≡ [])) }
     {
         let mut guard = self.book.lock(rt);
         for _ in rt.forever() {
             match guard.take(k) {
-                Ok(Some(job)) => {
-                    drop(guard);
-                    self.grown.notify_all();
-                    return Ok(Some(job));
-                }
+                Ok(Some(job)) => return (Ok(Some(job)), guard),
                 Ok(None) => {}
-                Err(fault) => return Err(fault),
+                Err(fault) => return (Err(fault), guard),
             }
             if guard.closed() {
-                return Ok(None);
+                return (Ok(None), guard);
             }
             guard = self.queued.wait(rt, guard);
         }
         unreachable!()
+    }
+
+    pub(crate) fn take<R: Wait>(&self, rt: &R, k: u16) -> Result<Option<Job>, Fault>
+        ensures { IfErr result IsTakeFault }
+    {
+        let (answer, guard) = self.taken(rt, k);
+        drop(guard);
+        self.grown.notify_all();
+        answer
     }
 
     pub(crate) fn finish<R: Wait>(

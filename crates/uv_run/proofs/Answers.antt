@@ -21,7 +21,7 @@ use Rattle.uv_model.specs.After.{after, refusal_of}
 use Rattle.uv_session.specs.Shown.{Shown, Responds, TakesEvent, TakesResult}
 use Rattle.uv_order.specs.PoolEvents.{pool_of}
 use Rattle.uv_order.specs.Taking.{IsTakenAs}
-use Rattle.uv_order.proofs.Pooling.{pools}
+use Rattle.uv_order.proofs.Documents.{pools}
 use Rattle.uv_order.proofs.Taking.{take_is_taken, finish_is_taken}
 use Rattle.uv_live.specs.Course.{Course, stepped}
 use Rattle.uv_live.specs.Following.{Applies, StaysEnded}

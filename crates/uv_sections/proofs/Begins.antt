@@ -7,34 +7,24 @@ use Rattle.uv_records.specs.Walks.{Walk, all_yet}
 use Rattle.uv_arena.specs.declared.undo.SpliceUndo.{SpliceUndo}
 use Rattle.uv_arena.specs.Calls.{IsSpliced}
 use Rattle.uv_arena.specs.Image as arena
-use Rattle.uv_arena.specs.Image.{IsSound}
 use Rattle.uv_watch.specs.Watch as watch
 use Rattle.uv_requests.specs.Calls as work
 use Rattle.uv_model.specs.declared.place.Place.{Place}
 use Rattle.uv_model.specs.State.{State, watched, with_watched, refreshed}
-use Rattle.uv_step.specs.Change as change
-use Rattle.uv_step.specs.declared.record.Polled.{Polled}
-use Rattle.uv_step.specs.Record.{Record}
 use Rattle.uv_work.specs.Content.{request_of}
-use Rattle.uv_step.specs.Image.{Image, Held, working_of}
-use Rattle.uv_step.specs.Undo.{Recorded}
+use Rattle.uv_step.specs.Image.{Image, working_of, OnlySlots}
 use Rattle.uv_stands.specs.Stands.{StandsFor}
 use Rattle.uv_stands.proofs.Lists.{Listed, all_but_two}
 use Rattle.uv_stands.proofs.Pools.{ids_moved}
-use Rattle.uv_sections.proofs.Keeping.{begun_keeps, begun_time, polled_keeps, sections_kept, all_timers, listed_as, stands_then}
+use Rattle.uv_sections.proofs.Keeping.{sections_kept, all_timers, listed_as, stands_then}
 use Rattle.uv_sections.proofs.Watched.{list_is, list_now, yet_now, others_stay, arena_stays, time_stays, state_stays, beside_closing, beside_done}
+use Rattle.uv_stands.proofs.Single.{clock_is, time_is}
 
-module _ (r : Record Place) (h k : Held Place) (recorded : Recorded r h k) (sound : IsSound k.image.arena) where
-  abbrev i : Image Place
-  i = h.image
-
-  abbrev j : Image Place
-  j = k.image
-
+module _ (i j : Image Place) where
   -- a section of watchers
-  pub walk_begun : (w : WatcherKind) (u : SpliceUndo) → r.change ≡ change.Begun u → watch.IsBegun i.arena j.arena w u
+  pub walk_begun : OnlySlots i j → (w : WatcherKind) (u : SpliceUndo) → watch.IsBegun i.arena j.arena w u
       → (s : State) → StandsFor i s → StandsFor j (with_watched s w (all_yet (watched s w)))
-  walk_begun w u is b s st =
+  walk_begun frame w u b s st =
       let q = all_yet (watched s w) in
       let t = with_watched s w q in
       let ids = ids_moved i.arena j.arena b.slots.plain in
@@ -43,38 +33,38 @@ module _ (r : Record Place) (h k : Held Place) (recorded : Recorded r h k) (soun
       let there : Listed j.arena t (yet_of w) =
       listed_as i.arena j.arena t (yet_of w) (watched s w).list (arena.members i.arena (list_of w)) ids
       (sym (list_is s w) ∙ st.lists (list_of w)) (yet_now s w q) (ap (λ (x : Walk ℕ). x.yet) b.walk) in
-      stands_then i j s t st (begun_keeps u r h k recorded is) (state_stays s w q) (begun_time u r h k recorded is ∙ st.time ∙ sym (time_stays s w q))
+      stands_then i j s t st frame (state_stays s w q) ((time_is st) ∙ sym (time_stays s w q))
       (b.slots.plain ∙ st.slots ∙ sym (arena_stays s w q))
       (all_but_two i s st j.arena t ids (list_of w) (yet_of w) b.others (others_stay s w q) here there)
-      (all_timers i.arena j.arena s.timers ids) sound recorded.fit
+      (all_timers i.arena j.arena s.timers ids)
 
   -- the closing section
-  pub closing_begun : (u : SpliceUndo) → r.change ≡ change.Begun u → IsSpliced i.arena j.arena name.Closing name.ClosingYet u
+  pub closing_begun : OnlySlots i j → (u : SpliceUndo) → IsSpliced i.arena j.arena name.Closing name.ClosingYet u
       → (s : State) → StandsFor i s → StandsFor j (record s { closing = all_yet s.closing })
-  closing_begun u is b s st =
+  closing_begun frame u b s st =
       let q = all_yet s.closing in
       let t : State = record s { closing = q } in
       let ids = ids_moved i.arena j.arena b.slots.plain in
       let here : Listed j.arena t name.Closing = listed_as i.arena j.arena t name.Closing [] [] ids refl refl (b.rest (λ e. cc)) in
       let there : Listed j.arena t name.ClosingYet =
       listed_as i.arena j.arena t name.ClosingYet s.closing.list (arena.members i.arena name.Closing) ids (st.lists name.Closing) refl b.moved in
-      stands_then i j s t st (begun_keeps u r h k recorded is) (sections_kept s s.arena s.idle s.prepare s.check s.async q s.done s.time)
-      (begun_time u r h k recorded is ∙ st.time) (b.slots.plain ∙ st.slots)
+      stands_then i j s t st frame (sections_kept s s.arena s.idle s.prepare s.check s.async q s.done s.time)
+      (time_is st) (b.slots.plain ∙ st.slots)
       (all_but_two i s st j.arena t ids name.Closing name.ClosingYet b.others (beside_closing s s.arena s.time q) here there)
-      (all_timers i.arena j.arena s.timers ids) sound recorded.fit
+      (all_timers i.arena j.arena s.timers ids)
 
   -- the done section, at the end of a poll: the loop's time is that of the clock
-  pub done_begun : (u : Polled) → r.change ≡ change.Polled u → j.times.time ≡ i.clock
-      → work.IsBegun request_of (working_of i) (working_of j) u.spliced
+  pub done_begun : j ≡ record i { arena = j.arena; times = record i.times { time = i.clock } } → (u : SpliceUndo)
+      → work.IsBegun request_of (working_of i) (working_of j) u
       → (s : State) → StandsFor i s → StandsFor j (record (refreshed s) { done = all_yet s.done })
-  done_begun u is time b s st =
+  done_begun frame u b s st =
       let q = all_yet s.done in
       let t : State = record (refreshed s) { done = q } in
       let ids = ids_moved i.arena j.arena b.slots.plain in
       let here : Listed j.arena t name.Done = listed_as i.arena j.arena t name.Done [] [] ids refl refl b.done in
       let there : Listed j.arena t name.DoneYet =
       listed_as i.arena j.arena t name.DoneYet s.done.list (arena.members i.arena name.Done) ids (st.lists name.Done) refl b.yet in
-      stands_then i j s t st (polled_keeps u r h k recorded is) (sections_kept s s.arena s.idle s.prepare s.check s.async s.closing q s.clock)
-      (time ∙ st.clock) (b.slots.plain ∙ st.slots)
+      stands_then i j s t st frame (sections_kept s s.arena s.idle s.prepare s.check s.async s.closing q s.clock)
+      (clock_is st) (b.slots.plain ∙ st.slots)
       (all_but_two i s st j.arena t ids name.Done name.DoneYet b.others (beside_done s s.arena s.clock q) here there)
-      (all_timers i.arena j.arena s.timers ids) sound recorded.fit
+      (all_timers i.arena j.arena s.timers ids)

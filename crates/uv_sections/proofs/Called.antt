@@ -31,14 +31,13 @@ use Rattle.uv_stands.specs.Ready.{IsReady}
 use Rattle.uv_stands.specs.Stands.{StandsFor}
 use Rattle.uv_sections.specs.Gone.{RequestGone, HandleGone}
 use Rattle.uv_sections.specs.Moved.{HandleMoved, moved_state}
-use Rattle.uv_stands.proofs.Renaming.{names_stay}
 use Rattle.uv_sections.proofs.Moves.{calls_all}
 
 -- how often it was called is what it was before the change
 pub few_calls : (r : Record Place) (h k : Held Place) → IsReady h → Recorded r h k → (kind : Callback) (v : Var)
     → count_of kind (named k.image.names v.0).calls < 2 ^ 31
 few_calls r h k ready recorded kind v =
-    subst (λ ns. count_of kind (named ns v.0).calls < 2 ^ 31) (sym (names_stay recorded)) (ready.calls v.0 kind)
+    subst (λ ns. count_of kind (named ns v.0).calls < 2 ^ 31) (sym recorded.names) (ready.calls v.0 kind)
 
 -- a callback begins in each state that the memory stands for
 abbrev pub Begins : Program → Run → Callback → Var → Image Place → Image Place → Type 0

@@ -9,12 +9,13 @@ use Rattle.uv_model.specs.declared.place.Run.{Run}
 use Rattle.uv_model.specs.declared.place.Place.{Place}
 use Rattle.uv_model.specs.declared.place.Place.TheVariants.{Running}
 use Rattle.uv_model.specs.State as state
-use Rattle.uv_model.specs.State.{State, with_named, with_handle}
+use Rattle.uv_model.specs.State.{State, with_named}
 use Rattle.uv_model.specs.Next.{Moves, calls, body_from}
 use Rattle.uv_records.specs.Names.{named, calling, count_of, counted}
 use Rattle.uv_step.specs.Image.{Image, standing}
 use Rattle.uv_stands.specs.Stands.{StandsFor}
 use Rattle.uv_stands.proofs.Values.{called_stands, count_after, placed}
+use Rattle.uv_stands.proofs.Single.{names_is}
 
 module _ (i m k : Image Place) (p : Program) (run : Run) (kind : Callback) (v : Var) (n : ℕ) (b : Option Body)
     (count : n ≡ count_of kind (named i.names v.0).calls + 1) (one : m ≡ record i { names = calling v.0 kind n i.names })
@@ -33,7 +34,7 @@ module _ (i m k : Image Place) (p : Program) (run : Run) (kind : Callback) (v : 
       let m' : Image Place = record i { names = calling v.0 kind (count_of kind (named i.names v.0).calls + 1) i.names } in
       let one_more : m ≡ m' = one ∙ ap (λ x. (let z : Image Place = record i { names = calling v.0 kind x i.names } in z)) count in
       let which : n ≡ count_of kind (counted kind calls) =
-      count ∙ ap (λ ns. count_of kind (named ns v.0).calls + 1) h.names ∙ sym (count_after kind calls) in
+      count ∙ ap (λ ns. count_of kind (named ns v.0).calls + 1) (names_is h) ∙ sym (count_after kind calls) in
       let there : b ≡ body_from p kind v (count_of kind (counted kind calls)) 0 = body ∙ ap (λ x. body_from p kind v x 0) which in
       subst (λ q. StandsFor q (begun s)) (sym (stands ∙ (λ l. standing (Running (record run { body = there l })) (one_more l))))
       (placed m' _ (begun s).place (called_stands i s v kind h))

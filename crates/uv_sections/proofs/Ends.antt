@@ -9,33 +9,33 @@ use Rattle.uv_records.specs.declared.lists.ListName.TheVariants as name
 use Rattle.uv_records.specs.Slots.{freed}
 use Rattle.uv_records.specs.Walks.{without}
 use Rattle.uv_arena.specs.Image as arena
-use Rattle.uv_arena.specs.Image.{IsSound, plain_slots}
+use Rattle.uv_arena.specs.Image.{plain_slots}
 use Rattle.uv_handle.specs.declared.undo.TakeUndo.{TakeUndo}
 use Rattle.uv_handle.specs.Changes.{IsTaken}
 use Rattle.uv_work.specs.declared.request.Request.{Request}
 use Rattle.uv_requests.specs.declared.undo.CollectWorkUndo.{CollectWorkUndo}
 use Rattle.uv_requests.specs.Calls.{IsCollected}
-use Rattle.uv_requests.specs.Working.{id_in}
+use Rattle.uv_requests.specs.Working.{Working, id_in}
 use Rattle.uv_model.specs.declared.place.Place.{Place}
 use Rattle.uv_model.specs.Content as model
 use Rattle.uv_model.specs.Ids.{same_id}
 use Rattle.uv_model.specs.State.{State, with_id, front_request}
 use Rattle.uv_order.specs.Active.{IsTimer, has_id}
 use Rattle.uv_order.specs.Reached.{IsReached}
+use Rattle.uv_work.specs.declared.content.Content.{Content}
 use Rattle.uv_work.specs.declared.content.Content.TheVariants.{Handle, Request as Asked}
-use Rattle.uv_step.specs.Record.{Record}
 use Rattle.uv_work.specs.Content.{handle_of, request_of}
-use Rattle.uv_step.specs.Does.{FirstIs, closed_by, ended_by}
-use Rattle.uv_step.specs.Image.{Image, Held, counted_of, working_of}
-use Rattle.uv_step.specs.Undo.{Recorded}
+use Rattle.uv_step.specs.Does.{FirstIs}
+use Rattle.uv_step.specs.Image.{Image, counted_of, working_of, OnlyHandles, OnlyWork}
 use Rattle.uv_stands.specs.Stands.{StandsFor}
 use Rattle.uv_stands.proofs.Lists.{list_is}
 use Rattle.uv_stands.proofs.Pools.{asked_there, first_one, front_there}
 use Rattle.uv_sections.specs.Gone.{RequestGone, HandleGone}
-use Rattle.uv_sections.proofs.Keeping.{ended_keeps, ended_time, closed_keeps, closed_time, sections_kept, stands_then}
+use Rattle.uv_sections.proofs.Keeping.{touched, sections_kept, stands_then}
 use Rattle.uv_sections.proofs.Frees.{freed_slots, freed_lists, freed_timers}
 use Rattle.uv_sections.proofs.Firsts.{front_is}
 use Rattle.uv_sections.proofs.Watched.{beside_closing_yet, beside_done_yet}
+use Rattle.uv_stands.proofs.Single.{time_is}
 
 -- an id in the middle of a list is on it
 itself : (d : Id) → same_id d d ≡ true
@@ -48,17 +48,10 @@ in_middle (x ∷ xs) ys d = at (same_id x d) (in_middle xs ys d) where
   at true on = refl
   at false on = on
 
-module _ (r : Record Place) (h k : Held Place) (last : ℕ) (so : h.image.arena.last ≡ last) (recorded : Recorded r h k) (sound : IsSound k.image.arena)
-    (d : Id) where
-  abbrev i : Image Place
-  i = h.image
-
-  abbrev j : Image Place
-  j = k.image
-
+module _ (i j : Image Place) (last : ℕ) (so : i.arena.last ≡ last) (d : Id) where
   -- ---- a request
 
-  module _ (q : Request) (u : CollectWorkUndo) (is : r.change ≡ ended_by q u)
+  module _ (frame : OnlyWork i j) (q : Request) (u : CollectWorkUndo)
       (c : IsCollected request_of Asked (working_of i) (working_of j) d q u) where
     off_done : (l : ListName) → arena.members j.arena l ≡ without eqb (arena.members i.arena l) d.slot
     off_done l = elim (list_is l name.DoneYet) [
@@ -69,6 +62,11 @@ module _ (r : Record Place) (h k : Held Place) (last : ℕ) (so : h.image.arena.
     freed_done : plain_slots j.arena ≡ freed last d (plain_slots i.arena)
     freed_done = c.plain ∙ ap (λ n. freed n d (plain_slots i.arena)) so
 
+    kept : j ≡ touched i j.arena i.active j.running.count i.times.time
+    kept =
+        let workers : j.running.workers ≡ i.running.workers = ap (λ (z : Working Content). z.running.workers) c.undone in
+        frame ∙ (λ l. record i { arena = j.arena; running = record { workers = workers l; count = j.running.count } })
+
     pub request_gone : (s : State) → StandsFor i s → IsReached s → RequestGone last j s d q
     request_gone s st reached =
         let asks = asked_there i s d q st c.was in
@@ -78,19 +76,18 @@ module _ (r : Record Place) (h k : Held Place) (last : ℕ) (so : h.image.arena.
         (let none = sym (ap model.handle_in asks) ∙ timer.holds in cc) in
         record {
           front = ap (front_request s) (front_there i s name.DoneYet d st c.first) ∙ ap (λ o. with_id d (model.request_in o)) asks;
-          stands = stands_then i j s t st (ended_keeps q u r h k recorded is)
+          stands = stands_then i j s t st kept
               (sections_kept s a s.idle s.prepare s.check s.async s.closing (record s.done { yet = drop 1 s.done.yet }) s.time)
-              (ended_time q u r h k recorded is ∙ st.time)
+              (time_is st)
               (freed_slots i s st j.arena last d name.DoneYet c.first freed_done off_done)
               (freed_lists i s st j.arena last d name.DoneYet c.first freed_done off_done t (beside_done_yet s a (drop 1 s.done.yet)) refl)
-              (freed_timers i s st j.arena last d name.DoneYet c.first freed_done off_done reached no_timer)
-              sound recorded.fit;
+              (freed_timers i s st j.arena last d name.DoneYet c.first freed_done off_done reached no_timer);
         }
 
   -- ---- a handle
 
-  module _ (e : Id) (q : HandleRecord) (f : FirstIs i.arena name.ClosingYet e q) (g : HandleRecord) (u : TakeUndo)
-      (is : r.change ≡ closed_by g u) (c : IsTaken handle_of Handle (counted_of i) (counted_of j) d (Handle g) u) where
+  module _ (frame : OnlyHandles i j) (e : Id) (q : HandleRecord) (f : FirstIs i.arena name.ClosingYet e q) (g : HandleRecord) (u : TakeUndo)
+      (c : IsTaken handle_of Handle (counted_of i) (counted_of j) d (Handle g) u) where
     one : d ≡ e
     one = first_one i.arena name.ClosingYet e d f.first c.first
 
@@ -118,12 +115,11 @@ module _ (r : Record Place) (h k : Held Place) (last : ℕ) (so : h.image.arena.
         let t : State = record s { arena = a; closing = record s.closing { yet = drop 1 s.closing.yet } } in
         record {
           front = front_is i s st name.ClosingYet e (Some q) f.first f.handle;
-          stands = stands_then i j s t st (closed_keeps g u r h k recorded is)
+          stands = stands_then i j s t st frame
               (sections_kept s a s.idle s.prepare s.check s.async (record s.closing { yet = drop 1 s.closing.yet }) s.done s.time)
-              (closed_time g u r h k recorded is ∙ st.time)
+              (time_is st)
               (freed_slots i s st j.arena last e name.ClosingYet f.first freed_closing off_closing)
               (freed_lists i s st j.arena last e name.ClosingYet f.first freed_closing off_closing t
               (beside_closing_yet s a (drop 1 s.closing.yet)) refl)
-              (freed_timers i s st j.arena last e name.ClosingYet f.first freed_closing off_closing reached (no_timer s st reached))
-              sound recorded.fit;
+              (freed_timers i s st j.arena last e name.ClosingYet f.first freed_closing off_closing reached (no_timer s st reached));
         }

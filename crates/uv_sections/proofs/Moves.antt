@@ -11,7 +11,7 @@ use Rattle.uv_records.specs.Lists.{list_of, yet_of}
 use Rattle.uv_records.specs.Slots as plain
 use Rattle.uv_records.specs.Walks.{Walk, moved_on}
 use Rattle.uv_arena.specs.Image as arena
-use Rattle.uv_arena.specs.Image.{IsSound, plain_slots}
+use Rattle.uv_arena.specs.Image.{plain_slots}
 use Rattle.uv_handle.specs.Counted.{record_at}
 use Rattle.uv_handle.proofs.Counts as handles
 use Rattle.uv_requests.specs.Working.{id_in}
@@ -24,20 +24,18 @@ use Rattle.uv_model.specs.Queries.{members}
 use Rattle.uv_model.specs.Next.{front_moved}
 use Rattle.uv_work.specs.declared.content.Content.{Content}
 use Rattle.uv_work.specs.declared.content.Content.TheVariants.{Handle}
-use Rattle.uv_step.specs.Change as change
-use Rattle.uv_step.specs.Record.{Record}
 use Rattle.uv_work.specs.Content.{handle_of}
 use Rattle.uv_step.specs.Does.{FirstIs, NoHandleFirst}
-use Rattle.uv_step.specs.Image.{Image, Held, counted_of}
-use Rattle.uv_step.specs.Undo.{Recorded}
+use Rattle.uv_step.specs.Image.{Image, counted_of, OnlyHandles}
 use Rattle.uv_stands.specs.Stands.{StandsFor}
 use Rattle.uv_stands.proofs.Holding.{slots_set, ids_kept}
 use Rattle.uv_stands.proofs.Lists.{Listed, all_but_two, beside_lists}
 use Rattle.uv_stands.proofs.Pools.{ids_moved, front_there, first_one}
 use Rattle.uv_sections.specs.Moved.{HandleMoved, moved_state}
 use Rattle.uv_sections.proofs.Firsts.{front_is, none_first}
-use Rattle.uv_sections.proofs.Keeping.{KeepsState, walked_keeps, walked_time, all_timers, listed_as, stands_then}
+use Rattle.uv_sections.proofs.Keeping.{KeepsState, all_timers, listed_as, stands_then}
 use Rattle.uv_sections.proofs.Watched.{list_is, yet_is, list_now, yet_now, others_stay, arena_stays, time_stays, state_stays}
+use Rattle.uv_stands.proofs.Single.{time_is}
 
 -- a handle that isn't an async one isn't woken
 pub calls_all : (w : WatcherKind) (r : HandleRecord) → w ≢ watcher.Async → pending_of w (Some r) ≡ false
@@ -51,14 +49,8 @@ pub none_moves : (i : Image Place) (s : State) → StandsFor i s → (w : Watche
     → front s (watched s w).yet ≡ None
 none_moves i s h w none = ap (front s) (sym (yet_is s w)) ∙ none_first i s h (yet_of w) none
 
-module _ (r : Record Place) (h k : Held Place) (recorded : Recorded r h k) (sound : IsSound k.image.arena) (w : WatcherKind) (e : Id) (pending : Bool)
-    (u : WalkUndo) (is : r.change ≡ change.Walked u) (c : IsMovedOn handle_of Handle (counted_of h.image) (counted_of k.image) w e pending u) where
-  abbrev i : Image Place
-  i = h.image
-
-  abbrev j : Image Place
-  j = k.image
-
+module _ (i j : Image Place) (frame : OnlyHandles i j) (w : WatcherKind) (e : Id) (pending : Bool)
+    (u : WalkUndo) (c : IsMovedOn handle_of Handle (counted_of i) (counted_of j) w e pending u) where
   module _ (d : Id) (q : HandleRecord) (f : FirstIs i.arena (yet_of w) d q) where
     one : e ≡ d
     one = first_one i.arena (yet_of w) d e f.first c.first
@@ -98,10 +90,10 @@ module _ (r : Record Place) (h k : Held Place) (recorded : Recorded r h k) (soun
       asleep_stands off =
           let ids = ids_moved i.arena j.arena (c.asleep off) in
           let t = front_moved s w d in
-          stands_then i j s t st (walked_keeps u r h k recorded is) (state_stays s w walk)
-          (walked_time u r h k recorded is ∙ st.time ∙ sym (time_stays s w walk))
+          stands_then i j s t st frame (state_stays s w walk)
+          ((time_is st) ∙ sym (time_stays s w walk))
           (c.asleep off ∙ st.slots ∙ sym (arena_stays s w walk))
-          (all_lists ids t (λ l. refl)) (all_timers i.arena j.arena s.timers ids) sound recorded.fit
+          (all_lists ids t (λ l. refl)) (all_timers i.arena j.arena s.timers ids)
 
       awake_stands : pending ≡ true → StandsFor j (with_handle (front_moved s w d) d (woken q))
       awake_stands on =
@@ -119,20 +111,11 @@ module _ (r : Record Place) (h k : Held Place) (recorded : Recorded r h k) (soun
           ∙ ap (λ (a : plain.Slots Content). (let x : plain.Slots Content = record a { slots = plain.with_held a.slots d (Handle (woken q)) } in x))
           (sym (arena_stays s w walk)) in
           let stays = state_stays s w walk in
-          let kept : KeepsState s t = record {
-            place = stays.place;
-            names = stays.names;
-            timers = stays.timers;
-            running = stays.running;
-            clock = stays.clock;
-            next_start = stays.next_start;
-            stop_flag = stays.stop_flag;
-            idled = stays.idled;
-          } in
+          let kept : KeepsState s t = record { values = stays.values; timers = stays.timers } in
           let lists : (l : ListName) → members t l ≡ members m l =
           beside_lists m m.place m.names t.arena m.timers m.running m.time m.clock m.next_start m.stop_flag m.idled in
-          stands_then i j s t st (walked_keeps u r h k recorded is) kept (walked_time u r h k recorded is ∙ st.time ∙ sym (time_stays s w walk))
-          slots (all_lists ids t lists) (all_timers i.arena j.arena s.timers ids) sound recorded.fit
+          stands_then i j s t st frame kept ((time_is st) ∙ sym (time_stays s w walk))
+          slots (all_lists ids t lists) (all_timers i.arena j.arena s.timers ids)
 
       pub handle_moved : HandleMoved w j s d q pending
       handle_moved = record {

@@ -40,7 +40,6 @@ fn make_all_yet(memory: &mut Memory<Place>, kind: WatcherKind)
         → StandsFor (held memory.new).image (with_watched s kind (all_yet (watched s kind))) }
 {
     memory.begin(kind);
-    memory.is_sound();
 }
 
 /// Begins a section of watchers.
@@ -62,7 +61,6 @@ fn close_all_yet(memory: &mut Memory<Place>)
         → StandsFor (held memory.new).image (record s { closing = all_yet s.closing }) }
 {
     memory.begin_closing();
-    memory.is_sound();
 }
 
 /// Begins the closing section.
@@ -84,7 +82,6 @@ fn end_all_yet(memory: &mut Memory<Place>)
         → StandsFor (held memory.new).image (record (refreshed s) { done = all_yet s.done }) }
 {
     memory.leave_poll();
-    memory.is_sound();
 }
 
 /// Leaves the poll.

@@ -30,10 +30,7 @@ fn free_request(memory: &mut Memory<Place>, script: &Script) -> Option<(Id, Requ
 {
     match memory.end_request() {
         None => None,
-        Some(ended) => {
-            memory.is_sound();
-            Some(ended)
-        }
+        Some(ended) => Some(ended),
     }
 }
 
@@ -51,10 +48,7 @@ fn free_handle(memory: &mut Memory<Place>, script: &Script) -> Option<(Id, Handl
         None => None,
         Some((id, handle)) => match memory.end_handle() {
             None => None,
-            Some(_) => {
-                memory.is_sound();
-                Some((id, handle))
-            }
+            Some(_) => Some((id, handle)),
         },
     }
 }

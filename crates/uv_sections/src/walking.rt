@@ -28,10 +28,7 @@ fn move_on(memory: &mut Memory<Place>, kind: WatcherKind) -> Option<(Id, HandleR
 {
     match memory.walk(kind) {
         None => None,
-        Some((id, handle, pending)) => {
-            memory.is_sound();
-            Some((id, handle, pending))
-        }
+        Some((id, handle, pending)) => Some((id, handle, pending)),
     }
 }
 

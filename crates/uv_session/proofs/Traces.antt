@@ -6,13 +6,15 @@ use Rattle.std.specs.Prelude.{slice_get, option_to_list}
 use Rattle.std.specs.List.{flat_map}
 use Rattle.uv_ids.specs.declared.event.Event.{Event}
 use Rattle.uv_ids.specs.declared.seen.Seen.{Seen}
-use Rattle.uv_script.specs.Program.{Program}
-use Rattle.uv_model.specs.After.{seen_by, lines}
+use Rattle.uv_script.specs.Program.{Program, worker_count}
+use Rattle.uv_work.specs.Pool.{replay, IsLegal}
+use Rattle.uv_model.specs.After.{after, seen_by, lines}
 use Rattle.uv_model.proofs.Runs.{length-seen_by}
 use Rattle.uv_order.proofs.Histories.{lines-history}
 use Rattle.uv_order.specs.Once.{Once}
+use Rattle.uv_order.specs.PoolEvents.{pool_events, pool_of}
 use Rattle.uv_order.proofs.Documents.{documented}
-use Rattle.uv_order.proofs.ClosesOnce.{once}
+use Rattle.uv_order.proofs.Documents.{once, pools}
 use Rattle.uv_session.specs.Shown.{Shown, IsDocumented}
 
 -- the lines that are there
@@ -42,5 +44,13 @@ is_documented s trace e = (e ∙ lines-history s.program s.standing, documented 
 -- by the lines of the standing steps each handle closes once
 pub is_once : (s : Shown) (trace : List Seen) → trace ≡ lines s.program s.standing → Once s.program trace
 is_once s trace e = subst (Once s.program) (sym e) (once s.program s.standing)
+
+-- the events of the pool that these lines say are possible one after another
+pub is_legal : (s : Shown) (trace : List Seen) → trace ≡ lines s.program s.standing →
+    IsLegal (worker_count s.program) (pool_events s.program trace)
+is_legal s trace e = (
+  pool_of (after s.program s.standing),
+  ap (λ (ls : List Seen). replay (worker_count s.program) (pool_events s.program ls)) e ∙ pools s.program s.standing,
+)
 
 pub ruleset traces = (those_more, length-seen_by)

@@ -3,6 +3,9 @@ ghost use Rattle.std.specs.Prelude.{◌≡◌, ◌≤◌, ◌<◌, ◌-◌, [], 
 ghost use Rattle.uv_ids.specs.declared.fault.Fault.TheVariants.{Memory};
 ghost use Rattle.uv_model.specs.After.{STEPS, lines};
 ghost use Rattle.uv_order.specs.Once.{Once};
+ghost use Rattle.uv_order.specs.PoolEvents.{pool_events};
+ghost use Rattle.uv_script.specs.Program.{worker_count};
+ghost use Rattle.uv_work.specs.Pool.{IsLegal};
 ghost use Rattle.uv_session.specs.Moving.{moved_forward, MovesForward, AddsBreak, RunsTo, NoneFrom, IsLastBreak, GoesToBreak};
 ghost use Rattle.uv_session.specs.Shown.{TakesEvent, TakesResult, MovesBack, IsDocumented, moved_back};
 
@@ -235,6 +238,7 @@ impl<M: Machine> Session<M> {
         ensures lines { IfOk result (λ trace. trace.items ≡ lines self.now.program self.now.standing) }
         ensures documented { IfOk result (λ trace. IsDocumented self.now trace.items) }
         ensures once { IfOk result (λ trace. Once self.now.program trace.items) }
+        ensures pool { IfOk result (λ trace. IsLegal (worker_count self.now.program) (pool_events self.now.program trace.items)) }
         ensures err { IfErr result (λ fault. fault ≡ Memory) }
     {
         let mut trace = Vec::new(self.alloc);

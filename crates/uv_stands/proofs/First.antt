@@ -15,6 +15,7 @@ use Rattle.uv_order.specs.Active.{Before, InOrder}
 use Rattle.uv_work.specs.declared.content.Content.{Content}
 use Rattle.uv_step.specs.Image.{Image}
 use Rattle.uv_stands.specs.Stands.{StandsFor, timer_in}
+use Rattle.uv_stands.proofs.Single.{time_is}
 
 -- an entry whose timer comes before each of the others comes before their entries
 pub before_all : (a : arena.Image Content) (f : Entry) (fs : List Entry) → Before f.due (map (timer_in a) fs) → IsBeforeAll f fs
@@ -41,5 +42,5 @@ first_timer i s o h r root first = at h.timers.entries h.timers.ordered h.timers
       let sorted : InOrder (map (timer_in i.arena) (f ∷ fs)) = subst (λ ts. InOrder ts) same r.timers.sorted in
       let one : o ≡ Some f = first f fs ordered (before_all i.arena f fs sorted.0) in
       ap (until_first s.time) same
-      ∙ ap (λ t. Some (min (f.due.at - t) LONGEST_POLL)) (sym h.time)
+      ∙ ap (λ t. Some (min (f.due.at - t) LONGEST_POLL)) (sym (time_is h))
       ∙ ap (λ (z : Option Entry). elim z [ None ↦ None | Some e ↦ Some (min (e.due.at - i.times.time) LONGEST_POLL) ]) (sym one)

@@ -19,6 +19,7 @@ use Rattle.uv_work.specs.declared.content.Content.{Content}
 use Rattle.uv_records.specs.Names.{named}
 use Rattle.uv_step.specs.Image.{Image}
 use Rattle.uv_stands.specs.Stands.{StandsFor}
+use Rattle.uv_stands.proofs.Single.{names_is}
 
 -- ---- what is held
 
@@ -39,7 +40,7 @@ slots_set i s k d v h set =
 
 -- what a name is bound to
 pub bound_there : (i : Image Place) (s : State) (v : Var) → StandsFor i s → (named i.names v.0).id ≡ (state.named s v).id
-bound_there i s v h = ap (λ ns. (named ns v.0).id) h.names
+bound_there i s v h = ap (λ ns. (named ns v.0).id) (names_is h)
 
 -- ---- ids
 

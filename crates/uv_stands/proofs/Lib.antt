@@ -14,4 +14,4 @@ pub mod Without
 pub mod Absent
 pub mod Loose
 pub mod Returning
-pub mod Renaming
+pub mod Single

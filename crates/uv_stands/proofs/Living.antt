@@ -24,6 +24,9 @@ use Rattle.uv_order.specs.Active.{has_id, run_ids}
 use Rattle.uv_order.specs.Reached.{IsReached}
 use Rattle.uv_step.specs.Image.{Image}
 use Rattle.uv_stands.specs.Stands.{StandsFor}
+use Rattle.uv_step.specs.Fit.{IsFit}
+use Rattle.uv_stands.proofs.Pools.{active_fit, opened_fit}
+use Rattle.uv_stands.proofs.Single.{running_is}
 
 -- ---- slots by what they hold
 
@@ -203,25 +206,25 @@ or_in true b c = refl
 or_in false b c = refl
 
 -- the loop is alive just where the counts or the closing handles say so
-pub alive_counts : (i : Image Place) (s : State) → StandsFor i s → IsReached s
+pub alive_counts : (i : Image Place) (s : State) → IsFit i → StandsFor i s → IsReached s
     → is_alive s ≡ (positive i.active || (positive i.running.count || has_closing s))
-alive_counts i s h r =
+alive_counts i s fit h r =
     ap (λ b. b || has_closing s) (keeps_apart s.arena.slots ∙ ap (λ b. positive (active_count handle_of s.arena.slots) || b) (asked_counts s r))
     ∙ or_in (positive (active_count handle_of s.arena.slots)) (positive (open_requests s)) (has_closing s)
-    ∙ ap (λ n. positive n || (positive (open_requests s) || has_closing s)) (sym h.active)
-    ∙ ap (λ n. positive i.active || (positive n || has_closing s)) (sym h.opened)
+    ∙ ap (λ n. positive n || (positive (open_requests s) || has_closing s)) (sym (active_fit i s fit h.slots))
+    ∙ ap (λ n. positive i.active || (positive n || has_closing s)) (sym (opened_fit i s fit (running_is h) h.lists))
 
-module _ (i : Image Place) (s : State) (h : StandsFor i s) (r : IsReached s) where
+module _ (i : Image Place) (s : State) (fit : IsFit i) (h : StandsFor i s) (r : IsReached s) where
   pub alive_handles : 0 < i.active → is_alive s ≡ true
   alive_handles lt =
-      alive_counts i s h r ∙ ap (λ b. b || (positive i.running.count || has_closing s)) (is_positive i.active lt)
+      alive_counts i s fit h r ∙ ap (λ b. b || (positive i.running.count || has_closing s)) (is_positive i.active lt)
 
   pub alive_requests : 0 < i.running.count → is_alive s ≡ true
   alive_requests lt =
-      alive_counts i s h r
+      alive_counts i s fit h r
       ∙ or_true (positive i.active) _ (ap (λ b. b || has_closing s) (is_positive i.running.count lt))
 
   pub alive_closing : i.active ≤ 0 → i.running.count ≤ 0 → is_alive s ≡ has_closing s
   alive_closing a b =
       let x = not_positive i.active a in
-      let y = not_positive i.running.count b in alive_counts i s h r ∙ (λ l. x l || (y l || has_closing s))
+      let y = not_positive i.running.count b in alive_counts i s fit h r ∙ (λ l. x l || (y l || has_closing s))

@@ -7,7 +7,7 @@ use Rattle.uv_records.specs.declared.handle.HandleRecord.{HandleRecord}
 use Rattle.uv_records.specs.declared.lists.ListName.{ListName}
 use Rattle.uv_records.specs.declared.lists.ListName.TheVariants as name
 use Rattle.uv_records.specs.Refusals.{start_watcher_refusal, only_if, invalid_if, is_watcher}
-use Rattle.uv_arena.specs.Image.{on_list}
+use Rattle.uv_arena.specs.Image.{IsSound, on_list}
 use Rattle.uv_handle.specs.Counted.{record_at}
 use Rattle.uv_model.specs.declared.place.Place.{Place}
 use Rattle.uv_model.specs.State.{State, handle}
@@ -74,8 +74,8 @@ module _ (i : Image Place) (s : State) (stands : StandsFor i s) (reached : IsRea
   on_none may rests name.Done on = not_done i d h there fit on
   on_none may rests name.DoneYet on = not_done_yet i d h there fit on
 
-  pub idle_loose : start_watcher_refusal h ≡ None → h.active ≡ false → on_list i.arena d ≡ false
-  idle_loose may rests = at (on_list i.arena d) refl where
+  pub idle_loose : IsSound i.arena → start_watcher_refusal h ≡ None → h.active ≡ false → on_list i.arena d ≡ false
+  idle_loose sound may rests = at (on_list i.arena d) refl where
     at : (b : Bool) → on_list i.arena d ≡ b → b ≡ false
-    at true e = let l = listed_somewhere i.arena stands.sound d e in absurd (on_none may rests l.0 l.1)
+    at true e = let l = listed_somewhere i.arena sound d e in absurd (on_none may rests l.0 l.1)
     at false e = refl

@@ -10,7 +10,7 @@ use Rattle.uv_records.specs.Walks.{Walk}
 use Rattle.uv_records.specs.Count.{active_count}
 use Rattle.uv_arena.specs.Calls.{IsFirst}
 use Rattle.uv_arena.specs.Image as arena
-use Rattle.uv_arena.specs.Image.{IsSound, plain_slots, held_slots, slot_at}
+use Rattle.uv_arena.specs.Image.{plain_slots, held_slots, slot_at}
 use Rattle.uv_heap.specs.declared.entry.Entry.{Entry}
 use Rattle.uv_work.specs.Pool.{busy}
 use Rattle.uv_work.specs.declared.request.Request.{Request}
@@ -23,17 +23,13 @@ use Rattle.uv_model.specs.State.{State}
 use Rattle.uv_model.specs.Queries.{members}
 use Rattle.uv_work.specs.declared.content.Content.{Content}
 use Rattle.uv_work.specs.declared.content.Content.TheVariants.{Request as Asked}
-use Rattle.uv_step.specs.Change.{Change}
-use Rattle.uv_step.specs.Record.{Record}
 use Rattle.uv_work.specs.Content.{handle_of, request_of, only_request}
-use Rattle.uv_step.specs.Does.{changed}
 use Rattle.uv_step.specs.Fit.{IsFit}
-use Rattle.uv_step.specs.Image.{Image, Held}
-use Rattle.uv_step.specs.Parts.{unwind}
-use Rattle.uv_step.specs.Undo.{Recorded}
+use Rattle.uv_step.specs.Image.{Image}
 use Rattle.uv_model.specs.Layout.{open_requests}
 use Rattle.uv_stands.specs.Stands.{StandsFor, timer_in}
 use Rattle.uv_stands.proofs.Holding.{held_there, slot_or, slot_by, map_same}
+use Rattle.uv_stands.proofs.Single.{running_is}
 
 -- ---- what the memory alone says of the counts
 
@@ -87,7 +83,7 @@ first_one i l d e f g =
 -- what a worker runs is the state's
 pub run_there : (i : Image Place) (s : State) (k : ℕ) (o : Option (Option Id)) → StandsFor i s → slice_get i.running.workers k ≡ o
     → slice_get s.running k ≡ o
-run_there i s k o h e = ap (λ rs. slice_get rs k) (sym h.running) ∙ e
+run_there i s k o h e = ap (λ rs. slice_get rs k) (sym (running_is h)) ∙ e
 
 -- a list that stays
 pub list_same : (i : Image Place) (k : arena.Image Content) → ((x : ℕ) → id_in k x ≡ id_in i.arena x) → (l : ListName) (xs : List Id)
@@ -107,28 +103,6 @@ done_more i s k d h one ids more =
     ∙ ap (map (id_in k)) (sym more)
 
 -- ---- the memory after a change of requests
-
--- only the arena and what the workers run differ
-pub frame_of : (i j : Image Place) (p : Place) (a : arena.Image Content) (n : Running) → record j { place = p; arena = a; running = n } ≡ i
-    → j.place ≡ i.place → j ≡ record i { arena = j.arena; running = j.running }
-frame_of i j p a n e place = λ l. record {
-  place = place l;
-  names = ap (λ (q : Image Place). q.names) e l;
-  arena = j.arena;
-  active = ap (λ (q : Image Place). q.active) e l;
-  running = j.running;
-  heap = ap (λ (q : Image Place). q.heap) e l;
-  times = ap (λ (q : Image Place). q.times) e l;
-  clock = ap (λ (q : Image Place). q.clock) e l;
-  stop_flag = ap (λ (q : Image Place). q.stop_flag) e l;
-  idled = ap (λ (q : Image Place). q.idled) e l;
-}
-
--- what the record of a change alone gives back
-pub change_back : (r : Record Place) (c : Change) (h k : Held Place) → Recorded r h k → r.change ≡ c → unwind (changed r.place c) k.image ≡ h.image
-change_back r c h k recorded is =
-    let same : r ≡ changed r.place c = λ l. record { place = r.place; naming = recorded.unnamed l; change = is l } in
-    ap (λ (q : Record Place). unwind q k.image) (sym same) ∙ recorded.back
 
 module _ (i : Image Place) (s : State) (h : StandsFor i s) (k : arena.Image Content) (n : Running) (a : plain.Slots Content) (w : List Id)
     (r : List (Option Id)) (q : Walk Id) (ids : (x : ℕ) → id_in k x ≡ id_in i.arena x)
@@ -151,27 +125,15 @@ module _ (i : Image Place) (s : State) (h : StandsFor i s) (k : arena.Image Cont
   lists name.DoneYet = yet
   lists l = h.lists l ∙ same l (λ e. cc) (λ e. cc) (λ e. cc)
 
-  pub pool_stands : plain_slots k ≡ a → n.workers ≡ r → IsSound k → IsFit j → StandsFor j t
-  pool_stands slots running sound fit = record {
-    place = h.place;
-    names = h.names;
-    time = h.time;
-    clock = h.clock;
-    next_start = h.next_start;
-    stop_flag = h.stop_flag;
-    idled = h.idled;
+  pub pool_stands : plain_slots k ≡ a → n.workers ≡ r → StandsFor j t
+  pool_stands slots running = record {
+    values = λ l. record (h.values l) { running = running l };
     slots = slots;
-    running = running;
     lists = lists;
-    sound = sound;
-    heap = h.heap;
-    places = h.places;
     timers = record {
       entries = h.timers.entries;
       ordered = h.timers.ordered;
       same = h.timers.same
           ∙ sym (map_same (timer_in k) (timer_in i.arena) (λ (e : Entry). ap (λ z. (e.due, z)) (ids e.slot)) h.timers.entries);
     };
-    active = active_fit j t fit slots;
-    opened = opened_fit j t fit running lists;
   }

@@ -14,6 +14,7 @@ use Rattle.uv_records.specs.Names.{named, binding, calling, counted, count_of}
 use Rattle.uv_step.specs.Image.{Image}
 use Rattle.uv_stands.specs.Stands.{StandsFor}
 use Rattle.uv_stands.proofs.Lists.{beside_lists}
+use Rattle.uv_stands.proofs.Single.{names_is}
 
 -- a count after one call more
 pub count_after : (k : Callback) (c : Calls) → count_of k (counted k c) ≡ count_of k c + 1
@@ -27,74 +28,38 @@ count_after callback.Close c = refl
 renamed : (i : Image Place) (s : State) (xs ns : List Named) → xs ≡ ns → StandsFor i s
     → StandsFor (record i { names = xs }) (record s { names = ns })
 renamed i s xs ns same h = record {
-  place = h.place;
-  names = same;
-  time = h.time;
-  clock = h.clock;
-  next_start = h.next_start;
-  stop_flag = h.stop_flag;
-  idled = h.idled;
+  values = λ l. record (h.values l) { names = same l };
   slots = h.slots;
-  running = h.running;
   lists = λ l. beside_lists s s.place ns s.arena s.timers s.running s.time s.clock s.next_start s.stop_flag s.idled l ∙ h.lists l;
-  sound = h.sound;
-  heap = h.heap;
-  places = h.places;
   timers = h.timers;
-  active = h.active;
-  opened = h.opened;
 }
 
 pub bound_stands : (i : Image Place) (s : State) (v : Var) (d : Id) → StandsFor i s
     → StandsFor (record i { names = binding v.0 (Some d) i.names }) (bound_to s v d)
-bound_stands i s v d h = renamed i s _ _ (ap (binding v.0 (Some d)) h.names) h
+bound_stands i s v d h = renamed i s _ _ (ap (binding v.0 (Some d)) (names_is h)) h
 
 -- one of a name's callbacks is called
 pub called_stands : (i : Image Place) (s : State) (v : Var) (k : Callback) → StandsFor i s
     → StandsFor (record i { names = calling v.0 k (count_of k (named i.names v.0).calls + 1) i.names })
     (with_named s v (record (state.named s v) { calls = counted k (state.named s v).calls }))
-called_stands i s v k h = renamed i s _ _ (ap (λ ns. calling v.0 k (count_of k (named ns v.0).calls + 1) ns) h.names) h
+called_stands i s v k h = renamed i s _ _ (ap (λ ns. calling v.0 k (count_of k (named ns v.0).calls + 1) ns) (names_is h)) h
 
 -- the place and the single values, with what each is in the state
 pub valued : (i : Image Place) (s : State) (place : Place) (time clock next : ℕ) (stop idled : Bool) → StandsFor i s
     → StandsFor (record i { place = place; times = record { time = time; next_start = next }; clock = clock; stop_flag = stop; idled = idled })
     (record s { place = place; time = time; clock = clock; next_start = next; stop_flag = stop; idled = idled })
 valued i s place time clock next stop idled h = record {
-  place = refl;
-  names = h.names;
-  time = refl;
-  clock = refl;
-  next_start = refl;
-  stop_flag = refl;
-  idled = refl;
+  values = λ l. record (h.values l) { place = place; time = time; clock = clock; next_start = next; stop_flag = stop; idled = idled };
   slots = h.slots;
-  running = h.running;
   lists = λ l. beside_lists s place s.names s.arena s.timers s.running time clock next stop idled l ∙ h.lists l;
-  sound = h.sound;
-  heap = h.heap;
-  places = h.places;
   timers = h.timers;
-  active = h.active;
-  opened = h.opened;
 }
 
 -- the loop stands elsewhere
 pub placed : (i : Image Place) (s : State) (p : Place) → StandsFor i s → StandsFor (record i { place = p }) (record s { place = p })
 placed i s p h = record {
-  place = refl;
-  names = h.names;
-  time = h.time;
-  clock = h.clock;
-  next_start = h.next_start;
-  stop_flag = h.stop_flag;
-  idled = h.idled;
+  values = λ l. record (h.values l) { place = p };
   slots = h.slots;
-  running = h.running;
   lists = λ l. beside_lists s p s.names s.arena s.timers s.running s.time s.clock s.next_start s.stop_flag s.idled l ∙ h.lists l;
-  sound = h.sound;
-  heap = h.heap;
-  places = h.places;
   timers = h.timers;
-  active = h.active;
-  opened = h.opened;
 }

@@ -40,6 +40,7 @@ fn has_idle(memory: &Memory<Place>) -> bool
 pub fn is_alive(memory: &Memory<Place>) -> bool
     ensures { OfEach (held memory.now).image (λ s. is_alive s ≡ result) }
 {
+    memory.is_fit();
     if memory.handles().active_referenced() > 0 {
         return true;
     }

@@ -85,7 +85,7 @@ module _ {P : Type 0} where
   edited i k m room r d from to u fit there c is =
       let j = record i { arena = k; active = m } in
       recorded (change.Edited u) r i j room room refl is (ap (λ q. with_counted q j) c.undone) c.can_undo fit
-      (record { counts = c.counts; work = work_changed (counted_of i) (counted k m) i.running d from to u fit.work there c }) refl
+      (record { counts = c.counts; work = work_changed (counted_of i) (counted k m) i.running d from to u fit.work there c }) refl refl
 
   pub enlisted : (i : Image P) (k : arena.Image Content) (m room : ℕ) (r : Record P) (d : Id) (from to : HandleRecord) (list : ListName)
       (u : ListUndo)
@@ -94,7 +94,7 @@ module _ {P : Type 0} where
   enlisted i k m room r d from to list u fit bar c is =
       let j = record i { arena = k; active = m } in
       recorded (change.Enlisted u) r i j room room refl is (ap (λ q. with_counted q j) c.undone) c.can_undo fit
-      (record { counts = c.counts; work = work_enlisted (counted_of i) (counted k m) i.running d from to list u fit.work bar c }) refl
+      (record { counts = c.counts; work = work_enlisted (counted_of i) (counted k m) i.running d from to list u fit.work bar c }) refl refl
 
   pub delisted : (i : Image P) (k : arena.Image Content) (m room : ℕ) (r : Record P) (d : Id) (from to : HandleRecord) (leaves : Bool)
       (u : DelistUndo)
@@ -103,7 +103,7 @@ module _ {P : Type 0} where
   delisted i k m room r d from to leaves u fit c is =
       let j = record i { arena = k; active = m } in
       recorded (change.Delisted u) r i j room room refl is (delist_back u.unlinked u.changed j ∙ ap (λ q. with_counted q j) c.undone) c.can_undo fit
-      (record { counts = c.counts; work = work_delisted (counted_of i) (counted k m) i.running d from to leaves u fit.work c }) refl
+      (record { counts = c.counts; work = work_delisted (counted_of i) (counted k m) i.running d from to leaves u fit.work c }) refl refl
 
   -- a handle as it is made, off all lists
   pub added : (i : Image P) (k : arena.Image Content) (m room : ℕ) (r : Record P) (d : Id) (v : Var) (kind : Kind) (u : AddUndo) → IsFit i
@@ -118,7 +118,7 @@ module _ {P : Type 0} where
         counts = c.counts;
         work = kept_by_insert request_of i.arena k d i.running fit.work (Handle
             (inited v kind)) u.inserted refl c.inserted;
-      }) refl
+      }) refl refl
 
   -- and one at the end of its list
   pub joined : (i : Image P) (k l : arena.Image Content) (m room : ℕ) (r : Record P) (d : Id) (v : Var) (kind : Kind) (u : AddUndo)
@@ -139,7 +139,7 @@ module _ {P : Type 0} where
       (record {
         counts = c.counts ∙ sym (count_moved k l p.slots);
         work = work_pushed k l i.running d (inited v kind) name.Async now work c.handle (λ o. o) p;
-      }) refl
+      }) refl refl
 
   -- ---- timers
 
@@ -154,7 +154,7 @@ module _ {P : Type 0} where
       (record {
         counts = s.handles.counts;
         work = work_delisted (counted_of i) (counted k m) i.running d c.from c.to c.leaves u.delisted fit.work s.handles;
-      }) refl
+      }) refl refl
 
   pub fired : (i : Image P) (k : arena.Image Content) (m room : ℕ) (h : Heap) (t : Times) (r : Record P) (d : Id) (u : TimerUndo)
       → IsFit i → h.room ≡ room → IsFired handle_of Handle h.room (timed_of i) (timed k m h t) d u
@@ -169,7 +169,7 @@ module _ {P : Type 0} where
   collected i k m room h t r d u fit same s is =
       let j = record i { arena = k; active = m; heap = h.array; times = t } in
       recorded (moved_by u) r i j room h.room same is (moved_back u j ∙ ap (λ q. with_timed q j) s.undone) s.can_undo fit
-      (record { counts = s.counts; work = work_collected h.room (timed_of i) (timed k m h t) i.running d u fit.work s }) refl
+      (record { counts = s.counts; work = work_collected h.room (timed_of i) (timed k m h t) i.running d u fit.work s }) refl refl
 
   -- a handle is off its list and the heap, and at the front of the closing list
   pub shut : (i : Image P) (k l : arena.Image Content) (m room : ℕ) (h : Heap) (t : Times) (r : Record P) (d : Id) (c : TimerChange)
@@ -191,12 +191,12 @@ module _ {P : Type 0} where
         work = work_pushed k l i.running d c.to name.Closing now
             (work_delisted (counted_of i) (counted k m) i.running d c.from c.to c.leaves u.timer.delisted fit.work s.handles) s.handles.handle
             (λ o. o) p;
-      }) refl
+      }) refl refl
 
   -- ---- watchers and sections
 
   pub nothing : (i : Image P) (room : ℕ) (r : Record P) → IsFit i → r ≡ changed i.place change.Nothing → Recorded r (at i room) (at i room)
-  nothing i room r fit is = recorded change.Nothing r i i room room refl is refl tt fit fit refl
+  nothing i room r fit is = recorded change.Nothing r i i room room refl is refl tt fit fit refl refl
 
   pub walked : (i : Image P) (k : arena.Image Content) (m room : ℕ) (r : Record P) (d e : Id) (h : HandleRecord) (w : WatcherKind)
       (pending : Bool) (u : WalkUndo)
@@ -206,7 +206,7 @@ module _ {P : Type 0} where
       let j = record i { arena = k; active = m } in
       let there = first_there i.arena (yet_of w) d e h f c.first in
       recorded (change.Walked u) r i j room room refl is (walk_back u j ∙ ap (λ q. with_counted q j) c.undone) c.can_undo fit
-      (record { counts = c.counts; work = work_walked (counted_of i) (counted k m) i.running d h w pending u fit.work there c }) refl
+      (record { counts = c.counts; work = work_walked (counted_of i) (counted k m) i.running d h w pending u fit.work there c }) refl refl
 
   pub freed_does : (a b : Counted Content) (r : Record P) (place : P) (d e : Id) (h : HandleRecord) (v : Content) (u : TakeUndo)
       → FirstIs a.arena name.ClosingYet e h → IsTaken handle_of Handle a b d v u → r ≡ changed place (closed_by h u)
@@ -222,7 +222,7 @@ module _ {P : Type 0} where
       let there = first_there i.arena name.ClosingYet d e h f taken.first in
       let c = taken_handle (counted i.arena i.active) (counted k m) d e h v u f taken in
       recorded (closed_by h u) r i j room room refl is (ap (λ q. with_counted q j) c.undone) c.can_undo fit
-      (record { counts = c.counts; work = work_freed (counted_of i) (counted k m) i.running d h (Handle h) u fit.work there c }) refl
+      (record { counts = c.counts; work = work_freed (counted_of i) (counted k m) i.running d h (Handle h) u fit.work there c }) refl refl
 
   -- slots move from one list to another
   pub spliced : (i : Image P) (k : arena.Image Content) (room : ℕ) (r : Record P) (u : SpliceUndo) → IsFit i → IsWork request_of (working k i.running)
@@ -231,7 +231,7 @@ module _ {P : Type 0} where
   spliced i k room r u fit work same back can is =
       let j = record i { arena = k } in
       recorded (change.Begun u) r i j room room refl is (ap (λ q. record i { arena = q }) back) can fit
-      (record { counts = fit.counts ∙ sym (count_moved i.arena k same); work = work }) refl
+      (record { counts = fit.counts ∙ sym (count_moved i.arena k same); work = work }) refl refl
 
   pub begun : (i : Image P) (k : arena.Image Content) (room : ℕ) (r : Record P) (w : WatcherKind) (u : SpliceUndo) → IsFit i
       → watch.IsBegun i.arena k w u
@@ -257,7 +257,7 @@ module _ {P : Type 0} where
   queued i k q room r asked d u fit sound c is =
       let j = record i { arena = k; running = q } in
       recorded (change.Queued u) r i j room room refl is (ap (λ z. with_working z j) c.undone) c.can_undo fit
-      (record { counts = fit.counts ∙ sym (count_queued i.arena k sound d asked c.next c.plain); work = c.work }) refl
+      (record { counts = fit.counts ∙ sym (count_queued i.arena k sound d asked c.next c.plain); work = c.work }) refl refl
 
   pub taken : (i : Image P) (k : arena.Image Content) (q : Running) (room : ℕ) (r : Record P) (worker : ℕ) (d : Id) (u : TakeWorkUndo) → IsFit i
       → requests.IsTaken request_of (working i.arena i.running) (working k q) worker d u → r ≡ changed i.place (change.Taken u)
@@ -265,7 +265,7 @@ module _ {P : Type 0} where
   taken i k q room r worker d u fit c is =
       let j = record i { arena = k; running = q } in
       recorded (change.Taken u) r i j room room refl is (ap (λ z. with_working z j) c.undone) c.can_undo fit
-      (record { counts = fit.counts ∙ sym (count_moved i.arena k c.slots); work = c.work }) refl
+      (record { counts = fit.counts ∙ sym (count_moved i.arena k c.slots); work = c.work }) refl refl
 
   pub finished : (i : Image P) (k : arena.Image Content) (q : Running) (room : ℕ) (r : Record P) (worker : ℕ) (d : Id) (asked : Job)
       (digest : List ℕ) (u : FinishUndo)
@@ -279,7 +279,7 @@ module _ {P : Type 0} where
         counts = fit.counts ∙ ap (λ z. alive_count handle_of z.arena) (sym c.undone) ∙ count_reopened u.id (push_undone u.id.slot k)
             ∙ count_pushed u.id.slot k;
         work = c.work;
-      }) refl
+      }) refl refl
 
   pub cancelled : (i : Image P) (k : arena.Image Content) (room : ℕ) (r : Record P) (d : Id) (u : CancelUndo)
       → IsFit i → IsCancelled request_of Asked (working i.arena i.running) (working k i.running) d u → r ≡ changed i.place (change.Cancelled u)
@@ -292,7 +292,7 @@ module _ {P : Type 0} where
         counts = fit.counts ∙ ap (λ z. alive_count handle_of z.arena) (sym c.undone) ∙ count_unlinked u.unlinked opened
             ∙ count_reopened u.id (push_undone u.id.slot k) ∙ count_pushed u.id.slot k;
         work = c.work;
-      }) refl
+      }) refl refl
 
   pub ended : (i : Image P) (k : arena.Image Content) (q : Running) (room : ℕ) (r : Record P) (d : Id) (asked : Request)
       (u : CollectWorkUndo) → IsFit i
@@ -301,7 +301,7 @@ module _ {P : Type 0} where
   ended i k q room r d asked u fit c is =
       let j = record i { arena = k; running = q } in
       recorded (ended_by asked u) r i j room room refl is (ap (λ z. with_working z j) c.undone) c.can_undo fit
-      (record { counts = fit.counts ∙ sym (count_freed i.arena k d asked c.was c.plain); work = c.work }) refl
+      (record { counts = fit.counts ∙ sym (count_freed i.arena k d asked c.was c.plain); work = c.work }) refl refl
 
   pub begun_done : (i : Image P) (k : arena.Image Content) (room : ℕ) (r : Record P) (u : SpliceUndo) → IsFit i
       → requests.IsBegun request_of (working i.arena i.running) (working k i.running) u → r ≡ changed i.place (change.Begun u)
@@ -317,4 +317,4 @@ module _ {P : Type 0} where
       let j = record i { arena = k; times = record i.times { time = now } } in
       recorded (change.Polled (record { time = i.times.time; spliced = u })) r i j room room refl is
       (ap (λ z. record i { arena = z.arena }) c.undone) c.can_undo.spliced fit
-      (record { counts = fit.counts ∙ sym (count_moved i.arena k c.slots); work = c.work }) refl
+      (record { counts = fit.counts ∙ sym (count_moved i.arena k c.slots); work = c.work }) refl refl

@@ -80,6 +80,19 @@ module _ {P : Type 0} where
   abbrev pub with_working : Working Content → Image P → Image P
   with_working w i = record i { arena = w.arena; running = w.running }
 
+  -- nothing differs but the slots with their lists; these and the count of handles; these and the timers; the slots and what workers run
+  abbrev pub OnlySlots : Image P → Image P → Type 0
+  OnlySlots i j = j ≡ record i { arena = j.arena }
+
+  abbrev pub OnlyHandles : Image P → Image P → Type 0
+  OnlyHandles i j = j ≡ with_counted (counted_of j) i
+
+  abbrev pub OnlyTimed : Image P → Image P → Type 0
+  OnlyTimed i j = j ≡ with_timed (timed_of j) i
+
+  abbrev pub OnlyWork : Image P → Image P → Type 0
+  OnlyWork i j = j ≡ with_working (working_of j) i
+
   -- the loop stands here
   abbrev pub standing : P → Image P → Image P
   standing p i = record i { place = p }

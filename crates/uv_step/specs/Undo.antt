@@ -75,6 +75,7 @@ module _ {P : Type 0} where
     pub unnamed : r.naming ≡ naming.Same
     pub fit : IsFit new.image
     pub place : new.image.place ≡ old.image.place
+    pub names : new.image.names ≡ old.image.names
     pub room : new.room ≡ old.room
 
   -- a step did this besides, and its record grew with it: it gives back the same

@@ -6,7 +6,7 @@ ghost use Rattle.uv_handle.specs.Changes.{IsChanged};
 ghost use Rattle.uv_work.specs.declared.content.Content.TheVariants.{Handle as handle};
 ghost use Rattle.uv_step.specs.Change.{Added as added, Edited as edited};
 ghost use Rattle.uv_work.specs.Content.{handle_of};
-ghost use Rattle.uv_step.specs.Image.{held, Untouched, counted_of, timed_of};
+ghost use Rattle.uv_step.specs.Image.{held, Untouched, counted_of, timed_of, OnlyHandles, OnlyTimed};
 ghost use Rattle.uv_step.specs.Undo.{Recorded};
 ghost use Rattle.uv_step.specs.Does.{By, IsMade, IsShut, changed, moved_by};
 
@@ -24,6 +24,7 @@ impl<P: Copy> Memory<P> {
     /// handle's slot isn't there yet, before it changes anything.
     pub fn init(&mut self, name: Var, kind: Kind) -> Result<Id, InsertFault>
         ensures recorded { IfOk result (λ _. Recorded self.new.step_record (held self.old) (held self.new)) }
+        ensures frame { IfOk result (λ _. OnlyHandles (held self.old).image (held self.new).image) }
         ensures made { IfOk result (λ id. By added (λ u. IsMade
             (counted_of (held self.old).image) (counted_of (held self.new).image) name kind id u) self.new.step_record.change) }
         ensures pieces { self.old.slots.room ≤ self.new.slots.room }
@@ -51,6 +52,7 @@ impl<P: Copy> Memory<P> {
     pub fn edit(&mut self, id: Id, from: HandleRecord, to: HandleRecord)
         requires found { record_at handle_of (held self.old).image.arena id ≡ Some from }
         ensures recorded { Recorded self.new.step_record (held self.old) (held self.new) }
+        ensures frame { OnlyHandles (held self.old).image (held self.new).image }
         ensures does { By edited (λ u. IsChanged handle_of handle
             (counted_of (held self.old).image) (counted_of (held self.new).image) id from to u) self.new.step_record.change }
     {
@@ -63,6 +65,7 @@ impl<P: Copy> Memory<P> {
     pub fn close(&mut self, id: Id, from: HandleRecord)
         requires found { record_at handle_of (held self.old).image.arena id ≡ Some from }
         ensures recorded { Recorded self.new.step_record (held self.old) (held self.new) }
+        ensures frame { OnlyTimed (held self.old).image (held self.new).image }
         ensures does { By moved_by (λ u. IsShut (held self.new).room
             (timed_of (held self.old).image) (timed_of (held self.new).image) id from u) self.new.step_record.change }
     {

@@ -11,7 +11,7 @@ ghost use Rattle.uv_requests.specs.Calls.{RefusesTake, RefusesFinish, IsQueued, 
 ghost use Rattle.uv_work.specs.declared.content.Content.TheVariants.{Request as asked};
 ghost use Rattle.uv_step.specs.Change.{Queued as queued, Taken as taken, Finished as finished, Cancelled as cancelled, Begun as begun, Polled as polled};
 ghost use Rattle.uv_work.specs.Content.{request_of};
-ghost use Rattle.uv_step.specs.Image.{held, Untouched, working_of};
+ghost use Rattle.uv_step.specs.Image.{held, Untouched, working_of, OnlySlots, OnlyWork};
 ghost use Rattle.uv_step.specs.Undo.{Recorded};
 ghost use Rattle.uv_step.specs.Does.{By, ended_by};
 
@@ -29,6 +29,7 @@ impl<P: Copy> Memory<P> {
     /// before it changes anything.
     pub fn queue(&mut self, request: Request) -> Result<Id, InsertFault>
         ensures recorded { IfOk result (λ _. Recorded self.new.step_record (held self.old) (held self.new)) }
+        ensures frame { IfOk result (λ _. OnlyWork (held self.old).image (held self.new).image) }
         ensures does { IfOk result (λ id. By queued (λ u. IsQueued request_of asked
             (working_of (held self.old).image) (working_of (held self.new).image) (reopened request) id u) self.new.step_record.change) }
         ensures pieces { self.old.slots.room ≤ self.new.slots.room }
@@ -60,6 +61,7 @@ impl<P: Copy> Memory<P> {
         requires idle { slice_get (held self.old).image.running.workers worker ≡ Some None }
         requires first { IsFirst (held self.old).image.arena Waiting id }
         ensures recorded { Recorded self.new.step_record (held self.old) (held self.new) }
+        ensures frame { OnlyWork (held self.old).image (held self.new).image }
         ensures does { By taken (λ u. IsTaken request_of
             (working_of (held self.old).image) (working_of (held self.new).image) worker id u) self.new.step_record.change }
     {
@@ -82,6 +84,7 @@ impl<P: Copy> Memory<P> {
         requires found { held_request request_of (held self.old).image.arena id ≡ Some request }
         requires job { job_of id request ≡ work.job }
         ensures recorded { Recorded self.new.step_record (held self.old) (held self.new) }
+        ensures frame { OnlyWork (held self.old).image (held self.new).image }
         ensures does { By finished (λ u. IsFinished request_of asked
             (working_of (held self.old).image) (working_of (held self.new).image) worker id work.job work.digest u) self.new.step_record.change }
     {
@@ -95,6 +98,7 @@ impl<P: Copy> Memory<P> {
     /// Cancels a request that waits (uv_cancel).
     pub fn cancel(&mut self, id: Id) -> Result<(), Code>
         ensures recorded { IfOk result (λ _. Recorded self.new.step_record (held self.old) (held self.new)) }
+        ensures frame { IfOk result (λ _. OnlyWork (held self.old).image (held self.new).image) }
         ensures does { IfOk result (λ _. By cancelled (λ u. IsCancelled request_of asked
             (working_of (held self.old).image) (working_of (held self.new).image) id u) self.new.step_record.change) }
         ensures err { IfErr result (λ code. (cancel_refusal (found request_of (held self.old).image.arena id)
@@ -114,6 +118,7 @@ impl<P: Copy> Memory<P> {
     pub fn begin_done(&mut self)
         requires empty { members (held self.old).image.arena DoneYet ≡ [] }
         ensures recorded { Recorded self.new.step_record (held self.old) (held self.new) }
+        ensures frame { OnlySlots (held self.old).image (held self.new).image }
         ensures does { By begun (λ u. IsBegun request_of
             (working_of (held self.old).image) (working_of (held self.new).image) u) self.new.step_record.change }
     {
@@ -125,7 +130,10 @@ impl<P: Copy> Memory<P> {
     pub fn leave_poll(&mut self)
         requires empty { members (held self.old).image.arena DoneYet ≡ [] }
         ensures recorded { Recorded self.new.step_record (held self.old) (held self.new) }
-        ensures time { (held self.new).image.times.time ≡ (held self.old).image.clock }
+        ensures frame { (held self.new).image ≡ record (held self.old).image {
+          arena = (held self.new).image.arena;
+          times = record (held self.old).image.times { time = (held self.old).image.clock };
+        } }
         ensures does { By polled (λ u. IsBegun request_of
             (working_of (held self.old).image) (working_of (held self.new).image) u.spliced) self.new.step_record.change }
     {
@@ -140,6 +148,7 @@ impl<P: Copy> Memory<P> {
     /// nothing changed, where there is none.
     pub fn end_request(&mut self) -> Option<(Id, Request)>
         ensures recorded { IfSome result (λ _. Recorded self.new.step_record (held self.old) (held self.new)) }
+        ensures frame { IfSome result (λ _. OnlyWork (held self.old).image (held self.new).image) }
         ensures does { IfSome result (λ r. By (ended_by r.1) (λ u. IsCollected request_of asked
             (working_of (held self.old).image) (working_of (held self.new).image) r.0 r.1 u) self.new.step_record.change) }
         ensures none { IfNone result ((members (held self.old).image.arena DoneYet ≡ []) × Untouched self.old self.new) }

@@ -8,7 +8,7 @@ ghost use Rattle.uv_timer.specs.Timers.{IsRescheduled, IsCollected, IsFired, Non
 ghost use Rattle.uv_work.specs.declared.content.Content.TheVariants.{Handle as handle};
 ghost use Rattle.uv_step.specs.Change.{Timer as timer};
 ghost use Rattle.uv_work.specs.Content.{handle_of};
-ghost use Rattle.uv_step.specs.Image.{held, Untouched, timed_of};
+ghost use Rattle.uv_step.specs.Image.{held, Untouched, timed_of, OnlyTimed};
 ghost use Rattle.uv_step.specs.Undo.{Recorded};
 ghost use Rattle.uv_step.specs.Does.{By, moved_by};
 
@@ -24,6 +24,7 @@ impl<P: Copy> Memory<P> {
         requires room { IfSome change.due (λ _. id.slot < (held self.old).room) }
         requires starts { IfSome change.due (λ _. (held self.old).image.times.next_start < 2 ^ 64 - 1) }
         ensures recorded { Recorded self.new.step_record (held self.old) (held self.new) }
+        ensures frame { OnlyTimed (held self.old).image (held self.new).image }
         ensures does { By timer (λ u. IsRescheduled handle_of handle (held self.new).room
             (timed_of (held self.old).image) (timed_of (held self.new).image) id change u) self.new.step_record.change }
     {
@@ -43,6 +44,7 @@ impl<P: Copy> Memory<P> {
     /// Moves the first timer, if it is due, to the end of the ready list. None, and nothing changed, where none is due.
     pub fn collect_timer(&mut self) -> Option<Id>
         ensures recorded { IfSome result (λ _. Recorded self.new.step_record (held self.old) (held self.new)) }
+        ensures frame { IfSome result (λ _. OnlyTimed (held self.old).image (held self.new).image) }
         ensures does { IfSome result (λ id. By moved_by (λ u. IsCollected handle_of handle (held self.new).room
             (timed_of (held self.old).image) (timed_of (held self.new).image) id u) self.new.step_record.change) }
         ensures none { IfNone result (NoneIsDue handle_of (held self.old).image.arena (held self.old).image.heap (held self.old).image.times.time
@@ -69,6 +71,7 @@ impl<P: Copy> Memory<P> {
         requires room { (d : Id) → IsFirst (held self.old).image.arena Ready d → d.slot < (held self.old).room }
         requires starts { (held self.old).image.times.next_start < 2 ^ 64 - 1 }
         ensures recorded { IfSome result (λ _. Recorded self.new.step_record (held self.old) (held self.new)) }
+        ensures frame { IfSome result (λ _. OnlyTimed (held self.old).image (held self.new).image) }
         ensures does { IfSome result (λ id. By timer (λ u. IsFired handle_of handle (held self.new).room
             (timed_of (held self.old).image) (timed_of (held self.new).image) id u) self.new.step_record.change) }
         ensures none { IfNone result (NoneIsReady handle_of (held self.old).image.arena × Untouched self.old self.new) }

@@ -13,7 +13,7 @@ ghost use Rattle.uv_work.specs.declared.content.Content.{Content};
 ghost use Rattle.uv_work.specs.declared.content.Content.TheVariants.{Handle as handle};
 ghost use Rattle.uv_step.specs.Change.{Enlisted as enlisted, Delisted as delisted, Begun as begun, Walked as walked};
 ghost use Rattle.uv_work.specs.Content.{handle_of};
-ghost use Rattle.uv_step.specs.Image.{held, Untouched, counted_of};
+ghost use Rattle.uv_step.specs.Image.{held, Untouched, counted_of, OnlyHandles, OnlySlots};
 ghost use Rattle.uv_step.specs.Undo.{Recorded};
 ghost use Rattle.uv_step.specs.Does.{By, FirstIs, NoHandleFirst, closed_by};
 
@@ -33,6 +33,7 @@ impl<P: Copy> Memory<P> {
         requires inactive { from.active ≡ false }
         requires loose { on_list (held self.old).image.arena id ≡ false }
         ensures recorded { Recorded self.new.step_record (held self.old) (held self.new) }
+        ensures frame { OnlyHandles (held self.old).image (held self.new).image }
         ensures does { By enlisted (λ u. IsStarted handle_of handle
             (counted_of (held self.old).image) (counted_of (held self.new).image) id u) self.new.step_record.change }
     {
@@ -45,6 +46,7 @@ impl<P: Copy> Memory<P> {
     pub fn stop_watcher(&mut self, id: Id, from: HandleRecord)
         requires found { record_at handle_of (held self.old).image.arena id ≡ Some from }
         ensures recorded { Recorded self.new.step_record (held self.old) (held self.new) }
+        ensures frame { OnlyHandles (held self.old).image (held self.new).image }
         ensures does { By delisted (λ u. IsStopped handle_of handle
             (counted_of (held self.old).image) (counted_of (held self.new).image) id from u) self.new.step_record.change }
     {
@@ -57,6 +59,7 @@ impl<P: Copy> Memory<P> {
     pub fn begin(&mut self, kind: WatcherKind)
         requires empty { members (held self.old).image.arena (yet_of kind) ≡ [] }
         ensures recorded { Recorded self.new.step_record (held self.old) (held self.new) }
+        ensures frame { OnlySlots (held self.old).image (held self.new).image }
         ensures does { By begun (λ u. IsBegun (held self.old).image.arena (held self.new).image.arena kind u) self.new.step_record.change }
     {
         let undo = uv_watch::begin(&mut self.slots, kind);
@@ -67,6 +70,7 @@ impl<P: Copy> Memory<P> {
     /// send. None, and nothing changed, where there is none.
     pub fn walk(&mut self, kind: WatcherKind) -> Option<(Id, HandleRecord, bool)>
         ensures recorded { IfSome result (λ _. Recorded self.new.step_record (held self.old) (held self.new)) }
+        ensures frame { IfSome result (λ _. OnlyHandles (held self.old).image (held self.new).image) }
         ensures front { IfSome result (λ r. FirstIs (held self.old).image.arena (yet_of kind) r.0 r.1) }
         ensures does { IfSome result (λ r. By walked (λ u. IsMovedOn handle_of handle
             (counted_of (held self.old).image) (counted_of (held self.new).image) kind r.0 r.2 u) self.new.step_record.change) }
@@ -82,6 +86,7 @@ impl<P: Copy> Memory<P> {
     pub fn begin_closing(&mut self)
         requires empty { members (held self.old).image.arena ClosingYet ≡ [] }
         ensures recorded { Recorded self.new.step_record (held self.old) (held self.new) }
+        ensures frame { OnlySlots (held self.old).image (held self.new).image }
         ensures does { By begun (λ u. IsSpliced
             (held self.old).image.arena (held self.new).image.arena Closing ClosingYet u) self.new.step_record.change }
     {
@@ -93,6 +98,7 @@ impl<P: Copy> Memory<P> {
     /// None, and nothing changed, where there is none.
     pub fn end_handle(&mut self) -> Option<Id>
         ensures recorded { IfSome result (λ _. Recorded self.new.step_record (held self.old) (held self.new)) }
+        ensures frame { IfSome result (λ _. OnlyHandles (held self.old).image (held self.new).image) }
         ensures does { IfSome result (λ id. (h : HandleRecord) × By (closed_by h) (λ u. IsTaken handle_of handle
             (counted_of (held self.old).image) (counted_of (held self.new).image) id (handle h) u) self.new.step_record.change) }
         ensures none { IfNone result (NoHandleFirst (held self.old).image.arena ClosingYet × Untouched self.old self.new) }

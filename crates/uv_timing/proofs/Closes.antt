@@ -28,17 +28,17 @@ use Rattle.uv_step.specs.Record.{Record}
 use Rattle.uv_work.specs.Content.{handle_of}
 use Rattle.uv_step.specs.Does.{By, IsShut, moved_by}
 use Rattle.uv_step.specs.Fit.{IsFit}
-use Rattle.uv_step.specs.Image.{Image, Held, timed_of}
-use Rattle.uv_step.specs.Undo.{Recorded}
+use Rattle.uv_step.specs.Image.{Image, Held, timed_of, OnlyTimed}
 use Rattle.uv_stands.specs.Doing.{Does}
 use Rattle.uv_stands.specs.Stands.{StandsFor}
 use Rattle.uv_stands.proofs.Holding.{slots_set, map_same}
 use Rattle.uv_stands.proofs.Lists.{Listed, list_is}
 use Rattle.uv_stands.proofs.Pools.{ids_moved}
 use Rattle.uv_stands.proofs.Absent.{own_id}
-use Rattle.uv_timing.proofs.Retimed.{retimed, moved_frame, OnlyTimers, AreRetimed, IsWhole, stands_then, list_left, timers_are}
+use Rattle.uv_timing.proofs.Retimed.{retimed, AreRetimed, stands_then, list_left, timers_are}
 use Rattle.uv_timing.proofs.Stops.{ids_rescheduled}
 use Rattle.uv_timing.proofs.TakenOff.{timers_left, lists_left}
+use Rattle.uv_stands.proofs.Single.{start_is, time_is}
 
 -- but for the closing list a handle that is closed is off its lists, and no more
 closed_lists : (s : State) (d : Id) (h : HandleRecord) (l : ListName) → l ≢ name.Closing → members (closed s d h) l ≡ members (taken_off s d h) l
@@ -95,21 +95,18 @@ module _ (i : Image Place) (n : Timed Content) (mid : arena.Image Content) (room
     lists = listed;
     timers = timers_are i s stands n.handles.arena d ids n.heap (cleared d.slot stands.timers.entries) t.timers
         (x.timers stands.timers.entries stands.timers.ordered) (timers_left i s stands reached d h there);
-    time = ap (λ z. z.time) x.times ∙ stands.time;
-    next_start = ap (λ z. z.next_start) x.times ∙ stands.next_start;
+    time = ap (λ z. z.time) x.times ∙ (time_is stands);
+    next_start = ap (λ z. z.next_start) x.times ∙ (start_is stands);
   }
 
-only_closed : (s : State) (d : Id) (h : HandleRecord) → OnlyTimers s (closed s d h)
-only_closed s d h = record { place = refl; names = refl; running = refl; time = refl; clock = refl; stop_flag = refl; idled = refl }
-
 pub close_does : (r : Record Place) (h w : Held Place) (d : Id) (from : HandleRecord) → IsFit h.image → close_refusal from ≡ None
-    → Recorded r h w → IsWhole w.image → By moved_by (λ u. IsShut w.room (timed_of h.image) (timed_of w.image) d from u) r.change
+    → OnlyTimed h.image w.image → By moved_by (λ u. IsShut w.room (timed_of h.image) (timed_of w.image) d from u) r.change
     → Does (λ s. close s d from) h.image w.image (answer.Code success)
-close_does r h w d from fit allowed recorded whole by s stands reached =
+close_does r h w d from fit allowed frame by s stands reached =
     let x = by.does in (
       closed s d from,
       refl,
-      stands_then h.image w.image s (closed s d from) (moved_frame r h w recorded by.undo by.is) whole stands (only_closed s d from)
+      stands_then h.image w.image s (closed s d from) frame stands refl
           (closed_retimed h.image (timed_of w.image) x.mid w.room d from by.undo.timer x.changed x.listed s stands reached fit
           (unclosed_if from.closing allowed)),
     )

@@ -10,7 +10,6 @@ use Rattle.uv_records.specs.declared.lists.ListName.{ListName}
 use Rattle.uv_records.specs.declared.lists.ListName.TheVariants as name
 use Rattle.uv_records.specs.Handles as records
 use Rattle.uv_arena.specs.Image as arena
-use Rattle.uv_arena.specs.Image.{slot_at}
 use Rattle.uv_arena.proofs.Lookups.{without_none}
 use Rattle.uv_handle.specs.Counted.{record_at}
 use Rattle.uv_heap.specs.declared.entry.Entry.{Entry}
@@ -33,16 +32,16 @@ use Rattle.uv_step.specs.Record.{Record}
 use Rattle.uv_work.specs.Content.{handle_of}
 use Rattle.uv_step.specs.Does.{By, moved_by}
 use Rattle.uv_step.specs.Fit.{IsFit}
-use Rattle.uv_step.specs.Image.{Image, Held, timed_of}
-use Rattle.uv_step.specs.Undo.{Recorded}
+use Rattle.uv_step.specs.Image.{Image, Held, timed_of, OnlyTimed}
 use Rattle.uv_stands.specs.Stands.{StandsFor, timer_in}
 use Rattle.uv_stands.proofs.Holding.{state_handle, slots_set, ids_kept, map_same}
 use Rattle.uv_stands.proofs.Lists.{Listed, all_but_one}
 use Rattle.uv_timing.specs.Section.{Collects, CollectsNone}
 use Rattle.uv_stands.proofs.Absent.{IsOn, held_handle, own_id, holds_it, absent_active}
 use Rattle.uv_timing.proofs.Entries.{cleared_first}
-use Rattle.uv_timing.proofs.Retimed.{retimed, moved_frame, OnlyTimers, AreRetimed, IsWhole, stands_then, timers_are}
+use Rattle.uv_timing.proofs.Retimed.{retimed, AreRetimed, stands_then, timers_are}
 use Rattle.uv_timing.proofs.TakenOff.{IsIts, its_timer}
+use Rattle.uv_stands.proofs.Single.{start_is, time_is}
 
 -- ---- the first of the order
 
@@ -105,7 +104,7 @@ module _ (i j : Image Place) (room : ℕ) (d : Id) (u : CollectUndo) (c : IsColl
 
   pub due_first : first_due s s.timers ≡ Some (d, h)
   due_first =
-      let at : c.is_due.entry.due.at ≤ s.time = subst (λ n. c.is_due.entry.due.at ≤ n) stands.time c.is_due.due in
+      let at : c.is_due.entry.due.at ≤ s.time = subst (λ n. c.is_due.entry.due.at ≤ n) (time_is stands) c.is_due.due in
       ap (first_due s) timers
       ∙ ap (λ (b : Bool). if b then with_id d (handle s d) else None) (le-leb c.is_due.entry.due.at s.time at)
       ∙ ap (with_id d) (holds_it i d h there s stands)
@@ -142,20 +141,17 @@ module _ (i j : Image Place) (room : ℕ) (d : Id) (u : CollectUndo) (c : IsColl
     slots = slots_set i s j.arena d (Handle (records.stopped h)) stands c.plain;
     lists = all_but_one i s stands j.arena t ids name.Ready stays others last;
     timers = timers_are i s stands j.arena d ids j.heap (cleared d.slot entries) t.timers (c.timers entries stands.timers.ordered) left;
-    time = ap (λ z. z.time) c.times ∙ stands.time;
-    next_start = ap (λ z. z.next_start) c.times ∙ stands.next_start;
+    time = ap (λ z. z.time) c.times ∙ (time_is stands);
+    next_start = ap (λ z. z.next_start) c.times ∙ (start_is stands);
   }
 
-only_collected : (s : State) (d : Id) (h : HandleRecord) → OnlyTimers s (collected s d h)
-only_collected s d h = record { place = refl; names = refl; running = refl; time = refl; clock = refl; stop_flag = refl; idled = refl }
-
-pub timer_collects : (r : Record Place) (h w : Held Place) (d : Id) → IsFit h.image → Recorded r h w → IsWhole w.image
+pub timer_collects : (r : Record Place) (h w : Held Place) (d : Id) → IsFit h.image → OnlyTimed h.image w.image
     → By moved_by (λ u. IsCollected handle_of Handle w.room (timed_of h.image) (timed_of w.image) d u) r.change → Collects h.image w.image d
-timer_collects r h w d fit recorded whole by s stands reached =
+timer_collects r h w d fit frame by s stands reached =
     let c = by.does in (
       c.from,
       due_first h.image w.image w.room d by.undo c c.is_due.handle s stands reached fit,
-      stands_then h.image w.image s (collected s d c.from) (moved_frame r h w recorded by.undo by.is) whole stands (only_collected s d c.from)
+      stands_then h.image w.image s (collected s d c.from) frame stands refl
           (collected_retimed h.image w.image w.room d by.undo c c.is_due.handle s stands reached fit),
     )
 
@@ -175,15 +171,15 @@ module _ (i : Image Place) (s : State) (stands : StandsFor i s) where
     no_handle le =
         state_handle i s (id_in i.arena f.slot) stands
         ∙ subst (λ (e : Entry). e.due.at ≤ i.times.time → record_at handle_of i.arena (id_in i.arena e.slot) ≡ None) same none
-        (subst (λ n. f.due.at ≤ n) (sym stands.time) le)
+        (subst (λ n. f.due.at ≤ n) (sym (time_is stands)) le)
 
     at : (b : Bool) → nat_le f.due.at s.time ≡ b
         → (if b then with_id (id_in i.arena f.slot) (handle s (id_in i.arena f.slot)) else None) ≡ None
     at true e = ap (with_id (id_in i.arena f.slot)) (no_handle (leb-true f.due.at s.time e))
     at false e = refl
 
-pub none_collects : (i : Image Place) → NoneIsDue handle_of i.arena i.heap i.times.time → CollectsNone i
-none_collects i none s stands reached =
+pub none_collects : (i : Image Place) → IsHeap i.heap → NoneIsDue handle_of i.arena i.heap i.times.time → CollectsNone i
+none_collects i heap none s stands reached =
     ap (first_due s) stands.timers.same
-    ∙ none_in i s stands i.heap stands.timers.entries stands.heap stands.timers.ordered
+    ∙ none_in i s stands i.heap stands.timers.entries heap stands.timers.ordered
     (subst InOrder stands.timers.same reached.timers.sorted) none

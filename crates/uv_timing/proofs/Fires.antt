@@ -15,7 +15,6 @@ use Rattle.uv_records.specs.Walks.{without}
 use Rattle.uv_arena.specs.Calls.{IsFirst}
 use Rattle.uv_arena.specs.Chains.{IsIn}
 use Rattle.uv_arena.specs.Image as arena
-use Rattle.uv_arena.specs.Image.{IsSound, plain_slots}
 use Rattle.uv_handle.specs.Counted.{record_at}
 use Rattle.uv_heap.specs.Order.{inserted}
 use Rattle.uv_timer.specs.declared.change.Times.{Times}
@@ -32,11 +31,8 @@ use Rattle.uv_model.specs.Timers.{taken_off, with_timer, without_timer, started,
 use Rattle.uv_order.specs.Reached.{IsReached, IsSetAside}
 use Rattle.uv_work.specs.declared.content.Content.{Content}
 use Rattle.uv_work.specs.declared.content.Content.TheVariants.{Handle}
-use Rattle.uv_step.specs.Change as change
-use Rattle.uv_step.specs.Record.{Record}
 use Rattle.uv_work.specs.Content.{handle_of}
-use Rattle.uv_step.specs.Image.{Image, Held, timed_of}
-use Rattle.uv_step.specs.Undo.{Recorded}
+use Rattle.uv_step.specs.Image.{Image, Held, timed_of, OnlyTimed}
 use Rattle.uv_stands.specs.Stands.{StandsFor, timer_in}
 use Rattle.uv_stands.proofs.Holding.{state_handle, slots_set, map_same}
 use Rattle.uv_stands.proofs.Lists.{Listed, all_but_one, beside_lists}
@@ -45,10 +41,11 @@ use Rattle.uv_stands.proofs.Pools.{front_there}
 use Rattle.uv_timing.specs.Section.{Fires, FiresNone}
 use Rattle.uv_stands.proofs.Absent.{IsOn, holds_it, has_it}
 use Rattle.uv_timing.proofs.Entries.{entry_of}
-use Rattle.uv_timing.proofs.Retimed.{retimed, timer_frame, OnlyTimers, AreRetimed, IsWhole, stands_then, timers_are}
+use Rattle.uv_timing.proofs.Retimed.{retimed, OnlyTimers, AreRetimed, stands_then, timers_are}
 use Rattle.uv_timing.proofs.Starts.{due_same}
 use Rattle.uv_timing.proofs.Stops.{ids_rescheduled}
 use Rattle.uv_timing.proofs.TakenOff.{inert_cleared, timers_set}
+use Rattle.uv_stands.proofs.Single.{start_is, time_is}
 
 -- ---- what is written again stays
 
@@ -135,8 +132,8 @@ module _ (i : Image Place) (n : Timed Content) (room : ℕ) (d : Id) (h : Handle
         timers = timers_are i s stands n.handles.arena d ids n.heap (cleared d.slot stands.timers.entries) s.timers
             (x.timers stands.timers.entries stands.timers.ordered)
             (stands.timers.same ∙ ap (map (timer_in i.arena)) (sym unlisted));
-        time = ap (λ z. z.time) x.times ∙ stands.time;
-        next_start = ap (λ z. z.next_start) x.times ∙ stands.next_start;
+        time = ap (λ z. z.time) x.times ∙ (time_is stands);
+        next_start = ap (λ z. z.next_start) x.times ∙ (start_is stands);
       }
 
   abbrev key : Due
@@ -158,8 +155,8 @@ module _ (i : Image Place) (n : Timed Content) (room : ℕ) (d : Id) (h : Handle
         timers = timers_are i s stands n.handles.arena d ids n.heap (inserted (entry_of key d.slot) (cleared d.slot stands.timers.entries))
             again.timers (x.timers stands.timers.entries stands.timers.ordered)
             (ap (λ ts. with_timer ts key d) (sym (off_inactive s d h inactive)) ∙ timers_set i s stands reached d h there reached.drawn key refl);
-        time = ap (λ z. z.time) x.times ∙ stands.time;
-        next_start = ap (λ z. z.next_start) x.times ∙ ap (λ z. z + 1) stands.next_start;
+        time = ap (λ z. z.time) x.times ∙ (time_is stands);
+        next_start = ap (λ z. z.next_start) x.times ∙ ap (λ z. z + 1) (start_is stands);
       }
 
   fired_by : (b : Bool)
@@ -175,8 +172,8 @@ only_fired : (s : State) (d : Id) (h : HandleRecord) → OnlyTimers s (restarted
 only_fired s d h = at (h.repeat == 0) where
   at : (b : Bool)
       → OnlyTimers s (if b then record s { ready = drop 1 s.ready } else started (record s { ready = drop 1 s.ready }) d h h.repeat h.repeat)
-  at true = record { place = refl; names = refl; running = refl; time = refl; clock = refl; stop_flag = refl; idled = refl }
-  at false = record { place = refl; names = refl; running = refl; time = refl; clock = refl; stop_flag = refl; idled = refl }
+  at true = refl
+  at false = refl
 
 from_firing : (times : Times) (h : HandleRecord) → (firing times h).from ≡ h
 from_firing times h = at (h.repeat == 0) where
@@ -190,7 +187,7 @@ name_firing times h = at (h.repeat == 0) where
   at true = refl
   at false = refl
 
-module _ (r : Record Place) (h w : Held Place) (d : Id) (u : TimerUndo)
+module _ (h w : Held Place) (d : Id) (u : TimerUndo)
     (c : IsFired handle_of Handle w.room (timed_of h.image) (timed_of w.image) d u) where
   there : record_at handle_of h.image.arena d ≡ Some c.from
   there = c.changed.handles.there ∙ ap Some (from_firing h.image.times c.from)
@@ -201,15 +198,15 @@ module _ (r : Record Place) (h w : Held Place) (d : Id) (u : TimerUndo)
       sym (name_firing h.image.times c.from)
       ∙ ap (λ (z : HandleRecord). z.name) (same_Some (firing h.image.times c.from).to now (sym c.changed.handles.handle ∙ e))
 
-  pub timer_fires : Recorded r h w → r.change ≡ change.Timer u → IsWhole w.image → (now : HandleRecord)
+  pub timer_fires : OnlyTimed h.image w.image → (now : HandleRecord)
       → record_at handle_of w.image.arena d ≡ Some now → Fires h.image w.image d now.name
-  timer_fires recorded is whole now e s stands reached =
+  timer_fires frame now e s stands reached =
       let i = h.image in
       let n = timed_of w.image in (
         c.from,
         is_front i n w.room d c.from u c.first there s stands reached,
         fired_name now e,
-        stands_then i w.image s _ (timer_frame r h w recorded u is) whole stands (only_fired s d c.from)
+        stands_then i w.image s _ frame stands (only_fired s d c.from)
             (fired_retimed i n w.room d c.from u c.first there s stands reached c.changed),
       )
 

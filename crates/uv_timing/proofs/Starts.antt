@@ -35,21 +35,21 @@ use Rattle.uv_work.specs.declared.content.Content.TheVariants.{Handle}
 use Rattle.uv_work.specs.Content.{handle_of}
 use Rattle.uv_step.specs.Does.{By}
 use Rattle.uv_step.specs.Fit.{IsFit}
-use Rattle.uv_step.specs.Image.{Image, Held, timed_of}
-use Rattle.uv_step.specs.Undo.{Recorded}
+use Rattle.uv_step.specs.Image.{Image, Held, timed_of, OnlyTimed}
 use Rattle.uv_stands.specs.Stands.{StandsFor}
 use Rattle.uv_stands.proofs.Holding.{slots_set}
 use Rattle.uv_stands.proofs.Lists.{beside_lists}
 use Rattle.uv_stands.proofs.Absent.{own_id}
 use Rattle.uv_timing.proofs.Entries.{entry_of}
-use Rattle.uv_timing.proofs.Retimed.{retimed, timer_frame, OnlyTimers, AreRetimed, IsWhole, stands_then, list_left, timers_are}
-use Rattle.uv_timing.proofs.Stops.{ids_rescheduled, stopped_retimed, only_stopped}
+use Rattle.uv_timing.proofs.Retimed.{retimed, OnlyTimers, AreRetimed, stands_then, list_left, timers_are}
+use Rattle.uv_timing.proofs.Stops.{ids_rescheduled, stopped_retimed}
 use Rattle.uv_timing.proofs.TakenOff.{timers_set, lists_left}
+use Rattle.uv_stands.proofs.Single.{start_is, time_is}
 
 -- when a timer is due is the same in the memory and in the state
 pub due_same : (i : Image Place) (s : State) (timeout : ℕ) → StandsFor i s
     → dues.due_after i.times.time i.times.next_start timeout ≡ due_after s timeout
-due_same i s timeout stands = λ l. dues.due_after (stands.time l) (stands.next_start l) timeout
+due_same i s timeout stands = λ l. dues.due_after (stands.values l).time (stands.values l).next_start timeout
 
 module _ (i : Image Place) (n : Timed Content) (room : ℕ) (d : Id) (h : HandleRecord) (timeout repeat : ℕ) (u : TimerUndo)
     (started_so : IsRescheduled handle_of Handle room (timed_of i) n d (starting i.times h timeout repeat) u) (s : State) (stands : StandsFor i s)
@@ -87,13 +87,9 @@ module _ (i : Image Place) (n : Timed Content) (room : ℕ) (d : Id) (h : Handle
         (same_off l ∙ lists_left i s stands reached d h there fit unclosed l);
     timers = timers_are i s stands n.handles.arena d ids n.heap (inserted (entry_of key d.slot) (cleared d.slot stands.timers.entries)) t.timers
         (x.timers stands.timers.entries stands.timers.ordered) (timers_set i s stands reached d h there reached.drawn key refl);
-    time = ap (λ z. z.time) x.times ∙ stands.time;
-    next_start = ap (λ z. z.next_start) x.times ∙ ap (λ z. z + 1) stands.next_start;
+    time = ap (λ z. z.time) x.times ∙ (time_is stands);
+    next_start = ap (λ z. z.next_start) x.times ∙ ap (λ z. z + 1) (start_is stands);
   }
-
-pub only_started : (s : State) (d : Id) (h : HandleRecord) (timeout repeat : ℕ) → OnlyTimers s (started (stopped s d h) d h timeout repeat)
-only_started s d h timeout repeat =
-    record { place = refl; names = refl; running = refl; time = refl; clock = refl; stop_flag = refl; idled = refl }
 
 -- ---- what isn't refused
 
@@ -142,26 +138,22 @@ module _ (i : Image Place) (n : Timed Content) (room : ℕ) (d : Id) (h : Handle
 only_restarted : (s : State) (d : Id) (h : HandleRecord) → OnlyTimers s (restarted (stopped s d h) d h)
 only_restarted s d h = at (h.repeat == 0) where
   at : (b : Bool) → OnlyTimers s (if b then stopped s d h else started (stopped s d h) d h h.repeat h.repeat)
-  at true = only_stopped s d h
-  at false = only_started s d h h.repeat h.repeat
+  at true = refl
+  at false = refl
 
 -- ---- the ops
 
-module _ (r : Record Place) (h w : Held Place) (d : Id) (from : HandleRecord) (c : TimerChange) (fit : IsFit h.image) (recorded : Recorded r h w)
-    (whole : IsWhole w.image)
+module _ (r : Record Place) (h w : Held Place) (d : Id) (from : HandleRecord) (c : TimerChange) (fit : IsFit h.image) (frame : OnlyTimed h.image w.image)
     (by : By change.Timer (λ u. IsRescheduled handle_of Handle w.room (timed_of h.image) (timed_of w.image) d c u) r.change) where
   changed : (b : TimerChange) → c ≡ b → IsRescheduled handle_of Handle w.room (timed_of h.image) (timed_of w.image) d b by.undo
   changed b is = subst (λ z. IsRescheduled handle_of Handle w.room (timed_of h.image) (timed_of w.image) d z by.undo) is by.does
-
-  frame : w.image ≡ retimed h.image (timed_of w.image)
-  frame = timer_frame r h w recorded by.undo by.is
 
   pub start_does : (timeout repeat : ℕ) → start_timer_refusal from ≡ None → c ≡ starting h.image.times from timeout repeat
       → Does (λ s. start s timeout repeat d from) h.image w.image (answer.Code success)
   start_does timeout repeat allowed is s stands reached = (
     started (stopped s d from) d from timeout repeat,
     refl,
-    stands_then h.image w.image s _ frame whole stands (only_started s d from timeout repeat)
+    stands_then h.image w.image s _ frame stands refl
         (started_retimed h.image (timed_of w.image) w.room d from timeout repeat by.undo (changed _ is) s stands reached fit
         (start_unclosed from allowed)),
   )
@@ -171,6 +163,6 @@ module _ (r : Record Place) (h w : Held Place) (d : Id) (from : HandleRecord) (c
   again_does allowed is s stands reached = (
     restarted (stopped s d from) d from,
     refl,
-    stands_then h.image w.image s _ frame whole stands (only_restarted s d from)
+    stands_then h.image w.image s _ frame stands (only_restarted s d from)
         (restarted_retimed h.image (timed_of w.image) w.room d from by.undo s stands reached fit allowed (changed _ is)),
   )

@@ -31,15 +31,15 @@ use Rattle.uv_step.specs.Record.{Record}
 use Rattle.uv_work.specs.Content.{handle_of}
 use Rattle.uv_step.specs.Does.{By}
 use Rattle.uv_step.specs.Fit.{IsFit}
-use Rattle.uv_step.specs.Image.{Image, Held, timed_of}
-use Rattle.uv_step.specs.Undo.{Recorded}
+use Rattle.uv_step.specs.Image.{Image, Held, timed_of, OnlyTimed}
 use Rattle.uv_stands.specs.Doing.{Does}
 use Rattle.uv_stands.specs.Stands.{StandsFor}
 use Rattle.uv_stands.proofs.Holding.{slots_set, ids_kept}
 use Rattle.uv_stands.proofs.Lists.{Listed, beside_lists, list_stays}
 use Rattle.uv_stands.proofs.Absent.{IsOn, timer_kind, held_handle, own_id, stays, ready_stays, not_idle, not_prepare, not_check, not_async}
-use Rattle.uv_timing.proofs.Retimed.{retimed, timer_frame, OnlyTimers, AreRetimed, IsWhole, stands_then, list_left, timers_are}
+use Rattle.uv_timing.proofs.Retimed.{retimed, AreRetimed, stands_then, list_left, timers_are}
 use Rattle.uv_timing.proofs.TakenOff.{timers_left, lists_left}
+use Rattle.uv_stands.proofs.Single.{start_is, time_is}
 
 -- ids stay where one handle is rescheduled
 pub ids_rescheduled : (i : Image Place) (n : Timed Content) (room : ℕ) (d : Id) (c : TimerChange) (u : TimerUndo)
@@ -107,23 +107,20 @@ module _ (i : Image Place) (n : Timed Content) (room : ℕ) (d : Id) (h : Handle
     lists = listed h.closing refl;
     timers = timers_are i s stands n.handles.arena d ids n.heap (cleared d.slot stands.timers.entries) t.timers
         (x.timers stands.timers.entries stands.timers.ordered) (timers_left i s stands reached d h there);
-    time = ap (λ z. z.time) x.times ∙ stands.time;
-    next_start = ap (λ z. z.next_start) x.times ∙ stands.next_start;
+    time = ap (λ z. z.time) x.times ∙ (time_is stands);
+    next_start = ap (λ z. z.next_start) x.times ∙ (start_is stands);
   }
 
-pub only_stopped : (s : State) (d : Id) (h : HandleRecord) → OnlyTimers s (stopped s d h)
-only_stopped s d h = record { place = refl; names = refl; running = refl; time = refl; clock = refl; stop_flag = refl; idled = refl }
-
 pub stop_does : (r : Record Place) (h w : Held Place) (d : Id) (from : HandleRecord) (c : TimerChange) → IsFit h.image → is_timer from.kind ≡ true
-    → Recorded r h w → IsWhole w.image → c ≡ stopping from
+    → OnlyTimed h.image w.image → c ≡ stopping from
     → By change.Timer (λ u. IsRescheduled handle_of Handle w.room (timed_of h.image) (timed_of w.image) d c u) r.change
     → Does (λ s. stop s d from) h.image w.image (answer.Code success)
-stop_does r h w d from c fit timer recorded whole is by s stands reached =
+stop_does r h w d from c fit timer frame is by s stands reached =
     let i = h.image in
     let n = timed_of w.image in
     let changed = subst (λ z. IsRescheduled handle_of Handle w.room (timed_of i) n d z by.undo) is by.does in (
       stopped s d from,
       refl,
-      stands_then i w.image s (stopped s d from) (timer_frame r h w recorded by.undo by.is) whole stands (only_stopped s d from)
+      stands_then i w.image s (stopped s d from) frame stands refl
           (stopped_retimed i n w.room d from by.undo changed s stands reached fit timer),
     )

@@ -25,5 +25,4 @@ pub fn close_handle(memory: &mut Memory<Place>, id: Id, handle: HandleRecord)
 {
     memory.is_fit();
     memory.close(id, handle);
-    memory.is_sound();
 }

@@ -19,12 +19,10 @@ pub fn collect_timer(memory: &mut Memory<Place>) -> Option<Id>
     ensures unchanged { IfNone result (held memory.new ≡ held memory.old) }
 {
     memory.is_fit();
+    memory.is_sound();
     match memory.collect_timer() {
         None => None,
-        Some(id) => {
-            memory.is_sound();
-            Some(id)
-        }
+        Some(id) => Some(id),
     }
 }
 
@@ -42,10 +40,7 @@ pub fn fire_timer(memory: &mut Memory<Place>) -> Option<(Id, Var)>
         None => None,
         Some(id) => match handle_at(memory.slots(), id) {
             Err(_) => unreachable!(),
-            Ok(handle) => {
-                memory.is_sound();
-                Some((id, handle.name))
-            }
+            Ok(handle) => Some((id, handle.name)),
         },
     }
 }

@@ -27,7 +27,6 @@ pub fn stop_timer(memory: &mut Memory<Place>, id: Id, handle: HandleRecord)
 {
     memory.is_fit();
     memory.reschedule(id, TimerChange::stopping(handle));
-    memory.is_sound();
 }
 
 /// Starts a timer (uv_timer_start): it is stopped, and then due the timeout from now.
@@ -48,7 +47,6 @@ pub fn start_timer(
     memory.is_sound();
     let change = TimerChange::starting(memory.times(), handle, timeout, repeat);
     memory.reschedule(id, change);
-    memory.is_sound();
 }
 
 /// Starts a timer again (uv_timer_again): it is stopped, and due its repeat from now if it repeats.
@@ -63,5 +61,4 @@ pub fn start_again(memory: &mut Memory<Place>, id: Id, handle: HandleRecord)
     memory.is_sound();
     let change = TimerChange::again(memory.times(), handle);
     memory.reschedule(id, change);
-    memory.is_sound();
 }

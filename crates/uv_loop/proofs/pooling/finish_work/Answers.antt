@@ -4,6 +4,6 @@ use Rattle.uv_loop.proofs.pooling.finish_work.Goals as goal
 
 pub returns-clause-leads : goal.returns-clause-leads
 returns-clause-leads c p =
-    finish_leads c.finish.new.self.step_record (held c.args.memory.now) (held c.finish.new.self) c.args.worker c.args.id _ c.args.request
+    finish_leads (held c.args.memory.now) (held c.finish.new.self) c.args.worker c.args.id _ c.args.request
     c.args.work.job c.args.work.digest _ c.requires.may c.requires.job c.args.work.is_digest c.finish.ensures.does.does
-    c.finish.ensures.recorded c.finish.ensures.does.is c.is_sound.ensures.arena p
+    c.finish.ensures.frame p

@@ -4,5 +4,5 @@ use Rattle.uv_loop.proofs.pooling.take_work.Goals as goal
 
 pub returns-clause-leads : goal.returns-clause-leads
 returns-clause-leads c p =
-    take_leads c.take.new.self.step_record (held c.args.memory.now) (held c.take.new.self) c.args.worker c.args.id _ c.args.request _ c.requires.may
-    c.take.ensures.does.does c.take.ensures.recorded c.take.ensures.does.is c.is_sound.ensures.arena p
+    take_leads (held c.args.memory.now) (held c.take.new.self) c.args.worker c.args.id _ c.args.request _ c.requires.may
+    c.take.ensures.does.does c.take.ensures.frame p

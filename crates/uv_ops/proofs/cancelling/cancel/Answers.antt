@@ -25,13 +25,13 @@ returns-in-Err-clause-performs c =
 
 pub returns-in-Ok-clause-cancels : goal.returns-in-Ok-clause-cancels
 returns-in-Ok-clause-cancels c =
-    cancel_done c.cancel.new.self.step_record (held c.args.memory.now) (held c.cancel.new.self) c.in-Ok.ensures.recorded c.is_sound.ensures.arena
+    cancel_done c.cancel.new.self.step_record (held c.args.memory.now) (held c.cancel.new.self) c.in-Ok.ensures.frame
     c.args.name
     c.in-Some.id c.in-Some.ensures c.in-Ok.ensures.does
 
 pub returns-in-Ok-clause-performs : goal.returns-in-Ok-clause-performs
 returns-in-Ok-clause-performs c =
     cancel_performs c.args.name (image_of c.args.memory.now) (image_of c.cancel.new.self) _
-    (cancel_done c.cancel.new.self.step_record (held c.args.memory.now) (held c.cancel.new.self) c.in-Ok.ensures.recorded c.is_sound.ensures.arena
+    (cancel_done c.cancel.new.self.step_record (held c.args.memory.now) (held c.cancel.new.self) c.in-Ok.ensures.frame
     c.args.name
     c.in-Some.id c.in-Some.ensures c.in-Ok.ensures.does)

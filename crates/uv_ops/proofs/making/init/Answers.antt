@@ -14,6 +14,6 @@ returns-in-Err-Full-clause-performs c =
 
 pub returns-in-Ok-clause-performs : goal.returns-in-Ok-clause-performs
 returns-in-Ok-clause-performs c =
-    inits_by c.init.new.self.step_record (held c.args.memory.now) (held c.init.new.self) c.in-Ok.ensures.recorded c.is_sound.ensures.arena
+    inits_by c.init.new.self.step_record (held c.args.memory.now) (held c.init.new.self) c.in-Ok.ensures.frame
     c.args.name c.args.kind
     c.in-Ok.id c.in-Ok.ensures.made c.if-is_live.ensures (image_of c.bind_name.new.memory) c.bind_name.ensures.image

@@ -15,7 +15,7 @@ returns-in-Err-Full-clause-performs c =
 
 pub returns-in-Ok-clause-performs : goal.returns-in-Ok-clause-performs
 returns-in-Ok-clause-performs c =
-    queues c.queue.new.self.step_record (held c.args.memory.now) (held c.queue.new.self) c.in-Ok.ensures.recorded c.is_sound.ensures.arena
+    queues c.queue.new.self.step_record (held c.args.memory.now) (held c.queue.new.self) c.in-Ok.ensures.frame
     c.args.name c.args.task
     c.in-Ok.id _ (ap reopened c.new.ensures) c.in-Ok.ensures.does c.if-is_live.ensures (image_of c.bind_name.new.memory)
     c.bind_name.ensures.image

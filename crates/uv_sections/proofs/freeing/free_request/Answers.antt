@@ -1,5 +1,5 @@
 use Rattle.uv_records.specs.declared.lists.ListName.TheVariants.{DoneYet}
-use Rattle.uv_step.specs.Image.{held, image_of}
+use Rattle.uv_step.specs.Image.{image_of}
 use Rattle.uv_sections.proofs.Ends.{request_gone}
 use Rattle.uv_sections.proofs.Firsts.{none_asked}
 use Rattle.uv_sections.proofs.freeing.free_request.Goals as goal
@@ -9,6 +9,6 @@ returns-in-None-clause-none c s h reached = none_asked (image_of c.args.memory.n
 
 pub returns-in-Some-clause-gone : goal.returns-in-Some-clause-gone
 returns-in-Some-clause-gone c =
-    request_gone c.end_request.new.self.step_record (held c.args.memory.now) (held c.end_request.new.self) _ c.requires.last
-    c.in-Some.ensures.recorded
-    c.is_sound.ensures.arena c.in-Some.ended.0 c.in-Some.ended.1 _ c.in-Some.ensures.does.is c.in-Some.ensures.does.does
+    let e = c.in-Some.ensures in
+    request_gone (image_of c.args.memory.now) (image_of c.end_request.new.self) _ c.requires.last
+    c.in-Some.ended.0 e.frame c.in-Some.ended.1 _ e.does.does

@@ -1,11 +1,9 @@
 use Rattle.uv_step.specs.Image.{held}
-use Rattle.uv_timing.proofs.Retimed.{whole}
 use Rattle.uv_timing.proofs.Closes.{close_does}
 use Rattle.uv_timing.proofs.closing.close_handle.Goals as goal
 
 pub returns-clause-does : goal.returns-clause-does
 returns-clause-does c =
     let did = c.close.ensures in
-    let sound = c.is_sound.ensures in
     close_does c.close.new.self.step_record (held c.args.memory.now) (held c.close.new.self) c.args.id c.args.handle c.is_fit.ensures
-    c.requires.allowed did.recorded (whole _ _ _ did.recorded sound.arena sound.heap sound.places) did.does
+    c.requires.allowed did.frame did.does

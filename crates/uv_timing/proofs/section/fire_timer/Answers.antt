@@ -1,5 +1,4 @@
 use Rattle.uv_step.specs.Image.{held, image_of}
-use Rattle.uv_timing.proofs.Retimed.{whole}
 use Rattle.uv_timing.proofs.Fires.{timer_fires, none_fires}
 use Rattle.uv_timing.proofs.section.fire_timer.Goals as goal
 
@@ -9,7 +8,6 @@ returns-in-None-clause-none c = none_fires (image_of c.args.memory.now) c.in-Non
 pub returns-in-Ok-clause-fires : goal.returns-in-Ok-clause-fires
 returns-in-Ok-clause-fires c =
     let did = c.in-Some.ensures in
-    let sound = c.is_sound-in-Ok.ensures in
-    timer_fires c.fire_timer.new.self.step_record (held c.args.memory.now) (held c.fire_timer.new.self) c.in-Some.id _ did.does.does
-    did.recorded did.does.is (whole _ _ _ did.recorded sound.arena sound.heap sound.places) c.in-Ok.handle
+    timer_fires (held c.args.memory.now) (held c.fire_timer.new.self) c.in-Some.id _ did.does.does
+    did.frame c.in-Ok.handle
     (rw c.slots.ensures at c.in-Ok.ensures.ok.0)

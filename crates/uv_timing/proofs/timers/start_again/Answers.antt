@@ -1,12 +1,10 @@
 use Rattle.uv_step.specs.Image.{held}
-use Rattle.uv_timing.proofs.Retimed.{whole}
 use Rattle.uv_timing.proofs.Starts.{again_does}
 use Rattle.uv_timing.proofs.timers.start_again.Goals as goal
 
 pub returns-clause-does : goal.returns-clause-does
 returns-clause-does c =
     let did = c.reschedule.ensures in
-    let sound = c.is_sound-2.ensures in
     again_does c.reschedule.new.self.step_record (held c.args.memory.now) (held c.reschedule.new.self) c.args.id c.args.handle _ c.is_fit.ensures
-    did.recorded (whole _ _ _ did.recorded sound.arena sound.heap sound.places) did.does c.requires.allowed
+    did.frame did.does c.requires.allowed
     (rw c.times.ensures at c.again-change.ensures)

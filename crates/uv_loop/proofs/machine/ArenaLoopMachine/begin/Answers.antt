@@ -1,5 +1,3 @@
-use Rattle.std.proofs.Common.{ap, subst}
-use Rattle.uv_arena.specs.Image.{IsSound}
 use Rattle.uv_step.specs.Image.{held}
 use Rattle.uv_loop.proofs.Courses.{course_new}
 use Rattle.uv_loop.proofs.Simulation.{fresh_stands}
@@ -12,4 +10,4 @@ invariant_of-result c =
     let is = c.in-Ok.ensures.image in
     course_new c.args.script (events_of c.new.result.seen.items) c.new.result.seen.items c.new.result.trail.records (held c.in-Ok.memory)
     (events_same c.new.ensures.seen) c.new.ensures.seen c.new.ensures.records c.in-Ok.ensures.fit
-    is (fresh_stands c.args.script (subst (λ i. IsSound i) (ap (λ i. i.arena) is) c.is_sound.ensures.arena))
+    is (fresh_stands c.args.script)

@@ -17,9 +17,9 @@ returns c =
     } in
     asked _ _ _ _ (held c.self.inside.memory) _ c.self.view_is c.self.invariant (λ s. shown ≡ numbers s)
     (λ s h. rw (c.times-times.ensures, c.clock.ensures, c.stop_flag.ensures, c.idled.ensures) (λ l. record {
-      time = h.time l;
-      clock = h.clock l;
-      next_start = h.next_start l;
-      stop_flag = h.stop_flag l;
-      idled = h.idled l;
+      time = (h.values l).time;
+      clock = (h.values l).clock;
+      next_start = (h.values l).next_start;
+      stop_flag = (h.values l).stop_flag;
+      idled = (h.values l).idled;
     }))

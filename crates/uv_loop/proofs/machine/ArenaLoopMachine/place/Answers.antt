@@ -2,7 +2,8 @@ use Rattle.std.proofs.Common.{◌≡◌, ◌∙◌}
 use Rattle.uv_step.specs.Image.{held}
 use Rattle.uv_loop.proofs.Courses.{asked}
 use Rattle.uv_loop.proofs.machine.ArenaLoopMachine.place.Goals as goal
+use Rattle.uv_stands.proofs.Single.{place_is}
 
 pub returns : goal.returns
 returns c =
-    asked _ _ _ _ (held c.self.inside.memory) _ c.self.view_is c.self.invariant (λ s. c.place.result ≡ s.place) (λ s h. c.place.ensures ∙ h.place)
+    asked _ _ _ _ (held c.self.inside.memory) _ c.self.view_is c.self.invariant (λ s. c.place.result ≡ s.place) (λ s h. c.place.ensures ∙ (place_is h))

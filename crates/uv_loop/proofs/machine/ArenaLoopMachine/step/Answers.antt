@@ -58,9 +58,9 @@ returns-in_default-clause-answer c =
 
 pub act-requires-clause-ready : goal.act-requires-clause-ready
 act-requires-clause-ready c =
-    course_ready _ _ _ _ _
+    course_ready _ _ _ _ (held c.reserve-2.new.self)
     (course_roomier _ _ _ _ (held c.self.inside.memory) (held c.reserve-2.new.self) c.reserve-2.ensures.image c.reserve-2.ensures.kept
-    c.self.invariant) (granted c.reserve-2.result c.reserve-2.ensures.ok c.if-is_err-2.ensures.negation)
+    c.self.invariant) c.is_sound.ensures.arena (granted c.reserve-2.result c.reserve-2.ensures.ok c.if-is_err-2.ensures.negation)
 
 pub act-requires-clause-last : goal.act-requires-clause-last
 act-requires-clause-last c =

@@ -3,9 +3,10 @@ use Rattle.uv_model.specs.Queries.{runner_from, worker_of}
 use Rattle.uv_step.specs.Image.{held}
 use Rattle.uv_loop.proofs.Courses.{asked}
 use Rattle.uv_loop.proofs.machine.ArenaLoopMachine.worker_of.Goals as goal
+use Rattle.uv_stands.proofs.Single.{running_is}
 
 pub returns : goal.returns
 returns c =
     asked _ _ _ _ (held c.self.inside.memory) _ c.self.view_is c.self.invariant
     (λ s. c.runner_of.result ≡ worker_of s c.args.id)
-    (λ s h. c.runner_of.ensures ∙ ap (λ rs. runner_from 0 rs c.args.id) ((rw c.requests.ensures at c.workers.ensures) ∙ h.running))
+    (λ s h. c.runner_of.ensures ∙ ap (λ rs. runner_from 0 rs c.args.id) ((rw c.requests.ensures at c.workers.ensures) ∙ (running_is h)))

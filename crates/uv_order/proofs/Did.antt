@@ -1,0 +1,213 @@
+-- What a step does, in a row for each way: the tree of the steps is walked here, once, and whatever steps keep is shown by rows.
+use Rattle.std.proofs.Common.{arith, ◌≡◌, ℕ, ◌+◌, List, [], ◌∷◌, Bool, true, false, Option, Some, None, Result, Ok, Err, drop, length, nat_le, nat_lt, slice_get, option_map, refl, ap}
+use Rattle.std.proofs.lemmas.Bool.{cond_both}
+use Rattle.std.proofs.lemmas.Option.{same_Some}
+use Rattle.uv_ids.specs.declared.id.Id.{Id}
+use Rattle.uv_ids.specs.declared.id.Var.{Var}
+use Rattle.uv_ids.specs.declared.due.Due.{Due}
+use Rattle.uv_ids.specs.declared.event.Event.{Event}
+use Rattle.uv_ids.specs.declared.event.Event.TheVariants.{Loop, Take, Finish, Cancel, Send, Tick}
+use Rattle.uv_ids.specs.declared.fault.Why.{Why}
+use Rattle.uv_ids.specs.declared.fault.Why.TheVariants.{Blocked, Ended, Range}
+use Rattle.uv_ids.specs.declared.phase.Mode.{Mode}
+use Rattle.uv_ids.specs.declared.phase.Phase.{Phase}
+use Rattle.uv_ids.specs.declared.seen.Callback.TheVariants as callback
+use Rattle.uv_ids.specs.declared.seen.Seen.{Seen}
+use Rattle.uv_ids.specs.declared.seen.Seen.TheVariants as seen
+use Rattle.uv_ids.specs.declared.seen.Site.{Site}
+use Rattle.uv_ids.specs.declared.seen.Site.TheVariants as site
+use Rattle.uv_records.specs.declared.handle.HandleRecord.{HandleRecord}
+use Rattle.uv_records.specs.declared.lists.WatcherKind.{WatcherKind}
+use Rattle.uv_records.specs.declared.lists.WatcherKind.TheVariants as watcher
+use Rattle.uv_records.specs.Handles as records
+use Rattle.uv_records.specs.Slots as slots
+use Rattle.uv_script.specs.declared.op.CallbackLine.{CallbackLine}
+use Rattle.uv_script.specs.declared.op.MainOp.{MainOp}
+use Rattle.uv_script.specs.declared.op.MainOp.TheVariants as main
+use Rattle.uv_script.specs.declared.op.Op.{Op}
+use Rattle.uv_script.specs.Program.{Program, arena_size, lines_in, main_op, op_at, order_of}
+use Rattle.uv_work.specs.declared.request.Request.{Request}
+use Rattle.uv_work.specs.Requests.{digest_in}
+use Rattle.uv_model.specs.declared.place.Body.{Body}
+use Rattle.uv_model.specs.declared.place.Place.{Place}
+use Rattle.uv_model.specs.declared.place.Place.TheVariants.{Main, Running}
+use Rattle.uv_model.specs.declared.place.Run.{Run}
+use Rattle.uv_model.specs.declared.place.Stage.{Stage}
+use Rattle.uv_model.specs.declared.place.Stage.TheVariants.{Entry, Pending, Idle, Prepare, Poll, Done, Async, Check, Closing, Timers}
+use Rattle.uv_model.specs.declared.place.Timing.TheVariants.{Collecting, Firing}
+use Rattle.uv_model.specs.declared.place.TimersOf.{TimersOf}
+use Rattle.uv_model.specs.declared.place.Turn.{Turn}
+use Rattle.uv_model.specs.declared.place.Turn.TheVariants.{AtEntry, Behind, BehindClosing}
+use Rattle.uv_model.specs.declared.place.Way.{Way}
+use Rattle.uv_model.specs.declared.place.Way.TheVariants.{ToTimers, ToPending, ToEnd}
+use Rattle.uv_model.specs.State.{State, handle, with_handle, live_handle, live_request, front, front_request, watched, refreshed}
+use Rattle.uv_model.specs.Timers.{restarted}
+use Rattle.uv_model.specs.Ops as ops
+use Rattle.uv_model.specs.Ops.{do_op}
+use Rattle.uv_model.specs.Next as step
+use Rattle.uv_model.specs.Next.{Next, Moves, Refuses, next, call, calls, first_due, front_moved, goes, may_leave, next_work, work_of}
+use Rattle.uv_model.proofs.Found.{found_both}
+use Rattle.uv_order.specs.Reached.{BeginsBehind, BeginsIn, BeginsAt}
+use Rattle.uv_order.proofs.Contents.{holds}
+use Rattle.uv_order.proofs.Asked.{FrontRequest, request_front, TakesFront, takes_front, RunsWork, runs_work}
+
+-- ---- fronts of lists
+
+-- the front of a list, with what is behind it
+pub record FrontOf (s : State) (ids : List Id) (t : Id × HandleRecord) : Type 0 where
+  pub rest : List Id
+  pub are : ids ≡ t.0 ∷ rest
+  pub behind : drop 1 ids ≡ rest
+  pub holds : handle s t.0 ≡ Some t.1
+
+pub front_of : (s : State) (ids : List Id) (t : Id × HandleRecord) → front s ids ≡ Some t → FrontOf s ids t
+front_of s [] t e = cc e
+front_of s (id ∷ ids) t e = grind (arith, same_Some, holds)
+
+pub record FirstOf (s : State) (ts : List (Due × Id)) (t : Id × HandleRecord) : Type 0 where
+  pub key : Due
+  pub rest : List (Due × Id)
+  pub are : ts ≡ (key, t.0) ∷ rest
+  pub behind : drop 1 ts ≡ rest
+  pub due : nat_le key.at s.time ≡ true
+  pub holds : handle s t.0 ≡ Some t.1
+
+pub first_of : (s : State) (ts : List (Due × Id)) (t : Id × HandleRecord) → first_due s ts ≡ Some t → FirstOf s ts t
+first_of s [] t e = cc e
+first_of s (x ∷ ts) t e = grind (arith, same_Some, holds)
+
+-- ---- what a step does
+
+-- the line tells of no op, no callback and no event from outside but the clock's
+pub data IsStill : Option Seen → Type 0 where
+  unseen : IsStill None
+  section : (word : Phase) → IsStill (Some (seen.Section word))
+  poll : (timeout : Option ℕ) → IsStill (Some (seen.Poll timeout))
+  runs : (mode : Mode) → IsStill (Some (seen.Run mode))
+  end : (alive : Bool) → IsStill (Some (seen.End alive))
+  tick : (ms : ℕ) → IsStill (Some (seen.Tick ms))
+
+-- only the place and the times change
+abbrev pub timed : State → Place → ℕ → ℕ → Bool → Bool → State
+timed s x time clock stop idled = record s { place = x; time = time; clock = clock; stop_flag = stop; idled = idled }
+
+abbrev pub IsSync : WatcherKind → Type 0
+IsSync watcher.Async = ⊥
+IsSync q = Unit {0}
+
+pub data Did (p : Program) (s : State) : Next → Type 0 where
+  refused : (why : Why) → Did p s (Refuses why)
+  still : (x : Place) (time clock : ℕ) (stop idled : Bool) (l : Option Seen) → IsStill l → Did p s (Moves (timed s x time clock stop idled) l)
+  -- an op of the script is done
+  op : (x : Place) (at : Site) (o : Op) → op_at p at ≡ Some o
+      → Did p s (Moves (record (do_op s o).state { place = x }) (Some (seen.Op at (do_op s o).answer)))
+  -- a section begins
+  begun : (run : Run) (q : WatcherKind) → (watched s q).yet ≡ [] → Did p s (step.begin_walk s run q)
+  begun_closing : (run : Run) → s.closing.yet ≡ [] → Did p s (step.begin_closing s run)
+  begun_done : (run : Run) → s.done.yet ≡ [] → Did p s (step.begin_done s run)
+  -- a timer is collected, one is called
+  collected : (run : Run) (part : TimersOf) (t : Id × HandleRecord) → FirstOf s s.timers t
+      → Did p s (Moves (step.at (step.collected s t.0 t.1) run (Timers part Collecting)) None)
+  fired : (run : Run) (t : Id × HandleRecord) → FrontOf s s.ready t
+      → Did p s (call p (restarted (record s { ready = drop 1 s.ready }) t.0 t.1) run t.0 t.1.name)
+  -- a watcher is called; an async handle is passed by, one is called
+  walked : (run : Run) (q : WatcherKind) (t : Id × HandleRecord) → IsSync q → FrontOf s (watched s q).yet t
+      → Did p s (call p (front_moved s q t.0) run t.0 t.1.name)
+  passed : (run : Run) (t : Id × HandleRecord) → FrontOf s s.async.yet t → t.1.pending ≡ false
+      → Did p s (Moves (step.at (front_moved s watcher.Async t.0) run Async) None)
+  woken : (run : Run) (t : Id × HandleRecord) → FrontOf s s.async.yet t → t.1.pending ≡ true
+      → Did p s (call p (with_handle (front_moved s watcher.Async t.0) t.0 (records.woken t.1)) run t.0 t.1.name)
+  -- a slot is freed, and its close or after callback begins
+  closed : (run : Run) (t : Id × HandleRecord) → FrontOf s s.closing.yet t
+      → Did p s (calls p (record s {
+        arena = slots.freed (arena_size p).last_generation t.0 s.arena;
+        closing = record s.closing { yet = drop 1 s.closing.yet };
+      }) run callback.Close t.1.name (seen.Closed t.1.name t.0))
+  ended : (run : Run) (t : Id × Request) → FrontRequest s s.done.yet t
+      → Did p s (calls p (record s {
+        arena = slots.freed (arena_size p).last_generation t.0 s.arena;
+        done = record s.done { yet = drop 1 s.done.yet };
+      }) run callback.After t.1.name (seen.After (digest_in t.1.outcome) t.1.name t.0))
+  -- a worker takes a request, and finishes one
+  taken : (n : ℕ) (t : Id × Request) → TakesFront s n t → Did p s (step.take s n (Ok t))
+  finished : (n : ℕ) (t : Id × Request) → RunsWork s n t → Did p s (step.finish s n (Ok t))
+  -- from outside
+  sent : (v : Var) → Did p s (Moves (ops.send s (live_handle s v)).state (Some (seen.Send v (ops.send s (live_handle s v)).code)))
+  cancelled : (v : Var) → Did p s (Moves (ops.cancel s (live_request s v)).state (Some (seen.Cancel v (ops.cancel s (live_request s v)).answer)))
+
+-- ---- each step does one of these
+
+turn_did : (p : Program) (s : State) (run : Run) (turn : Turn) → Did p s (step.turns (order_of p) s run turn)
+turn_did p s run turn = by (step.way (order_of p) run.mode (goes s) turn) where
+  by : (w : Way) → Did p s (step.goes_by (order_of p) s run w)
+  by (ToTimers part) = still _ _ s.clock s.stop_flag _ _ (section _)
+  by ToPending = still _ s.time s.clock s.stop_flag _ _ (section _)
+  by ToEnd = still _ s.time s.clock false s.idled _ (end _)
+
+fire_did : (p : Program) (s : State) (run : Run) (part : TimersOf) → Did p s (step.fire p s run part)
+fire_did p s run part = found_both (front s s.ready) _ _ (Did p s) (λ t e. fired (record run { stage = Timers part Firing }) t (front_of s s.ready t e))
+    (λ e. turn_did p s run (Behind part))
+
+walk_did : (p : Program) (s : State) (run : Run) (q : WatcherKind) → IsSync q → Did p s (step.after_walk s run q) → Did p s (step.walk p s run q)
+walk_did p s run q sync over = found_both (front s (watched s q).yet) _ _ (Did p s)
+    (λ t e. walked run q t sync (front_of s (watched s q).yet t e)) (λ e. over)
+
+stage_did : (p : Program) (s : State) (run : Run) (x : Stage) → BeginsBehind x s → Did p s (step.stage_step p s run x)
+stage_did p s run Entry r = turn_did p s run AtEntry
+stage_did p s run Pending r = begun run watcher.Idle r
+stage_did p s run Idle r = walk_did p s run watcher.Idle tt (begun run watcher.Prepare r)
+stage_did p s run Prepare r = walk_did p s run watcher.Prepare tt (still _ s.time s.clock s.stop_flag s.idled _ (poll _))
+stage_did p s run (Poll deadline) r = cond_both (may_leave s deadline) _ _ (Did p s) (λ h. begun_done run r) (λ h. refused Blocked)
+stage_did p s run Done r = found_both (front_request s s.done.yet) _ _ (Did p s)
+    (λ t e. ended run t (request_front s s.done.yet t e)) (λ e. begun run watcher.Async r)
+stage_did p s run Async r = found_both (front s s.async.yet) _ _ (Did p s)
+    (λ t e. let f = front_of s s.async.yet t e in cond_both t.1.pending _ _ (Did p s) (λ on. woken run t f on) (λ off. passed run t f off))
+    (λ e. begun run watcher.Check r)
+stage_did p s run Check r = walk_did p s run watcher.Check tt (begun_closing run r)
+stage_did p s run Closing r = found_both (front s s.closing.yet) _ _ (Did p s)
+    (λ t e. closed run t (front_of s s.closing.yet t e)) (λ e. turn_did p s run BehindClosing)
+stage_did p s run (Timers part Collecting) r = found_both (first_due s s.timers) _ _ (Did p s)
+    (λ t e. collected run part t (first_of s s.timers t e)) (λ e. fire_did p s run part)
+stage_did p s run (Timers part Firing) r = fire_did p s run part
+
+body_did : (p : Program) (s : State) (run : Run) (body : Body) (x : Option CallbackLine) →
+    slice_get (lines_in p body.callback body.name) body.next ≡ x → Did p s (step.body_step p s run body x)
+body_did p s run body None e = still _ s.time s.clock s.stop_flag s.idled None unseen
+body_did p s run body (Some line) e =
+    op _ (site.In body.callback body.name body.next) line.op (ap (option_map (λ (x : CallbackLine). x.op)) e)
+
+run_did : (p : Program) (s : State) (run : Run) (body : Option Body) → BeginsIn body run.stage s →
+    Did p s (step.run_step p s run body)
+run_did p s run None r = stage_did p s run run.stage r
+run_did p s run (Some body) r = body_did p s run body _ refl
+
+main_did : (p : Program) (s : State) (i : ℕ) (x : Option MainOp) → slice_get p.main i ≡ x → Did p s (step.main_step (order_of p) s i x)
+main_did p s i None e = refused Ended
+main_did p s i (Some (main.Run m)) e = cond_both (step.refreshes (order_of p) m) (refreshed s) s
+    (λ (t : State). Did p s (Moves (record t {
+      place = Running (record { mode = m; line = i; stage = Entry; body = None });
+    }) (Some (seen.Run m))))
+    (λ h. still _ s.clock s.clock s.stop_flag s.idled _ (runs m)) (λ h. still _ s.time s.clock s.stop_flag s.idled _ (runs m))
+main_did p s i (Some (main.Op o)) e = op _ (site.Main i) o (ap main_op e)
+
+place_did : (p : Program) (s : State) (x : Place) → BeginsAt x s → Did p s (step.loop_step p s x)
+place_did p s (Main i) r = main_did p s i _ refl
+place_did p s (Running run) r = run_did p s run run.body r
+
+take_did : (p : Program) (s : State) (n : ℕ) (t : Result (Id × Request) Why) → next_work s (slice_get s.running n) ≡ t → Did p s (step.take s n t)
+take_did p s n (Err why) e = refused why
+take_did p s n (Ok t) e = taken n t (takes_front s n t e)
+
+finish_did : (p : Program) (s : State) (n : ℕ) (t : Result (Id × Request) Why) → work_of s (slice_get s.running n) ≡ t → Did p s (step.finish s n t)
+finish_did p s n (Err why) e = refused why
+finish_did p s n (Ok t) e = finished n t (runs_work s n t e)
+
+pub did : (p : Program) (s : State) (e : Event) → BeginsAt s.place s → Did p s (next p s e)
+unfolding next
+did p s Loop r = place_did p s s.place r
+did p s (Take n) r = take_did p s n _ refl
+did p s (Finish n) r = finish_did p s n _ refl
+did p s (Cancel v) r = cond_both (nat_lt v.0 (length s.names)) _ _ (Did p s) (λ h. cancelled v) (λ h. refused Range)
+did p s (Send v) r = cond_both (nat_lt v.0 (length s.names)) _ _ (Did p s) (λ h. sent v) (λ h. refused Range)
+did p s (Tick ms) r = cond_both (nat_le (s.clock + ms) 4611686018427387904) _ _ (Did p s)
+    (λ h. still s.place s.time (s.clock + ms) s.stop_flag s.idled _ (tick ms)) (λ h. refused Range)

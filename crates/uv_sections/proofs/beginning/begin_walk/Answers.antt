@@ -1,0 +1,14 @@
+use Rattle.std.proofs.Common.{Some, sym}
+use Rattle.uv_ids.specs.declared.seen.Seen.TheVariants.{Section}
+use Rattle.uv_records.specs.Walks.{all_yet}
+use Rattle.uv_model.specs.State.{watched, with_watched}
+use Rattle.uv_model.specs.Next.{Moves, at}
+use Rattle.uv_sections.proofs.beginning.begin_walk.Goals as goal
+
+pub returns-clause-goes : goal.returns-clause-goes
+returns-clause-goes c s h reached =
+    let m = with_watched s c.args.kind (all_yet (watched s c.args.kind)) in (
+      at m c.args.run c.stage_of.result,
+      (λ l. Moves (at m c.args.run (sym c.stage_of.ensures l)) (Some (Section (sym c.phase.ensures l)))),
+      c.stand_in.ensures.stands _ (c.make_all_yet.ensures.stands s h),
+    )
