@@ -38,15 +38,15 @@ use Rattle.uv_model.specs.declared.place.Stage.TheVariants.{Idle, Prepare, Done,
 use Rattle.uv_records.specs.Walks.{Walk, all_yet}
 use Rattle.uv_model.specs.Ids.{same_id}
 use Rattle.uv_order.specs.Active.{has_id, AreDistinct, run_ids}
-use Rattle.uv_model.specs.State.{State, fresh, handle, live_handle, live_request, with_handle, with_request, watched, with_watched, refreshed}
+use Rattle.uv_model.specs.State.{State, fresh, handle, live, live_handle, live_request, with_handle, with_request, watched, with_watched, refreshed}
 use Rattle.uv_records.specs.Names.{unbound}
 use Rattle.uv_model.specs.Timers.{started, restarted}
 use Rattle.uv_model.specs.Ops as ops
 use Rattle.uv_model.specs.Ops.{do_op}
 use Rattle.uv_model.specs.Next as step
 use Rattle.uv_model.specs.Next.{Next, Moves, Refuses, next, call, calls, first_due, collected, front_moved, goes, is_default, may_leave, next_work, work_of}
-use Rattle.uv_order.specs.Once.{SaysTrue, CancelSays, OpSays, MayFollow}
-use Rattle.uv_order.proofs.OpCases.{kind_as, IsRefusal, cancel_both}
+use Rattle.uv_order.specs.Once.{SaysTrue, CancelSays, MakesNew, OpSays, MayFollow, activity}
+use Rattle.uv_order.proofs.OpCases.{kind_as, IsRefusal, cancel_both, make_both}
 use Rattle.uv_order.proofs.IdLists.{Each, each_back, same, itself, turned, has_new_middle, distinct_back}
 use Rattle.uv_order.proofs.Holding.{names_turned, same_handles, is_held, put_same, Fits, its_handle, Everyone}
 use Rattle.uv_order.proofs.Asked.{request_turns, freed_turns, FrontRequest, TakesFront, RunsWork}
@@ -56,7 +56,8 @@ use Rattle.uv_order.proofs.Keeping.{has_number, Watches, Closes, Rests, Kept, me
 use Rattle.uv_order.proofs.Did as row
 use Rattle.uv_order.proofs.Did.{Did, did, FrontOf, IsStill, timed}
 use Rattle.uv_order.proofs.KeptSteps.{everyone, opened}
-use Rattle.uv_order.proofs.Gone.{IsGone, gone_turned, gone_emptied, gone_now}
+use Rattle.uv_order.proofs.Gone.{IsGone, gone_turned}
+use Rattle.uv_order.proofs.Started.{StartedAt, gone_freed, freed_gone, new_id, ready_started, watcher_is_started}
 use Rattle.uv_order.proofs.Worked.{Worked, IsIdle, worked_ended, worked_taken, worked_finished, worked_collected, not_called, says_true}
 use Rattle.uv_order.proofs.Known.{id_in, counted_ids, Known, not_closed, not_over, known_names, IsQuiet, known_told, known_quiet, known_gone}
 use Rattle.uv_order.proofs.OpsOnce.{KnownAt, on_list, changed, cancel_told, send_known, op_known}
@@ -95,26 +96,27 @@ called_known : (p : Program) (past : List Seen) (s : State) (v : Var) (x : Named
     Known p past s.arena (slice_set s.names v.0 x) s.waiting (run_ids s.running)
 called_known p past s v x e k = known_names p past s.arena (slice_set s.names v.0 x) s.names (counted_ids s.names v x e) k
 
--- the callback of a handle that doesn't close
+-- the callback of a handle that was started, and doesn't close
 call_known : (p : Program) (past : List Seen) (s : State) (run : Run) (id : Id) (v : Var) (h : HandleRecord) → handle s id ≡ Some h →
-    h.closing ≡ false → KnownAt p past s → Follows p past (call p s run id v)
-call_known p past s run id v h e stays k = (
-  not_closed p past s.arena s.names id h e stays k,
+    h.closing ≡ false → (activity p past id).started ≡ true → KnownAt p past s → Follows p past (call p s run id v)
+call_known p past s run id v h e stays begun k = (
+  (not_closed p past s.arena s.names id h e stays k, begun),
   known_quiet p past (seen.Call v id) s.arena _ (record { binding = λ u b. refl; made = λ i. refl; closing = refl; closed = λ i. refl })
       (record { queued = λ i. refl; taken = λ i. refl; finished = λ i. refl; over = λ i. refl; cancelled = λ i. refl })
       (called_known p past s v _ refl k),
 )
 
 -- the front of the ready list is called
-fired_known : (p : Program) (past : List Seen) (s : State) (run : Run) (t : Id × HandleRecord) → FrontOf s s.ready t → Kept s → KnownAt p past s →
-    Follows p past (call p (restarted (record s { ready = drop 1 s.ready }) t.0 t.1) run t.0 t.1.name)
-fired_known p past s run t f kept k =
+fired_known : (p : Program) (past : List Seen) (s : State) (run : Run) (t : Id × HandleRecord) → FrontOf s s.ready t → Kept s →
+    StartedAt p past s → KnownAt p past s → Follows p past (call p (restarted (record s { ready = drop 1 s.ready }) t.0 t.1) run t.0 t.1.name)
+fired_known p past s run t f kept begun k =
+    let on = ready_started p past s t f begun in
     let each : Fits s.arena.slots Rests t.0 = (subst (Each (Fits s.arena.slots Rests)) f.are kept.ready.each).0 in
     let stays : t.1.closing ≡ false = (its_handle s.arena.slots Rests t.0 t.1 f.holds each).stays in
     let u : State = record s { ready = drop 1 s.ready } in
     cond_both (t.1.repeat == 0) u (started u t.0 t.1 t.1.repeat t.1.repeat) (λ (x : State). Follows p past (call p x run t.0 t.1.name))
-    (λ z. call_known p past u run t.0 t.1.name t.1 f.holds stays k)
-    (λ z. call_known p past (started u t.0 t.1 t.1.repeat t.1.repeat) run t.0 t.1.name _ (put_same s.arena.slots t.0 t.1 _ f.holds) stays
+    (λ z. call_known p past u run t.0 t.1.name t.1 f.holds stays on k)
+    (λ z. call_known p past (started u t.0 t.1 t.1.repeat t.1.repeat) run t.0 t.1.name _ (put_same s.arena.slots t.0 t.1 _ f.holds) stays on
     (changed p past u t _ f.holds refl refl k))
 
 -- ---- sections of watchers
@@ -145,26 +147,18 @@ watched_stays : (s : State) (q : WatcherKind) (t : Id × HandleRecord) → Front
 watched_stays s q t f kept = front_stays s (kind_as q) (watched s q) t (everyone s q kept) f kept
 
 walked_known : (p : Program) (past : List Seen) (s : State) (run : Run) (q : WatcherKind) (t : Id × HandleRecord) → FrontOf s (watched s q).yet t →
-    Kept s → KnownAt p past s → Follows p past (call p (front_moved s q t.0) run t.0 t.1.name)
-walked_known p past s run q t f kept k =
+    Kept s → StartedAt p past s → KnownAt p past s → Follows p past (call p (front_moved s q t.0) run t.0 t.1.name)
+walked_known p past s run q t f kept begun k =
     call_known p past (front_moved s q t.0) run t.0 t.1.name t.1 (moved_holds s q t.0 t.0 ∙ f.holds) (watched_stays s q t f kept)
-    (moved_known p past s q t.0 k)
+    (watcher_is_started p past s q t f kept begun) (moved_known p past s q t.0 k)
 
-woken_known : (p : Program) (past : List Seen) (s : State) (run : Run) (t : Id × HandleRecord) → FrontOf s s.async.yet t → Kept s → KnownAt p past s →
+woken_known : (p : Program) (past : List Seen) (s : State) (run : Run) (t : Id × HandleRecord) → FrontOf s s.async.yet t → Kept s →
+    StartedAt p past s → KnownAt p past s →
     Follows p past (call p (with_handle (front_moved s watcher.Async t.0) t.0 (records.woken t.1)) run t.0 t.1.name)
-woken_known p past s run t f kept k =
+woken_known p past s run t f kept begun k =
     call_known p past (with_handle (front_moved s watcher.Async t.0) t.0 (records.woken t.1)) run t.0 t.1.name _
-    (put_same s.arena.slots t.0 t.1 _ f.holds) (watched_stays s watcher.Async t f kept) (changed p past s t (records.woken t.1) f.holds refl refl k)
-
--- a slot is freed or retired
-gone_freed : (s : State) (last : ℕ) (id : Id) (c : Content) → held s.arena.slots id ≡ Some c → Kept s → (i : Id) →
-    IsGone s.arena.slots s.arena.free i → IsGone (freed last id s.arena).slots (freed last id s.arena).free i
-gone_freed s last id c e kept i g = grind (arith, gone_emptied)
-
--- and its id is gone
-freed_gone : (s : State) (last : ℕ) (id : Id) (c : Content) → held s.arena.slots id ≡ Some c → Kept s →
-    IsGone (freed last id s.arena).slots (freed last id s.arena).free id
-freed_gone s last id c e kept = grind (arith, not_free, gone_now)
+    (put_same s.arena.slots t.0 t.1 _ f.holds) (watched_stays s watcher.Async t f kept)
+    (watcher_is_started p past s watcher.Async t f kept begun) (changed p past s t (records.woken t.1) f.holds refl refl k)
 
 -- ---- the closing section
 
@@ -246,14 +240,24 @@ cancel_says p past s v k = cancel_both s v (λ (d : ops.Done). CancelSays p past
       first = not_called p past s.arena s.waiting (run_ids s.running) t.0 t.1 live.holds k.worked;
     })
 
-op_says : (p : Program) (past : List Seen) (s : State) (o : Op) → KnownAt p past s → OpSays p past (Some o) (do_op s o).answer
-op_says p past s (op.Cancel v) k = cancel_says p past s v k
-op_says p past s each k = tt
+-- what is made has a new id
+make_says : (p : Program) (past : List Seen) (s : State) (o : Option (Id × Content)) (made : Id → State) → Kept s → StartedAt p past s →
+    MakesNew p past (ops.make s o made).answer
+make_says p past s o made kept begun = make_both s o made (λ (d : ops.Done). MakesNew p past d.answer) (λ c r. tt)
+    (λ id e. new_id p past s id e kept begun)
+
+op_says : (p : Program) (past : List Seen) (s : State) (o : Op) → Kept s → StartedAt p past s → KnownAt p past s →
+    OpSays p past (Some o) (do_op s o).answer
+op_says p past s (op.Init v q) kept begun k = make_says p past s (live s v) (ops.with_new s v q) kept begun
+op_says p past s (op.Queue v task) kept begun k = make_says p past s (live s v) (ops.with_queued s v task) kept begun
+op_says p past s (op.Cancel v) kept begun k = cancel_says p past s v k
+op_says p past s each kept begun k = tt
 
 -- the line of an op that is done
-op_line : (p : Program) (past : List Seen) (s : State) (place : Site) (o : Op) → op_at p place ≡ Some o → KnownAt p past s →
-    MayFollow p past (seen.Op place (do_op s o).answer)
-op_line p past s place o e k = subst (λ (x : Option Op). OpSays p past x (do_op s o).answer) (sym e) (op_says p past s o k)
+op_line : (p : Program) (past : List Seen) (s : State) (place : Site) (o : Op) → op_at p place ≡ Some o → Kept s → StartedAt p past s →
+    KnownAt p past s → MayFollow p past (seen.Op place (do_op s o).answer)
+op_line p past s place o e kept begun k =
+    subst (λ (x : Option Op). OpSays p past x (do_op s o).answer) (sym e) (op_says p past s o kept begun k)
 
 -- no request stands twice on the lists of those that wait and are run
 apart_ids : (ids : List Id) (id i : Id) → AreDistinct (id ∷ ids) → has_id ids i ≡ true → same_id id i ≡ false
@@ -354,25 +358,26 @@ cancel_outside p past s v k = cancel_both s v (λ (d : ops.Done). KnownAt p (see
     (record { queued = λ i. refl; taken = λ i. refl; finished = λ i. refl; over = λ i. refl; cancelled = λ i. refl })
     (record { binding = λ u b. refl; made = λ i. refl; closing = refl; closed = λ i. refl }) live.holds on k)
 
-pub did_known : (p : Program) (past : List Seen) (s : State) (n : Next) → Did p s n → Kept s → Working s → KnownAt p past s → Follows p past n
-did_known p past s n (row.refused why) kept work k = tt
-did_known p past s n (row.still x time clock stop idled l q) kept work k = still_known p past (timed s x time clock stop idled) l q k
-did_known p past s n (row.op x at o e) kept work k = (op_line p past s at o e k, op_known p past s o kept k at e)
-did_known p past s n (row.begun run q e) kept work k = begin_known p past s run q k
-did_known p past s n (row.begun_closing run e) kept work k = begins_known p past (record s { closing = all_yet s.closing }) run Closing phase.Closing k
-did_known p past s n (row.begun_done run e) kept work k = begins_known p past (record (refreshed s) { done = all_yet s.done }) run Done phase.Done k
-did_known p past s n (row.collected run part t f) kept work k = changed p past s t (records.stopped t.1) f.holds refl refl k
-did_known p past s n (row.fired run t f) kept work k = fired_known p past s run t f kept k
-did_known p past s n (row.walked run q t sync f) kept work k = walked_known p past s run q t f kept k
-did_known p past s n (row.passed run t f off) kept work k = k
-did_known p past s n (row.woken run t f on) kept work k = woken_known p past s run t f kept k
-did_known p past s n (row.closed run t f) kept work k = closed_known p past s run t f kept k
-did_known p past s n (row.ended run t f) kept work k = ended_known p past s run t f kept work k
-did_known p past s n (row.taken n' t f) kept work k = taken_known p past s n' t f work k
-did_known p past s n (row.finished n' t f) kept work k = finished_known p past s n' t f work k
-did_known p past s n (row.sent v) kept work k =
+pub did_known : (p : Program) (past : List Seen) (s : State) (n : Next) → Did p s n → Kept s → Working s → StartedAt p past s → KnownAt p past s →
+    Follows p past n
+did_known p past s n (row.refused why) kept work begun k = tt
+did_known p past s n (row.still x time clock stop idled l q) kept work begun k = still_known p past (timed s x time clock stop idled) l q k
+did_known p past s n (row.op x at o e) kept work begun k = (op_line p past s at o e kept begun k, op_known p past s o kept k at e)
+did_known p past s n (row.begun run q e) kept work begun k = begin_known p past s run q k
+did_known p past s n (row.begun_closing run e) kept work begun k = begins_known p past (record s { closing = all_yet s.closing }) run Closing phase.Closing k
+did_known p past s n (row.begun_done run e) kept work begun k = begins_known p past (record (refreshed s) { done = all_yet s.done }) run Done phase.Done k
+did_known p past s n (row.collected run part t f) kept work begun k = changed p past s t (records.stopped t.1) f.holds refl refl k
+did_known p past s n (row.fired run t f) kept work begun k = fired_known p past s run t f kept begun k
+did_known p past s n (row.walked run q t sync f) kept work begun k = walked_known p past s run q t f kept begun k
+did_known p past s n (row.passed run t f off) kept work begun k = k
+did_known p past s n (row.woken run t f on) kept work begun k = woken_known p past s run t f kept begun k
+did_known p past s n (row.closed run t f) kept work begun k = closed_known p past s run t f kept k
+did_known p past s n (row.ended run t f) kept work begun k = ended_known p past s run t f kept work k
+did_known p past s n (row.taken n' t f) kept work begun k = taken_known p past s n' t f work k
+did_known p past s n (row.finished n' t f) kept work begun k = finished_known p past s n' t f work k
+did_known p past s n (row.sent v) kept work begun k =
     plain p past (seen.Send v (ops.send s (live_handle s v)).code) (ops.send s (live_handle s v)).state tt (grind arith) (send_known p past s v k)
-did_known p past s n (row.cancelled v) kept work k = (cancel_says p past s v k, cancel_outside p past s v k)
+did_known p past s n (row.cancelled v) kept work begun k = (cancel_says p past s v k, cancel_outside p past s v k)
 
 -- ---- all steps
 

@@ -13,7 +13,7 @@ use Rattle.uv_work.specs.declared.content.Content.TheVariants as content
 use Rattle.uv_work.specs.declared.request.Request.{Request}
 use Rattle.uv_model.specs.Content.{handle_in, request_in}
 use Rattle.uv_model.specs.Ids.{same_id}
-use Rattle.uv_order.proofs.IdLists.{same}
+use Rattle.uv_order.proofs.IdLists.{same, other}
 
 -- ---- slots
 
@@ -165,6 +165,19 @@ pushed_turns slots c = record {
       ap (look i) f ∙ other_generation i z apart ∙ sym (ap (look i) e)
 
 -- ---- handles and requests
+
+-- something is held under the id
+pub record IsHeld (slots : List (Slot Content)) (id : Id) : Type 0 where
+  pub content : Content
+  pub holds : held slots id ≡ Some content
+
+-- it turns into something, or another id does
+pub held_turned : (slots more : List (Slot Content)) (id i : Id) (was : Option Content) (c : Content) → Turns slots more id was (Some c) →
+    IsHeld slots i → IsHeld more i
+held_turned slots more id i was c t k = by (same_id i id) refl where
+  by : (b : Bool) → same_id i id ≡ b → IsHeld more i
+  by true s = record { content = c; holds = ap (held more) (same i id s) ∙ t.here }
+  by false s = record { content = k.content; holds = t.others i (other i id s) ∙ k.holds }
 
 -- a handle that is held
 pub as_handle : (c : Option Content) (h : HandleRecord) → handle_in c ≡ Some h → c ≡ Some (content.Handle h)

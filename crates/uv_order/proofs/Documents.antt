@@ -46,6 +46,7 @@ use Rattle.uv_order.proofs.Sends.{SentAt, SentFollows, did_sent, sent_fresh}
 use Rattle.uv_order.proofs.Standing.{Stands, Follows}
 use Rattle.uv_order.proofs.Follows.{follows, begins_at, stands_fresh}
 use Rattle.uv_order.proofs.OpsOnce.{KnownAt}
+use Rattle.uv_order.proofs.Started.{StartedAt, StartedFollows, did_started, started_fresh}
 use Rattle.uv_order.proofs.ClosesOnce as known
 use Rattle.uv_order.proofs.ClosesOnce.{did_known, known_fresh}
 
@@ -197,6 +198,7 @@ pub record Holds (p : Program) (told : Told) (past : List Seen) (s : State) (at 
   pub working : Working s
   pub stands : Stands p told s at
   pub known : KnownAt p past s
+  pub started : StartedAt p past s
 
 -- the line of a step, and what is kept behind it
 pub record HoldsLine (p : Program) (told : Told) (past : List Seen) (s : State) (at : Position) (l : Seen) (t : State) : Type 0 where
@@ -223,12 +225,12 @@ holds_next p told past s at e k =
     let n = next p s e in
     let d = did p s e (begins_at p s s.place at k.stands.stands) in
     by n (did_kept p s n d k.kept) (did_sent p told s n d k.kept k.sent) (did_working p s n d k.kept k.working)
-    (follows p told s at e k.kept k.sent k.working k.stands) (did_known p past s n d k.kept k.working k.known) (says p s n d)
-    (did_pools p s n d k.kept k.working)
+    (follows p told s at e k.kept k.sent k.working k.stands) (did_known p past s n d k.kept k.working k.started k.known)
+    (did_started p past s n d k.kept k.known k.started) (says p s n d) (did_pools p s n d k.kept k.working)
   where
-    by : (n : Next) → StaysKept n → SentFollows p told s n → StaysWorking n → Follows p told at s n → known.Follows p past n → Told_by p s n →
-        Pools p s n → HoldsNext p told past s at n
-    by (Moves t (Some l)) j i x f o h q =
+    by : (n : Next) → StaysKept n → SentFollows p told s n → StaysWorking n → Follows p told at s n → known.Follows p past n → StartedFollows p past n →
+        Told_by p s n → Pools p s n → HoldsNext p told past s at n
+    by (Moves t (Some l)) j i x f o b h q =
         let agree = by_lines p past s k.known in
         let same = tells_same p told (names_by p past) s l agree h in
         record {
@@ -242,11 +244,12 @@ holds_next p told past s at e k =
             working = x;
             stands = subst (λ (y : Told). Stands p y t f.to) same f.stands;
             known = o.1;
+            started = b;
           };
         }
-    by (Moves t None) j i x f o h q =
-        record { lasts = f.1; pools = q; holds = record { kept = j; sent = i; working = x; stands = f.0; known = o } }
-    by (Refuses why) j i x f o h q = k
+    by (Moves t None) j i x f o b h q =
+        record { lasts = f.1; pools = q; holds = record { kept = j; sent = i; working = x; stands = f.0; known = o; started = b } }
+    by (Refuses why) j i x f o b h q = k
 
 pub holds_fresh : (p : Program) → Holds p nothing_told [] (fresh p) (Between 0)
 holds_fresh p = record {
@@ -255,6 +258,7 @@ holds_fresh p = record {
   working = fresh_working p;
   stands = stands_fresh p;
   known = known_fresh p;
+  started = started_fresh p;
 }
 
 -- ---- all steps

@@ -67,6 +67,10 @@ pub member : (P : Id → Type 0) (ids : List Id) → Each P ids → (id : Id) �
 member P [] h id e = cc e
 member P (x ∷ ids) h id e = grind (arith, same, member P ids h.1 id)
 
+-- whether another one is there
+pub has_without : (ids : List Id) (x i : Id) → same_id i x ≡ false → has_id (without_id ids x) i ≡ has_id ids i
+has_without ids x i d = grind (arith, still_there, still_absent)
+
 pub without_absent : (ids : List Id) (x : Id) → has_id ids x ≡ false → without_id ids x ≡ ids
 without_absent [] x h = refl
 without_absent (id ∷ ids) x h = let parts = or_parts (same_id id x) (has_id ids x) h in rw parts.0

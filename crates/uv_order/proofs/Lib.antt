@@ -24,6 +24,7 @@ mod Gone
 mod Worked
 mod Known
 mod OpsOnce
+mod Started
 mod ClosesOnce
 pub mod RefusedOnce
 pub mod RefusedOrder

@@ -140,8 +140,15 @@ start_passes h e = let parts = only_passes (is_timer h.kind) (invalid_if h.closi
 pub again_passes : (h : HandleRecord) → again_refusal h ≡ None → (h.kind ≡ kind.Timer) × (h.closing ≡ false)
 again_passes h e = grind arith
 
-pub start_watcher_passes : (h : HandleRecord) → start_watcher_refusal h ≡ None → h.closing ≡ false
-start_watcher_passes h e = invalid_passes h.closing (only_passes (is_watcher h.kind) (invalid_if h.closing) e).1
+pub start_watcher_passes : (h : HandleRecord) → start_watcher_refusal h ≡ None → (is_watcher h.kind ≡ true) × (h.closing ≡ false)
+start_watcher_passes h e =
+    let parts = only_passes (is_watcher h.kind) (invalid_if h.closing) e in (parts.0, invalid_passes h.closing parts.1)
+
+-- a handle that may be started so is of a kind of watchers
+is_of_watchers : (q : Kind) → is_watcher q ≡ true → watcher_kind q ≡ None → ⊥
+is_of_watchers kind.Timer e f = cc e
+is_of_watchers kind.Async e f = cc e
+is_of_watchers each e f = cc f
 
 pub close_passes : (h : HandleRecord) → close_refusal h ≡ None → h.closing ≡ false
 close_passes h e = invalid_passes h.closing e
@@ -199,13 +206,12 @@ make_both s None made P refused done = found_both (next_free s.arena) _ _ P done
 
 -- ---- what an op does
 
--- it only answers; a watcher that is active isn't started again
+-- it only answers
 pub data IsAsked : Op → Type 0 where
   due_in : (v : Var) → IsAsked (op.DueIn v)
   has_ref : (v : Var) → IsAsked (op.HasRef v)
   is_active : (v : Var) → IsAsked (op.IsActive v)
   is_closing : (v : Var) → IsAsked (op.IsClosing v)
-  start_watcher : (v : Var) → IsAsked (op.StartWatcher v)
   now : IsAsked op.Now
   is_alive : IsAsked op.IsAlive
   asks_timeout : IsAsked op.Timeout
@@ -240,6 +246,8 @@ pub data DidOp (s : State) : Op → ops.Done → Type 0 where
       → DidOp s (op.Again v) (ops.again s t.0 t.1)
   watching : (v : Var) (q : WatcherKind) (t : Id × HandleRecord) → live_handle s v ≡ Ok t → t.1.kind ≡ kind_as q → t.1.active ≡ false
       → t.1.closing ≡ false → DidOp s (op.StartWatcher v) (ops.succeeds (ops.watcher_started s q t.0 t.1))
+  -- a watcher that is active isn't started again
+  watches : (v : Var) (t : Id × HandleRecord) → live_handle s v ≡ Ok t → t.1.active ≡ true → DidOp s (op.StartWatcher v) (ops.succeeds s)
   stopped : (v : Var) (t : Id × HandleRecord) → live_handle s v ≡ Ok t → (t.1.kind ≡ kind.Async → ⊥) → DidOp s (op.Stop v) (ops.stop s t.0 t.1)
   closed : (v : Var) (t : Id × HandleRecord) → live_handle s v ≡ Ok t → t.1.closing ≡ false → DidOp s (op.Close v) (ops.close s t.0 t.1)
   repeated : (v : Var) (n : ℕ) (t : Id × HandleRecord) → live_handle s v ≡ Ok t → DidOp s (op.SetRepeat v n) (ops.set_repeat s n t.0 t.1)
@@ -248,13 +256,13 @@ pub data DidOp (s : State) : Op → ops.Done → Type 0 where
   sent_to : (v : Var) (t : Id × HandleRecord) → live_handle s v ≡ Ok t → t.1.kind ≡ kind.Async → t.1.closing ≡ false
       → DidOp s (op.Send v) (record { state = with_handle s t.0 (sent t.1); answer = answer.Code Success })
 
-watcher_did : (s : State) (v : Var) (t : Id × HandleRecord) → live_handle s v ≡ Ok t → t.1.closing ≡ false →
+watcher_did : (s : State) (v : Var) (t : Id × HandleRecord) → live_handle s v ≡ Ok t → (is_watcher t.1.kind ≡ true) × (t.1.closing ≡ false) →
     DidOp s (op.StartWatcher v) (ops.start_watcher s t.0 t.1)
-watcher_did s v t e stays =
+watcher_did s v t e may =
     let by : State → Type 0 = λ u. DidOp s (op.StartWatcher v) (ops.succeeds u) in
-    cond_both t.1.active s _ by (λ on. asked _ _ (start_watcher v))
-    (λ off. found_both (watcher_kind t.1.kind) _ s by (λ q is. watching v q t e (as_watcher t.1.kind q is) off stays)
-    (λ none. asked _ _ (start_watcher v)))
+    cond_both t.1.active s _ by (λ on. watches v t e on)
+    (λ off. found_both (watcher_kind t.1.kind) _ s by (λ q is. watching v q t e (as_watcher t.1.kind q is) off may.1)
+    (λ none. absurd (is_of_watchers t.1.kind may.0 none)))
 
 -- an op on a handle
 held_did : (s : State) (o : Op) (v : Var) (why : HandleRecord → Option Code) (f : Id → HandleRecord → ops.Done) → MayRefuse o → Refuses why →

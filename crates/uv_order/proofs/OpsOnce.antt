@@ -256,18 +256,18 @@ is_harmless (op.Cancel v) = false
 is_harmless (op.Close v) = false
 is_harmless o = true
 
-harmless : (o : Op) → is_harmless o ≡ true → Harmless o
+pub harmless : (o : Op) → is_harmless o ≡ true → Harmless o
 harmless (op.Init v q) e a = cc e
 harmless (op.Queue v task) e a = cc e
 harmless (op.Cancel v) e a = cc e
 harmless (op.Close v) e a = cc e
 harmless each e a = (record { binding = λ u b. refl; closing = refl; made = λ i. refl }, λ i. (refl, refl))
 
-asked_harmless : (o : Op) → IsAsked o → is_harmless o ≡ true
+pub asked_harmless : (o : Op) → IsAsked o → is_harmless o ≡ true
 asked_harmless o (which.due_in v) = refl
 asked_harmless o each = refl
 
-refused_harmless : (o : Op) (c : Code) → IsRefusal c → IsQuietOp o (answer.Code c) × IsIdleOp o (answer.Code c)
+pub refused_harmless : (o : Op) (c : Code) → IsRefusal c → IsQuietOp o (answer.Code c) × IsIdleOp o (answer.Code c)
 refused_harmless (op.Close v) c r = refused_close v c r
 refused_harmless each c r = (record { binding = λ u b. refl; closing = refl; made = λ i. refl }, λ i. (refl, refl))
 
@@ -300,6 +300,7 @@ did_op_known p past s o d (which.watching v q t e is off stays) kept k =
       by : (q : WatcherKind) → KnownAt p past (ops.watcher_started s q t.0 t.1)
       by watcher.Idle = changed p past s t (records.activated t.1) (live_held s v t e) refl refl k
       by each = changed p past s t (records.activated t.1) (live_held s v t e) refl refl k
+did_op_known p past s o d (which.watches v t e on) kept k = known_by p past o d (harmless (op.StartWatcher v) refl _) k
 did_op_known p past s o d (which.stopped v t e sync) kept k =
     known_by p past o d (harmless (op.Stop v) refl _)
     (changed p past s t (records.stopped t.1) (live_held s v t e) refl refl k)

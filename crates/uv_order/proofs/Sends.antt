@@ -36,7 +36,7 @@ use Rattle.uv_model.specs.Ops.{do_op}
 use Rattle.uv_model.specs.Next.{Next, Moves, Refuses}
 use Rattle.uv_order.specs.Active.{has_id}
 use Rattle.uv_order.specs.Documented.{Told, told_by, sent_by, sent_after, ids_of, without_ids, taken_off, AllOff, AllOffOrUnsent}
-use Rattle.uv_order.proofs.IdLists.{Each, each_back, same, other, itself, turned, left_of, without_itself, without_absent, still_there, still_absent}
+use Rattle.uv_order.proofs.IdLists.{Each, each_back, same, other, itself, turned, left_of, without_itself, has_without, without_absent, still_there}
 use Rattle.uv_order.proofs.Contents.{emptied}
 use Rattle.uv_order.proofs.Holding.{SameHandles, same_handles, held_at, put, put_same, put_other, emptied_same, emptied_other, Fits, its_handle, Grown, Everyone}
 use Rattle.uv_order.proofs.OpCases as which
@@ -113,10 +113,6 @@ sent_more sent slots id h x e p q o k = record {
   are i false s = rw (not_itself i s) (k.are i ∙ sym (pends_there slots id i h x e s)) where
     not_itself : (j : Id) → same_id j id ≡ false → same_id id j ≡ false
     not_itself j d = false_from_ne_true (same_id id j) (λ f. other j id d (sym (same id j f)))
-
--- whether another one was sent to
-has_without : (ids : List Id) (x i : Id) → same_id i x ≡ false → has_id (without_id ids x) i ≡ has_id ids i
-has_without ids x i d = grind (arith, still_there, still_absent)
 
 -- one isn't pending any more
 pub sent_clear : (sent : List Id) (slots : List (Slot Content)) (id : Id) (h x : HandleRecord) → held_at slots id ≡ Some h → x.pending ≡ false →
@@ -239,6 +235,7 @@ did_op_sent s sent o d (which.watching v watcher.Idle t e is off stays) kept k =
     changed s sent t (records.activated t.1) (live_held s v t e) refl refl refl k
 did_op_sent s sent o d (which.watching v each t e is off stays) kept k =
     changed s sent t (records.activated t.1) (live_held s v t e) refl refl refl k
+did_op_sent s sent o d (which.watches v t e on) kept k = k
 did_op_sent s sent o d (which.stopped v t e sync) kept k = changed s sent t (records.stopped t.1) (live_held s v t e) refl refl refl k
 did_op_sent s sent o d (which.closed v t e stays) kept k = close_sent s sent v t e k
 did_op_sent s sent o d (which.repeated v n t e) kept k = changed s sent t (repeating n t.1) (live_held s v t e) refl refl refl k

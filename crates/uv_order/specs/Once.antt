@@ -1,17 +1,20 @@
--- What happens once: a predicate over the lines of a trace alone, without a state. The id of a handle has at most one `closed` line,
--- which stands behind an accepted `close` of it, and no `call` line behind that `close` (uv_close). The id of a request has at most one
--- `after` line, behind the `queue` that answered it: with ECANCELED where no worker took it, else behind one `out take` and one
--- `out finish` line of it, with the digest of what was queued (uv_queue_work, uv_cancel).
-use Rattle.std.specs.Prelude.{◌≡◌, ℕ, ◌==◌, ◌||◌, List, [], ◌∷◌, Bool, true, false, Option, Some, None, option_map, if◌then◌else◌}
+-- What happens once: a predicate over the lines of a trace alone, without a state. An `init` or a `queue` answers an id once. The id of
+-- a handle has at most one `closed` line, which stands behind an accepted `close` of it, and no `call` line behind that `close`
+-- (uv_close); and a handle that is called was started and not stopped since, a timer that doesn't repeat once a start. The id of a
+-- request has at most one `after` line, behind the `queue` that answered it: with ECANCELED where no worker took it, else behind one
+-- `out take` and one `out finish` line of it, with the digest of what was queued (uv_queue_work, uv_cancel).
+use Rattle.std.specs.Prelude.{◌≡◌, ℕ, ◌==◌, ◌||◌, ◌&&◌, not, List, [], ◌∷◌, Bool, true, false, Option, Some, None, option_map, if◌then◌else◌}
 use Rattle.uv_ids.specs.declared.id.Id.{Id}
 use Rattle.uv_ids.specs.declared.id.Var.{Var}
 use Rattle.uv_ids.specs.declared.code.Code.TheVariants.{Ok as Success}
 use Rattle.uv_ids.specs.declared.code.Answer.{Answer}
 use Rattle.uv_ids.specs.declared.code.Answer.TheVariants as answer
+use Rattle.uv_ids.specs.declared.phase.Kind.{Kind}
 use Rattle.uv_ids.specs.declared.seen.Seen.{Seen}
 use Rattle.uv_ids.specs.declared.seen.Seen.TheVariants as seen
 use Rattle.uv_script.specs.declared.op.Op.{Op}
 use Rattle.uv_script.specs.declared.op.Op.TheVariants as op
+use Rattle.uv_records.specs.Handles.{is_timer, is_async}
 use Rattle.uv_work.specs.declared.task.Task.{Task}
 use Rattle.uv_script.specs.Program.{Program, op_at}
 use Rattle.uv_work.specs.Tasks.{text_of}
@@ -95,6 +98,68 @@ is_closed_line l id = false
 abbrev pub has_closed_line : List Seen → Id → Bool
 has_closed_line [] id = false
 has_closed_line (l ∷ past) id = is_closed_line l id || has_closed_line past id
+
+-- ---- who was started
+
+-- what the lines tell of a handle: whether it is a timer, with which repeat, and whether it was started and not stopped since
+pub record Activity : Type 0 where
+  pub timer : Bool
+  pub repeat : ℕ
+  pub started : Bool
+
+-- of a new handle: of all kinds an async one alone is started by its init (uv_async_init)
+abbrev pub new_activity : Kind → Activity
+new_activity k = record { timer = is_timer k; repeat = 0; started = is_async k }
+
+abbrev pub no_activity : Activity
+no_activity = record { timer = false; repeat = 0; started = false }
+
+-- the name of the handle that an op starts or stops, or whose repeat it sets
+abbrev pub handle_of : Op → Option Var
+handle_of (op.Start v timeout repeat) = Some v
+handle_of (op.StartWatcher v) = Some v
+handle_of (op.Again v) = Some v
+handle_of (op.SetRepeat v repeat) = Some v
+handle_of (op.Stop v) = Some v
+handle_of (op.Close v) = Some v
+handle_of o = None
+
+-- what that op makes of the handle, where it is accepted: `again` starts a timer that repeats, and stops another one (uv_timer_again)
+abbrev pub activity_by : Op → Activity → Activity
+activity_by (op.Start v timeout repeat) x = record x { repeat = repeat; started = true }
+activity_by (op.StartWatcher v) x = record x { started = true }
+activity_by (op.Again v) x = record x { started = not (x.repeat == 0) }
+activity_by (op.SetRepeat v repeat) x = record x { repeat = repeat }
+activity_by (op.Stop v) x = record x { started = false }
+activity_by (op.Close v) x = record x { started = false }
+activity_by o x = x
+
+-- its callback stops a timer that doesn't repeat
+abbrev pub activity_called : Activity → Activity
+activity_called x = if x.timer && x.repeat == 0 then record x { started = false } else x
+
+abbrev pub is_success : Answer → Bool
+is_success (answer.Code Success) = true
+is_success a = false
+
+-- what an op makes of the handle of an id, by what was answered
+abbrev pub activity_done : Program → List Seen → Op → Answer → Id → Activity → Activity
+activity_done p past (op.Init v k) (answer.Id i) id x = if same_id i id then new_activity k else x
+activity_done p past (op.Init v k) a id x = x
+activity_done p past o a id x = if is_bound p past id (handle_of o) && is_success a then activity_by o x else x
+
+abbrev pub activity_answered : Program → List Seen → Option Answered → Id → Activity → Activity
+activity_answered p past None id x = x
+activity_answered p past (Some d) id x = activity_done p past d.op d.answer id x
+
+abbrev pub activity_told : Program → List Seen → Seen → Id → Activity → Activity
+activity_told p past (seen.Call v i) id x = if same_id i id then activity_called x else x
+activity_told p past l id x = activity_answered p past (answered p l) id x
+
+-- by all these lines
+abbrev pub activity : Program → List Seen → Id → Activity
+activity p [] id = no_activity
+activity p (l ∷ past) id = activity_told p past l id (activity p past id)
 
 -- ---- requests
 
@@ -189,15 +254,22 @@ CancelSays p past v (answer.Code Success) = ⊥
 CancelSays p past v (answer.Code c) = Unit {0}
 CancelSays p past v a = ⊥
 
+-- an id that is answered is a new one
+abbrev pub MakesNew : Program → List Seen → Answer → Type 0
+MakesNew p past (answer.Id id) = made_as p past id ≡ None
+MakesNew p past a = Unit {0}
+
 abbrev pub OpSays : Program → List Seen → Option Op → Answer → Type 0
+OpSays p past (Some (op.Init v k)) a = MakesNew p past a
+OpSays p past (Some (op.Queue v task)) a = MakesNew p past a
 OpSays p past (Some (op.Cancel v)) a = CancelSays p past v a
 OpSays p past o a = Unit {0}
 
 -- ---- the lines
 
--- a line may follow these: one worker takes a request once, and finishes it once after that
+-- a line may follow these: who is called was started and wasn't closed; one worker takes a request once, and finishes it once after that
 abbrev pub MayFollow : Program → List Seen → Seen → Type 0
-MayFollow p past (seen.Call v id) = was_closed p past id ≡ false
+MayFollow p past (seen.Call v id) = (was_closed p past id ≡ false) × ((activity p past id).started ≡ true)
 MayFollow p past (seen.Closed v id) = (was_closed p past id ≡ true) × (has_closed_line past id ≡ false)
 MayFollow p past (seen.Take k v id) =
     (has_take_line past id ≡ false) × (has_after_line past id ≡ false) × (has_cancel_line p past id ≡ false)

@@ -1,0 +1,608 @@
+-- Who was started, as the lines tell it and as the handles say it, and which ids were made: each step keeps that they agree.
+use Rattle.std.proofs.Common.{arith, ◌≡◌, ◌⊎◌, inl, inr, ℕ, ◌==◌, ◌||◌, ◌&&◌, List, [], ◌∷◌, ◌++◌, Bool, true, false, drop, if◌then◌else◌, Option, Some, None, Ok, refl, ap, sym, subst, ◌∙◌}
+use Rattle.std.specs.Prelude.{not}
+use Rattle.std.proofs.lemmas.Bool.{cond_both, or_right}
+use Rattle.std.proofs.lemmas.Option.{same_Some, none-some}
+use Rattle.uv_ids.specs.declared.id.Id.{Id}
+use Rattle.uv_ids.specs.declared.id.Var.{Var}
+use Rattle.uv_ids.specs.declared.code.Code.{Code}
+use Rattle.uv_ids.specs.declared.code.Code.TheVariants as code
+use Rattle.uv_ids.specs.declared.code.Answer.{Answer}
+use Rattle.uv_ids.specs.declared.code.Answer.TheVariants as answer
+use Rattle.uv_ids.specs.declared.phase.Kind.{Kind}
+use Rattle.uv_ids.specs.declared.phase.Kind.TheVariants as kind
+use Rattle.uv_ids.specs.declared.seen.Seen.{Seen}
+use Rattle.uv_ids.specs.declared.seen.Seen.TheVariants as seen
+use Rattle.uv_ids.specs.declared.seen.Site.{Site}
+use Rattle.uv_script.specs.declared.op.Op.{Op}
+use Rattle.uv_script.specs.declared.op.Op.TheVariants as op
+use Rattle.uv_script.specs.Program.{Program, op_at, arena_size}
+use Rattle.uv_work.specs.declared.task.Task.{Task}
+use Rattle.uv_work.specs.declared.request.Request.{Request}
+use Rattle.uv_work.specs.Requests.{queued}
+use Rattle.uv_work.specs.declared.content.Content.{Content}
+use Rattle.uv_work.specs.declared.content.Content.TheVariants as content
+use Rattle.uv_records.specs.declared.handle.HandleRecord.{HandleRecord}
+use Rattle.uv_records.specs.declared.lists.WatcherKind.{WatcherKind}
+use Rattle.uv_records.specs.declared.lists.WatcherKind.TheVariants as watcher
+use Rattle.uv_records.specs.declared.slot.Slot.{Slot}
+use Rattle.uv_records.specs.Handles as records
+use Rattle.uv_records.specs.Handles.{inited, is_timer, is_async, referenced_as, repeating}
+use Rattle.uv_records.specs.Slots.{Slots, held, freed, taken, next_free}
+use Rattle.uv_model.specs.Content.{handle_in}
+use Rattle.uv_model.specs.Ids.{same_id, without_id}
+use Rattle.uv_model.specs.State.{State, fresh, handle, live_handle, live_request, with_request, watched}
+use Rattle.uv_model.specs.Timers.{stopped, started, restarted}
+use Rattle.uv_model.specs.Ops as ops
+use Rattle.uv_model.specs.Ops.{do_op}
+use Rattle.uv_model.specs.Next.{Next, Moves, Refuses}
+use Rattle.uv_order.specs.Active.{has_id, AreDistinct}
+use Rattle.uv_order.specs.Once.{Activity, Answered, activity, activity_answered, activity_done, activity_by, activity_called, new_activity, is_success, is_some_id, bound, makes, made_by, made_as, first_of, answered, MakesNew}
+use Rattle.uv_order.proofs.IdLists.{Each, each_back, absent, same, other, itself, turned, has_without, has_new_middle, without_itself}
+use Rattle.uv_order.proofs.Contents.{Turns, IsHeld, held_turned}
+use Rattle.uv_order.proofs.Holding.{held_at, is_held, put, put_turns, put_same, SameHandles, same_handles, Fits, its_handle, Lists, Everyone, IsSet, Times}
+use Rattle.uv_order.proofs.OpCases as which
+use Rattle.uv_order.proofs.OpCases.{DidOp, IsAsked, IsRefusal, op_did, kind_as, live_held, live_bound, send_both, cancel_both}
+use Rattle.uv_order.proofs.Asked.{request_turns, freed_turns, FrontRequest}
+use Rattle.uv_order.proofs.Gone.{IsGone, gone_put, gone_turned, gone_emptied, gone_now}
+use Rattle.uv_order.proofs.Keeping.{Rests, Watches, Closes, Kept, members, fills, not_free}
+use Rattle.uv_order.proofs.KeptSteps.{everyone}
+use Rattle.uv_order.proofs.Did as row
+use Rattle.uv_order.proofs.Did.{Did, FrontOf, FirstOf, IsStill, IsSync, timed}
+use Rattle.uv_order.proofs.Known.{is_answered}
+use Rattle.uv_order.proofs.OpsOnce.{KnownAt, asked_harmless, harmless, refused_harmless, gone_taken, next_not_gone}
+
+-- ---- what agrees
+
+-- a handle as the lines tell it, by its record and by whether it stands among the timers that are to be called
+abbrev pub shown : HandleRecord → Bool → Activity
+shown h ready = record { timer = is_timer h.kind; repeat = h.repeat; started = ready || h.active }
+
+-- an id is held, or gone
+abbrev pub IsOld : Slots Content → Id → Type 0
+IsOld arena id = IsHeld arena.slots id ⊎ IsGone arena.slots arena.free id
+
+-- who is held was started as the lines tell, and every id that they make is held or gone
+pub record Started (p : Program) (past : List Seen) (arena : Slots Content) (ready : List Id) : Type 0 where
+  pub active : (id : Id) (h : HandleRecord) → held_at arena.slots id ≡ Some h → activity p past id ≡ shown h (has_id ready id)
+  pub old : (id : Id) (v : Var) → made_as p past id ≡ Some v → IsOld arena id
+
+abbrev pub StartedAt : Program → List Seen → State → Type 0
+StartedAt p past s = Started p past s.arena s.ready
+
+-- more lines, which make no id, and say of no other handle than this one whether it was started
+pub record Adds (p : Program) (past now : List Seen) (id : Id) : Type 0 where
+  pub made : (i : Id) (v : Var) → made_as p now i ≡ Some v → made_as p past i ≡ Some v
+  pub others : (i : Id) → same_id i id ≡ false → activity p now i ≡ activity p past i
+
+-- more lines, which tell nothing of either
+pub record Silent (p : Program) (past now : List Seen) : Type 0 where
+  pub made : (i : Id) (v : Var) → made_as p now i ≡ Some v → made_as p past i ≡ Some v
+  pub same : (i : Id) → activity p now i ≡ activity p past i
+
+-- ---- changes of the slots
+
+-- what is gone stays gone
+abbrev pub StaysGone : Slots Content → Slots Content → Type 0
+StaysGone arena now = (i : Id) → IsGone arena.slots arena.free i → IsGone now.slots now.free i
+
+-- the record of a handle changes
+pub started_turned : (p : Program) (past more : List Seen) (arena now : Slots Content) (ready list : List Id) (id : Id) (h x : HandleRecord) →
+    Turns arena.slots now.slots id (Some (content.Handle h)) (Some (content.Handle x)) → StaysGone arena now → Adds p past more id →
+    ((i : Id) → same_id i id ≡ false → has_id list i ≡ has_id ready i) →
+    (activity p past id ≡ shown h (has_id ready id) → activity p more id ≡ shown x (has_id list id)) → Started p past arena ready →
+    Started p more now list
+started_turned p past more arena now ready list id h x t gone adds lists own k = record {
+  active = λ i y e. active i y e (same_id i id) refl;
+  old = λ i v e. old i (k.old i v (adds.made i v e));
+} where
+  active : (i : Id) (y : HandleRecord) → held_at now.slots i ≡ Some y → (b : Bool) → same_id i id ≡ b → activity p more i ≡ shown y (has_id list i)
+  active i y e true s = grind (arith, same)
+  active i y e false s = grind (arith, other)
+
+  old : (i : Id) → IsOld arena i → IsOld now i
+  old i (inl here) = inl (held_turned arena.slots now.slots id i _ _ t here)
+  old i (inr g) = inr (gone i g)
+
+-- no handle changes
+pub started_same : (p : Program) (past more : List Seen) (arena now : Slots Content) (ready : List Id) → SameHandles now.slots arena.slots →
+    ((i : Id) → IsOld arena i → IsOld now i) → Silent p past more → Started p past arena ready → Started p more now ready
+started_same p past more arena now ready handles old quiet k = record {
+  active = λ i y e. quiet.same i ∙ k.active i y (sym (handles i) ∙ e);
+  old = λ i v e. old i (k.old i v (quiet.made i v e));
+}
+
+-- what a slot holds turns into something else
+old_turned : (arena now : Slots Content) (id i : Id) (was : Option Content) (c : Content) → Turns arena.slots now.slots id was (Some c) →
+    StaysGone arena now → IsOld arena i → IsOld now i
+old_turned arena now id i was c t gone (inl here) = inl (held_turned arena.slots now.slots id i was c t here)
+old_turned arena now id i was c t gone (inr g) = inr (gone i g)
+
+silent_adds : (p : Program) (past more : List Seen) (id : Id) → Silent p past more → Adds p past more id
+silent_adds p past more id q = record { made = q.made; others = λ i d. q.same i }
+
+-- the record of a handle changes, which is as active as before
+pub still_started : (p : Program) (past more : List Seen) (s : State) (id : Id) (h x : HandleRecord) → handle s id ≡ Some h →
+    ((ready : Bool) → shown x ready ≡ shown h ready) → Silent p past more → StartedAt p past s →
+    Started p more (record s.arena { slots = put s.arena.slots id x }) s.ready
+still_started p past more s id h x e alike q k =
+    started_turned p past more s.arena (record s.arena { slots = put s.arena.slots id x }) s.ready s.ready id h x
+    (put_turns s.arena.slots id h x e) (λ i g. gone_put s.arena.slots s.arena.free id h x i e g) (silent_adds p past more id q) (λ i d. refl)
+    (λ f. q.same id ∙ f ∙ sym (alike (has_id s.ready id))) k
+
+-- it changes twice
+twice_turns : (slots : List (Slot Content)) (id : Id) (h x y : HandleRecord) → held_at slots id ≡ Some h →
+    Turns slots (put (put slots id x) id y) id (Some (content.Handle h)) (Some (content.Handle y))
+twice_turns slots id h x y e =
+    let t = put_turns slots id h x e in
+    let u = put_turns (put slots id x) id x y (put_same slots id h x e) in
+    record { before = t.before; here = u.here; others = λ i d. u.others i d ∙ t.others i d }
+
+twice_gone : (slots : List (Slot Content)) (free : List ℕ) (id : Id) (h x y : HandleRecord) (i : Id) → held_at slots id ≡ Some h →
+    IsGone slots free i → IsGone (put (put slots id x) id y) free i
+twice_gone slots free id h x y i e g = gone_put (put slots id x) free id x y i (put_same slots id h x e) (gone_put slots free id h x i e g)
+
+-- ---- the lines of ops
+
+-- the line of an op
+pub op_tells : (p : Program) (past : List Seen) (place : Site) (o : Op) (a : Answer) (i : Id) → op_at p place ≡ Some o →
+    activity p (seen.Op place a ∷ past) i ≡ activity_done p past o a i (activity p past i)
+op_tells p past place o a i e = ap (λ (d : Option Answered). activity_answered p past d i (activity p past i)) (is_answered p place o a e)
+
+op_makes : (p : Program) (past : List Seen) (place : Site) (o : Op) (a : Answer) (i : Id) → op_at p place ≡ Some o →
+    made_as p (seen.Op place a ∷ past) i ≡ first_of (makes o a i) (made_as p past i)
+op_makes p past place o a i e =
+    ap (λ (d : Option Answered). first_of (made_by d i) (made_as p past i)) (is_answered p place o a e)
+
+makes_none : (p : Program) (past : List Seen) (place : Site) (o : Op) (a : Answer) (i : Id) (v : Var) → op_at p place ≡ Some o →
+    makes o a i ≡ None → made_as p (seen.Op place a ∷ past) i ≡ Some v → made_as p past i ≡ Some v
+makes_none p past place o a i v e none m =
+    sym (op_makes p past place o a i e ∙ ap (λ (d : Option Var). first_of d (made_as p past i)) none) ∙ m
+
+-- that of an op which makes no id, starts and stops nobody
+silent_op : (p : Program) (past : List Seen) (place : Site) (o : Op) (a : Answer) → op_at p place ≡ Some o → ((i : Id) → makes o a i ≡ None) →
+    ((i : Id) (x : Activity) → activity_done p past o a i x ≡ x) → Silent p past (seen.Op place a ∷ past)
+silent_op p past place o a e none still = record {
+  made = λ i v m. makes_none p past place o a i v e (none i) m;
+  same = λ i. op_tells p past place o a i e ∙ still i (activity p past i);
+}
+
+nobody : (b : Bool) (x y : Activity) → (if b && false then x else y) ≡ y
+nobody true x y = refl
+nobody false x y = refl
+
+refused_still : (p : Program) (past : List Seen) (o : Op) (c : Code) (i : Id) (x : Activity) → IsRefusal c →
+    activity_done p past o (answer.Code c) i x ≡ x
+refused_still p past (op.Init v q) c i x r = refl
+refused_still p past o code.Ok i x r = absurd (r refl)
+refused_still p past o each i x r = grind (arith, nobody)
+
+asked_still : (p : Program) (past : List Seen) (o : Op) (a : Answer) (i : Id) (x : Activity) → IsAsked o → activity_done p past o a i x ≡ x
+asked_still p past o a i x (which.due_in v) = refl
+asked_still p past o a i x each = refl
+
+-- an op on the handle of a name
+pub record IsOn (p : Program) (past : List Seen) (o : Op) (v : Var) : Type 0 where
+  pub makes : (i : Id) → makes o (answer.Code code.Ok) i ≡ None
+  pub does : (i : Id) (x : Activity) →
+      activity_done p past o (answer.Code code.Ok) i x ≡ (if is_some_id i (bound p past v) && true then activity_by o x else x)
+
+-- the line of such an op that was done, with the handle's record after it
+pub op_started : (p : Program) (past : List Seen) (s : State) (place : Site) (o : Op) (v : Var) (t : Id × HandleRecord) (x : HandleRecord)
+    (now : Slots Content) (list : List Id) → op_at p place ≡ Some o → IsOn p past o v → bound p past v ≡ Some t.0 →
+    Turns s.arena.slots now.slots t.0 (Some (content.Handle t.1)) (Some (content.Handle x)) → StaysGone s.arena now →
+    ((i : Id) → same_id i t.0 ≡ false → has_id list i ≡ has_id s.ready i) →
+    activity_by o (shown t.1 (has_id s.ready t.0)) ≡ shown x (has_id list t.0) → StartedAt p past s →
+    Started p (seen.Op place (answer.Code code.Ok) ∷ past) now list
+op_started p past s place o v t x now list at on is turns gone lists own k =
+    started_turned p past (seen.Op place (answer.Code code.Ok) ∷ past) s.arena now s.ready list t.0 t.1 x turns gone
+    (record {
+      made = λ i u m. makes_none p past place o (answer.Code code.Ok) i u at (on.makes i) m;
+      others = λ i d. told i ∙ chosen i false is (turned t.0 i ∙ d);
+    }) lists (λ f. told t.0 ∙ chosen t.0 true is (itself t.0 t.0 refl) ∙ ap (activity_by o) f ∙ own) k
+  where
+    chosen : (i : Id) (b : Bool) → bound p past v ≡ Some t.0 → same_id t.0 i ≡ b →
+        (if is_some_id i (bound p past v) && true then activity_by o (activity p past i) else activity p past i) ≡
+        (if b then activity_by o (activity p past i) else activity p past i)
+    chosen i true e d = ap (λ (b : Bool). if b && true then activity_by o (activity p past i) else activity p past i) (ap (is_some_id i) e ∙ d)
+    chosen i false e d = ap (λ (b : Bool). if b && true then activity_by o (activity p past i) else activity p past i) (ap (is_some_id i) e ∙ d)
+
+    told : (i : Id) → activity p (seen.Op place (answer.Code code.Ok) ∷ past) i ≡
+        (if is_some_id i (bound p past v) && true then activity_by o (activity p past i) else activity p past i)
+    told i = op_tells p past place o (answer.Code code.Ok) i at ∙ on.does i (activity p past i)
+
+-- ---- ops
+
+-- what agrees with the line of an op
+abbrev pub StartedBy : Program → List Seen → Op → ops.Done → Type 0
+StartedBy p past o d = (place : Site) → op_at p place ≡ Some o → StartedAt p (seen.Op place d.answer ∷ past) d.state
+
+-- a timer is started
+timer_started : (p : Program) (past : List Seen) (s : State) (v : Var) (timeout repeat : ℕ) (t : Id × HandleRecord) → live_handle s v ≡ Ok t →
+    bound p past v ≡ Some t.0 → StartedAt p past s → StartedBy p past (op.Start v timeout repeat) (ops.start s timeout repeat t.0 t.1)
+timer_started p past s v timeout repeat t e is k place at =
+    let h = live_held s v t e in
+    op_started p past s place (op.Start v timeout repeat) v t _ _ (without_id s.ready t.0) at
+    (record { makes = λ i. refl; does = λ i x. refl }) is (twice_turns s.arena.slots t.0 t.1 (records.stopped t.1) _ h)
+    (λ i g. twice_gone s.arena.slots s.arena.free t.0 t.1 (records.stopped t.1) _ i h g) (λ i d. has_without s.ready t.0 i d)
+    (rw (without_itself s.ready t.0) refl) k
+
+-- a timer is stopped, and started again where it repeats
+timer_again : (p : Program) (past : List Seen) (s : State) (v : Var) (t : Id × HandleRecord) → live_handle s v ≡ Ok t →
+    bound p past v ≡ Some t.0 → StartedAt p past s → StartedBy p past (op.Again v) (ops.again s t.0 t.1)
+timer_again p past s v t e is k place at =
+    let h = live_held s v t e in
+    let on : IsOn p past (op.Again v) v = record { makes = λ i. refl; does = λ i x. refl } in
+    let u : State = stopped s t.0 t.1 in
+    cond_both (t.1.repeat == 0) u (started u t.0 t.1 t.1.repeat t.1.repeat) (StartedAt p (seen.Op place (answer.Code code.Ok) ∷ past))
+    (λ z. op_started p past s place (op.Again v) v t (records.stopped t.1) _ (without_id s.ready t.0) at on is (put_turns s.arena.slots t.0 t.1 _ h)
+    (λ i g. gone_put s.arena.slots s.arena.free t.0 t.1 _ i h g) (λ i d. has_without s.ready t.0 i d)
+    (rw z (rw (without_itself s.ready t.0) refl)) k)
+    (λ z. op_started p past s place (op.Again v) v t _ _ (without_id s.ready t.0) at on is
+    (twice_turns s.arena.slots t.0 t.1 (records.stopped t.1) _ h)
+    (λ i g. twice_gone s.arena.slots s.arena.free t.0 t.1 (records.stopped t.1) _ i h g) (λ i d. has_without s.ready t.0 i d)
+    (rw z (rw (without_itself s.ready t.0) refl)) k)
+
+-- a handle is stopped or closed
+handle_stopped : (p : Program) (past : List Seen) (s : State) (o : Op) (v : Var) (t : Id × HandleRecord) (x : HandleRecord) → live_handle s v ≡ Ok t →
+    bound p past v ≡ Some t.0 → IsOn p past o v → ((y : Activity) → activity_by o y ≡ record y { started = false }) →
+    shown x false ≡ record (shown t.1 false) { started = false } → StartedAt p past s → (place : Site) → op_at p place ≡ Some o →
+    Started p (seen.Op place (answer.Code code.Ok) ∷ past) (record s.arena { slots = put s.arena.slots t.0 x }) (without_id s.ready t.0)
+handle_stopped p past s o v t x e is on stops off k place at =
+    let h = live_held s v t e in
+    op_started p past s place o v t x _ (without_id s.ready t.0) at on is (put_turns s.arena.slots t.0 t.1 x h)
+    (λ i g. gone_put s.arena.slots s.arena.free t.0 t.1 x i h g) (λ i d. has_without s.ready t.0 i d)
+    (stops (shown t.1 (has_id s.ready t.0)) ∙ rw (without_itself s.ready t.0) (sym off)) k
+
+-- a watcher is started
+watcher_started : (p : Program) (past : List Seen) (s : State) (v : Var) (q : WatcherKind) (t : Id × HandleRecord) → live_handle s v ≡ Ok t →
+    bound p past v ≡ Some t.0 → StartedAt p past s → StartedBy p past (op.StartWatcher v) (ops.succeeds (ops.watcher_started s q t.0 t.1))
+watcher_started p past s v q t e is k place at = by q where
+  begun : Started p (seen.Op place (answer.Code code.Ok) ∷ past) (record s.arena { slots = put s.arena.slots t.0 (records.activated t.1) }) s.ready
+  begun =
+      let h = live_held s v t e in
+      op_started p past s place (op.StartWatcher v) v t (records.activated t.1) _ s.ready at (record { makes = λ i. refl; does = λ i x. refl }) is
+      (put_turns s.arena.slots t.0 t.1 _ h) (λ i g. gone_put s.arena.slots s.arena.free t.0 t.1 _ i h g) (λ i d. refl)
+      (on (has_id s.ready t.0)) k
+    where
+      on : (b : Bool) → activity_by (op.StartWatcher v) (shown t.1 b) ≡ shown (records.activated t.1) b
+      on true = refl
+      on false = refl
+
+  by : (x : WatcherKind) → StartedAt p (seen.Op place (answer.Code code.Ok) ∷ past) (ops.watcher_started s x t.0 t.1)
+  by watcher.Idle = begun
+  by each = begun
+
+-- one that is active isn't started again
+still_watches : (p : Program) (past : List Seen) (s : State) (v : Var) (t : Id × HandleRecord) → live_handle s v ≡ Ok t → t.1.active ≡ true →
+    bound p past v ≡ Some t.0 → StartedAt p past s → StartedBy p past (op.StartWatcher v) (ops.succeeds s)
+still_watches p past s v t e on is k place at =
+    let h = live_held s v t e in
+    op_started p past s place (op.StartWatcher v) v t t.1 s.arena s.ready at (record { makes = λ i. refl; does = λ i x. refl }) is
+    (record { before = is_held s.arena.slots t.0 t.1 h; here = is_held s.arena.slots t.0 t.1 h; others = λ i d. refl })
+    (λ i g. g) (λ i d. refl) (active (has_id s.ready t.0)) k
+  where
+    active : (b : Bool) → activity_by (op.StartWatcher v) (shown t.1 b) ≡ shown t.1 b
+    active true = refl
+    active false = rw on refl
+
+-- its repeat is set
+timer_repeats : (p : Program) (past : List Seen) (s : State) (v : Var) (n : ℕ) (t : Id × HandleRecord) → live_handle s v ≡ Ok t →
+    bound p past v ≡ Some t.0 → StartedAt p past s → StartedBy p past (op.SetRepeat v n) (ops.set_repeat s n t.0 t.1)
+timer_repeats p past s v n t e is k place at =
+    let h = live_held s v t e in
+    op_started p past s place (op.SetRepeat v n) v t (repeating n t.1) _ s.ready at (record { makes = λ i. refl; does = λ i x. refl }) is
+    (put_turns s.arena.slots t.0 t.1 _ h) (λ i g. gone_put s.arena.slots s.arena.free t.0 t.1 _ i h g) (λ i d. refl) refl k
+
+-- an op that starts and stops nobody, and makes no id
+still_op : (p : Program) (past : List Seen) (s : State) (o : Op) (d : ops.Done) → ((i : Id) → makes o d.answer i ≡ None) →
+    ((i : Id) (x : Activity) → activity_done p past o d.answer i x ≡ x) →
+    ((now : List Seen) → Silent p past now → StartedAt p now d.state) → StartedBy p past o d
+still_op p past s o d none still k place at = k (seen.Op place d.answer ∷ past) (silent_op p past place o d.answer at none still)
+
+-- it changes nothing
+unchanged : (p : Program) (past now : List Seen) (s : State) → Silent p past now → StartedAt p past s → StartedAt p now s
+unchanged p past now s q k = started_same p past now s.arena s.arena s.ready (λ i. refl) (λ i g. g) q k
+
+-- the record of a request
+request_started : (p : Program) (past now : List Seen) (s : State) (id : Id) (r x : Request) → held s.arena.slots id ≡ Some (content.Request r) →
+    Silent p past now → StartedAt p past s → StartedAt p now (with_request s id x)
+request_started p past now s id r x e q k =
+    let t = request_turns s.arena.slots id r x e in
+    started_same p past now s.arena (with_request s id x).arena s.ready (same_handles s.arena.slots _ id _ _ t refl refl)
+    (λ i o. old_turned s.arena (with_request s id x).arena id i _ _ t
+    (λ j g. gone_turned s.arena.slots s.arena.free id (content.Request r) (Some (content.Request x)) j e g) o) q k
+
+-- ---- what is made
+
+-- nobody has made the id that comes next
+pub new_id : (p : Program) (past : List Seen) (s : State) (id : Id) → next_free s.arena ≡ Some id → Kept s → StartedAt p past s →
+    made_as p past id ≡ None
+new_id p past s id e kept k = by (made_as p past id) refl where
+  by : (o : Option Var) → made_as p past id ≡ o → o ≡ None
+  by None f = refl
+  by (Some v) f = absurd (not_old (k.old id v f)) where
+    not_old : IsOld s.arena id → ⊥
+    not_old (inl here) = let c = content.Handle (inited v kind.Idle) in
+        cc (here.holds, (fills s.arena s.arena.free id c refl kept.free e).0.before)
+    not_old (inr g) = next_not_gone s.arena s.arena.free id refl kept.free e g
+
+-- it is made of what the line says
+new_old : (p : Program) (past : List Seen) (s : State) (place : Site) (o : Op) (v : Var) (id : Id) (c : Content) → op_at p place ≡ Some o →
+    ((i : Id) → makes o (answer.Id id) i ≡ (if same_id id i then Some v else None)) → next_free s.arena ≡ Some id → Kept s → StartedAt p past s →
+    (i : Id) (u : Var) → made_as p (seen.Op place (answer.Id id) ∷ past) i ≡ Some u → IsOld (taken id c s.arena) i
+new_old p past s place o v id c at m e kept k i u f = by (same_id id i) refl where
+  t : Turns s.arena.slots (taken id c s.arena).slots id None (Some c)
+  t = (fills s.arena s.arena.free id c refl kept.free e).0
+
+  by : (b : Bool) → same_id id i ≡ b → IsOld (taken id c s.arena) i
+  by true d = inl (record { content = c; holds = ap (held (taken id c s.arena).slots) (sym (same id i d)) ∙ t.here })
+  by false d = old_turned s.arena (taken id c s.arena) id i None c t (gone_taken s.arena s.arena.free id c refl kept.free e)
+      (k.old i u (sym (op_makes p past place o (answer.Id id) i at
+      ∙ ap (λ (x : Option Var). first_of x (made_as p past i)) (m i ∙ ap (λ (b : Bool). if b then Some v else None) d)) ∙ f))
+
+-- a handle is
+handle_made : (p : Program) (past : List Seen) (s : State) (v : Var) (q : Kind) (id : Id) → next_free s.arena ≡ Some id → Kept s →
+    StartedAt p past s → StartedBy p past (op.Init v q) (record { state = ops.with_new s v q id; answer = answer.Id id })
+handle_made p past s v q id e kept k place at = by q at where
+  made : (x : Kind) → op_at p place ≡ Some (op.Init v x) →
+      Started p (seen.Op place (answer.Id id) ∷ past) (taken id (content.Handle (inited v x)) s.arena) s.ready
+  made x f = record {
+    active = λ i y g. active i y g (same_id id i) refl;
+    old = new_old p past s place (op.Init v x) v id (content.Handle (inited v x)) f (λ i. refl) e kept k;
+  } where
+    t : Turns s.arena.slots (taken id (content.Handle (inited v x)) s.arena).slots id None (Some (content.Handle (inited v x)))
+    t = (fills s.arena s.arena.free id (content.Handle (inited v x)) refl kept.free e).0
+
+    away : has_id s.ready id ≡ false
+    away = absent (Fits s.arena.slots Rests) id (λ g. cc (is_held s.arena.slots id g.handle g.holds, t.before)) s.ready kept.ready.each
+
+    active : (i : Id) (y : HandleRecord) → held_at (taken id (content.Handle (inited v x)) s.arena).slots i ≡ Some y → (b : Bool) →
+        same_id id i ≡ b → activity p (seen.Op place (answer.Id id) ∷ past) i ≡ shown y (has_id s.ready i)
+    active i y g true d =
+        let is : id ≡ i = same id i d in
+        let new : inited v x ≡ y = same_Some _ _ (sym (ap handle_in t.here)
+            ∙ ap (held_at (taken id (content.Handle (inited v x)) s.arena).slots) is ∙ g) in
+        op_tells p past place (op.Init v x) (answer.Id id) i f
+        ∙ ap (λ (b : Bool). if b then new_activity x else activity p past i) d
+        ∙ ap (shown (inited v x)) (sym (ap (has_id s.ready) (sym is) ∙ away))
+        ∙ ap (λ (h : HandleRecord). shown h (has_id s.ready i)) new
+    active i y g false d = op_tells p past place (op.Init v x) (answer.Id id) i f
+        ∙ ap (λ (b : Bool). if b then new_activity x else activity p past i) d
+        ∙ k.active i y (sym (ap handle_in (t.others i (λ is. other id i d (sym is)))) ∙ g)
+
+  by : (x : Kind) → op_at p place ≡ Some (op.Init v x) → StartedAt p (seen.Op place (answer.Id id) ∷ past) (ops.with_new s v x id)
+  by kind.Timer f = made kind.Timer f
+  by each f = made each f
+
+-- a request is
+request_made : (p : Program) (past : List Seen) (s : State) (v : Var) (task : Task) (id : Id) → next_free s.arena ≡ Some id → Kept s →
+    StartedAt p past s → StartedBy p past (op.Queue v task) (record { state = ops.with_queued s v task id; answer = answer.Id id })
+request_made p past s v task id e kept k place at = record {
+  active = λ i y g. op_tells p past place (op.Queue v task) (answer.Id id) i at ∙ k.active i y (sym (same_handles s.arena.slots _ id _ _
+      (fills s.arena s.arena.free id (content.Request (queued v task)) refl kept.free e).0 refl refl i) ∙ g);
+  old = new_old p past s place (op.Queue v task) v id (content.Request (queued v task)) at (λ i. refl) e kept k;
+}
+
+-- ---- any op
+
+did_op_started : (p : Program) (past : List Seen) (s : State) (o : Op) (d : ops.Done) → DidOp s o d → Kept s → KnownAt p past s →
+    StartedAt p past s → StartedBy p past o d
+did_op_started p past s o d (which.refused o' c r may) kept w k = still_op p past s o' d (refused_harmless o' c r).0.made
+    (λ i x. refused_still p past o' c i x r) (λ now q. unchanged p past now s q k)
+did_op_started p past s o d (which.asked o' a is) kept w k = still_op p past s o' d (harmless o' (asked_harmless o' is) a).0.made
+    (λ i x. asked_still p past o' a i x is) (λ now q. unchanged p past now s q k)
+did_op_started p past s o d which.loop_stopped kept w k =
+    still_op p past s op.StopLoop d (λ i. refl) (λ i x. refl) (λ now q. unchanged p past now s q k)
+did_op_started p past s o d which.time_updated kept w k =
+    still_op p past s op.UpdateTime d (λ i. refl) (λ i x. refl) (λ now q. unchanged p past now s q k)
+did_op_started p past s o d (which.made v q id e) kept w k = handle_made p past s v q id e kept k
+did_op_started p past s o d (which.queued v task id e) kept w k = request_made p past s v task id e kept k
+did_op_started p past s o d (which.cancelled v t live on) kept w k = still_op p past s (op.Cancel v) d (λ i. refl) (λ i x. refl)
+    (λ now q. request_started p past now s t.0 t.1 _ live.holds q k)
+did_op_started p past s o d (which.started v timeout repeat t e is stays) kept w k =
+    timer_started p past s v timeout repeat t e (w.binding v t.0 (live_bound s v t e)) k
+did_op_started p past s o d (which.again v t e is stays) kept w k = timer_again p past s v t e (w.binding v t.0 (live_bound s v t e)) k
+did_op_started p past s o d (which.watching v q t e is off stays) kept w k =
+    watcher_started p past s v q t e (w.binding v t.0 (live_bound s v t e)) k
+did_op_started p past s o d (which.watches v t e on) kept w k = still_watches p past s v t e on (w.binding v t.0 (live_bound s v t e)) k
+did_op_started p past s o d (which.stopped v t e sync) kept w k = handle_stopped p past s (op.Stop v) v t (records.stopped t.1) e
+    (w.binding v t.0 (live_bound s v t e)) (record { makes = λ i. refl; does = λ i x. refl }) (λ y. refl) refl k
+did_op_started p past s o d (which.closed v t e stays) kept w k = handle_stopped p past s (op.Close v) v t (records.closed t.1) e
+    (w.binding v t.0 (live_bound s v t e)) (record { makes = λ i. refl; does = λ i x. refl }) (λ y. refl) refl k
+did_op_started p past s o d (which.repeated v n t e) kept w k = timer_repeats p past s v n t e (w.binding v t.0 (live_bound s v t e)) k
+did_op_started p past s o d (which.referenced o' u flag t e (which.ref v)) kept w k = still_op p past s (op.Ref v) d (λ i. refl) (λ i x. refl)
+    (λ now q. still_started p past now s t.0 t.1 (referenced_as flag t.1) (live_held s u t e) (λ b. refl) q k)
+did_op_started p past s o d (which.referenced o' u flag t e (which.unref v)) kept w k = still_op p past s (op.Unref v) d (λ i. refl) (λ i x. refl)
+    (λ now q. still_started p past now s t.0 t.1 (referenced_as flag t.1) (live_held s u t e) (λ b. refl) q k)
+did_op_started p past s o d (which.sent_to v t e is stays) kept w k = still_op p past s (op.Send v) d (λ i. refl) (λ i x. refl)
+    (λ now q. still_started p past now s t.0 t.1 (records.sent t.1) (live_held s v t e) (λ b. refl) q k)
+
+-- ---- steps
+
+abbrev pub StartedFollows : Program → List Seen → Next → Type 0
+StartedFollows p past (Moves t (Some l)) = StartedAt p (l ∷ past) t
+StartedFollows p past (Moves t None) = StartedAt p past t
+StartedFollows p past (Refuses why) = Unit {0}
+
+-- a line of no op and no call
+told_nothing : (p : Program) (past : List Seen) (l : Seen) → IsStill (Some l) → Silent p past (l ∷ past)
+told_nothing p past l (row.section word) = record { made = λ i v m. m; same = λ i. refl }
+told_nothing p past l each = record { made = λ i v m. m; same = λ i. refl }
+
+still_follows : (p : Program) (past : List Seen) (s t : State) (l : Option Seen) → t.arena ≡ s.arena → t.ready ≡ s.ready → IsStill l →
+    StartedAt p past s → StartedFollows p past (Moves t l)
+still_follows p past s t None a r row.unseen k = subst (λ (x : Slots Content). Started p past x t.ready) (sym a)
+    (subst (Started p past s.arena) (sym r) k)
+still_follows p past s t (Some l) a r q k = subst (λ (x : Slots Content). Started p (l ∷ past) x t.ready) (sym a)
+    (subst (Started p (l ∷ past) s.arena) (sym r) (unchanged p past (l ∷ past) s (told_nothing p past l q) k))
+
+-- the line of a callback
+call_adds : (p : Program) (past : List Seen) (v : Var) (id : Id) → Adds p past (seen.Call v id ∷ past) id
+call_adds p past v id = record { made = λ i u m. m; others = λ i d. rw (turned id i ∙ d) refl }
+
+call_tells : (p : Program) (past : List Seen) (v : Var) (id : Id) → activity p (seen.Call v id ∷ past) id ≡ activity_called (activity p past id)
+call_tells p past v id = rw (itself id id refl) refl
+
+-- the front of the ready list is called: it is over, or it is started again
+fired_started : (p : Program) (past : List Seen) (s : State) (t : Id × HandleRecord) → FrontOf s s.ready t → Kept s → StartedAt p past s →
+    StartedAt p (seen.Call t.1.name t.0 ∷ past) (restarted (record s { ready = drop 1 s.ready }) t.0 t.1)
+fired_started p past s t f kept k = subst (λ (rest : List Id). StartedAt p more (restarted (record s { ready = rest }) t.0 t.1)) (sym f.behind) (
+    let l : Lists s.arena.slots Rests (t.0 ∷ f.rest) = subst (Lists s.arena.slots Rests) f.are kept.ready in
+    let rests : Rests t.1 = its_handle s.arena.slots Rests t.0 t.1 f.holds l.each.0 in
+    let u : State = record s { ready = f.rest } in
+    cond_both (t.1.repeat == 0) u (started u t.0 t.1 t.1.repeat t.1.repeat) (StartedAt p more)
+    (λ z. started_turned p past more s.arena s.arena s.ready f.rest t.0 t.1 t.1
+    (record { before = is_held s.arena.slots t.0 t.1 f.holds; here = is_held s.arena.slots t.0 t.1 f.holds; others = λ i d. refl })
+    (λ i g. g) (call_adds p past t.1.name t.0) (behind l.distinct.0) (λ e. grind (arith, call_tells)) k)
+    (λ z. started_turned p past more s.arena _ s.ready f.rest t.0 t.1 _ (put_turns s.arena.slots t.0 t.1 _ f.holds)
+    (λ i g. gone_put s.arena.slots s.arena.free t.0 t.1 _ i f.holds g) (call_adds p past t.1.name t.0) (behind l.distinct.0)
+    (λ e. grind (arith, call_tells)) k))
+  where
+    more : List Seen
+    more = seen.Call t.1.name t.0 ∷ past
+
+    behind : has_id f.rest t.0 ≡ false → (i : Id) → same_id i t.0 ≡ false → has_id f.rest i ≡ has_id s.ready i
+    behind away i d = sym (ap (λ (ids : List Id). has_id ids i) f.are ∙ rw (turned t.0 i ∙ d) refl)
+
+-- a timer is collected
+collected_started : (p : Program) (past : List Seen) (s : State) (t : Id × HandleRecord) → FirstOf s s.timers t → Kept s → StartedAt p past s →
+    Started p past (record s.arena { slots = put s.arena.slots t.0 (records.stopped t.1) }) (s.ready ++ t.0 ∷ [])
+collected_started p past s t f kept k =
+    let times : Times s.arena.slots s.next_start ((f.key, t.0) ∷ f.rest) = subst (Times s.arena.slots s.next_start) f.are kept.timers in
+    let set : IsSet f.key t.1 = its_handle s.arena.slots (IsSet f.key) t.0 t.1 f.holds (times.each f.key t.0 (inl (refl, refl))).0 in
+    started_turned p past past s.arena _ s.ready (s.ready ++ t.0 ∷ []) t.0 t.1 (records.stopped t.1) (put_turns s.arena.slots t.0 t.1 _ f.holds)
+    (λ i g. gone_put s.arena.slots s.arena.free t.0 t.1 _ i f.holds g) (record { made = λ i v m. m; others = λ i d. refl })
+    (λ i d. pushed s.ready t.0 i d) (λ e. e ∙ rw set.active (or_end (has_id s.ready t.0) (has_new_middle s.ready [] t.0))) k
+  where
+    pushed : (ids : List Id) (x i : Id) → same_id i x ≡ false → has_id (ids ++ x ∷ []) i ≡ has_id ids i
+    pushed [] x i d = rw (turned x i ∙ d) refl
+    pushed (y ∷ ids) x i d = ap (λ (b : Bool). same_id y i || b) (pushed ids x i d)
+
+    or_end : (b : Bool) → has_id (s.ready ++ t.0 ∷ []) t.0 ≡ true →
+        record { timer = is_timer t.1.kind; repeat = t.1.repeat; started = b || true } ≡ shown (records.stopped t.1) (has_id (s.ready ++ t.0 ∷ []) t.0)
+    or_end true g = rw g refl
+    or_end false g = rw g refl
+
+-- one of a list of watchers is active, and no timer
+front_watches : (s : State) (q : WatcherKind) (t : Id × HandleRecord) → FrontOf s (watched s q).yet t → Kept s → Watches (kind_as q) t.1
+front_watches s q t f kept =
+    let every = everyone s q kept in
+    let yet = each_back (Fits s.arena.slots (Watches (kind_as q))) (watched s q).list (watched s q).yet every.lists.each in
+    its_handle s.arena.slots (Watches (kind_as q)) t.0 t.1 f.holds (subst (Each (Fits s.arena.slots (Watches (kind_as q)))) f.are yet).0
+
+no_timers : (q : WatcherKind) → is_timer (kind_as q) ≡ false
+no_timers watcher.Idle = refl
+no_timers each = refl
+
+-- a watcher is called, with its record as it was, or no longer pending
+walked_started : (p : Program) (past : List Seen) (s : State) (q : WatcherKind) (t : Id × HandleRecord) (x : HandleRecord) →
+    FrontOf s (watched s q).yet t → ((ready : Bool) → shown x ready ≡ shown t.1 ready) → Kept s → StartedAt p past s →
+    Started p (seen.Call t.1.name t.0 ∷ past) (record s.arena { slots = put s.arena.slots t.0 x }) s.ready
+walked_started p past s q t x f alike kept k =
+    let w = front_watches s q t f kept in
+    let timer : is_timer t.1.kind ≡ false = ap is_timer w.kind ∙ no_timers q in
+    started_turned p past (seen.Call t.1.name t.0 ∷ past) s.arena _ s.ready s.ready t.0 t.1 x (put_turns s.arena.slots t.0 t.1 x f.holds)
+    (λ i g. gone_put s.arena.slots s.arena.free t.0 t.1 x i f.holds g) (call_adds p past t.1.name t.0) (λ i d. refl)
+    (λ e. call_tells p past t.1.name t.0 ∙ ap activity_called e ∙ rw timer refl ∙ sym (alike (has_id s.ready t.0))) k
+
+-- its record stays
+same_started : (p : Program) (past : List Seen) (s : State) (q : WatcherKind) (t : Id × HandleRecord) → FrontOf s (watched s q).yet t →
+    Kept s → StartedAt p past s → Started p (seen.Call t.1.name t.0 ∷ past) s.arena s.ready
+same_started p past s q t f kept k =
+    let w = front_watches s q t f kept in
+    let timer : is_timer t.1.kind ≡ false = ap is_timer w.kind ∙ no_timers q in
+    started_turned p past (seen.Call t.1.name t.0 ∷ past) s.arena s.arena s.ready s.ready t.0 t.1 t.1
+    (record { before = is_held s.arena.slots t.0 t.1 f.holds; here = is_held s.arena.slots t.0 t.1 f.holds; others = λ i d. refl })
+    (λ i g. g) (call_adds p past t.1.name t.0) (λ i d. refl)
+    (λ e. call_tells p past t.1.name t.0 ∙ ap activity_called e ∙ rw timer refl) k
+
+-- ---- a slot is freed or retired
+
+pub gone_freed : (s : State) (last : ℕ) (id : Id) (c : Content) → held s.arena.slots id ≡ Some c → Kept s → (i : Id) →
+    IsGone s.arena.slots s.arena.free i → IsGone (freed last id s.arena).slots (freed last id s.arena).free i
+gone_freed s last id c e kept i g = grind (arith, gone_emptied)
+
+-- and its id is gone
+pub freed_gone : (s : State) (last : ℕ) (id : Id) (c : Content) → held s.arena.slots id ≡ Some c → Kept s →
+    IsGone (freed last id s.arena).slots (freed last id s.arena).free id
+freed_gone s last id c e kept = grind (arith, not_free, gone_now)
+
+freed_started : (p : Program) (past more : List Seen) (s : State) (last : ℕ) (id : Id) (c : Content) → held s.arena.slots id ≡ Some c → Kept s →
+    Silent p past more → StartedAt p past s → Started p more (freed last id s.arena) s.ready
+freed_started p past more s last id c e kept q k = record {
+  active = λ i y f. active i y f (same_id i id) refl;
+  old = λ i v m. old i (k.old i v (q.made i v m)) (same_id i id) refl;
+} where
+  t : Turns s.arena.slots (freed last id s.arena).slots id (Some c) None
+  t = freed_turns last s.arena id c e
+
+  active : (i : Id) (y : HandleRecord) → held_at (freed last id s.arena).slots i ≡ Some y → (b : Bool) → same_id i id ≡ b →
+      activity p more i ≡ shown y (has_id s.ready i)
+  active i y f true d =
+      absurd (none-some y (sym (ap handle_in t.here) ∙ ap (held_at (freed last id s.arena).slots) (sym (same i id d)) ∙ f))
+  active i y f false d = q.same i ∙ k.active i y (sym (ap handle_in (t.others i (other i id d))) ∙ f)
+
+  old : (i : Id) → IsOld s.arena i → (b : Bool) → same_id i id ≡ b → IsOld (freed last id s.arena) i
+  old i o true d = inr (subst (IsGone (freed last id s.arena).slots (freed last id s.arena).free) (sym (same i id d)) (freed_gone s last id c e kept))
+  old i (inl here) false d = inl (record { content = here.content; holds = t.others i (other i id d) ∙ here.holds })
+  old i (inr g) false d = inr (gone_freed s last id c e kept i g)
+
+-- ---- each step
+
+sent_started : (p : Program) (past : List Seen) (s : State) (v : Var) → StartedAt p past s →
+    StartedAt p (seen.Send v (ops.send s (live_handle s v)).code ∷ past) (ops.send s (live_handle s v)).state
+sent_started p past s v k = send_both s v (λ (c : ops.Coded). StartedAt p (seen.Send v c.code ∷ past) c.state)
+    (λ c r. unchanged p past _ s (record { made = λ i u m. m; same = λ i. refl }) k)
+    (λ t e is. still_started p past _ s t.0 t.1 (records.sent t.1) (live_held s v t e) (λ b. refl) (record { made = λ i u m. m; same = λ i. refl }) k)
+
+cancelled_started : (p : Program) (past : List Seen) (s : State) (v : Var) → StartedAt p past s →
+    StartedAt p (seen.Cancel v (ops.cancel s (live_request s v)).answer ∷ past) (ops.cancel s (live_request s v)).state
+cancelled_started p past s v k = cancel_both s v (λ (d : ops.Done). StartedAt p (seen.Cancel v d.answer ∷ past) d.state)
+    (λ c r. unchanged p past _ s (record { made = λ i u m. m; same = λ i. refl }) k)
+    (λ t live on. request_started p past _ s t.0 t.1 _ live.holds (record { made = λ i u m. m; same = λ i. refl }) k)
+
+pub did_started : (p : Program) (past : List Seen) (s : State) (n : Next) → Did p s n → Kept s → KnownAt p past s → StartedAt p past s →
+    StartedFollows p past n
+did_started p past s n (row.refused why) kept w k = tt
+did_started p past s n (row.still x time clock stop idled l q) kept w k =
+    still_follows p past s (timed s x time clock stop idled) l refl refl q k
+did_started p past s n (row.op x at o e) kept w k = did_op_started p past s o (do_op s o) (op_did s o) kept w k at e
+did_started p past s n (row.begun run watcher.Idle e) kept w k = unchanged p past _ s (record { made = λ i v m. m; same = λ i. refl }) k
+did_started p past s n (row.begun run each e) kept w k = unchanged p past _ s (record { made = λ i v m. m; same = λ i. refl }) k
+did_started p past s n (row.begun_closing run e) kept w k = unchanged p past _ s (record { made = λ i v m. m; same = λ i. refl }) k
+did_started p past s n (row.begun_done run e) kept w k = unchanged p past _ s (record { made = λ i v m. m; same = λ i. refl }) k
+did_started p past s n (row.collected run part t f) kept w k = collected_started p past s t f kept k
+did_started p past s n (row.fired run t f) kept w k = fired_started p past s t f kept k
+did_started p past s n (row.walked run watcher.Idle t sync f) kept w k = same_started p past s watcher.Idle t f kept k
+did_started p past s n (row.walked run each t sync f) kept w k = same_started p past s each t f kept k
+did_started p past s n (row.passed run t f off) kept w k = k
+did_started p past s n (row.woken run t f on) kept w k =
+    walked_started p past s watcher.Async t (records.woken t.1) f (λ b. refl) kept k
+did_started p past s n (row.closed run t f) kept w k = freed_started p past _ s (arena_size p).last_generation t.0 (content.Handle t.1)
+    (is_held s.arena.slots t.0 t.1 f.holds) kept (record { made = λ i v m. m; same = λ i. refl }) k
+did_started p past s n (row.ended run t f) kept w k = freed_started p past _ s (arena_size p).last_generation t.0 (content.Request t.1)
+    f.holds kept (record { made = λ i v m. m; same = λ i. refl }) k
+did_started p past s n (row.taken n' t f) kept w k = unchanged p past _ s (record { made = λ i v m. m; same = λ i. refl }) k
+did_started p past s n (row.finished n' t f) kept w k =
+    request_started p past _ s t.0 t.1 _ f.holds (record { made = λ i v m. m; same = λ i. refl }) k
+did_started p past s n (row.sent v) kept w k = sent_started p past s v k
+did_started p past s n (row.cancelled v) kept w k = cancelled_started p past s v k
+
+pub started_fresh : (p : Program) → StartedAt p [] (fresh p)
+started_fresh p = record { active = λ id h e. cc e; old = λ id v e. cc e }
+
+-- ---- who is called
+
+-- the front of the ready list, and that of a list of watchers
+pub ready_started : (p : Program) (past : List Seen) (s : State) (t : Id × HandleRecord) → FrontOf s s.ready t → StartedAt p past s →
+    (activity p past t.0).started ≡ true
+ready_started p past s t f k =
+    let first : has_id (t.0 ∷ f.rest) t.0 ≡ true = rw (itself t.0 t.0 refl) refl in
+    ap (λ (x : Activity). x.started) (k.active t.0 t.1 f.holds)
+    ∙ ap (λ (b : Bool). b || t.1.active) (ap (λ (ids : List Id). has_id ids t.0) f.are ∙ first)
+
+pub watcher_is_started : (p : Program) (past : List Seen) (s : State) (q : WatcherKind) (t : Id × HandleRecord) → FrontOf s (watched s q).yet t →
+    Kept s → StartedAt p past s → (activity p past t.0).started ≡ true
+watcher_is_started p past s q t f kept k = ap (λ (x : Activity). x.started) (k.active t.0 t.1 f.holds)
+    ∙ or_right (has_id s.ready t.0) t.1.active (front_watches s q t f kept).active
