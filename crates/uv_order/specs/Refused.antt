@@ -20,7 +20,7 @@ use Rattle.uv_model.specs.Ids.{has_some}
 use Rattle.uv_model.specs.Timeout.{deadline_of, has_passed}
 use Rattle.uv_order.specs.Line.{Line}
 use Rattle.uv_order.specs.Alive.{closes_some, has_request, lives}
-use Rattle.uv_order.specs.Once.{bound, made_as, is_cancel_line, has_cancel_line, has_take_line, has_after_line, Once}
+use Rattle.uv_order.specs.Once.{bound, makes, made_as, activity, is_cancel_line, has_cancel_line, has_take_line, has_after_line, Once}
 use Rattle.uv_order.specs.Documented.{Told, names_by, told_by, nothing_told, Documented}
 
 -- these lines, the last one first, in front of those
@@ -32,6 +32,11 @@ past_after past (l ∷ ls) = past_after (l.seen ∷ past) ls
 abbrev pub told_after : Program → Told → List Seen → List Line → Told
 told_after p told past [] = told
 told_after p told past (l ∷ ls) = told_after p (told_by p told (names_by p past) l.seen) (l.seen ∷ past) ls
+
+-- the lines before another one, the last one first, in front of those
+abbrev pub turned : List Seen → List Seen → List Seen
+turned past [] = past
+turned past (l ∷ ls) = turned (l ∷ past) ls
 
 -- a line that may stand in a section: that of a callback, of an op, or from outside
 abbrev pub is_within : Seen → Bool
@@ -90,6 +95,15 @@ pub record RefusedOnce (p : Program) (before more : List Seen) : Type 0 where
   pub second_cancel : (l : Seen) (id : Id) → is_cancel_line p l id ≡ true → has_cancel_line p before id ≡ true → Once p (before ++ l ∷ more) → ⊥
   -- a cancel is accepted of a request that a worker took
   pub late_cancel : (v : Var) (id : Id) → has_take_line before id ≡ true → Once p (before ++ seen.Cancel v (answer.Cancelled id) ∷ more) → ⊥
+  -- a worker takes a request that was cancelled
+  pub cancelled_take : (k : ℕ) (v : Var) (id : Id) → has_cancel_line p before id ≡ true → Once p (before ++ seen.Take k v id ∷ more) → ⊥
+  -- a request comes back with ECANCELED that nobody cancelled
+  pub unasked : (v : Var) (id : Id) → has_cancel_line p before id ≡ false → Once p (before ++ seen.After None v id ∷ more) → ⊥
+  -- an `init` or a `queue` answers an id that one before it answered
+  pub twins : (place : Site) (o : Op) (v w : Var) (id : Id) → op_at p place ≡ Some o → makes o (answer.Id id) id ≡ Some v →
+      made_as p (turned [] before) id ≡ Some w → Once p (before ++ seen.Op place (answer.Id id) ∷ more) → ⊥
+  -- a handle is called that wasn't started, or was stopped since, be it a timer that doesn't repeat and was called
+  pub unstarted : (v : Var) (id : Id) → (activity p (turned [] before) id).started ≡ false → Once p (before ++ seen.Call v id ∷ more) → ⊥
 
 -- by the lines with their states
 pub record RefusedOrder (p : Program) (before more : List Line) : Type 0 where
