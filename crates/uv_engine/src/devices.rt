@@ -1,6 +1,7 @@
 //! Standard readers and writers, as a conversation's.
 //!
 //! They tell their bytes wherever std knows those: over memory it does, at a terminal or a file it doesn't.
+ghost use Rattle.std.specs.Prelude.{◌≡◌};
 ghost use Rattle.uv_engine.specs.Devices.{Counted, AreKnown, known};
 
 use crate::sink::{Sink, WriteFailed};
@@ -23,7 +24,12 @@ pub struct Reader<R> {
 }
 
 impl<R: Read> Reader<R> {
-    pub fn new(reader: R) -> Reader<R> {
+    /// The reader, of which nothing was read yet.
+    pub fn new(reader: R) -> Reader<R>
+        ensures reader { result.reader ≡ reader }
+        ensures given { result.given ≡ 0 }
+        ensures failures { result.failures ≡ 0 }
+    {
         Reader {
             reader,
             given: 0,
@@ -63,7 +69,11 @@ pub struct Writer<W> {
 }
 
 impl<W: Write> Writer<W> {
-    pub fn new(writer: W) -> Writer<W> {
+    /// The writer, to which nothing was written yet.
+    pub fn new(writer: W) -> Writer<W>
+        ensures writer { result.writer ≡ writer }
+        ensures failures { result.failures ≡ 0 }
+    {
         Writer {
             writer,
             failures: 0,
