@@ -1,10 +1,10 @@
 // Loaded before the C library (LD_PRELOAD): refuses the allocation whose number stands in REFUSE, counting
 // from 1. While there is a file of the name that stands in MARK, it grants as many as GRANTED says, and refuses each
 // one behind them. A command is under way from the return of the read that brought bytes from standard input, while the mark is
-// there, to the next write to standard output: its answer. At the end it writes to the file that ASKED names five numbers:
+// there, to the next write to standard output: its answer. At the end it writes to the file that ASKED names six numbers:
 // how many allocations were asked for, how many of these while the mark was there, and how many of these while a command was
-// under way; how many reads of standard input, and how many writes to standard output. What gives memory back is no allocation,
-// and isn't counted.
+// under way; how many reads of standard input, and how many writes to standard output; and how many bytes were asked for at once, at
+// the most. What gives memory back is no allocation, and isn't counted.
 //
 // The read of standard input whose number stands in FAIL_READ fails, and the write to standard output whose number stands in
 // FAIL_WRITE. Where SHORT is set, a read gives a line at the most, and a write takes seven bytes.
@@ -12,12 +12,13 @@
 #include <dlfcn.h>
 #include <errno.h>
 #include <fcntl.h>
+#include <stdatomic.h>
 #include <stdio.h>
 #include <stdlib.h>
 #include <sys/syscall.h>
 #include <unistd.h>
 
-static _Atomic long asked, marked, under_way;
+static _Atomic long asked, marked, under_way, largest;
 static long reads, writes;
 static int is_under_way;
 
@@ -31,8 +32,10 @@ static int is_marked(void) {
     return mark != NULL && access(mark, F_OK) == 0;
 }
 
-static int is_refused(void) {
-    long number = ++asked;
+static int is_refused(size_t size) {
+    long number = ++asked, most = largest;
+    while ((long)size > most && !atomic_compare_exchange_weak(&largest, &most, (long)size)) {
+    }
     if (!is_marked()) {
         return number_of("REFUSE") == number;
     }
@@ -46,7 +49,7 @@ void *malloc(size_t size) {
     if (next == NULL) {
         next = (void *(*)(size_t))dlsym(RTLD_NEXT, "malloc");
     }
-    return is_refused() ? NULL : next(size);
+    return is_refused(size) ? NULL : next(size);
 }
 
 void *realloc(void *old, size_t size) {
@@ -54,7 +57,7 @@ void *realloc(void *old, size_t size) {
     if (next == NULL) {
         next = (void *(*)(void *, size_t))dlsym(RTLD_NEXT, "realloc");
     }
-    return is_refused() ? NULL : next(old, size);
+    return is_refused(size) ? NULL : next(old, size);
 }
 
 // Reads up to a line feed.
@@ -117,7 +120,7 @@ __attribute__((destructor)) static void report(void) {
     const char *name = getenv("ASKED");
     if (name != NULL) {
         char text[160];
-        int length = snprintf(text, sizeof text, "%ld %ld %ld %ld %ld\n", asked, marked, under_way, reads, writes);
+        int length = snprintf(text, sizeof text, "%ld %ld %ld %ld %ld %ld\n", asked, marked, under_way, reads, writes, largest);
         int file = open(name, O_WRONLY | O_CREAT | O_TRUNC, 0600);
         if (file < 0 || write(file, text, (size_t)length) != length) {
             leave(99);
