@@ -1,3 +1,4 @@
+pub mod Buffers
 pub mod Text
 pub mod Replies
 pub mod Gathers

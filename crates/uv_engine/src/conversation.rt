@@ -91,6 +91,7 @@ impl<M: Machine> Conversation<M> {
             }
             self.answer(writer, asked)?;
             spill(writer, &mut self.text)?;
+            input.reuse(line);
         }
     }
 

@@ -1,13 +1,13 @@
 //! The lines of a reader.
-ghost use Rattle.std.specs.Prelude.{◌≡◌, ◌<◌, ◌+◌, ◌==◌, ◌++◌, [], IfOk, IfErr, OnOk, OnSome, length, true, false};
+ghost use Rattle.std.specs.Prelude.{◌≡◌, ◌<◌, ◌+◌, ◌==◌, [], All, IfOk, IfErr, IfNone, IfSome, OnOk, OnSome, length, true, false};
 ghost use Rattle.std.specs.List.{list_any};
+ghost use Rattle.uv_script.specs.Lines.{IsCut};
 ghost use Rattle.uv_engine.specs.Devices.{ReaderCounts, IsTooLong};
 ghost use Rattle.uv_engine.specs.Input.{Buffered, pending, left, EndIsSeen, size, turns_left};
 ghost use Rattle.uv_engine.specs.Taking.{TakesAhead, TakesNext, SameReader, SpendsBudget, SpendsGiven, IsReadFault};
 
 use crate::source::Source;
 use std::alloc::{AllocError, Global};
-use std::collections::VecDeque;
 use std::marker::Model;
 use std::mem;
 use uv_ids::Fault;
@@ -18,21 +18,25 @@ pub struct Input {
     alloc: Global,
     /// The beginning of a line whose end was not yet seen.
     part: Vec<u8>,
-    /// The bytes that follow it.
-    ahead: VecDeque<u8>,
+    /// The bytes that were read last, of which those from `at` on follow it.
+    ahead: Vec<u8>,
+    at: usize,
+    /// Room for a line, with nothing in it.
+    room: Vec<u8>,
     ended: bool,
     /// How many bytes more may be read.
     budget: usize,
 }
 
 impl Model for Input {
+    ghost use Rattle.std.specs.Prelude.{◌≡◌, ◌≤◌, [], drop, length};
     ghost use Rattle.uv_engine.specs.Input.{Buffered, NoFeed};
 
     ghost Value = { Buffered };
 
-    ghost view = { λ a. record { part = a.part.items; ahead = a.ahead.items; ended = a.ended; budget = a.budget } };
+    ghost view = { λ a. record { part = a.part.items; ahead = drop a.at a.ahead.items; ended = a.ended; budget = a.budget } };
 
-    ghost invariant = { λ a. NoFeed a.part.items };
+    ghost invariant = { λ a. NoFeed a.part.items × (a.at ≤ length a.ahead.items) × (a.room.items ≡ []) };
 }
 
 /// A line without its line feed, and whether it had one.
@@ -42,13 +46,15 @@ pub struct Line {
     pub fed: bool,
 }
 
-fn push_all(ahead: &mut VecDeque<u8>, bytes: &[u8]) -> Result<(), AllocError>
-    ensures { OnOk result (ahead.new.items ≡ ahead.old.items ++ bytes.now) }
+/// What stands before the first line feed, and what stands behind it.
+fn cut(text: &[u8]) -> Option<(&[u8], &[u8])>
+    ensures some { IfSome result (λ parts. IsCut 10 text.now parts.0.now parts.1.now) }
+    ensures none { IfNone result (All (λ b. (b == 10) ≡ false) text.now) }
 {
-    for byte in bytes {
-        ahead.push_back(*byte)?;
+    match text.iter().position(|b| *b == b'\n') {
+        Some(end) => Some((&text[..end], &text[end + 1..])),
+        None => None,
     }
-    Ok(())
 }
 
 impl Input {
@@ -61,7 +67,9 @@ impl Input {
         Input {
             alloc,
             part: Vec::new(alloc),
-            ahead: VecDeque::new(alloc),
+            ahead: Vec::new(alloc),
+            at: 0,
+            room: Vec::new(alloc),
             ended: false,
             budget: limit as usize,
         }
@@ -71,14 +79,24 @@ impl Input {
     pub fn has_line(&self) -> bool
         ensures { result ≡ list_any (λ b. b == 10) self.now.ahead }
     {
-        self.ahead.contains(&b'\n')
+        self.ahead[self.at..].contains(&b'\n')
     }
 
     fn take_part(&mut self) -> Vec<u8>
         ensures line { result.items ≡ self.old.part }
         ensures rest { self.new ≡ record self.old { part = [] } }
     {
-        mem::replace(&mut self.part, Vec::new(self.alloc))
+        let room = mem::replace(&mut self.room, Vec::new(self.alloc));
+        mem::replace(&mut self.part, room)
+    }
+
+    /// Keeps the room of a line that is done with for one that comes.
+    pub fn reuse(&mut self, line: Line)
+        ensures { self.new ≡ self.old }
+    {
+        let mut room = line.text;
+        room.clear();
+        self.room = room;
     }
 
     /// The next line, if its line feed was read.
@@ -86,13 +104,19 @@ impl Input {
         ensures line { IfOk result (λ line. TakesAhead self.old line self.new) }
         ensures reader { OnOk result (SameReader self.old self.new) }
     {
-        while let Some(byte) = self.ahead.pop_front() {
-            if byte == b'\n' {
-                return Ok(Some(self.take_part()));
+        match cut(&self.ahead[self.at..]) {
+            Some((line, _)) => {
+                self.part.extend_from_slice(line)?;
+                self.at += line.len() + 1;
+                Ok(Some(self.take_part()))
             }
-            self.part.push(byte)?;
+            None => {
+                self.part.extend_from_slice(&self.ahead[self.at..])?;
+                self.ahead.clear();
+                self.at = 0;
+                Ok(None)
+            }
         }
-        Ok(None)
     }
 
     /// Reads some bytes more. `Read` where the reader fails, or gives more bytes than may be read.
@@ -120,7 +144,7 @@ impl Input {
                 if n > self.budget {
                     return Err(Fault::Read);
                 }
-                push_all(&mut self.ahead, &room[..n])?;
+                self.ahead.extend_from_slice(&room[..n])?;
                 self.budget -= n;
                 Ok(())
             }

@@ -59,6 +59,7 @@ fn read_steps<M: Machine, R: Source>(
             return Err(input.bad());
         };
         rerun.take(step)?;
+        input.input.reuse(line);
     }
 }
 
@@ -107,6 +108,7 @@ fn read_calls<M: Machine, R: Source>(
             return Err(input.bad());
         }
         rerun.meet(alloc, line.text.as_slice())?;
+        input.input.reuse(line);
     }
 }
 

@@ -66,6 +66,7 @@ pub(crate) fn read_front<R: Source>(
             return Ok(Front { text, begun: true });
         }
         push_line(&mut text, &line)?;
+        input.reuse(line);
     }
 }
 

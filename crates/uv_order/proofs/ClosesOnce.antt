@@ -22,7 +22,7 @@ use Rattle.uv_records.specs.declared.lists.WatcherKind.{WatcherKind}
 use Rattle.uv_records.specs.declared.lists.WatcherKind.TheVariants as watcher
 use Rattle.uv_records.specs.Handles as records
 use Rattle.uv_records.specs.Handles.{inited, referenced_as, repeating}
-use Rattle.uv_records.specs.Slots.{Slots, held, freed}
+use Rattle.uv_records.specs.Slots.{Slots, freed}
 use Rattle.uv_work.specs.declared.content.Content.{Content}
 use Rattle.uv_work.specs.declared.content.Content.TheVariants as content
 use Rattle.uv_records.specs.declared.named.Named.{Named}

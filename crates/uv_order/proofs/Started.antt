@@ -1,6 +1,5 @@
 -- Who was started, as the lines tell it and as the handles say it, and which ids were made: each step keeps that they agree.
 use Rattle.std.proofs.Common.{arith, ◌≡◌, ◌⊎◌, inl, inr, ℕ, ◌==◌, ◌||◌, ◌&&◌, List, [], ◌∷◌, ◌++◌, Bool, true, false, drop, if◌then◌else◌, Option, Some, None, Ok, refl, ap, sym, subst, ◌∙◌}
-use Rattle.std.specs.Prelude.{not}
 use Rattle.std.proofs.lemmas.Bool.{cond_both, or_right}
 use Rattle.std.proofs.lemmas.Option.{same_Some, none-some}
 use Rattle.uv_ids.specs.declared.id.Id.{Id}
@@ -36,16 +35,16 @@ use Rattle.uv_model.specs.Timers.{stopped, started, restarted}
 use Rattle.uv_model.specs.Ops as ops
 use Rattle.uv_model.specs.Ops.{do_op}
 use Rattle.uv_model.specs.Next.{Next, Moves, Refuses}
-use Rattle.uv_order.specs.Active.{has_id, AreDistinct}
-use Rattle.uv_order.specs.Once.{Activity, Answered, activity, activity_answered, activity_done, activity_by, activity_called, new_activity, is_success, is_some_id, bound, makes, made_by, made_as, first_of, answered, MakesNew}
+use Rattle.uv_order.specs.Active.{has_id}
+use Rattle.uv_order.specs.Once.{Activity, Answered, activity, activity_answered, activity_done, activity_by, activity_called, new_activity, is_some_id, bound, makes, made_by, made_as, first_of}
 use Rattle.uv_order.proofs.IdLists.{Each, each_back, absent, same, other, itself, turned, has_without, has_new_middle, without_itself}
 use Rattle.uv_order.proofs.Contents.{Turns, IsHeld, held_turned}
-use Rattle.uv_order.proofs.Holding.{held_at, is_held, put, put_turns, put_same, SameHandles, same_handles, Fits, its_handle, Lists, Everyone, IsSet, Times}
+use Rattle.uv_order.proofs.Holding.{held_at, is_held, put, put_turns, put_same, SameHandles, same_handles, Fits, its_handle, Lists, IsSet, Times}
 use Rattle.uv_order.proofs.OpCases as which
 use Rattle.uv_order.proofs.OpCases.{DidOp, IsAsked, IsRefusal, op_did, kind_as, live_held, live_bound, send_both, cancel_both}
-use Rattle.uv_order.proofs.Asked.{request_turns, freed_turns, FrontRequest}
+use Rattle.uv_order.proofs.Asked.{request_turns, freed_turns}
 use Rattle.uv_order.proofs.Gone.{IsGone, gone_put, gone_turned, gone_emptied, gone_now}
-use Rattle.uv_order.proofs.Keeping.{Rests, Watches, Closes, Kept, members, fills, not_free}
+use Rattle.uv_order.proofs.Keeping.{Rests, Watches, Kept, fills, not_free}
 use Rattle.uv_order.proofs.KeptSteps.{everyone}
 use Rattle.uv_order.proofs.Did as row
 use Rattle.uv_order.proofs.Did.{Did, FrontOf, FirstOf, IsStill, IsSync, timed}
@@ -362,7 +361,7 @@ handle_made p past s v q id e kept k place at = by q at where
     active i y g true d =
         let is : id ≡ i = same id i d in
         let new : inited v x ≡ y = same_Some _ _ (sym (ap handle_in t.here)
-            ∙ ap (held_at (taken id (content.Handle (inited v x)) s.arena).slots) is ∙ g) in
+        ∙ ap (held_at (taken id (content.Handle (inited v x)) s.arena).slots) is ∙ g) in
         op_tells p past place (op.Init v x) (answer.Id id) i f
         ∙ ap (λ (b : Bool). if b then new_activity x else activity p past i) d
         ∙ ap (shown (inited v x)) (sym (ap (has_id s.ready) (sym is) ∙ away))

@@ -44,7 +44,7 @@ returns-then-not-is_callback_line-clause-calls g c = λ reads es.
     (c.is_callback_line.ensures.1 (subst IsCallbackLine (sym c.as_slice-in-lines.ensures.value) h))))
 
 pub lines-preserved : goal.lines-preserved
-lines-preserved g c = record {
+lines-preserved g c = rw c.reuse.ensures (record {
   end = c.in_ok-line.ensures.end;
   reads = λ reads es.
       let taken = rw c.in-Some.is at (c.in_ok-line.ensures.line reads) in
@@ -67,7 +67,7 @@ lines-preserved g c = record {
       let same = c.lines.invariant.given few in
       omega (arith, same, c.in_ok-line.ensures.given (omega (arith, same, few)));
   none_failed = c.in_ok-line.ensures.reader ∙ c.lines.invariant.none_failed;
-}
+})
 
 pub returns-in_err-line-clause-budget : goal.returns-in_err-line-clause-budget
 returns-in_err-line-clause-budget g c =

@@ -39,7 +39,7 @@ returns-in_default-read_step-clause-steps g c = λ reads.
     (λ e. c.is_calls.ensures.other c.if-is_calls.false (c.as_slice.ensures.value ∙ e)) none)
 
 pub lines-preserved : goal.lines-preserved
-lines-preserved g c = record {
+lines-preserved g c = rw c.reuse.ensures (record {
   end = c.in_ok-line.ensures.end;
   reads = λ reads.
       let taken = rw c.in-Some.is at (c.in_ok-line.ensures.line reads) in
@@ -62,7 +62,7 @@ lines-preserved g c = record {
       let same = c.lines.invariant.given few in
       omega (arith, same, c.in_ok-line.ensures.given (omega (arith, same, few)));
   none_failed = c.in_ok-line.ensures.reader ∙ c.lines.invariant.none_failed;
-}
+})
 
 pub returns-in_err-line-clause-budget : goal.returns-in_err-line-clause-budget
 returns-in_err-line-clause-budget g c =

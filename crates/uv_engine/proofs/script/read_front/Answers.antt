@@ -13,7 +13,7 @@ returns-then-is_begin-clause-front g c = λ reads.
     front_begun _ _ (c.lines.invariant.text reads) taken (c.is_begin.ensures.begin c.if-is_begin.true)
 
 pub lines-preserved : goal.lines-preserved
-lines-preserved g c = record {
+lines-preserved g c = rw c.reuse.ensures (record {
   end = c.in_ok-line.ensures.end;
   text = λ reads.
       let taken = rw c.in-Some.is at (c.in_ok-line.ensures.line reads) in
@@ -26,4 +26,4 @@ lines-preserved g c = record {
       let smaller = rw c.in-Some.is at c.in_ok-line.ensures.size in
       omega (arith, smaller, c.lines.invariant.size_is);
   none_failed = c.in_ok-line.ensures.reader ∙ c.lines.invariant.none_failed;
-}
+})

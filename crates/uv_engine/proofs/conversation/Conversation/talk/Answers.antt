@@ -65,7 +65,7 @@ returns-then-is_quit-clause-within g c = on_ok c.finish-then-is_quit.result
     (λ reads. omega (arith, c.lines.invariant.budget reads, c.in_ok-line.ensures.budget reads))
 
 pub lines-preserved : goal.lines-preserved
-lines-preserved g c = record {
+lines-preserved g c = rw c.reuse.ensures (record {
   end = c.in_ok-line.ensures.end;
   text = λ reads tells.
       let written = can_write (c.lines.invariant.text reads tells) (c.in_ok-write_if_waiting.ensures.text tells) in
@@ -83,4 +83,4 @@ lines-preserved g c = record {
   none_read_failed = c.in_ok-line.ensures.reader ∙ c.lines.invariant.none_read_failed;
   none_write_failed = c.in_ok-spill.ensures.writer ∙ c.in_ok-answer.ensures.writer ∙ c.in_ok-write_if_waiting.ensures.writer
       ∙ c.lines.invariant.none_write_failed;
-}
+})
