@@ -171,10 +171,7 @@ fn task<R: Abort>(rt: &R, text: &[u8], rounds: u16) -> Task {
 }
 
 fn job<R: Abort>(rt: &R, text: &[u8], rounds: u16) -> Job {
-    Job {
-        req: REQ,
-        task: task(rt, text, rounds),
-    }
+    Job::new(REQ, text, rounds).expect(rt, "within the limits")
 }
 
 /// Whether so many rounds of the first bytes of the text, so many, have this digest.

@@ -10,7 +10,7 @@ use Rattle.uv_ids.specs.declared.code.Code.{Code}
 use Rattle.uv_ids.specs.declared.code.Answer.{Answer}
 use Rattle.uv_ids.specs.declared.fault.Why.TheVariants.{Range}
 use Rattle.uv_script.specs.Program.{Program}
-use Rattle.uv_model.specs.declared.limits.TheConstants.{LATEST}
+use Rattle.uv_model.specs.Limits.{LATEST}
 use Rattle.uv_model.specs.declared.place.Place.{Place}
 use Rattle.uv_model.specs.State.{State, live_handle, live_request}
 use Rattle.uv_model.specs.Next.{Next, Moves, Refuses, next}

@@ -6,7 +6,7 @@ use Rattle.uv_ids.specs.declared.event.Event.TheVariants.{Loop, Take, Finish, Ca
 use Rattle.uv_ids.specs.declared.fault.Why.{Why}
 use Rattle.uv_script.specs.Program.{Program}
 use Rattle.uv_work.specs.declared.request.Request.{Request}
-use Rattle.uv_model.specs.declared.limits.TheConstants.{LATEST}
+use Rattle.uv_model.specs.Limits.{LATEST}
 use Rattle.uv_model.specs.declared.place.Body.{Body}
 use Rattle.uv_model.specs.declared.place.Place.{Place}
 use Rattle.uv_model.specs.declared.place.Place.TheVariants.{Main, Running}

@@ -1,5 +1,5 @@
 //! What an event does that nothing refuses.
-ghost use Rattle.uv_model.specs.declared.limits.TheConstants.{LATEST};
+ghost use Rattle.uv_model.specs.Limits.{LATEST};
 ghost use Rattle.std.specs.Prelude.{◌≡◌, ◌+◌, ◌≤◌, Some, IfOk, IfErr};
 ghost use Rattle.uv_ids.specs.declared.id.Id.{Id};
 ghost use Rattle.uv_ids.specs.declared.event.Event.TheVariants.{Take, Finish, Tick};

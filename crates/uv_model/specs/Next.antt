@@ -23,7 +23,7 @@ use Rattle.uv_script.specs.declared.op.MainOp.TheVariants as main
 use Rattle.uv_script.specs.declared.op.CallbackLine.{CallbackLine}
 use Rattle.uv_script.specs.Program.{Program, arena_size, order_of, lines_in, is_for}
 use Rattle.uv_work.specs.Tasks.{text_of}
-use Rattle.uv_model.specs.declared.limits.TheConstants.{LATEST}
+use Rattle.uv_model.specs.Limits.{LATEST}
 use Rattle.uv_model.specs.declared.place.Body.{Body}
 use Rattle.uv_model.specs.declared.place.Run.{Run}
 use Rattle.uv_model.specs.declared.place.Stage.{Stage}

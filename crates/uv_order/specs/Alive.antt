@@ -8,7 +8,7 @@ use Rattle.uv_ids.specs.declared.phase.Mode.{Mode}
 use Rattle.uv_ids.specs.declared.phase.Mode.TheVariants.{Default, Once, Nowait}
 use Rattle.uv_records.specs.Handles.{keeps_alive}
 use Rattle.uv_records.specs.declared.slot.Slot.{Slot}
-use Rattle.uv_model.specs.declared.limits.TheConstants.{LONGEST_POLL}
+use Rattle.uv_model.specs.Limits.{LONGEST_POLL}
 use Rattle.uv_work.specs.declared.content.Content.{Content}
 use Rattle.uv_work.specs.declared.content.Content.TheVariants as content
 use Rattle.uv_model.specs.Ids.{has_some}

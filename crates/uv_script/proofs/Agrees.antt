@@ -11,7 +11,7 @@ use Rattle.uv_ids.specs.declared.seen.Callback.{Callback}
 use Rattle.uv_ids.specs.declared.seen.Callback.TheVariants as callback
 use Rattle.uv_ids.specs.declared.order.Order.{Order}
 use Rattle.uv_ids.specs.Words.{kind_word, mode_word, order_word}
-use Rattle.uv_ids.specs.declared.limits.TheConstants.{MOST_SENDERS}
+use Rattle.uv_script.specs.Limits.{MOST_SENDERS}
 use Rattle.uv_script.specs.declared.op.Op.{Op}
 use Rattle.uv_script.specs.declared.op.Op.TheVariants as op
 use Rattle.uv_script.specs.declared.op.MainOp.TheVariants as main

@@ -10,7 +10,6 @@ use Rattle.uv_ids.specs.declared.phase.Mode.{Mode}
 use Rattle.uv_ids.specs.declared.fault.Fault.{Fault}
 use Rattle.uv_ids.specs.declared.fault.Fault.TheVariants as fault
 use Rattle.uv_ids.specs.Words.{kind_word, mode_word, order_word}
-use Rattle.uv_ids.specs.declared.limits.TheConstants.{MOST_SENDERS}
 use Rattle.uv_script.specs.declared.op.Op.{Op}
 use Rattle.uv_script.specs.declared.op.Op.TheVariants as op
 use Rattle.uv_script.specs.declared.op.MainOp.{MainOp}
@@ -20,7 +19,7 @@ use Rattle.uv_script.specs.declared.size.ArenaSize.{ArenaSize}
 use Rattle.uv_script.specs.declared.settings.Settings.{Settings}
 use Rattle.uv_work.specs.declared.task.Task.{Task}
 use Rattle.uv_ids.specs.declared.thread_line.ThreadLine.{ThreadLine}
-use Rattle.uv_script.specs.Limits.{MOST_NAMES, MOST_LINES}
+use Rattle.uv_script.specs.Limits.{MOST_NAMES, MOST_LINES, MOST_SENDERS}
 use Rattle.uv_script.specs.Lines.{lines_of, fields_of, IsLine, IsSkipped}
 use Rattle.uv_script.specs.Program.{Program, no_callbacks, callbacks_of, with_line, line_count, IsSlotCount, LAST_GENERATION, IsWorkerCount, DEFAULT_SIZE, DEFAULT_WORKERS, DEFAULT_ORDER, IsCounted}
 use Rattle.uv_work.specs.Tasks.{text_of}

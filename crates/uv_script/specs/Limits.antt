@@ -12,3 +12,7 @@ MOST_NAMES = 65535
 -- the most lines of a script that count
 abbrev pub MOST_LINES : ℕ
 MOST_LINES = 1048575
+
+-- the numbers of senders' threads are below this
+abbrev pub MOST_SENDERS : ℕ
+MOST_SENDERS = 64

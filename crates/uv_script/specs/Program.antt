@@ -7,13 +7,12 @@ use Rattle.uv_ids.specs.declared.seen.Callback.{Callback}
 use Rattle.uv_ids.specs.declared.seen.Callback.TheVariants as callback
 use Rattle.uv_ids.specs.declared.seen.Site.{Site}
 use Rattle.uv_ids.specs.declared.seen.Site.TheVariants as site
-use Rattle.uv_ids.specs.declared.limits.TheConstants.{MOST_SENDERS}
 use Rattle.uv_script.specs.declared.op.Op.{Op}
 use Rattle.uv_script.specs.declared.op.MainOp.{MainOp}
 use Rattle.uv_script.specs.declared.op.MainOp.TheVariants as main
 use Rattle.uv_script.specs.declared.op.CallbackLine.{CallbackLine}
 use Rattle.uv_script.specs.declared.size.ArenaSize.{ArenaSize}
-use Rattle.uv_script.specs.Limits.{MOST_SLOTS, MOST_LINES}
+use Rattle.uv_script.specs.Limits.{MOST_SLOTS, MOST_LINES, MOST_SENDERS}
 use Rattle.uv_ids.specs.declared.thread_line.ThreadLine.{ThreadLine}
 
 -- the lines of a name's callbacks

@@ -13,13 +13,12 @@ use Rattle.uv_ids.specs.declared.order.Order.{Order}
 use Rattle.uv_ids.specs.declared.order.Order.TheVariants as order
 use Rattle.uv_ids.specs.declared.fault.Fault.{Fault}
 use Rattle.uv_ids.specs.declared.fault.Fault.TheVariants as fault
-use Rattle.uv_ids.specs.declared.limits.TheConstants.{MOST_SENDERS}
 use Rattle.uv_script.specs.declared.op.Op.{Op}
 use Rattle.uv_script.specs.declared.op.Op.TheVariants as op
 use Rattle.uv_script.specs.declared.op.MainOp.TheVariants as main
 use Rattle.uv_script.specs.declared.settings.Settings.{Settings}
 use Rattle.uv_script.specs.Grammar.{Statement, Declares, InMain, InCallback, Sizes, HasWorkers, Orders, InThread, Says, Draft, with_statement, with_said}
-use Rattle.uv_script.specs.Limits.{MOST_SLOTS, MOST_NAMES, MOST_LINES}
+use Rattle.uv_script.specs.Limits.{MOST_SLOTS, MOST_NAMES, MOST_LINES, MOST_SENDERS}
 use Rattle.uv_script.specs.Lines.{fields_of, rest_of, IsLine}
 use Rattle.uv_script.specs.Program.{Program, line_count, IsSlotCount, LAST_GENERATION, IsWorkerCount, IsThreadLine}
 use Rattle.uv_script.specs.Checks.{is_line, is_skipped, is_name, number_of}

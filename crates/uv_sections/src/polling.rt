@@ -1,6 +1,6 @@
 //! The poll begins.
 ghost use Rattle.std.specs.Prelude.{◌≡◌, ◌<◌, ◌≤◌, ◌^◌, Some, IfSome};
-ghost use Rattle.uv_model.specs.declared.limits.TheConstants.{LONGEST_POLL};
+ghost use Rattle.uv_model.specs.Limits.{LONGEST_POLL};
 ghost use Rattle.uv_model.specs.Timeout.{deadline_of};
 ghost use Rattle.uv_model.specs.Next.{begin_poll};
 ghost use Rattle.uv_step.specs.Image.{held};

@@ -6,7 +6,7 @@ use Rattle.uv_arena.specs.Image as arena
 use Rattle.uv_heap.specs.declared.entry.Entry.{Entry}
 use Rattle.uv_heap.specs.Order.{IsInOrder, IsBeforeAll}
 use Rattle.uv_heap.proofs.OrderLemmas.{counts_itself}
-use Rattle.uv_model.specs.declared.limits.TheConstants.{LONGEST_POLL}
+use Rattle.uv_model.specs.Limits.{LONGEST_POLL}
 use Rattle.uv_model.specs.declared.place.Place.{Place}
 use Rattle.uv_model.specs.State.{State}
 use Rattle.uv_model.specs.Timeout.{until_first}

@@ -40,7 +40,7 @@ use Rattle.uv_work.specs.declared.outcome.Outcome.{Outcome}
 use Rattle.uv_work.specs.declared.outcome.Outcome.TheVariants.{Open, Finished, Cancelled}
 use Rattle.uv_work.specs.Digests.{digest_of}
 use Rattle.uv_work.proofs.DigestBytes.{IsDigest, is_digest}
-use Rattle.uv_model.specs.declared.limits.TheConstants.{LATEST}
+use Rattle.uv_model.specs.Limits.{LATEST}
 use Rattle.uv_work.specs.declared.content.Content.{Content}
 use Rattle.uv_work.specs.declared.content.Content.TheVariants as content
 use Rattle.uv_records.specs.declared.named.Named.{Named}

@@ -4,7 +4,7 @@ use Rattle.std.proofs.Math.Seq.{take-append_seam}
 use Rattle.std.proofs.Props.{props}
 use Rattle.std.proofs.lemmas.Bool.{and_from, both_ways, le-leb}
 use Rattle.std.proofs.lemmas.Option.{same_Some}
-use Rattle.uv_ids.specs.declared.limits.TheConstants.{LONGEST_TEXT, MOST_ROUNDS}
+use Rattle.uv_work.specs.Limits.{LONGEST_TEXT, MOST_ROUNDS}
 use Rattle.uv_work.specs.declared.task.Task.{Task}
 use Rattle.uv_work.specs.TaskFields.{IsRoundCount, IsPadded, padded}
 use Rattle.uv_work.specs.TaskReading.{is_task, rounds_within, text_within, made, task_of}

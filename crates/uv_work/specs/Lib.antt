@@ -1,3 +1,4 @@
+pub mod Limits
 pub mod TaskFields
 pub mod Tasks
 pub mod TaskReading

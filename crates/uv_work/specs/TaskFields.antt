@@ -1,6 +1,6 @@
 -- What the fields of a task keep.
 use Rattle.std.specs.Prelude.{◌≡◌, ℕ, ◌-◌, ◌≤◌, List, ◌++◌, length, take, replicate}
-use Rattle.uv_ids.specs.declared.limits.TheConstants.{LONGEST_TEXT, MOST_ROUNDS}
+use Rattle.uv_work.specs.Limits.{LONGEST_TEXT, MOST_ROUNDS}
 
 -- a task has 1 to 1000 rounds (own)
 pub record IsRoundCount (rounds : ℕ) : Type 0 where

@@ -4,7 +4,7 @@ use Rattle.std.proofs.Common.{refl, sym, ap, arith, length-append}
 use Rattle.std.proofs.lemmas.List.{length-replicate}
 use Rattle.std.proofs.Math.Seq.{take-append_seam}
 use Rattle.std.proofs.lemmas.Bool.{and_parts, leb-true}
-use Rattle.uv_ids.specs.declared.limits.TheConstants.{LONGEST_TEXT, MOST_ROUNDS}
+use Rattle.uv_work.specs.Limits.{LONGEST_TEXT, MOST_ROUNDS}
 use Rattle.uv_work.specs.declared.task.Task.{Task}
 use Rattle.uv_work.specs.TaskFields.{IsRoundCount, IsPadded, padded}
 

@@ -1,6 +1,6 @@
 //! What a work request asks for.
 ghost use Rattle.std.specs.Prelude.{◌≡◌, ◌≤◌, length};
-ghost use Rattle.uv_ids.specs.declared.limits.TheConstants.{LONGEST_TEXT, MOST_ROUNDS};
+ghost use Rattle.uv_work.specs.Limits.{LONGEST_TEXT, MOST_ROUNDS};
 ghost use Rattle.uv_work.specs.TaskFields.{IsRoundCount, IsPadded, padded};
 
 use uv_ids::{LONGEST_TEXT, MOST_ROUNDS};

@@ -1,4 +1,4 @@
-use Rattle.uv_model.specs.declared.limits.TheConstants.{LONGEST_POLL}
+use Rattle.uv_model.specs.Limits.{LONGEST_POLL}
 use Rattle.std.proofs.Common.{ℕ, min, Some, None, sym, ap, ◌∙◌}
 use Rattle.uv_step.specs.Image.{image_of}
 use Rattle.uv_stands.proofs.First.{first_timer}

@@ -1,6 +1,6 @@
 use Rattle.std.proofs.Common.{◌-◌, length, take, replicate, refl, ap, sym, ◌∙◌}
 use Rattle.std.proofs.Math.Seq.{take-append_seam}
-use Rattle.uv_ids.specs.declared.limits.TheConstants.{LONGEST_TEXT}
+use Rattle.uv_work.specs.Limits.{LONGEST_TEXT}
 use Rattle.uv_work.proofs.TaskLemmas.{task_of-complete}
 use Rattle.uv_work.proofs.task.Task.new.Goals as goal
 
