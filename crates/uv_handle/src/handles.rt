@@ -57,6 +57,7 @@ impl Handles {
             (counted slots.old.image self.old) (counted slots.new.image self.new) name kind r.0 r.1) }
         ensures err { IfErr result (λ fault. RefusesInsert fault slots.old × (slots.new ≡ slots.old) × (self.new ≡ self.old)) }
         ensures pieces { slots.old.room ≤ slots.new.room }
+        ensures piece { IfOk result (λ _. slots.new.room ≡ room_after slots.old) }
     {
         let handle = HandleRecord::new(name, kind);
         let active = self.active;

@@ -2,10 +2,9 @@
 //! before. Taking a step back takes no memory and can't fail.
 #![tactic(auto)]
 
+mod entry;
 mod handles;
-mod head;
 mod large;
-mod last;
 mod law;
 mod medium;
 mod memory;
@@ -13,16 +12,19 @@ mod pool;
 mod reading;
 mod record;
 mod small;
+mod step_record;
 mod timers;
+mod trail;
 mod unwinding;
 mod values;
 mod watchers;
 
-pub use head::Head;
+pub use entry::Entry;
 pub use large::Large;
-pub use last::LastStep;
 pub use law::steps_unwind;
 pub use medium::Medium;
 pub use memory::Memory;
 pub use record::{Added, Naming, Polled};
 pub use small::Small;
+pub use step_record::{Form, StepRecord};
+pub use trail::{Row, Trail};
