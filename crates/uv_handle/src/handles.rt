@@ -5,7 +5,7 @@ ghost use Rattle.uv_records.specs.declared.handle.HandleRecord.{HandleRecord};
 ghost use Rattle.uv_records.specs.Handles.{inited};
 ghost use Rattle.uv_records.specs.Count.{one_if};
 ghost use Rattle.uv_arena.specs.Undo.{set_undone};
-ghost use Rattle.uv_arena.specs.Calls.{IsInserted, IsSet, RefusesInsert};
+ghost use Rattle.uv_arena.specs.Calls.{IsInserted, IsSet, RefusesInsert, room_after};
 ghost use Rattle.uv_handle.specs.Changes.{IsAdded, IsChanged};
 ghost use Rattle.uv_handle.specs.Counted.{counted, record_at, found, IsCounted, Fits32, record_undone, CanUndoRecord, add_undone, CanUndoAdd};
 

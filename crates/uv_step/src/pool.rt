@@ -1,7 +1,7 @@
 //! Requests are queued, taken, finished, cancelled, and called back.
 ghost use Rattle.std.specs.Prelude.{◌≡◌, ◌≤◌, Option, Some, None, IfOk, IfErr, IfSome, IfNone, [], slice_get};
 ghost use Rattle.uv_records.specs.declared.lists.ListName.TheVariants.{DoneYet, Waiting};
-ghost use Rattle.uv_arena.specs.Calls.{RefusesInsert, IsFirst};
+ghost use Rattle.uv_arena.specs.Calls.{RefusesInsert, room_after, IsFirst};
 ghost use Rattle.uv_arena.specs.Image.{members};
 ghost use Rattle.uv_work.specs.Requests.{reopened, cancel_refusal, job_of};
 ghost use Rattle.uv_work.specs.Pool.{waits};
