@@ -7,7 +7,7 @@ use uv_handle::RecordUndo;
 use uv_ids::{Kind, Var};
 use uv_records::HandleRecord;
 use uv_requests::CollectWorkUndo;
-use uv_step::{Large, Medium, Naming, StepRecord, Trail};
+use uv_step::{Large, Medium, Naming, LastStep, Trail};
 use uv_watch::WalkUndo;
 use uv_work::{Request, Task};
 
@@ -19,7 +19,7 @@ const PLACE: ChainPlace = ChainPlace {
 };
 
 /// A handle was called, and lies in the head of its step.
-fn called(last: &mut StepRecord<u64>, place: u64) {
+fn called(last: &mut LastStep<u64>, place: u64) {
     last.note_walked(
         place,
         WalkUndo {
@@ -31,7 +31,7 @@ fn called(last: &mut StepRecord<u64>, place: u64) {
 }
 
 /// A handle got another record, which was this.
-fn edited(last: &mut StepRecord<u64>, place: u64) {
+fn edited(last: &mut LastStep<u64>, place: u64) {
     last.note_medium(
         place,
         Medium::Edited(RecordUndo {
@@ -43,7 +43,7 @@ fn edited(last: &mut StepRecord<u64>, place: u64) {
 }
 
 /// A request was freed.
-fn ended(last: &mut StepRecord<u64>, place: u64) {
+fn ended(last: &mut LastStep<u64>, place: u64) {
     let collected = CollectWorkUndo {
         unlinked: PLACE,
         count: 6,
@@ -59,21 +59,21 @@ fn ended(last: &mut StepRecord<u64>, place: u64) {
 }
 
 /// A record more is there.
-fn push<R: Abort>(rt: &R, trail: &mut Trail<u64>, last: &mut StepRecord<u64>) {
+fn push<R: Abort>(rt: &R, trail: &mut Trail<u64>, last: &mut LastStep<u64>) {
     last.rename(Naming::Unbound(Var(2)));
     trail.reserve().expect(rt, "there is memory");
     trail.push(last);
 }
 
 /// The last record is that of this place, and named as all are.
-fn pops(trail: &mut Trail<u64>, last: &mut StepRecord<u64>, place: u64) -> bool {
+fn pops(trail: &mut Trail<u64>, last: &mut LastStep<u64>, place: u64) -> bool {
     trail.pop(last) && last.place() == place && matches!(last.naming(), Naming::Unbound(Var(2)))
 }
 
 #[test]
 fn records_lie_in_rows(rt: HostRuntime) {
     let mut trail = Trail::new(rt.alloc());
-    let mut last = StepRecord::new(0);
+    let mut last = LastStep::new(0);
     assert!(rt; !trail.pop(&mut last));
     called(&mut last, 1);
     push(&rt, &mut trail, &mut last);

@@ -4,7 +4,7 @@ ghost use Rattle.uv_loop.specs.Taken.{HasRoom, AreSame, IsOneMore};
 
 use std::alloc::{AllocError, Global};
 use uv_ids::Seen;
-use uv_step::{StepRecord, Trail};
+use uv_step::{LastStep, Trail};
 
 /// The steps that stand: what each appended to the trace, which tells its event, and what takes it back.
 #[derive(Drop)]
@@ -36,7 +36,7 @@ impl<P: Copy> Steps<P> {
     }
 
     /// One more. It takes no memory.
-    pub(crate) fn push(&mut self, line: Option<Seen>, last: &StepRecord<P>)
+    pub(crate) fn push(&mut self, line: Option<Seen>, last: &LastStep<P>)
         requires { HasRoom self.old }
         ensures { IsOneMore self.old self.new line last.now }
     {
@@ -52,7 +52,7 @@ impl<P: Copy> Steps<P> {
     }
 
     /// The last one of some goes: this takes it back.
-    pub(crate) fn pop(&mut self, last: &mut StepRecord<P>)
+    pub(crate) fn pop(&mut self, last: &mut LastStep<P>)
         requires { 0 < length self.old.trail.records }
         ensures records { self.old.trail.records ≡ self.new.trail.records ++ last.new ∷ [] }
         ensures seen { self.new.seen.items ≡ take (length self.new.trail.records) self.old.seen.items }

@@ -11,8 +11,10 @@ use Rattle.uv_step.specs.declared.medium.Medium.{Medium}
 use Rattle.uv_step.specs.declared.medium.Medium.TheVariants as medium
 use Rattle.uv_step.specs.declared.large.Large.{Large}
 use Rattle.uv_step.specs.declared.large.Large.TheVariants as large
-use Rattle.uv_step.specs.declared.step_record.Form.{Form}
-use Rattle.uv_step.specs.declared.step_record.Form.TheVariants as form
+use Rattle.uv_step.specs.declared.kept.Form.{Form}
+use Rattle.uv_step.specs.declared.kept.Form.TheVariants as form
+use Rattle.uv_step.specs.declared.kept.KeptRecord.{KeptRecord}
+use Rattle.uv_step.specs.Record.{Record}
 
 -- the change that a small one is
 abbrev pub smaller : Small → Change
@@ -60,3 +62,7 @@ abbrev pub change_in : Form → Change
 change_in (form.Small s) = smaller s
 change_in (form.Medium m) = change_of m
 change_in (form.Large l) = larger l
+
+-- the record that is kept so
+abbrev pub record_of : {P : Type 0} → KeptRecord P → Record P
+record_of k = record { place = k.place; naming = k.naming; change = change_in k.form }

@@ -4,7 +4,9 @@
 
 mod entry;
 mod handles;
+mod kept;
 mod large;
+mod last;
 mod law;
 mod medium;
 mod memory;
@@ -12,7 +14,6 @@ mod pool;
 mod reading;
 mod record;
 mod small;
-mod step_record;
 mod timers;
 mod trail;
 mod unwinding;
@@ -20,11 +21,12 @@ mod values;
 mod watchers;
 
 pub use entry::Entry;
+pub use kept::{Form, KeptRecord};
 pub use large::Large;
+pub use last::LastStep;
 pub use law::steps_unwind;
 pub use medium::Medium;
 pub use memory::Memory;
 pub use record::{Added, Naming, Polled};
 pub use small::Small;
-pub use step_record::{Form, StepRecord};
 pub use trail::{Row, Trail};

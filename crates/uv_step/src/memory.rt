@@ -5,7 +5,7 @@ ghost use Rattle.uv_heap.specs.Array.{IsHeap, SlotsDiffer};
 ghost use Rattle.uv_step.specs.Image.{held, fresh};
 ghost use Rattle.uv_step.specs.Fit.{IsFit};
 
-use crate::step_record::StepRecord;
+use crate::last::LastStep;
 use std::alloc::{AllocError, Global};
 use std::marker::Model;
 use uv_arena::Slots;
@@ -34,7 +34,7 @@ pub struct Memory<P: Copy> {
     /// An idle handle was active as the iteration began.
     pub(crate) idled: bool,
     /// The record of the last step that was done, which takes it back. It is no part of what a step changes.
-    pub(crate) step_record: StepRecord<P>,
+    pub(crate) step_record: LastStep<P>,
 }
 
 impl<P: Copy> Model for Memory<P> {
@@ -84,7 +84,7 @@ impl<P: Copy> Memory<P> {
             clock: 0,
             stop_flag: false,
             idled: false,
-            step_record: StepRecord::new(place),
+            step_record: LastStep::new(place),
         })
     }
 

@@ -2,15 +2,15 @@
 ghost use Rattle.std.specs.Prelude.{◌≡◌};
 ghost use Rattle.std.specs.Borrow.{Lends, sem};
 ghost use Rattle.uv_step.specs.contracts.memory.Memory.{the_row};
-ghost use Rattle.uv_step.specs.contracts.step_record.StepRecord as last;
+ghost use Rattle.uv_step.specs.contracts.last.LastStep as last;
 ghost use Rattle.uv_step.specs.Change as change;
 ghost use Rattle.uv_step.specs.Image.{held};
 ghost use Rattle.uv_step.specs.Fit.{IsFit};
 ghost use Rattle.uv_step.specs.Undo.{Recorded};
 ghost use Rattle.uv_step.specs.Does.{changed};
 
+use crate::last::LastStep;
 use crate::memory::Memory;
-use crate::step_record::StepRecord;
 use uv_arena::Slots;
 use uv_handle::Handles;
 use uv_heap::TimerHeap;
@@ -98,14 +98,14 @@ impl<P: Copy> Memory<P> {
     }
 
     /// What takes the last step back.
-    pub fn step_record(&self) -> &StepRecord<P>
+    pub fn step_record(&self) -> &LastStep<P>
         ensures { result.now ≡ self.now.step_record }
     {
         &self.step_record
     }
 
     /// What takes the last step back, to be set to that of the step before.
-    pub fn step_record_mut(&mut self) -> &mut StepRecord<P>
+    pub fn step_record_mut(&mut self) -> &mut LastStep<P>
         ensures* back { sem 𝓛 (Lends (the_row P.row) (last.the_row P.row) self.entry result (λ w. record self.old { step_record = w })) }
         ensures value { result.now ≡ self.old.step_record }
     {

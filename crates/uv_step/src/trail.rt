@@ -2,10 +2,11 @@
 ghost use Rattle.std.specs.Prelude.{◌≡◌, ◌<◌, ◌≤◌, ◌+◌, ◌++◌, ◌∷◌, [], OnOk, OnErr, IsFalse, length, if◌then◌else◌};
 
 use crate::entry::Entry;
+use crate::kept::{Form, KeptRecord};
 use crate::large::Large;
+use crate::last::LastStep;
 use crate::medium::Medium;
 use crate::small::Small;
-use crate::step_record::{Form, StepRecord};
 use std::alloc::{AllocError, Global};
 use std::marker::Model;
 
@@ -87,43 +88,30 @@ impl<P: Copy> Trail<P> {
     }
 
     /// One more. It takes no memory.
-    pub fn push(&mut self, last: &StepRecord<P>)
+    pub fn push(&mut self, last: &LastStep<P>)
         requires { 0 < self.old.room }
         ensures records { self.new.records ≡ self.old.records ++ last.now ∷ [] }
         ensures room { self.old.room ≤ self.new.room + 1 }
     {
-        let place = last.place();
-        let naming = last.naming();
-        match last.form() {
+        let record = last.kept();
+        match record.form {
             Form::Small(change) => {
                 self.rows.push_reserved(Row::Smalls);
-                self.smalls.push_reserved(Entry {
-                    place,
-                    naming,
-                    change: *change,
-                });
+                self.smalls.push_reserved(record.entry(change));
             }
             Form::Medium(change) => {
                 self.rows.push_reserved(Row::Mediums);
-                self.mediums.push_reserved(Entry {
-                    place,
-                    naming,
-                    change: *change,
-                });
+                self.mediums.push_reserved(record.entry(change));
             }
             Form::Large(change) => {
                 self.rows.push_reserved(Row::Larges);
-                self.larges.push_reserved(Entry {
-                    place,
-                    naming,
-                    change: *change,
-                });
+                self.larges.push_reserved(record.entry(change));
             }
         }
     }
 
     /// The last one goes, if there is one, and is this. Says whether there was one.
-    pub fn pop(&mut self, last: &mut StepRecord<P>) -> bool
+    pub fn pop(&mut self, last: &mut LastStep<P>) -> bool
         ensures records { self.old.records ≡ self.new.records ++ (if result then last.new ∷ [] else []) }
         ensures none { IsFalse result → (self.old.records ≡ []) × (last.new ≡ last.old) }
         ensures room { self.old.room ≤ self.new.room }
@@ -131,20 +119,21 @@ impl<P: Copy> Trail<P> {
         let Some(row) = self.rows.pop() else {
             return false;
         };
-        *last = match row {
+        let record = match row {
             Row::Smalls => match self.smalls.pop() {
-                Some(step) => StepRecord::of(step.place, step.naming, Form::Small(step.change)),
+                Some(step) => step.record(Form::Small(step.change)),
                 None => unreachable!(),
             },
             Row::Mediums => match self.mediums.pop() {
-                Some(step) => StepRecord::of(step.place, step.naming, Form::Medium(step.change)),
+                Some(step) => step.record(Form::Medium(step.change)),
                 None => unreachable!(),
             },
             Row::Larges => match self.larges.pop() {
-                Some(step) => StepRecord::of(step.place, step.naming, Form::Large(step.change)),
+                Some(step) => step.record(Form::Large(step.change)),
                 None => unreachable!(),
             },
         };
+        *last = LastStep::of(record);
         true
     }
 }

@@ -8,12 +8,12 @@ ghost use Rattle.uv_step.specs.Undo.{CanUnwind, CanRename, CanUndo};
 ghost use Rattle.uv_step.specs.Does.{moved_by};
 ghost use Rattle.uv_step.specs.Forms.{smaller, change_of, larger, taken_off};
 
+use crate::kept::Form;
 use crate::large::Large;
 use crate::medium::Medium;
 use crate::memory::Memory;
 use crate::record::{Added, Naming};
 use crate::small::Small;
-use crate::step_record::Form;
 use uv_arena::PushUndo;
 use uv_handle::{DelistUndo, RecordUndo};
 use uv_heap::HeapRemoveUndo;

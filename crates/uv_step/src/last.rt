@@ -1,10 +1,10 @@
-//! What takes one step back.
+//! What takes the last step back.
 ghost use Rattle.std.specs.Prelude.{◌≡◌};
 ghost use Rattle.uv_step.specs.Change as change;
 ghost use Rattle.uv_step.specs.Does.{changed};
-ghost use Rattle.uv_step.specs.Forms.{smaller, change_of, larger, change_in};
-ghost use Rattle.uv_step.specs.Record.{Record};
+ghost use Rattle.uv_step.specs.Forms.{smaller, change_of, larger, change_in, record_of};
 
+use crate::kept::{Form, KeptRecord};
 use crate::large::Large;
 use crate::medium::Medium;
 use crate::record::Naming;
@@ -14,52 +14,50 @@ use uv_arena::PushUndo;
 use uv_timer::TimerUndo;
 use uv_watch::WalkUndo;
 
-/// What takes one step back: where the loop stood, what became of a name, and the change of the rest in the form in which it is kept.
-/// It holds no collection, and callers see the record.
-#[derive(Clone, Copy)]
-pub struct StepRecord<P: Copy> {
-    place: P,
-    naming: Naming,
-    form: Form,
+/// What takes the last step back. Callers see the record.
+#[derive(Drop)]
+pub struct LastStep<P: Copy> {
+    kept: KeptRecord<P>,
 }
 
-/// A change, by how large it is.
-#[derive(Clone, Copy)]
-pub enum Form {
-    Small(Small),
-    Medium(Medium),
-    Large(Large),
-}
-
-// A record has at most 32 words of 64 bits where a place has at most 10.
-const _: () = prove!(std::mem::size_of::<StepRecord<[u64; 10]>>() <= 256);
-
-impl<P: Copy> Model for StepRecord<P> {
+impl<P: Copy> Model for LastStep<P> {
     ghost use Rattle.uv_step.specs.Record.{Record};
-    ghost use Rattle.uv_step.specs.Forms.{change_in};
+    ghost use Rattle.uv_step.specs.Forms.{record_of};
 
     ghost Value = { Record P };
 
-    ghost view = { λ r. record { place = r.place; naming = r.naming; change = change_in r.form } };
+    ghost view = { λ l. record_of l.kept };
 }
 
-impl<P: Copy> StepRecord<P> {
+impl<P: Copy> LastStep<P> {
     /// The loop stands here, and nothing was changed.
-    pub fn new(place: P) -> StepRecord<P>
+    pub fn new(place: P) -> LastStep<P>
         ensures { result ≡ changed place change.Nothing }
     {
-        StepRecord::of(place, Naming::Same, Form::Small(Small::Nothing))
+        LastStep {
+            kept: KeptRecord {
+                place,
+                naming: Naming::Same,
+                form: Form::Small(Small::Nothing),
+            },
+        }
     }
 
-    /// The loop stood here, this became of a name, and this change was made.
-    pub fn of(place: P, naming: Naming, form: Form) -> StepRecord<P>
-        ensures { result ≡ record { place = place; naming = naming; change = change_in form } }
+    /// The record that was kept so.
+    pub fn of(kept: KeptRecord<P>) -> LastStep<P>
+        ensures { result ≡ record_of kept }
     {
-        StepRecord {
+        LastStep { kept }
+    }
+
+    fn note(&mut self, place: P, form: Form)
+        ensures { self.new ≡ changed place (change_in form) }
+    {
+        self.kept = KeptRecord {
             place,
-            naming,
+            naming: Naming::Same,
             form,
-        }
+        };
     }
 
     /// The loop stood here, and nothing was changed.
@@ -73,21 +71,21 @@ impl<P: Copy> StepRecord<P> {
     pub fn note_small(&mut self, place: P, change: Small)
         ensures { self.new ≡ changed place (smaller change) }
     {
-        *self = StepRecord::of(place, Naming::Same, Form::Small(change));
+        self.note(place, Form::Small(change));
     }
 
     /// The loop stood here, and a medium change was made.
     pub fn note_medium(&mut self, place: P, change: Medium)
         ensures { self.new ≡ changed place (change_of change) }
     {
-        *self = StepRecord::of(place, Naming::Same, Form::Medium(change));
+        self.note(place, Form::Medium(change));
     }
 
     /// The loop stood here, and a large change was made.
     pub fn note_large(&mut self, place: P, change: Large)
         ensures { self.new ≡ changed place (larger change) }
     {
-        *self = StepRecord::of(place, Naming::Same, Form::Large(change));
+        self.note(place, Form::Large(change));
     }
 
     /// The loop stood here, and a timer was started, stopped or called.
@@ -126,27 +124,34 @@ impl<P: Copy> StepRecord<P> {
     pub fn rename(&mut self, naming: Naming)
         ensures { self.new ≡ record self.old { naming = naming } }
     {
-        self.naming = naming;
+        self.kept.naming = naming;
     }
 
     /// Where the loop stood.
     pub fn place(&self) -> P
         ensures { result ≡ self.now.place }
     {
-        self.place
+        self.kept.place
     }
 
     /// What became of a name.
     pub fn naming(&self) -> Naming
         ensures { result ≡ self.now.naming }
     {
-        self.naming
+        self.kept.naming
     }
 
     /// The change.
-    pub fn form(&self) -> &Form
+    pub(crate) fn form(&self) -> &Form
         ensures { self.now.change ≡ change_in result.now }
     {
-        &self.form
+        &self.kept.form
+    }
+
+    /// All of it, as it is kept.
+    pub fn kept(&self) -> KeptRecord<P>
+        ensures { record_of result ≡ self.now }
+    {
+        self.kept
     }
 }
