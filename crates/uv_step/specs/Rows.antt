@@ -1,6 +1,5 @@
 -- Steps over three rows: each takes the next one of the row in which it lies.
 use Rattle.std.specs.Prelude.{◌≡◌, ℕ, suc, List, [], ◌∷◌, length}
-use Rattle.uv_step.specs.Change.{Change}
 use Rattle.uv_step.specs.Record.{Record}
 use Rattle.uv_step.specs.Forms.{smaller, change_of, larger}
 use Rattle.uv_step.specs.declared.entry.Entry.{Entry}

@@ -119,21 +119,20 @@ impl<P: Copy> Trail<P> {
         let Some(row) = self.rows.pop() else {
             return false;
         };
-        let record = match row {
+        match row {
             Row::Smalls => match self.smalls.pop() {
-                Some(step) => step.record(Form::Small(step.change)),
+                Some(step) => *last = LastStep::of(step.record(Form::Small(step.change))),
                 None => unreachable!(),
             },
             Row::Mediums => match self.mediums.pop() {
-                Some(step) => step.record(Form::Medium(step.change)),
+                Some(step) => *last = LastStep::of(step.record(Form::Medium(step.change))),
                 None => unreachable!(),
             },
             Row::Larges => match self.larges.pop() {
-                Some(step) => step.record(Form::Large(step.change)),
+                Some(step) => *last = LastStep::of(step.record(Form::Large(step.change))),
                 None => unreachable!(),
             },
-        };
-        *last = LastStep::of(record);
+        }
         true
     }
 }

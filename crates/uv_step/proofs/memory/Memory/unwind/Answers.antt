@@ -1,4 +1,4 @@
-use Rattle.std.proofs.Common.{◌≡◌, ap, sym, subst, refl}
+use Rattle.std.proofs.Common.{ap, sym, subst, refl}
 use Rattle.uv_step.specs.Fit.{IsFit}
 use Rattle.uv_step.specs.Image.{image_of}
 use Rattle.uv_step.specs.View.{kept}
