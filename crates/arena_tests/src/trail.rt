@@ -7,7 +7,8 @@ use uv_handle::{DelistUndo, RecordUndo};
 use uv_ids::{Kind, Var};
 use uv_records::HandleRecord;
 use uv_requests::CollectWorkUndo;
-use uv_step::{Large, LastStep, Medium, Naming, Trail};
+use uv_step::{Form, Large, LastStep, Medium, Naming, Trail};
+use uv_timer::TimerUndo;
 use uv_watch::WalkUndo;
 use uv_work::{Request, Task};
 
