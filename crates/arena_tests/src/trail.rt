@@ -3,12 +3,12 @@
 use std::process::Abort;
 use std::test::Fail;
 use uv_arena::{ChainPlace, PushUndo, RemoveUndo};
-use uv_handle::RecordUndo;
+use uv_handle::{DelistUndo, RecordUndo};
 use uv_ids::{Kind, Var};
 use uv_records::HandleRecord;
 use uv_requests::CollectWorkUndo;
-use uv_step::{Large, LastStep, Medium, Naming};
-use uv_trail::Trail;
+use uv_step::{Form, Large, LastStep, Medium, Naming, Trail};
+use uv_timer::TimerUndo;
 use uv_watch::WalkUndo;
 use uv_work::{Request, Task};
 
@@ -19,7 +19,7 @@ const PLACE: ChainPlace = ChainPlace {
     after: Some(9),
 };
 
-/// A handle was called, and lies in the head of its step.
+/// A handle was called.
 fn called(last: &mut LastStep<u64>, place: u64) {
     last.note_walked(
         place,
@@ -69,6 +69,34 @@ fn push<R: Abort>(rt: &R, trail: &mut Trail<u64>, last: &mut LastStep<u64>) {
 /// The last record is that of this place, and named as all are.
 fn pops(trail: &mut Trail<u64>, last: &mut LastStep<u64>, place: u64) -> bool {
     trail.pop(last) && last.place() == place && matches!(last.naming(), Naming::Unbound(Var(2)))
+}
+
+/// A timer that wasn't set got another record.
+fn reset(last: &mut LastStep<u64>, place: u64) {
+    last.note_timer(
+        place,
+        TimerUndo {
+            removed: None,
+            delisted: DelistUndo {
+                unlinked: None,
+                changed: RecordUndo {
+                    slot: 7,
+                    active: 4,
+                    old: HandleRecord::new(Var(5), Kind::Timer),
+                },
+            },
+            set: None,
+        },
+    );
+}
+
+#[test]
+fn records_take_their_smallest_form(rt: HostRuntime) {
+    let mut last = LastStep::new(0);
+    called(&mut last, 1);
+    assert!(rt; matches!(last.kept().form, Form::Small(_)));
+    reset(&mut last, 2);
+    assert!(rt; matches!(last.kept().form, Form::Medium(_)));
 }
 
 #[test]

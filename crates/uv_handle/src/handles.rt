@@ -5,7 +5,7 @@ ghost use Rattle.uv_records.specs.declared.handle.HandleRecord.{HandleRecord};
 ghost use Rattle.uv_records.specs.Handles.{inited};
 ghost use Rattle.uv_records.specs.Count.{one_if};
 ghost use Rattle.uv_arena.specs.Undo.{set_undone};
-ghost use Rattle.uv_arena.specs.Calls.{IsInserted, IsSet, RefusesInsert};
+ghost use Rattle.uv_arena.specs.Calls.{IsInserted, IsSet, RefusesInsert, room_after};
 ghost use Rattle.uv_handle.specs.Changes.{IsAdded, IsChanged};
 ghost use Rattle.uv_handle.specs.Counted.{counted, record_at, found, IsCounted, Fits32, record_undone, CanUndoRecord, add_undone, CanUndoAdd};
 
@@ -57,6 +57,7 @@ impl Handles {
             (counted slots.old.image self.old) (counted slots.new.image self.new) name kind r.0 r.1) }
         ensures err { IfErr result (λ fault. RefusesInsert fault slots.old × (slots.new ≡ slots.old) × (self.new ≡ self.old)) }
         ensures pieces { slots.old.room ≤ slots.new.room }
+        ensures piece { IfOk result (λ _. slots.new.room ≡ room_after slots.old) }
     {
         let handle = HandleRecord::new(name, kind);
         let active = self.active;

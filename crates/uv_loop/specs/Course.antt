@@ -53,9 +53,9 @@ pub record IsCourse (p : Program) (es : List Event) (seen : List (Option Seen)) 
   pub begins : unwound rs h.image ≡ first_image p
   pub stand : StandFrom p (state.fresh p) h.room h.image rs es
 
--- an accepted step adds one record, which gives back the very memory from before; a refused one changes nothing
+-- an accepted step adds one record, which gives back the very memory from before, and maybe a piece; a refused one changes nothing
 abbrev pub Adds : Result Outcome Fault → Course → Course → Type 0
-Adds (Ok outcome) old new = AddsOne old.walk new.walk
+Adds (Ok outcome) old new = AddsOne old.walk new.walk × (old.pieces ≤ new.pieces)
 Adds (Err fault) old new = new ≡ old
 
 -- the last step is taken back by its record, which is dropped, and the pieces stay; false comes only where no step stands

@@ -37,6 +37,7 @@ pub(crate) fn act(
     ensures returns { IfOk result (λ _. Returns memory.new.step_record (held memory.old) (held memory.new)) }
     ensures leads { IfOk result (λ line. Leads script.now (held memory.old).image (held memory.new).image event line) }
     ensures memory { IfErr result (λ _. WantsPiece memory.old memory.new) }
+    ensures pieces { memory.old.slots.room ≤ memory.new.slots.room }
 {
     match event {
         Event::Loop => turn(memory, script),
@@ -59,6 +60,7 @@ fn go_on(memory: &mut Memory<Place>, ms: u64) -> Seen
     requires may { (held memory.old).image.clock + ms ≤ LATEST }
     ensures returns { Returns memory.new.step_record (held memory.old) (held memory.new) }
     ensures leads { (p : Program) → Leads p (held memory.old).image (held memory.new).image (Tick ms) (Some result) }
+    ensures pieces { memory.new.slots.room ≡ memory.old.slots.room }
 {
     memory.tick(ms);
     Seen::Tick(ms)
@@ -69,6 +71,7 @@ fn take_next(memory: &mut Memory<Place>, worker: u16) -> Seen
     requires may { (d : Id) × (r : Request) × MayTake (held memory.old).image worker d r }
     ensures returns { Returns memory.new.step_record (held memory.old) (held memory.new) }
     ensures leads { (p : Program) → Leads p (held memory.old).image (held memory.new).image (Take worker) (Some result) }
+    ensures pieces { memory.new.slots.room ≡ memory.old.slots.room }
 {
     match memory.next_work(worker) {
         Err(_) => unreachable!(),
@@ -81,6 +84,7 @@ fn finish_own(memory: &mut Memory<Place>, worker: u16) -> Seen
     requires may { (d : Id) × (r : Request) × MayFinish (held memory.old).image worker d r }
     ensures returns { Returns memory.new.step_record (held memory.old) (held memory.new) }
     ensures leads { (p : Program) → Leads p (held memory.old).image (held memory.new).image (Finish worker) (Some result) }
+    ensures pieces { memory.new.slots.room ≡ memory.old.slots.room }
 {
     match memory.work_of(worker) {
         Err(_) => unreachable!(),

@@ -1,5 +1,5 @@
 //! The ops of bodies and of the main program.
-ghost use Rattle.std.specs.Prelude.{◌≡◌, ◌<◌, ◌^◌, None, Some, IfSome, IfOk, IfErr, is_some, true, slice_get};
+ghost use Rattle.std.specs.Prelude.{◌≤◌, ◌≡◌, ◌<◌, ◌^◌, None, Some, IfSome, IfOk, IfErr, is_some, true, slice_get};
 ghost use Rattle.uv_script.specs.Program.{Program, lines_in, order_of};
 ghost use Rattle.uv_model.specs.declared.place.Body.{Body};
 ghost use Rattle.uv_model.specs.Next.{body_step, main_step};
@@ -23,6 +23,7 @@ fn perform_at(memory: &mut Memory<Place>, op: Op, place: Place) -> Result<Answer
     ensures returns { IfOk result (λ _. Returns memory.new.step_record (held memory.old) (held memory.new)) }
     ensures performs { IfOk result (λ answer. PerformsAt op place (held memory.old).image (held memory.new).image answer) }
     ensures memory { IfErr result (λ _. WantsPiece memory.old memory.new) }
+    ensures pieces { memory.old.slots.room ≤ memory.new.slots.room }
 {
     let answer = perform(memory, op)?;
     stand_at(memory, place);
@@ -34,6 +35,7 @@ fn leave_body(memory: &mut Memory<Place>, run: Run)
     requires ready { IsReady (held memory.old) }
     ensures turns { (p : Program) → (body : Body) → Turns (λ s. body_step p s run body None)
         memory.new.step_record (held memory.old) (held memory.new) None }
+    ensures pieces { memory.new.slots.room ≡ memory.old.slots.room }
 {
     memory.pass();
     let place = Place::Running(Run { body: None, ..run });
@@ -61,6 +63,7 @@ pub(crate) fn in_body(
         (λ s. body_step script.now s run body (slice_get (lines_in script.now body.callback body.name) body.next))
         memory.new.step_record (held memory.old) (held memory.new) line) }
     ensures memory { IfErr result (λ _. WantsPiece memory.old memory.new) }
+    ensures pieces { memory.old.slots.room ≤ memory.new.slots.room }
 {
     match line_of(script, body) {
         None => {
@@ -89,6 +92,7 @@ pub(crate) fn in_main(
     ensures turns { IfOk result (λ seen. Turns (λ s. main_step (order_of script.now) s line (slice_get script.now.main line))
         memory.new.step_record (held memory.old) (held memory.new) seen) }
     ensures memory { IfErr result (λ _. WantsPiece memory.old memory.new) }
+    ensures pieces { memory.old.slots.room ≤ memory.new.slots.room }
 {
     match script.main_op(line) {
         None => unreachable!(),

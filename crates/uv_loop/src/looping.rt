@@ -1,5 +1,5 @@
 //! The loop does its next step.
-ghost use Rattle.std.specs.Prelude.{◌≡◌, ◌<◌, ◌^◌, IfOk, IfErr};
+ghost use Rattle.std.specs.Prelude.{◌≤◌, ◌≡◌, ◌<◌, ◌^◌, IfOk, IfErr};
 ghost use Rattle.uv_ids.specs.declared.event.Event.TheVariants.{Loop};
 ghost use Rattle.uv_model.specs.Next.{run_step, next};
 ghost use Rattle.uv_script.specs.Program.{arena_size};
@@ -26,6 +26,7 @@ pub(crate) fn turn(memory: &mut Memory<Place>, script: &Script) -> Result<Option
     requires may { MayAt script.now (held memory.old).image.place (held memory.old).image }
     ensures turns { IfOk result (λ line. Turns (λ s. next script.now s Loop) memory.new.step_record (held memory.old) (held memory.new) line) }
     ensures memory { IfErr result (λ _. WantsPiece memory.old memory.new) }
+    ensures pieces { memory.old.slots.room ≤ memory.new.slots.room }
 {
     match memory.place() {
         Place::Main(line) => in_main(memory, script, line),
@@ -43,6 +44,7 @@ fn in_run(memory: &mut Memory<Place>, script: &Script, run: Run) -> Result<Optio
     ensures turns { IfOk result (λ line. Turns (λ s. run_step script.now s run run.body)
         memory.new.step_record (held memory.old) (held memory.new) line) }
     ensures memory { IfErr result (λ _. WantsPiece memory.old memory.new) }
+    ensures pieces { memory.old.slots.room ≤ memory.new.slots.room }
 {
     match run.body {
         None => Ok(in_stage(memory, script, run)),

@@ -21,6 +21,7 @@ pub(crate) fn take_work(memory: &mut Memory<Place>, worker: u16, id: Id, request
     requires may { MayTake (held memory.old).image worker id request }
     ensures recorded { Recorded memory.new.step_record (held memory.old) (held memory.new) }
     ensures leads { (p : Program) → Leads p (held memory.old).image (held memory.new).image (Take worker) (Some result) }
+    ensures pieces { memory.new.slots.room ≡ memory.old.slots.room }
 {
     memory.take(worker, id);
     Seen::Take(worker, request.name, id)
@@ -38,6 +39,7 @@ pub(crate) fn finish_work(
     requires job { job_of id request ≡ work.job }
     ensures recorded { Recorded memory.new.step_record (held memory.old) (held memory.new) }
     ensures leads { (p : Program) → Leads p (held memory.old).image (held memory.new).image (Finish worker) (Some result) }
+    ensures pieces { memory.new.slots.room ≡ memory.old.slots.room }
 {
     memory.finish(worker, id, request, work);
     Seen::Finish(worker, request.name, id)
@@ -49,6 +51,7 @@ pub(crate) fn cancel_named(memory: &mut Memory<Place>, name: Var) -> Answer
     ensures returns { Returns memory.new.step_record (held memory.old) (held memory.new) }
     ensures leads { (p : Program)
         → Leads p (held memory.old).image (held memory.new).image (Cancel name) (Some (cancelled name result)) }
+    ensures pieces { memory.new.slots.room ≡ memory.old.slots.room }
 {
     cancel(memory, name)
 }

@@ -1,5 +1,5 @@
 //! Sends from outside.
-ghost use Rattle.std.specs.Prelude.{◌<◌, Some, length};
+ghost use Rattle.std.specs.Prelude.{◌≡◌, ◌<◌, Some, length};
 ghost use Rattle.uv_ids.specs.declared.event.Event.TheVariants.{Send};
 ghost use Rattle.uv_ids.specs.declared.seen.Seen.TheVariants.{Send as sent};
 ghost use Rattle.uv_script.specs.Program.{Program};
@@ -18,6 +18,7 @@ pub(crate) fn send_to(memory: &mut Memory<Place>, name: Var) -> Code
     ensures returns { Returns memory.new.step_record (held memory.old) (held memory.new) }
     ensures leads { (p : Program)
         → Leads p (held memory.old).image (held memory.new).image (Send name) (Some (sent name result)) }
+    ensures pieces { memory.new.slots.room ≡ memory.old.slots.room }
 {
     send(memory, name)
 }

@@ -26,6 +26,7 @@ pub(crate) fn in_stage(memory: &mut Memory<Place>, script: &Script, run: Run) ->
     requires clear { IsClearBehind run.stage (held memory.old).image.arena }
     requires may { MayBehind run.stage (held memory.old).image }
     ensures turns { Turns (λ s. stage_step script.now s run run.stage) memory.new.step_record (held memory.old) (held memory.new) result }
+    ensures pieces { memory.new.slots.room ≡ memory.old.slots.room }
 {
     match run.stage {
         Stage::Entry => Some(turn(memory, script, run, Turn::AtEntry)),

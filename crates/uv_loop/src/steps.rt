@@ -4,8 +4,7 @@ ghost use Rattle.uv_loop.specs.Taken.{HasRoom, AreSame, IsOneMore};
 
 use std::alloc::{AllocError, Global};
 use uv_ids::Seen;
-use uv_step::LastStep;
-use uv_trail::Trail;
+use uv_step::{LastStep, Trail};
 
 /// The steps that stand: what each appended to the trace, which tells its event, and what takes it back.
 #[derive(Drop)]

@@ -15,6 +15,7 @@ pub fn cancel(memory: &mut Memory<Place>, name: Var) -> Answer
     ensures returns { Returns memory.new.step_record (held memory.old) (held memory.new) }
     ensures cancels { Cancels name (held memory.old).image (held memory.new).image result }
     ensures performs { Performs (op.Cancel name) (held memory.old).image (held memory.new).image result }
+    ensures pieces { memory.new.slots.room ≡ memory.old.slots.room }
 {
     match bound_id(memory, name) {
         None => {

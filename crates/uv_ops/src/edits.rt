@@ -22,6 +22,7 @@ pub(crate) fn edit(memory: &mut Memory<Place>, id: Id, from: HandleRecord, to: H
     requires found { record_at handle_of (held memory.old).image.arena id ≡ Some from }
     ensures returns { Returns memory.new.step_record (held memory.old) (held memory.new) }
     ensures stands { (s : State) → StandsFor (held memory.old).image s → StandsFor (held memory.new).image (with_handle s id to) }
+    ensures pieces { memory.new.slots.room ≡ memory.old.slots.room }
 {
     memory.edit(id, from, to);
 }
@@ -36,6 +37,7 @@ pub(crate) fn set_ref(
     ensures returns { Returns memory.new.step_record (held memory.old) (held memory.new) }
     ensures does { Does (λ s. on_handle s (live_handle s name) no_refusal (set_referenced s referenced))
         (held memory.old).image (held memory.new).image (answered result) }
+    ensures pieces { memory.new.slots.room ≡ memory.old.slots.room }
 {
     let (id, handle) = allowed(memory, name, Ask::Handle)?;
     edit(memory, id, handle, handle.referenced_as(referenced));
@@ -47,6 +49,7 @@ pub(crate) fn set_repeat(memory: &mut Memory<Place>, name: Var, repeat: u64) -> 
     requires { HasPassed memory.old }
     ensures returns { Returns memory.new.step_record (held memory.old) (held memory.new) }
     ensures performs { Performs (op.SetRepeat name repeat) (held memory.old).image (held memory.new).image (answered result) }
+    ensures pieces { memory.new.slots.room ≡ memory.old.slots.room }
 {
     let (id, handle) = allowed(memory, name, Ask::Timer)?;
     edit(memory, id, handle, handle.repeating(repeat));

@@ -1,5 +1,5 @@
 //! Handles are made and requests queued, and names bound to them.
-ghost use Rattle.std.specs.Prelude.{IfOk, IfErr};
+ghost use Rattle.std.specs.Prelude.{◌≤◌, IfOk, IfErr};
 ghost use Rattle.uv_script.specs.declared.op.Op.TheVariants as op;
 ghost use Rattle.uv_step.specs.Image.{held};
 ghost use Rattle.uv_stands.specs.Doing.{Performs, Returns};
@@ -21,6 +21,7 @@ pub(crate) fn init(memory: &mut Memory<Place>, name: Var, kind: Kind) -> Result<
     ensures returns { IfOk result (λ _. Returns memory.new.step_record (held memory.old) (held memory.new)) }
     ensures performs { IfOk result (λ answer. Performs (op.Init name kind) (held memory.old).image (held memory.new).image answer) }
     ensures memory { IfErr result (λ _. WantsPiece memory.old memory.new) }
+    ensures pieces { memory.old.slots.room ≤ memory.new.slots.room }
 {
     if is_live(memory, name) {
         return Ok(Answer::Code(Code::Ebound));
@@ -41,6 +42,7 @@ pub(crate) fn queue(memory: &mut Memory<Place>, name: Var, task: Task) -> Result
     ensures returns { IfOk result (λ _. Returns memory.new.step_record (held memory.old) (held memory.new)) }
     ensures performs { IfOk result (λ answer. Performs (op.Queue name task) (held memory.old).image (held memory.new).image answer) }
     ensures memory { IfErr result (λ _. WantsPiece memory.old memory.new) }
+    ensures pieces { memory.old.slots.room ≤ memory.new.slots.room }
 {
     if is_live(memory, name) {
         return Ok(Answer::Code(Code::Ebound));

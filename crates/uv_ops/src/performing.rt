@@ -1,5 +1,5 @@
 //! Any op of a script.
-ghost use Rattle.std.specs.Prelude.{◌≡◌, IfOk, IfErr};
+ghost use Rattle.std.specs.Prelude.{◌≤◌, ◌≡◌, IfOk, IfErr};
 ghost use Rattle.uv_step.specs.Image.{held};
 ghost use Rattle.uv_stands.specs.Doing.{Performs, Returns};
 ghost use Rattle.uv_stands.specs.Ready.{IsReady};
@@ -36,6 +36,7 @@ pub fn perform(memory: &mut Memory<Place>, op: Op) -> Result<Answer, AllocError>
     ensures returns { IfOk result (λ _. Returns memory.new.step_record (held memory.old) (held memory.new)) }
     ensures performs { IfOk result (λ answer. Performs op (held memory.old).image (held memory.new).image answer) }
     ensures memory { IfErr result (λ _. WantsPiece memory.old memory.new) }
+    ensures pieces { memory.old.slots.room ≤ memory.new.slots.room }
 {
     memory.pass();
     match op {

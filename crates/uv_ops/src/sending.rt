@@ -17,6 +17,7 @@ pub fn send(memory: &mut Memory<Place>, name: Var) -> Code
     ensures returns { Returns memory.new.step_record (held memory.old) (held memory.new) }
     ensures sends { Sends name (held memory.old).image (held memory.new).image result }
     ensures performs { Performs (op.Send name) (held memory.old).image (held memory.new).image (answer.Code result) }
+    ensures pieces { memory.new.slots.room ≡ memory.old.slots.room }
 {
     match allowed(memory, name, Ask::Send) {
         Err(code) => {

@@ -29,6 +29,7 @@ pub(crate) fn start(
     requires { HasPassed memory.old }
     ensures returns { Returns memory.new.step_record (held memory.old) (held memory.new) }
     ensures performs { Performs (op.Start name timeout repeat) (held memory.old).image (held memory.new).image (answered result) }
+    ensures pieces { memory.new.slots.room ≡ memory.old.slots.room }
 {
     let (id, handle) = allowed(memory, name, Ask::StartTimer)?;
     start_timer(memory, id, handle, timeout, repeat);
@@ -40,6 +41,7 @@ pub(crate) fn again(memory: &mut Memory<Place>, name: Var) -> Result<Answer, Cod
     requires { HasPassed memory.old }
     ensures returns { Returns memory.new.step_record (held memory.old) (held memory.new) }
     ensures performs { Performs (op.Again name) (held memory.old).image (held memory.new).image (answered result) }
+    ensures pieces { memory.new.slots.room ≡ memory.old.slots.room }
 {
     let (id, handle) = allowed(memory, name, Ask::Again)?;
     start_again(memory, id, handle);
@@ -52,6 +54,7 @@ fn stop_handle(memory: &mut Memory<Place>, id: Id, handle: HandleRecord)
     requires found { record_at handle_of (held memory.old).image.arena id ≡ Some handle }
     ensures returns { Returns memory.new.step_record (held memory.old) (held memory.new) }
     ensures does { Does (λ s. stop s id handle) (held memory.old).image (held memory.new).image (answer.Code code.Ok) }
+    ensures pieces { memory.new.slots.room ≡ memory.old.slots.room }
 {
     if handle.is_timer() {
         stop_timer(memory, id, handle)
@@ -65,6 +68,7 @@ pub(crate) fn stop(memory: &mut Memory<Place>, name: Var) -> Result<Answer, Code
     requires { HasPassed memory.old }
     ensures returns { Returns memory.new.step_record (held memory.old) (held memory.new) }
     ensures performs { Performs (op.Stop name) (held memory.old).image (held memory.new).image (answered result) }
+    ensures pieces { memory.new.slots.room ≡ memory.old.slots.room }
 {
     let (id, handle) = allowed(memory, name, Ask::Stop)?;
     stop_handle(memory, id, handle);
@@ -76,6 +80,7 @@ pub(crate) fn close(memory: &mut Memory<Place>, name: Var) -> Result<Answer, Cod
     requires { HasPassed memory.old }
     ensures returns { Returns memory.new.step_record (held memory.old) (held memory.new) }
     ensures performs { Performs (op.Close name) (held memory.old).image (held memory.new).image (answered result) }
+    ensures pieces { memory.new.slots.room ≡ memory.old.slots.room }
 {
     let (id, handle) = allowed(memory, name, Ask::Close)?;
     close_handle(memory, id, handle);

@@ -14,6 +14,7 @@ pub(crate) fn stop_loop(memory: &mut Memory<Place>) -> Answer
     requires { IsReady (held memory.old) }
     ensures returns { Returns memory.new.step_record (held memory.old) (held memory.new) }
     ensures performs { Performs op.StopLoop (held memory.old).image (held memory.new).image result }
+    ensures pieces { memory.new.slots.room ≡ memory.old.slots.room }
 {
     memory.set_stop(true);
     Answer::Code(Code::Ok)
@@ -24,6 +25,7 @@ pub(crate) fn update_time(memory: &mut Memory<Place>) -> Answer
     requires { IsReady (held memory.old) }
     ensures returns { Returns memory.new.step_record (held memory.old) (held memory.new) }
     ensures performs { Performs op.UpdateTime (held memory.old).image (held memory.new).image result }
+    ensures pieces { memory.new.slots.room ≡ memory.old.slots.room }
 {
     memory.update_time();
     Answer::Code(Code::Ok)

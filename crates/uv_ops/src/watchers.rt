@@ -23,6 +23,7 @@ pub(crate) fn start_watcher(memory: &mut Memory<Place>, name: Var) -> Result<Ans
     requires { HasPassed memory.old }
     ensures returns { Returns memory.new.step_record (held memory.old) (held memory.new) }
     ensures performs { Performs (op.StartWatcher name) (held memory.old).image (held memory.new).image (answered result) }
+    ensures pieces { memory.new.slots.room ≡ memory.old.slots.room }
 {
     let (id, handle) = allowed(memory, name, Ask::StartWatcher)?;
     if handle.active {
@@ -39,6 +40,7 @@ pub(crate) fn stop_watcher(memory: &mut Memory<Place>, id: Id, handle: HandleRec
     requires no_timer { is_timer handle.kind ≡ false }
     ensures returns { Returns memory.new.step_record (held memory.old) (held memory.new) }
     ensures does { Does (λ s. stop s id handle) (held memory.old).image (held memory.new).image (answer.Code code.Ok) }
+    ensures pieces { memory.new.slots.room ≡ memory.old.slots.room }
 {
     memory.is_fit();
     memory.stop_watcher(id, handle);

@@ -1,7 +1,7 @@
 //! Requests are queued, and cancelled while they wait.
 ghost use Rattle.std.specs.Prelude.{◌≡◌, ◌≤◌, Option, Some, None, IfOk, IfErr, true};
 ghost use Rattle.uv_arena.specs.Image.{on_list};
-ghost use Rattle.uv_arena.specs.Calls.{RefusesInsert};
+ghost use Rattle.uv_arena.specs.Calls.{RefusesInsert, room_after};
 ghost use Rattle.uv_work.specs.Requests.{is_open, reopened, cancel_refusal};
 ghost use Rattle.uv_work.specs.Pool.{waits};
 ghost use Rattle.uv_requests.specs.Working.{working, found, request_in, pool_of, IsWork};
@@ -28,6 +28,7 @@ impl Requests {
             (working slots.old.image self.old) (working slots.new.image self.new) (reopened request) r.0 r.1) }
         ensures err { IfErr result (λ fault. RefusesInsert fault slots.old × (slots.new ≡ slots.old) × (self.new ≡ self.old)) }
         ensures pieces { slots.old.room ≤ slots.new.room }
+        ensures piece { IfOk result (λ _. slots.new.room ≡ room_after slots.old) }
     {
         let count = self.open_requests();
         match slots.insert(T::of(request.reopened())) {

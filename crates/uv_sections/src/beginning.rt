@@ -38,6 +38,7 @@ fn make_all_yet(memory: &mut Memory<Place>, kind: WatcherKind)
     ensures recorded { Recorded memory.new.step_record (held memory.old) (held memory.new) }
     ensures stands { (s : State) → StandsFor (held memory.old).image s
         → StandsFor (held memory.new).image (with_watched s kind (all_yet (watched s kind))) }
+    ensures pieces { memory.new.slots.room ≡ memory.old.slots.room }
 {
     memory.begin(kind);
 }
@@ -47,6 +48,7 @@ pub fn begin_walk(memory: &mut Memory<Place>, run: Run, kind: WatcherKind) -> Se
     requires empty { members (held memory.old).image.arena (yet_of kind) ≡ [] }
     ensures returns { Returns memory.new.step_record (held memory.old) (held memory.new) }
     ensures goes { Goes (λ s. begin_walk s run kind) (held memory.old).image (held memory.new).image (Some result) }
+    ensures pieces { memory.new.slots.room ≡ memory.old.slots.room }
 {
     make_all_yet(memory, kind);
     stand_in(memory, run, stage_of(kind));
@@ -59,6 +61,7 @@ fn close_all_yet(memory: &mut Memory<Place>)
     ensures recorded { Recorded memory.new.step_record (held memory.old) (held memory.new) }
     ensures stands { (s : State) → StandsFor (held memory.old).image s
         → StandsFor (held memory.new).image (record s { closing = all_yet s.closing }) }
+    ensures pieces { memory.new.slots.room ≡ memory.old.slots.room }
 {
     memory.begin_closing();
 }
@@ -68,6 +71,7 @@ pub fn begin_closing(memory: &mut Memory<Place>, run: Run) -> Seen
     requires empty { members (held memory.old).image.arena ClosingYet ≡ [] }
     ensures returns { Returns memory.new.step_record (held memory.old) (held memory.new) }
     ensures goes { Goes (λ s. begin_closing s run) (held memory.old).image (held memory.new).image (Some result) }
+    ensures pieces { memory.new.slots.room ≡ memory.old.slots.room }
 {
     close_all_yet(memory);
     stand_in(memory, run, Stage::Closing);
@@ -80,6 +84,7 @@ fn end_all_yet(memory: &mut Memory<Place>)
     ensures recorded { Recorded memory.new.step_record (held memory.old) (held memory.new) }
     ensures stands { (s : State) → StandsFor (held memory.old).image s
         → StandsFor (held memory.new).image (record (refreshed s) { done = all_yet s.done }) }
+    ensures pieces { memory.new.slots.room ≡ memory.old.slots.room }
 {
     memory.leave_poll();
 }
@@ -89,6 +94,7 @@ pub fn begin_done(memory: &mut Memory<Place>, run: Run) -> Seen
     requires empty { members (held memory.old).image.arena DoneYet ≡ [] }
     ensures returns { Returns memory.new.step_record (held memory.old) (held memory.new) }
     ensures goes { Goes (λ s. begin_done s run) (held memory.old).image (held memory.new).image (Some result) }
+    ensures pieces { memory.new.slots.room ≡ memory.old.slots.room }
 {
     end_all_yet(memory);
     stand_in(memory, run, Stage::Done);
@@ -99,6 +105,7 @@ pub fn begin_done(memory: &mut Memory<Place>, run: Run) -> Seen
 fn refresh(memory: &mut Memory<Place>)
     ensures recorded { Recorded memory.new.step_record (held memory.old) (held memory.new) }
     ensures stands { (s : State) → StandsFor (held memory.old).image s → StandsFor (held memory.new).image (refreshed s) }
+    ensures pieces { memory.new.slots.room ≡ memory.old.slots.room }
 {
     memory.update_time();
 }
@@ -108,6 +115,7 @@ fn refresh_in(memory: &mut Memory<Place>, order: Order, mode: Mode)
     ensures recorded { Recorded memory.new.step_record (held memory.old) (held memory.new) }
     ensures stands { (s : State) → StandsFor (held memory.old).image s
         → StandsFor (held memory.new).image (if refreshes order mode then refreshed s else s) }
+    ensures pieces { memory.new.slots.room ≡ memory.old.slots.room }
 {
     match order {
         Order::V144 => memory.pass(),
@@ -123,6 +131,7 @@ pub fn begin_run(memory: &mut Memory<Place>, script: &Script, line: usize, mode:
     ensures returns { Returns memory.new.step_record (held memory.old) (held memory.new) }
     ensures goes { Goes (λ s. main_step (order_of script.now) s line (Some (run_line mode)))
         (held memory.old).image (held memory.new).image (Some result) }
+    ensures pieces { memory.new.slots.room ≡ memory.old.slots.room }
 {
     refresh_in(memory, script.order(), mode);
     let run = Run {

@@ -29,6 +29,7 @@ pub fn begin_body(
     ensures extended { Extended memory.old.step_record memory.new.step_record (held memory.old) (held memory.new) }
     ensures calls { (s : State) → StandsFor (held memory.old).image s → (line : Seen)
         → (t : State) × (calls script.now s run callback name line ≡ Moves t (Some line)) × StandsFor (held memory.new).image t }
+    ensures pieces { memory.new.slots.room ≡ memory.old.slots.room }
 {
     let count = call_name(memory, name, callback);
     let body = body_from(script, callback, name, count, 0);

@@ -27,6 +27,7 @@ fn free_request(memory: &mut Memory<Place>, script: &Script) -> Option<(Id, Requ
         (λ s. RequestGone (arena_size script.now).last_generation (held memory.new).image s r.0 r.1)) }
     ensures same { IfNone result (held memory.new ≡ held memory.old) }
     ensures none { IfNone result (OfEach (held memory.old).image (λ s. front_request s s.done.yet ≡ None)) }
+    ensures pieces { memory.new.slots.room ≡ memory.old.slots.room }
 {
     match memory.end_request() {
         None => None,
@@ -43,6 +44,7 @@ fn free_handle(memory: &mut Memory<Place>, script: &Script) -> Option<(Id, Handl
         (λ s. HandleGone (arena_size script.now).last_generation (held memory.new).image s r.0 r.1)) }
     ensures same { IfNone result (held memory.new ≡ held memory.old) }
     ensures none { IfNone result (OfEach (held memory.old).image (λ s. front s s.closing.yet ≡ None)) }
+    ensures pieces { memory.new.slots.room ≡ memory.old.slots.room }
 {
     match front_handle(memory, ListName::ClosingYet) {
         None => None,
@@ -62,6 +64,7 @@ pub(crate) fn collect_request(memory: &mut Memory<Place>, script: &Script, run: 
         (held memory.old).image (held memory.new).image (Some line)) }
     ensures same { IfNone result (held memory.new ≡ held memory.old) }
     ensures none { IfNone result (OfEach (held memory.old).image (λ s. front_request s s.done.yet ≡ None)) }
+    ensures pieces { memory.new.slots.room ≡ memory.old.slots.room }
 {
     match free_request(memory, script) {
         None => None,
@@ -82,6 +85,7 @@ pub(crate) fn close_front(memory: &mut Memory<Place>, script: &Script, run: Run)
         (held memory.old).image (held memory.new).image (Some line)) }
     ensures same { IfNone result (held memory.new ≡ held memory.old) }
     ensures none { IfNone result (OfEach (held memory.old).image (λ s. front s s.closing.yet ≡ None)) }
+    ensures pieces { memory.new.slots.room ≡ memory.old.slots.room }
 {
     match free_handle(memory, script) {
         None => None,

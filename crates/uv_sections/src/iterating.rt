@@ -22,6 +22,7 @@ fn clear_stop(memory: &mut Memory<Place>)
     ensures recorded { Recorded memory.new.step_record (held memory.old) (held memory.new) }
     ensures stands { (s : State) → StandsFor (held memory.old).image s
         → StandsFor (held memory.new).image (record s { stop_flag = false }) }
+    ensures pieces { memory.new.slots.room ≡ memory.old.slots.room }
 {
     memory.set_stop(false);
 }
@@ -31,6 +32,7 @@ pub fn end_run(memory: &mut Memory<Place>, run: Run) -> Seen
     requires line { run.line < 2 ^ 63 }
     ensures returns { Returns memory.new.step_record (held memory.old) (held memory.new) }
     ensures goes { Goes (λ s. ends s run) (held memory.old).image (held memory.new).image (Some result) }
+    ensures pieces { memory.new.slots.room ≡ memory.old.slots.room }
 {
     let alive = is_alive(memory);
     clear_stop(memory);
@@ -50,6 +52,7 @@ fn set_for_timers(memory: &mut Memory<Place>, order: Order, part: TimersOf)
     ensures recorded { Recorded memory.new.step_record (held memory.old) (held memory.new) }
     ensures stands { (s : State) → StandsFor (held memory.old).image s
         → StandsFor (held memory.new).image (record s { time = time_at order part s; idled = idled_at order part s }) }
+    ensures pieces { memory.new.slots.room ≡ memory.old.slots.room }
 {
     match (order, part) {
         (Order::V144, TimersOf::Entry) => memory.begin_iteration(),
@@ -62,6 +65,7 @@ fn set_for_timers(memory: &mut Memory<Place>, order: Order, part: TimersOf)
 fn begin_timers(memory: &mut Memory<Place>, order: Order, run: Run, part: TimersOf) -> Seen
     ensures returns { Returns memory.new.step_record (held memory.old) (held memory.new) }
     ensures goes { Goes (λ s. goes_by order s run (to_timers part)) (held memory.old).image (held memory.new).image (Some result) }
+    ensures pieces { memory.new.slots.room ≡ memory.old.slots.room }
 {
     set_for_timers(memory, order, part);
     let stage = Stage::Timers(part, Timing::Collecting);
@@ -74,6 +78,7 @@ fn note_idle(memory: &mut Memory<Place>, order: Order)
     ensures recorded { Recorded memory.new.step_record (held memory.old) (held memory.new) }
     ensures stands { OfEach (held memory.old).image
         (λ s. StandsFor (held memory.new).image (record s { idled = idled_then order s })) }
+    ensures pieces { memory.new.slots.room ≡ memory.old.slots.room }
 {
     match order {
         Order::V144 => memory.pass(),
@@ -88,6 +93,7 @@ fn note_idle(memory: &mut Memory<Place>, order: Order)
 fn begin_pending(memory: &mut Memory<Place>, order: Order, run: Run) -> Seen
     ensures returns { Returns memory.new.step_record (held memory.old) (held memory.new) }
     ensures goes { Goes (λ s. goes_by order s run to_pending) (held memory.old).image (held memory.new).image (Some result) }
+    ensures pieces { memory.new.slots.room ≡ memory.old.slots.room }
 {
     note_idle(memory, order);
     stand_in(memory, run, Stage::Pending);
@@ -99,6 +105,7 @@ fn go_by(memory: &mut Memory<Place>, order: Order, run: Run, way: Way) -> Seen
     requires line { run.line < 2 ^ 63 }
     ensures returns { Returns memory.new.step_record (held memory.old) (held memory.new) }
     ensures goes { Goes (λ s. goes_by order s run way) (held memory.old).image (held memory.new).image (Some result) }
+    ensures pieces { memory.new.slots.room ≡ memory.old.slots.room }
 {
     match way {
         Way::ToTimers(part) => begin_timers(memory, order, run, part),
@@ -112,6 +119,7 @@ pub fn turn(memory: &mut Memory<Place>, script: &Script, run: Run, turn: Turn) -
     requires line { run.line < 2 ^ 63 }
     ensures returns { Returns memory.new.step_record (held memory.old) (held memory.new) }
     ensures goes { Goes (λ s. turns (order_of script.now) s run turn) (held memory.old).image (held memory.new).image (Some result) }
+    ensures pieces { memory.new.slots.room ≡ memory.old.slots.room }
 {
     let order = script.order();
     let going = goes(memory);

@@ -30,6 +30,7 @@ pub fn begin_poll(memory: &mut Memory<Place>, run: Run) -> Seen
     requires ready { IsReady (held memory.old) }
     ensures returns { Returns memory.new.step_record (held memory.old) (held memory.new) }
     ensures goes { Goes (λ s. begin_poll s run) (held memory.old).image (held memory.new).image (Some result) }
+    ensures pieces { memory.new.slots.room ≡ memory.old.slots.room }
 {
     let timeout = poll_timeout(memory, run.mode);
     let deadline = deadline_of(memory, timeout);

@@ -28,6 +28,7 @@ pub fn in_done(memory: &mut Memory<Place>, script: &Script, run: Run) -> Seen
     ensures returns { Returns memory.new.step_record (held memory.old) (held memory.new) }
     ensures goes { Goes (λ s. collect_request script.now s run)
         (held memory.old).image (held memory.new).image (Some result) }
+    ensures pieces { memory.new.slots.room ≡ memory.old.slots.room }
 {
     match collect_request(memory, script, run) {
         Some(called) => called,
@@ -43,6 +44,7 @@ pub fn in_closing(memory: &mut Memory<Place>, script: &Script, run: Run) -> Seen
     ensures returns { Returns memory.new.step_record (held memory.old) (held memory.new) }
     ensures goes { Goes (λ s. close_front script.now s run)
         (held memory.old).image (held memory.new).image (Some result) }
+    ensures pieces { memory.new.slots.room ≡ memory.old.slots.room }
 {
     match close_front(memory, script, run) {
         Some(called) => called,
@@ -57,6 +59,7 @@ pub fn in_idle(memory: &mut Memory<Place>, script: &Script, run: Run) -> Seen
     ensures returns { Returns memory.new.step_record (held memory.old) (held memory.new) }
     ensures goes { Goes (λ s. walk script.now s run idle)
         (held memory.old).image (held memory.new).image (Some result) }
+    ensures pieces { memory.new.slots.room ≡ memory.old.slots.room }
 {
     match walk(memory, script, run, WatcherKind::Idle) {
         Some(called) => called,
@@ -70,6 +73,7 @@ pub fn in_prepare(memory: &mut Memory<Place>, script: &Script, run: Run) -> Seen
     ensures returns { Returns memory.new.step_record (held memory.old) (held memory.new) }
     ensures goes { Goes (λ s. walk script.now s run prepare)
         (held memory.old).image (held memory.new).image (Some result) }
+    ensures pieces { memory.new.slots.room ≡ memory.old.slots.room }
 {
     match walk(memory, script, run, WatcherKind::Prepare) {
         Some(called) => called,
@@ -84,6 +88,7 @@ pub fn in_check(memory: &mut Memory<Place>, script: &Script, run: Run) -> Seen
     ensures returns { Returns memory.new.step_record (held memory.old) (held memory.new) }
     ensures goes { Goes (λ s. walk script.now s run check)
         (held memory.old).image (held memory.new).image (Some result) }
+    ensures pieces { memory.new.slots.room ≡ memory.old.slots.room }
 {
     match walk(memory, script, run, WatcherKind::Check) {
         Some(called) => called,
@@ -99,6 +104,7 @@ pub fn in_async(memory: &mut Memory<Place>, script: &Script, run: Run) -> Option
     ensures returns { Returns memory.new.step_record (held memory.old) (held memory.new) }
     ensures goes { Goes (λ s. walk_async script.now s run)
         (held memory.old).image (held memory.new).image result }
+    ensures pieces { memory.new.slots.room ≡ memory.old.slots.room }
 {
     match walk_async(memory, script, run) {
         Some(passed) => passed,

@@ -16,6 +16,7 @@ pub fn stand_at(memory: &mut Memory<Place>, place: Place)
     ensures extended { Extended memory.old.step_record memory.new.step_record (held memory.old) (held memory.new) }
     ensures stands { (s : State) → StandsFor (held memory.old).image s
         → StandsFor (held memory.new).image (record s { place = place }) }
+    ensures pieces { memory.new.slots.room ≡ memory.old.slots.room }
 {
     memory.stand_at(place);
 }
@@ -26,6 +27,7 @@ pub(crate) fn stand_in(memory: &mut Memory<Place>, run: Run, stage: Stage)
     ensures same { memory.new.step_record ≡ memory.old.step_record }
     ensures extended { Extended memory.old.step_record memory.new.step_record (held memory.old) (held memory.new) }
     ensures stands { (s : State) → StandsFor (held memory.old).image s → StandsFor (held memory.new).image (at s run stage) }
+    ensures pieces { memory.new.slots.room ≡ memory.old.slots.room }
 {
     let place = Place::Running(Run {
         stage,

@@ -24,6 +24,7 @@ fn call_timer(memory: &mut Memory<Place>, script: &Script, run: Run, part: Timer
         (held memory.old).image (held memory.new).image (Some line)) }
     ensures same { IfNone result (held memory.new ≡ held memory.old) }
     ensures none { IfNone result (FiresNone (held memory.old).image) }
+    ensures pieces { memory.new.slots.room ≡ memory.old.slots.room }
 {
     match fire_timer(memory) {
         None => None,
@@ -45,6 +46,7 @@ fn fire(memory: &mut Memory<Place>, script: &Script, run: Run, part: TimersOf) -
     ensures returns { Returns memory.new.step_record (held memory.old) (held memory.new) }
     ensures goes { Goes (λ s. fire script.now s run part)
         (held memory.old).image (held memory.new).image (Some result) }
+    ensures pieces { memory.new.slots.room ≡ memory.old.slots.room }
 {
     match call_timer(memory, script, run, part) {
         Some(called) => called,
@@ -60,6 +62,7 @@ fn set_aside(memory: &mut Memory<Place>, run: Run, part: TimersOf) -> Option<Id>
         → Goes (λ s. collect p s run part) (held memory.old).image (held memory.new).image None) }
     ensures same { IfNone result (held memory.new ≡ held memory.old) }
     ensures none { IfNone result (CollectsNone (held memory.old).image) }
+    ensures pieces { memory.new.slots.room ≡ memory.old.slots.room }
 {
     match collect_timer(memory) {
         None => None,
@@ -78,6 +81,7 @@ fn collect(memory: &mut Memory<Place>, script: &Script, run: Run, part: TimersOf
     ensures returns { Returns memory.new.step_record (held memory.old) (held memory.new) }
     ensures goes { Goes (λ s. collect script.now s run part)
         (held memory.old).image (held memory.new).image result }
+    ensures pieces { memory.new.slots.room ≡ memory.old.slots.room }
 {
     match set_aside(memory, run, part) {
         Some(_) => None,
@@ -98,6 +102,7 @@ pub fn in_timers(
     ensures returns { Returns memory.new.step_record (held memory.old) (held memory.new) }
     ensures goes { Goes (λ s. timers script.now s run part timing)
         (held memory.old).image (held memory.new).image result }
+    ensures pieces { memory.new.slots.room ≡ memory.old.slots.room }
 {
     match timing {
         Timing::Collecting => collect(memory, script, run, part),

@@ -25,6 +25,7 @@ fn move_on(memory: &mut Memory<Place>, kind: WatcherKind) -> Option<(Id, HandleR
         (λ s. HandleMoved kind (held memory.new).image s r.0 r.1 r.2)) }
     ensures same { IfNone result (held memory.new ≡ held memory.old) }
     ensures none { IfNone result (OfEach (held memory.old).image (λ s. front s (watched s kind).yet ≡ None)) }
+    ensures pieces { memory.new.slots.room ≡ memory.old.slots.room }
 {
     match memory.walk(kind) {
         None => None,
@@ -46,6 +47,7 @@ pub(crate) fn walk(
         (held memory.old).image (held memory.new).image (Some line)) }
     ensures same { IfNone result (held memory.new ≡ held memory.old) }
     ensures none { IfNone result (OfEach (held memory.old).image (λ s. front s (watched s kind).yet ≡ None)) }
+    ensures pieces { memory.new.slots.room ≡ memory.old.slots.room }
 {
     match move_on(memory, kind) {
         None => None,
@@ -70,6 +72,7 @@ pub(crate) fn walk_async(
         (held memory.old).image (held memory.new).image line) }
     ensures same { IfNone result (held memory.new ≡ held memory.old) }
     ensures none { IfNone result (OfEach (held memory.old).image (λ s. front s s.async.yet ≡ None)) }
+    ensures pieces { memory.new.slots.room ≡ memory.old.slots.room }
 {
     match move_on(memory, WatcherKind::Async) {
         None => None,

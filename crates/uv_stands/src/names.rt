@@ -68,6 +68,7 @@ pub fn bind_name(memory: &mut Memory<Place>, name: Var, id: Id)
     ensures image { (held memory.new).image
         ≡ record (held memory.old).image { names = binding name.0 (Some id) (held memory.old).image.names } }
     ensures extended { Extended memory.old.step_record memory.new.step_record (held memory.old) (held memory.new) }
+    ensures pieces { memory.new.slots.room ≡ memory.old.slots.room }
 {
     memory.is_fit();
     if (name.0 as usize) < memory.names().len() {
@@ -85,6 +86,7 @@ pub fn call_name(memory: &mut Memory<Place>, name: Var, callback: Callback) -> u
     ensures image { (held memory.new).image
         ≡ record (held memory.old).image { names = calling name.0 callback result (held memory.old).image.names } }
     ensures extended { Extended memory.old.step_record memory.new.step_record (held memory.old) (held memory.new) }
+    ensures pieces { memory.new.slots.room ≡ memory.old.slots.room }
 {
     memory.is_fit();
     if name.0 as usize >= memory.names().len() {

@@ -5,4 +5,4 @@ pub mod Rows
 pub mod Steps
 pub mod Trails
 pub mod Rooms
-pub mod Laid
+pub mod Longer

@@ -6,6 +6,8 @@ pub mod Parts
 pub mod Undo
 pub mod Does
 pub mod Trail
-pub mod Lies
+pub mod Forms
+pub mod Kept
+pub mod Rows
 pub mod Change
 pub mod Record

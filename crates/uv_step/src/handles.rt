@@ -1,6 +1,6 @@
 //! Handles are made, changed and closed.
 ghost use Rattle.std.specs.Prelude.{◌≡◌, ◌≤◌, Some, None, IfOk, IfErr};
-ghost use Rattle.uv_arena.specs.Calls.{RefusesInsert};
+ghost use Rattle.uv_arena.specs.Calls.{RefusesInsert, room_after};
 ghost use Rattle.uv_handle.specs.Counted.{record_at};
 ghost use Rattle.uv_handle.specs.Changes.{IsChanged};
 ghost use Rattle.uv_work.specs.declared.content.Content.TheVariants.{Handle as handle};
@@ -28,6 +28,7 @@ impl<P: Copy> Memory<P> {
         ensures made { IfOk result (λ id. By added (λ u. IsMade
             (counted_of (held self.old).image) (counted_of (held self.new).image) name kind id u) self.new.step_record.change) }
         ensures pieces { self.old.slots.room ≤ self.new.slots.room }
+        ensures piece { IfOk result (λ _. self.new.slots.room ≡ room_after self.old.slots) }
         ensures err { IfErr result (λ fault. RefusesInsert fault self.old.slots × Untouched self.old self.new) }
     {
         match self.handles.add(&mut self.slots, name, kind) {
@@ -55,6 +56,7 @@ impl<P: Copy> Memory<P> {
         ensures frame { OnlyHandles (held self.old).image (held self.new).image }
         ensures does { By edited (λ u. IsChanged handle_of handle
             (counted_of (held self.old).image) (counted_of (held self.new).image) id from to u) self.new.step_record.change }
+        ensures pieces { self.new.slots.room ≡ self.old.slots.room }
     {
         let undo = self.handles.change(&mut self.slots, id, from, to);
         self.step_record
@@ -68,6 +70,7 @@ impl<P: Copy> Memory<P> {
         ensures frame { OnlyTimed (held self.old).image (held self.new).image }
         ensures does { By moved_by (λ u. IsShut (held self.new).room
             (timed_of (held self.old).image) (timed_of (held self.new).image) id from u) self.new.step_record.change }
+        ensures pieces { self.new.slots.room ≡ self.old.slots.room }
     {
         let timer = reschedule(
             TimerParts {

@@ -1,4 +1,4 @@
-//! The largest changes, in a row of their own.
+//! The largest changes.
 
 use uv_arena::PushUndo;
 use uv_requests::CollectWorkUndo;

@@ -2,8 +2,9 @@
 //! before. Taking a step back takes no memory and can't fail.
 #![tactic(auto)]
 
+mod entry;
 mod handles;
-mod head;
+mod kept;
 mod large;
 mod last;
 mod law;
@@ -14,11 +15,13 @@ mod reading;
 mod record;
 mod small;
 mod timers;
+mod trail;
 mod unwinding;
 mod values;
 mod watchers;
 
-pub use head::Head;
+pub use entry::Entry;
+pub use kept::{Form, KeptRecord};
 pub use large::Large;
 pub use last::LastStep;
 pub use law::steps_unwind;
@@ -26,3 +29,4 @@ pub use medium::Medium;
 pub use memory::Memory;
 pub use record::{Added, Naming, Polled};
 pub use small::Small;
+pub use trail::{Row, Trail};

@@ -1,7 +1,7 @@
-//! The changes that are too large for a head, in the row of medium ones.
+//! The medium changes.
 ghost use Rattle.std.specs.Prelude.{◌≡◌, IfSome};
 ghost use Rattle.uv_step.specs.Change as change;
-ghost use Rattle.uv_step.specs.Lies.{change_of};
+ghost use Rattle.uv_step.specs.Forms.{change_of};
 
 use uv_arena::{ChainPlace, PushUndo};
 use uv_handle::{DelistUndo, ListUndo, RecordUndo, TakeUndo};

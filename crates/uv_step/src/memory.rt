@@ -64,6 +64,7 @@ impl<P: Copy> Memory<P> {
     ) -> Result<Memory<P>, AllocError>
         ensures image { IfOk result (λ m. (held m).image ≡ fresh place names slots last_generation workers) }
         ensures fit { IfOk result (λ m. IsFit (held m).image) }
+        ensures pieces { IfOk result (λ m. m.slots.room ≡ 0) }
     {
         fresh_requests::<Content>();
         let names = vec![in alloc; Named::unbound(); names]?;

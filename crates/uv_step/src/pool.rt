@@ -1,7 +1,7 @@
 //! Requests are queued, taken, finished, cancelled, and called back.
 ghost use Rattle.std.specs.Prelude.{◌≡◌, ◌≤◌, Option, Some, None, IfOk, IfErr, IfSome, IfNone, [], slice_get};
 ghost use Rattle.uv_records.specs.declared.lists.ListName.TheVariants.{DoneYet, Waiting};
-ghost use Rattle.uv_arena.specs.Calls.{RefusesInsert, IsFirst};
+ghost use Rattle.uv_arena.specs.Calls.{RefusesInsert, room_after, IsFirst};
 ghost use Rattle.uv_arena.specs.Image.{members};
 ghost use Rattle.uv_work.specs.Requests.{reopened, cancel_refusal, job_of};
 ghost use Rattle.uv_work.specs.Pool.{waits};
@@ -33,6 +33,7 @@ impl<P: Copy> Memory<P> {
         ensures does { IfOk result (λ id. By queued (λ u. IsQueued request_of asked
             (working_of (held self.old).image) (working_of (held self.new).image) (reopened request) id u) self.new.step_record.change) }
         ensures pieces { self.old.slots.room ≤ self.new.slots.room }
+        ensures piece { IfOk result (λ _. self.new.slots.room ≡ room_after self.old.slots) }
         ensures err { IfErr result (λ fault. RefusesInsert fault self.old.slots × Untouched self.old self.new) }
     {
         self.slots.is_sound();
@@ -64,6 +65,7 @@ impl<P: Copy> Memory<P> {
         ensures frame { OnlyWork (held self.old).image (held self.new).image }
         ensures does { By taken (λ u. IsTaken request_of
             (working_of (held self.old).image) (working_of (held self.new).image) worker id u) self.new.step_record.change }
+        ensures pieces { self.new.slots.room ≡ self.old.slots.room }
     {
         let undo = self.requests.start_work(&mut self.slots, worker, id);
         self.step_record.note_small(self.place, Small::Taken(undo));
@@ -87,6 +89,7 @@ impl<P: Copy> Memory<P> {
         ensures frame { OnlyWork (held self.old).image (held self.new).image }
         ensures does { By finished (λ u. IsFinished request_of asked
             (working_of (held self.old).image) (working_of (held self.new).image) worker id work.job work.digest u) self.new.step_record.change }
+        ensures pieces { self.new.slots.room ≡ self.old.slots.room }
     {
         let undo = self
             .requests
@@ -103,6 +106,7 @@ impl<P: Copy> Memory<P> {
             (working_of (held self.old).image) (working_of (held self.new).image) id u) self.new.step_record.change) }
         ensures err { IfErr result (λ code. (cancel_refusal (found request_of (held self.old).image.arena id)
             (waits (pool_of request_of (working_of (held self.old).image)).waiting id) ≡ Some code) × Untouched self.old self.new) }
+        ensures pieces { self.new.slots.room ≡ self.old.slots.room }
     {
         match self.requests.cancel(&mut self.slots, id) {
             Err(code) => Err(code),
@@ -121,6 +125,7 @@ impl<P: Copy> Memory<P> {
         ensures frame { OnlySlots (held self.old).image (held self.new).image }
         ensures does { By begun (λ u. IsBegun request_of
             (working_of (held self.old).image) (working_of (held self.new).image) u) self.new.step_record.change }
+        ensures pieces { self.new.slots.room ≡ self.old.slots.room }
     {
         let undo = self.requests.begin(&mut self.slots);
         self.step_record.note_small(self.place, Small::Begun(undo));
@@ -136,6 +141,7 @@ impl<P: Copy> Memory<P> {
         } }
         ensures does { By polled (λ u. IsBegun request_of
             (working_of (held self.old).image) (working_of (held self.new).image) u.spliced) self.new.step_record.change }
+        ensures pieces { self.new.slots.room ≡ self.old.slots.room }
     {
         let spliced = self.requests.begin(&mut self.slots);
         let time = self.times.time;
@@ -152,6 +158,7 @@ impl<P: Copy> Memory<P> {
         ensures does { IfSome result (λ r. By (ended_by r.1) (λ u. IsCollected request_of asked
             (working_of (held self.old).image) (working_of (held self.new).image) r.0 r.1 u) self.new.step_record.change) }
         ensures none { IfNone result ((members (held self.old).image.arena DoneYet ≡ []) × Untouched self.old self.new) }
+        ensures pieces { self.new.slots.room ≡ self.old.slots.room }
     {
         match self.requests.collect(&mut self.slots) {
             None => None,

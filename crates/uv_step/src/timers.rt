@@ -27,6 +27,7 @@ impl<P: Copy> Memory<P> {
         ensures frame { OnlyTimed (held self.old).image (held self.new).image }
         ensures does { By timer (λ u. IsRescheduled handle_of handle (held self.new).room
             (timed_of (held self.old).image) (timed_of (held self.new).image) id change u) self.new.step_record.change }
+        ensures pieces { self.new.slots.room ≡ self.old.slots.room }
     {
         let undo = uv_timer::reschedule(
             TimerParts {
@@ -49,6 +50,7 @@ impl<P: Copy> Memory<P> {
             (timed_of (held self.old).image) (timed_of (held self.new).image) id u) self.new.step_record.change) }
         ensures none { IfNone result (NoneIsDue handle_of (held self.old).image.arena (held self.old).image.heap (held self.old).image.times.time
             × Untouched self.old self.new) }
+        ensures pieces { self.new.slots.room ≡ self.old.slots.room }
     {
         match uv_timer::collect_one(TimerParts {
             handles: &mut self.handles,
@@ -75,6 +77,7 @@ impl<P: Copy> Memory<P> {
         ensures does { IfSome result (λ id. By timer (λ u. IsFired handle_of handle (held self.new).room
             (timed_of (held self.old).image) (timed_of (held self.new).image) id u) self.new.step_record.change) }
         ensures none { IfNone result (NoneIsReady handle_of (held self.old).image.arena × Untouched self.old self.new) }
+        ensures pieces { self.new.slots.room ≡ self.old.slots.room }
     {
         match uv_timer::fire_one(TimerParts {
             handles: &mut self.handles,

@@ -6,10 +6,10 @@ ghost use Rattle.uv_step.specs.Parts.{unwind, unwind_parts, undo, naming_parts, 
 ghost use Rattle.uv_step.specs.Fit.{IsFit};
 ghost use Rattle.uv_step.specs.Undo.{CanUnwind, CanRename, CanUndo};
 ghost use Rattle.uv_step.specs.Does.{moved_by};
-ghost use Rattle.uv_step.specs.Lies.{smaller, change_of, larger, lain, taken_off};
+ghost use Rattle.uv_step.specs.Forms.{smaller, change_of, larger, taken_off};
 
+use crate::kept::Form;
 use crate::large::Large;
-use crate::last::Lying;
 use crate::medium::Medium;
 use crate::memory::Memory;
 use crate::record::{Added, Naming};
@@ -35,8 +35,7 @@ impl<P: Copy> Memory<P> {
         let naming = self.step_record.naming();
         self.place = self.step_record.place();
         self.unname(naming);
-        let change = self.step_record.change();
-        self.undo(change);
+        self.undo();
     }
 
     /// What became of a name is undone.
@@ -74,18 +73,27 @@ impl<P: Copy> Memory<P> {
         self.names[name.0 as usize] = Named { id, calls };
     }
 
-    /// A change is undone.
-    fn undo(&mut self, change: Lying)
-        requires can { CanUndo (held self.old).room (lain change) (held self.old).image }
-        requires fit { IsFit (unwind_parts (change_parts (lain change)) (held self.old).image) }
-        ensures image { (held self.new).image ≡ unwind_parts (change_parts (lain change)) (held self.old).image }
+    /// The change of the last step is undone.
+    fn undo(&mut self)
+        requires can { CanUndo (held self.old).room self.old.step_record.change (held self.old).image }
+        requires fit { IsFit (unwind_parts (change_parts self.old.step_record.change) (held self.old).image) }
+        ensures image { (held self.new).image ≡ unwind_parts (change_parts self.old.step_record.change) (held self.old).image }
         ensures room { (held self.new).room ≡ (held self.old).room }
         ensures pieces { self.new.slots.room ≡ self.old.slots.room }
     {
-        match change {
-            Lying::Small(small) => self.undo_small(small),
-            Lying::Medium(medium) => self.undo_medium(medium),
-            Lying::Large(large) => self.undo_large(large),
+        match self.step_record.form() {
+            Form::Small(small) => {
+                let small = *small;
+                self.undo_small(small);
+            }
+            Form::Medium(medium) => {
+                let medium = *medium;
+                self.undo_medium(medium);
+            }
+            Form::Large(large) => {
+                let large = *large;
+                self.undo_large(large);
+            }
         }
     }
 
@@ -121,8 +129,6 @@ impl<P: Copy> Memory<P> {
             Small::Queued(undo) => self.requests.undo_queue(&mut self.slots, undo),
             Small::Taken(undo) => self.requests.undo_take(&mut self.slots, undo),
             Small::Finished(undo) => self.requests.undo_finish(&mut self.slots, undo),
-            Small::InMedium => {}
-            Small::InLarge => {}
         }
     }
 

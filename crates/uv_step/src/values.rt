@@ -17,6 +17,7 @@ impl<P: Copy> Memory<P> {
         requires fits { (held self.old).image.clock + ms < 2 ^ 64 }
         ensures recorded { Recorded self.new.step_record (held self.old) (held self.new) }
         ensures image { (held self.new).image ≡ record (held self.old).image { clock = (held self.old).image.clock + ms } }
+        ensures pieces { self.new.slots.room ≡ self.old.slots.room }
     {
         self.step_record
             .note_small(self.place, Small::Clock(self.clock));
@@ -28,6 +29,7 @@ impl<P: Copy> Memory<P> {
         ensures recorded { Recorded self.new.step_record (held self.old) (held self.new) }
         ensures image { (held self.new).image
             ≡ record (held self.old).image { times = record (held self.old).image.times { time = (held self.old).image.clock } } }
+        ensures pieces { self.new.slots.room ≡ self.old.slots.room }
     {
         self.step_record
             .note_small(self.place, Small::Time(self.times.time));
@@ -38,6 +40,7 @@ impl<P: Copy> Memory<P> {
     pub fn set_stop(&mut self, stop: bool)
         ensures recorded { Recorded self.new.step_record (held self.old) (held self.new) }
         ensures image { (held self.new).image ≡ record (held self.old).image { stop_flag = stop } }
+        ensures pieces { self.new.slots.room ≡ self.old.slots.room }
     {
         self.step_record
             .note_small(self.place, Small::Stop(self.stop_flag));
@@ -48,6 +51,7 @@ impl<P: Copy> Memory<P> {
     pub fn set_idled(&mut self, idled: bool)
         ensures recorded { Recorded self.new.step_record (held self.old) (held self.new) }
         ensures image { (held self.new).image ≡ record (held self.old).image { idled = idled } }
+        ensures pieces { self.new.slots.room ≡ self.old.slots.room }
     {
         self.step_record
             .note_small(self.place, Small::Idled(self.idled));
@@ -61,6 +65,7 @@ impl<P: Copy> Memory<P> {
           times = record (held self.old).image.times { time = (held self.old).image.clock };
           idled = false;
         } }
+        ensures pieces { self.new.slots.room ≡ self.old.slots.room }
     {
         self.step_record
             .note_small(self.place, Small::Iterated(self.times.time, self.idled));
@@ -74,6 +79,7 @@ impl<P: Copy> Memory<P> {
         ensures place { (held self.new).image ≡ standing place (held self.old).image }
         ensures same { self.new.step_record ≡ self.old.step_record }
         ensures extended { Extended self.old.step_record self.new.step_record (held self.old) (held self.new) }
+        ensures pieces { self.new.slots.room ≡ self.old.slots.room }
     {
         self.place = place;
     }
@@ -95,6 +101,7 @@ impl<P: Copy> Memory<P> {
         requires name { name.0 < length (held self.old).image.names }
         ensures image { (held self.new).image ≡ record (held self.old).image { names = binding name.0 id (held self.old).image.names } }
         ensures extended { Extended self.old.step_record self.new.step_record (held self.old) (held self.new) }
+        ensures pieces { self.new.slots.room ≡ self.old.slots.room }
     {
         let named = self.named(name);
         self.names[name.0 as usize] = Named {
@@ -114,6 +121,7 @@ impl<P: Copy> Memory<P> {
           names = calling name.0 callback (count_of callback (named (held self.old).image.names name.0).calls + 1) (held self.old).image.names;
         } }
         ensures extended { Extended self.old.step_record self.new.step_record (held self.old) (held self.new) }
+        ensures pieces { self.new.slots.room ≡ self.old.slots.room }
     {
         let named = self.named(name);
         let count = named.calls.of(callback);

@@ -36,6 +36,7 @@ impl<P: Copy> Memory<P> {
         ensures frame { OnlyHandles (held self.old).image (held self.new).image }
         ensures does { By enlisted (λ u. IsStarted handle_of handle
             (counted_of (held self.old).image) (counted_of (held self.new).image) id u) self.new.step_record.change }
+        ensures pieces { self.new.slots.room ≡ self.old.slots.room }
     {
         let undo = uv_watch::enlist(&mut self.handles, &mut self.slots, id, from);
         self.step_record
@@ -49,6 +50,7 @@ impl<P: Copy> Memory<P> {
         ensures frame { OnlyHandles (held self.old).image (held self.new).image }
         ensures does { By delisted (λ u. IsStopped handle_of handle
             (counted_of (held self.old).image) (counted_of (held self.new).image) id from u) self.new.step_record.change }
+        ensures pieces { self.new.slots.room ≡ self.old.slots.room }
     {
         let undo = uv_watch::halt(&mut self.handles, &mut self.slots, id, from);
         self.step_record
@@ -61,6 +63,7 @@ impl<P: Copy> Memory<P> {
         ensures recorded { Recorded self.new.step_record (held self.old) (held self.new) }
         ensures frame { OnlySlots (held self.old).image (held self.new).image }
         ensures does { By begun (λ u. IsBegun (held self.old).image.arena (held self.new).image.arena kind u) self.new.step_record.change }
+        ensures pieces { self.new.slots.room ≡ self.old.slots.room }
     {
         let undo = uv_watch::begin(&mut self.slots, kind);
         self.step_record.note_small(self.place, Small::Begun(undo));
@@ -75,6 +78,7 @@ impl<P: Copy> Memory<P> {
         ensures does { IfSome result (λ r. By walked (λ u. IsMovedOn handle_of handle
             (counted_of (held self.old).image) (counted_of (held self.new).image) kind r.0 r.2 u) self.new.step_record.change) }
         ensures none { IfNone result (NoHandleFirst (held self.old).image.arena (yet_of kind) × Untouched self.old self.new) }
+        ensures pieces { self.new.slots.room ≡ self.old.slots.room }
     {
         let (id, handle) = self.first_handle(kind.yet())?;
         let (pending, undo) = uv_watch::move_on(&mut self.handles, &mut self.slots, kind, id);
@@ -89,6 +93,7 @@ impl<P: Copy> Memory<P> {
         ensures frame { OnlySlots (held self.old).image (held self.new).image }
         ensures does { By begun (λ u. IsSpliced
             (held self.old).image.arena (held self.new).image.arena Closing ClosingYet u) self.new.step_record.change }
+        ensures pieces { self.new.slots.room ≡ self.old.slots.room }
     {
         let undo = self.handles.begin_closing(&mut self.slots);
         self.step_record.note_small(self.place, Small::Begun(undo));
@@ -102,6 +107,7 @@ impl<P: Copy> Memory<P> {
         ensures does { IfSome result (λ id. (h : HandleRecord) × By (closed_by h) (λ u. IsTaken handle_of handle
             (counted_of (held self.old).image) (counted_of (held self.new).image) id (handle h) u) self.new.step_record.change) }
         ensures none { IfNone result (NoHandleFirst (held self.old).image.arena ClosingYet × Untouched self.old self.new) }
+        ensures pieces { self.new.slots.room ≡ self.old.slots.room }
     {
         let first = self.first_handle(ListName::ClosingYet)?;
         match self.handles.take_closing(&mut self.slots) {

@@ -22,6 +22,7 @@ pub fn close_handle(memory: &mut Memory<Place>, id: Id, handle: HandleRecord)
     requires allowed { close_refusal handle ≡ None }
     ensures returns { Returns memory.new.step_record (held memory.old) (held memory.new) }
     ensures does { Does (λ s. close s id handle) (held memory.old).image (held memory.new).image (code success) }
+    ensures pieces { memory.new.slots.room ≡ memory.old.slots.room }
 {
     memory.is_fit();
     memory.close(id, handle);

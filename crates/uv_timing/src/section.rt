@@ -17,6 +17,7 @@ pub fn collect_timer(memory: &mut Memory<Place>) -> Option<Id>
     ensures collects { IfSome result (λ id. Collects (held memory.old).image (held memory.new).image id) }
     ensures none { IfNone result (CollectsNone (held memory.old).image) }
     ensures unchanged { IfNone result (held memory.new ≡ held memory.old) }
+    ensures pieces { memory.new.slots.room ≡ memory.old.slots.room }
 {
     memory.is_fit();
     memory.is_sound();
@@ -34,6 +35,7 @@ pub fn fire_timer(memory: &mut Memory<Place>) -> Option<(Id, Var)>
     ensures fires { IfSome result (λ r. Fires (held memory.old).image (held memory.new).image r.0 r.1) }
     ensures none { IfNone result (FiresNone (held memory.old).image) }
     ensures unchanged { IfNone result (held memory.new ≡ held memory.old) }
+    ensures pieces { memory.new.slots.room ≡ memory.old.slots.room }
 {
     memory.is_sound();
     match memory.fire_timer() {

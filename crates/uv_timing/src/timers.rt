@@ -24,6 +24,7 @@ pub fn stop_timer(memory: &mut Memory<Place>, id: Id, handle: HandleRecord)
     requires timer { is_timer handle.kind ≡ true }
     ensures returns { Returns memory.new.step_record (held memory.old) (held memory.new) }
     ensures does { Does (λ s. stop s id handle) (held memory.old).image (held memory.new).image (code success) }
+    ensures pieces { memory.new.slots.room ≡ memory.old.slots.room }
 {
     memory.is_fit();
     memory.reschedule(id, TimerChange::stopping(handle));
@@ -42,6 +43,7 @@ pub fn start_timer(
     requires allowed { start_timer_refusal handle ≡ None }
     ensures returns { Returns memory.new.step_record (held memory.old) (held memory.new) }
     ensures does { Does (λ s. start s timeout repeat id handle) (held memory.old).image (held memory.new).image (code success) }
+    ensures pieces { memory.new.slots.room ≡ memory.old.slots.room }
 {
     memory.is_fit();
     memory.is_sound();
@@ -56,6 +58,7 @@ pub fn start_again(memory: &mut Memory<Place>, id: Id, handle: HandleRecord)
     requires allowed { again_refusal handle ≡ None }
     ensures returns { Returns memory.new.step_record (held memory.old) (held memory.new) }
     ensures does { Does (λ s. again s id handle) (held memory.old).image (held memory.new).image (code success) }
+    ensures pieces { memory.new.slots.room ≡ memory.old.slots.room }
 {
     memory.is_fit();
     memory.is_sound();

@@ -1,8 +1,6 @@
-use Rattle.std.proofs.Common.{◌≡◌, ap, sym, subst, refl, ◌∙◌}
+use Rattle.std.proofs.Common.{ap, sym, subst, refl}
 use Rattle.uv_step.specs.Fit.{IsFit}
 use Rattle.uv_step.specs.Image.{image_of}
-use Rattle.uv_step.specs.MemoryParts.{MemoryParts}
-use Rattle.uv_step.specs.Lies.{lain}
 use Rattle.uv_step.specs.View.{kept}
 use Rattle.uv_step.proofs.Rows.{unwound_by}
 use Rattle.uv_step.proofs.memory.Memory.unwind.Goals as goal
@@ -10,25 +8,18 @@ use Rattle.uv_step.proofs.memory.Memory.unwind.Goals as goal
 pub undo-requires-clause-fit : goal.undo-requires-clause-fit
 undo-requires-clause-fit g c =
     let r = c.self.inside.step_record in
-    let change : lain c.change-change.result ≡ r.change =
-    sym c.change-change.ensures ∙ ap (λ (v : MemoryParts _). v.step_record.change) c.self-2.view_is ∙ ap (λ q. q.change) c.unname.ensures.same in
     let back = unwound_by r (image_of (kept c.self.inside)) (image_of c.unname.new.self) _ _ _ _ c.place-self-inside.ensures c.naming-naming.ensures
-    change c.unname.ensures.image refl in
+    (ap (λ q. q.change) c.unname.ensures.same) c.unname.ensures.image refl in
     subst (λ k. IsFit k) (sym back) (rw (← c.self.view_is) at c.requires.fit)
 
 pub returns-clause-image : goal.returns-clause-image
 returns-clause-image g c =
-    let r = c.self.inside.step_record in
-    let change : lain c.change-change.result ≡ r.change =
-    sym c.change-change.ensures ∙ ap (λ (v : MemoryParts _). v.step_record.change) c.self-2.view_is ∙ ap (λ q. q.change) c.unname.ensures.same in
-    rw (← c.self.view_is) (unwound_by r (image_of (kept c.self.inside)) (image_of c.unname.new.self) _ _ _ _ c.place-self-inside.ensures
-    c.naming-naming.ensures change c.unname.ensures.image c.undo.ensures.image)
+    rw (← c.self.view_is) (unwound_by c.self.inside.step_record (image_of (kept c.self.inside)) (image_of c.unname.new.self) _ _ _ _
+    c.place-self-inside.ensures c.naming-naming.ensures (ap (λ q. q.change) c.unname.ensures.same) c.unname.ensures.image c.undo.ensures.image)
 
 pub returns-clause-fit : goal.returns-clause-fit
 returns-clause-fit g c =
     let r = c.self.inside.step_record in
-    let change : lain c.change-change.result ≡ r.change =
-    sym c.change-change.ensures ∙ ap (λ (v : MemoryParts _). v.step_record.change) c.self-2.view_is ∙ ap (λ q. q.change) c.unname.ensures.same in
     let back = unwound_by r (image_of (kept c.self.inside)) (image_of c.unname.new.self) (image_of c.undo.new.self) _ _ _ c.place-self-inside.ensures
-    c.naming-naming.ensures change c.unname.ensures.image c.undo.ensures.image in
+    c.naming-naming.ensures (ap (λ q. q.change) c.unname.ensures.same) c.unname.ensures.image c.undo.ensures.image in
     subst (λ k. IsFit k) (sym back) (rw (← c.self.view_is) at c.requires.fit)

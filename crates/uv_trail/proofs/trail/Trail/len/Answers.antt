@@ -1,9 +1,0 @@
-use Rattle.std.proofs.Common.{rules, ◌≡◌, sym, ap, ◌∙◌, length}
-use Rattle.uv_trail.proofs.Longer.{as_many}
-use Rattle.uv_trail.proofs.trail.Trail.len.Goals as goal
-
-pub returns : goal.returns
-returns g c =
-    let count : c.len.result ≡ length c.self.inside.heads.items = search rules in
-    count ∙ sym (as_many c.self.inside.heads.items c.self.inside.mediums.items c.self.inside.larges.items c.self.invariant)
-    ∙ ap (λ t. length t.records) c.self.view_is
