@@ -1,5 +1,5 @@
 //! The text of a script's parts.
-ghost use Rattle.std.specs.Prelude.{◌≡◌, ◌++◌, map, decimal, OnOk, IfOk, IfErr};
+ghost use Rattle.std.specs.Prelude.{◌≡◌, ◌++◌, map, decimal, OnOk, OnErr, IfOk, IfErr};
 ghost use Rattle.uv_ids.specs.declared.fault.Fault.TheVariants.{Memory};
 ghost use Rattle.uv_script.specs.Grammar.{WasRead};
 ghost use Rattle.uv_script.specs.Laws.{IsReadBack};
@@ -17,7 +17,8 @@ use uv_work::Task;
 
 /// Writes a number at the end of a text, in decimal digits.
 pub fn push_number(text: &mut Vec<u8>, number: u64) -> Result<(), AllocError>
-    ensures { OnOk result (text.new.items ≡ text.old.items ++ decimal number) }
+    ensures ok { OnOk result (text.new.items ≡ text.old.items ++ decimal number) }
+    ensures err { OnErr result (text.new.items ≡ text.old.items) }
 {
     let mut buffer = Buffer::new();
     text.extend_from_slice(buffer.format(number).as_bytes())
@@ -37,7 +38,8 @@ pub fn push_task_text(text: &mut Vec<u8>, of_task: &[u8]) -> Result<(), AllocErr
 impl Names {
     /// Writes a name at the end of a text.
     pub fn push_name(&self, text: &mut Vec<u8>, name: Var) -> Result<(), AllocError>
-        ensures { OnOk result (text.new.items ≡ text.old.items ++ name_text self.now name) }
+        ensures ok { OnOk result (text.new.items ≡ text.old.items ++ name_text self.now name) }
+        ensures err { OnErr result (text.new.items ≡ text.old.items) }
     {
         match self.get(name) {
             Some(bytes) => text.extend_from_slice(bytes),
