@@ -6,11 +6,9 @@ use Rattle.uv_stands.specs.Stands.{StandsFor}
 use Rattle.uv_stands.proofs.Returning.{recorded_returns, extended_returns}
 use Rattle.uv_loop.proofs.bodies.leave_body.Goals as goal
 
-pub returns : goal.returns
-returns c = record {
-  turns = λ p body. (
-    extended_returns (recorded_returns c.pass.ensures.recorded) c.stand_at.ensures.extended,
-    λ s h reached.
-        (_, refl, c.stand_at.ensures.stands _ (subst (λ (m : MemoryParts Place). StandsFor (image_of m) s) (sym c.pass.ensures.passed) h)),
-  );
-}
+pub returns-clause-turns : goal.returns-clause-turns
+returns-clause-turns c = λ p body. (
+  extended_returns (recorded_returns c.pass.ensures.recorded) c.stand_at.ensures.extended,
+  λ s h reached.
+      (_, refl, c.stand_at.ensures.stands _ (subst (λ (m : MemoryParts Place). StandsFor (image_of m) s) (sym c.pass.ensures.passed) h)),
+)
