@@ -1,0 +1,249 @@
+"""The claims of the program, the clauses that say them, and the definitions that these stand on, as they are in the sources.
+
+A definition is a top line of a file of specs/ with what belongs to it. Which others it names is read off its words and the file's `use`
+lines; so is which definitions a clause names, by the `ghost use` lines of its file.
+"""
+
+from __future__ import annotations
+
+import re
+from dataclasses import dataclass, field
+from pathlib import Path
+
+WORD = re.compile(r"[^\W\d][\w-]*(?:\.[^\W\d][\w-]*)*")
+HEAD = re.compile(r"^(?:(?:abbrev|unfoldable|pub|record|data) )*([^\W\d][\w-]*) (?:[:({]|where)")
+USE = re.compile(r"^\s*(?:ghost |pub )*use Rattle\.([\w.]+?)(?:\.\{([^}]*)\}|\.(\w+))?(?: as (\w+))?;?$")
+
+
+@dataclass(frozen=True)
+class Clause:
+    """A clause of a public call."""
+    crate: str
+    file: str
+    call: str
+    name: str
+
+
+@dataclass(frozen=True)
+class Claim:
+    """What is claimed, in a sentence, and what says it."""
+    sentence: str
+    clauses: tuple[Clause, ...]
+
+
+CLAIMS = (
+    Claim("A text is read as a script by the grammar alone: as its script, or with its first bad line.",
+          (Clause("uv_script", "parse", "parse", ""),)),
+    Claim("A step of any machine, the program's too, is the step of one definition, `next`, or is refused just where that refuses it.",
+          (Clause("uv_model", "machine", "step", ""),)),
+    Claim("A step back leaves the loop as it was after the steps before.",
+          (Clause("uv_model", "machine", "back", ""),)),
+    Claim("Going back is exact: a step adds one record, the last record gives back the very memory from before its step, and so do any in a row.",
+          (Clause("uv_loop", "machine", "step", "records"), Clause("uv_loop", "machine", "back", "drops"),
+           Clause("uv_step", "law", "steps_unwind", ""))),
+    Claim("The lines of every list of steps are in libuv's documented order of phases.",
+          (Clause("uv_order", "phase_order", "documented_order", ""),)),
+    Claim("By the lines alone each handle closes once and is called only where it was started, and each request calls back once, with ECANCELED "
+          "only if no worker took it.", (Clause("uv_order", "once", "closes_once", ""),)),
+    Claim("The events of the thread pool that the lines say are possible by the pool's rules, and lead to the pool of the state.",
+          (Clause("uv_order", "pool", "pool_follows", ""),)),
+    Claim("An accepted event is one more step of a session, and discards what was taken back; steps are taken back and run again in any number.",
+          (Clause("uv_session", "session", "do_event", ""), Clause("uv_session", "session", "back", "moves"),
+           Clause("uv_session", "session", "forward", ""))),
+    Claim("What a conversation writes is settled by what it reads, byte for byte.", (Clause("uv_engine", "conversation", "converse", "text"),)),
+    Claim("The verdict on a recording is that of one definition.", (Clause("uv_engine", "replaying", "replay", "text"),)),
+    Claim("A live run that ends well gives a session of its script whose events are what its threads did.",
+          (Clause("uv_run", "running", "live", ""),)),
+)
+
+
+class Fault(Exception):
+    """Why the claims can't be told, in a sentence."""
+
+
+@dataclass
+class Definition:
+    """A definition, in which lines it stands, and which words it uses."""
+    file: str
+    name: str
+    first: int
+    last: int
+    words: set[str] = field(default_factory=set)
+
+
+@dataclass
+class Names:
+    """What the `use` lines of a file bring in: names of definitions, and short names of files of definitions."""
+    single: dict[str, tuple[str, str]] = field(default_factory=dict)
+    files: dict[str, str] = field(default_factory=dict)
+
+    def read(self, line: str) -> None:
+        """Takes in a line, if it brings in definitions of this repository."""
+        found = USE.match(line)
+        if not found:
+            return
+        path, listed, last, alias = found.groups()
+        if listed is None and last:
+            path = f"{path}.{last}"
+        parts = path.split(".")
+        if len(parts) < 3 or parts[1] != "specs" or parts[2] in ("declared", "contracts"):
+            return
+        file = f"{parts[0]}/specs/{'/'.join(parts[2:])}.antt"
+        if listed is None:
+            self.files[alias or parts[-1]] = file
+            return
+        for item in filter(None, map(str.strip, listed.split(","))):
+            name, _, other = item.partition(" as ")
+            self.single[other or name] = (file, name)
+
+    def meant(self, word: str, own: str | None) -> tuple[str, str] | None:
+        """The definition that a word means, if it means one: of this file, or one that is brought in."""
+        first, _, rest = word.partition(".")
+        if rest and first in self.files:
+            return self.files[first], rest.split(".")[0]
+        if first in self.single:
+            return self.single[first]
+        return (own, first) if own else None
+
+
+class Specs:
+    """The definitions of all crates."""
+
+    def __init__(self, root: Path) -> None:
+        self.root = root
+        self.found: dict[tuple[str, str], Definition] = {}
+        self.names: dict[str, Names] = {}
+        for path in sorted((root / "crates").glob("*/specs/*.antt")):
+            if path.stem != "Lib":
+                self.read(path)
+
+    def read(self, path: Path) -> None:
+        """Takes in a file of definitions. Within a `module` they stand two columns in."""
+        file = str(path.relative_to(self.root / "crates"))
+        names, now, comment, column = Names(), None, 0, 0
+        for number, line in enumerate(path.read_text(encoding="utf-8").splitlines(), 1):
+            if line.lstrip().startswith("--"):
+                comment = comment or number
+                continue
+            if "use Rattle" in line:
+                names.read(line)
+            elif line.startswith("module"):
+                now, column = None, 2
+            elif line.strip():
+                column = column if line.startswith("  ") else 0
+                head = HEAD.match(line[column:]) if line[:column].isspace() or not column else None
+                if head and (now is None or head[1] != now.name):
+                    now = Definition(file, head[1], comment or number, number)
+                    self.found[file, head[1]] = now
+                if now:
+                    now.last = number
+                    now.words.update(WORD.findall(line))
+            comment = 0
+        self.names[file] = names
+
+    def needs(self, roots: list[tuple[str, str]]) -> list[Definition]:
+        """These definitions and all that they stand on, each behind those."""
+        ordered: list[Definition] = []
+        seen: set[tuple[str, str]] = set()
+        stack: list[tuple[tuple[str, str], bool]] = [(root, False) for root in reversed(roots)]
+        while stack:
+            at, ready = stack.pop()
+            if ready:
+                ordered.append(self.found[at])
+            elif at not in seen and at in self.found:
+                seen.add(at)
+                stack.append((at, True))
+                names = self.names[at[0]]
+                below = {names.meant(word, at[0]) for word in self.found[at].words}
+                stack += [(it, False) for it in sorted(filter(None, below), reverse=True)]
+        return ordered
+
+
+    def in_order(self, files: list[str]) -> list[str]:
+        """These files, each behind those of them that it brings in."""
+        ordered: list[str] = []
+
+        def add(file: str) -> None:
+            names = self.names[file]
+            for below in sorted({it for it, _ in names.single.values()} | set(names.files.values())):
+                if below in files and below not in ordered and below != file:
+                    add(below)
+            if file not in ordered:
+                ordered.append(file)
+
+        for file in files:
+            add(file)
+        return ordered
+
+
+def clause_text(root: Path, clause: Clause) -> tuple[str, Names, int]:
+    """The words of a clause, or of all clauses of its call, what the file brings in, and in which line the call stands."""
+    path = root / "crates" / clause.crate / "src" / f"{clause.file}.rt"
+    if not path.is_file():
+        raise Fault(f"there is no file {path.relative_to(root)}")
+    lines = path.read_text(encoding="utf-8").splitlines()
+    names = Names()
+    for line in lines:
+        names.read(line.strip())
+    start = next((at for at, line in enumerate(lines) if re.match(rf"\s*(?:pub )?fn {clause.call}\b", line)), None)
+    if start is None:
+        raise Fault(f"there is no call {clause.call} in {path.relative_to(root)}")
+    end = next(at for at in range(start, len(lines)) if lines[at].strip() in ("{", "{}") or lines[at].rstrip().endswith("};"))
+    text = "\n".join(lines[start:end + 1])
+    parts = re.split(r"\n(?=\s*(?:ensures|requires)\b)", text)
+    wanted = [part for part in parts if re.match(rf"\s*ensures\*? {clause.name or ''}", part)]
+    if not wanted:
+        raise Fault(f"{clause.call} in {path.relative_to(root)} has no clause {clause.name}")
+    return "\n".join(wanted), names, start + 1
+
+
+def page(root: Path) -> str:
+    """The page of claims."""
+    specs = Specs(root)
+    told: list[str] = []
+    order: dict[str, dict[str, Definition]] = {}
+    asked: dict[str, set[int]] = {}
+    for number, claim in enumerate(CLAIMS, 1):
+        roots: list[tuple[str, str]] = []
+        for clause in claim.clauses:
+            text, names, _ = clause_text(root, clause)
+            roots += [it for it in (names.meant(word, None) for word in WORD.findall(text)) if it and it in specs.found]
+        if not roots:
+            raise Fault(f"no definition stands behind the claim: {claim.sentence}")
+        needed = specs.needs(roots)
+        for it in needed:
+            order.setdefault(it.file, {})[it.name] = it
+            asked.setdefault(it.file, set()).add(number)
+        where = ", ".join(f"`{it.call}` of {it.crate} (`{it.file}.rt`" + (f", clause `{it.name}`)" if it.name else ")") for it in claim.clauses)
+        lines = sum(it.last - it.first + 1 for it in needed)
+        told.append(f"{number}. {claim.sentence} {where}: {len(needed)} definitions, {lines} lines.")
+    order = {file: order[file] for file in specs.in_order(list(order))}
+    rows = [f"| `{file}` | {len(its)} | {sum(it.last - it.first + 1 for it in its.values())} | {spans(sorted(asked[file]))} |" for file, its in order.items()]
+    return HEADING + "\n".join(told) + TABLE + "\n".join(rows) + "\n"
+
+
+def spans(numbers: list[int]) -> str:
+    """Numbers as few words: 1-3, 5."""
+    found: list[list[int]] = []
+    for number in numbers:
+        if found and found[-1][1] == number - 1:
+            found[-1][1] = number
+        else:
+            found.append([number, number])
+    return ", ".join(str(a) if a == b else f"{a}-{b}" for a, b in found)
+
+
+HEADING = """# What to believe, in order
+
+Each claim, the clause of a public call that says it, and on how many definitions it stands. [PROVED](PROVED.md) says more of each. This page is written by `tools/claims`, and a test holds it against the sources.
+
+"""
+TABLE = """
+
+## What they stand on
+
+The files of definitions in an order in which they can be read: each behind those that it brings in. Who believes a claim reads of each file the definitions that are counted here; comments are among the lines, `use` lines are not.
+
+| File in `crates/` | Definitions | Lines | For the claims |
+|---|---|---|---|
+"""
