@@ -7,6 +7,7 @@ lines; so is which definitions a clause names, by the `ghost use` lines of its f
 from __future__ import annotations
 
 import re
+from collections.abc import Iterable
 from dataclasses import dataclass, field
 from pathlib import Path
 
@@ -215,11 +216,16 @@ def page(root: Path) -> str:
             order.setdefault(it.file, {})[it.name] = it
             asked.setdefault(it.file, set()).add(number)
         where = ", ".join(f"`{it.call}` of {it.crate} (`{it.file}.rt`" + (f", clause `{it.name}`)" if it.name else ")") for it in claim.clauses)
-        lines = sum(it.last - it.first + 1 for it in needed)
-        told.append(f"{number}. {claim.sentence} {where}: {len(needed)} definitions, {lines} lines.")
+        count = "1 definition" if len(needed) == 1 else f"{len(needed)} definitions"
+        told.append(f"{number}. {claim.sentence} {where}: {count}, {lines_of(needed)} lines.")
     order = {file: order[file] for file in specs.in_order(list(order))}
-    rows = [f"| `{file}` | {len(its)} | {sum(it.last - it.first + 1 for it in its.values())} | {spans(sorted(asked[file]))} |" for file, its in order.items()]
+    rows = [f"| `{file}` | {len(its)} | {lines_of(its.values())} | {spans(sorted(asked[file]))} |" for file, its in order.items()]
     return HEADING + "\n".join(told) + TABLE + "\n".join(rows) + "\n"
+
+
+def lines_of(definitions: Iterable[Definition]) -> int:
+    """In how many lines they stand."""
+    return sum(it.last - it.first + 1 for it in definitions)
 
 
 def spans(numbers: list[int]) -> str:
