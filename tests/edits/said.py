@@ -54,6 +54,9 @@ POSITION = re.compile(r"(?P<note>note: )?(?:\./)?(?P<file>[^\s:]+):(?P<line>\d+)
 NAME_IS_GONE = re.compile(r"(?:\./)?proofs/.*(has no field|is not in scope|has no `|was not admitted)")
 # The prover couldn't read a text, where one that only makes a statement false is read well.
 UNREAD = re.compile(r"is not in scope|has no field|is no name|operand is missing|expected the end|cannot continue")
+# A fault, and one that the check of a constant's condition finds.
+FAULT = re.compile(r"(?:\./)?[^\s:]+:\d+:\d+: error")
+OF_A_CONSTANT = re.compile(r"(?:\./)?src/[^\s:]+:\d+:\d+: error\[failed-constant-evaluation\]")
 STALE = re.compile(r"module .Rattle-\w+-.*Run the lower steps again")
 
 
@@ -68,7 +71,7 @@ def is_unread(line: str, files: Iterable[str]) -> bool:
 def judged(said: Said, files: Iterable[str]) -> Verdict:
     """What became of an edit of these files that was tried alone, by the rules of the kit's `rt must-fail`.
 
-    Beyond these, one says little, too, that makes a function which the prover doesn't cover: no clause refuses that.
+    Beyond these, one is refused that a check of a constant stops before the prover comes to it, as that of a size. And one says little, too, that makes a function which the prover doesn't cover: no clause refuses that.
     """
     lines = said.lines()
     if unread := [it for it in lines if is_unread(it, files)]:
@@ -79,6 +82,9 @@ def judged(said: Said, files: Iterable[str]) -> Verdict:
         return Verdict(Word.PROVED, "the crate is still proved with this edit")
     if said.status != 1:
         return Verdict(Word.UNTRIED, f"the check ended with status {said.status}: {lines[-1][:200]}")
+    faults = [it for it in lines if FAULT.match(it)]
+    if faults and all(map(OF_A_CONSTANT.match, faults)):
+        return Verdict(Word.REFUSED, faults[0][:160])
     if not lines[-1].startswith("logic=not-proved"):
         return Verdict(Word.BAD, f"it didn't reach the prover: {' / '.join(said.text.splitlines()[:6])[:600]}")
     told = [it for it in lines if POSITION.match(it)]
