@@ -82,6 +82,7 @@ class Follower:
         self.kept, self.kept_at = 0, 0
         self.taken: dict[str, int] = {}
         self.finished: set[str] = set()
+        self.ready: set[str] = set()
         self.outcome = Outcome([], 0, program.callbacks(), 0)
         self.senders = {op.split(" ")[1] for op in self.all_ops() if op.startswith("send ")}
         self.afters = [it.name for it in self.items if it.type == "call" and it.list == "after"]
@@ -309,6 +310,7 @@ class Follower:
                 raise Stopped(f"has `{line}` there")
             self.after_at += 1
             self.finished.discard(item.name)
+            self.ready.discard(item.name)
             self.taken.pop(item.name, None)
         self.outcome.callbacks += 1
 
@@ -319,6 +321,13 @@ class Follower:
             return
         later = (it.now for it in ahead if it.type in ("call", "poll", "run", "end") and it.now > item.now)
         self.tick_to(min(item.clock, next(later, item.clock)))
+
+    def tick_within(self, item: Item, at: int) -> None:
+        """The clock goes on to where it was as something came from outside, if nothing before that looks at it."""
+        later = (it for it in self.items[at + 1 : at + FAR] if it.type in ("call", "poll", "run", "end", "done"))
+        next_one = next(later, None)
+        if next_one is not None and item.clock:
+            self.tick_to(min(item.clock, next_one.clock if next_one.type == "done" else next_one.now))
 
     def starts_behind_end(self, item: Item, ahead: list[Item]) -> bool:
         """Does the run end by the same time, and the main program start a timer by it then? The last iteration looks at the clock
@@ -349,7 +358,19 @@ class Follower:
                 self.do_call(item, at)
             case "done":
                 self.do_done(item, at)
+            case "send":
+                self.flush()
+                self.tick_within(item, at)
+                self.senders.add(item.name)
+                self.ask([f"send {item.name}"])
+            case "finish":
+                self.flush()
+                self.tick_within(item, at)
+                self.ready.add(item.name)
+                while (name := next((it for it in self.afters[self.after_at :] if it not in self.finished), None)) in self.ready:
+                    self.finish(name)
             case "take":
+                self.tick_within(item, at)
                 self.flush()
                 while item.name not in self.taken and item.name not in self.finished:
                     self.take()

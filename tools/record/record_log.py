@@ -14,7 +14,7 @@ NUMBER = r"(?:0|[1-9]\d{0,18})"
 TIMER_OWN = {"timer", "idle", "prepare", "check", "async"}
 WATCHERS = {"tcp", "udp", "pipe", "tty", "poll", "signal", "fs_event", "fs_poll", "process"}
 HEAD = re.compile(r"uvt-log 1 (1\.\d{1,4}\.\d{1,4}\S*) (\d{1,9}) (\d{1,9}) (.*)")
-LINE = re.compile(rf"({NUMBER}) ([OBERrPTSCV]) ({NUMBER}) (.*)")
+LINE = re.compile(rf"({NUMBER}) ([OBERrPTFSCV]) ({NUMBER}) (.*)")
 ENDED = re.compile(rf"({NUMBER}) ({NUMBER})")
 ADDRESS = re.compile(r"- A (\d{1,9}) ([0-9a-f]{1,16}) (\S+) (.*)")
 NO_ROOM = "- ! no room"
@@ -31,6 +31,7 @@ WORDS = {
     "r": re.compile("[01]"),
     "P": re.compile(r"-?\d{1,10}"),
     "T": re.compile(NUMBER),
+    "F": re.compile(NUMBER),
     "S": re.compile(rf"{NUMBER} \d{{1,20}}"),
     "C": re.compile(rf"{NUMBER} \d{{1,9}}"),
     "V": re.compile(rf"{NUMBER} \d{{1,9}}"),
@@ -80,6 +81,8 @@ def read_event(text: str, line: int) -> tuple[int, Event] | None:
     if type == "E":
         ended = ENDED.fullmatch(words)
         return (loop, Event(type, now, int(ended[1]), ended[2], line)) if ended else None
+    if type in "FST" and (timed := re.fullmatch(rf"({NUMBER}) (.+)", words)) and WORDS[type].fullmatch(timed[2]):
+        return loop, Event(type, now, int(timed[1]), timed[2], line)
     return (loop, Event(type, now, 0, words, line)) if WORDS[type].fullmatch(words) else None
 
 

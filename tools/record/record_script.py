@@ -100,7 +100,8 @@ class Program:
     def script(self, workers: int, wake: bool) -> list[str]:
         """The whole script. With `wake` a handle more, that stands for what woke the loop and called nobody."""
         slots = self.slots + (1 if wake else 0)
-        lines = [f"workers {workers}"] + ([f"slots {slots}"] if slots > 1024 else [])
+        old = tuple(int(it) for it in self.version.split(".")[:2]) < (1, 45) if self.version else False
+        lines = (["order 1.44"] if old else []) + [f"workers {workers}"] + ([f"slots {slots}"] if slots > 1024 else [])
         lines += [f"var {name}" for name in (["wake"] if wake else []) + self.names]
         lines += ["main init wake async", "main unref wake"] if wake else []
         return lines + [f"main {op}" for op in self.main] + self.body_lines()
@@ -302,6 +303,12 @@ class Maker:
             case "T":
                 if bound := self.bound.get(int(event.words)):
                     self.add(event, "take", name=bound.name)
+            case "F":
+                if bound := self.bound.get(int(event.words)):
+                    self.add(event, "finish", name=bound.name)
+            case "S":
+                if event.clock and (bound := self.bound.get(int(event.words.split(" ")[0]))) and not bound.closing:
+                    self.add(event, "send", name=bound.name)
             case "C":
                 id, place = event.words.split(" ")
                 self.first_callback.setdefault(int(id), int(place))

@@ -297,7 +297,20 @@ WATCH(check)
 INIT(timer)
 CALLBACK(timer)
 OP(uv_timer_stop, uv_timer_t, "stop")
-OP(uv_timer_again, uv_timer_t, "again")
+REAL(uv_timer_again)
+REAL(uv_timer_get_repeat)
+
+/* Of a timer that doesn't repeat libuv changes nothing, and says ok: no op, since here it would stop the timer. */
+int uv_timer_again(uv_timer_t *handle) {
+    if (INSIDE()) return CALL(uv_timer_again)(handle);
+    lock();
+    bool nothing = CALL(uv_timer_get_repeat)(handle) == 0;
+    int answer = REALLY(CALL(uv_timer_again)(handle));
+    if (answer != 0 || !nothing) write_op(find(handle), "again", "", answer);
+    unlock();
+    return answer;
+}
+
 REAL(uv_timer_start)
 REAL(uv_timer_set_repeat)
 

@@ -58,6 +58,10 @@ static void do_work(uv_work_t *request) {
     write_line(object->loop, 'T', "%d", object->id);
     unlock();
     PROGRAM(work(request));
+    lock();
+    object = find(request);
+    if (object) write_line(object->loop, 'F', "%d", object->id);
+    unlock();
 }
 
 /* The callbacks that libuv gets in place of the program's. */
