@@ -13,7 +13,9 @@ import subprocess
 import threading
 from dataclasses import dataclass, field
 from pathlib import Path
-from typing import Iterator
+from typing import BinaryIO, Iterator
+
+from notes import Notes, path_of, read_notes
 
 ROOT = Path(__file__).resolve().parent.parent
 # Whether these are the tools of tools/package, without a repository.
@@ -50,6 +52,8 @@ class Script:
     lines: list[str]
     # the number of its first line in the file: a recording has its version in front
     first: int = 1
+    # what is known of a recording beside its steps
+    notes: Notes = field(default_factory=Notes)
 
     def is_recorded(self) -> bool:
         return self.first > 1
@@ -58,9 +62,19 @@ class Script:
         """The names, in the order of their declarations."""
         return [it.split(" ")[1] for it in self.lines if it.startswith("var ") and it.count(" ") == 1]
 
+    @functools.cached_property
+    def places(self) -> dict[str, list[int]]:
+        """The numbers, from 0, of the lines of each list, in order: those of `main`, of `on NAME`, .."""
+        found: dict[str, list[int]] = {}
+        for at, line in enumerate(self.lines):
+            words = line.split(" ", 2)
+            if len(words) > 1:
+                found.setdefault(words[0] if words[0] == "main" else f"{words[0]} {words[1]}", []).append(at)
+        return found
+
     def numbered(self, first: str) -> list[int]:
-        """The numbers, from 0, of the lines that begin so, in order: the k-th op of `main `, or of `on NAME `."""
-        return [at for at, line in enumerate(self.lines) if line.startswith(first)]
+        """The same of one list: the k-th op of `main`, or of `on NAME`."""
+        return self.places.get(first, [])
 
 
 @dataclass
@@ -102,13 +116,34 @@ def read_text(text: str) -> tuple[Script, list[str]]:
     return Script(lines), []
 
 
+def read_bytes(data: bytes, path: Path | None) -> tuple[Script, list[str]]:
+    """The same, of what a file has, with the notes beside it."""
+    if data.startswith(b"uvt-log "):
+        raise Fault("this is a log of a program, and no recording: `uvt-record --log FILE` makes recordings of it")
+    if data.startswith(b"uvt-notes "):
+        raise Fault("these are the notes of a recording: the recording is the file beside it that ends with .rec")
+    script, steps = read_text(data.decode("ascii", "surrogateescape"))
+    if path and script.is_recorded():
+        script.notes = read_notes(path, data)
+    return script, steps
+
+
 def read_input(path: Path) -> tuple[Script, list[str]]:
     """The same, of a file."""
     try:
-        text = path.read_text(encoding="ascii", errors="surrogateescape")
+        data = path.read_bytes()
     except OSError as fault:
         raise Fault(f"{path}: {fault.strerror}") from None
-    return read_text(text)
+    return read_bytes(data, path)
+
+
+def read_descriptor(file: BinaryIO) -> tuple[Script, list[str]]:
+    """The same, of an input that is open already."""
+    try:
+        data = file.read()
+    except OSError as fault:
+        raise Fault(f"the input can't be read: {fault.strerror}") from None
+    return read_bytes(data, path_of(file.fileno()))
 
 
 @dataclass

@@ -10,7 +10,7 @@ from pathlib import Path
 from typing import Iterator
 
 from conversation import Conversation, Script
-from places import Place, read_place
+from places import Place, next_line, read_place
 from walk import Walk
 from why import Why
 
@@ -75,7 +75,6 @@ class Page:
         self.sections = Lane("loop", "section")
         self.lanes = {it: Lane(it, "name") for it in self.names}
         self.workers: dict[int, Lane] = {}
-        self.numbered: dict[str, list[int]] = {}
         before: dict[int, str] = {}
         for length, rows in enumerate(all_states(walk.script, walk.steps)):
             before = self.see(length, rows, before)
@@ -109,16 +108,8 @@ class Page:
 
     def line_next(self, place: Place) -> int:
         """The script's line that the next step does, from 1, or 0."""
-        if place.callback:
-            first, at = f"{place.callback[0]} {place.callback[1]} ", place.callback[3]
-        elif place.mode is None:
-            first, at = "main ", place.main
-        else:
-            return 0
-        if first not in self.numbered:
-            self.numbered[first] = self.walk.script.numbered(first)
-        lines = self.numbered[first]
-        return lines[at] + 1 if at < len(lines) else 0
+        at = next_line(self.walk.script, place)
+        return 0 if at is None else at + 1
 
     def see_lanes(self, length: int, rows: list[str], place: Place) -> None:
         where = "main" if place.mode is None else place.where.split(" ")[0]

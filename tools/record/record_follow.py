@@ -12,9 +12,11 @@ in three ways:
 
 from __future__ import annotations
 
+import itertools
 from dataclasses import dataclass, field
+from typing import Iterator
 
-from conversation import AT, Conversation, Fault, Recording, Script
+from conversation import Conversation, Script
 from record_log import WATCHERS
 from record_script import Item, Program, is_pool
 
@@ -51,6 +53,8 @@ class Outcome:
     answers: list[str] = field(default_factory=list)
     ends: int = 0
     wakes: int = 0
+    # the sends, takes and finishes that the log has: when any other one happened nobody knows
+    known: set[int] = field(default_factory=set)
 
 
 def section_of(item: Item) -> str:
@@ -87,6 +91,9 @@ class Follower:
         self.senders = {op.split(" ")[1] for op in self.all_ops() if op.startswith("send ")}
         self.afters = [it.name for it in self.items if it.type == "call" and it.list == "after"]
         self.after_at = 0
+        self.last_known = 0
+        # requests whose work begins and ends by a line of its own; what becomes of the others, and when, nobody sees
+        self.seen = {it.name for it in self.items if it.type == "finish"}
 
     def all_ops(self) -> list[str]:
         return self.program.main + [op for body in self.program.bodies.values() for op in body]
@@ -127,6 +134,12 @@ class Follower:
         """Takes steps back."""
         if self.talk.length > length:
             self.talk.ask(f"back {self.talk.length - length}")
+            self.outcome.known = {it for it in self.outcome.known if it <= length} if self.last_known > length else self.outcome.known
+
+    def know(self) -> None:
+        """The last step is one that the log has."""
+        self.last_known = self.talk.length
+        self.outcome.known.add(self.last_known)
 
     # ---- steps
 
@@ -225,7 +238,7 @@ class Follower:
     def group(self, at: int) -> list[Item]:
         """The callbacks of this poll, from this item on, that the loop calls in this order in one iteration."""
         first, chosen, last, places = self.items[at], [], -1, None
-        for item in self.items[at:]:
+        for item in (self.items[it] for it in range(at, len(self.items))):
             if item.type in ("poll", "run", "end"):
                 break
             if item.type != "call":
@@ -250,13 +263,22 @@ class Follower:
         busy = set(self.taken.values())
         worker = next((it for it in range(self.workers) if it not in busy), None)
         if worker is None:
-            name = next((it for it in self.afters[self.after_at :] if it in self.taken), next(iter(self.taken)))
+            name = self.next_through()
             worker = self.taken[name]
             self.finish(name)
         line = self.ask([f"take {worker}"])[0]
         if not line.startswith("out take "):
             raise Stopped(f"has no request that waits (`{line}`)")
         self.taken[line.split(" ")[3]] = worker
+
+    def coming(self) -> Iterator[str]:
+        """The requests whose after callbacks come, in their order."""
+        return (self.afters[at] for at in range(self.after_at, len(self.afters)))
+
+    def next_through(self) -> str:
+        """Whose worker is free first: of those whose end nobody sees the one that calls back first."""
+        return next((it for it in self.coming() if it in self.taken and (it not in self.seen or it in self.ready)),
+                    next((it for it in self.coming() if it in self.taken), next(iter(self.taken))))
 
     def finish(self, name: str) -> None:
         """The request is through; those that waited longer are taken before it."""
@@ -271,9 +293,9 @@ class Follower:
     def before_cancel(self, item: Item) -> None:
         """A cancel that succeeds puts its request behind those that are done: so they have to be. One that fails comes behind its take."""
         name = item.text.split(" ")[1]
-        coming = self.afters[self.after_at :]
         if item.answer == "ok":
-            for other in coming[: coming.index(name)] if name in coming else []:
+            before = list(itertools.takewhile(lambda it: it != name, self.coming()))
+            for other in before if len(before) < len(self.afters) - self.after_at else []:
                 if other in self.taken:
                     self.finish(other)
             self.finished.add(name)
@@ -363,17 +385,26 @@ class Follower:
                 self.tick_within(item, at)
                 self.senders.add(item.name)
                 self.ask([f"send {item.name}"])
+                self.know()
             case "finish":
                 self.flush()
                 self.tick_within(item, at)
-                self.ready.add(item.name)
-                while (name := next((it for it in self.afters[self.after_at :] if it not in self.finished), None)) in self.ready:
-                    self.finish(name)
+                self.do_finish(item)
             case "take":
                 self.tick_within(item, at)
                 self.flush()
                 while item.name not in self.taken and item.name not in self.finished:
                     self.take()
+                    if item.name in self.taken:
+                        self.know()
+
+    def do_finish(self, item: Item) -> None:
+        """Work is through. Its step comes behind those of the requests that call back before it."""
+        self.ready.add(item.name)
+        while (name := next((it for it in self.coming() if it not in self.finished), None)) in self.ready:
+            self.finish(name)
+            if name == item.name:
+                self.know()
 
     def follow(self) -> Outcome:
         """Goes along all items, or up to where the loop does something else."""

@@ -14,8 +14,9 @@ NUMBER = r"(?:0|[1-9]\d{0,18})"
 TIMER_OWN = {"timer", "idle", "prepare", "check", "async"}
 WATCHERS = {"tcp", "udp", "pipe", "tty", "poll", "signal", "fs_event", "fs_poll", "process"}
 HEAD = re.compile(r"uvt-log 1 (1\.\d{1,4}\.\d{1,4}\S*) (\d{1,9}) (\d{1,9}) (.*)")
-LINE = re.compile(rf"({NUMBER}) ([OBERrPTFSCV]) ({NUMBER}) (.*)")
+LINE = re.compile(rf"({NUMBER}) ([OBERrPTFSCVW]) ({NUMBER}) (.*)")
 ENDED = re.compile(rf"({NUMBER}) ({NUMBER})")
+TIMED = re.compile(rf"({NUMBER}) (.+)")
 ADDRESS = re.compile(r"- A (\d{1,9}) ([0-9a-f]{1,16}) (\S+) (.*)")
 NO_ROOM = "- ! no room"
 CODE = r"(?:ok|E[A-Z0-9_]+)"
@@ -33,8 +34,9 @@ WORDS = {
     "T": re.compile(NUMBER),
     "F": re.compile(NUMBER),
     "S": re.compile(rf"{NUMBER} \d{{1,20}}"),
-    "C": re.compile(rf"{NUMBER} \d{{1,9}}"),
-    "V": re.compile(rf"{NUMBER} \d{{1,9}}"),
+    "C": re.compile(rf"{NUMBER} \d{{1,9}}(?: [a-z_]+)?"),
+    "V": re.compile(rf"{NUMBER} \d{{1,9}}(?: \d{{1,9}})?"),
+    "W": re.compile(rf"(?:-1|{NUMBER}) \d{{1,20}} uv_[a-z_0-9]+"),
 }
 
 
@@ -43,7 +45,7 @@ class Event:
     """A line of a loop."""
 
     type: str
-    # the loop's time; and of a callback's end the clock: in ms since the loop was first seen
+    # the loop's time; and of the end of a callback, of work's beginning and end, and of a send the clock: in ms since the loop was first seen
     now: int
     clock: int
     words: str
@@ -55,9 +57,21 @@ class Address:
     """A place in a program's file: of a static handle, or of a callback."""
 
     offset: int
-    # `-` where nobody knows it
+    # `-` where nobody knows it; `NAME+OFFSET/SIZE` within a variable, `NAME@FILE:LINE` of a function with debug information
     symbol: str
     file: str
+
+    def name(self) -> str:
+        return re.split(r"[+@]", self.symbol)[0]
+
+    def source(self) -> str:
+        """Where a function's source stands, `` where nobody knows."""
+        return self.symbol.partition("@")[2]
+
+    def within(self) -> tuple[int, int]:
+        """How far behind a variable's start it lies, and how large that is; (0, 0) where the log doesn't say."""
+        found = re.fullmatch(r".*\+(\d+)/(\d+)", self.symbol)
+        return (int(found[1]), int(found[2])) if found else (0, 0)
 
 
 @dataclass
@@ -81,7 +95,8 @@ def read_event(text: str, line: int) -> tuple[int, Event] | None:
     if type == "E":
         ended = ENDED.fullmatch(words)
         return (loop, Event(type, now, int(ended[1]), ended[2], line)) if ended else None
-    if type in "FST" and (timed := re.fullmatch(rf"({NUMBER}) (.+)", words)) and WORDS[type].fullmatch(timed[2]):
+    if type in "FST" and (timed := TIMED.fullmatch(words)) and WORDS[type].fullmatch(timed[2]):
+        # (logs of earlier recorders have no clock there)
         return loop, Event(type, now, int(timed[1]), timed[2], line)
     return (loop, Event(type, now, 0, words, line)) if WORDS[type].fullmatch(words) else None
 

@@ -2,6 +2,7 @@
 
 from __future__ import annotations
 
+import collections
 import os
 import re
 import shutil
@@ -13,6 +14,7 @@ from dataclasses import dataclass
 from pathlib import Path
 
 from conversation import INSTALLED, OUT, Fault, built_program
+from notes import Notes
 from record_differences import PAGE, heading_of, says
 from record_follow import CALLS, MANY_WORKERS, Follower, NeedsWake, Outcome
 from record_log import Log, read_log
@@ -21,6 +23,8 @@ from record_script import Program, program_of
 
 RECORDER = Path(__file__).resolve().parent / "recorder"
 BUILT = OUT / "recorder" / "recorder.so"
+
+
 def write(path: Path, data: bytes) -> None:
     """Writes a file whole, or leaves what was there."""
     part = path.with_name(path.name + ".part")
@@ -91,6 +95,64 @@ def make(log: Log, loop: int) -> Made | None:
 # ---- what is said of it
 
 
+def where_it_stops(made: Made) -> str:
+    """What the program did where the recording stops, and what the loop would do, in a sentence; `` where it goes all the way."""
+    if not made.outcome.why:
+        return made.program.stopped
+    item = made.outcome.item
+    return f"{says(item)}, and the loop {made.outcome.why}: {PAGE}, `{heading_of(made.program, made.outcome)}`"
+
+
+def part_of(made: Made, note: str) -> str:
+    """Why a recording is only a beginning, or a part of its program, in a sentence; `` where it is all of it."""
+    outcome, stops = made.outcome, where_it_stops(made)
+    if outcome.why:
+        return f"it has the first {outcome.callbacks} of {outcome.of} callbacks, up to line {outcome.item.line} of the log; there {stops}"
+    return stops or note
+
+
+OPS = re.compile(r"(on|after|closed) (\S+) (?:@(\d+) )?")
+
+
+def foreign_lines(made: Made) -> dict[int, str]:
+    """The lines of the recording that another thread than the loop's did."""
+    if not made.program.foreign_ops:
+        return {}
+    found, counts = {}, collections.Counter()
+    for number, line in enumerate(made.outcome.recording, 1):
+        if line == "begin":
+            break
+        if op := OPS.match(line):
+            key = op[1], op[2], int(op[3] or 0)
+            if function := made.program.foreign_ops.get((*key, counts[key])):
+                found[number] = function
+            counts[key] += 1
+    return found
+
+
+def notes_of(made: Made, note: str) -> Notes:
+    """What is known of a recording beside its steps."""
+    steps = made.outcome.recording[made.outcome.recording.index("begin") + 1 : made.outcome.recording.index("calls")]
+    outside = {at for at, it in enumerate(steps, 1) if it.split(" ")[0] in ("send", "take", "finish")}
+    return Notes(
+        part_of(made, note), {it.name: (it.kind, it.text) for it in made.program.origins}, made.program.functions,
+        outside - made.outcome.known, foreign_lines(made),
+    )
+
+
+def by_other_threads(program: Program) -> list[str]:
+    """Loud: what libuv forbids. (Of one function and name a line.)"""
+    found: dict[tuple[str, str], list[int]] = {}
+    for it in program.foreign:
+        found.setdefault((it.function, it.name), []).append(it.line)
+    return [
+        f"WRONG THREAD: {function} of {name or 'the loop'} by another thread while the loop runs"
+        + f" (line {lines[0]} of the log{f', and {len(lines) - 1} times more' if len(lines) > 1 else ''}):"
+        + " libuv allows other threads uv_async_send alone"
+        for (function, name), lines in found.items()
+    ]
+
+
 def told(made: Made, loop: int, path: Path, note: str) -> list[str]:
     """What is said of a loop: how far its recording goes, and the command that opens it."""
     outcome, program = made.outcome, made.program
@@ -98,14 +160,10 @@ def told(made: Made, loop: int, path: Path, note: str) -> list[str]:
     if made.verdict != "same" or not made.agrees:
         return [head + f"uvt replay says `{made.verdict}`" + ("" if made.agrees else ", and its callbacks aren't those of the log")]
     if outcome.why:
-        item = outcome.item
-        lines = [
-            head + f"same up to line {item.line} of the log",
-            f"    there {says(item)}, and the loop {outcome.why}: {PAGE}, `{heading_of(program, outcome)}`",
-        ]
+        lines = [head + f"same up to line {outcome.item.line} of the log", f"    there {where_it_stops(made)}"]
     else:
         lines = [head + "same"]
-    lines += [f"    {it}" for it in (program.stopped, note) if it]
+    lines += [f"    {it}" for it in (program.stopped, note, *by_other_threads(program)) if it]
     if outcome.answers:
         lines.append(f"    {len(outcome.answers)} answers differ, first: {outcome.answers[0]}")
     if outcome.ends:
@@ -120,16 +178,14 @@ def from_data(data: bytes, log: Log, name: str) -> tuple[list[str], bool]:
     """Makes the recordings of a log, and writes them. Answers what is to be said, and whether all go all the way."""
     made = [(loop, it) for loop in sorted(log.loops) if (it := make(log, loop))]
     lines, whole = [], True
-    names = []
     for loop, it in made:
         path = Path(f"{name}.rec" if len(made) == 1 else f"{name}.{loop}.rec")
-        write(path, ("\n".join(it.outcome.recording) + "\n").encode())
+        recording = ("\n".join(it.outcome.recording) + "\n").encode()
+        write(path, recording)
+        write(path.with_suffix(".notes"), notes_of(it, log.note).text(recording).encode())
         lines += told(it, loop, path, log.note)
         whole &= it.is_whole()
-        names += [f"loop {loop}"] + [f"{origin.name}: {origin.text}" for origin in it.program.origins]
-    if made:
-        write(Path(f"{name}.names"), ("\n".join(names) + "\n").encode())
-    else:
+    if not made:
         lines.append(f"no loop with callbacks in {log.lines} lines of the log" + (f": {log.note}" if log.note else ""))
         whole = False
     return lines, whole and not log.note

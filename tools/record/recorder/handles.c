@@ -17,6 +17,8 @@ REAL(uv_unref)
 REAL(uv_is_closing)
 REAL(uv_is_active)
 REAL(uv_has_ref)
+REAL(uv_handle_size)
+REAL(uv_handle_get_type)
 
 /* ---- what callbacks and watchers have in common */
 
@@ -49,7 +51,9 @@ void leave(struct loop *loop, void *handle, int id) {
 struct object *made(uv_loop_t *uv, void *handle, const char *kind, bool watcher) {
     struct object *object = put(loop_of(uv), handle);
     if (!object) return NULL;
+    note_thread(object->loop, object->id);
     object->watcher = watcher;
+    object->size = (int)CALL(uv_handle_size)(CALL(uv_handle_get_type)(handle));
     write_line(object->loop, 'O', "init %%%d %s = ok", object->id, kind);
     name_place(object);
     settle(object);
@@ -144,6 +148,7 @@ void uv_stop(uv_loop_t *uv) {
     if (from_libuv) return;
     lock();
     struct loop *loop = loop_of(uv);
+    if (loop) note_thread(loop, -1);
     if (loop) write_line(loop, 'O', "stoploop = ok");
     unlock();
 }
@@ -154,6 +159,7 @@ void uv_update_time(uv_loop_t *uv) {
     if (from_libuv) return;
     lock();
     struct loop *loop = loop_of(uv);
+    if (loop) note_thread(loop, -1);
     if (loop) write_line(loop, 'O', "updatetime = ok");
     unlock();
 }
@@ -194,10 +200,10 @@ static void on_closed(uv_handle_t *handle) {
 
 void uv_close(uv_handle_t *handle, uv_close_cb callback) {
     lock();
-    struct object *object = INSIDE() ? NULL : find(handle);
+    struct object *object = INSIDE() ? NULL : asked(handle);
     if (object) {
         object->closed = callback;
-        name_callback(object, (void *)callback);
+        name_callback(object, (void *)callback, CLOSED, "closed");
         write_op(object, "close", "", 0);
     }
     unlock();
@@ -209,7 +215,7 @@ void uv_close(uv_handle_t *handle, uv_close_cb callback) {
 REAL(uv_tcp_close_reset)
 int uv_tcp_close_reset(uv_tcp_t *handle, uv_close_cb callback) {
     struct object *object;
-    if (INSIDE() || !(object = find(handle))) return CALL(uv_tcp_close_reset)(handle, callback);
+    if (INSIDE() || !(object = asked(handle))) return CALL(uv_tcp_close_reset)(handle, callback);
     lock();
     object->closed = callback;
     int answer = REALLY(CALL(uv_tcp_close_reset)(handle, on_closed));
@@ -220,7 +226,7 @@ int uv_tcp_close_reset(uv_tcp_t *handle, uv_close_cb callback) {
 
 static void referenced(uv_handle_t *handle, const char *word) {
     lock();
-    struct object *object = find(handle);
+    struct object *object = asked(handle);
     if (object && object->watcher) settle(object);
     else write_op(object, word, "", 0);
     unlock();
@@ -266,7 +272,7 @@ void uv_unref(uv_handle_t *handle) {
         if (INSIDE()) return CALL(NAME)(handle);                      \
         lock();                                                       \
         int answer = REALLY(CALL(NAME)(handle));                      \
-        write_op(find(handle), WORD, "", answer);                     \
+        write_op(asked(handle), WORD, "", answer);                     \
         unlock();                                                     \
         return answer;                                                \
     }
@@ -278,11 +284,11 @@ void uv_unref(uv_handle_t *handle) {
     REAL(uv_##KIND##_start)                                                   \
     int uv_##KIND##_start(uv_##KIND##_t *handle, uv_##KIND##_cb callback) {   \
         struct object *object;                                                \
-        if (INSIDE() || !callback || !(object = find(handle)))                \
+        if (INSIDE() || !callback || !(object = asked(handle)))               \
             return CALL(uv_##KIND##_start)(handle, callback);                 \
         lock();                                                               \
         if (!CALL(uv_is_active)((uv_handle_t *)handle)) object->callback = (void *)callback; \
-        name_callback(object, (void *)callback);                              \
+        name_callback(object, (void *)callback, OWN, #KIND);                  \
         int answer = REALLY(CALL(uv_##KIND##_start)(handle, on_##KIND));      \
         write_op(object, "start", "", answer);                                \
         unlock();                                                             \
@@ -306,7 +312,7 @@ int uv_timer_again(uv_timer_t *handle) {
     lock();
     bool nothing = CALL(uv_timer_get_repeat)(handle) == 0;
     int answer = REALLY(CALL(uv_timer_again)(handle));
-    if (answer != 0 || !nothing) write_op(find(handle), "again", "", answer);
+    if (answer != 0 || !nothing) write_op(asked(handle), "again", "", answer);
     unlock();
     return answer;
 }
@@ -316,13 +322,13 @@ REAL(uv_timer_set_repeat)
 
 int uv_timer_start(uv_timer_t *handle, uv_timer_cb callback, uint64_t timeout, uint64_t repeat) {
     struct object *object;
-    if (INSIDE() || !callback || !(object = find(handle))) return CALL(uv_timer_start)(handle, callback, timeout, repeat);
+    if (INSIDE() || !callback || !(object = asked(handle))) return CALL(uv_timer_start)(handle, callback, timeout, repeat);
     char words[64];
     snprintf(words, sizeof words, " %llu %llu", (unsigned long long)timeout, (unsigned long long)repeat);
     lock();
     int answer = REALLY(CALL(uv_timer_start)(handle, on_timer, timeout, repeat));
     if (answer == 0) object->callback = (void *)callback;
-    name_callback(object, (void *)callback);
+    name_callback(object, (void *)callback, OWN, "timer");
     write_op(object, "start", words, answer);
     unlock();
     return answer;
@@ -335,7 +341,7 @@ void uv_timer_set_repeat(uv_timer_t *handle, uint64_t repeat) {
     if (from_libuv) return;
     snprintf(words, sizeof words, " %llu", (unsigned long long)repeat);
     lock();
-    write_op(find(handle), "repeat", words, 0);
+    write_op(asked(handle), "repeat", words, 0);
     unlock();
 }
 
@@ -351,7 +357,7 @@ int uv_async_init(uv_loop_t *uv, uv_async_t *handle, uv_async_cb callback) {
     int answer = REALLY(CALL(uv_async_init)(uv, handle, on_async));
     struct object *object = answer == 0 ? made(uv, handle, "async", false) : NULL;
     if (object) object->callback = (void *)callback;
-    name_callback(object, (void *)callback);
+    name_callback(object, (void *)callback, OWN, "async");
     unlock();
     return answer;
 }

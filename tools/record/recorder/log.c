@@ -21,6 +21,7 @@ enum { WINDOW = 1 << 20, NOTE = 64, LINE = 4096 };
 
 bool off = true;
 __thread int inside;
+__thread const char *called;
 static __thread int locked;
 static pthread_mutex_t mutex = PTHREAD_RECURSIVE_MUTEX_INITIALIZER_NP;
 static char prefix[3072];
@@ -235,6 +236,12 @@ void *real(const char *name, void **kept) {
 bool is_from_libuv(const void *caller) {
     uintptr_t at = (uintptr_t)caller;
     return off || inside > 0 || (at >= text_from && at < text_to);
+}
+
+bool is_inside(const void *caller, const char *function) {
+    if (is_from_libuv(caller)) return true;
+    called = function;
+    return false;
 }
 
 /* ---- the process */
