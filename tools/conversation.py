@@ -333,6 +333,10 @@ class Conversation:
         away = length - self.length
         move = f"forward {away}" if away > 0 else f"back {-away}"
         self.send(f"{move}\nstate\n")
+        return self.read_state_behind(move)
+
+    def read_state_behind(self, move: str) -> State:
+        """The answer to a move, and the state behind it."""
         said = self.read_line()
         # (the line `done-yet` is a state's last one)
         lines = [self.read_line()]
@@ -342,6 +346,18 @@ class Conversation:
             raise Fault(f"the program answers `{said}` to `{move}`")
         self.length = int(at[1])
         return read_state(lines)
+
+    def states_at(self, lengths: list[int]) -> Iterator[State]:
+        """The same of many, asked all at once. All have to be read."""
+        moves, here = [], self.length
+        for length in lengths:
+            moves.append(f"forward {length - here}" if length > here else f"back {here - length}")
+            here = length
+        writer = threading.Thread(target=self.send_quietly, args=("".join(f"{it}\nstate\n" for it in moves),), daemon=True)
+        writer.start()
+        for move in moves:
+            yield self.read_state_behind(move)
+        writer.join()
 
     def trace(self) -> list[str]:
         return self.ask("trace")

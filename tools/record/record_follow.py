@@ -346,7 +346,8 @@ class Follower:
 
     def tick_within(self, item: Item, at: int) -> None:
         """The clock goes on to where it was as something came from outside, if nothing before that looks at it."""
-        later = (it for it in self.items[at + 1 : at + FAR] if it.type in ("call", "poll", "run", "end", "done"))
+        # (a run that begins has its time of before: the first that looks is in it)
+        later = (it for it in self.items[at + 1 : at + FAR] if it.type in ("call", "poll", "end", "done") or it.text == "updatetime")
         next_one = next(later, None)
         if next_one is not None and item.clock:
             self.tick_to(min(item.clock, next_one.clock if next_one.type == "done" else next_one.now))
