@@ -1,7 +1,7 @@
 """What is known of a recording of a program beside its steps: NAME.notes, which tools/uvt-record writes beside NAME.rec.
 
-A line each: what a name stands for, which functions its callbacks are, which steps from outside nobody saw, which ops another thread
-did, and whether the recording is only a beginning. The first line has the recording's digest: of another one the notes say nothing.
+A line each: what a name stands for, which functions its callbacks are, which steps from outside nobody saw, which ticks are no
+callback's, which ops another thread did, and whether the recording is only a beginning. The first line has the recording's digest: of another one the notes say nothing.
 """
 
 from __future__ import annotations
@@ -31,6 +31,10 @@ class Notes:
     guessed: set[int] = field(default_factory=set)
     # the lines of the recording, from 1, that another thread than the loop's did, each with its function
     foreign: dict[int, str] = field(default_factory=dict)
+    # the ticks of time that went by when no callback was under way
+    outside: set[int] = field(default_factory=set)
+    # of a take or a finish the clock, where that was another one than at its step
+    times: dict[int, int] = field(default_factory=dict)
 
     def function(self, list: str, name: str, call: int) -> str:
         """Which function that call is, `` where nobody knows."""
@@ -49,8 +53,10 @@ class Notes:
             for list in ("work", "on", "after", "closed"):
                 lines += [f"calls {list} {name} {call} {text}" for call, text in self.functions.get((list, name), [])]
         lines += [f"thread {line} {function}" for line, function in sorted(self.foreign.items())]
-        steps = sorted(self.guessed)
-        lines += ["unseen " + " ".join(map(str, steps[at : at + IN_A_LINE])) for at in range(0, len(steps), IN_A_LINE)]
+        lines += [f"clock {step} {clock}" for step, clock in sorted(self.times.items())]
+        for word, found in (("unseen", self.guessed), ("outside", self.outside)):
+            steps = sorted(found)
+            lines += [f"{word} " + " ".join(map(str, steps[at : at + IN_A_LINE])) for at in range(0, len(steps), IN_A_LINE)]
         return "\n".join(lines) + "\n"
 
 
@@ -67,8 +73,12 @@ def take(notes: Notes, line: str) -> None:
                 notes.functions.setdefault((words[1], words[2]), []).append((int(words[3]), " ".join(words[4:])))
             case "thread":
                 notes.foreign[int(words[1])] = words[2]
+            case "clock":
+                notes.times[int(words[1])] = int(words[2])
             case "unseen":
                 notes.guessed.update(int(it) for it in words[1:])
+            case "outside":
+                notes.outside.update(int(it) for it in words[1:])
     except (IndexError, ValueError):
         pass
 

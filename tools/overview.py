@@ -103,17 +103,17 @@ class Overview:
             return "cancelled"
         if wait.finished in walk.notes.guessed or wait.taken[0] in walk.notes.guessed:
             full = walk.pool.full_between(wait.asked, wait.ended)
-            known = sum(walk.clock(it.last) - walk.clock(it.first) for it in full)
+            known = sum(walk.happened(it.last) - walk.happened(it.first) for it in full)
             return f"for {known} ms each worker had other work" if known else "when a worker took it and was through nobody knows"
-        waited = walk.clock(wait.taken[0]) - walk.clock(wait.asked)
-        ran = walk.clock(wait.finished) - walk.clock(wait.taken[0])
+        waited = walk.happened(wait.taken[0]) - walk.clock(wait.asked)
+        ran = walk.happened(wait.finished) - walk.happened(wait.taken[0])
         return f"{waited} ms it waited for a worker, {ran} ms it ran, {late.took - waited - ran} ms it waited for the loop"
 
     # ---- the rest
 
     def full(self) -> list[str]:
-        kept = sorted(self.walk.pool.fulls, key=lambda it: self.walk.clock(it.last) - self.walk.clock(it.first), reverse=True)
-        rows = [(self.walk.clock(it.first), self.walk.clock(it.last), it) for it in kept[:LINES]]
+        kept = sorted(self.walk.pool.fulls, key=lambda it: self.walk.happened(it.last) - self.walk.happened(it.first), reverse=True)
+        rows = [(self.walk.happened(it.first), self.walk.happened(it.last), it) for it in kept[:LINES]]
         return [f"{end - begin} ms: from {begin} to {end} ms, from step {it.first} to {it.last}: {few(it.names)}" for begin, end, it in rows if end > begin]
 
     def alive(self) -> list[str]:

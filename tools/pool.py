@@ -63,7 +63,7 @@ class Pool:
 
     def keep(self, first: int, last: int, names: list[str]) -> None:
         """(Where one follows another at once it is the same time.)"""
-        if self.fulls and self.walk.clock(self.fulls[-1].last) == self.walk.clock(first):
+        if self.fulls and self.walk.happened(self.fulls[-1].last) == self.walk.happened(first):
             self.fulls[-1].last = last
             self.fulls[-1].names += [it for it in names if it not in self.fulls[-1].names]
         else:
@@ -77,7 +77,7 @@ class Pool:
             if it.first >= last:
                 break
             begin, end = max(it.first, first), min(it.last, last)
-            if begin < end and self.walk.clock(end) > self.walk.clock(begin):
+            if begin < end and self.walk.happened(end) > self.walk.happened(begin):
                 found.append(Full(begin, end, it.names))
         return found
 

@@ -114,6 +114,10 @@ class Walk:
     def clock(self, length: int) -> int:
         return self.clocks[length]
 
+    def happened(self, step: int) -> int:
+        """The clock where a take or a finish happened, by the notes where these know better than the step."""
+        return self.notes.times.get(step, self.clocks[step])
+
     def place(self, length: int) -> Place:
         return read_place(self.state(length).place)
 
@@ -154,7 +158,9 @@ class Walk:
             took.last = max(took.last, self.last_op.get(took.first, 0))
 
     def note_tick(self, step: int, first: int, poll: int, runs: bool) -> None:
-        if first:
+        if first and step in self.notes.outside:
+            new = Took("the loop, between two callbacks", step, step)
+        elif first:
             kind, name, call = self.calls[first]
             new = Took(f"{WORDS[kind]} of {name}", first, step, function=self.notes.function(kind, name, call))
         elif not runs:

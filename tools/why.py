@@ -140,7 +140,9 @@ class Why:
         return [f"step {wait.ended}, {CALLS[kind]} {wait.call}: {causes}", *(f"    {it}" for it in details)]
 
     def asked(self, wait: Wait) -> str:
-        """Who asked for it, and when."""
+        """Who asked for it, and when. (What nobody saw come is put where it needs to be.)"""
+        if wait.what == "async" and wait.asked in self.notes.guessed:
+            return f"in the recording that is the send at step {wait.asked}"
         line = self.walk.lines[wait.asked]
         state = self.walk.state(wait.asked)
         now, clock = state.numbers["now"], state.numbers["clock"]
@@ -159,12 +161,12 @@ class Why:
 
     def delay(self, begin: int, end: int) -> str:
         """Where the clock went on between two times of it."""
-        found = []
-        for took in self.walk.causes(begin, end):
-            found += [self.in_poll(took, begin, end)] if took.is_poll() and begin < end else [told(took)]
+        found, causes = [], self.walk.causes(begin, end)
+        for took in causes:
+            found.append(self.in_poll(took, begin, end, causes) if took.is_poll() and begin < end else told(took))
         return "; ".join(found)
 
-    def in_poll(self, took: Took, begin: int, end: int) -> str:
+    def in_poll(self, took: Took, begin: int, end: int, told_already: list[Took]) -> str:
         """A poll waits as long as it is asked to, reckoned from the loop's time. Where the clock was farther then, who made it so is why it
         ends so much later."""
         state = self.walk.state(took.first)
@@ -182,7 +184,8 @@ class Why:
             return f"{told(took)}, where it was to end at {until} ms"
         rest = left - until - (clock - now)
         more = f", and {rest} ms more" if rest > 1 else ""
-        return (f"{'; '.join(told(it) for it in before)}; so the loop's time was {now} ms still as its poll began at {clock} ms,"
+        causes = [f"{told(it)}; " for it in before if it not in told_already]
+        return (f"{''.join(causes)}so the loop's time was {now} ms still as its poll began at {clock} ms,"
                 f" at step {took.first}, and it ended at {left} ms in place of {until} ms{more}")
 
     def timer(self, wait: Wait) -> tuple[str, list[str]]:
@@ -220,7 +223,7 @@ class Why:
         return f"in the section `{wait.what}` that began at step {self.walk.last_line((wait.what,), wait.ended)}", details
 
     def between(self, wait: Wait, first: int) -> str:
-        begin, end = self.walk.clock(first), self.walk.clock(wait.ended)
+        begin, end = self.walk.happened(first), self.walk.clock(wait.ended)
         return f"{end - begin} ms later: {self.delay(begin, end)}" if end > begin else "in the same millisecond"
 
     def unseen(self, wait: Wait) -> tuple[str, list[str]]:
@@ -250,7 +253,7 @@ class Why:
 
     def sent(self, wait: Wait) -> tuple[str, list[str]]:
         sends = [wait.asked, *wait.more]
-        if wait.asked in self.notes.guessed:
+        if wait.asked in self.notes.guessed and len(sends) == 1:
             return self.unseen(wait)
         if wait.more:
             return f"{len(sends)} sends, and one call: those at {steps_of(sends)}", [self.between(wait, wait.asked)]
@@ -280,7 +283,7 @@ class Why:
         kind = self.notes.kind(self.name)
         details = [] if wait.taken[0] in self.notes.guessed else [self.waited(wait)]
         for it in self.walk.pool.full_between(wait.asked, wait.ended):
-            ends = self.walk.clock(it.last) - max(self.walk.clock(it.first), self.walk.clock(wait.asked))
+            ends = self.walk.happened(it.last) - max(self.walk.happened(it.first), self.walk.clock(wait.asked))
             details.append(f"for {ends} ms of them each worker had other work, from step {it.first} to {it.last}: {few(it.names)}")
         blocked = [it for it in self.walk.causes(self.walk.clock(wait.asked), self.walk.clock(wait.ended)) if not it.is_poll()]
         if blocked:
@@ -292,7 +295,7 @@ class Why:
         step, worker = wait.taken
         state = self.walk.state(wait.asked)
         before = self.before(state.lists["waiting"])
-        away = self.walk.clock(step) - self.walk.clock(wait.asked)
+        away = self.walk.happened(step) - self.walk.clock(wait.asked)
         had = self.walk.pool.names_between(wait.asked, step) if away else []
         behind = (f": the workers had {few(had)}" if had else "") + (f", behind {few(before)}" if before else "")
         took = f"worker {worker} took it at step {step}"
@@ -306,7 +309,7 @@ class Why:
         called = f", {function}," if function else ""
         if step in self.notes.guessed:
             return f"it was through at step {wait.finished}"
-        return f"worker {worker} ran it{called} from step {step} to {wait.finished}, {self.walk.clock(wait.finished) - self.walk.clock(step)} ms"
+        return f"worker {worker} ran it{called} from step {step} to {wait.finished}, {self.walk.happened(wait.finished) - self.walk.happened(step)} ms"
 
     def handed(self, wait: Wait) -> str:
         before = self.before(self.walk.state(wait.finished).lists["done"])

@@ -73,14 +73,15 @@ def callbacks(log: Path, loop: int) -> list[tuple[str, str]]:
     watchers, found, depth, closing, over = set(), [], 0, set(), False
     for line in log.read_text().splitlines()[1:]:
         words = line.split(" ")
-        if words[0] != str(loop) or words[1] in "CVST":
+        if words[0] != str(loop) or words[1] in "CVSTFW":
             continue
         if words[1] == "O" and words[3] == "init" and words[5] not in ("timer", "idle", "prepare", "check", "async"):
             watchers.add(words[4][1:])
         if words[1] == "O" and words[3] == "close":
             closing.add(words[4][1:])
         if words[1] == "B":
-            begun = (words[3], words[4])
+            # (between the loop's time and the callback stands the clock, but in logs of earlier recorders)
+            begun = tuple(words[4:6] if words[3].isdecimal() else words[3:5])
             if begun[0] == "on" and begun[1] in watchers & closing:
                 begun = ("closed", begun[1])
             again = over and begun == found[-1] and begun[0] == "on" and begun[1] in watchers

@@ -25,6 +25,8 @@ FAR = 40
 MANY_WORKERS = 64
 PATIENCE = 5000
 CALLS = {"on": "call", "after": "after", "closed": "closed"}
+# In place of an item: of a tick when no callback is under way.
+OUTSIDE = Item("", 0, 0, 0)
 
 
 class Stopped(Exception):
@@ -55,6 +57,10 @@ class Outcome:
     wakes: int = 0
     # the sends, takes and finishes that the log has: when any other one happened nobody knows
     known: set[int] = field(default_factory=set)
+    # of these the clock, where it was another one than at their step
+    times: dict[int, int] = field(default_factory=dict)
+    # the ticks of time that went by when no callback of the program was under way
+    outside: set[int] = field(default_factory=set)
 
 
 def section_of(item: Item) -> str:
@@ -80,18 +86,21 @@ class Follower:
         self.talk = Conversation(Script(program.script(workers, wake)), command)
         # commands that are asked with the next one, each with what its answer begins with
         self.queue: list[tuple[str, str, Item | None]] = []
+        # is a callback of the program under way, by the log?
+        self.in_call = False
         self.where, self.clock = "main", 0
         self.at = 0
         # how many steps stood, and which item came next, when all was as in the log
         self.kept, self.kept_at = 0, 0
         self.taken: dict[str, int] = {}
         self.finished: set[str] = set()
-        self.ready: set[str] = set()
+        # of a request the step at which it was taken; and the clock where its work was through
+        self.taken_at: dict[str, int] = {}
+        self.ready: dict[str, int] = {}
         self.outcome = Outcome([], 0, program.callbacks(), 0)
         self.senders = {op.split(" ")[1] for op in self.all_ops() if op.startswith("send ")}
         self.afters = [it.name for it in self.items if it.type == "call" and it.list == "after"]
         self.after_at = 0
-        self.last_known = 0
         # requests whose work begins and ends by a line of its own; what becomes of the others, and when, nobody sees
         self.seen = {it.name for it in self.items if it.type == "finish"}
 
@@ -114,11 +123,13 @@ class Follower:
             lengths.append(self.talk.length)
         for (command, wanted, item), answer, length in zip(waiting, answers, lengths):
             if not answer.startswith(wanted):
-                self.at = self.kept_at if item is None else self.items.index(item)
+                self.at = self.kept_at if item is None or item is OUTSIDE else self.items.index(item)
                 raise Stopped(f"has `{answer}` there" if answer else "has a step without a line there")
-            if item is not None:
+            if item is not None and item is not OUTSIDE:
                 self.compare(item, answer[len(wanted) :])
             self.kept = length
+            if command.startswith("tick ") and item is OUTSIDE:
+                self.outcome.outside.add(length)
         return answers[len(waiting) :]
 
     def compare(self, item: Item, answer: str) -> None:
@@ -133,19 +144,21 @@ class Follower:
     def move(self, length: int) -> None:
         """Takes steps back."""
         if self.talk.length > length:
+            self.outcome.known.difference_update(range(length + 1, self.talk.length + 1))
+            self.outcome.outside.difference_update(range(length + 1, self.talk.length + 1))
             self.talk.ask(f"back {self.talk.length - length}")
-            self.outcome.known = {it for it in self.outcome.known if it <= length} if self.last_known > length else self.outcome.known
 
-    def know(self) -> None:
-        """The last step is one that the log has."""
-        self.last_known = self.talk.length
-        self.outcome.known.add(self.last_known)
+    def know(self, step: int, clock: int) -> None:
+        """This step is one that the log has, by this clock."""
+        self.outcome.known.add(step)
+        if clock != self.clock or step != self.talk.length:
+            self.outcome.times[step] = clock
 
     # ---- steps
 
     def tick_to(self, time: int) -> None:
         if time > self.clock:
-            self.later(f"tick {time - self.clock}", "out tick")
+            self.later(f"tick {time - self.clock}", "out tick", None if self.in_call else OUTSIDE)
             self.clock = time
 
     def see(self, line: str) -> None:
@@ -270,6 +283,7 @@ class Follower:
         if not line.startswith("out take "):
             raise Stopped(f"has no request that waits (`{line}`)")
         self.taken[line.split(" ")[3]] = worker
+        self.taken_at[line.split(" ")[3]] = self.talk.length
 
     def coming(self) -> Iterator[str]:
         """The requests whose after callbacks come, in their order."""
@@ -289,6 +303,8 @@ class Follower:
         self.finished.add(name)
         worker = self.taken.pop(name)
         self.ask([f"finish {worker}"])
+        if name in self.ready:
+            self.know(self.talk.length, self.ready[name])
 
     def before_cancel(self, item: Item) -> None:
         """A cancel that succeeds puts its request behind those that are done: so they have to be. One that fails comes behind its take."""
@@ -327,18 +343,31 @@ class Follower:
     def do_call(self, item: Item, at: int) -> None:
         wanted = f"{CALLS[item.list]} {item.name} "
         line = self.until(wanted, item, at, section_of(item))
+        if item.clock > self.clock:
+            self.go_on_before(item, wanted)
+        self.in_call = True
         if item.list == "after":
             if line.split(" ")[3] != item.text:
                 raise Stopped(f"has `{line}` there")
             self.after_at += 1
             self.finished.discard(item.name)
-            self.ready.discard(item.name)
+            self.ready.pop(item.name, None)
             self.taken.pop(item.name, None)
         self.outcome.callbacks += 1
 
+    def go_on_before(self, item: Item, wanted: str) -> None:
+        """The clock goes on to where it was as the callback began, in front of it."""
+        self.move(self.talk.length - 1)
+        self.tick_to(item.clock)
+        self.later("loop", wanted)
+        self.flush()
+
     def do_done(self, item: Item, at: int) -> None:
         """The clock goes on to where it was as the callback ended."""
-        ahead = self.items[at + 1 : at + FAR]
+        self.tick_at_end(item, self.items[at + 1 : at + FAR])
+        self.in_call = False
+
+    def tick_at_end(self, item: Item, ahead: list[Item]) -> None:
         if self.starts_behind_end(item, ahead):
             return
         later = (it.now for it in ahead if it.type in ("call", "poll", "run", "end") and it.now > item.now)
@@ -386,7 +415,7 @@ class Follower:
                 self.tick_within(item, at)
                 self.senders.add(item.name)
                 self.ask([f"send {item.name}"])
-                self.know()
+                self.know(self.talk.length, item.clock or self.clock)
             case "finish":
                 self.flush()
                 self.tick_within(item, at)
@@ -396,16 +425,14 @@ class Follower:
                 self.flush()
                 while item.name not in self.taken and item.name not in self.finished:
                     self.take()
-                    if item.name in self.taken:
-                        self.know()
+                if item.name in self.taken and item.clock:
+                    self.know(self.taken_at[item.name], item.clock)
 
     def do_finish(self, item: Item) -> None:
         """Work is through. Its step comes behind those of the requests that call back before it."""
-        self.ready.add(item.name)
+        self.ready[item.name] = item.clock
         while (name := next((it for it in self.coming() if it not in self.finished), None)) in self.ready:
             self.finish(name)
-            if name == item.name:
-                self.know()
 
     def follow(self) -> Outcome:
         """Goes along all items, or up to where the loop does something else."""

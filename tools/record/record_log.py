@@ -45,7 +45,7 @@ class Event:
     """A line of a loop."""
 
     type: str
-    # the loop's time; and of the end of a callback, of work's beginning and end, and of a send the clock: in ms since the loop was first seen
+    # the loop's time; and of a callback or work that begins or ends, and of a send the clock: in ms since the loop was first seen
     now: int
     clock: int
     words: str
@@ -95,7 +95,7 @@ def read_event(text: str, line: int) -> tuple[int, Event] | None:
     if type == "E":
         ended = ENDED.fullmatch(words)
         return (loop, Event(type, now, int(ended[1]), ended[2], line)) if ended else None
-    if type in "FST" and (timed := TIMED.fullmatch(words)) and WORDS[type].fullmatch(timed[2]):
+    if type in "BFST" and (timed := TIMED.fullmatch(words)) and WORDS[type].fullmatch(timed[2]):
         # (logs of earlier recorders have no clock there)
         return loop, Event(type, now, int(timed[1]), timed[2], line)
     return (loop, Event(type, now, 0, words, line)) if WORDS[type].fullmatch(words) else None

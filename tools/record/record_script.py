@@ -26,7 +26,7 @@ class Item:
 
     type: str
     now: int
-    # of a callback's end, a take, a finish and a send
+    # of a callback's beginning and end, a take, a finish and a send; 0 where the log has none
     clock: int
     line: int
     # of an op its line; of a run its mode, of its end 1 or 0, of a poll its timeout; of a call what libuv said of it

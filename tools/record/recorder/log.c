@@ -173,7 +173,7 @@ void write_line(struct loop *loop, char type, const char *format, ...) {
         add_number(&line, CALL(uv_now)(loop->uv) - loop->base, 10);
         add_sign(&line, ' ');
     }
-    if (type == 'E' || type == 'F' || type == 'S' || type == 'T') {
+    if (strchr("BEFST", type)) {
         add_number(&line, clock_now() - loop->base, 10);
         add_sign(&line, ' ');
     }

@@ -66,7 +66,7 @@ extern bool off; /* nothing is recorded: no UVT_LOG, no room, or a child after f
 void lock(void);
 void unlock(void);
 bool is_locked_here(void);
-/* `LOOP TYPE NOW ..`, and behind NOW the clock where a callback ends, somebody sends, or work begins or ends (types E, S, T and F).
+/* `LOOP TYPE NOW ..`, and behind NOW the clock where a callback or work begins or ends, or somebody sends (types B, E, T, F and S).
  * The format knows %d, %u (64 bits), %x (64 bits) and %s. */
 void write_line(struct loop *loop, char type, const char *format, ...);
 /* `LOOP O NOW WORD %ID REST = ANSWER`; nothing where there is no object. */
