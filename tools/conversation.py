@@ -299,8 +299,6 @@ class Conversation:
 
         The commands are those that do steps, or set breaks: no line of their answers looks as that of `back 0` does, which ends each.
         """
-        if any("\n" in it for it in commands):
-            raise Fault("a command is one line")
         text = "".join(f"{it}\nback 0\n" for it in commands)
         # (a pipe holds only so much: who writes all before reading would wait for a reader who waits)
         writer = threading.Thread(target=self.send_quietly, args=(text,), daemon=True) if len(text) > PIPE else None
@@ -310,12 +308,16 @@ class Conversation:
             self.send_quietly(text)
         for _ in commands:
             lines = []
-            while not (at := AT.match(line := self.read_line())):
+            while not ((line := self.read_line()).startswith("at ") and (at := AT.match(line))):
                 lines.append(line)
             self.length = int(at[1])
             yield lines
         if writer:
             writer.join()
+
+    def ask_all(self, commands: list[str]) -> list[str]:
+        """Asks many commands that do steps, and answers all their lines, without saying which are whose."""
+        return next(self.ask_each(["\n".join(commands)])) if commands else []
 
     def send_quietly(self, text: str) -> None:
         """Sends, where the reader is the one who tells that the program has ended."""
@@ -362,8 +364,16 @@ class Conversation:
     def trace(self) -> list[str]:
         return self.ask("trace")
 
+    def record(self) -> list[str]:
+        """The lines of the recording: the last one is `end`, and no other one is."""
+        self.send("record\n")
+        lines = [self.read_line()]
+        while lines[-1] != "end":
+            lines.append(self.read_line())
+        return lines
+
     def recording(self) -> Recording:
-        return read_recording("\n".join(self.ask("record")) + "\n")
+        return read_recording("\n".join(self.record()) + "\n")
 
     def close(self) -> None:
         """Ends the program."""

@@ -18,21 +18,21 @@ ROOT = Path(__file__).resolve().parent.parent.parent
 sys.path[:0] = [str(ROOT / "tools"), str(ROOT / "tools" / "record")]
 
 from conversation import Fault, built_program  # noqa: E402
+from notes import read_notes  # noqa: E402
 from record_log import read_log  # noqa: E402
 from record_run import from_data  # noqa: E402
 
 LOGS = Path(__file__).resolve().parent / "logs"
 RECORD = str(ROOT / "tools" / "uvt-record")
 SECONDS = 120
-IO, ROUND, ZERO, NESTED = (
+IO, ZERO, NESTED = (
     "Callbacks of I/O come in the order of the system",
-    "Each iteration ends with its timers, and doesn't begin with them",
     "A zero timeout started in a callback waits (own)",
     "A run in a callback",
 )
 
 # Of each log its loops, and of one that isn't `same` all the way: what the program does there, and the heading that speaks of it.
-#   mixed    `run once` begins with a timer that is due, and an idle handle is active
+#   mixed    in one poll the callback of a socket comes before the after callback of a file, and a check handle is called behind both
 #   zero     a timer is started with 0 in its own callback, and a prepare handle is to be called
 #   nested   uv_run in a timer's callback
 #   dig      the callback of a datagram that was sent at once comes before the poll, and the async handle has sent to itself
@@ -44,7 +44,7 @@ WANTED: dict[str, dict[int, tuple[str, str] | None]] = {
     "starved": {0: None},
     "watchers": {0: None},
     "killed": {0: None},
-    "mixed": {0: ("the program calls the callback of timer", ROUND)},
+    "mixed": {0: ("the program calls the after callback of file (ok)", IO)},
     "zero": {0: ("the program calls the callback of again", ZERO)},
     "nested": {0: ("the program calls uv_run in a callback", NESTED)},
     "named": {0: None, 1: None},
@@ -115,11 +115,11 @@ def try_log(check, name: str, folder: str) -> None:
     check(f"record {name}: its status", ran.returncode == (0 if whole else 1) and not ran.stderr, (ran.returncode, ran.stderr))
     said = re.split(r"^(?=loop )", ran.stdout, flags=re.MULTILINE)[1:]
     check(f"record {name}: its loops", [int(it.split(":")[0][5:]) for it in said] == list(loops), ran.stdout)
-    check(f"record {name}: the names", (Path(folder) / f"{name}.names").is_file())
     for text, (loop, stops) in zip(said, loops.items()):
         path = Path(folder) / (f"{name}.rec" if len(loops) == 1 else f"{name}.{loop}.rec")
         wanted, what = callbacks(log, loop), f"record {name}, loop {loop}"
         check(f"{what}: replay", verdict(path) == "same", verdict(path))
+        check(f"{what}: its notes", bool(read_notes(path, path.read_bytes()).names))
         check(f"{what}: its callbacks", not agrees(path, wanted), agrees(path, wanted))
         got = re.match(r"loop \d+: (\d+) of (\d+) callbacks, (\d+) steps: same", text)
         check(f"{what}: what is said", bool(got), text)

@@ -14,10 +14,11 @@ NUMBER = r"(?:0|[1-9]\d{0,18})"
 TIMER_OWN = {"timer", "idle", "prepare", "check", "async"}
 WATCHERS = {"tcp", "udp", "pipe", "tty", "poll", "signal", "fs_event", "fs_poll", "process"}
 HEAD = re.compile(r"uvt-log 1 (1\.\d{1,4}\.\d{1,4}\S*) (\d{1,9}) (\d{1,9}) (.*)")
-LINE = re.compile(rf"({NUMBER}) ([OBERrPTFSCVW]) ({NUMBER}) (.*)")
+LINE = re.compile(rf"({NUMBER}) ([OBERrPTFSCVWK]) ({NUMBER}) (.*)")
 ENDED = re.compile(rf"({NUMBER}) ({NUMBER})")
 TIMED = re.compile(rf"({NUMBER}) (.+)")
 ADDRESS = re.compile(r"- A (\d{1,9}) ([0-9a-f]{1,16}) (\S+) (.*)")
+NO_CLOCK = -1
 NO_ROOM = "- ! no room"
 CODE = r"(?:ok|E[A-Z0-9_]+)"
 WORDS = {
@@ -36,6 +37,7 @@ WORDS = {
     "S": re.compile(rf"{NUMBER} \d{{1,20}}"),
     "C": re.compile(rf"{NUMBER} \d{{1,9}}(?: [a-z_]+)?"),
     "V": re.compile(rf"{NUMBER} \d{{1,9}}(?: \d{{1,9}})?"),
+    "K": re.compile(rf"all|end|{NUMBER} [a-z_]+ [01] [01] [01] {NUMBER} {NUMBER} {NUMBER}"),
     "W": re.compile(rf"(?:-1|{NUMBER}) \d{{1,20}} uv_[a-z_0-9]+"),
 }
 
@@ -45,7 +47,7 @@ class Event:
     """A line of a loop."""
 
     type: str
-    # the loop's time; and of a callback or work that begins or ends, and of a send the clock: in ms since the loop was first seen
+    # the loop's time; and of a callback or work that begins or ends, and of a send the clock, or NO_CLOCK: in ms since the loop was first seen
     now: int
     clock: int
     words: str
@@ -98,7 +100,7 @@ def read_event(text: str, line: int) -> tuple[int, Event] | None:
     if type in "BFST" and (timed := TIMED.fullmatch(words)) and WORDS[type].fullmatch(timed[2]):
         # (logs of earlier recorders have no clock there)
         return loop, Event(type, now, int(timed[1]), timed[2], line)
-    return (loop, Event(type, now, 0, words, line)) if WORDS[type].fullmatch(words) else None
+    return (loop, Event(type, now, NO_CLOCK, words, line)) if WORDS[type].fullmatch(words) else None
 
 
 def read_log(data: bytes) -> Log:

@@ -17,12 +17,16 @@ from conversation import INSTALLED, OUT, Fault, built_program
 from notes import Notes
 from record_differences import PAGE, heading_of, says
 from record_follow import CALLS, MANY_WORKERS, Follower, NeedsWake, Outcome
-from record_log import Log, read_log
+from record_log import Event, Log, read_log
 from record_names import name_addresses, named_log
 from record_script import Program, program_of
+from record_window import window
+from tell import Teller
 
 RECORDER = Path(__file__).resolve().parent / "recorder"
 BUILT = OUT / "recorder" / "recorder.so"
+# So many callbacks of a log are followed, where no other number is asked for: some ten seconds, and as much memory as 100,000 callbacks take.
+MOST = 100_000
 
 
 def write(path: Path, data: bytes) -> None:
@@ -65,16 +69,30 @@ def agrees(program: Program, outcome: Outcome) -> bool:
     return names == wanted[: outcome.callbacks]
 
 
+@dataclass
+class Part:
+    """Which part of a log is asked for."""
+
+    # in ms of the loop's time: from there on, or the last ones
+    begin: int | None = None
+    last: int | None = None
+    # how many callbacks at the most
+    most: int = MOST
+
+
 def followed(program: Program, workers: int) -> Outcome:
     """The recording that goes farthest. Where the loop waits and nobody woke it a handle `wake` stands for who did; where a request
     was passed by later ones there are more workers, as libuv does slow work apart."""
     wake, best = False, None
     while True:
         try:
-            outcome = Follower(program, workers, wake).follow()
+            teller = Teller("uvt-record", "events")
+            outcome = Follower(program, workers, wake, teller.tell).follow()
         except NeedsWake:
             wake = True
             continue
+        finally:
+            teller.done()
         if best is None or outcome.callbacks > best.callbacks or not outcome.why:
             best = outcome
         passed = outcome.item is not None and outcome.item.list == "after"
@@ -83,9 +101,29 @@ def followed(program: Program, workers: int) -> Outcome:
         workers = MANY_WORKERS
 
 
-def make(log: Log, loop: int) -> Made | None:
+def chosen(events: list[Event], part: Part) -> tuple[list[Event], str, str]:
+    """The part of a loop's events that is asked for; where it begins and where it is cut, in a sentence each."""
+    began = cut = ""
+    time = part.begin if part.last is None else max(0, events[-1].now - part.last)
+    if time is not None:
+        events, now = window(events, time)
+        began = f"it begins at {now} ms of the loop's time, with what there was then, and its times count from there"
+    calls = [at for at, it in enumerate(events) if it.type == "B"]
+    if len(calls) > part.most:
+        cut = (f"the log has {len(calls)} callbacks, and the first {part.most} were taken: --most N takes another number,"
+               " --last SECONDS or --from MS another part")
+        events = events[: calls[part.most]]
+    return events, began, cut
+
+
+def make(log: Log, loop: int, part: Part = Part()) -> Made | None:
     """The recording of a loop. None if it has no callback."""
-    program = program_of(log, log.loops[loop])
+    if not any(it.type == "B" for it in log.loops[loop]):
+        return None
+    events, began, cut = chosen(log.loops[loop], part)
+    program = program_of(log, events)
+    program.began = began
+    program.stopped = program.stopped or cut
     if not program.callbacks():
         return None
     outcome = followed(program, log.workers)
@@ -108,7 +146,7 @@ def part_of(made: Made, note: str) -> str:
     outcome, stops = made.outcome, where_it_stops(made)
     if outcome.why:
         return f"it has the first {outcome.callbacks} of {outcome.of} callbacks, up to line {outcome.item.line} of the log; there {stops}"
-    return stops or note
+    return "; ".join(it for it in (made.program.began, stops or note) if it)
 
 
 OPS = re.compile(r"(on|after|closed) (\S+) (?:@(\d+) )?")
@@ -163,7 +201,7 @@ def told(made: Made, loop: int, path: Path, note: str) -> list[str]:
         lines = [head + f"same up to line {outcome.item.line} of the log", f"    there {where_it_stops(made)}"]
     else:
         lines = [head + "same"]
-    lines += [f"    {it}" for it in (program.stopped, note, *by_other_threads(program)) if it]
+    lines += [f"    {it}" for it in (program.began, program.stopped, note, *by_other_threads(program)) if it]
     if outcome.answers:
         lines.append(f"    {len(outcome.answers)} answers differ, first: {outcome.answers[0]}")
     if outcome.ends:
@@ -174,9 +212,9 @@ def told(made: Made, loop: int, path: Path, note: str) -> list[str]:
     return lines + [f"    {'uvt shell' if INSTALLED else 'tools/uvt-shell'} {path}"]
 
 
-def from_data(data: bytes, log: Log, name: str) -> tuple[list[str], bool]:
+def from_data(data: bytes, log: Log, name: str, part: Part = Part()) -> tuple[list[str], bool]:
     """Makes the recordings of a log, and writes them. Answers what is to be said, and whether all go all the way."""
-    made = [(loop, it) for loop in sorted(log.loops) if (it := make(log, loop))]
+    made = [(loop, it) for loop in sorted(log.loops) if (it := make(log, loop, part))]
     lines, whole = [], True
     for loop, it in made:
         path = Path(f"{name}.rec" if len(made) == 1 else f"{name}.{loop}.rec")
@@ -191,13 +229,13 @@ def from_data(data: bytes, log: Log, name: str) -> tuple[list[str], bool]:
     return lines, whole and not log.note
 
 
-def from_log(path: Path, name: str | None) -> int:
+def from_log(path: Path, name: str | None, part: Part) -> int:
     """A log that was kept."""
     try:
         data = path.read_bytes()
     except OSError as fault:
         raise Fault(f"{path}: {fault.strerror}") from None
-    lines, whole = from_data(data, read_log(data), name or path.name.removesuffix(".log"))
+    lines, whole = from_data(data, read_log(data), name or path.name.removesuffix(".log"), part)
     print("\n".join(lines), flush=True)
     return 0 if whole else 1
 
@@ -268,7 +306,7 @@ def run_program(words: list[str], folder: Path) -> int:
             signal.signal(number, handler)
 
 
-def from_program(words: list[str], name: str | None) -> int:
+def from_program(words: list[str], name: str | None, part: Part) -> int:
     """Runs a program, and makes recordings of each of its processes that has a loop."""
     name = name or Path(words[0]).name
     built_program()
@@ -284,13 +322,13 @@ def from_program(words: list[str], name: str | None) -> int:
         whole = True
         for path in logs:
             process = name if len(logs) == 1 else f"{name}.{path.name.split('.')[1]}"
-            whole &= from_fresh(path, process, len(logs) > 1)
+            whole &= from_fresh(path, process, len(logs) > 1, part)
         return 0 if whole else 1
     finally:
         shutil.rmtree(folder, ignore_errors=True)
 
 
-def from_fresh(path: Path, name: str, several: bool) -> bool:
+def from_fresh(path: Path, name: str, several: bool, part: Part) -> bool:
     """A log that has just been written. It is kept first, and then gets its symbols: so it isn't lost where the disk is full."""
     kept = Path(f"{name}.log")
     try:
@@ -308,6 +346,6 @@ def from_fresh(path: Path, name: str, several: bool) -> bool:
         print(f"uvt-record: {fault}: the log stays as it is, without its symbols", file=sys.stderr)
     if several:
         print(f"process {log.process}, {log.program}", flush=True)
-    lines, whole = from_data(data, log, name)
+    lines, whole = from_data(data, log, name, part)
     print("\n".join(lines), flush=True)
     return whole

@@ -9,7 +9,7 @@ import collections
 import re
 from dataclasses import dataclass, field
 
-from record_log import TIMER_OWN, WATCHERS, Address, Event, Log
+from record_log import NO_CLOCK, TIMER_OWN, WATCHERS, Address, Event, Log
 from record_names import base_name, element
 
 SCRIPT_LINES = 1048575
@@ -26,7 +26,7 @@ class Item:
 
     type: str
     now: int
-    # of a callback's beginning and end, a take, a finish and a send; 0 where the log has none
+    # of a callback's beginning and end, a take, a finish and a send; NO_CLOCK where the log has none
     clock: int
     line: int
     # of an op its line; of a run its mode, of its end 1 or 0, of a poll its timeout; of a call what libuv said of it
@@ -100,6 +100,8 @@ class Program:
     slots: int = 0
     # of libuv
     version: str = ""
+    # where the items begin, if that isn't where the log does, in a sentence
+    began: str = ""
     # why the items end before the log does, in a sentence
     stopped: str = ""
 
@@ -393,10 +395,12 @@ class Maker:
                 if bound := self.bound.get(int(event.words)):
                     self.add(event, "finish", name=bound.name)
             case "S":
-                if event.clock and (bound := self.bound.get(int(event.words.split(" ")[0]))) and not bound.closing:
+                if event.clock != NO_CLOCK and (bound := self.bound.get(int(event.words.split(" ")[0]))) and not bound.closing:
                     self.add(event, "send", name=bound.name)
             case "W":
                 self.read_foreign(event)
+            case "K":
+                pass
             case "C":
                 id, place, *what = event.words.split(" ")
                 for it in what:

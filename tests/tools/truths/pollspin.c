@@ -3,7 +3,11 @@
 static uv_poll_t readable;
 static uv_timer_t stop;
 static int pair[2], calls;
-static void on_readable(uv_poll_t *poll, int status, int events) { calls++; }
+static void on_readable(uv_poll_t *poll, int status, int events) {
+    uint64_t begin = uv_hrtime();
+    while (uv_hrtime() - begin < 100000) continue;
+    calls++;
+}
 static void on_stop(uv_timer_t *timer) {
     printf("readable was called %d times\n", calls);
     uv_poll_stop(&readable);

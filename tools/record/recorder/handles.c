@@ -3,6 +3,7 @@
 #include "recorder.h"
 
 #include <stdio.h>
+#include <string.h>
 
 REAL(uv_loop_init)
 REAL(uv_default_loop)
@@ -53,6 +54,8 @@ struct object *made(uv_loop_t *uv, void *handle, const char *kind, bool watcher)
     if (!object) return NULL;
     note_thread(object->loop, object->id);
     object->watcher = watcher;
+    object->handle = true;
+    object->kind = kind;
     object->size = (int)CALL(uv_handle_size)(CALL(uv_handle_get_type)(handle));
     write_line(object->loop, 'O', "init %%%d %s = ok", object->id, kind);
     name_place(object);
@@ -377,6 +380,37 @@ int uv_async_send(uv_async_t *handle) {
     return answer;
 }
 
+/* ---- all that a loop has, from time to time: a recording may begin there */
+
+enum { OFTEN = 4000, MANY = 8 };
+
+REAL(uv_timer_get_due_in)
+
+static void tell_one(struct object *it) {
+    uint64_t due = 0, repeat = 0, order = it->order;
+    bool active = false, referenced = it->counts, closing = false;
+    if (it->handle) {
+        uv_handle_t *handle = it->address;
+        active = CALL(uv_is_active)(handle);
+        closing = CALL(uv_is_closing)(handle);
+        if (!it->watcher) referenced = CALL(uv_has_ref)(handle);
+        if (strcmp(it->kind, "timer") == 0) {
+            due = CALL(uv_timer_get_due_in)((uv_timer_t *)handle);
+            repeat = CALL(uv_timer_get_repeat)((uv_timer_t *)handle);
+            order = ((uv_timer_t *)handle)->start_id;
+        }
+    }
+    write_line(it->loop, 'K', "%d %s %d %d %d %u %u %u", it->id, it->kind, active, referenced, closing, due, repeat, order);
+}
+
+static void tell_all(struct loop *loop) {
+    if (loop->lines - loop->counted < OFTEN + MANY * object_total()) return;
+    write_line(loop, 'K', "all");
+    each(loop, tell_one);
+    write_line(loop, 'K', "end");
+    loop->counted = loop->lines;
+}
+
 /* ---- the poll: what libuv asks of the system */
 
 #include <sys/epoll.h>
@@ -395,6 +429,7 @@ static void note_poll(struct loop *loop, int timeout) {
     if (!loop) return;
     lock();
     settle_all(loop);
+    tell_all(loop);
     write_line(loop, 'P', "%d", timeout);
     unlock();
 }

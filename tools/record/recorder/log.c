@@ -182,6 +182,7 @@ void write_line(struct loop *loop, char type, const char *format, ...) {
     add_format(&line, format, words);
     va_end(words);
     line.text[line.length++] = '\n';
+    if (loop) loop->lines++;
     write_text(line.text, line.length);
 }
 
@@ -190,7 +191,10 @@ const char *answer_text(int answer) {
 }
 
 void write_op(struct object *object, const char *word, const char *rest, int answer) {
-    if (object) write_line(object->loop, 'O', "%s %%%d%s = %s", word, object->id, rest, answer_text(answer));
+    static uint64_t starts;
+    if (!object) return;
+    if (answer == 0 && strcmp(word, "start") == 0) object->order = ++starts;
+    write_line(object->loop, 'O', "%s %%%d%s = %s", word, object->id, rest, answer_text(answer));
 }
 
 /* ---- libuv */

@@ -127,6 +127,16 @@ void drop(struct object *object) {
     object_count--;
 }
 
+void each(struct loop *loop, void (*tell)(struct object *)) {
+    for (size_t at = 0; at < bucket_count; at++)
+        for (struct object *it = buckets[at]; it; it = it->next)
+            if (it->loop == loop && it->kind) tell(it);
+}
+
+int object_total(void) {
+    return (int)object_count;
+}
+
 /* ---- where they and their callbacks lie */
 
 enum { PLACES = 1024 };

@@ -20,6 +20,7 @@ static int queued(struct object *object, const char *kind, size_t size, int answ
     if (object && answer == 0) {
         write_line(object->loop, 'O', "queue %%%d %s = ok", object->id, kind);
         object->size = (int)size;
+        object->kind = kind;
         name_place(object);
         name_callback(object, object->second, OWN, "work");
         name_callback(object, object->callback, AFTER, "after");

@@ -22,6 +22,7 @@ struct loop {
     pthread_t thread; /* that of the last uv_run, or of its init */
     int running; /* how many uv_run are under way */
     struct object *unsettled; /* watchers whose callback has just ended: see settle() */
+    long lines, counted; /* of it in the log; and how many there were as all of it was last written down */
 };
 
 /* Which of its callbacks: a stream has several. */
@@ -32,6 +33,9 @@ struct object {
     void *address;
     struct loop *loop;
     int id;
+    const char *kind; /* NULL of a request of a stream */
+    uint64_t order; /* of an idle, prepare or check handle: the how-manieth start it was */
+    bool handle;
     bool watcher; /* a handle of I/O, signals, files or processes */
     bool counts; /* of a watcher: does it keep the loop alive, as the log has it */
     int size; /* of its type: elements of an array lie so far apart */
@@ -54,6 +58,8 @@ struct object *asked(const void *address);
 void note_thread(struct loop *loop, int id);
 struct object *put(struct loop *loop, void *address);
 void drop(struct object *object);
+void each(struct loop *loop, void (*tell)(struct object *));
+int object_total(void);
 /* The lines that say where it lies, and which its callback is: `what` as in the line at which that begins. */
 void name_place(struct object *object);
 void name_callback(struct object *object, void *callback, enum role role, const char *what);
