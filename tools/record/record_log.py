@@ -109,6 +109,8 @@ def read_log(data: bytes) -> Log:
     lines = data.replace(b"\0", b"").decode("utf-8", "replace").split("\n")
     cut = lines.pop() != ""
     head = HEAD.fullmatch(lines[0]) if lines else None
+    if not head and re.match(r"uvt \d", lines[0] if lines else ""):
+        raise Fault("this is a recording, and no log: uvt-why, uvt-shell and uvt-view take it as it is")
     if not head:
         raise Fault("this is no log of a program: its first line isn't `uvt-log 1` with libuv's version, a process, workers and a program")
     log = Log(head[1], int(head[2]), max(1, min(1024, int(head[3]))), head[4])

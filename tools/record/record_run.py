@@ -3,6 +3,7 @@
 from __future__ import annotations
 
 import collections
+import glob
 import os
 import re
 import shutil
@@ -270,13 +271,57 @@ def recorder() -> Path:
     return BUILT
 
 
-def room_for(name: str) -> Path:
-    """A folder for the logs of a run, beside where they are to be kept."""
-    beside = Path(name).resolve().parent
+def is_alive(process: int) -> bool:
     try:
-        return Path(tempfile.mkdtemp(prefix=f".{Path(name).name}.", dir=beside))
+        return Path(f"/proc/{process}/stat").read_text().rpartition(")")[2].split()[0] != "Z"
+    except (OSError, IndexError):
+        return False
+
+
+def room_for(name: str) -> Path:
+    """A folder for the logs of a run, beside where they are to be kept. One that a killed call has left there goes."""
+    beside, mine = Path(name).resolve().parent, f".{Path(name).name}."
+    try:
+        for left in beside.glob(f"{glob.escape(mine)}*"):
+            found = re.fullmatch(re.escape(mine) + r"(\d+)\.\w+", left.name)
+            if found and not is_alive(int(found[1])):
+                shutil.rmtree(left, ignore_errors=True)
+        return Path(tempfile.mkdtemp(prefix=f"{mine}{os.getpid()}.", dir=beside))
     except OSError as fault:
         raise Fault(f"{beside}: {fault.strerror}") from None
+
+
+def sanitizers(program: str) -> list[str]:
+    """The runtimes that have to stand in front of all other libraries of the program, where it needs any."""
+    path = shutil.which(program)
+    if not path:
+        return []
+    try:
+        ran = subprocess.run(["ldd", path], capture_output=True, text=True, errors="replace", timeout=20)
+    except (OSError, subprocess.TimeoutExpired):
+        return []
+    return re.findall(r"=> (\S*/lib(?:asan|hwasan|tsan)\.so\S*)", ran.stdout)
+
+
+def why_not(program: str, fault: OSError) -> str:
+    """Why it could not be started, in a sentence: it may be a file of the recorder's own."""
+    try:
+        with open(program, "rb") as file:
+            head = file.read(8)
+    except OSError:
+        head = b""
+    if head.startswith(b"uvt-log"):
+        return f"{program} is a log, and no program: uvt-record --log {program} makes recordings of it"
+    if head.startswith(b"uvt "):
+        return f"{program} is a recording already, and no program: uvt-why, uvt-shell and uvt-view take it"
+    return f"{program} could not be started: {fault.strerror}"
+
+
+def nothing_recorded(program: str, status: int) -> str:
+    """Why there is no log, as far as that can be seen."""
+    if sanitizers(program) and status != 0:
+        return f"{program} ended with status {status} before it called libuv: it is built with a sanitizer, whose runtime may want to be alone"
+    return f"{program} called nothing of a libuv that is a shared library: it has none, or its own within it"
 
 
 def ended(status: int) -> str:
@@ -289,15 +334,15 @@ def ended(status: int) -> str:
 def run_program(words: list[str], folder: Path) -> int:
     """Runs it with the recorder. The log's place is the folder's."""
     environment = dict(os.environ, UVT_LOG=str(folder / "log"))
-    environment["LD_PRELOAD"] = " ".join(filter(None, [str(recorder()), os.environ.get("LD_PRELOAD", "")]))
+    environment["LD_PRELOAD"] = " ".join(filter(None, [*sanitizers(words[0]), str(recorder()), os.environ.get("LD_PRELOAD", "")]))
     try:
         program = subprocess.Popen(words, env=environment)
     except OSError as fault:
-        raise Fault(f"{words[0]} could not be started: {fault.strerror}") from None
+        raise Fault(why_not(words[0], fault)) from None
     # (an interrupt at the terminal is for the program; what ends this tool ends the program, and its log is taken)
     before = {
         signal.SIGINT: signal.signal(signal.SIGINT, lambda *_: None),
-        signal.SIGTERM: signal.signal(signal.SIGTERM, lambda *_: program.terminate()),
+        **{it: signal.signal(it, lambda *_: program.terminate()) for it in (signal.SIGTERM, signal.SIGHUP)},
     }
     try:
         return program.wait()
@@ -318,7 +363,7 @@ def from_program(words: list[str], name: str | None, part: Part) -> int:
             print(said, flush=True)
         logs = sorted(folder.glob("log.*.log"), key=lambda it: it.stat().st_mtime_ns)
         if not logs:
-            raise Fault(f"{words[0]} called nothing of a libuv that is a shared library: it has none, or its own within it")
+            raise Fault(nothing_recorded(words[0], status))
         whole = True
         for path in logs:
             process = name if len(logs) == 1 else f"{name}.{path.name.split('.')[1]}"
