@@ -76,7 +76,7 @@ class Why:
         if self.name in self.notes.names:
             kind, origin = self.notes.names[self.name]
             stands = f"{kind}, which stands as an async handle: " if kind in STANDING else ""
-            lines.append(f"    {stands}{origin}")
+            lines.append(f"    {stands}{origin}{self.functions()}")
         if self.notes.part:
             lines.append(f"    THE RECORDING IS A PART: {self.notes.part}")
         for number, function in sorted(self.notes.foreign.items()):
@@ -92,6 +92,14 @@ class Why:
         called = [times(count, CALLS[what]) for what, count in counts if count] or ["never called"]
         made = f", made at {steps_of([step for step, _, _ in self.history.made])}" if kind else ""
         return f"{self.name}: {KINDS[kind] if kind else 'it stands for nothing'}, {', '.join(called)}{made}"
+
+    def functions(self) -> str:
+        """The program's functions that it calls, each once."""
+        found = []
+        for kind, what in (("work", "work"), ("on", "callback"), ("after", "after callback"), ("closed", "close callback")):
+            told = list(dict.fromkeys(it for _, it in self.notes.functions.get((kind, self.name), []) if it))
+            found += [f"; its {what} is {few(told)}"] if told else []
+        return "".join(found)
 
     def runs(self) -> list[list[Wait]]:
         """The waits, those in a row together that each were asked for by the one before, and came in their time."""

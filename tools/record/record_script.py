@@ -18,6 +18,7 @@ NAMES = 65535
 STAYS = 500
 ID = re.compile(r"%(\d+)")
 KEEPS = ("ref", "unref")
+FULL = ": docs/LIBUV.md, `More than a script holds`"
 
 
 @dataclass(slots=True)
@@ -443,7 +444,7 @@ def make_program(log: Log, events: list[Event]) -> Program:
             maker.program.stopped = f"line {event.line} of the log is `{event.type} {event.words}`, and no program does that there"
             break
         if len(maker.program.names) > NAMES:
-            maker.program.stopped = f"at line {event.line} of the log the program has more than {NAMES} handles and requests at a time"
+            maker.program.stopped = f"at line {event.line} of the log the program has more than {NAMES} handles and requests at a time{FULL}"
             break
     return maker.program
 
@@ -456,7 +457,7 @@ def program_of(log: Log, events: list[Event]) -> Program:
         count = min(count - 1, count * SCRIPT_LINES // size)
         line = events[count].line
         program = make_program(log, events[:count])
-        program.stopped = f"a script has at most {SCRIPT_LINES} lines, and those of this program are full at line {line} of the log"
+        program.stopped = f"a script has at most {SCRIPT_LINES} lines, and those of this program are full at line {line} of the log{FULL}"
     if len(program.names) > NAMES - 1:
-        program.stopped = program.stopped or "there is no name left"
+        program.stopped = program.stopped or f"there is no name left{FULL}"
     return program
