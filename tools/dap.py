@@ -193,10 +193,7 @@ class Adapter:
         self.later.append(lambda: self.event("initialized"))
 
     def on_configurationDone(self, arguments: dict) -> None:
-        notes = self.script.notes
-        said = [f"THE RECORDING IS A PART: {notes.part}"] if notes.part else []
-        said += [f"WRONG THREAD: {function} was called by another thread while the loop ran: line {line}" for line, function in notes.foreign.items()]
-        for it in said:
+        for it in self.script.notes.loud():
             self.later.append(lambda it=it: self.event("output", category="important", output=f"{it}\n"))
         self.later.append(lambda: self.stopped("entry"))
 

@@ -1,7 +1,8 @@
 """What is known of a recording of a program beside its steps: NAME.notes, which tools/uvt-record writes beside NAME.rec.
 
 A line each: what a name stands for, which functions its callbacks are, which steps from outside nobody saw, which ticks are no
-callback's, which ops another thread did, and whether the recording is only a beginning. The first line has the recording's digest: of another one the notes say nothing.
+callback's, which ops another thread did, and whether the recording is only a beginning. The first line has the recording's digest: of
+another one the notes say nothing.
 """
 
 from __future__ import annotations
@@ -44,6 +45,14 @@ class Notes:
 
     def kind(self, name: str) -> str:
         return self.names.get(name, ("", ""))[0]
+
+    def loud(self) -> list[str]:
+        """What each tool says before all else: that it isn't all of it, and what another thread did."""
+        lines = [f"THE RECORDING IS A PART: {self.part}"] if self.part else []
+        return lines + [
+            f"WRONG THREAD: {function} was called by another thread while the loop ran, which libuv allows of uv_async_send alone: line {line}"
+            for line, function in sorted(self.foreign.items())
+        ]
 
     def text(self, recording: bytes) -> str:
         lines = [f"{HEAD} {hashlib.sha256(recording).hexdigest()}"]

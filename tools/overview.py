@@ -10,7 +10,7 @@ from dataclasses import dataclass
 from places import read_place
 from waits import Wait
 from walk import Took, Walk
-from why import KINDS, STANDING, Why, few, named, times
+from why import KINDS, MANY, STANDING, Why, few, named, times
 
 # How many lines each part has at the most.
 LINES = 5
@@ -29,14 +29,7 @@ class Late:
 
 def head(walk: Walk) -> list[str]:
     calls = len(walk.calls)
-    lines = [f"{times(calls, 'callback')}, {times(walk.length, 'step')}, {walk.clock(walk.length)} ms"]
-    if walk.notes.part:
-        lines.append(f"THE RECORDING IS A PART: {walk.notes.part}")
-    for number, function in sorted(walk.notes.foreign.items())[:LINES]:
-        line = walk.script.lines[number - walk.script.first]
-        lines.append(f"WRONG THREAD: {function} was called by another thread while the loop ran (line {number}: {line}), which libuv allows of"
-                     " uv_async_send alone")
-    return lines
+    return [f"{times(calls, 'callback')}, {times(walk.length, 'step')}, {walk.clock(walk.length)} ms", *walk.notes.loud()[:MANY]]
 
 
 def long_callbacks(walk: Walk) -> list[str]:
@@ -114,7 +107,8 @@ class Overview:
     def full(self) -> list[str]:
         kept = sorted(self.walk.pool.fulls, key=lambda it: self.walk.happened(it.last) - self.walk.happened(it.first), reverse=True)
         rows = [(self.walk.happened(it.first), self.walk.happened(it.last), it) for it in kept[:LINES]]
-        return [f"{end - begin} ms: from {begin} to {end} ms, from step {it.first} to {it.last}: {few(it.names)}" for begin, end, it in rows if end > begin]
+        return [f"{end - begin} ms: from {begin} to {end} ms, from step {it.first} to {it.last}: {few(it.names)}"
+                for begin, end, it in rows if end > begin]
 
     def alive(self) -> list[str]:
         """Who is active and referenced where the session ends, or else where the loop waited last."""
@@ -160,7 +154,8 @@ class Overview:
         who = [name for name, count in sorted(counts.items(), key=lambda it: -it[1]) if 2 * count >= len(row)]
         idle = self.walk.state(row[len(row) // 2]).lists["idle"]
         why = f"{few(who)} {'was' if len(who) == 1 else 'were'} called in each of these rounds or most" if who else "nobody was called each time"
-        active = f"; {few(idle)} {'is an active idle handle' if len(idle) == 1 else 'are active idle handles'}, so the poll doesn't wait" if idle else ""
+        are = "is an active idle handle" if len(idle) == 1 else "are active idle handles"
+        active = f"; {few(idle)} {are}, so the poll doesn't wait" if idle else ""
         self.next += [(len(row), who[0])] if who else []
         begin, end = self.walk.clock(row[0]), self.walk.clock(row[-1])
         return f"{len(row)} polls in a row didn't wait, from step {row[0]} to {row[-1]}, {end - begin} ms: {why}{active}"

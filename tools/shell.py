@@ -17,7 +17,8 @@ SECTIONS = ["pending", "idle", "prepare", "poll", "done", "async", "check", "clo
 INFO = ["timers", "handles", "requests", "loop", "breaks"]
 SHORT = {
     "s": "step", "n": "next", "c": "continue", "b": "break", "d": "delete", "l": "list", "i": "info", "p": "print", "r": "run",
-    "u": "until", "tb": "tbreak", "rs": "reverse-step", "rn": "reverse-next", "rc": "reverse-continue", "bt": "where", "q": "quit", "h": "help", "stepi": "step",
+    "u": "until", "tb": "tbreak", "rs": "reverse-step", "rn": "reverse-next", "rc": "reverse-continue", "bt": "where", "q": "quit",
+    "h": "help", "stepi": "step",
 }
 # Those of them that do a step.
 STEPS = ("loop", "take", "finish", "cancel", "send", "tick")
@@ -76,11 +77,8 @@ class Shell:
         return read_place(self.talk.state().place)
 
     def part(self) -> None:
-        """Says, where the recording is only a beginning or a part, what it is."""
-        if self.talk.script.notes.part:
-            self.write(f"THE RECORDING IS A PART: {self.talk.script.notes.part}")
-        for number, function in sorted(self.talk.script.notes.foreign.items()):
-            self.write(f"WRONG THREAD: {function} was called by another thread while the loop ran: line {number}")
+        """Says what has to be known of a recording before all else."""
+        self.show(self.talk.script.notes.loud())
 
     # ---- a line that was typed
 

@@ -191,7 +191,7 @@ class Page:
             "base": self.base, "changes": self.changes, "next": self.lines_done,
             "steps": [self.texts.number(it) for it in self.walk.steps], "said": [self.texts.number(it) for it in self.walk.lines],
             "clock": self.walk.clocks, "lanes": [{"name": it.name, "what": it.what, "parts": it.parts} for it in lanes],
-            "late": late, "why": whys, "heaps": self.heaps, "long": self.long(), "part": self.part(),
+            "late": late, "why": whys, "heaps": self.heaps, "long": self.long(), "part": "\n".join(self.walk.notes.loud()),
             "from": RED_RECORDED if self.walk.notes.names else RED, "kinds": {name: kind for name, (kind, _) in self.walk.notes.names.items()},
             "texts": self.texts.rows,
         }
@@ -199,13 +199,6 @@ class Page:
     def long(self) -> list[list[object]]:
         """The callbacks that took long: their first and last step, whose, and how many ms."""
         return [[it.first, it.last, it.what.rpartition(" of ")[2], it.took()] for it in self.walk.tooks if it.is_callback() and it.took() >= LONG]
-
-    def part(self) -> str:
-        """What has to be known of all of it."""
-        notes = self.walk.notes
-        lines = [f"THE RECORDING IS A PART: {notes.part}"] if notes.part else []
-        lines += [f"WRONG THREAD: {function} was called by another thread while the loop ran: line {line}" for line, function in notes.foreign.items()]
-        return "\n".join(lines)
 
 
 def html(walk: Walk, tell: Callable[[int, int], None] = lambda *_: None) -> str:

@@ -106,7 +106,8 @@ class Why:
         rows: list[list[Wait]] = []
         for wait in self.history.waits:
             last = rows[-1][-1] if rows else None
-            if last and self.is_plain(wait) and self.is_plain(last) and last.ended == self.begun_by(wait) and len({*map(self.is_again, (wait, last))}) == 1:
+            alike = last and self.is_plain(wait) and self.is_plain(last) and self.is_again(wait) == self.is_again(last)
+            if alike and last.ended == self.begun_by(wait):
                 rows[-1].append(wait)
             else:
                 rows.append([wait])
@@ -317,7 +318,8 @@ class Why:
         called = f", {function}," if function else ""
         if step in self.notes.guessed:
             return f"it was through at step {wait.finished}"
-        return f"worker {worker} ran it{called} from step {step} to {wait.finished}, {self.walk.happened(wait.finished) - self.walk.happened(step)} ms"
+        ran = self.walk.happened(wait.finished) - self.walk.happened(step)
+        return f"worker {worker} ran it{called} from step {step} to {wait.finished}, {ran} ms"
 
     def handed(self, wait: Wait) -> str:
         before = self.before(self.walk.state(wait.finished).lists["done"])

@@ -23,7 +23,9 @@ from record_log import read_log  # noqa: E402
 from record_run import from_data  # noqa: E402
 
 LOGS = Path(__file__).resolve().parent / "logs"
+EXAMPLES = ROOT / "crates" / "examples" / "data"
 RECORD = str(ROOT / "tools" / "uvt-record")
+WHY = str(ROOT / "tools" / "uvt-why")
 SECONDS = 120
 IO, ZERO, NESTED = (
     "Callbacks of I/O come in the order of the system",
@@ -119,7 +121,9 @@ def try_log(check, name: str, folder: str) -> None:
         path = Path(folder) / (f"{name}.rec" if len(loops) == 1 else f"{name}.{loop}.rec")
         wanted, what = callbacks(log, loop), f"record {name}, loop {loop}"
         check(f"{what}: replay", verdict(path) == "same", verdict(path))
-        check(f"{what}: its notes", bool(read_notes(path, path.read_bytes()).names))
+        notes = read_notes(path, path.read_bytes())
+        check(f"{what}: its notes", bool(notes.names))
+        check(f"{what}: whether it is only a beginning", bool(notes.part) == (stops is not None), notes.part)
         check(f"{what}: its callbacks", not agrees(path, wanted), agrees(path, wanted))
         got = re.match(r"loop \d+: (\d+) of (\d+) callbacks, (\d+) steps: same", text)
         check(f"{what}: what is said", bool(got), text)
@@ -172,6 +176,11 @@ def try_faults(check, folder: str) -> None:
         ("a folder as a log", ["--log", "."], "Is a directory"),
         ("no log", ["--log", str(ROOT / "README.md")], "this is no log of a program"),
         ("a full disk", ["-o", "full", "--log", str(LOGS / "late.log")], "full.rec: No space left on device"),
+        ("a recording as a log", ["--log", str(EXAMPLES / "sent-session.rec")], "this is a recording, and no log"),
+        ("a recording as a program", [str(EXAMPLES / "sent-session.rec")], "is a recording already, and no program"),
+        ("a log as a program", [str(LOGS / "late.log")], "is a log, and no program"),
+        ("a part of a log that has no place to begin", ["--last", "1", "--log", str(LOGS / "late.log")], "no recording can begin at 0 ms"),
+        ("no number of callbacks", ["--most", "none", "--log", str(LOGS / "late.log")], "`none` is no number from 1 on"),
         ("a folder that isn't there", ["-o", "none/late", "--log", str(LOGS / "late.log")], "none/late.rec: No such file or directory"),
     ]
     for what, words, wanted in cases:
@@ -203,10 +212,64 @@ def try_programs(check, folder: str) -> None:
     ran = recorded(["./killed"], folder)
     check("record, one that is ended by a signal", "ended by SIGABRT" in ran.stdout and "3 of 3 callbacks" in ran.stdout, ran)
     check("record, its recording", verdict(Path(folder) / "killed.rec") == "same")
+    for name in (it.name for it in Path(folder).iterdir()):
+        check("record, no folder is left", not name.startswith(".late.") and not name.startswith(".killed."), name)
     # (a file may have 1,024 bytes: the log's first window has no room)
     full = subprocess.run(["sh", "-c", f"ulimit -f 1; exec {RECORD} ./late"], cwd=folder, capture_output=True, text=True, timeout=SECONDS)
     check("record, no room for the log", full.returncode == 2 and "no room" in full.stderr and "Traceback" not in full.stderr, full)
     check("record, the program isn't disturbed by that", "beat 2 is late" in full.stdout, full)
+
+
+# ---- long logs, and parts of them
+
+CALLS_OF_LONG = 50_000
+
+
+def long_log(calls: int) -> bytes:
+    """A timer of 1 ms that is called so often, and works 3 ms each thousandth time; all that there is, written down each 5,000 calls."""
+    lines = ["uvt-log 1 1.44.2 7 4 /home/user/long", "0 O 0 init %0 timer = ok", "0 O 0 start %0 1 1 = ok", "0 R 0 default"]
+    now, clock = 0, 0
+    for call in range(1, calls + 1):
+        lines += [f"0 K {now} all", f"0 K {now} 0 timer 1 1 0 1 1 {call}", f"0 K {now} end"] if call % 5000 == 0 else []
+        lines.append(f"0 P {now} 1")
+        clock += 1
+        now = clock
+        clock += 3 if call % 1000 == 0 else 0
+        lines.append(f"0 B {now} {now} on 0 timer")
+        lines += [f"0 O {now} close %0 = ok"] if call == calls else []
+        lines.append(f"0 E {now} {clock} 0")
+    return "\n".join([*lines, f"0 P {now} 0", f"0 B {now} {clock} closed 0", f"0 E {now} {clock} 0", f"0 r {now} 0", ""]).encode()
+
+
+def try_long(check, folder: str) -> None:
+    (Path(folder) / "long.log").write_bytes(long_log(CALLS_OF_LONG))
+    ran = recorded(["--log", "long.log"], folder)
+    check("record, 50,000 callbacks", f"loop 0: {CALLS_OF_LONG + 1} of {CALLS_OF_LONG + 1} callbacks" in ran.stdout and ran.returncode == 0, ran)
+    check("record, 50,000 callbacks: replay", verdict(Path(folder) / "long.rec") == "same")
+    told = subprocess.run([WHY, "timer", "long.rec"], cwd=folder, capture_output=True, text=True, timeout=SECONDS, env=os.environ).stdout
+    # (each thousandth call makes the loop's time old by 3 ms, so the one behind it is late by that)
+    late = [it for it in told.splitlines() if re.match(r"step \d+, call \d+001: late by 3 ms: the callback of timer took 3 ms, ", it)]
+    check("why of 50,000 callbacks", len(late) == CALLS_OF_LONG // 1000 - 1 and len(told) < 100_000, (len(late), told[:2000]))
+    for words, calls, sentence in ((["--most", "1000"], 1000, "and the first 1000 were taken"), (["--from", "40000"], None, "it begins at ")):
+        ran = recorded(["-o", "part", "--log", "long.log", *words], folder)
+        check(f"record {' '.join(words)}", sentence in ran.stdout and "same" in ran.stdout, ran)
+        part = Path(folder) / "part.rec"
+        check(f"record {' '.join(words)}: replay", verdict(part) == "same")
+        check(f"record {' '.join(words)}: its notes", sentence in read_notes(part, part.read_bytes()).part)
+        got = int(re.search(r"loop 0: (\d+) of", ran.stdout)[1])
+        check(f"record {' '.join(words)}: how many", got == calls if calls else 9_000 < got < 16_000, got)
+
+
+def try_whys_of_parts(check, folder: str) -> None:
+    """A recording that is only a beginning: each tool says so."""
+    recorded(["-o", "cut", "--log", str(LOGS / "zero.log")], folder)
+    for words in (["uvt-why", "again", "cut.rec"], ["uvt-why", "cut.rec"], ["uvt-shell", "cut.rec"], ["uvt-view", "cut.rec"]):
+        ran = subprocess.run([str(ROOT / "tools" / words[0]), *words[1:]], cwd=folder, capture_output=True, text=True, timeout=SECONDS,
+                             env=os.environ, input="")
+        check(f"{' '.join(words)} of a beginning", "THE RECORDING IS A PART: it has the first" in ran.stdout, ran.stdout[-500:] + ran.stderr)
+    for tool in ("uvt-why", "uvt-shell", "uvt-view"):
+        ran = subprocess.run([str(ROOT / "tools" / tool), str(LOGS / "zero.log")], capture_output=True, text=True, timeout=SECONDS, env=os.environ)
+        check(f"{tool} of a log", ran.returncode == 1 and "this is a log of a program" in ran.stderr and "Traceback" not in ran.stderr, ran.stderr)
 
 
 # ---- the pages
@@ -260,6 +323,8 @@ def try_records(tries) -> None:
             try_log(check, name, folder)
         try_changed(check, folder)
         try_faults(check, folder)
+        try_long(check, folder)
+        try_whys_of_parts(check, folder)
         if has_libuv():
             try_programs(check, folder)
         else:

@@ -39,7 +39,8 @@ class Question:
 
 
 QUESTIONS = [
-    Question("drift", "beat", [r"late by 1\d ms: the callback of beat, on_beat \(drift\.c:5\), took 1\d ms, .*so the loop's time was \d+ ms still"],
+    Question("drift", "beat",
+             [r"late by 1\d ms: the callback of beat, on_beat \(drift\.c:5\), took 1\d ms, .*so the loop's time was \d+ ms still"],
              [r"\d+ ms went by in the poll"]),
     Question("starve", "tick", [r"late by \d+ ms: the callback of background, on_background \(starve\.c:9\), took 3\d ms",
                                 "the poll didn't wait, at steps? .*: background was an active idle handle"], ["went by in the poll"]),
@@ -62,8 +63,9 @@ QUESTIONS = [
     Question("unrefd", "retry", ["retry: a timer, never called", r"nothing kept the loop alive, for retry is unreferenced since step \d+, by line"]),
     Question("unrefd", "jobs_5", ["cancelled before a worker took it", "on abort_all cancel jobs_5, in on_abort"]),
     Question("unrefd", "jobs_1", [r"`cancel jobs_1` answers EBUSY: too late: worker \d took it", r"worker \d ran it, work_job .*, 6\d ms"]),
-    Question("blocked", "job", [r"done at step \d+, 1\d\d ms later: the callback of blocker, on_blocker \(blocked\.c:6\), took 20\d ms",
-                                r"worker \d ran it, work_job \(blocked\.c:7\), from step \d+ to \d+, [23]\d ms"], ["same millisecond", r" 2\d\d ms;"]),
+    Question("blocked", "job",
+             [r"done at step \d+, 1\d\d ms later: the callback of blocker, on_blocker \(blocked\.c:6\), took 20\d ms",
+              r"worker \d ran it, work_job \(blocked\.c:7\), from step \d+ to \d+, [23]\d ms"], ["same millisecond", r" 2\d\d ms;"]),
     Question("blocked", "inbox", [r"for the send at step \d+, 1\d\d ms later: the callback of blocker, .* took 20\d ms"], ["same millisecond;"]),
     Question("blocked", ALL, [r"the longest callbacks\n    20\d ms: the callback of blocker, on_blocker \(blocked\.c:6\)",
                               r"the latest sends\n    1\d\d ms: inbox, "]),
@@ -74,7 +76,8 @@ QUESTIONS = [
                                       r"started at step \d+, .*, by ANOTHER THREAD, with uv_timer_start"], ["in on_innocent"]),
     Question("wrongthread", "innocent", ["call 1: (on time|late by [12] ms)"], ["ANOTHER", "WRONG"]),
     Question("pollspin", ALL, [r"who spun\n    \d+ polls in a row didn't wait, .*: readable was called in each of these rounds"]),
-    Question("forgotten", ALL, [r"what kept the loop alive\n    at the end, .* and the poll waits: forgotten \(async\)\n", r"never called\n    forgotten"]),
+    Question("forgotten", ALL, [r"what kept the loop alive\n    at the end, .* and the poll waits: forgotten \(async\)\n",
+                                r"never called\n    forgotten"]),
     Question("conns", "on_idle_3", [r"late by \d\d ms: the callback of on_request_3, on_request \(conns\.c:16\), took 9\d ms",
                                     "in memory of its own: the name is that of its function on_idle"]),
     Question("conns", ALL, [r"the longest callbacks\n    9\d ms: the callback of on_request_3, on_request"]),

@@ -18,6 +18,7 @@ LINE = re.compile(rf"({NUMBER}) ([OBERrPTFSCVWK]) ({NUMBER}) (.*)")
 ENDED = re.compile(rf"({NUMBER}) ({NUMBER})")
 TIMED = re.compile(rf"({NUMBER}) (.+)")
 ADDRESS = re.compile(r"- A (\d{1,9}) ([0-9a-f]{1,16}) (\S+) (.*)")
+WORKERS = re.compile(r"- N (\d{1,9})")
 NO_CLOCK = -1
 NO_ROOM = "- ! no room"
 CODE = r"(?:ok|E[A-Z0-9_]+)"
@@ -103,6 +104,10 @@ def read_event(text: str, line: int) -> tuple[int, Event] | None:
     return (loop, Event(type, now, NO_CLOCK, words, line)) if WORDS[type].fullmatch(words) else None
 
 
+def within(workers: int) -> int:
+    return max(1, min(1024, workers))
+
+
 def read_log(data: bytes) -> Log:
     """What stands in a log, up to its first line that is none."""
     # (a window of the file that wasn't filled has zeros at its end)
@@ -113,13 +118,15 @@ def read_log(data: bytes) -> Log:
         raise Fault("this is a recording, and no log: uvt-why, uvt-shell and uvt-view take it as it is")
     if not head:
         raise Fault("this is no log of a program: its first line isn't `uvt-log 1` with libuv's version, a process, workers and a program")
-    log = Log(head[1], int(head[2]), max(1, min(1024, int(head[3]))), head[4])
+    log = Log(head[1], int(head[2]), within(int(head[3])), head[4])
     for number, text in enumerate(lines[1:], 2):
         log.lines = number
         if event := read_event(text, number):
             log.loops.setdefault(event[0], []).append(event[1])
         elif address := ADDRESS.fullmatch(text):
             log.addresses[int(address[1])] = Address(int(address[2], 16), address[3], address[4])
+        elif workers := WORKERS.fullmatch(text):
+            log.workers = within(int(workers[1]))
         elif text == NO_ROOM:
             log.note = f"the disk had no room for more: the log ends at line {number}"
             return log

@@ -65,7 +65,8 @@ def window(events: list[Event], time: int) -> tuple[list[Event], int]:
     known = [at for at in starts_of(events) if begin_of(events, at) >= 0]
     before = [at for at in known if events[at - 1].now <= time]
     if not before:
-        first = f": it is possible from {events[known[0] - 1].now} ms on" if known else ", since nothing of it was written down (a short log, or an old one)"
+        nothing = ", since nothing of it was written down (a short log, or an old one)"
+        first = f": it is possible from {events[known[0] - 1].now} ms on" if known else nothing
         raise Fault(f"no recording can begin at {time} ms of the log{first}")
     at = before[-1]
     now, begin = events[at - 1].now, begin_of(events, at)

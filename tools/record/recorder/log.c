@@ -79,17 +79,30 @@ static void write_text(const char *text, size_t length) {
     used += length;
 }
 
+int workers(void) {
+    const char *asked = getenv("UV_THREADPOOL_SIZE");
+    int count = asked ? atoi(asked) : 4;
+    if (count == 0) return 1;
+    return count < 0 || count > 1024 ? 1024 : count; /* as libuv has it */
+}
+
+static int first_workers;
+
+/* (libuv makes the pool with the first request: until then a program may change the environment) */
+void write_workers(void) {
+    static bool said;
+    if (!said && workers() != first_workers) write_line(NULL, 'N', "%d", workers());
+    said = true;
+}
+
 /* The first line: which libuv, which process, how many workers, which program. */
 static void write_head(void) {
     char text[LINE], program[2048];
     ssize_t length = readlink("/proc/self/exe", program, sizeof program - 1);
-    const char *asked = getenv("UV_THREADPOOL_SIZE");
-    int workers = asked ? atoi(asked) : 4;
-    if (workers == 0) workers = 1;
-    if (workers < 0 || workers > 1024) workers = 1024; /* as libuv has it */
+    first_workers = workers();
     program[length < 0 ? 0 : length] = 0;
     int size = snprintf(text, sizeof text, "uvt-log 1 %s %d %d %s\n", CALL(uv_version_string)(), (int)getpid(),
-                        workers, program);
+                        first_workers, program);
     write_text(text, (size_t)size);
 }
 

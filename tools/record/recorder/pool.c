@@ -10,6 +10,7 @@ REAL(uv_queue_work)
 static struct object *queue(uv_loop_t *uv, void *request, void *callback, void *work) {
     struct object *object = put(loop_of(uv), request);
     if (!object) return NULL;
+    write_workers();
     note_thread(object->loop, object->id);
     object->callback = callback;
     object->second = work;

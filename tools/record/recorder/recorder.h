@@ -75,6 +75,9 @@ bool is_locked_here(void);
 /* `LOOP TYPE NOW ..`, and behind NOW the clock where a callback or work begins or ends, or somebody sends (types B, E, T, F and S).
  * The format knows %d, %u (64 bits), %x (64 bits) and %s. */
 void write_line(struct loop *loop, char type, const char *format, ...);
+/* How many workers the pool has, by the environment as it is now; the line that says so where that isn't what the first line has. */
+int workers(void);
+void write_workers(void);
 /* `LOOP O NOW WORD %ID REST = ANSWER`; nothing where there is no object. */
 void write_op(struct object *object, const char *word, const char *rest, int answer);
 const char *answer_text(int answer);
