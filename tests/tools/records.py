@@ -24,6 +24,7 @@ from record_run import from_data  # noqa: E402
 
 LOGS = Path(__file__).resolve().parent / "logs"
 EXAMPLES = ROOT / "crates" / "examples" / "data"
+TRUTHS = LOGS.parent / "truths"
 RECORD = str(ROOT / "tools" / "uvt-record")
 WHY = str(ROOT / "tools" / "uvt-why")
 SECONDS = 120
@@ -150,8 +151,9 @@ def changes(text: bytes) -> list[bytes]:
 
 def try_changed(check, folder: str) -> None:
     """A log that is cut anywhere, or has another byte: a sentence and a status, and what is written is `same`."""
-    for name in ("work", "watchers"):
-        for number, data in enumerate(changes((LOGS / f"{name}.log").read_bytes())):
+    for log in (LOGS / "work.log", LOGS / "watchers.log", TRUTHS / "wrongthread.log", TRUTHS / "starve.log"):
+        name = log.stem
+        for number, data in enumerate(changes(log.read_bytes())):
             what, said = f"record, {name} changed, {number}", []
             for old in Path(folder).glob("changed*.rec"):
                 old.unlink()
