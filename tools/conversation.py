@@ -317,7 +317,23 @@ class Conversation:
 
     def ask_all(self, commands: list[str]) -> list[str]:
         """Asks many commands that do steps, and answers all their lines, without saying which are whose."""
-        return next(self.ask_each(["\n".join(commands)])) if commands else []
+        writer = threading.Thread(target=self.send_quietly, args=("\n".join([*commands, "back 0", ""]),), daemon=True)
+        writer.start()
+        # (no line of theirs begins so but the last one)
+        lines = self.lines_until(b"at ")
+        writer.join()
+        self.length = int(lines.pop().removeprefix("at "))
+        return lines
+
+    def lines_until(self, last: bytes) -> list[str]:
+        """All lines up to one that begins so, which is the last one that comes."""
+        said = bytearray()
+        while not said.endswith(b"\n") or not said.startswith(last, said.rfind(b"\n", 0, -1) + 1):
+            part = self.process.stdout.read1(1 << 16)
+            if not part:
+                self.ended()
+            said += part
+        return said.decode("ascii", "replace").split("\n")[:-1]
 
     def send_quietly(self, text: str) -> None:
         """Sends, where the reader is the one who tells that the program has ended."""
@@ -367,10 +383,7 @@ class Conversation:
     def record(self) -> list[str]:
         """The lines of the recording: the last one is `end`, and no other one is."""
         self.send("record\n")
-        lines = [self.read_line()]
-        while lines[-1] != "end":
-            lines.append(self.read_line())
-        return lines
+        return self.lines_until(b"end\n")
 
     def recording(self) -> Recording:
         return read_recording("\n".join(self.record()) + "\n")

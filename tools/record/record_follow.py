@@ -12,6 +12,7 @@ in three ways:
 
 from __future__ import annotations
 
+import bisect
 import collections
 import copy
 import itertools
@@ -121,6 +122,7 @@ class Follower:
         self.lazy: set[int] = set()
         self.sent_late: dict[str, int] = {}
         # requests whose work begins and ends by a line of its own; what becomes of the others, and when, nobody sees
+        self.ends = [at for at, it in enumerate(self.items) if it.type == "end"]
         self.seen = {it.name for it in self.items if it.type == "finish"}
 
     def all_ops(self) -> list[str]:
@@ -196,7 +198,7 @@ class Follower:
         """A time of an item, to which the clock may go on."""
         item = self.items[at]
         if which == END:
-            return self.end_time(item, self.items[at + 1 : at + FAR])
+            return self.end_time(at)
         return item.now if which == NOW else item.clock
 
     def tick_to(self, at: int, which: str) -> None:
@@ -419,8 +421,9 @@ class Follower:
         self.tick_to(at, END)
         self.in_call = False
 
-    def end_time(self, item: Item, ahead: list[Item]) -> int:
-        if self.starts_behind_end(item, ahead):
+    def end_time(self, at: int) -> int:
+        item, ahead = self.items[at], self.items[at + 1 : at + FAR]
+        if self.is_near_end(at) and self.starts_behind_end(item, ahead):
             return NO_CLOCK
         later = (it.now for it in ahead if it.type in ("call", "poll", "run", "end") and it.now > item.now)
         return min(item.clock, next(later, item.clock))
@@ -444,6 +447,11 @@ class Follower:
             if ended and other.type == "op" and other.text.split(" ")[0] in ("start", "again"):
                 return True
         return False
+
+    def is_near_end(self, at: int) -> bool:
+        """Does a run end within the next items?"""
+        found = bisect.bisect_left(self.ends, at)
+        return found < len(self.ends) and self.ends[found] < at + FAR
 
     def do(self, item: Item, at: int) -> None:
         match item.type:

@@ -5,6 +5,7 @@ A log may be cut anywhere, and any byte of it may be another one: it is read up 
 
 from __future__ import annotations
 
+import functools
 import re
 from dataclasses import dataclass, field
 
@@ -14,12 +15,10 @@ NUMBER = r"(?:0|[1-9]\d{0,18})"
 TIMER_OWN = {"timer", "idle", "prepare", "check", "async"}
 WATCHERS = {"tcp", "udp", "pipe", "tty", "poll", "signal", "fs_event", "fs_poll", "process"}
 HEAD = re.compile(r"uvt-log 1 (1\.\d{1,4}\.\d{1,4}\S*) (\d{1,9}) (\d{1,9}) (.*)")
-LINE = re.compile(rf"({NUMBER}) ([OBERrPTFSCVWK]) ({NUMBER}) (.*)")
-ENDED = re.compile(rf"({NUMBER}) ({NUMBER})")
-TIMED = re.compile(rf"({NUMBER}) (.+)")
 ADDRESS = re.compile(r"- A (\d{1,9}) ([0-9a-f]{1,16}) (\S+) (.*)")
 WORKERS = re.compile(r"- N (\d{1,9})")
 NO_CLOCK = -1
+TIMED = "BEFST"
 NO_ROOM = "- ! no room"
 CODE = r"(?:ok|E[A-Z0-9_]+)"
 WORDS = {
@@ -29,6 +28,7 @@ WORDS = {
         rf"|start %{NUMBER}(?: \d{{1,20}} \d{{1,20}})? = {CODE}|repeat %{NUMBER} \d{{1,20}} = {CODE}"
         rf"|(?:stop|again|close|ref|unref|send|cancel) %{NUMBER} = {CODE}|(?:closeloop|stoploop|updatetime) = {CODE}"
     ),
+    "E": re.compile(NUMBER),
     "B": re.compile(rf"on {NUMBER} [a-z_]+|after {NUMBER} (?:ok|ECANCELED)|closed {NUMBER}"),
     "R": re.compile("default|once|nowait"),
     "r": re.compile("[01]"),
@@ -90,18 +90,28 @@ class Log:
     note: str = ""
 
 
+def is_number(text: str) -> bool:
+    return text.isdecimal() and text.isascii() and len(text) <= 19 and (text[0] != "0" or text == "0")
+
+
+@functools.lru_cache(maxsize=1 << 16)
+def is_good(type: str, words: str) -> bool:
+    return WORDS[type].fullmatch(words) is not None
+
+
 def read_event(text: str, line: int) -> tuple[int, Event] | None:
-    found = LINE.fullmatch(text)
-    if not found:
+    parts = text.split(" ", 3)
+    if len(parts) != 4 or parts[1] not in WORDS or not is_number(parts[0]) or not is_number(parts[2]):
         return None
-    loop, type, now, words = int(found[1]), found[2], int(found[3]), found[4]
-    if type == "E":
-        ended = ENDED.fullmatch(words)
-        return (loop, Event(type, now, int(ended[1]), ended[2], line)) if ended else None
-    if type in "BFST" and (timed := TIMED.fullmatch(words)) and WORDS[type].fullmatch(timed[2]):
-        # (logs of earlier recorders have no clock there)
-        return loop, Event(type, now, int(timed[1]), timed[2], line)
-    return (loop, Event(type, now, NO_CLOCK, words, line)) if WORDS[type].fullmatch(words) else None
+    loop, type, now, words = int(parts[0]), parts[1], int(parts[2]), parts[3]
+    if type in TIMED:
+        clock, _, rest = words.partition(" ")
+        if is_number(clock) and is_good(type, rest):
+            return loop, Event(type, now, int(clock), rest, line)
+        # (logs of earlier recorders have a clock at a callback's end alone)
+        if type == "E":
+            return None
+    return (loop, Event(type, now, NO_CLOCK, words, line)) if is_good(type, words) else None
 
 
 def within(workers: int) -> int:
