@@ -28,6 +28,8 @@ TRUTHS = LOGS.parent / "truths"
 RECORD = str(ROOT / "tools" / "uvt-record")
 WHY = str(ROOT / "tools" / "uvt-why")
 SECONDS = 120
+# (for the program before its proofs, which takes 250 times as long)
+LONG = 1200
 IO, ZERO, NESTED = (
     "Callbacks of I/O come in the order of the system",
     "A zero timeout started in a callback waits (own)",
@@ -62,12 +64,13 @@ WANTED: dict[str, dict[int, tuple[str, str] | None]] = {
 }
 
 
-def recorded(words: list[str], folder: str, **more: object) -> subprocess.CompletedProcess[str]:
-    return subprocess.run([RECORD, *words], cwd=folder, capture_output=True, text=True, timeout=SECONDS, env=os.environ, **more)
+def recorded(words: list[str], folder: str, seconds: int = SECONDS) -> subprocess.CompletedProcess[str]:
+    return subprocess.run([RECORD, *words], cwd=folder, capture_output=True, text=True, timeout=seconds, env=os.environ)
 
 
-def verdict(path: Path) -> str:
-    return subprocess.run([os.environ["UVT"], "replay"], input=path.read_bytes(), capture_output=True, timeout=SECONDS).stdout.decode().strip()
+def verdict(path: Path, seconds: int = SECONDS) -> str:
+    ran = subprocess.run([os.environ["UVT"], "replay"], input=path.read_bytes(), capture_output=True, timeout=seconds)
+    return ran.stdout.decode().strip()
 
 
 def callbacks(log: Path, loop: int) -> list[tuple[str, str]]:
@@ -245,18 +248,18 @@ def long_log(calls: int) -> bytes:
 
 def try_long(check, folder: str) -> None:
     (Path(folder) / "long.log").write_bytes(long_log(CALLS_OF_LONG))
-    ran = recorded(["--log", "long.log"], folder)
+    ran = recorded(["--log", "long.log"], folder, LONG)
     check("record, 50,000 callbacks", f"loop 0: {CALLS_OF_LONG + 1} of {CALLS_OF_LONG + 1} callbacks" in ran.stdout and ran.returncode == 0, ran)
-    check("record, 50,000 callbacks: replay", verdict(Path(folder) / "long.rec") == "same")
-    told = subprocess.run([WHY, "timer", "long.rec"], cwd=folder, capture_output=True, text=True, timeout=SECONDS, env=os.environ).stdout
+    check("record, 50,000 callbacks: replay", verdict(Path(folder) / "long.rec", LONG) == "same")
+    told = subprocess.run([WHY, "timer", "long.rec"], cwd=folder, capture_output=True, text=True, timeout=LONG, env=os.environ).stdout
     # (each thousandth call makes the loop's time old by 3 ms, so the one behind it is late by that)
     late = [it for it in told.splitlines() if re.match(r"step \d+, call \d+001: late by 3 ms: the callback of timer took 3 ms, ", it)]
     check("why of 50,000 callbacks", len(late) == CALLS_OF_LONG // 1000 - 1 and len(told) < 100_000, (len(late), told[:2000]))
     for words, calls, sentence in ((["--most", "1000"], 1000, "and the first 1000 were taken"), (["--from", "40000"], None, "it begins at ")):
-        ran = recorded(["-o", "part", "--log", "long.log", *words], folder)
+        ran = recorded(["-o", "part", "--log", "long.log", *words], folder, LONG)
         check(f"record {' '.join(words)}", sentence in ran.stdout and "same" in ran.stdout, ran)
         part = Path(folder) / "part.rec"
-        check(f"record {' '.join(words)}: replay", verdict(part) == "same")
+        check(f"record {' '.join(words)}: replay", verdict(part, LONG) == "same")
         check(f"record {' '.join(words)}: its notes", sentence in read_notes(part, part.read_bytes()).part)
         got = int(re.search(r"loop 0: (\d+) of", ran.stdout)[1])
         check(f"record {' '.join(words)}: how many", got == calls if calls else 9_000 < got < 16_000, got)
