@@ -184,7 +184,7 @@ class Why:
         left = took.pieces[-1][1]
         if not until.isdecimal() or left <= (until := int(until)) or begin < until:
             return told(took)
-        if left - until <= 1:
+        if left - until <= 1 and self.notes.names:
             return f"the poll was to end at {until} ms, and the system ended it at {left} ms, {steps_of([took.first])}"
         before = [it for it in self.walk.causes(now, clock) if it.first < took.first]
         if not before and self.notes.names:
