@@ -541,6 +541,9 @@ class Follower:
                 self.go_along(at)
                 self.flush()
                 break
+            except NeedsWake:
+                self.talk.stop()
+                raise
             except Stopped as stopped:
                 at = self.again_from(stopped)
                 if at is None:
