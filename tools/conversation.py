@@ -13,7 +13,9 @@ import subprocess
 import threading
 from dataclasses import dataclass, field
 from pathlib import Path
-from typing import Iterator
+from typing import BinaryIO, Iterator
+
+from notes import Notes, path_of, read_notes
 
 ROOT = Path(__file__).resolve().parent.parent
 # Whether these are the tools of tools/package, without a repository.
@@ -50,6 +52,8 @@ class Script:
     lines: list[str]
     # the number of its first line in the file: a recording has its version in front
     first: int = 1
+    # what is known of a recording beside its steps
+    notes: Notes = field(default_factory=Notes)
 
     def is_recorded(self) -> bool:
         return self.first > 1
@@ -58,9 +62,19 @@ class Script:
         """The names, in the order of their declarations."""
         return [it.split(" ")[1] for it in self.lines if it.startswith("var ") and it.count(" ") == 1]
 
+    @functools.cached_property
+    def places(self) -> dict[str, list[int]]:
+        """The numbers, from 0, of the lines of each list, in order: those of `main`, of `on NAME`, .."""
+        found: dict[str, list[int]] = {}
+        for at, line in enumerate(self.lines):
+            words = line.split(" ", 2)
+            if len(words) > 1:
+                found.setdefault(words[0] if words[0] == "main" else f"{words[0]} {words[1]}", []).append(at)
+        return found
+
     def numbered(self, first: str) -> list[int]:
-        """The numbers, from 0, of the lines that begin so, in order: the k-th op of `main `, or of `on NAME `."""
-        return [at for at, line in enumerate(self.lines) if line.startswith(first)]
+        """The same of one list: the k-th op of `main`, or of `on NAME`."""
+        return self.places.get(first, [])
 
 
 @dataclass
@@ -102,13 +116,34 @@ def read_text(text: str) -> tuple[Script, list[str]]:
     return Script(lines), []
 
 
+def read_bytes(data: bytes, path: Path | None) -> tuple[Script, list[str]]:
+    """The same, of what a file has, with the notes beside it."""
+    if data.startswith(b"uvt-log "):
+        raise Fault("this is a log of a program, and no recording: `uvt-record --log FILE` makes recordings of it")
+    if data.startswith(b"uvt-notes "):
+        raise Fault("these are the notes of a recording: the recording is the file beside it that ends with .rec")
+    script, steps = read_text(data.decode("ascii", "surrogateescape"))
+    if path and script.is_recorded():
+        script.notes = read_notes(path, data)
+    return script, steps
+
+
 def read_input(path: Path) -> tuple[Script, list[str]]:
     """The same, of a file."""
     try:
-        text = path.read_text(encoding="ascii", errors="surrogateescape")
+        data = path.read_bytes()
     except OSError as fault:
         raise Fault(f"{path}: {fault.strerror}") from None
-    return read_text(text)
+    return read_bytes(data, path)
+
+
+def read_descriptor(file: BinaryIO) -> tuple[Script, list[str]]:
+    """The same, of an input that is open already."""
+    try:
+        data = file.read()
+    except OSError as fault:
+        raise Fault(f"the input can't be read: {fault.strerror}") from None
+    return read_bytes(data, path_of(file.fileno()))
 
 
 @dataclass
@@ -264,8 +299,6 @@ class Conversation:
 
         The commands are those that do steps, or set breaks: no line of their answers looks as that of `back 0` does, which ends each.
         """
-        if any("\n" in it for it in commands):
-            raise Fault("a command is one line")
         text = "".join(f"{it}\nback 0\n" for it in commands)
         # (a pipe holds only so much: who writes all before reading would wait for a reader who waits)
         writer = threading.Thread(target=self.send_quietly, args=(text,), daemon=True) if len(text) > PIPE else None
@@ -275,12 +308,32 @@ class Conversation:
             self.send_quietly(text)
         for _ in commands:
             lines = []
-            while not (at := AT.match(line := self.read_line())):
+            while not ((line := self.read_line()).startswith("at ") and (at := AT.match(line))):
                 lines.append(line)
             self.length = int(at[1])
             yield lines
         if writer:
             writer.join()
+
+    def ask_all(self, commands: list[str]) -> list[str]:
+        """Asks many commands that do steps, and answers all their lines, without saying which are whose."""
+        writer = threading.Thread(target=self.send_quietly, args=("\n".join([*commands, "back 0", ""]),), daemon=True)
+        writer.start()
+        # (no line of theirs begins so but the last one)
+        lines = self.lines_until(b"at ")
+        writer.join()
+        self.length = int(lines.pop().removeprefix("at "))
+        return lines
+
+    def lines_until(self, last: bytes) -> list[str]:
+        """All lines up to one that begins so, which is the last one that comes."""
+        said = bytearray()
+        while not said.endswith(b"\n") or not said.startswith(last, said.rfind(b"\n", 0, -1) + 1):
+            part = self.process.stdout.read1(1 << 16)
+            if not part:
+                self.ended()
+            said += part
+        return said.decode("ascii", "replace").split("\n")[:-1]
 
     def send_quietly(self, text: str) -> None:
         """Sends, where the reader is the one who tells that the program has ended."""
@@ -298,6 +351,10 @@ class Conversation:
         away = length - self.length
         move = f"forward {away}" if away > 0 else f"back {-away}"
         self.send(f"{move}\nstate\n")
+        return self.read_state_behind(move)
+
+    def read_state_behind(self, move: str) -> State:
+        """The answer to a move, and the state behind it."""
         said = self.read_line()
         # (the line `done-yet` is a state's last one)
         lines = [self.read_line()]
@@ -308,11 +365,28 @@ class Conversation:
         self.length = int(at[1])
         return read_state(lines)
 
+    def states_at(self, lengths: list[int]) -> Iterator[State]:
+        """The same of many, asked all at once. All have to be read."""
+        moves, here = [], self.length
+        for length in lengths:
+            moves.append(f"forward {length - here}" if length > here else f"back {here - length}")
+            here = length
+        writer = threading.Thread(target=self.send_quietly, args=("".join(f"{it}\nstate\n" for it in moves),), daemon=True)
+        writer.start()
+        for move in moves:
+            yield self.read_state_behind(move)
+        writer.join()
+
     def trace(self) -> list[str]:
         return self.ask("trace")
 
+    def record(self) -> list[str]:
+        """The lines of the recording: the last one is `end`, and no other one is."""
+        self.send("record\n")
+        return self.lines_until(b"end\n")
+
     def recording(self) -> Recording:
-        return read_recording("\n".join(self.ask("record")) + "\n")
+        return read_recording("\n".join(self.record()) + "\n")
 
     def close(self) -> None:
         """Ends the program."""

@@ -11,8 +11,10 @@ from pathlib import Path
 from typing import Callable
 
 from conversation import Conversation, Fault, Script, State, read_input
+from dap_breaks import More, Unknown, more_of
 from places import Place, next_line, read_place
-from walk import longest_way
+from walk import Walk, longest_way
+from why import why
 
 CODES = ["EINVAL", "EBUSY", "ECANCELED", "EBOUND", "EFULL", "ESTALE", "EKIND"]
 SECTIONS = ["pending", "idle", "prepare", "poll", "done", "async", "check", "closing", "timers"]
@@ -105,8 +107,8 @@ class Adapter:
         self.steps: list[str] = []
         # what the client counts lines and columns from
         self.base = [1, 1]
-        self.lines: set[int] = set()
-        self.calls: set[str] = set()
+        self.lines: dict[int, More] = {}
+        self.calls: dict[str, More] = {}
         self.filters: set[str] = set()
         # how far the steps that stand, and those that were taken back, reach
         self.top = 0
@@ -173,6 +175,7 @@ class Adapter:
         filters = [{"filter": it, "label": f"an op that answers {it}"} for it in CODES]
         filters += [{"filter": f"section {it}", "label": f"the section {it} begins"} for it in SECTIONS]
         return {"supportsConfigurationDoneRequest": True, "supportsFunctionBreakpoints": True, "supportsStepBack": True,
+                "supportsConditionalBreakpoints": True, "supportsHitConditionalBreakpoints": True, "supportsLogPoints": True,
                 "supportsTerminateRequest": True, "supportsGotoTargetsRequest": True, "exceptionBreakpointFilters": filters}
 
     def on_launch(self, arguments: dict) -> None:
@@ -190,6 +193,8 @@ class Adapter:
         self.later.append(lambda: self.event("initialized"))
 
     def on_configurationDone(self, arguments: dict) -> None:
+        for it in self.script.notes.loud():
+            self.later.append(lambda it=it: self.event("output", category="important", output=f"{it}\n"))
         self.later.append(lambda: self.stopped("entry"))
 
     def on_disconnect(self, arguments: dict) -> None:
@@ -203,32 +208,46 @@ class Adapter:
     # ---- breakpoints
 
     def on_setBreakpoints(self, arguments: dict) -> dict:
-        asked = self.listed(arguments, "breakpoints", "line")
+        asked = zip(self.listed(arguments, "breakpoints", "line"), map(more_of, self.listed(arguments, "breakpoints")))
         shown = []
         source = arguments.get("source")
         mine = isinstance(source, dict) and isinstance(source.get("path"), str) and os.path.abspath(source["path"]) == self.path
         if mine:
-            self.lines = set()
-        for line in asked:
+            self.lines = {}
+        for line, more in asked:
             first = self.first_line()
             at = line - first if isinstance(line, int) else -1
             holds = mine and 0 <= at < len(self.script.lines) and OPS.match(self.script.lines[at]) is not None
-            if holds:
-                self.lines.add(at)
+            refused = self.refusal(more) if holds else "no op stands in this line"
+            if not refused:
+                self.lines[at] = more
             # (a client may say True for 1)
-            shown.append({"verified": True, "line": int(line)} if holds else {"verified": False, "message": "no op stands in this line"})
+            shown.append({"verified": False, "message": refused} if refused else {"verified": True, "line": int(line)})
         return {"breakpoints": shown}
+
+    def refusal(self, more: More) -> str:
+        """Why what a breakpoint has beside its place isn't taken; `` where it is."""
+        try:
+            more.check(self.script.names(), self.talk.state().numbers)
+        except Unknown as unknown:
+            return str(unknown)
+        return ""
 
     def first_line(self) -> int:
         """The number that the client has for the script's first line."""
         return self.base[0] + self.script.first - 1
 
     def on_setFunctionBreakpoints(self, arguments: dict) -> dict:
-        asked = self.listed(arguments, "breakpoints", "name")
-        names = self.script.names()
-        self.calls = {it for it in asked if it in names}
+        asked = zip(self.listed(arguments, "breakpoints", "name"), map(more_of, self.listed(arguments, "breakpoints")))
+        names, shown = self.script.names(), []
+        self.calls = {}
+        for name, more in asked:
+            refused = self.refusal(more) if name in names else "the script has no such name"
+            if not refused:
+                self.calls[name] = more
+            shown.append({"verified": False, "message": refused} if refused else {"verified": True})
         self.set_breaks()
-        return {"breakpoints": [{"verified": it in names} for it in asked]}
+        return {"breakpoints": shown}
 
     def on_setExceptionBreakpoints(self, arguments: dict) -> None:
         known = {*CODES, *(f"section {it}" for it in SECTIONS)}
@@ -261,10 +280,21 @@ class Adapter:
     def matched(self, lines: list[str]) -> str | None:
         """Why to stop behind a step that printed these lines."""
         if lines and lines[-1].startswith("break at "):
-            return self.break_of(lines[0])
-        if self.lines and next_line(self.script, self.place()) in self.lines:
+            reason = self.break_of(lines[0])
+            if reason != "function breakpoint" or self.is_hit(self.calls[lines[0].split(" ")[1]]):
+                return reason
+        if self.lines and (more := self.lines.get(next_line(self.script, self.place()))) and self.is_hit(more):
             return "breakpoint"
         return None
+
+    def is_hit(self, more: More) -> bool:
+        """Whether to stop at a breakpoint: its condition holds, its count is there, and it has no message to be said instead."""
+        state = self.talk.state()
+        if not more.holds(state):
+            return False
+        if more.message:
+            self.event("output", category="console", output=f"{more.said(state)}\n")
+        return not more.message
 
     def break_of(self, line: str) -> str:
         """Which kind of break a step's line matched."""
@@ -321,17 +351,28 @@ class Adapter:
     def run_back(self) -> None:
         """Back to the last breakpoint, or to the start."""
         here = self.talk.length
-        found = self.talk.ask("rback") != ["refused range"]
+        found = self.rback()
         target = self.talk.length if found else 0
         if self.lines and (reason := self.line_before(here, target)):
             return self.stopped(reason)
         self.goto(target)
         self.stopped(self.break_of(self.talk.trace()[-1]) if found else "entry")
 
+    def rback(self) -> bool:
+        """Back to the last break of the program whose condition holds. (Counts of hits and messages are for the way on.)"""
+        while self.talk.ask("rback") != ["refused range"]:
+            words = self.talk.trace()[-1].split(" ")
+            more = self.calls.get(words[1]) if words[0] in ("call", "after", "closed") else None
+            if not more or More(more.condition).holds(self.talk.state()):
+                return True
+        return False
+
     def line_before(self, here: int, target: int) -> str | None:
         """Goes back from one length to another, up to where a line with a breakpoint comes next, or until the client says something."""
         for length in range(here - 1, target - 1, -1):
-            if next_line(self.script, read_place(self.talk.state_at(length).place)) in self.lines:
+            state = self.talk.state_at(length)
+            more = self.lines.get(next_line(self.script, read_place(state.place)))
+            if more and More(more.condition).holds(state):
                 return "breakpoint"
             if (here - length) % STRIDE == 0 and self.is_asked_to_stop():
                 return "pause"
@@ -409,7 +450,7 @@ class Adapter:
         return [(line.split(" ")[0], line.partition(" ")[2]) for line in lines]
 
     def on_evaluate(self, arguments: dict) -> dict:
-        """A command of the program, `goto LENGTH`, or a name."""
+        """A command of the program, `goto LENGTH`, `why NAME`, or a name."""
         typed = str(self.wanted(arguments, "expression", str)).strip()
         before, reason = self.talk.length, "goto"
         found = re.fullmatch(r"goto (\d{1,8})", typed)
@@ -418,6 +459,8 @@ class Adapter:
             lines = [f"at {self.talk.length}"]
         elif typed in self.script.names():
             lines = [value for name, value in self.values("Handles and requests", self.talk.state()) if name == typed] or ["it stands for nothing"]
+        elif typed.startswith("why ") and typed.count(" ") == 1:
+            lines = self.why(typed.removeprefix("why "))
         elif typed == "quit" or not typed or "\n" in typed or not typed.isascii():
             raise Refused("this is no command")
         else:
@@ -429,6 +472,13 @@ class Adapter:
         if lines == ["bad command"]:
             raise Refused(f"`{typed}` is no command of the program")
         return {"result": "\n".join(lines), "variablesReference": 0}
+
+    def why(self, name: str) -> list[str]:
+        """Of the steps that stand. (A program of its own goes through them, so that this one stays where it is.)"""
+        if name not in self.script.names():
+            raise Refused(f"the script has no name `{name}`")
+        with Walk(self.script, self.talk.recording().steps) as walk:
+            return why(walk, name)
 
     def asked(self, typed: str) -> tuple[list[str], str]:
         """The answer to a command, and why it stops there. A long `loop N` goes stride by stride, so that the client can end it."""

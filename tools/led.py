@@ -7,6 +7,7 @@ from dataclasses import dataclass
 from beside import LAST_MS, common
 from conversation import Fault, State
 from places import read_place
+from pool import workers_of
 from walk import OUTSIDE, Walk
 
 MORE_LINES = 12
@@ -26,10 +27,6 @@ class Led:
     def step_of(self, at: int) -> int:
         """The step of the line of that number, or the one behind the last step."""
         return self.steps[at] if at < len(self.steps) else self.steps[-1] + 1 if self.steps else 1
-
-
-def workers_of(lines: list[str]) -> int:
-    return next((int(it.split(" ")[1]) for it in lines if it.startswith("workers ")), 4)
 
 
 def waits(state: State) -> bool:

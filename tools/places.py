@@ -45,9 +45,9 @@ def next_line(script: Script, place: Place) -> int | None:
     """The number, from 0, of the script's line that the next step does. None where it does none of them."""
     if place.callback:
         kind, name, _, at = place.callback
-        lines = script.numbered(f"{kind} {name} ")
+        lines = script.numbered(f"{kind} {name}")
     elif place.mode is None:
-        lines, at = script.numbered("main "), place.main
+        lines, at = script.numbered("main"), place.main
     else:
         return None
     return lines[at] if at < len(lines) else None

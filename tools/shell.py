@@ -7,6 +7,7 @@ from typing import Callable
 
 from conversation import BAD, Conversation, State
 from places import Place, next_line, read_place
+from shell_breaks import Break, Breaks
 from walk import Walk
 from why import why
 
@@ -16,8 +17,11 @@ SECTIONS = ["pending", "idle", "prepare", "poll", "done", "async", "check", "clo
 INFO = ["timers", "handles", "requests", "loop", "breaks"]
 SHORT = {
     "s": "step", "n": "next", "c": "continue", "b": "break", "d": "delete", "l": "list", "i": "info", "p": "print", "r": "run",
-    "rs": "reverse-step", "rn": "reverse-next", "rc": "reverse-continue", "bt": "where", "q": "quit", "h": "help", "stepi": "step",
+    "u": "until", "tb": "tbreak", "rs": "reverse-step", "rn": "reverse-next", "rc": "reverse-continue", "bt": "where", "q": "quit",
+    "h": "help", "stepi": "step",
 }
+# Those of them that do a step.
+STEPS = ("loop", "take", "finish", "cancel", "send", "tick")
 # How many steps `continue` asks for at a time: it can be stopped between two of them.
 STRIDE = 1000
 
@@ -31,11 +35,14 @@ class Quit(Exception):
 class Shell:
     """A conversation, with gdb's words for it."""
 
-    def __init__(self, talk: Conversation, write: Write, colour: bool = False) -> None:
+    def __init__(self, talk: Conversation, write: Write, colour: bool = False, steps: list[str] | None = None) -> None:
         self.talk = talk
+        # the steps of what was opened, and those that are done again before the loop goes on by itself: they part where somebody does another
+        self.recorded = steps or []
+        self.steps = self.recorded
         self.write = write
         self.colour = colour
-        self.breaks: list[str] = []
+        self.breaks = Breaks(talk)
         self.checkpoints: list[int] = []
         self.last = ""
         self.commands: dict[str, Callable[[list[str]], None]] = {
@@ -69,6 +76,10 @@ class Shell:
     def place(self) -> Place:
         return read_place(self.talk.state().place)
 
+    def part(self) -> None:
+        """Says what has to be known of a recording before all else."""
+        self.show(self.talk.script.notes.loud())
+
     # ---- a line that was typed
 
     def names(self) -> list[str]:
@@ -85,11 +96,13 @@ class Shell:
         match SHORT.get(typed[0], typed[0]), len(typed):
             case "break", 1:
                 found = ["call", "code", "section", "clear", *self.names(), *CODES, *SECTIONS]
+            case "tbreak" | "until", 1:
+                found = [*self.names(), *CODES, *SECTIONS]
             case "break", 2:
                 found = {"call": self.names(), "code": CODES, "section": [it for it in SECTIONS]}.get(typed[1], [])
             case "info", 1:
                 found = INFO
-            case "print" | "why" | "send" | "cancel", 1:
+            case "print" | "why" | "send" | "cancel" | "watch", 1:
                 found = self.names()
             case "help", 1:
                 found = self.words()
@@ -113,12 +126,27 @@ class Shell:
             self.unknown(first)
 
     def typed_own(self, command: str) -> None:
-        words = command.split(" ")
-        lines = self.own(command)
-        if words[0] == "break" and lines == ["break ok"]:
-            self.breaks = [] if words[1:] == ["clear"] else [*self.breaks, " ".join(words[1:])]
+        words, at = command.split(" "), self.talk.length
+        if words[0] == "break" and len(words) == 3:
+            lines = self.show(self.breaks.add(words[1], words[2]))
+        elif words[:2] == ["break", "clear"]:
+            self.breaks.keep([])
+            lines = self.show(["break ok"])
+        else:
+            lines = self.own(command)
+        if words[0] in STEPS and self.talk.length > at:
+            self.left(at, "loop" if words[0] == "loop" else command)
         if lines == [BAD]:
             self.hint(words)
+
+    def left(self, at: int, step: str) -> None:
+        """Somebody did these steps. Where they aren't those that were to come, it is another session from here on."""
+        did = [step] * (self.talk.length - at)
+        if self.steps[at : self.talk.length] == did[: len(self.steps) - at]:
+            return
+        if self.steps is self.recorded and at < len(self.recorded):
+            self.write(f"from here on it is another session: {len(self.recorded) - at} recorded steps are left out; `restore` brings them back")
+        self.steps = self.steps[:at] + ["loop"] * (at - len(self.steps)) + did
 
     def hint(self, words: list[str]) -> None:
         near = difflib.get_close_matches(words[-1], [*self.names(), *CODES, *SECTIONS], 1)
@@ -155,32 +183,67 @@ class Shell:
 
     # ---- on and back
 
+    def on(self, most: int = 1) -> list[str]:
+        """The next step, of what was opened while there is one, else the loop's; or so many of the loop's in a row."""
+        at = self.talk.length
+        step = self.steps[at] if at < len(self.steps) else "loop"
+        if step == "loop" and most > 1:
+            end = next((it for it in range(at, min(at + most, len(self.steps))) if self.steps[it] != "loop"), at + most)
+            step = f"loop {end - at}"
+        return self.own(step)
+
+    def is_over(self, lines: list[str]) -> bool:
+        """Was the step refused, or did it match a break of the program?"""
+        if lines and lines[-1].startswith("break at "):
+            self.breaks.stopped(self.breaks.of_line(lines[-2] if len(lines) > 1 else ""))
+            return True
+        return bool(lines) and lines[-1].startswith("refused ")
+
     def run_on(self, ends: Callable[[], bool] | None = None) -> None:
         """Goes on, a stride at a time, or step by step up to where `ends` holds: to a break, or to a step that is refused."""
+        by_step = self.breaks.is_by_step()
+        before = self.talk.state() if by_step else None
         try:
             while True:
-                lines = self.own("loop" if ends else f"loop {STRIDE}")
-                if lines and (lines[-1].startswith("refused ") or lines[-1].startswith("break at ")):
+                if self.is_over(self.on(1 if ends or by_step else STRIDE)):
                     return
+                if by_step:
+                    state = self.talk.state()
+                    if found := self.breaks.between(before, state):
+                        return self.stop_at(*found)
+                    before = state
                 if ends and ends():
                     return
         except KeyboardInterrupt:
             self.write(f"stopped, at {self.talk.length}")
 
+    def stop_at(self, it: Break, said: str) -> None:
+        self.show([f"{it.words()}, #{it.number}, at {self.talk.length}", *said.split("\n")])
+        self.breaks.stopped(it)
+
     def do_step(self, words: list[str]) -> None:
-        """step [N]: the loop's next step, or so many"""
-        if count := self.number(words):
-            self.own(f"loop {count}")
+        """step [N]: the next step, of what was recorded while there is one, else the loop's; or so many"""
+        for _ in range(self.number(words) or 0):
+            if self.is_over(self.on()):
+                return
 
     def do_next(self, words: list[str]) -> None:
         """next: a step, and all of a callback that it begins"""
-        self.own("loop")
-        if self.place().is_in_callback():
+        if not self.is_over(self.on()) and self.place().is_in_callback():
             self.run_on(lambda: not self.place().is_in_callback())
 
     def do_continue(self, words: list[str]) -> None:
-        """continue: steps up to a break, or until one is refused; Ctrl-C stops it"""
+        """continue: steps up to a break, or until one is refused, along what was recorded; Ctrl-C stops it"""
         self.run_on()
+
+    def do_until(self, words: list[str]) -> None:
+        """until LINE, until NAME, CODE or SECTION: on to where that comes, or to a break before it"""
+        if (found := self.what_to_break(words)) is None:
+            return
+        if self.breaks.add(*found, once=True) == ["break ok"]:
+            mine = self.breaks.rows[-1]
+            self.run_on()
+            self.breaks.delete(mine.number)
 
     def do_finish(self, words: list[str]) -> None:
         """finish: steps to the end of the callback under way (`finish K` hands in what worker K did)"""
@@ -190,6 +253,17 @@ class Shell:
             self.run_on(lambda: not self.place().is_in_callback())
         else:
             self.write("no callback is under way")
+
+    def do_restore(self, words: list[str]) -> None:
+        """restore: the recorded session again, from where another one began"""
+        if self.steps is self.recorded:
+            self.write("it is what was recorded already")
+            return
+        same = next((at for at, (a, b) in enumerate(zip(self.steps, self.recorded)) if a != b), min(len(self.steps), len(self.recorded)))
+        lines = self.talk.ask(f"back {self.talk.length - same}") if self.talk.length > same else []
+        self.steps = self.recorded
+        self.went_back(lines)
+        self.write(f"{len(self.recorded) - self.talk.length} recorded steps come behind this")
 
     def went_back(self, lines: list[str]) -> None:
         self.show(lines)
@@ -207,9 +281,36 @@ class Shell:
             lines = self.talk.ask("back 1")
         self.went_back(lines)
 
+    def do_reverse_finish(self, words: list[str]) -> None:
+        """reverse-finish: back to the step that began the callback under way, and in front of it"""
+        if not self.place().is_in_callback():
+            self.write("no callback is under way")
+            return
+        lines = self.talk.ask("back 1")
+        while self.place().is_in_callback():
+            lines = self.talk.ask("back 1")
+        self.went_back(lines)
+
+    def back_by_step(self, here: int, target: int) -> bool:
+        """Goes back from one length to another, up to a line or a watch."""
+        behind = self.talk.state_at(here)
+        for length in range(here - 1, target, -1):
+            state = self.talk.state_at(length)
+            if found := self.breaks.between(state if length + 1 == here else behind, state):
+                self.stop_at(*found)
+                return True
+            behind = state
+        return False
+
     def do_reverse_continue(self, words: list[str]) -> None:
         """reverse-continue: back to the last break, or to the start where there is none"""
+        here = self.talk.length
         lines = self.talk.ask("rback")
+        if self.breaks.is_by_step():
+            target = -1 if lines == ["refused range"] else self.talk.length
+            if self.back_by_step(here, target):
+                return
+            self.talk.state_at(max(target, 0))
         if lines == ["refused range"]:
             self.write("no break matches before this step: back to the start")
             self.went_back(self.talk.ask(f"back {self.talk.length}"))
@@ -238,6 +339,11 @@ class Shell:
         length = self.checkpoints[int(digits) - 1] if word[0] == "#" else int(digits)
         away = length - self.talk.length
         lines = self.talk.ask(f"forward {away}" if away > 0 else f"back {-away}")
+        if lines == ["refused range"] and length <= len(self.steps):
+            # (what was taken back is gone by another step: along what was recorded)
+            for _ in self.talk.ask_each(self.steps[self.talk.length : length]):
+                pass
+            lines = [f"at {self.talk.length}"]
         if lines == ["refused range"]:
             self.write(f"only {self.talk.length} steps stand, and what was taken back doesn't reach to {length}")
         else:
@@ -245,21 +351,46 @@ class Shell:
 
     # ---- breaks
 
-    def do_break(self, words: list[str]) -> None:
-        """break NAME, break CODE, break SECTION: stops at its callbacks, its answers, its line"""
-        word = self.one(words, "a name, a code or a section")
+    def what_to_break(self, words: list[str]) -> tuple[str, str] | None:
+        """The kind of a break that was typed, and of what; None where it is none."""
+        word = self.one(words, "a name, a code, a section or the number of a line")
         if word is None:
-            return
+            return None
+        script = self.talk.script
+        if word.isdecimal():
+            if script.first <= int(word) < script.first + len(script.lines):
+                return "line", word
+            self.write(f"the script has no line {word}")
+            return None
         kind = "call" if word in self.names() else "code" if word in CODES else "section" if word in SECTIONS else None
         if kind is None:
             near = difflib.get_close_matches(word, [*self.names(), *CODES, *SECTIONS], 1)
             self.write(f"{word} is no name, code or section" + (f": did you mean `break {near[0]}`?" if near else ""))
-            return
-        self.typed_own(f"break {kind} {word}")
+            return None
+        return kind, word
+
+    def do_break(self, words: list[str]) -> None:
+        """break NAME, CODE, SECTION or LINE: stops at its callbacks, its answers, where it begins, where it comes next"""
+        if found := self.what_to_break(words):
+            self.show(self.breaks.add(*found))
+
+    def do_tbreak(self, words: list[str]) -> None:
+        """tbreak NAME, CODE, SECTION or LINE: the same, once"""
+        if found := self.what_to_break(words):
+            self.show(self.breaks.add(*found, once=True))
+
+    def do_watch(self, words: list[str]) -> None:
+        """watch NAME: stops where what it stands for changes (active, due, closing, ..)"""
+        if (name := self.one_name(words)) is not None:
+            self.show(self.breaks.add("watch", name))
 
     def do_delete(self, words: list[str]) -> None:
-        """delete: no breaks any more"""
-        self.typed_own("break clear")
+        """delete [N]: break N goes (`info breaks` has the numbers), or all of them"""
+        if not words:
+            self.breaks.keep([])
+            self.show(["break ok"])
+        elif (number := self.number(words)) is not None:
+            self.write("break ok" if self.breaks.delete(number) else f"there is no break #{number}")
 
     # ---- what there is to see
 
@@ -322,7 +453,7 @@ class Shell:
             case "loop":
                 self.show(self.talk.ask("state")[:2])
             case "breaks":
-                self.show([f"break {it}" for it in self.breaks] or ["no breaks"])
+                self.show([f"#{it.number} {it.words()}" for it in self.breaks.rows] or ["no breaks"])
             case None:
                 pass
             case word:

@@ -7,10 +7,10 @@ import re
 import threading
 from dataclasses import dataclass, field
 from pathlib import Path
-from typing import Iterator
+from typing import Callable, Iterator
 
 from conversation import Conversation, Script
-from places import Place, read_place
+from places import Place, next_line, read_place
 from walk import Walk
 from why import Why
 
@@ -18,20 +18,31 @@ TEMPLATE = Path(__file__).resolve().parent / "view.html"
 SEND = re.compile(r"(out )?send \S+ = \S+")
 
 
-def all_states(script: Script, steps: list[str]) -> Iterator[list[str]]:
-    """The text of the state at each length, from 0 on."""
+# Of so many steps the timers' heap is kept: it is asked for with the memory, which takes longer.
+HEAPS = 20_000
+# From how many ms on a late call is red: in a recording the clock's millisecond is none.
+RED, RED_RECORDED = 1, 5
+# From how many ms on a callback has its name in the loop's lane.
+LONG = 2
+
+
+def all_states(script: Script, steps: list[str], heaps: bool, tell: Callable[[int, int], None]) -> Iterator[tuple[list[str], str]]:
+    """The text of the state at each length, from 0 on; and the line of the timers' heap, where that is asked for."""
+    word, last = ("image", ("counts ", "refused ")) if heaps else ("state", ("done-yet",))
     with Conversation(script) as talk:
-        text = "state\n" + "".join(f"{it}\nstate\n" for it in steps)
+        text = f"{word}\n" + "".join(f"{it}\n{word}\n" for it in steps)
         writer = threading.Thread(target=talk.send_quietly, args=(text,), daemon=True)
         writer.start()
-        for _ in range(len(steps) + 1):
+        for at in range(len(steps) + 1):
             line = talk.read_line()
             while not line.startswith("steps "):
                 line = talk.read_line()
             rows = [line]
-            while not rows[-1].startswith("done-yet"):
+            while not rows[-1].startswith(last):
                 rows.append(talk.read_line())
-            yield rows
+            end = next(it for it in range(len(rows) - 1, -1, -1) if rows[it].startswith("done-yet")) + 1
+            yield rows[:end], next((it for it in rows[end:] if it.startswith("heap")), "")
+            tell(at, len(steps))
         writer.join()
 
 
@@ -65,9 +76,11 @@ class Lane:
 class Page:
     """The states of a session as the changes from one to the next, and the lanes."""
 
-    def __init__(self, walk: Walk) -> None:
+    def __init__(self, walk: Walk, tell: Callable[[int, int], None] = lambda *_: None) -> None:
         self.walk = walk
         self.names = walk.script.names()
+        # from which length on the heap has these slots
+        self.heaps: list[list[int]] = []
         self.texts = Texts()
         # of each length the keys and texts of the lines that changed: a key is a line's place, that of a slot counts from `base`
         self.changes: list[list[int]] = []
@@ -75,10 +88,11 @@ class Page:
         self.sections = Lane("loop", "section")
         self.lanes = {it: Lane(it, "name") for it in self.names}
         self.workers: dict[int, Lane] = {}
-        self.numbered: dict[str, list[int]] = {}
         before: dict[int, str] = {}
-        for length, rows in enumerate(all_states(walk.script, walk.steps)):
+        for length, (rows, heap) in enumerate(all_states(walk.script, walk.steps, walk.length <= HEAPS, tell)):
             before = self.see(length, rows, before)
+            if heap and (not self.heaps or self.heaps[-1][1] != self.texts.number(heap)):
+                self.heaps.append([length, self.texts.number(heap)])
 
     # ---- a state
 
@@ -109,16 +123,8 @@ class Page:
 
     def line_next(self, place: Place) -> int:
         """The script's line that the next step does, from 1, or 0."""
-        if place.callback:
-            first, at = f"{place.callback[0]} {place.callback[1]} ", place.callback[3]
-        elif place.mode is None:
-            first, at = "main ", place.main
-        else:
-            return 0
-        if first not in self.numbered:
-            self.numbered[first] = self.walk.script.numbered(first)
-        lines = self.numbered[first]
-        return lines[at] + 1 if at < len(lines) else 0
+        at = next_line(self.walk.script, place)
+        return 0 if at is None else at + 1
 
     def see_lanes(self, length: int, rows: list[str], place: Place) -> None:
         where = "main" if place.mode is None else place.where.split(" ")[0]
@@ -185,14 +191,20 @@ class Page:
             "base": self.base, "changes": self.changes, "next": self.lines_done,
             "steps": [self.texts.number(it) for it in self.walk.steps], "said": [self.texts.number(it) for it in self.walk.lines],
             "clock": self.walk.clocks, "lanes": [{"name": it.name, "what": it.what, "parts": it.parts} for it in lanes],
-            "late": late, "why": whys, "texts": self.texts.rows,
+            "late": late, "why": whys, "heaps": self.heaps, "long": self.long(), "part": "\n".join(self.walk.notes.loud()),
+            "from": RED_RECORDED if self.walk.notes.names else RED, "kinds": {name: kind for name, (kind, _) in self.walk.notes.names.items()},
+            "texts": self.texts.rows,
         }
 
+    def long(self) -> list[list[object]]:
+        """The callbacks that took long: their first and last step, whose, and how many ms."""
+        return [[it.first, it.last, it.what.rpartition(" of ")[2], it.took()] for it in self.walk.tooks if it.is_callback() and it.took() >= LONG]
 
-def html(walk: Walk) -> str:
+
+def html(walk: Walk, tell: Callable[[int, int], None] = lambda *_: None) -> str:
     """The page: the template with the values in it."""
     # (`<` could end the element that the values stand in)
-    values = json.dumps(Page(walk).values(), separators=(",", ":")).replace("<", "\\u003c")
+    values = json.dumps(Page(walk, tell).values(), separators=(",", ":")).replace("<", "\\u003c")
     return TEMPLATE.read_text().replace("/*VALUES*/null", values)
 
 

@@ -2,6 +2,7 @@
 
 from __future__ import annotations
 
+import collections
 from dataclasses import dataclass, field
 
 from conversation import Slot
@@ -59,8 +60,15 @@ class History:
     def kind(self) -> str | None:
         return self.made[-1][2] if self.made else None
 
-    def count(self, what: str) -> int:
-        return sum(1 for it in self.waits if it.how == "called" and kind_of_call(it.what) == what)
+    # of `call`, `after` and `closed` how many came, and the step of the first one
+    counts: collections.Counter[str] = field(default_factory=collections.Counter)
+    first_call: dict[str, int] = field(default_factory=dict)
+
+    def came(self, what: str, step: int) -> int:
+        """A callback comes: the how-manieth it is."""
+        self.first_call.setdefault(what, step)
+        self.counts[what] += 1
+        return self.counts[what]
 
 
 def kind_of_call(what: str) -> str:
@@ -76,14 +84,18 @@ class Follower:
         self.history = History(name)
         self.id = ""
         self.kind = ""
+        self.slots: dict[int, list[Slot]] = {}
         # what is asked for and didn't come yet: the handle's or request's callback, and a close callback
         self.open: Wait | None = None
         self.closing: Wait | None = None
 
     def follow(self) -> History:
-        for step, line in enumerate(self.walk.lines):
-            if self.name in line:
-                self.see(step, line.split(" "))
+        found = self.walk.of_name.get(self.name, [])
+        looks = [step for step, words in found if words[0] in ("call", "start", "again", "send")]
+        # (what is looked at in the states behind these steps: they are asked for together)
+        self.slots = {step: state.slots for step, state in self.walk.states_at(looks)}
+        for step, words in found:
+            self.see(step, words)
         return self.history
 
     def see(self, step: int, words: list[str]) -> None:
@@ -106,7 +118,8 @@ class Follower:
     # ---- what begins and ends
 
     def slot(self, length: int) -> Slot | None:
-        return next((it for it in self.walk.state(length).slots if it.id == self.id and it.name == self.name), None)
+        slots = self.slots.get(length) or self.walk.state(length).slots
+        return next((it for it in slots if it.id == self.id and it.name == self.name), None)
 
     def is_active(self, length: int) -> bool:
         slot = self.slot(length)
@@ -120,13 +133,13 @@ class Follower:
     def end(self, step: int, how: str) -> None:
         if self.open:
             self.open.how, self.open.ended = how, step
-            self.open.call = self.history.count(kind_of_call(self.open.what)) if how == "called" else 0
+            self.open.call = self.history.came(kind_of_call(self.open.what), step) if how == "called" else 0
             self.open = None
 
     def end_close(self, step: int) -> None:
         if self.closing:
             self.closing.how, self.closing.ended = "called", step
-            self.closing.call = self.history.count("closed")
+            self.closing.call = self.history.came("closed", step)
             self.closing = None
 
     def called(self, step: int) -> None:

@@ -2,18 +2,25 @@
 
 from __future__ import annotations
 
+import bisect
+import collections
+import functools
 from dataclasses import dataclass, field
-from typing import Iterator
+from typing import Callable, Iterator
 
 from conversation import Conversation, Fault, Script, State
 from places import Place, next_line, read_place
+from pool import Pool
 
 # The commands that do a step, those that go to another length, and those that only show something.
 OUTSIDE = ("take", "finish", "cancel", "send", "tick")
 MOVES = ("back", "rback", "forward")
 SHOWS = ("state", "image", "trace", "record")
-CALLBACKS = {"on": "call", "after": "after", "closed": "closed"}
+LISTS = {"call": "on", "after": "after", "closed": "closed"}
 WORDS = {"on": "the callback", "after": "the after callback", "closed": "the close callback"}
+POLL = "the poll"
+MANY_STEPS = 10000
+AT_ONCE = 200
 
 
 @dataclass
@@ -24,9 +31,14 @@ class Took:
     first: int
     last: int
     pieces: list[tuple[int, int]] = field(default_factory=list)
+    # of a callback the program's function, where that is known
+    function: str = ""
 
     def is_callback(self) -> bool:
         return " of " in self.what
+
+    def is_poll(self) -> bool:
+        return self.what == POLL
 
     def took(self) -> int:
         return sum(end - begin for begin, end in self.pieces)
@@ -39,32 +51,37 @@ class Took:
 class Walk:
     """The steps of a session, from 1, with their lines. A length is how many steps stand."""
 
-    def __init__(self, script: Script, steps: list[str], program: list[str] | None = None) -> None:
-        """The steps are those of a recording, or single steps of a script, of which the program may refuse some. These don't count."""
+    def __init__(self, script: Script, steps: list[str], program: list[str] | None = None, tell: Callable[[int, int], None] | None = None) -> None:
+        """The steps are those of a recording, or single steps of a script, of which the program may refuse some. These don't count.
+        `tell` is told how many of them are done, and of how many."""
         self.script = script
+        self.notes = script.notes
         self.talk = Conversation(script, program)
         self.steps: list[str] = []
         # (a step has no line where the program prints none; there is no step 0)
         self.lines = [""]
+        self.states: dict[int, State] = {}
         try:
-            self.go_through(steps)
+            self.go_through(steps, tell)
         except BaseException:
             self.talk.stop()
             raise
 
-    def go_through(self, steps: list[str]) -> None:
-        for step, answer in zip(steps, self.talk.ask_each(steps)):
+    def go_through(self, steps: list[str], tell: Callable[[int, int], None] | None) -> None:
+        for at, (step, answer) in enumerate(zip(steps, self.talk.ask_each(steps))):
             if self.talk.length == len(self.lines):
                 self.steps.append(step)
                 self.lines.append(answer[0] if answer else "")
             elif self.script.is_recorded():
                 raise Fault(f"step {len(self.lines)} of the recording is `{step}`, and the program answers `{answer[-1]}`")
+            if tell and at % MANY_STEPS == 0:
+                tell(at, len(steps))
         self.length = len(self.steps)
         self.after = self.ask_after()
-        self.states: dict[int, State] = {}
         self.clocks = self.all_clocks()
         self.ticks = [at for at in range(1, self.length + 1) if self.clocks[at] > self.clocks[at - 1]]
-        self.where: dict[int, tuple[str, int, int]] = {}
+        self.tick_ends = [self.clocks[at] for at in self.ticks]
+        self.look_through()
 
     def ask_after(self) -> str:
         """Why the loop can't go on behind the last step: `blocked` or `ended`; empty where it can."""
@@ -77,8 +94,15 @@ class Walk:
     def state(self, length: int) -> State:
         """The state where so many steps stand."""
         if length not in self.states:
+            if len(self.states) >= MANY_STEPS:
+                self.states.clear()
             self.states[length] = self.talk.state_at(length)
         return self.states[length]
+
+    def states_at(self, lengths: list[int]) -> Iterator[tuple[int, State]]:
+        """The same of many, which have to be in order: asked without waiting for each."""
+        for at in range(0, len(lengths), AT_ONCE):
+            yield from zip(lengths[at : at + AT_ONCE], self.talk.states_at(lengths[at : at + AT_ONCE]))
 
     def all_clocks(self) -> list[int]:
         """The clock at each length: a line `out tick MS` says that it went on."""
@@ -90,8 +114,66 @@ class Walk:
     def clock(self, length: int) -> int:
         return self.clocks[length]
 
+    def happened(self, step: int) -> int:
+        """The clock where a take or a finish happened, by the notes where these know better than the step."""
+        return self.notes.times.get(step, self.clocks[step])
+
     def place(self, length: int) -> Place:
         return read_place(self.state(length).place)
+
+    # ---- the lines, looked through once
+
+    def look_through(self) -> None:
+        """Which callback each step is in, where each tick is, and at which steps a line begins with a word."""
+        # the step that begins the callback in which a step is done, or behind whose last op it comes; 0 where there is none
+        self.inside = [0] * (self.length + 1)
+        # by that step: the last op; and which call of its list and name it is
+        self.last_op: dict[int, int] = {}
+        self.calls: dict[int, tuple[str, str, int]] = {}
+        self.words: dict[str, list[int]] = {}
+        self.tooks: list[Took] = []
+        self.took_at: dict[int, Took] = {}
+        counts: collections.Counter[tuple[str, str]] = collections.Counter()
+        first, poll, runs = 0, 0, False
+        for step in range(1, self.length + 1):
+            line = self.lines[step]
+            word = line.split(" ", 1)[0]
+            self.words.setdefault(word, []).append(step)
+            if self.steps[step - 1] == "loop":
+                if kind := LISTS.get(word):
+                    first, poll, name = step, 0, line.split(" ", 2)[1]
+                    counts[kind, name] += 1
+                    self.calls[step] = kind, name, counts[kind, name]
+                    self.last_op[step] = step
+                elif " = " in line:
+                    self.last_op[first] = step
+                else:
+                    first, poll, runs = 0, step if word == "poll" else 0, word != "end" and (runs or word == "run")
+            elif word == "out" and self.clocks[step] > self.clocks[step - 1]:
+                self.note_tick(step, first, poll, runs)
+            self.inside[step] = first
+        if first and self.place(self.length).callback:
+            self.last_op[first] = self.length
+        for took in self.tooks:
+            took.last = max(took.last, self.last_op.get(took.first, 0))
+
+    def note_tick(self, step: int, first: int, poll: int, runs: bool) -> None:
+        if first and step in self.notes.outside:
+            new = Took("the loop, between two callbacks", step, step)
+        elif first:
+            kind, name, call = self.calls[first]
+            new = Took(f"{WORDS[kind]} of {name}", first, step, function=self.notes.function(kind, name, call))
+        elif not runs:
+            new = Took("the main program", step, step)
+        elif poll:
+            new = Took(POLL, poll, step)
+        else:
+            new = Took(f"the run at `{self.place(step - 1).where}`", step, step)
+        if not self.tooks or (self.tooks[-1].what, self.tooks[-1].first) != (new.what, new.first):
+            self.tooks.append(new)
+        took = self.took_at[step] = self.tooks[-1]
+        took.last = step
+        took.pieces.append((self.clocks[step - 1], self.clocks[step]))
 
     def line_done(self, step: int) -> int | None:
         """The number, from 0, of the script's line that this step did. None where it did none of them."""
@@ -100,74 +182,59 @@ class Walk:
     def by(self, step: int) -> str:
         """Who did this step, in words."""
         at = self.line_done(step)
-        if at is not None:
-            return f"by line {at + self.script.first}: {self.script.lines[at]}"
-        return "by the loop" if self.steps[step - 1] == "loop" else "from outside"
+        if at is None:
+            return "by the loop" if self.steps[step - 1] == "loop" else "from outside"
+        line = f"line {at + self.script.first}: {self.script.lines[at]}"
+        function = self.notes.foreign.get(at + self.script.first)
+        if function:
+            return f"by ANOTHER THREAD, with {function}, while the loop ran; in the recording it stands in {line}"
+        inside = self.calls.get(self.inside[step])
+        told = self.notes.function(*inside) if inside else ""
+        return f"by {line}" + (f", in {told}" if told else "")
 
     def last_line(self, words: tuple[str, ...], length: int) -> int | None:
         """The last step, of so many, whose line begins with one of these words."""
-        return next((at for at in range(length, 0, -1) if self.lines[at].split(" ", 1)[0] in words), None)
+        found = [rows[at - 1] for it in words if (rows := self.words.get(it)) and (at := bisect.bisect_right(rows, length))]
+        return max(found, default=None)
+
+    def left(self, poll: int) -> int:
+        """The clock where the poll that began at this step was left."""
+        behind = next((at for at in range(poll + 1, self.length + 1) if self.steps[at - 1] == "loop"), self.length)
+        return self.clocks[behind]
+
+    @functools.cached_property
+    def of_name(self) -> dict[str, list[tuple[int, list[str]]]]:
+        """Of each name the steps whose line has it, with that line's words."""
+        names, found = set(self.script.names()), {}
+        for step, line in enumerate(self.lines):
+            words = line.split(" ")
+            for word in words[1:4]:
+                if word in names:
+                    found.setdefault(word, []).append((step, words))
+                    break
+        return found
+
+    @functools.cached_property
+    def pool(self) -> Pool:
+        return Pool(self)
+
+    def steps_between(self, word: str, first: int, last: int) -> list[int]:
+        """The steps from one to another whose line begins with this word."""
+        rows = self.words.get(word, [])
+        return rows[bisect.bisect_left(rows, first) : bisect.bisect_right(rows, last)]
 
     # ---- where the clock went on
 
     def causes(self, begin: int, end: int) -> list[Took]:
         """Where the clock went on between these two times, and all that it went on there."""
-        found: dict[tuple[str, int], Took] = {}
-        for at in self.ticks:
-            if self.clocks[at - 1] < end and self.clocks[at] > begin:
-                what, first, last = self.at_tick(at)
-                took = found.setdefault((what, first), Took(what, first, last))
-                took.last = max(took.last, last)
-        for took in found.values():
-            took.pieces = [(self.clocks[at - 1], self.clocks[at]) for at in self.ticks_of(took)]
-        return list(found.values())
-
-    def ticks_of(self, took: Took) -> list[int]:
-        """The ticks of the same place, those before and behind too."""
-        rows = [at for at in self.ticks if took.first <= at <= took.last]
-        behind = next((at for at in self.ticks if at > took.last), None)
-        while behind and self.at_tick(behind)[:2] == (took.what, took.first):
-            rows.append(behind)
-            took.last = max(took.last, self.at_tick(behind)[2])
-            behind = next((at for at in self.ticks if at > behind), None)
-        return rows
-
-    def at_tick(self, step: int) -> tuple[str, int, int]:
-        if step not in self.where:
-            self.where[step] = self.around(step)
-        return self.where[step]
-
-    def around(self, step: int) -> tuple[str, int, int]:
-        """What is under way as this step is done, in words, and the first and last step of that."""
-        place = self.place(step - 1)
-        callback = place.callback or self.just_over(step, place)
-        if callback:
-            kind, name, call, _ = callback
-            first = self.last_line((CALLBACKS[kind],), step - 1)
-            last = step
-            while last < self.length and self.is_in((kind, name, call), last):
-                last += 1
-            return f"{WORDS[kind]} of {name}", first, last
-        if place.mode is None:
-            return "the main program", step, step
-        if place.where.startswith("poll "):
-            return "the poll", self.last_line(("poll",), step - 1), step
-        return f"the run at `{place.where}`", step, step
-
-    def just_over(self, step: int, place: Place) -> tuple[str, str, int, int] | None:
-        """The callback whose beginning or last op is the loop's last step, so that the loop has done nothing since."""
-        if place.mode is None or place.where.startswith("poll "):
-            return None
-        last = next((at for at in range(step - 1, 0, -1) if self.steps[at - 1] == "loop"), 0)
-        words = self.lines[last].split(" ")
-        for kind, word in CALLBACKS.items():
-            if last and words[0] == word:
-                return kind, words[1], 0, 0
-        return self.place(last - 1).callback if last else None
-
-    def is_in(self, callback: tuple[str, str, int], length: int) -> bool:
-        found = self.place(length).callback
-        return found is not None and found[:3] == callback
+        found: list[Took] = []
+        for at in range(bisect.bisect_right(self.tick_ends, begin), len(self.ticks)):
+            step = self.ticks[at]
+            if self.clocks[step - 1] >= end:
+                break
+            if not found or found[-1] is not self.took_at[step]:
+                found.append(self.took_at[step])
+        return found
 
     def close(self) -> None:
         self.talk.close()

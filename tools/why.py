@@ -7,6 +7,7 @@ reckoned here.
 from __future__ import annotations
 
 from conversation import State
+from places import read_place
 from waits import WATCHERS, History, Refusal, Wait, follow, kind_of_call
 from walk import Took, Walk
 
@@ -15,6 +16,8 @@ KINDS = {"timer": "a timer", "idle": "an idle handle", "prepare": "a prepare han
 CALLS = {"call": "call", "after": "after callback", "closed": "close callback"}
 ASKED = {"timer": "started", "async": "sent to", "work": "queued", "close": "closed"}
 SECTIONS = {"work": "done", "close": "closing", "async": "async", "timer": "timers"}
+# What a recording has an async handle for.
+STANDING = ("tcp", "udp", "pipe", "tty", "poll", "signal", "fs_event", "fs_poll", "process")
 # How many names or steps a sentence has at the most.
 MANY = 8
 
@@ -34,11 +37,16 @@ def times(count: int, what: str) -> str:
     return f"{count} {what}" if count == 1 else f"{count} {what}s"
 
 
+def named(took: Took) -> str:
+    """A callback, with the program's function where that is known."""
+    return f"{took.what}, {took.function}," if took.function else took.what
+
+
 def told(took: Took) -> str:
     """Where the clock went on, in a sentence: which, how long, from which step to which."""
     steps = f"from step {took.first} to {took.last}" if took.first < took.last else f"at step {took.first}"
     if took.is_callback():
-        return f"{took.what} took {took.took()} ms, {steps}"
+        return f"{named(took)} took {took.took()} ms, {steps}"
     return f"{took.took()} ms went by in {took.what}, {steps}"
 
 
@@ -50,6 +58,7 @@ class Why:
         self.name = name
         self.history: History = follow(walk, name)
         self.end = walk.length
+        self.notes = walk.notes
 
     # ---- the whole answer
 
@@ -59,7 +68,23 @@ class Why:
             items.append((run[0].ended or self.end + 1, self.several(run) if len(run) > 1 else self.one(run[0])))
         items += [(it.step, self.refused(it)) for it in self.history.refusals]
         items.sort(key=lambda it: it[0])
-        return [self.head(), *self.never_asked(), *(line for _, lines in items for line in lines)]
+        return [self.head(), *self.known(), *self.never_asked(), *(line for _, lines in items for line in lines)]
+
+    def known(self) -> list[str]:
+        """What the recording's notes say of the name, and of all of it."""
+        lines = []
+        if self.name in self.notes.names:
+            kind, origin = self.notes.names[self.name]
+            stands = f"{kind}, which stands as an async handle: " if kind in STANDING else ""
+            lines.append(f"    {stands}{origin}{self.functions()}")
+        if self.notes.part:
+            lines.append(f"    THE RECORDING IS A PART: {self.notes.part}")
+        for number, function in sorted(self.notes.foreign.items()):
+            line = self.walk.script.lines[number - self.walk.script.first]
+            if self.name in line.split(" ")[2:]:
+                lines.append(f"    WRONG THREAD: {function} was called by another thread while the loop ran, which libuv allows of uv_async_send"
+                             f" alone; line {number} stands for it: {line}")
+        return lines
 
     def head(self) -> str:
         kind = self.history.kind()
@@ -68,30 +93,49 @@ class Why:
         made = f", made at {steps_of([step for step, _, _ in self.history.made])}" if kind else ""
         return f"{self.name}: {KINDS[kind] if kind else 'it stands for nothing'}, {', '.join(called)}{made}"
 
+    def functions(self) -> str:
+        """The program's functions that it calls, each once."""
+        found = []
+        for kind, what in (("work", "work"), ("on", "callback"), ("after", "after callback"), ("closed", "close callback")):
+            told = list(dict.fromkeys(it for _, it in self.notes.functions.get((kind, self.name), []) if it))
+            found += [f"; its {what} is {few(told)}"] if told else []
+        return "".join(found)
+
     def runs(self) -> list[list[Wait]]:
         """The waits, those in a row together that each were asked for by the one before, and came in their time."""
         rows: list[list[Wait]] = []
         for wait in self.history.waits:
-            plain = wait.how == "called" and not wait.more and self.is_again(wait) and not self.is_late(wait)
-            if plain and rows and rows[-1][-1].ended == wait.asked and self.is_plain(rows[-1][-1]):
+            last = rows[-1][-1] if rows else None
+            alike = last and self.is_plain(wait) and self.is_plain(last) and self.is_again(wait) == self.is_again(last)
+            if alike and last.ended == self.begun_by(wait):
                 rows[-1].append(wait)
             else:
                 rows.append([wait])
         return rows
 
     def is_plain(self, wait: Wait) -> bool:
-        return wait.how == "called" and self.is_again(wait) and not wait.more and not self.is_late(wait)
+        """Was it asked for by a callback of its own, and called in its time? In a recording that is within a millisecond."""
+        mine = self.walk.lines[self.begun_by(wait)].startswith(f"call {self.name} ")
+        return wait.how == "called" and mine and not wait.more and not self.is_late(wait, 1 if self.notes.names else 0)
+
+    def begun_by(self, wait: Wait) -> int:
+        """The step that began the callback in which it was asked for; 0 where it was in none."""
+        return self.walk.inside[wait.asked]
 
     def is_again(self, wait: Wait) -> bool:
         """Whether a call asked for the next one: of a timer that repeats, of a watcher, which stays active."""
         return self.walk.lines[wait.asked].startswith("call ")
 
-    def is_late(self, wait: Wait) -> bool:
-        return wait.due is not None and self.walk.clock(wait.ended) > wait.due
+    def is_late(self, wait: Wait, allowed: int = 0) -> bool:
+        return wait.due is not None and self.walk.clock(wait.ended) > wait.due + allowed
 
     def several(self, run: list[Wait]) -> list[str]:
         first, last = run[0], run[-1]
-        how = f"due from {first.due} ms to {last.due} ms, each on time" if first.due is not None else "each in its section, as it stays active"
+        late = max(self.walk.clock(it.ended) - it.due for it in run) if first.due is not None else 0
+        on_time = "each on time" if late <= 0 else f"each on time, or late by {late} ms"
+        how = f"due from {first.due} ms to {last.due} ms, {on_time}" if first.due is not None else "each in its section, as it stays active"
+        if not self.is_again(last):
+            how = f"each asked for in the one before, {how}" if first.due is not None else f"each asked for in the one before, {self.longest(run)}"
         return [f"steps {first.ended} to {last.ended}, calls {first.call} to {last.call}: {how}",
                 f"    at steps {few([it.ended for it in run])}"]
 
@@ -105,7 +149,9 @@ class Why:
         return [f"step {wait.ended}, {CALLS[kind]} {wait.call}: {causes}", *(f"    {it}" for it in details)]
 
     def asked(self, wait: Wait) -> str:
-        """Who asked for it, and when."""
+        """Who asked for it, and when. (What nobody saw come is put where it needs to be.)"""
+        if wait.what == "async" and wait.asked in self.notes.guessed:
+            return f"in the recording that is the send at step {wait.asked}"
         line = self.walk.lines[wait.asked]
         state = self.walk.state(wait.asked)
         now, clock = state.numbers["now"], state.numbers["clock"]
@@ -116,11 +162,40 @@ class Why:
         at = f", when the loop's time was {now} ms{behind}," if wait.what == "timer" else ""
         return f"{ASKED.get(wait.what, 'started')} at step {wait.asked}{at} {self.walk.by(wait.asked)}"
 
+    def longest(self, run: list[Wait]) -> str:
+        """How long these waited at the most."""
+        return f"each called {max(self.walk.clock(it.ended) - self.walk.clock(it.asked) for it in run)} ms later at the most"
+
     # ---- those that were called
 
     def delay(self, begin: int, end: int) -> str:
         """Where the clock went on between two times of it."""
-        return "; ".join(told(it) for it in self.walk.causes(begin, end))
+        found, causes = [], self.walk.causes(begin, end)
+        for took in causes:
+            found.append(self.in_poll(took, begin, end, causes) if took.is_poll() and begin < end else told(took))
+        return "; ".join(found)
+
+    def in_poll(self, took: Took, begin: int, end: int, told_already: list[Took]) -> str:
+        """A poll waits as long as it is asked to, reckoned from the loop's time. Where the clock was farther then, who made it so is why it
+        ends so much later."""
+        state = self.walk.state(took.first)
+        now, clock = state.numbers["now"], state.numbers["clock"]
+        until = read_place(state.place).where.removeprefix("poll ")
+        left = took.pieces[-1][1]
+        if not until.isdecimal() or left <= (until := int(until)) or begin < until:
+            return told(took)
+        if left - until <= 1 and self.notes.names:
+            return f"the poll was to end at {until} ms, and the system ended it at {left} ms, {steps_of([took.first])}"
+        before = [it for it in self.walk.causes(now, clock) if it.first < took.first]
+        if not before and self.notes.names:
+            return f"the poll, from step {took.first} to {took.last}, was to end at {until} ms, and the system ended it at {left} ms"
+        if not before:
+            return f"{told(took)}, where it was to end at {until} ms"
+        rest = left - until - (clock - now)
+        more = f", and {rest} ms more" if rest > 1 else ""
+        causes = [f"{told(it)}; " for it in before if it not in told_already]
+        return (f"{''.join(causes)}so the loop's time was {now} ms still as its poll began at {clock} ms,"
+                f" at step {took.first}, and it ended at {left} ms in place of {until} ms{more}")
 
     def timer(self, wait: Wait) -> tuple[str, list[str]]:
         numbers = self.walk.state(wait.ended).numbers
@@ -140,7 +215,7 @@ class Why:
     def polls(self, wait: Wait) -> list[str]:
         """The polls that didn't wait for a timer that wasn't due, since somebody else was active or closed."""
         found: dict[str, list[int]] = {}
-        for at in range(wait.asked + 1, (wait.ended or self.end) + 1):
+        for at in self.walk.steps_between("poll", wait.asked + 1, wait.ended or self.end):
             state = self.walk.state(at) if self.walk.lines[at] == "poll 0" else None
             for word, what in (("idle", "an active idle handle"), ("closing", "closing")) if state and state.numbers["now"] < wait.due else ():
                 for name in state.lists[word]:
@@ -157,18 +232,45 @@ class Why:
         return f"in the section `{wait.what}` that began at step {self.walk.last_line((wait.what,), wait.ended)}", details
 
     def between(self, wait: Wait, first: int) -> str:
-        begin, end = self.walk.clock(first), self.walk.clock(wait.ended)
+        begin, end = self.walk.happened(first), self.walk.clock(wait.ended)
         return f"{end - begin} ms later: {self.delay(begin, end)}" if end > begin else "in the same millisecond"
+
+    def unseen(self, wait: Wait) -> tuple[str, list[str]]:
+        """What nobody saw come: between the loop's last look and the one behind which it is called, or while it waited."""
+        what = f"{self.notes.kind(self.name)}: something came" if self.notes.kind(self.name) in STANDING else "somebody sent to it"
+        poll = self.walk.last_line(("poll",), wait.ended)
+        if poll is None:
+            return f"{what}, and when nobody knows", []
+        waited = [it for it in self.walk.causes(self.walk.clock(poll), self.walk.clock(wait.ended)) if it.is_poll() and it.first == poll]
+        if waited:
+            return f"{what} while the loop waited in the poll, {told(waited[0]).split(' in the poll, ')[0]} there, from step {poll}", []
+        head, away = f"{what}, and when nobody knows", self.unseen_for(wait)
+        if away <= 0:
+            return head, []
+        before = self.walk.last_line(("poll",), poll - 1)
+        left = self.walk.left(before)
+        return head, [f"between the end of the poll before, at {left} ms (step {before}), and the call lie {away} ms:"
+                      f" {self.delay(left, self.walk.clock(wait.ended))}"]
+
+    def unseen_for(self, wait: Wait) -> int:
+        """How long the loop hadn't looked, where it didn't wait for what came: from the end of the poll before to the call, in ms."""
+        poll = self.walk.last_line(("poll",), wait.ended)
+        before = self.walk.last_line(("poll",), poll - 1) if poll else None
+        if before is None or self.walk.left(poll) > self.walk.clock(poll):
+            return 0
+        return self.walk.clock(wait.ended) - self.walk.left(before)
 
     def sent(self, wait: Wait) -> tuple[str, list[str]]:
         sends = [wait.asked, *wait.more]
+        if wait.asked in self.notes.guessed and len(sends) == 1:
+            return self.unseen(wait)
         if wait.more:
             return f"{len(sends)} sends, and one call: those at {steps_of(sends)}", [self.between(wait, wait.asked)]
         return f"for the send at step {wait.asked}, {self.between(wait, wait.asked)}", []
 
     def close(self, wait: Wait) -> tuple[str, list[str]]:
         details = []
-        busy = [at for at in range(wait.asked, wait.ended) if self.walk.lines[at] == "closeloop = EBUSY"]
+        busy = [at for at in self.walk.steps_between("closeloop", wait.asked, wait.ended - 1) if self.walk.lines[at] == "closeloop = EBUSY"]
         if busy:
             details.append(f"until then the loop had it: `closeloop` at {steps_of(busy)} answers EBUSY")
         return f"it was closed at step {wait.asked}, and the section `closing` came at step {self.walk.last_line(('closing',), wait.ended)}", details
@@ -176,22 +278,48 @@ class Why:
     def request(self, wait: Wait) -> tuple[str, list[str]]:
         if wait.cancelled:
             return "cancelled before a worker took it", [f"cancelled at step {wait.cancelled} {self.walk.by(wait.cancelled)}"]
+        if wait.finished in self.notes.guessed:
+            return self.unseen_request(wait)
         details = [self.waited(wait), self.ran(wait), self.handed(wait)]
         passed = self.overtaken(wait)
         if passed:
             return f"behind {few(passed)}, queued later and done earlier", details
         return f"done at step {wait.finished}, {self.between(wait, wait.finished)}", details
 
+    def unseen_request(self, wait: Wait) -> tuple[str, list[str]]:
+        """Nobody saw when it was through; but where each worker has work that is seen, it waits."""
+        away = self.walk.clock(wait.ended) - self.walk.clock(wait.asked)
+        kind = self.notes.kind(self.name)
+        details = [] if wait.taken[0] in self.notes.guessed else [self.waited(wait)]
+        for it in self.walk.pool.full_between(wait.asked, wait.ended):
+            ends = self.walk.happened(it.last) - max(self.walk.happened(it.first), self.walk.clock(wait.asked))
+            details.append(f"for {ends} ms of them each worker had other work, from step {it.first} to {it.last}: {few(it.names)}")
+        blocked = [it for it in self.walk.causes(self.walk.clock(wait.asked), self.walk.clock(wait.ended)) if not it.is_poll()]
+        if blocked:
+            details.append(f"meanwhile {'; '.join(told(it) for it in blocked[:MANY])}")
+        kind = f" ({kind})" if kind and kind != "work" else ""
+        return f"called {away} ms after it was queued; when a worker took it and was through nobody knows{kind}", details
+
     def waited(self, wait: Wait) -> str:
         step, worker = wait.taken
-        before = self.before(self.walk.state(wait.asked).lists["waiting"])
-        behind = f", behind {few(before)}" if before else ""
-        away = self.walk.clock(step) - self.walk.clock(wait.asked)
-        return f"waited for a worker from step {wait.asked} to {step}, {away} ms{behind}; worker {worker} took it at step {step}"
+        state = self.walk.state(wait.asked)
+        before = self.before(state.lists["waiting"])
+        away = self.walk.happened(step) - self.walk.clock(wait.asked)
+        had = self.walk.pool.names_between(wait.asked, step) if away else []
+        behind = (f": the workers had {few(had)}" if had else "") + (f", behind {few(before)}" if before else "")
+        took = f"worker {worker} took it at step {step}"
+        if step in self.notes.guessed:
+            return f"waited for a worker from step {wait.asked} on{behind}; when one took it nobody knows"
+        return f"waited for a worker from step {wait.asked} to {step}, {away} ms{behind}; {took}"
 
     def ran(self, wait: Wait) -> str:
         step, worker = wait.taken
-        return f"worker {worker} ran it from step {step} to {wait.finished}, {self.walk.clock(wait.finished) - self.walk.clock(step)} ms"
+        function = self.notes.function("work", self.name, wait.call)
+        called = f", {function}," if function else ""
+        if step in self.notes.guessed:
+            return f"it was through at step {wait.finished}"
+        ran = self.walk.happened(wait.finished) - self.walk.happened(step)
+        return f"worker {worker} ran it{called} from step {step} to {wait.finished}, {ran} ms"
 
     def handed(self, wait: Wait) -> str:
         before = self.before(self.walk.state(wait.finished).lists["done"])
@@ -210,7 +338,7 @@ class Why:
 
     def ends_between(self, wait: Wait) -> list[str]:
         """The runs that ended while it was asked for, each with its reason."""
-        return [self.run_end(at) for at in range(wait.asked + 1, wait.ended or self.end + 1) if self.walk.lines[at].startswith("end ")]
+        return [self.run_end(at) for at in self.walk.steps_between("end", wait.asked + 1, (wait.ended or self.end + 1) - 1)]
 
     def run_end(self, step: int) -> str:
         return f"meanwhile the run ended at step {step}: {self.why_ended(step)}"
@@ -229,7 +357,7 @@ class Why:
         """The same in a sentence."""
         match self.ended_by(step):
             case "stop":
-                stop = max(at for at in range(1, step) if self.walk.lines[at] == "stoploop = ok")
+                stop = self.walk.last_line(("stoploop",), step - 1)
                 return f"it was asked to stop at step {stop} {self.walk.by(stop)}"
             case "mode":
                 return f"a run `{self.walk.place(step - 1).mode}` has one iteration"
@@ -272,7 +400,7 @@ class Why:
         return [head, *(f"    {it}" for it in [*details, *ends, self.asked(wait)])]
 
     def no_call(self, wait: Wait) -> str:
-        further = any(it.how == "called" and it.ended <= wait.asked and kind_of_call(it.what) == kind_of_call(wait.what) for it in self.history.waits)
+        further = kind_of_call(wait.what) in self.history.counts and self.history.first_call[kind_of_call(wait.what)] <= wait.asked
         return f"no {'further ' if further else ''}{CALLS[kind_of_call(wait.what)]}"
 
     def reason(self, wait: Wait) -> str:
@@ -367,7 +495,8 @@ class Why:
 
     def gone(self, step: int) -> int:
         """The last step before this one at which the name's handle or request went."""
-        return next(at for at in range(step - 1, 0, -1) if self.walk.lines[at].startswith((f"closed {self.name} ", f"after {self.name} ")))
+        found = self.walk.steps_between("closed", 1, step - 1) + self.walk.steps_between("after", 1, step - 1)
+        return max(at for at in found if self.walk.lines[at].split(" ")[1] == self.name)
 
     def why_busy(self, it: Refusal, outcome: str) -> str:
         wait = next(at for at in reversed(self.history.waits) if at.what == "work" and at.asked < it.step)

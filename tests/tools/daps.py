@@ -22,6 +22,7 @@ SOURCE = {"name": str, "path": str}
 BREAKPOINT = {"verified": bool, "line?": int, "message?": str}
 BODIES: dict[str, dict | None] = {
     "initialize": {"supportsConfigurationDoneRequest": bool, "supportsFunctionBreakpoints": bool, "supportsStepBack": bool,
+                   "supportsConditionalBreakpoints": bool, "supportsHitConditionalBreakpoints": bool, "supportsLogPoints": bool,
                    "supportsTerminateRequest": bool, "supportsGotoTargetsRequest": bool,
                    "exceptionBreakpointFilters": [{"filter": str, "label": str}]},
     "launch": None, "configurationDone": None, "disconnect": None, "terminate": None, "setExceptionBreakpoints": None, "pause": None,
@@ -161,6 +162,47 @@ def try_breakpoints(check) -> None:
     check("adapter, back", backs == [*reversed(stops), ("entry", 0)], backs)
     ended = client.end()
     check("adapter, the end of the input", ended == (0, ""), ended)
+
+
+def try_conditions(check) -> None:
+    """Conditions, counts of hits and messages; and what isn't known is refused."""
+    client = Client(check)
+    path = EXAMPLES / "falls-behind.uvt"
+    client.begin(path)
+    asked = [{"name": "beat", "condition": "now > 10"}, {"name": "beat", "condition": "what > 1"}, {"name": "beat", "hitCondition": "often"}]
+    shown = client.ask("setFunctionBreakpoints", breakpoints=asked)["breakpoints"]
+    check("adapter, a condition, and two that are none", [it["verified"] for it in shown] == [True, False, False], shown)
+    check("adapter, why a condition is none", "a condition is" in shown[1]["message"] and "a hit condition is" in shown[2]["message"], shown)
+    client.ask("configurationDone")
+    client.until("stopped")
+    # by hand: its calls come at 35 and 45 ms, the first one late by 25
+    client.go("continue")
+    rows = {it["name"]: it["value"] for it in client.ask("variables", variablesReference=1)["variables"]}
+    check("adapter, on to where a condition holds", rows["now"] == "35", rows)
+    client.ask("evaluate", expression="goto 0")
+    client.until("stopped")
+    client.ask("setFunctionBreakpoints", breakpoints=[{"name": "beat", "hitCondition": "2"}])
+    client.go("continue")
+    rows = {it["name"]: it["value"] for it in client.ask("variables", variablesReference=1)["variables"]}
+    check("adapter, on to the second hit", rows["now"] == "45", rows)
+    told = client.ask("evaluate", expression="why beat")["result"]
+    check("adapter, why", "late by 25 ms" in told and "2 repeats lost" in told, told)
+    check("adapter, why of no name", "refused" in client.ask("evaluate", expression="why nobody"))
+    client.ask("evaluate", expression="goto 0")
+    client.until("stopped")
+    client.ask("setFunctionBreakpoints", breakpoints=[])
+    line = next(number for number, it in enumerate(path.read_text().splitlines(), 1) if it.startswith("on beat"))
+    shown = client.ask("setBreakpoints", source={"path": str(path)}, breakpoints=[{"line": line, "logMessage": "due {beat.due} at {now}"}])
+    check("adapter, a message in place of a stop", shown["breakpoints"][0]["verified"], shown)
+    client.events.clear()
+    client.ask("continue", threadId=1)
+    seen = list(client.events)
+    while seen[-1:] == [] or seen[-1]["event"] != "stopped":
+        seen.append(client.read())
+    said = [it["body"]["output"] for it in seen if it["event"] == "output" and it["body"]["output"].startswith("due ")]
+    # (the op stands in the second call: at 45 ms, when the timer is due again 10 ms later)
+    check("adapter, the messages", said == ["due 55 at 45\n"] and seen[-1]["body"]["reason"] == "pause", (said, seen[-1]))
+    check("adapter, the end behind conditions", client.end() == (0, ""))
 
 
 def try_stacks(check) -> None:
@@ -365,5 +407,5 @@ def try_pause(check) -> None:
 
 
 def try_adapter(tries) -> None:
-    for part in (try_breakpoints, try_stacks, try_faults, try_odd, try_gone, try_long, try_pause):
+    for part in (try_breakpoints, try_conditions, try_stacks, try_faults, try_odd, try_gone, try_long, try_pause):
         part(tries.check)

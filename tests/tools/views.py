@@ -19,6 +19,8 @@ from walk import longest_way  # noqa: E402
 EXAMPLES = ROOT / "crates" / "examples" / "data"
 VIEW = str(ROOT / "tools" / "uvt-view")
 SECONDS = 60
+# What the page is given.
+VALUES = re.compile(r'<script type="application/json" id="values">(.*)</script>')
 # A page's blocks of text, each with what stands in it.
 BLOCK = re.compile(r"^```text\n(.*?)^```$", re.MULTILINE | re.DOTALL)
 
@@ -39,7 +41,7 @@ def text_at(run: dict, table: dict[int, int], length: int) -> list[str]:
 def try_page(check, name: str) -> None:
     """The states of the page at each length, its lines, and that it is one file."""
     page = viewed([str(EXAMPLES / name)]).stdout
-    found = re.search(r"^const run = (.*);$", page, re.MULTILINE)
+    found = VALUES.search(page)
     check(f"the page of {name} has its values", found is not None, page[:200])
     if found is None:
         return
@@ -63,7 +65,7 @@ def try_page(check, name: str) -> None:
 def try_view(check) -> None:
     for name in ("late-timer.uvt", "never-called.uvt", "stale-name.uvt", "sent-session.rec"):
         try_page(check, name)
-    run = json.loads(re.search(r"^const run = (.*);$", viewed([str(EXAMPLES / "late-timer.uvt")]).stdout, re.MULTILINE)[1])
+    run = json.loads(VALUES.search(viewed([str(EXAMPLES / "late-timer.uvt")]).stdout)[1])
     # `ping` was due at 12 and `beat` at 15, and both were called at 50
     check("the late calls", run["late"] == [[33, "ping", 38], [34, "beat", 35]], run["late"])
     lane = next(it for it in run["lanes"] if it["name"] == "beat")

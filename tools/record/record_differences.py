@@ -14,7 +14,8 @@ ROUND = "Each iteration ends with its timers, and doesn't begin with them"
 ENDS = "A default run that its first timers finish does no iteration (own)"
 ZERO = "A zero timeout started in a callback waits (own)"
 CLOSING = "Some handles close later"
-ANY = "Recordings of real programs"
+THREAD = "An op by another thread"
+ANY = "The loop goes another way"
 MADE = re.compile(r"`(?:call|after|closed) (\S+) ")
 
 
@@ -57,6 +58,8 @@ def in_its_section(program: Program, item: Item) -> bool:
 def heading_of(program: Program, outcome: Outcome) -> str:
     """The heading of the page that speaks of this difference."""
     item, made = outcome.item, MADE.search(outcome.why)
+    if any(it.line < item.line for it in program.foreign):
+        return THREAD
     kind = kind_of(program, made[1]) if made else ""
     if "`closed " in outcome.why and kind in ("fs_poll", "signal"):
         return CLOSING

@@ -12,10 +12,17 @@ in three ways:
 
 from __future__ import annotations
 
+import bisect
+import collections
+import copy
+import itertools
+import re
 from dataclasses import dataclass, field
+from typing import Callable, Iterator
 
-from conversation import AT, Conversation, Fault, Recording, Script
-from record_log import WATCHERS
+from conversation import Conversation, Script
+from record_fast import CLOCK, END, NOW, Ways
+from record_log import NO_CLOCK, WATCHERS
 from record_script import Item, Program, is_pool
 
 SECTIONS = ["pending", "idle", "prepare", "poll", "done", "async", "check", "closing", "timers"]
@@ -23,6 +30,11 @@ FAR = 40
 MANY_WORKERS = 64
 PATIENCE = 5000
 CALLS = {"on": "call", "after": "after", "closed": "closed"}
+# In place of an item: of a tick when no callback is under way.
+OUTSIDE = Item("", 0, 0, 0)
+# So many sends and finishes may be put off; and what is kept before each.
+CHECKS = 16
+KEPT = ("where", "clock", "in_call", "taken", "finished", "taken_at", "ready", "after_at", "senders", "sent_late", "kept", "kept_at", "trail")
 
 
 class Stopped(Exception):
@@ -30,6 +42,9 @@ class Stopped(Exception):
 
     def __init__(self, model: str) -> None:
         self.model = model
+
+
+CALLED = re.compile(r"has `(?:after|call) (\S+) ")
 
 
 class NeedsWake(Exception):
@@ -51,6 +66,12 @@ class Outcome:
     answers: list[str] = field(default_factory=list)
     ends: int = 0
     wakes: int = 0
+    # the sends, takes and finishes that the log has: when any other one happened nobody knows
+    known: set[int] = field(default_factory=set)
+    # of these the clock, where it was another one than at their step
+    times: dict[int, int] = field(default_factory=dict)
+    # the ticks of time that went by when no callback of the program was under way
+    outside: set[int] = field(default_factory=set)
 
 
 def section_of(item: Item) -> str:
@@ -70,22 +91,39 @@ def is_polled(item: Item) -> bool:
 class Follower:
     """One way along a program's items."""
 
-    def __init__(self, program: Program, workers: int, wake: bool, command: list[str] | None = None) -> None:
+    def __init__(self, program: Program, workers: int, wake: bool, tell: Callable[[int, int], None] = lambda *_: None) -> None:
         self.program, self.items, self.wake = program, program.items, wake
         self.workers = workers
-        self.talk = Conversation(Script(program.script(workers, wake)), command)
+        self.talk = Conversation(Script(program.script(workers, wake)))
+        self.tell = tell
         # commands that are asked with the next one, each with what its answer begins with
         self.queue: list[tuple[str, str, Item | None]] = []
+        # the steps that stand, and their lines; and where the clock was to go on: behind how many steps, to which time of which item
+        self.did: list[str] = []
+        self.said: list[str] = []
+        self.trail: list[tuple[int, int, str, bool]] = []
+        # is a callback of the program under way, by the log?
+        self.in_call = False
         self.where, self.clock = "main", 0
         self.at = 0
         # how many steps stood, and which item came next, when all was as in the log
         self.kept, self.kept_at = 0, 0
         self.taken: dict[str, int] = {}
         self.finished: set[str] = set()
+        # of a request the step at which it was taken; and the clock where its work was through
+        self.taken_at: dict[str, int] = {}
+        self.ready: dict[str, int] = {}
         self.outcome = Outcome([], 0, program.callbacks(), 0)
         self.senders = {op.split(" ")[1] for op in self.all_ops() if op.startswith("send ")}
         self.afters = [it.name for it in self.items if it.type == "call" and it.list == "after"]
         self.after_at = 0
+        # sends and finishes before which all was kept; those that are to come only where what they call does, and the clock of such sends
+        self.checks: collections.deque[tuple[str, int, int, dict[str, object]]] = collections.deque(maxlen=CHECKS)
+        self.lazy: set[int] = set()
+        self.sent_late: dict[str, int] = {}
+        # requests whose work begins and ends by a line of its own; what becomes of the others, and when, nobody sees
+        self.ends = [at for at, it in enumerate(self.items) if it.type == "end"]
+        self.seen = {it.name for it in self.items if it.type == "finish"}
 
     def all_ops(self) -> list[str]:
         return self.program.main + [op for body in self.program.bodies.values() for op in body]
@@ -101,16 +139,22 @@ class Follower:
         waiting, self.queue = self.queue, []
         answers = []
         lengths = []
-        for lines in self.talk.ask_each([it[0] for it in waiting] + commands):
+        all_of_them = [it[0] for it in waiting] + commands
+        for command, lines in zip(all_of_them, self.talk.ask_each(all_of_them)):
             answers.append(lines[0] if lines else "")
             lengths.append(self.talk.length)
+            if self.talk.length > len(self.did):
+                self.did.append(command)
+                self.said.append(answers[-1])
         for (command, wanted, item), answer, length in zip(waiting, answers, lengths):
             if not answer.startswith(wanted):
-                self.at = self.kept_at if item is None else self.items.index(item)
+                self.at = self.kept_at if item is None or item is OUTSIDE else self.items.index(item)
                 raise Stopped(f"has `{answer}` there" if answer else "has a step without a line there")
-            if item is not None:
+            if item is not None and item is not OUTSIDE:
                 self.compare(item, answer[len(wanted) :])
             self.kept = length
+            if command.startswith("tick ") and item is OUTSIDE:
+                self.outcome.outside.add(length)
         return answers[len(waiting) :]
 
     def compare(self, item: Item, answer: str) -> None:
@@ -125,13 +169,45 @@ class Follower:
     def move(self, length: int) -> None:
         """Takes steps back."""
         if self.talk.length > length:
+            for step in range(length + 1, self.talk.length + 1):
+                self.outcome.known.discard(step)
+                self.outcome.outside.discard(step)
+                self.outcome.times.pop(step, None)
             self.talk.ask(f"back {self.talk.length - length}")
+            del self.did[length:], self.said[length:]
+
+    def took(self, commands: list[str], lines: list[str], outside: list[int], length: int) -> None:
+        """These steps were done, without a look at each, and stand up to this length."""
+        begin = len(self.did)
+        self.did += commands
+        self.said += lines
+        self.move(length)
+        del self.did[length:], self.said[length:]
+        self.outcome.outside.update(it for it in outside if it <= length)
+        self.kept = max(self.kept, length) if length > begin else self.kept
+
+    def know(self, step: int, clock: int) -> None:
+        """This step is one that the log has, by this clock."""
+        self.outcome.known.add(step)
+        if clock != self.clock or step != self.talk.length:
+            self.outcome.times[step] = clock
 
     # ---- steps
 
-    def tick_to(self, time: int) -> None:
+    def time_of(self, at: int, which: str) -> int:
+        """A time of an item, to which the clock may go on."""
+        item = self.items[at]
+        if which == END:
+            return self.end_time(at)
+        return item.now if which == NOW else item.clock
+
+    def tick_to(self, at: int, which: str) -> None:
+        self.trail.append((self.talk.length + len(self.queue), at, which, not self.in_call))
+        self.tick(self.time_of(at, which))
+
+    def tick(self, time: int) -> None:
         if time > self.clock:
-            self.later(f"tick {time - self.clock}", "out tick")
+            self.later(f"tick {time - self.clock}", "out tick", None if self.in_call else OUTSIDE)
             self.clock = time
 
     def see(self, line: str) -> None:
@@ -166,18 +242,18 @@ class Follower:
                 return answers[: at + 1]
         return answers
 
-    def at_poll(self, item: Item, at: int) -> None:
+    def at_poll(self, at: int) -> None:
         """All that this poll of the program called is made ready."""
-        self.tick_to(item.now)
+        self.tick_to(at, NOW)
         self.flush()
         self.make_ready(at)
 
-    def until(self, wanted: str, item: Item, at: int, section: str) -> str:
+    def until(self, wanted: str, at: int, section: str) -> str:
         """Steps until a line that begins so. A line of another callback, op or run is a difference."""
         woken = False
-        self.tick_to(item.now)
+        self.tick_to(at, NOW)
         if self.where == "poll":
-            self.at_poll(item, at)
+            self.at_poll(at)
         for _ in range(PATIENCE):
             line = self.steps(self.distance(section))[-1]
             if line.startswith("refused blocked"):
@@ -191,18 +267,18 @@ class Follower:
             elif line.startswith(wanted):
                 return line
             elif line.startswith("poll "):
-                self.at_poll(item, at)
+                self.at_poll(at)
             elif line.split(" ")[0] not in SECTIONS and line and not (self.wake and line.startswith("call wake ")):
                 raise Stopped(f"has `{line}` there")
         raise Stopped("goes round and round")
 
-    def to_poll(self, item: Item, at: int) -> None:
+    def to_poll(self, at: int) -> None:
         """Leads the loop to its next poll, if there is no callback on the way; else it stays where it is."""
         if self.where in ("poll", "main"):
             return
         self.flush()
-        length, where, clock = self.talk.length, self.where, self.clock
-        self.tick_to(item.now)
+        length, where, clock, trail = self.talk.length, self.where, self.clock, len(self.trail)
+        self.tick_to(at, NOW)
         for _ in range(FAR):
             line = self.steps(max(1, (3 - SECTIONS.index(self.where)) % 9 if self.where in SECTIONS else 1))[-1]
             if line.startswith("poll "):
@@ -211,6 +287,7 @@ class Follower:
                 break
         self.move(length)
         self.where, self.clock = where, clock
+        del self.trail[trail:]
 
     # ---- what comes from outside
 
@@ -220,11 +297,13 @@ class Follower:
                 self.finish(item.name)
             elif item.name not in self.senders or self.talk.state().slot_of(item.name).values.get("pending") == "0":
                 self.later(f"send {item.name}", f"out send {item.name} = ok")
+                if item.name in self.sent_late:
+                    self.know(self.talk.length + len(self.queue), self.sent_late.pop(item.name))
 
     def group(self, at: int) -> list[Item]:
         """The callbacks of this poll, from this item on, that the loop calls in this order in one iteration."""
         first, chosen, last, places = self.items[at], [], -1, None
-        for item in self.items[at:]:
+        for item in (self.items[it] for it in range(at, len(self.items))):
             if item.type in ("poll", "run", "end"):
                 break
             if item.type != "call":
@@ -249,13 +328,23 @@ class Follower:
         busy = set(self.taken.values())
         worker = next((it for it in range(self.workers) if it not in busy), None)
         if worker is None:
-            name = next((it for it in self.afters[self.after_at :] if it in self.taken), next(iter(self.taken)))
+            name = self.next_through()
             worker = self.taken[name]
             self.finish(name)
         line = self.ask([f"take {worker}"])[0]
         if not line.startswith("out take "):
             raise Stopped(f"has no request that waits (`{line}`)")
         self.taken[line.split(" ")[3]] = worker
+        self.taken_at[line.split(" ")[3]] = self.talk.length
+
+    def coming(self) -> Iterator[str]:
+        """The requests whose after callbacks come, in their order."""
+        return (self.afters[at] for at in range(self.after_at, len(self.afters)))
+
+    def next_through(self) -> str:
+        """Whose worker is free first: of those whose end nobody sees the one that calls back first."""
+        return next((it for it in self.coming() if it in self.taken and (it not in self.seen or it in self.ready)),
+                    next((it for it in self.coming() if it in self.taken), next(iter(self.taken))))
 
     def finish(self, name: str) -> None:
         """The request is through; those that waited longer are taken before it."""
@@ -266,13 +355,15 @@ class Follower:
         self.finished.add(name)
         worker = self.taken.pop(name)
         self.ask([f"finish {worker}"])
+        if name in self.ready:
+            self.know(self.talk.length, self.ready[name])
 
     def before_cancel(self, item: Item) -> None:
         """A cancel that succeeds puts its request behind those that are done: so they have to be. One that fails comes behind its take."""
         name = item.text.split(" ")[1]
-        coming = self.afters[self.after_at :]
         if item.answer == "ok":
-            for other in coming[: coming.index(name)] if name in coming else []:
+            before = list(itertools.takewhile(lambda it: it != name, self.coming()))
+            for other in before if len(before) < len(self.afters) - self.after_at else []:
                 if other in self.taken:
                     self.finish(other)
             self.finished.add(name)
@@ -285,7 +376,7 @@ class Follower:
     def do_op(self, item: Item) -> None:
         word = item.text.split(" ")[0]
         if word == "updatetime":
-            self.tick_to(item.now)
+            self.tick(item.now)
         elif word == "cancel":
             self.flush()
             self.before_cancel(item)
@@ -295,30 +386,55 @@ class Follower:
 
     def do_run(self, item: Item, at: int) -> None:
         """A default run looks at the clock as it begins."""
-        self.tick_to(item.now)
+        self.tick(item.now)
         if item.text == "default":
-            self.tick_to(next((it.now for it in self.items[at + 1 : at + FAR] if it.type in ("call", "poll", "end")), item.now))
+            self.tick(next((it.now for it in self.items[at + 1 : at + FAR] if it.type in ("call", "poll", "end")), item.now))
         self.later("loop", f"run {item.text}")
         self.where = "entry"
 
     def do_call(self, item: Item, at: int) -> None:
         wanted = f"{CALLS[item.list]} {item.name} "
-        line = self.until(wanted, item, at, section_of(item))
+        line = self.until(wanted, at, section_of(item))
+        self.go_on_before(item, at, wanted)
+        self.in_call = True
         if item.list == "after":
             if line.split(" ")[3] != item.text:
                 raise Stopped(f"has `{line}` there")
             self.after_at += 1
             self.finished.discard(item.name)
+            self.ready.pop(item.name, None)
             self.taken.pop(item.name, None)
         self.outcome.callbacks += 1
 
+    def go_on_before(self, item: Item, at: int, wanted: str) -> None:
+        """The clock goes on to where it was as the callback began, in front of it."""
+        if item.clock <= self.clock:
+            self.trail.append((self.talk.length - 1, at, CLOCK, True))
+            return
+        self.move(self.talk.length - 1)
+        self.tick_to(at, CLOCK)
+        self.later("loop", wanted)
+        self.flush()
+
     def do_done(self, item: Item, at: int) -> None:
         """The clock goes on to where it was as the callback ended."""
-        ahead = self.items[at + 1 : at + FAR]
-        if self.starts_behind_end(item, ahead):
-            return
+        self.tick_to(at, END)
+        self.in_call = False
+
+    def end_time(self, at: int) -> int:
+        item, ahead = self.items[at], self.items[at + 1 : at + FAR]
+        if self.is_near_end(at) and self.starts_behind_end(item, ahead):
+            return NO_CLOCK
         later = (it.now for it in ahead if it.type in ("call", "poll", "run", "end") and it.now > item.now)
-        self.tick_to(min(item.clock, next(later, item.clock)))
+        return min(item.clock, next(later, item.clock))
+
+    def tick_within(self, item: Item, at: int) -> None:
+        """The clock goes on to where it was as something came from outside, if nothing before that looks at it."""
+        # (a run that begins has its time of before: the first that looks is in it)
+        later = (it for it in self.items[at + 1 : at + FAR] if it.type in ("call", "poll", "end", "done") or it.text == "updatetime")
+        next_one = next(later, None)
+        if next_one is not None and item.clock != NO_CLOCK:
+            self.tick(min(item.clock, next_one.clock if next_one.type == "done" else next_one.now))
 
     def starts_behind_end(self, item: Item, ahead: list[Item]) -> bool:
         """Does the run end by the same time, and the main program start a timer by it then? The last iteration looks at the clock
@@ -332,6 +448,11 @@ class Follower:
                 return True
         return False
 
+    def is_near_end(self, at: int) -> bool:
+        """Does a run end within the next items?"""
+        found = bisect.bisect_left(self.ends, at)
+        return found < len(self.ends) and self.ends[found] < at + FAR
+
     def do(self, item: Item, at: int) -> None:
         match item.type:
             case "op":
@@ -340,39 +461,118 @@ class Follower:
                 self.do_run(item, at)
             case "end":
                 self.flush()
-                line = self.until("end ", item, at, "timers")
+                line = self.until("end ", at, "timers")
                 self.outcome.ends += line != f"end {item.text}"
             case "poll":
-                self.to_poll(item, at)
+                self.to_poll(at)
             case "call":
                 self.flush()
                 self.do_call(item, at)
             case "done":
                 self.do_done(item, at)
+            case "send":
+                self.flush()
+                self.do_send(item, at)
+            case "finish":
+                self.flush()
+                self.do_finish(item, at)
             case "take":
+                self.tick_within(item, at)
                 self.flush()
                 while item.name not in self.taken and item.name not in self.finished:
                     self.take()
+                if item.name in self.taken and item.clock != NO_CLOCK:
+                    self.know(self.taken_at[item.name], item.clock)
+
+    def do_send(self, item: Item, at: int) -> None:
+        self.senders.add(item.name)
+        if at in self.lazy:
+            self.sent_late.setdefault(item.name, item.clock)
+            return
+        self.check(item.name, at)
+        self.tick_within(item, at)
+        self.ask([f"send {item.name}"])
+        self.know(self.talk.length, item.clock)
+
+    def do_finish(self, item: Item, at: int) -> None:
+        """Work is through. Its step comes behind those of the requests that call back before it."""
+        self.ready[item.name] = item.clock
+        if at in self.lazy:
+            return
+        self.check(item.name, at)
+        self.tick_within(item, at)
+        while (name := next((it for it in self.coming() if it not in self.finished), None)) in self.ready:
+            self.finish(name)
+
+    # ---- a send or a finish that the loop saw later than it came
+
+    def check(self, name: str, at: int) -> None:
+        """All as it is before a send or a finish."""
+        kept = {it: copy.copy(getattr(self, it)) for it in KEPT}
+        kept["outcome"] = copy.copy(self.outcome)
+        kept["outcome"].answers = list(self.outcome.answers)
+        self.checks.append((name, at, self.talk.length, kept))
+
+    def again_from(self, stopped: Stopped) -> int | None:
+        """Where the loop calls what the program calls only later: it left its poll before the send or the finish. So that comes where
+        its callback does. Answers the item from which to go on; None where that isn't it."""
+        called = CALLED.search(stopped.model)
+        found = next((it for it in reversed(self.checks) if called and it[0] == called[1]), None)
+        if not found:
+            return None
+        _, at, length, kept = found
+        self.queue = []
+        self.move(length)
+        for name, value in kept.items():
+            setattr(self, name, value)
+        self.lazy.add(at)
+        while self.checks and self.checks[-1][1] >= at:
+            self.checks.pop()
+        return at
 
     def follow(self) -> Outcome:
         """Goes along all items, or up to where the loop does something else."""
         if self.wake:
             self.later("loop", "init wake async = ")
             self.later("loop", "unref wake = ok")
-        try:
-            for at, item in enumerate(self.items):
-                self.at = at
-                self.do(item, at)
-                if not self.queue:
-                    self.kept, self.kept_at = self.talk.length, at + 1
-            self.flush()
-        except Stopped as stopped:
-            self.move(self.kept)
-            self.outcome.why, self.outcome.item = stopped.model, self.items[self.at]
+        at: int | None = 0
+        while at is not None:
+            try:
+                self.go_along(at)
+                self.flush()
+                break
+            except NeedsWake:
+                self.talk.stop()
+                raise
+            except Stopped as stopped:
+                at = self.again_from(stopped)
+                if at is None:
+                    self.move(self.kept)
+                    self.outcome.why, self.outcome.item = stopped.model, self.items[self.at]
         self.record()
         return self.outcome
 
+    def go_along(self, at: int) -> None:
+        ways = Ways(self)
+        while at < len(self.items):
+            self.tell(at, len(self.items))
+            end = ways.end_of(at)
+            if end:
+                self.flush()
+                if (behind := ways.run(at)) > at:
+                    at = self.kept_at = behind
+                    continue
+            begin, key, self.trail = self.talk.length, ways.key(at, end, self.where), []
+            for self.at in range(at, end or at + 1):
+                self.do(self.items[self.at], self.at)
+                if not self.queue:
+                    self.kept, self.kept_at = self.talk.length, self.at + 1
+            if end:
+                self.flush()
+                ways.learn(at, end, key, begin)
+            at = end or at + 1
+
     def record(self) -> None:
         self.outcome.steps = self.talk.length
-        self.outcome.recording = self.talk.ask("record")
+        self.outcome.recording = self.talk.record()
         self.talk.close()

@@ -5,6 +5,7 @@ A log may be cut anywhere, and any byte of it may be another one: it is read up 
 
 from __future__ import annotations
 
+import functools
 import re
 from dataclasses import dataclass, field
 
@@ -14,9 +15,10 @@ NUMBER = r"(?:0|[1-9]\d{0,18})"
 TIMER_OWN = {"timer", "idle", "prepare", "check", "async"}
 WATCHERS = {"tcp", "udp", "pipe", "tty", "poll", "signal", "fs_event", "fs_poll", "process"}
 HEAD = re.compile(r"uvt-log 1 (1\.\d{1,4}\.\d{1,4}\S*) (\d{1,9}) (\d{1,9}) (.*)")
-LINE = re.compile(rf"({NUMBER}) ([OBERrPTSCV]) ({NUMBER}) (.*)")
-ENDED = re.compile(rf"({NUMBER}) ({NUMBER})")
 ADDRESS = re.compile(r"- A (\d{1,9}) ([0-9a-f]{1,16}) (\S+) (.*)")
+WORKERS = re.compile(r"- N (\d{1,9})")
+NO_CLOCK = -1
+TIMED = "BEFST"
 NO_ROOM = "- ! no room"
 CODE = r"(?:ok|E[A-Z0-9_]+)"
 WORDS = {
@@ -26,14 +28,18 @@ WORDS = {
         rf"|start %{NUMBER}(?: \d{{1,20}} \d{{1,20}})? = {CODE}|repeat %{NUMBER} \d{{1,20}} = {CODE}"
         rf"|(?:stop|again|close|ref|unref|send|cancel) %{NUMBER} = {CODE}|(?:closeloop|stoploop|updatetime) = {CODE}"
     ),
+    "E": re.compile(NUMBER),
     "B": re.compile(rf"on {NUMBER} [a-z_]+|after {NUMBER} (?:ok|ECANCELED)|closed {NUMBER}"),
     "R": re.compile("default|once|nowait"),
     "r": re.compile("[01]"),
     "P": re.compile(r"-?\d{1,10}"),
     "T": re.compile(NUMBER),
+    "F": re.compile(NUMBER),
     "S": re.compile(rf"{NUMBER} \d{{1,20}}"),
-    "C": re.compile(rf"{NUMBER} \d{{1,9}}"),
-    "V": re.compile(rf"{NUMBER} \d{{1,9}}"),
+    "C": re.compile(rf"{NUMBER} \d{{1,9}}(?: [a-z_]+)?"),
+    "V": re.compile(rf"{NUMBER} \d{{1,9}}(?: \d{{1,9}})?"),
+    "K": re.compile(rf"all|end|{NUMBER} [a-z_]+ [01] [01] [01] {NUMBER} {NUMBER} {NUMBER}"),
+    "W": re.compile(rf"(?:-1|{NUMBER}) \d{{1,20}} uv_[a-z_0-9]+"),
 }
 
 
@@ -42,7 +48,7 @@ class Event:
     """A line of a loop."""
 
     type: str
-    # the loop's time; and of a callback's end the clock: in ms since the loop was first seen
+    # the loop's time; and of a callback or work that begins or ends, and of a send the clock, or NO_CLOCK: in ms since the loop was first seen
     now: int
     clock: int
     words: str
@@ -54,9 +60,21 @@ class Address:
     """A place in a program's file: of a static handle, or of a callback."""
 
     offset: int
-    # `-` where nobody knows it
+    # `-` where nobody knows it; `NAME+OFFSET/SIZE` within a variable, `NAME@FILE:LINE` of a function with debug information
     symbol: str
     file: str
+
+    def name(self) -> str:
+        return re.split(r"[+@]", self.symbol)[0]
+
+    def source(self) -> str:
+        """Where a function's source stands, `` where nobody knows."""
+        return self.symbol.partition("@")[2]
+
+    def within(self) -> tuple[int, int]:
+        """How far behind a variable's start it lies, and how large that is; (0, 0) where the log doesn't say."""
+        found = re.fullmatch(r".*\+(\d+)/(\d+)", self.symbol)
+        return (int(found[1]), int(found[2])) if found else (0, 0)
 
 
 @dataclass
@@ -72,15 +90,32 @@ class Log:
     note: str = ""
 
 
+def is_number(text: str) -> bool:
+    return text.isdecimal() and text.isascii() and len(text) <= 19 and (text[0] != "0" or text == "0")
+
+
+@functools.lru_cache(maxsize=1 << 16)
+def is_good(type: str, words: str) -> bool:
+    return WORDS[type].fullmatch(words) is not None
+
+
 def read_event(text: str, line: int) -> tuple[int, Event] | None:
-    found = LINE.fullmatch(text)
-    if not found:
+    parts = text.split(" ", 3)
+    if len(parts) != 4 or parts[1] not in WORDS or not is_number(parts[0]) or not is_number(parts[2]):
         return None
-    loop, type, now, words = int(found[1]), found[2], int(found[3]), found[4]
-    if type == "E":
-        ended = ENDED.fullmatch(words)
-        return (loop, Event(type, now, int(ended[1]), ended[2], line)) if ended else None
-    return (loop, Event(type, now, 0, words, line)) if WORDS[type].fullmatch(words) else None
+    loop, type, now, words = int(parts[0]), parts[1], int(parts[2]), parts[3]
+    if type in TIMED:
+        clock, _, rest = words.partition(" ")
+        if is_number(clock) and is_good(type, rest):
+            return loop, Event(type, now, int(clock), rest, line)
+        # (logs of earlier recorders have a clock at a callback's end alone)
+        if type == "E":
+            return None
+    return (loop, Event(type, now, NO_CLOCK, words, line)) if is_good(type, words) else None
+
+
+def within(workers: int) -> int:
+    return max(1, min(1024, workers))
 
 
 def read_log(data: bytes) -> Log:
@@ -89,15 +124,19 @@ def read_log(data: bytes) -> Log:
     lines = data.replace(b"\0", b"").decode("utf-8", "replace").split("\n")
     cut = lines.pop() != ""
     head = HEAD.fullmatch(lines[0]) if lines else None
+    if not head and re.match(r"uvt \d", lines[0] if lines else ""):
+        raise Fault("this is a recording, and no log: uvt-why, uvt-shell and uvt-view take it as it is")
     if not head:
         raise Fault("this is no log of a program: its first line isn't `uvt-log 1` with libuv's version, a process, workers and a program")
-    log = Log(head[1], int(head[2]), max(1, min(1024, int(head[3]))), head[4])
+    log = Log(head[1], int(head[2]), within(int(head[3])), head[4])
     for number, text in enumerate(lines[1:], 2):
         log.lines = number
         if event := read_event(text, number):
             log.loops.setdefault(event[0], []).append(event[1])
         elif address := ADDRESS.fullmatch(text):
             log.addresses[int(address[1])] = Address(int(address[2], 16), address[3], address[4])
+        elif workers := WORKERS.fullmatch(text):
+            log.workers = within(int(workers[1]))
         elif text == NO_ROOM:
             log.note = f"the disk had no room for more: the log ends at line {number}"
             return log

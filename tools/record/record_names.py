@@ -1,6 +1,6 @@
 """Names of handles and requests: the variable of a static one, else its callback's symbol, else its kind.
 
-Symbols are looked up once, behind the run, with `nm`, and written into the log: so a stored log needs no program.
+Symbols are looked up once, behind the run, with `nm` and `addr2line`, and written into the log: so a stored log needs no program.
 """
 
 from __future__ import annotations
@@ -39,7 +39,7 @@ class Symbols:
         self.variables.sort()
 
     def name_at(self, offset: int) -> str:
-        """A function that begins there, or a variable that lies there: with how far behind its start where it is a larger one."""
+        """A function that begins there, or a variable that lies there, with how far behind its start, and how large that is."""
         if offset in self.functions:
             return self.functions[offset]
         at = bisect.bisect_right(self.variables, (offset, 1 << 64, "")) - 1
@@ -49,7 +49,7 @@ class Symbols:
         if not start <= offset < start + size:
             return "-"
         name = re.sub(r"\.\d+$", "", name.split("@")[0])
-        return name if offset == start and size <= 1024 else f"{name}_{offset - start}"
+        return f"{name}+{offset - start}/{size}"
 
 
 def plain(symbol: str) -> str:
@@ -60,15 +60,32 @@ def plain(symbol: str) -> str:
     return re.sub(r"\(.*|<.*|\s.*", "", symbol) or "-"
 
 
+def sources(file: str, offsets: list[int]) -> list[str]:
+    """Of each place its source file and line, as FILE:LINE, by debug information; `` where there is none."""
+    words = ["addr2line", "-e", file, *(f"{it:x}" for it in offsets)]
+    try:
+        ran = subprocess.run(words, capture_output=True, text=True, errors="replace", timeout=60)
+    except (OSError, subprocess.TimeoutExpired):
+        return [""] * len(offsets)
+    lines = [it.split(" ")[0].rsplit("/", 1)[-1] for it in ran.stdout.splitlines()]
+    known = [it if re.fullmatch(r"[^\s?+@]+:[1-9]\d*", it) else "" for it in lines]
+    return known if len(known) == len(offsets) else [""] * len(offsets)
+
+
 def name_addresses(log: Log) -> None:
     """Gives the addresses of a fresh log their symbols."""
-    files: dict[str, Symbols] = {}
-    for address in log.addresses.values():
-        if address.file not in files:
-            files[address.file] = Symbols(address.file)
-        found = files[address.file].name_at(address.offset)
-        if found != "-":
-            address.symbol = plain(found)
+    for file in sorted({it.file for it in log.addresses.values()}):
+        symbols = Symbols(file)
+        functions = []
+        for address in (it for it in log.addresses.values() if it.file == file):
+            found = symbols.name_at(address.offset)
+            if address.offset in symbols.functions:
+                address.symbol = re.sub("[+@]", "_", plain(found))
+                functions.append(address)
+            elif found != "-":
+                address.symbol = found
+        for address, source in zip(functions, sources(file, [it.offset for it in functions])):
+            address.symbol += f"@{source}" if source else ""
 
 
 def named_log(data: bytes, log: Log) -> bytes:
@@ -84,9 +101,18 @@ def named_log(data: bytes, log: Log) -> bytes:
     return b"\n".join(lines)
 
 
-def base_name(address: Address) -> str | None:
+def element(address: Address, size: int) -> str:
+    """Which part of its variable an object of that size is: `[2]` of an array, `+64` of something else, `` if it is all of it."""
+    offset, whole = address.within()
+    if size and whole > size and whole % size == 0 and offset % size == 0:
+        return f"[{offset // size}]"
+    return f"+{offset}" if offset or whole > 1024 else ""
+
+
+def base_name(address: Address, size: int) -> str | None:
     """A symbol as a script's names are: lower case, without signs."""
-    symbol = address.symbol
-    symbol = "_".join(symbol.split("::")[-2:])
-    name = re.sub("[^a-z0-9]+", "_", symbol.lower()).strip("_")[:ROOM].strip("_")
-    return name if name and name[0].isalpha() else None
+    symbol = "_".join(address.name().split("::")[-2:])
+    part = re.sub(r"\D", "", element(address, size))
+    room = ROOM - len(part) - 1 if part else ROOM
+    name = re.sub("[^a-z0-9]+", "_", symbol.lower()).strip("_")[:room].strip("_")
+    return (f"{name}_{part}" if part else name) if name and name[0].isalpha() else None

@@ -2,6 +2,8 @@
 
 from __future__ import annotations
 
+import collections
+import glob
 import os
 import re
 import shutil
@@ -13,14 +15,21 @@ from dataclasses import dataclass
 from pathlib import Path
 
 from conversation import INSTALLED, OUT, Fault, built_program
+from notes import Notes
 from record_differences import PAGE, heading_of, says
 from record_follow import CALLS, MANY_WORKERS, Follower, NeedsWake, Outcome
-from record_log import Log, read_log
+from record_log import Event, Log, read_log
 from record_names import name_addresses, named_log
 from record_script import Program, program_of
+from record_window import window
+from tell import Teller
 
 RECORDER = Path(__file__).resolve().parent / "recorder"
 BUILT = OUT / "recorder" / "recorder.so"
+# So many callbacks of a log are followed, where no other number is asked for: some ten seconds, and as much memory as 100,000 callbacks take.
+MOST = 100_000
+
+
 def write(path: Path, data: bytes) -> None:
     """Writes a file whole, or leaves what was there."""
     part = path.with_name(path.name + ".part")
@@ -61,16 +70,30 @@ def agrees(program: Program, outcome: Outcome) -> bool:
     return names == wanted[: outcome.callbacks]
 
 
+@dataclass
+class Part:
+    """Which part of a log is asked for."""
+
+    # in ms of the loop's time: from there on, or the last ones
+    begin: int | None = None
+    last: int | None = None
+    # how many callbacks at the most
+    most: int = MOST
+
+
 def followed(program: Program, workers: int) -> Outcome:
     """The recording that goes farthest. Where the loop waits and nobody woke it a handle `wake` stands for who did; where a request
     was passed by later ones there are more workers, as libuv does slow work apart."""
     wake, best = False, None
     while True:
         try:
-            outcome = Follower(program, workers, wake).follow()
+            teller = Teller("uvt-record", "events")
+            outcome = Follower(program, workers, wake, teller.tell).follow()
         except NeedsWake:
             wake = True
             continue
+        finally:
+            teller.done()
         if best is None or outcome.callbacks > best.callbacks or not outcome.why:
             best = outcome
         passed = outcome.item is not None and outcome.item.list == "after"
@@ -79,9 +102,29 @@ def followed(program: Program, workers: int) -> Outcome:
         workers = MANY_WORKERS
 
 
-def make(log: Log, loop: int) -> Made | None:
+def chosen(events: list[Event], part: Part) -> tuple[list[Event], str, str]:
+    """The part of a loop's events that is asked for; where it begins and where it is cut, in a sentence each."""
+    began = cut = ""
+    time = part.begin if part.last is None else max(0, events[-1].now - part.last)
+    if time is not None:
+        events, now = window(events, time)
+        began = f"it begins at {now} ms of the loop's time, with what there was then, and its times count from there"
+    calls = [at for at, it in enumerate(events) if it.type == "B"]
+    if len(calls) > part.most:
+        cut = (f"the log has {len(calls)} callbacks, and the first {part.most} were taken: --most N takes another number,"
+               " --last SECONDS or --from MS another part")
+        events = events[: calls[part.most]]
+    return events, began, cut
+
+
+def make(log: Log, loop: int, part: Part = Part()) -> Made | None:
     """The recording of a loop. None if it has no callback."""
-    program = program_of(log, log.loops[loop])
+    if not any(it.type == "B" for it in log.loops[loop]):
+        return None
+    events, began, cut = chosen(log.loops[loop], part)
+    program = program_of(log, events)
+    program.began = began
+    program.stopped = program.stopped or cut
     if not program.callbacks():
         return None
     outcome = followed(program, log.workers)
@@ -91,6 +134,64 @@ def make(log: Log, loop: int) -> Made | None:
 # ---- what is said of it
 
 
+def where_it_stops(made: Made) -> str:
+    """What the program did where the recording stops, and what the loop would do, in a sentence; `` where it goes all the way."""
+    if not made.outcome.why:
+        return made.program.stopped
+    item = made.outcome.item
+    return f"{says(item)}, and the loop {made.outcome.why}: {PAGE}, `{heading_of(made.program, made.outcome)}`"
+
+
+def part_of(made: Made, note: str) -> str:
+    """Why a recording is only a beginning, or a part of its program, in a sentence; `` where it is all of it."""
+    outcome, stops = made.outcome, where_it_stops(made)
+    if outcome.why:
+        return f"it has the first {outcome.callbacks} of {outcome.of} callbacks, up to line {outcome.item.line} of the log; there {stops}"
+    return "; ".join(it for it in (made.program.began, stops or note) if it)
+
+
+OPS = re.compile(r"(on|after|closed) (\S+) (?:@(\d+) )?")
+
+
+def foreign_lines(made: Made) -> dict[int, str]:
+    """The lines of the recording that another thread than the loop's did."""
+    if not made.program.foreign_ops:
+        return {}
+    found, counts = {}, collections.Counter()
+    for number, line in enumerate(made.outcome.recording, 1):
+        if line == "begin":
+            break
+        if op := OPS.match(line):
+            key = op[1], op[2], int(op[3] or 0)
+            if function := made.program.foreign_ops.get((*key, counts[key])):
+                found[number] = function
+            counts[key] += 1
+    return found
+
+
+def notes_of(made: Made, note: str) -> Notes:
+    """What is known of a recording beside its steps."""
+    steps = made.outcome.recording[made.outcome.recording.index("begin") + 1 : made.outcome.recording.index("calls")]
+    outside = {at for at, it in enumerate(steps, 1) if it.split(" ")[0] in ("send", "take", "finish")}
+    return Notes(
+        part_of(made, note), {it.name: (it.kind, it.text) for it in made.program.origins}, made.program.functions,
+        outside - made.outcome.known, foreign_lines(made), made.outcome.outside, made.outcome.times,
+    )
+
+
+def by_other_threads(program: Program) -> list[str]:
+    """Loud: what libuv forbids. (Of one function and name a line.)"""
+    found: dict[tuple[str, str], list[int]] = {}
+    for it in program.foreign:
+        found.setdefault((it.function, it.name), []).append(it.line)
+    return [
+        f"WRONG THREAD: {function} of {name or 'the loop'} by another thread while the loop runs"
+        + f" (line {lines[0]} of the log{f', and {len(lines) - 1} times more' if len(lines) > 1 else ''}):"
+        + " libuv allows other threads uv_async_send alone"
+        for (function, name), lines in found.items()
+    ]
+
+
 def told(made: Made, loop: int, path: Path, note: str) -> list[str]:
     """What is said of a loop: how far its recording goes, and the command that opens it."""
     outcome, program = made.outcome, made.program
@@ -98,14 +199,10 @@ def told(made: Made, loop: int, path: Path, note: str) -> list[str]:
     if made.verdict != "same" or not made.agrees:
         return [head + f"uvt replay says `{made.verdict}`" + ("" if made.agrees else ", and its callbacks aren't those of the log")]
     if outcome.why:
-        item = outcome.item
-        lines = [
-            head + f"same up to line {item.line} of the log",
-            f"    there {says(item)}, and the loop {outcome.why}: {PAGE}, `{heading_of(program, outcome)}`",
-        ]
+        lines = [head + f"same up to line {outcome.item.line} of the log", f"    there {where_it_stops(made)}"]
     else:
         lines = [head + "same"]
-    lines += [f"    {it}" for it in (program.stopped, note) if it]
+    lines += [f"    {it}" for it in (program.began, program.stopped, note, *by_other_threads(program)) if it]
     if outcome.answers:
         lines.append(f"    {len(outcome.answers)} answers differ, first: {outcome.answers[0]}")
     if outcome.ends:
@@ -116,32 +213,30 @@ def told(made: Made, loop: int, path: Path, note: str) -> list[str]:
     return lines + [f"    {'uvt shell' if INSTALLED else 'tools/uvt-shell'} {path}"]
 
 
-def from_data(data: bytes, log: Log, name: str) -> tuple[list[str], bool]:
+def from_data(data: bytes, log: Log, name: str, part: Part = Part()) -> tuple[list[str], bool]:
     """Makes the recordings of a log, and writes them. Answers what is to be said, and whether all go all the way."""
-    made = [(loop, it) for loop in sorted(log.loops) if (it := make(log, loop))]
+    made = [(loop, it) for loop in sorted(log.loops) if (it := make(log, loop, part))]
     lines, whole = [], True
-    names = []
     for loop, it in made:
         path = Path(f"{name}.rec" if len(made) == 1 else f"{name}.{loop}.rec")
-        write(path, ("\n".join(it.outcome.recording) + "\n").encode())
+        recording = ("\n".join(it.outcome.recording) + "\n").encode()
+        write(path, recording)
+        write(path.with_suffix(".notes"), notes_of(it, log.note).text(recording).encode())
         lines += told(it, loop, path, log.note)
         whole &= it.is_whole()
-        names += [f"loop {loop}"] + [f"{origin.name}: {origin.text}" for origin in it.program.origins]
-    if made:
-        write(Path(f"{name}.names"), ("\n".join(names) + "\n").encode())
-    else:
+    if not made:
         lines.append(f"no loop with callbacks in {log.lines} lines of the log" + (f": {log.note}" if log.note else ""))
         whole = False
     return lines, whole and not log.note
 
 
-def from_log(path: Path, name: str | None) -> int:
+def from_log(path: Path, name: str | None, part: Part) -> int:
     """A log that was kept."""
     try:
         data = path.read_bytes()
     except OSError as fault:
         raise Fault(f"{path}: {fault.strerror}") from None
-    lines, whole = from_data(data, read_log(data), name or path.name.removesuffix(".log"))
+    lines, whole = from_data(data, read_log(data), name or path.name.removesuffix(".log"), part)
     print("\n".join(lines), flush=True)
     return 0 if whole else 1
 
@@ -176,13 +271,57 @@ def recorder() -> Path:
     return BUILT
 
 
-def room_for(name: str) -> Path:
-    """A folder for the logs of a run, beside where they are to be kept."""
-    beside = Path(name).resolve().parent
+def is_alive(process: int) -> bool:
     try:
-        return Path(tempfile.mkdtemp(prefix=f".{Path(name).name}.", dir=beside))
+        return Path(f"/proc/{process}/stat").read_text().rpartition(")")[2].split()[0] != "Z"
+    except (OSError, IndexError):
+        return False
+
+
+def room_for(name: str) -> Path:
+    """A folder for the logs of a run, beside where they are to be kept. One that a killed call has left there goes."""
+    beside, mine = Path(name).resolve().parent, f".{Path(name).name}."
+    try:
+        for left in beside.glob(f"{glob.escape(mine)}*"):
+            found = re.fullmatch(re.escape(mine) + r"(\d+)\.\w+", left.name)
+            if found and not is_alive(int(found[1])):
+                shutil.rmtree(left, ignore_errors=True)
+        return Path(tempfile.mkdtemp(prefix=f"{mine}{os.getpid()}.", dir=beside))
     except OSError as fault:
         raise Fault(f"{beside}: {fault.strerror}") from None
+
+
+def sanitizers(program: str) -> list[str]:
+    """The runtimes that have to stand in front of all other libraries of the program, where it needs any."""
+    path = shutil.which(program)
+    if not path:
+        return []
+    try:
+        ran = subprocess.run(["ldd", path], capture_output=True, text=True, errors="replace", timeout=20)
+    except (OSError, subprocess.TimeoutExpired):
+        return []
+    return re.findall(r"=> (\S*/lib(?:asan|hwasan|tsan)\.so\S*)", ran.stdout)
+
+
+def why_not(program: str, fault: OSError) -> str:
+    """Why it could not be started, in a sentence: it may be a file of the recorder's own."""
+    try:
+        with open(program, "rb") as file:
+            head = file.read(8)
+    except OSError:
+        head = b""
+    if head.startswith(b"uvt-log"):
+        return f"{program} is a log, and no program: uvt-record --log {program} makes recordings of it"
+    if head.startswith(b"uvt "):
+        return f"{program} is a recording already, and no program: uvt-why, uvt-shell and uvt-view take it"
+    return f"{program} could not be started: {fault.strerror}"
+
+
+def nothing_recorded(program: str, status: int) -> str:
+    """Why there is no log, as far as that can be seen."""
+    if sanitizers(program) and status != 0:
+        return f"{program} ended with status {status} before it called libuv: it is built with a sanitizer, whose runtime may want to be alone"
+    return f"{program} called nothing of a libuv that is a shared library: it has none, or its own within it"
 
 
 def ended(status: int) -> str:
@@ -195,15 +334,15 @@ def ended(status: int) -> str:
 def run_program(words: list[str], folder: Path) -> int:
     """Runs it with the recorder. The log's place is the folder's."""
     environment = dict(os.environ, UVT_LOG=str(folder / "log"))
-    environment["LD_PRELOAD"] = " ".join(filter(None, [str(recorder()), os.environ.get("LD_PRELOAD", "")]))
+    environment["LD_PRELOAD"] = " ".join(filter(None, [*sanitizers(words[0]), str(recorder()), os.environ.get("LD_PRELOAD", "")]))
     try:
         program = subprocess.Popen(words, env=environment)
     except OSError as fault:
-        raise Fault(f"{words[0]} could not be started: {fault.strerror}") from None
+        raise Fault(why_not(words[0], fault)) from None
     # (an interrupt at the terminal is for the program; what ends this tool ends the program, and its log is taken)
     before = {
         signal.SIGINT: signal.signal(signal.SIGINT, lambda *_: None),
-        signal.SIGTERM: signal.signal(signal.SIGTERM, lambda *_: program.terminate()),
+        **{it: signal.signal(it, lambda *_: program.terminate()) for it in (signal.SIGTERM, signal.SIGHUP)},
     }
     try:
         return program.wait()
@@ -212,7 +351,7 @@ def run_program(words: list[str], folder: Path) -> int:
             signal.signal(number, handler)
 
 
-def from_program(words: list[str], name: str | None) -> int:
+def from_program(words: list[str], name: str | None, part: Part) -> int:
     """Runs a program, and makes recordings of each of its processes that has a loop."""
     name = name or Path(words[0]).name
     built_program()
@@ -224,17 +363,17 @@ def from_program(words: list[str], name: str | None) -> int:
             print(said, flush=True)
         logs = sorted(folder.glob("log.*.log"), key=lambda it: it.stat().st_mtime_ns)
         if not logs:
-            raise Fault(f"{words[0]} called nothing of a libuv that is a shared library: it has none, or its own within it")
+            raise Fault(nothing_recorded(words[0], status))
         whole = True
         for path in logs:
             process = name if len(logs) == 1 else f"{name}.{path.name.split('.')[1]}"
-            whole &= from_fresh(path, process, len(logs) > 1)
+            whole &= from_fresh(path, process, len(logs) > 1, part)
         return 0 if whole else 1
     finally:
         shutil.rmtree(folder, ignore_errors=True)
 
 
-def from_fresh(path: Path, name: str, several: bool) -> bool:
+def from_fresh(path: Path, name: str, several: bool, part: Part) -> bool:
     """A log that has just been written. It is kept first, and then gets its symbols: so it isn't lost where the disk is full."""
     kept = Path(f"{name}.log")
     try:
@@ -252,6 +391,6 @@ def from_fresh(path: Path, name: str, several: bool) -> bool:
         print(f"uvt-record: {fault}: the log stays as it is, without its symbols", file=sys.stderr)
     if several:
         print(f"process {log.process}, {log.program}", flush=True)
-    lines, whole = from_data(data, log, name)
+    lines, whole = from_data(data, log, name, part)
     print("\n".join(lines), flush=True)
     return whole

@@ -9,22 +9,25 @@ import collections
 import re
 from dataclasses import dataclass, field
 
-from record_log import TIMER_OWN, WATCHERS, Event, Log
-from record_names import base_name
+from record_log import NO_CLOCK, TIMER_OWN, WATCHERS, Address, Event, Log
+from record_names import base_name, element
 
 SCRIPT_LINES = 1048575
 NAMES = 65535
+# So many handles whose names come from one callback have numbers that stay; behind that the number of one that is gone stands for another.
+STAYS = 500
 ID = re.compile(r"%(\d+)")
 KEEPS = ("ref", "unref")
+FULL = ": docs/LIBUV.md, `More than a script holds`"
 
 
 @dataclass(slots=True)
 class Item:
-    """What the program did next: `op`, `run`, `end`, `poll`, `call`, `done` (a callback ends) or `take`."""
+    """What the program did next: `op`, `run`, `end`, `poll`, `call`, `done` (a callback ends), `take`, `finish` or `send`."""
 
     type: str
     now: int
-    # of a callback's end
+    # of a callback's beginning and end, a take, a finish and a send; NO_CLOCK where the log has none
     clock: int
     line: int
     # of an op its line; of a run its mode, of its end 1 or 0, of a poll its timeout; of a call what libuv said of it
@@ -36,6 +39,8 @@ class Item:
     kind: str = ""
     # of a call: at which item its handle was made
     made: int = 0
+    # of an op that another thread than the loop's did: the function
+    foreign: str = ""
 
 
 @dataclass
@@ -43,7 +48,18 @@ class Origin:
     """Where a name comes from."""
 
     name: str
+    kind: str
     text: str
+
+
+@dataclass
+class Foreign:
+    """What another thread than the loop's asked of it while it ran."""
+
+    line: int
+    function: str
+    # of the handle or request, `` of the loop itself
+    name: str
 
 
 @dataclass
@@ -55,6 +71,7 @@ class Bound:
     base: str
     name: str
     made: int
+    stays: bool = False
     closing: bool = False
     # a callback came while it was closing: that of its close has begun with it
     early: bool = False
@@ -75,10 +92,17 @@ class Program:
     counts: collections.Counter[tuple[str, str]] = field(default_factory=collections.Counter)
     items: list[Item] = field(default_factory=list)
     origins: list[Origin] = field(default_factory=list)
+    # of a list and a name the functions that were called, each with the first call from which it is that
+    functions: dict[tuple[str, str], list[tuple[int, str]]] = field(default_factory=dict)
+    foreign: list[Foreign] = field(default_factory=list)
+    # the ops of these, by list, name, call and place in the body, each with its function
+    foreign_ops: dict[tuple[str, str, int, int], str] = field(default_factory=dict)
     notes: collections.Counter[str] = field(default_factory=collections.Counter)
     slots: int = 0
     # of libuv
     version: str = ""
+    # where the items begin, if that isn't where the log does, in a sentence
+    began: str = ""
     # why the items end before the log does, in a sentence
     stopped: str = ""
 
@@ -88,10 +112,11 @@ class Program:
     def body_lines(self) -> list[str]:
         """The bodies by name. One that is the same in each call stands there once."""
         lines = []
+        apart = {it[:2] for it in self.foreign_ops}
         for name in self.names:
             for kind in ("on", "after", "closed"):
                 bodies = [self.bodies[kind, name, call] for call in range(1, self.counts[kind, name] + 1)]
-                if bodies and all(it == bodies[0] for it in bodies):
+                if bodies and (kind, name) not in apart and all(it == bodies[0] for it in bodies):
                     lines += [f"{kind} {name} {op}" for op in bodies[0]]
                 else:
                     lines += [f"{kind} {name} @{call} {op}" for call, body in enumerate(bodies, 1) for op in body]
@@ -100,7 +125,8 @@ class Program:
     def script(self, workers: int, wake: bool) -> list[str]:
         """The whole script. With `wake` a handle more, that stands for what woke the loop and called nobody."""
         slots = self.slots + (1 if wake else 0)
-        lines = [f"workers {workers}"] + ([f"slots {slots}"] if slots > 1024 else [])
+        old = tuple(int(it) for it in self.version.split(".")[:2]) < (1, 45) if self.version else False
+        lines = (["order 1.44"] if old else []) + [f"workers {workers}"] + ([f"slots {slots}"] if slots > 1024 else [])
         lines += [f"var {name}" for name in (["wake"] if wake else []) + self.names]
         lines += ["main init wake async", "main unref wake"] if wake else []
         return lines + [f"main {op}" for op in self.main] + self.body_lines()
@@ -114,9 +140,15 @@ class Maker:
         self.program = Program(version=log.version)
         self.bound: dict[int, Bound] = {}
         self.first_callback: dict[int, int] = {}
-        self.variable: dict[int, int] = {}
+        self.variable: dict[int, tuple[int, int]] = {}
+        # by object and what its line says as it begins: the callback that it has now
+        self.callback: dict[tuple[int, str], int] = {}
+        self.functions: list[str] = []
         self.free: dict[str, list[str]] = collections.defaultdict(list)
+        self.numbers: collections.Counter[str] = collections.Counter()
         self.taken: set[str] = {"wake"}
+        # by object, -1 for the loop: the function by which another thread asks something of it
+        self.by_other: dict[int, str] = {}
         # the callbacks under way: the ops of the first one, in which the others are
         self.body: list[str] | None = None
         self.depth = 0
@@ -126,35 +158,47 @@ class Maker:
 
     # ---- names
 
-    def base_of(self, id: int, kind: str) -> tuple[str, str]:
-        """What a name is made of, and where that comes from."""
-        for known, word in ((self.variable, "the variable"), (self.first_callback, "the callback")):
-            address = self.log.addresses.get(known.get(id, -1))
-            base = base_name(address) if address else None
-            if base:
-                return base, f"{word} {address.symbol} of {address.file}"
-        return kind, "its kind: it lies in memory of its own, and its callback has no symbol"
+    def base_of(self, id: int, kind: str) -> tuple[str, str, bool]:
+        """What a name is made of, where that comes from, and whether that is the variable in which it lies."""
+        place, size = self.variable.get(id, (-1, 0))
+        address = self.log.addresses.get(place)
+        if address and (base := base_name(address, size)):
+            return base, f"the variable {address.name()}{element(address, size)} of {address.file}", True
+        address = self.log.addresses.get(self.first_callback.get(id, -1))
+        if address and (base := base_name(address, 0)):
+            return base, f"in memory of its own: the name is that of its function {self.told(address)}", False
+        return kind, "in memory of its own, and its function has no symbol", False
+
+    @staticmethod
+    def told(address: Address) -> str:
+        """A function, with its source where that is known."""
+        return f"{address.name()} ({address.source()})" if address.source() else address.name()
 
     def bind(self, id: int, kind: str, line: int) -> Bound:
-        base, origin = self.base_of(id, kind)
-        if self.free[base]:
-            name = self.free[base].pop()
-        else:
-            number, name = 1, base
-            while name in self.taken:
-                number += 1
-                name = f"{base}_{number}"
-            self.taken.add(name)
-            self.program.names.append(name)
-            self.program.origins.append(Origin(name, f"{origin}; kind {kind}, first seen in line {line} of the log"))
-        bound = self.bound[id] = Bound(id, kind, base, name, len(self.program.items))
+        base, origin, is_variable = self.base_of(id, kind)
+        stays = not is_variable and self.numbers[base] < STAYS
+        bound = self.bound[id] = Bound(id, kind, base, self.name_for(base, stays), len(self.program.items), stays)
+        if bound.name not in self.taken:
+            self.taken.add(bound.name)
+            self.program.names.append(bound.name)
+            self.program.origins.append(Origin(bound.name, kind, f"{origin}, first seen in line {line} of the log"))
         self.program.slots = max(self.program.slots, len(self.bound))
         return bound
 
+    def name_for(self, base: str, stays: bool) -> str:
+        if self.free[base] and not stays:
+            return self.free[base].pop()
+        while True:
+            self.numbers[base] += 1
+            name = base if self.numbers[base] == 1 else f"{base}_{self.numbers[base]}"
+            if name not in self.taken:
+                return name
+
     def release(self, bound: Bound) -> None:
-        """From the beginning of its last callback on the name may stand for another one."""
+        """From the beginning of its last callback on the name may stand for another one, if it is that of a variable."""
         del self.bound[bound.id]
-        self.free[bound.base].append(bound.name)
+        if not bound.stays:
+            self.free[bound.base].append(bound.name)
 
     # ---- ops
 
@@ -163,10 +207,11 @@ class Maker:
         self.program.items.append(item)
         return item
 
-    def add_op(self, event: Event, text: str, answer: str) -> None:
+    def add_op(self, event: Event, text: str, answer: str, foreign: str = "") -> None:
         """An op of the callback under way, or of the main program."""
         items = self.program.items
         if self.body is not None:
+            self.keep_foreign(foreign)
             self.body.append(text)
         elif self.runs and items and items[-1].type == "done" and text.split(" ")[0] in KEEPS:
             # (seen as the callback was over: its last op)
@@ -174,18 +219,37 @@ class Maker:
             items.insert(len(items) - 1, Item("op", items[-1].now, event.clock, event.line, text, answer))
             return
         elif self.runs:
-            self.stray.append(Item("op", event.now, event.clock, event.line, text, answer))
-            self.program.notes["ops outside of callbacks, which were put into the next one"] += 1
+            self.stray.append(Item("op", event.now, event.clock, event.line, text, answer, foreign=foreign))
+            self.program.notes["ops outside of callbacks, which were put into the next one"] += not foreign
             return
         else:
             self.program.main.append(text)
         self.add(event, "op", text=text, answer=answer)
 
+    def keep_foreign(self, function: str) -> None:
+        """The next op of the callback under way is another thread's."""
+        if function and self.call:
+            call = self.program.counts[self.call.list, self.call.name]
+            self.program.foreign_ops[self.call.list, self.call.name, call, len(self.body)] = function
+
+    def read_foreign(self, event: Event) -> None:
+        id, _, function = event.words.split(" ")
+        self.by_other[int(id)] = function
+        bound = self.bound.get(int(id))
+        self.program.foreign.append(Foreign(event.line, function, bound.name if bound else ""))
+
+    def foreign_of(self, id: int, name: str) -> str:
+        """By which function another thread does this op; `` where the loop's does. (A handle that it makes has no name before.)"""
+        function = self.by_other.pop(id, "")
+        if function and not self.program.foreign[-1].name:
+            self.program.foreign[-1].name = name
+        return function
+
     def read_op(self, event: Event) -> bool:
         text, answer = event.words.rsplit(" = ", 1)
         id = ID.search(text)
         if not id:
-            self.add_op(event, text, answer)
+            self.add_op(event, text, answer, self.foreign_of(-1, ""))
             return True
         number, word = int(id[1]), text.split(" ")[0]
         if word in ("init", "queue"):
@@ -193,10 +257,11 @@ class Maker:
             if number in self.bound:
                 return False
             name = self.bind(number, kind, event.line).name
+            foreign = self.foreign_of(number, name)
             if word == "queue":
-                self.add_op(event, f"queue {name} 1", "id")
+                self.add_op(event, f"queue {name} 1", "id", foreign)
                 return True
-            self.add_op(event, f"init {name} {kind if kind in TIMER_OWN else 'async'}", "id")
+            self.add_op(event, f"init {name} {kind if kind in TIMER_OWN else 'async'}", "id", foreign)
             if kind in WATCHERS:
                 self.add_op(event, f"unref {name}", "ok")
             return True
@@ -204,7 +269,7 @@ class Maker:
         if not bound or not self.fits(bound, text):
             return False
         bound.closing |= word == "close" and answer == "ok"
-        self.add_op(event, ID.sub(bound.name, text), answer)
+        self.add_op(event, ID.sub(bound.name, text), answer, self.foreign_of(number, bound.name))
         return True
 
     def fits(self, bound: Bound, text: str) -> bool:
@@ -240,10 +305,29 @@ class Maker:
         if list == "on" and bound.kind in WATCHERS and bound.closing:
             list, what = "closed", f"early {id}"
         self.depth = 2 if what.startswith("early") else 1
-        if list == "on" and bound.kind in WATCHERS and self.joins(bound):
-            return True
-        self.begin_call(event, bound, list, what)
+        joined = list == "on" and bound.kind in WATCHERS and self.joins(bound)
+        if not joined:
+            self.functions = []
+            self.begin_call(event, bound, list, what)
+        self.keep_function(id, what if list == "on" else words[0])
         return True
+
+    def keep_function(self, id: int, what: str) -> None:
+        """Which function of the program is called there: several where one call stands for several callbacks."""
+        if (told := self.function(id, what)) and told not in self.functions:
+            self.functions.append(told)
+
+    def function(self, id: int, what: str) -> str:
+        address = self.log.addresses.get(self.callback.get((id, what), -1))
+        return self.told(address) if address and address.symbol != "-" else ""
+
+    def functions_of(self, list: str, name: str, call: int, told: str) -> None:
+        """From this call on that is the function."""
+        known = self.program.functions.setdefault((list, name), [])
+        if known and known[-1][0] == call:
+            known.pop()
+        if told != (known[-1][1] if known else ""):
+            known.append((call, told))
 
     def joins(self, bound: Bound) -> bool:
         """Several callbacks of one watcher in a row are one: the loop calls it once for all that it has."""
@@ -260,7 +344,10 @@ class Maker:
         program.counts[list, bound.name] += 1
         call = program.counts[list, bound.name]
         self.call = self.add(event, "call", text=what, name=bound.name, list=list, kind=bound.kind, made=bound.made)
-        self.body = program.bodies[list, bound.name, call] = [it.text for it in self.stray]
+        self.body = program.bodies[list, bound.name, call] = []
+        for item in self.stray:
+            self.keep_foreign(item.foreign)
+            self.body.append(item.text)
         program.items += self.stray
         self.stray = []
         if list != "on":
@@ -273,7 +360,9 @@ class Maker:
         # (a close callback that began early goes on with the one that libuv calls last)
         if self.depth == 0:
             call = self.call
-            self.add(event, "done", text=str(self.program.counts[call.list, call.name]), name=call.name, list=call.list)
+            number = self.program.counts[call.list, call.name]
+            self.add(event, "done", text=str(number), name=call.name, list=call.list)
+            self.functions_of(call.list, call.name, number, " and ".join(self.functions))
             self.body = self.call = None
         return True
 
@@ -302,13 +391,30 @@ class Maker:
             case "T":
                 if bound := self.bound.get(int(event.words)):
                     self.add(event, "take", name=bound.name)
+                    self.functions_of("work", bound.name, self.program.counts["after", bound.name] + 1, self.function(bound.id, "work"))
+            case "F":
+                if bound := self.bound.get(int(event.words)):
+                    self.add(event, "finish", name=bound.name)
+            case "S":
+                if event.clock != NO_CLOCK and (bound := self.bound.get(int(event.words.split(" ")[0]))) and not bound.closing:
+                    self.add(event, "send", name=bound.name)
+            case "W":
+                self.read_foreign(event)
+            case "K":
+                pass
             case "C":
-                id, place = event.words.split(" ")
-                self.first_callback.setdefault(int(id), int(place))
-            case "V":
-                id, place = event.words.split(" ")
-                self.variable[int(id)] = int(place)
+                id, place, *what = event.words.split(" ")
+                for it in what:
+                    self.callback[int(id), it] = int(place)
         return True
+
+    def read_place(self, event: Event) -> None:
+        """Where an object lies, and its first callback: its name is made of these, and they may come behind its first op."""
+        id, place, *more = event.words.split(" ")
+        if event.type == "C":
+            self.first_callback.setdefault(int(id), int(place))
+        else:
+            self.variable[int(id)] = int(place), int(more[0]) if more else 0
 
 
 def without_looks(events: list[Event]) -> list[Event]:
@@ -326,10 +432,8 @@ def make_program(log: Log, events: list[Event]) -> Program:
     maker = Maker(log)
     for event in events:
         if event.type in "CV":
-            maker.read(event)
+            maker.read_place(event)
     for event in without_looks(events):
-        if event.type in "CV":
-            continue
         if event.type == "R" and (maker.depth or maker.runs):
             maker.program.stopped = (
                 f"at line {event.line} of the log the program calls uv_run in a callback, and a script has its runs in the main program only:"
@@ -340,7 +444,7 @@ def make_program(log: Log, events: list[Event]) -> Program:
             maker.program.stopped = f"line {event.line} of the log is `{event.type} {event.words}`, and no program does that there"
             break
         if len(maker.program.names) > NAMES:
-            maker.program.stopped = f"at line {event.line} of the log the program has more than {NAMES} handles and requests at a time"
+            maker.program.stopped = f"at line {event.line} of the log the program has more than {NAMES} handles and requests at a time{FULL}"
             break
     return maker.program
 
@@ -353,7 +457,7 @@ def program_of(log: Log, events: list[Event]) -> Program:
         count = min(count - 1, count * SCRIPT_LINES // size)
         line = events[count].line
         program = make_program(log, events[:count])
-        program.stopped = f"a script has at most {SCRIPT_LINES} lines, and those of this program are full at line {line} of the log"
+        program.stopped = f"a script has at most {SCRIPT_LINES} lines, and those of this program are full at line {line} of the log{FULL}"
     if len(program.names) > NAMES - 1:
-        program.stopped = program.stopped or "there is no name left"
+        program.stopped = program.stopped or f"there is no name left{FULL}"
     return program

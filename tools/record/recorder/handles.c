@@ -3,6 +3,7 @@
 #include "recorder.h"
 
 #include <stdio.h>
+#include <string.h>
 
 REAL(uv_loop_init)
 REAL(uv_default_loop)
@@ -17,6 +18,8 @@ REAL(uv_unref)
 REAL(uv_is_closing)
 REAL(uv_is_active)
 REAL(uv_has_ref)
+REAL(uv_handle_size)
+REAL(uv_handle_get_type)
 
 /* ---- what callbacks and watchers have in common */
 
@@ -49,7 +52,11 @@ void leave(struct loop *loop, void *handle, int id) {
 struct object *made(uv_loop_t *uv, void *handle, const char *kind, bool watcher) {
     struct object *object = put(loop_of(uv), handle);
     if (!object) return NULL;
+    note_thread(object->loop, object->id);
     object->watcher = watcher;
+    object->handle = true;
+    object->kind = kind;
+    object->size = (int)CALL(uv_handle_size)(CALL(uv_handle_get_type)(handle));
     write_line(object->loop, 'O', "init %%%d %s = ok", object->id, kind);
     name_place(object);
     settle(object);
@@ -144,6 +151,7 @@ void uv_stop(uv_loop_t *uv) {
     if (from_libuv) return;
     lock();
     struct loop *loop = loop_of(uv);
+    if (loop) note_thread(loop, -1);
     if (loop) write_line(loop, 'O', "stoploop = ok");
     unlock();
 }
@@ -154,6 +162,7 @@ void uv_update_time(uv_loop_t *uv) {
     if (from_libuv) return;
     lock();
     struct loop *loop = loop_of(uv);
+    if (loop) note_thread(loop, -1);
     if (loop) write_line(loop, 'O', "updatetime = ok");
     unlock();
 }
@@ -194,10 +203,10 @@ static void on_closed(uv_handle_t *handle) {
 
 void uv_close(uv_handle_t *handle, uv_close_cb callback) {
     lock();
-    struct object *object = INSIDE() ? NULL : find(handle);
+    struct object *object = INSIDE() ? NULL : asked(handle);
     if (object) {
         object->closed = callback;
-        name_callback(object, (void *)callback);
+        name_callback(object, (void *)callback, CLOSED, "closed");
         write_op(object, "close", "", 0);
     }
     unlock();
@@ -209,7 +218,7 @@ void uv_close(uv_handle_t *handle, uv_close_cb callback) {
 REAL(uv_tcp_close_reset)
 int uv_tcp_close_reset(uv_tcp_t *handle, uv_close_cb callback) {
     struct object *object;
-    if (INSIDE() || !(object = find(handle))) return CALL(uv_tcp_close_reset)(handle, callback);
+    if (INSIDE() || !(object = asked(handle))) return CALL(uv_tcp_close_reset)(handle, callback);
     lock();
     object->closed = callback;
     int answer = REALLY(CALL(uv_tcp_close_reset)(handle, on_closed));
@@ -220,7 +229,7 @@ int uv_tcp_close_reset(uv_tcp_t *handle, uv_close_cb callback) {
 
 static void referenced(uv_handle_t *handle, const char *word) {
     lock();
-    struct object *object = find(handle);
+    struct object *object = asked(handle);
     if (object && object->watcher) settle(object);
     else write_op(object, word, "", 0);
     unlock();
@@ -266,7 +275,7 @@ void uv_unref(uv_handle_t *handle) {
         if (INSIDE()) return CALL(NAME)(handle);                      \
         lock();                                                       \
         int answer = REALLY(CALL(NAME)(handle));                      \
-        write_op(find(handle), WORD, "", answer);                     \
+        write_op(asked(handle), WORD, "", answer);                     \
         unlock();                                                     \
         return answer;                                                \
     }
@@ -278,11 +287,11 @@ void uv_unref(uv_handle_t *handle) {
     REAL(uv_##KIND##_start)                                                   \
     int uv_##KIND##_start(uv_##KIND##_t *handle, uv_##KIND##_cb callback) {   \
         struct object *object;                                                \
-        if (INSIDE() || !callback || !(object = find(handle)))                \
+        if (INSIDE() || !callback || !(object = asked(handle)))               \
             return CALL(uv_##KIND##_start)(handle, callback);                 \
         lock();                                                               \
         if (!CALL(uv_is_active)((uv_handle_t *)handle)) object->callback = (void *)callback; \
-        name_callback(object, (void *)callback);                              \
+        name_callback(object, (void *)callback, OWN, #KIND);                  \
         int answer = REALLY(CALL(uv_##KIND##_start)(handle, on_##KIND));      \
         write_op(object, "start", "", answer);                                \
         unlock();                                                             \
@@ -297,19 +306,32 @@ WATCH(check)
 INIT(timer)
 CALLBACK(timer)
 OP(uv_timer_stop, uv_timer_t, "stop")
-OP(uv_timer_again, uv_timer_t, "again")
+REAL(uv_timer_again)
+REAL(uv_timer_get_repeat)
+
+/* Of a timer that doesn't repeat libuv changes nothing, and says ok: no op, since here it would stop the timer. */
+int uv_timer_again(uv_timer_t *handle) {
+    if (INSIDE()) return CALL(uv_timer_again)(handle);
+    lock();
+    bool nothing = CALL(uv_timer_get_repeat)(handle) == 0;
+    int answer = REALLY(CALL(uv_timer_again)(handle));
+    if (answer != 0 || !nothing) write_op(asked(handle), "again", "", answer);
+    unlock();
+    return answer;
+}
+
 REAL(uv_timer_start)
 REAL(uv_timer_set_repeat)
 
 int uv_timer_start(uv_timer_t *handle, uv_timer_cb callback, uint64_t timeout, uint64_t repeat) {
     struct object *object;
-    if (INSIDE() || !callback || !(object = find(handle))) return CALL(uv_timer_start)(handle, callback, timeout, repeat);
+    if (INSIDE() || !callback || !(object = asked(handle))) return CALL(uv_timer_start)(handle, callback, timeout, repeat);
     char words[64];
     snprintf(words, sizeof words, " %llu %llu", (unsigned long long)timeout, (unsigned long long)repeat);
     lock();
     int answer = REALLY(CALL(uv_timer_start)(handle, on_timer, timeout, repeat));
     if (answer == 0) object->callback = (void *)callback;
-    name_callback(object, (void *)callback);
+    name_callback(object, (void *)callback, OWN, "timer");
     write_op(object, "start", words, answer);
     unlock();
     return answer;
@@ -322,7 +344,7 @@ void uv_timer_set_repeat(uv_timer_t *handle, uint64_t repeat) {
     if (from_libuv) return;
     snprintf(words, sizeof words, " %llu", (unsigned long long)repeat);
     lock();
-    write_op(find(handle), "repeat", words, 0);
+    write_op(asked(handle), "repeat", words, 0);
     unlock();
 }
 
@@ -338,7 +360,7 @@ int uv_async_init(uv_loop_t *uv, uv_async_t *handle, uv_async_cb callback) {
     int answer = REALLY(CALL(uv_async_init)(uv, handle, on_async));
     struct object *object = answer == 0 ? made(uv, handle, "async", false) : NULL;
     if (object) object->callback = (void *)callback;
-    name_callback(object, (void *)callback);
+    name_callback(object, (void *)callback, OWN, "async");
     unlock();
     return answer;
 }
@@ -356,6 +378,37 @@ int uv_async_send(uv_async_t *handle) {
     if (own) write_op(object, "send", "", answer);
     unlock();
     return answer;
+}
+
+/* ---- all that a loop has, from time to time: a recording may begin there */
+
+enum { OFTEN = 4000, MANY = 8 };
+
+REAL(uv_timer_get_due_in)
+
+static void tell_one(struct object *it) {
+    uint64_t due = 0, repeat = 0, order = it->order;
+    bool active = false, referenced = it->counts, closing = false;
+    if (it->handle) {
+        uv_handle_t *handle = it->address;
+        active = CALL(uv_is_active)(handle);
+        closing = CALL(uv_is_closing)(handle);
+        if (!it->watcher) referenced = CALL(uv_has_ref)(handle);
+        if (strcmp(it->kind, "timer") == 0) {
+            due = CALL(uv_timer_get_due_in)((uv_timer_t *)handle);
+            repeat = CALL(uv_timer_get_repeat)((uv_timer_t *)handle);
+            order = ((uv_timer_t *)handle)->start_id;
+        }
+    }
+    write_line(it->loop, 'K', "%d %s %d %d %d %u %u %u", it->id, it->kind, active, referenced, closing, due, repeat, order);
+}
+
+static void tell_all(struct loop *loop) {
+    if (loop->lines - loop->counted < OFTEN + MANY * object_total()) return;
+    write_line(loop, 'K', "all");
+    each(loop, tell_one);
+    write_line(loop, 'K', "end");
+    loop->counted = loop->lines;
 }
 
 /* ---- the poll: what libuv asks of the system */
@@ -376,6 +429,7 @@ static void note_poll(struct loop *loop, int timeout) {
     if (!loop) return;
     lock();
     settle_all(loop);
+    tell_all(loop);
     write_line(loop, 'P', "%d", timeout);
     unlock();
 }

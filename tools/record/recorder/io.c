@@ -56,15 +56,15 @@ CALLBACK(on_receive, uv_udp_recv_cb, callback, "receive",
 /* ---- start and stop */
 
 /* WITH(x) are the function's words with x as the callback. */
-#define START(NAME, FIELD, INSTEAD, PARAMETERS, WITH)                                \
+#define START(NAME, FIELD, ROLE, WHAT, INSTEAD, PARAMETERS, WITH)                    \
     REAL(NAME)                                                                       \
     int NAME PARAMETERS {                                                            \
         struct object *object;                                                       \
-        if (INSIDE() || !callback || !(object = find(handle))) return CALL(NAME) WITH(callback); \
+        if (INSIDE() || !callback || !(object = asked(handle))) return CALL(NAME) WITH(callback); \
         lock();                                                                      \
         void *before = object->FIELD;                                                \
         object->FIELD = (void *)callback;                                            \
-        name_callback(object, (void *)callback);                                     \
+        name_callback(object, (void *)callback, ROLE, WHAT);                         \
         int answer = REALLY(CALL(NAME) WITH(INSTEAD));                               \
         if (answer != 0) object->FIELD = before;                                     \
         settle(object);                                                              \
@@ -77,15 +77,15 @@ CALLBACK(on_receive, uv_udp_recv_cb, callback, "receive",
 #define W_POLL(x) (handle, events, x)
 #define W_SIGNAL(x) (handle, x, number)
 #define W_PATH(x) (handle, x, path, number)
-START(uv_read_start, callback, on_read, (uv_stream_t * handle, uv_alloc_cb alloc, uv_read_cb callback), W_READ)
-START(uv_udp_recv_start, callback, on_receive, (uv_udp_t * handle, uv_alloc_cb alloc, uv_udp_recv_cb callback), W_READ)
-START(uv_listen, second, on_connection, (uv_stream_t * handle, int backlog, uv_connection_cb callback), W_LISTEN)
-START(uv_poll_start, callback, on_poll, (uv_poll_t * handle, int events, uv_poll_cb callback), W_POLL)
-START(uv_signal_start, callback, on_signal, (uv_signal_t * handle, uv_signal_cb callback, int number), W_SIGNAL)
-START(uv_signal_start_oneshot, callback, on_signal, (uv_signal_t * handle, uv_signal_cb callback, int number), W_SIGNAL)
-START(uv_fs_event_start, callback, on_fs_event,
+START(uv_read_start, callback, OWN, "read", on_read, (uv_stream_t * handle, uv_alloc_cb alloc, uv_read_cb callback), W_READ)
+START(uv_udp_recv_start, callback, OWN, "receive", on_receive, (uv_udp_t * handle, uv_alloc_cb alloc, uv_udp_recv_cb callback), W_READ)
+START(uv_listen, second, CONNECTION, "connection", on_connection, (uv_stream_t * handle, int backlog, uv_connection_cb callback), W_LISTEN)
+START(uv_poll_start, callback, OWN, "poll", on_poll, (uv_poll_t * handle, int events, uv_poll_cb callback), W_POLL)
+START(uv_signal_start, callback, OWN, "signal", on_signal, (uv_signal_t * handle, uv_signal_cb callback, int number), W_SIGNAL)
+START(uv_signal_start_oneshot, callback, OWN, "signal", on_signal, (uv_signal_t * handle, uv_signal_cb callback, int number), W_SIGNAL)
+START(uv_fs_event_start, callback, OWN, "fs_event", on_fs_event,
       (uv_fs_event_t * handle, uv_fs_event_cb callback, const char *path, unsigned number), W_PATH)
-START(uv_fs_poll_start, callback, on_fs_poll,
+START(uv_fs_poll_start, callback, OWN, "fs_poll", on_fs_poll,
       (uv_fs_poll_t * handle, uv_fs_poll_cb callback, const char *path, unsigned number), W_PATH)
 
 #define STOP(NAME, TYPE)                            \
@@ -94,7 +94,7 @@ START(uv_fs_poll_start, callback, on_fs_poll,
         if (INSIDE()) return CALL(NAME)(handle);    \
         lock();                                     \
         int answer = REALLY(CALL(NAME)(handle));    \
-        settle(find(handle));                       \
+        settle(asked(handle));                      \
         unlock();                                   \
         return answer;                              \
     }
@@ -116,7 +116,7 @@ int uv_spawn(uv_loop_t *uv, uv_process_t *handle, const uv_process_options_t *op
     lock();
     struct object *object = made(uv, handle, "process", true);
     if (object) object->callback = (void *)options->exit_cb;
-    name_callback(object, (void *)options->exit_cb);
+    name_callback(object, (void *)options->exit_cb, OWN, "exit");
     for (int at = 0; at < options->stdio_count; at++)
         if (options->stdio[at].flags & UV_CREATE_PIPE) settle(find(options->stdio[at].data.stream));
     unlock();
@@ -158,14 +158,14 @@ REQUEST(on_send, "send", uv_udp_send_t, uv_udp_send_cb)
 
 /* The request of a stream of the program; NULL if it is another one's. (The lock isn't held while it starts: a write to a stream that
  * blocks may wait for another thread.) */
-static struct object *begin_start(void *request, void *handle, void *callback) {
+static struct object *begin_start(void *request, void *handle, void *callback, enum role role, const char *what) {
     lock();
-    struct object *stream = find(handle);
+    struct object *stream = asked(handle);
     struct object *object = stream ? put(stream->loop, request) : NULL;
     if (object) {
         object->owner = stream;
         object->callback = callback;
-        name_callback(stream, callback);
+        name_callback(stream, callback, role, what);
         stream->requests++;
     }
     unlock();
@@ -184,10 +184,10 @@ static int end_start(struct object *object, int answer) {
     return answer;
 }
 
-#define SENDS(NAME, INSTEAD, PARAMETERS, WITH)                                        \
+#define SENDS(NAME, ROLE, WHAT, INSTEAD, PARAMETERS, WITH)                            \
     REAL(NAME)                                                                        \
     int NAME PARAMETERS {                                                             \
-        struct object *object = INSIDE() ? NULL : begin_start(request, handle, (void *)callback); \
+        struct object *object = INSIDE() ? NULL : begin_start(request, handle, (void *)callback, ROLE, WHAT); \
         if (!object) return CALL(NAME) WITH(callback);                                \
         return end_start(object, REALLY(CALL(NAME) WITH(INSTEAD)));                   \
     }
@@ -197,21 +197,21 @@ static int end_start(struct object *object, int answer) {
 #define W_SHUTDOWN(x) (request, handle, x)
 #define W_CONNECT(x) (request, handle, address, x)
 #define W_SEND(x) (request, handle, buffers, count, address, x)
-SENDS(uv_write, on_write, (uv_write_t * request, uv_stream_t *handle, const uv_buf_t buffers[], unsigned count, uv_write_cb callback),
+SENDS(uv_write, WRITE, "write", on_write, (uv_write_t * request, uv_stream_t *handle, const uv_buf_t buffers[], unsigned count, uv_write_cb callback),
       W_WRITE)
-SENDS(uv_write2, on_write,
+SENDS(uv_write2, WRITE, "write", on_write,
       (uv_write_t * request, uv_stream_t *handle, const uv_buf_t buffers[], unsigned count, uv_stream_t *sent, uv_write_cb callback),
       W_WRITE2)
-SENDS(uv_shutdown, on_shutdown, (uv_shutdown_t * request, uv_stream_t *handle, uv_shutdown_cb callback), W_SHUTDOWN)
-SENDS(uv_tcp_connect, on_connect,
+SENDS(uv_shutdown, SHUTDOWN, "shutdown", on_shutdown, (uv_shutdown_t * request, uv_stream_t *handle, uv_shutdown_cb callback), W_SHUTDOWN)
+SENDS(uv_tcp_connect, CONNECT, "connect", on_connect,
       (uv_connect_t * request, uv_tcp_t *handle, const struct sockaddr *address, uv_connect_cb callback), W_CONNECT)
-SENDS(uv_udp_send, on_send,
+SENDS(uv_udp_send, WRITE, "send", on_send,
       (uv_udp_send_t * request, uv_udp_t *handle, const uv_buf_t buffers[], unsigned count, const struct sockaddr *address,
        uv_udp_send_cb callback), W_SEND)
 
 REAL(uv_pipe_connect)
 void uv_pipe_connect(uv_connect_t *request, uv_pipe_t *handle, const char *name, uv_connect_cb callback) {
-    struct object *object = INSIDE() ? NULL : begin_start(request, handle, (void *)callback);
+    struct object *object = INSIDE() ? NULL : begin_start(request, handle, (void *)callback, CONNECT, "connect");
     if (!object) {
         CALL(uv_pipe_connect)(request, handle, name, callback);
         return;

@@ -21,6 +21,7 @@ enum { WINDOW = 1 << 20, NOTE = 64, LINE = 4096 };
 
 bool off = true;
 __thread int inside;
+__thread const char *called;
 static __thread int locked;
 static pthread_mutex_t mutex = PTHREAD_RECURSIVE_MUTEX_INITIALIZER_NP;
 static char prefix[3072];
@@ -78,17 +79,30 @@ static void write_text(const char *text, size_t length) {
     used += length;
 }
 
+int workers(void) {
+    const char *asked = getenv("UV_THREADPOOL_SIZE");
+    int count = asked ? atoi(asked) : 4;
+    if (count == 0) return 1;
+    return count < 0 || count > 1024 ? 1024 : count; /* as libuv has it */
+}
+
+static int first_workers;
+
+/* (libuv makes the pool with the first request: until then a program may change the environment) */
+void write_workers(void) {
+    static bool said;
+    if (!said && workers() != first_workers) write_line(NULL, 'N', "%d", workers());
+    said = true;
+}
+
 /* The first line: which libuv, which process, how many workers, which program. */
 static void write_head(void) {
     char text[LINE], program[2048];
     ssize_t length = readlink("/proc/self/exe", program, sizeof program - 1);
-    const char *asked = getenv("UV_THREADPOOL_SIZE");
-    int workers = asked ? atoi(asked) : 4;
-    if (workers == 0) workers = 1;
-    if (workers < 0 || workers > 1024) workers = 1024; /* as libuv has it */
+    first_workers = workers();
     program[length < 0 ? 0 : length] = 0;
     int size = snprintf(text, sizeof text, "uvt-log 1 %s %d %d %s\n", CALL(uv_version_string)(), (int)getpid(),
-                        workers, program);
+                        first_workers, program);
     write_text(text, (size_t)size);
 }
 
@@ -172,7 +186,7 @@ void write_line(struct loop *loop, char type, const char *format, ...) {
         add_number(&line, CALL(uv_now)(loop->uv) - loop->base, 10);
         add_sign(&line, ' ');
     }
-    if (type == 'E') {
+    if (strchr("BEFST", type)) {
         add_number(&line, clock_now() - loop->base, 10);
         add_sign(&line, ' ');
     }
@@ -181,6 +195,7 @@ void write_line(struct loop *loop, char type, const char *format, ...) {
     add_format(&line, format, words);
     va_end(words);
     line.text[line.length++] = '\n';
+    if (loop) loop->lines++;
     write_text(line.text, line.length);
 }
 
@@ -189,7 +204,10 @@ const char *answer_text(int answer) {
 }
 
 void write_op(struct object *object, const char *word, const char *rest, int answer) {
-    if (object) write_line(object->loop, 'O', "%s %%%d%s = %s", word, object->id, rest, answer_text(answer));
+    static uint64_t starts;
+    if (!object) return;
+    if (answer == 0 && strcmp(word, "start") == 0) object->order = ++starts;
+    write_line(object->loop, 'O', "%s %%%d%s = %s", word, object->id, rest, answer_text(answer));
 }
 
 /* ---- libuv */
@@ -235,6 +253,12 @@ void *real(const char *name, void **kept) {
 bool is_from_libuv(const void *caller) {
     uintptr_t at = (uintptr_t)caller;
     return off || inside > 0 || (at >= text_from && at < text_to);
+}
+
+bool is_inside(const void *caller, const char *function) {
+    if (is_from_libuv(caller)) return true;
+    called = function;
+    return false;
 }
 
 /* ---- the process */

@@ -77,6 +77,21 @@ struct object *find(const void *address) {
     return it;
 }
 
+struct object *asked(const void *address) {
+    struct object *object = find(address);
+    if (object) note_thread(object->loop, object->id);
+    return object;
+}
+
+/* (libuv allows other threads uv_async_send alone) */
+void note_thread(struct loop *loop, int id) {
+    pthread_t here = pthread_self();
+    if (off || loop->running == 0 || pthread_equal(loop->thread, here)) return;
+    lock();
+    write_line(loop, 'W', "%d %u %s", id, (uint64_t)here, called);
+    unlock();
+}
+
 /* A handle or a request that begins at this address; what was there is gone. */
 struct object *put(struct loop *loop, void *address) {
     struct object *it = find(address);
@@ -112,6 +127,16 @@ void drop(struct object *object) {
     object_count--;
 }
 
+void each(struct loop *loop, void (*tell)(struct object *)) {
+    for (size_t at = 0; at < bucket_count; at++)
+        for (struct object *it = buckets[at]; it; it = it->next)
+            if (it->loop == loop && it->kind) tell(it);
+}
+
+int object_total(void) {
+    return (int)object_count;
+}
+
 /* ---- where they and their callbacks lie */
 
 enum { PLACES = 1024 };
@@ -142,13 +167,13 @@ void name_place(struct object *object) {
     uintptr_t page = (uintptr_t)object->address >> 12;
     if (elsewhere[page % PLACES] == page) return;
     int place = place_of(object->address);
-    if (place >= 0) write_line(object->loop, 'V', "%d %d", object->id, place);
+    if (place >= 0) write_line(object->loop, 'V', "%d %d %d", object->id, place, object->size);
     else elsewhere[page % PLACES] = page;
 }
 
-void name_callback(struct object *object, void *callback) {
-    if (!object || object->named || !callback) return;
+void name_callback(struct object *object, void *callback, enum role role, const char *what) {
+    if (!object || !callback || object->named[role] == callback) return;
     int place = place_of(callback);
-    object->named = true;
-    if (place >= 0) write_line(object->loop, 'C', "%d %d", object->id, place);
+    object->named[role] = callback;
+    if (place >= 0) write_line(object->loop, 'C', "%d %d %s", object->id, place, what);
 }

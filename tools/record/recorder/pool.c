@@ -10,16 +10,21 @@ REAL(uv_queue_work)
 static struct object *queue(uv_loop_t *uv, void *request, void *callback, void *work) {
     struct object *object = put(loop_of(uv), request);
     if (!object) return NULL;
+    write_workers();
+    note_thread(object->loop, object->id);
     object->callback = callback;
     object->second = work;
     return object;
 }
 
-static int queued(struct object *object, const char *kind, int answer) {
+static int queued(struct object *object, const char *kind, size_t size, int answer) {
     if (object && answer == 0) {
         write_line(object->loop, 'O', "queue %%%d %s = ok", object->id, kind);
+        object->size = (int)size;
+        object->kind = kind;
         name_place(object);
-        name_callback(object, object->second ? object->second : object->callback);
+        name_callback(object, object->second, OWN, "work");
+        name_callback(object, object->callback, AFTER, "after");
     } else if (object) {
         drop(object);
     }
@@ -58,6 +63,10 @@ static void do_work(uv_work_t *request) {
     write_line(object->loop, 'T', "%d", object->id);
     unlock();
     PROGRAM(work(request));
+    lock();
+    object = find(request);
+    if (object) write_line(object->loop, 'F', "%d", object->id);
+    unlock();
 }
 
 /* The callbacks that libuv gets in place of the program's. */
@@ -81,14 +90,14 @@ int uv_queue_work(uv_loop_t *uv, uv_work_t *request, uv_work_cb work, uv_after_w
     if (INSIDE() || !work) return CALL(uv_queue_work)(uv, request, work, callback);
     lock();
     struct object *object = queue(uv, request, (void *)callback, (void *)work);
-    return queued(object, "work", REALLY(CALL(uv_queue_work)(uv, request, object ? do_work : work, object ? after_work : callback)));
+    return queued(object, "work", sizeof *request, REALLY(CALL(uv_queue_work)(uv, request, object ? do_work : work, object ? after_work : callback)));
 }
 
 int uv_cancel(uv_req_t *request) {
     if (INSIDE()) return CALL(uv_cancel)(request);
     lock();
     int answer = REALLY(CALL(uv_cancel)(request));
-    write_op(find(request), "cancel", "", answer);
+    write_op(asked(request), "cancel", "", answer);
     unlock();
     return answer;
 }
@@ -100,7 +109,7 @@ int uv_cancel(uv_req_t *request) {
         if (INSIDE() || !callback || !uv) return CALL(NAME) WITH(callback);              \
         lock();                                                                          \
         struct object *object = queue(uv, request, (void *)callback, NULL);              \
-        return queued(object, KIND, REALLY(CALL(NAME) WITH((object ? INSTEAD : callback)))); \
+        return queued(object, KIND, sizeof *request, REALLY(CALL(NAME) WITH((object ? INSTEAD : callback)))); \
     }
 
 #define WITH(x) (uv, request, x, node, service, hints)

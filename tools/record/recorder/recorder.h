@@ -22,16 +22,24 @@ struct loop {
     pthread_t thread; /* that of the last uv_run, or of its init */
     int running; /* how many uv_run are under way */
     struct object *unsettled; /* watchers whose callback has just ended: see settle() */
+    long lines, counted; /* of it in the log; and how many there were as all of it was last written down */
 };
+
+/* Which of its callbacks: a stream has several. */
+enum role { OWN, CONNECTION, CONNECT, WRITE, SHUTDOWN, CLOSED, AFTER, ROLES };
 
 struct object {
     struct object *next; /* of the same bucket, or of those that are free */
     void *address;
     struct loop *loop;
     int id;
+    const char *kind; /* NULL of a request of a stream */
+    uint64_t order; /* of an idle, prepare or check handle: the how-manieth start it was */
+    bool handle;
     bool watcher; /* a handle of I/O, signals, files or processes */
     bool counts; /* of a watcher: does it keep the loop alive, as the log has it */
-    bool named;
+    int size; /* of its type: elements of an array lie so far apart */
+    void *named[ROLES]; /* the callbacks that the log has of it */
     int requests; /* of a watcher: writes, connects, .. that are under way */
     void *callback;
     void *second; /* of a request: its work; of a stream: its connection callback */
@@ -44,11 +52,17 @@ struct object {
 struct loop *loop_of(uv_loop_t *uv);
 struct loop *new_loop(uv_loop_t *uv);
 struct object *find(const void *address);
+/* The same, of what the program has asked something of: where another thread than the loop's does that, a line says so. */
+struct object *asked(const void *address);
+/* A line where another thread than the loop's asks something of a loop that runs, `id` -1 for the loop itself. */
+void note_thread(struct loop *loop, int id);
 struct object *put(struct loop *loop, void *address);
 void drop(struct object *object);
-/* The lines that say where it lies, and which its callback is: the first one that it had. */
+void each(struct loop *loop, void (*tell)(struct object *));
+int object_total(void);
+/* The lines that say where it lies, and which its callback is: `what` as in the line at which that begins. */
 void name_place(struct object *object);
-void name_callback(struct object *object, void *callback);
+void name_callback(struct object *object, void *callback, enum role role, const char *what);
 
 /* ---- the log (log.c) */
 
@@ -58,8 +72,12 @@ extern bool off; /* nothing is recorded: no UVT_LOG, no room, or a child after f
 void lock(void);
 void unlock(void);
 bool is_locked_here(void);
-/* `LOOP TYPE NOW ..`, and the clock behind NOW where a callback ends (type E). The format knows %d, %u (64 bits), %x (64 bits) and %s. */
+/* `LOOP TYPE NOW ..`, and behind NOW the clock where a callback or work begins or ends, or somebody sends (types B, E, T, F and S).
+ * The format knows %d, %u (64 bits), %x (64 bits) and %s. */
 void write_line(struct loop *loop, char type, const char *format, ...);
+/* How many workers the pool has, by the environment as it is now; the line that says so where that isn't what the first line has. */
+int workers(void);
+void write_workers(void);
 /* `LOOP O NOW WORD %ID REST = ANSWER`; nothing where there is no object. */
 void write_op(struct object *object, const char *word, const char *rest, int answer);
 const char *answer_text(int answer);
@@ -70,11 +88,14 @@ void *real(const char *name, void **kept);
 /* Does libuv itself call the function that asks so? Its own calls of its public functions are no ops of the program. They
  * come from its text; or, as tail calls, while a real function is under way. */
 bool is_from_libuv(const void *caller);
+/* The same; and where it doesn't, the function is kept as the one that the program called last in this thread. */
+bool is_inside(const void *caller, const char *function);
 extern __thread int inside;
+extern __thread const char *called;
 
 #define REAL(name) static void *kept_##name;
 #define CALL(name) ((__typeof__(name) *)real(#name, &kept_##name))
-#define INSIDE() is_from_libuv(__builtin_return_address(0))
+#define INSIDE() is_inside(__builtin_return_address(0), __func__)
 #define REALLY(call)                 \
     ({                               \
         inside++;                    \

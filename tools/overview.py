@@ -1,0 +1,182 @@
+"""What stands out in a session, without a name: who took long, who was late, when the pool was full, who kept the loop alive, who spun.
+
+Each line has its step, and the last one says what to ask next. What is said of a name is what `why` says of it.
+"""
+
+from __future__ import annotations
+
+from dataclasses import dataclass
+
+from places import read_place
+from waits import Wait
+from walk import Took, Walk
+from why import KINDS, MANY, STANDING, Why, few, named, times
+
+# How many lines each part has at the most.
+LINES = 5
+# So many polls in a row that don't wait are a spin.
+ROUNDS = 10
+
+
+@dataclass
+class Late:
+    """A call of a name, and how long it waited."""
+
+    name: str
+    took: int
+    wait: Wait
+
+
+def head(walk: Walk) -> list[str]:
+    calls = len(walk.calls)
+    return [f"{times(calls, 'callback')}, {times(walk.length, 'step')}, {walk.clock(walk.length)} ms", *walk.notes.loud()[:MANY]]
+
+
+def long_callbacks(walk: Walk) -> list[str]:
+    found = sorted((it for it in walk.tooks if it.is_callback()), key=Took.took, reverse=True)[:LINES]
+    return [f"{it.took()} ms: {named(it).rstrip(',')}, from step {it.first} to {it.last}, at {it.pieces[0][0]} ms" for it in found]
+
+
+class Overview:
+    """All names of a session, each as `why` sees it."""
+
+    def __init__(self, walk: Walk) -> None:
+        self.walk = walk
+        self.whys = {name: Why(walk, name) for name in walk.script.names() if name in walk.of_name}
+        self.least = 2 if walk.notes.names else 1
+        self.next: list[tuple[int, str]] = []
+
+    # ---- who was late
+
+    def called(self, what: str) -> list[tuple[str, Wait]]:
+        return [(name, it) for name, why in self.whys.items() for it in why.history.waits if it.what == what and it.how == "called"]
+
+    def away(self, wait: Wait) -> int:
+        return self.walk.clock(wait.ended) - self.walk.clock(wait.asked)
+
+    def worst(self, found: list[Late]) -> list[Late]:
+        kept = sorted((it for it in found if it.took >= self.least), key=lambda it: it.took, reverse=True)[:LINES]
+        self.next += [(it.took, it.name) for it in kept[:1]]
+        return kept
+
+    def told(self, late: Late, kind: str) -> str:
+        """Its answer's first line, as `why` has it."""
+        return f"{late.name}, {self.whys[late.name].one(late.wait)[0]}{kind}"
+
+    def timers(self) -> list[str]:
+        late = [Late(name, self.walk.clock(it.ended) - it.due, it) for name, it in self.called("timer")]
+        return [self.told(it, "") for it in self.worst(late)]
+
+    def sends(self) -> list[str]:
+        seen = [Late(name, self.away(it), it) for name, it in self.called("async") if it.asked not in self.walk.notes.guessed]
+        return [f"{it.took} ms: {self.told(it, '')}" for it in self.worst(seen)]
+
+    def io(self) -> list[str]:
+        """Nobody knows when something came. What is known is how long the loop hadn't looked."""
+        found = []
+        for name, it in self.called("async"):
+            if it.asked in self.walk.notes.guessed and self.walk.notes.kind(name) in STANDING:
+                gap = self.whys[name].unseen_for(it)
+                found.append(Late(name, gap, it))
+        return [f"{it.took} ms that the loop hadn't looked: {it.name}, step {it.wait.ended}, call {it.wait.call}: "
+                + self.walk_between(it.wait.ended, it.took) for it in self.worst(found)]
+
+    def walk_between(self, step: int, gap: int) -> str:
+        end = self.walk.clock(step)
+        return self.whys[next(iter(self.whys))].delay(end - gap, end)
+
+    def requests(self) -> list[str]:
+        found = [Late(name, self.away(it), it) for name, it in self.called("work")]
+        return [f"{it.took} ms from its queueing to its callback: {it.name}, step {it.wait.ended}: {self.parts(it)}" for it in self.worst(found)]
+
+    def parts(self, late: Late) -> str:
+        """Where a request's time went."""
+        wait, walk = late.wait, self.walk
+        if wait.cancelled:
+            return "cancelled"
+        if wait.finished in walk.notes.guessed or wait.taken[0] in walk.notes.guessed:
+            full = walk.pool.full_between(wait.asked, wait.ended)
+            known = sum(walk.happened(it.last) - walk.happened(it.first) for it in full)
+            return f"for {known} ms each worker had other work" if known else "when a worker took it and was through nobody knows"
+        waited = walk.happened(wait.taken[0]) - walk.clock(wait.asked)
+        ran = walk.happened(wait.finished) - walk.happened(wait.taken[0])
+        return f"{waited} ms it waited for a worker, {ran} ms it ran, {late.took - waited - ran} ms it waited for the loop"
+
+    # ---- the rest
+
+    def full(self) -> list[str]:
+        kept = sorted(self.walk.pool.fulls, key=lambda it: self.walk.happened(it.last) - self.walk.happened(it.first), reverse=True)
+        rows = [(self.walk.happened(it.first), self.walk.happened(it.last), it) for it in kept[:LINES]]
+        return [f"{end - begin} ms: from {begin} to {end} ms, from step {it.first} to {it.last}: {few(it.names)}"
+                for begin, end, it in rows if end > begin]
+
+    def alive(self) -> list[str]:
+        """Who is active and referenced where the session ends, or else where the loop waited last."""
+        walk = self.walk
+        ends = read_place(walk.state(walk.length).place).mode is not None
+        waited = [it.first for it in walk.tooks if it.is_poll()]
+        step = walk.length if ends else waited[-1] if waited else 0
+        state = walk.state(step)
+        kept = [f"{it.name} ({self.kind(it.name, it.kind)})" for it in state.slots
+                if it.name and (it.kind == "work" or it.values.get("active") == "1" and it.values.get("ref") == "1")]
+        if not kept:
+            return []
+        if ends:
+            self.next.append((0, kept[0].split(" ")[0]))
+        where = "at the end, where the run is under way still" if ends else f"in the last poll that waited, at step {step}"
+        blocked = ", and the poll waits" if ends and walk.after == "blocked" else ""
+        return [f"{where}{blocked}: {few(kept)}"]
+
+    def kind(self, name: str, kind: str) -> str:
+        return self.walk.notes.kind(name) or KINDS.get(kind, kind).split(" ", 1)[1]
+
+    def spins(self) -> list[str]:
+        """Polls in a row that didn't wait, and who was called in most of these rounds."""
+        walk, found = self.walk, []
+        waits = {it.first for it in walk.tooks if it.is_poll()}
+        row: list[int] = []
+        for step in [*walk.words.get("poll", []), 0]:
+            if step and step not in waits:
+                row.append(step)
+                continue
+            if len(row) >= ROUNDS:
+                found.append(row)
+            row = []
+        found.sort(key=len, reverse=True)
+        return [self.spin(it) for it in found[:LINES]]
+
+    def spin(self, row: list[int]) -> str:
+        counts: dict[str, int] = {}
+        for kind in ("call", "after", "closed"):
+            for step in self.walk.steps_between(kind, row[0], row[-1]):
+                name = self.walk.lines[step].split(" ")[1]
+                counts[name] = counts.get(name, 0) + 1
+        who = [name for name, count in sorted(counts.items(), key=lambda it: -it[1]) if 2 * count >= len(row)]
+        idle = self.walk.state(row[len(row) // 2]).lists["idle"]
+        why = f"{few(who)} {'was' if len(who) == 1 else 'were'} called in each of these rounds or most" if who else "nobody was called each time"
+        are = "is an active idle handle" if len(idle) == 1 else "are active idle handles"
+        active = f"; {few(idle)} {are}, so the poll doesn't wait" if idle else ""
+        self.next += [(len(row), who[0])] if who else []
+        begin, end = self.walk.clock(row[0]), self.walk.clock(row[-1])
+        return f"{len(row)} polls in a row didn't wait, from step {row[0]} to {row[-1]}, {end - begin} ms: {why}{active}"
+
+    def never(self) -> list[str]:
+        """Timers and sends that never came, and handles that nobody uses."""
+        found = []
+        for name, why in self.whys.items():
+            kind = why.history.kind()
+            if kind and kind != "work" and not why.history.counts["call"] and not why.history.counts["closed"]:
+                found.append(f"{name} ({self.kind(name, kind)})")
+        return [few(found)] if found else []
+
+    def answer(self, ask: str) -> list[str]:
+        lines = head(self.walk)
+        for title, rows in (
+            ("the longest callbacks", long_callbacks(self.walk)), ("the latest timers", self.timers()), ("the latest sends", self.sends()),
+            ("I/O", self.io()), ("the longest requests", self.requests()), ("the pool was full", self.full()),
+            ("what kept the loop alive", self.alive()), ("who spun", self.spins()), ("never called", self.never()),
+        ):
+            lines += [title, *(f"    {it}" for it in rows)] if rows else []
+        late = max(self.next, default=(0, ""))[1]
+        name = late or next(iter(self.whys), "")
+        return lines + ([f"ask next: {ask.replace('NAME', name)}"] if name else [])
