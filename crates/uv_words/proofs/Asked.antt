@@ -11,8 +11,8 @@ use Rattle.clap.specs.declared.parser.matches.SubCommand.{SubCommand}
 use Rattle.clap.specs.declared.error.kind.ErrorKind.{ErrorKind}
 use Rattle.clap.proofs.OnLiterals.{clap_on_literals}
 use Rattle.uv_script.specs.Checks.{number_of}
-use Rattle.uv_cli.specs.declared.command_line.Job.TheVariants.{Debug, Replay, Live}
-use Rattle.uv_cli.specs.Words.{uvt_app, job_by, job_in, job_of}
+use Rattle.uv_words.specs.declared.command_line.Job.TheVariants.{Debug, Replay, Live}
+use Rattle.uv_words.specs.Words.{uvt_app, job_by, job_in, job_of}
 
 simple : is_simple uvt_app ≡ true
 unfolding clap_on_literals
