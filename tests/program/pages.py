@@ -19,8 +19,8 @@ from pathlib import Path
 from typing import Callable, NamedTuple, Optional
 
 PAGES = ('README.md', 'docs/TOOLS.md', 'docs/RECORD.md')
-COMMANDS = ('./uvt ', 'uvt ', 'tools/', 'tests/', 'make ', 'cc ', 'cp ', 'ln ', 'mkdir ', 'cd ', 'tar ', 'printf ', 'grep ', 'sed ', 'cat ', 'apt-get ',
-            'git ', 'rt ')
+COMMANDS = ('./uvt ', 'uvt ', 'tools/', 'tests/', 'make ', 'cc ', 'cp ', 'ln ', 'mkdir ', 'cd ', 'tar ', 'printf ', 'grep ', 'sed ', 'cat ',
+            'apt-get ', 'git ', 'rt ')
 # What doesn't end with status 0: on the real libuv the example goes another way, and the page shows which.
 STATUS = {'./uvt libuv examples/cancel-in-time.uvt': 3, 'uvt libuv examples/cancel-in-time.uvt': 3}
 # What says something on the errors, and is well.
@@ -136,7 +136,7 @@ class Walker:
             ended = self.run(command, folder)
             self.count += 1
             what = '%s:%d: %s' % (block.page, block.line, command)
-            self.check(what, ended.returncode == STATUS.get(command, 0), 'status %d, output %r, errors %r' % (ended.returncode, ended.stdout, ended.stderr))
+            self.check(what, ended.returncode == STATUS.get(command, 0), 'got %r' % ((ended.returncode, ended.stdout, ended.stderr),))
             self.check(what + ', its errors', ended.stderr == SAYS.get(command, ''), 'got %r' % ended.stderr)
             output += ended.stdout
             if command.endswith('uvt record ./late'):
@@ -148,7 +148,8 @@ class Walker:
         made = self.run(self.command + ' record -o late --log kept.log', self.folder)
         self.check('%s:%d: the recording of the kept log' % (block.page, block.line), made.returncode == 0, 'got %r' % (made,))
         output = self.type(block)
-        self.check('%s:%d: what is shown behind it' % (block.page, block.line), is_shown(block.shown or '', output), 'wanted %r, got %r' % (block.shown, output))
+        holds = is_shown(block.shown or '', output)
+        self.check('%s:%d: what is shown behind it' % (block.page, block.line), holds, 'wanted %r, got %r' % (block.shown, output))
 
     def run(self, command: str, folder: str) -> 'subprocess.CompletedProcess[str]':
         with tempfile.NamedTemporaryFile('r') as where:
