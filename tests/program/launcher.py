@@ -369,9 +369,9 @@ def try_first_call(check: Check, kit: StandIn) -> None:
     check('a first call of a bad script', (status, output) == (2, b'') and b'\nuvt: bad script line 2\n' in errors, 'got %r' % errors)
     status, output, errors = kit.call(['replay', os.path.join(ROOT, 'examples', 'changed-program.rec')])
     check('a first call of replay FILE', (status, output) == (3, b'differs at 1\n') and b'\nuvt: differs at 1\n' in errors, 'got %r' % errors)
-    text = b'var i\nmain init i idle\nmain start i\nmain run default\nbegin\nloop 200000\n'
+    text = b'var i\nmain init i idle\nmain start i\nmain run default\nbegin\nloop 30000\n'
     status, output, errors = kit.call(['debug'], text)
-    check('a first call with a long output', status == 0 and output.count(b'\n') > 100000, 'status %d, %d lines' % (status, output.count(b'\n')))
+    check('a first call with a long output', status == 0 and output.count(b'\n') > 20000, 'status %d, %d lines' % (status, output.count(b'\n')))
     with open(os.path.join(ROOT, 'examples', 'late-timer.uvt'), 'rb') as file:
         status, output, errors = kit.call(['why', 'beat'], file.read())
     check('a first call of a tool', status == 0 and b'late by 35 ms' in output and b'none of it proved' in errors,
