@@ -15,7 +15,7 @@ from typing import List
 
 sys.dont_write_bytecode = True
 import crates
-from lanes import Command, Failed, Lanes
+from lanes import Command, Failed, Lanes, expected
 from progress import Progress, clock
 
 # What a check of a crate takes of the memory, in bytes.
@@ -63,10 +63,11 @@ def processors() -> int:
 
 
 def build_program(root: str, progress: Progress, lanes: Lanes) -> None:
-    """Builds the program in the repository, and starts it on a script without a step, to see that it answers."""
+    """Builds the program in the repository, and starts it on a script without a step, to see that it answers. It gets all processors, four at
+    most, as nobody else waits for one."""
     progress.begins('uvt')
     folder = os.path.join(root, 'crates', 'uvt')
-    command = Command('uvt', ['run', '--', 'debug'], folder, lanes.said, b'begin\n')
+    command = Command('uvt', ['run', '--jobs', str(min(4, lanes.processors)), '--', 'debug'], folder, lanes.said, b'begin\n')
     lanes.running['uvt'] = command, '', lanes.processors
     try:
         lanes.next_end()
@@ -80,8 +81,8 @@ def build(root: str, kept: str, names: List[str]) -> None:
     at_once = processors()
     progress = Progress(of, at_once)
     why = 'the sources or the kit have changed' if os.path.exists(os.path.join(kept, 'uvt')) else 'there is no proved program yet'
-    progress.say('%s: proving and building it, of %d crates, %d at a time (about half an hour on four cores that do nothing else)' % (
-        why, len(of), at_once))
+    progress.say('%s: proving and building it, of %d crates, %d at a time: about %d minutes from nothing, if this machine does nothing else' % (
+        why, len(of), at_once, round(expected(of, at_once) / 60)))
     room = room_of(root)
     lanes = Lanes(root, room, of, at_once, progress)
     lanes.build(names[:-1])

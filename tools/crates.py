@@ -3,6 +3,22 @@ import os
 from typing import Dict, List, NamedTuple
 
 
+# What the proof of a crate took from nothing by one process, in processor seconds (the table of docs/PROVING.md, "Costs"). Of a crate
+# that isn't here it is reckoned from its lines.
+MEASURED = {
+    'uv_ids': 74, 'uv_records': 36, 'uv_work': 38, 'uv_script': 283, 'uv_heap': 66, 'uv_model': 355, 'uv_order': 22, 'uv_session': 103,
+    'uv_text': 255, 'uv_engine': 259, 'uv_words': 76, 'uv_raw': 20, 'uv_arena': 122, 'uv_requests': 88, 'uv_handle': 47, 'uv_watch': 35,
+    'uv_timer': 60, 'uv_step': 189, 'uv_trail': 62, 'uv_stands': 74, 'uv_timing': 60, 'uv_ops': 151, 'uv_sections': 170, 'uv_layout': 107,
+    'uv_loop': 190, 'uv_pool': 165, 'uv_wake': 36, 'uv_live': 212, 'uv_run': 102, 'uv_cli': 220, 'uvt': 250,
+}
+# The last two go by the clock, whatever processors they have: their modules wait for one another.
+IN_A_ROW = ('uv_cli', 'uvt')
+# How much of that time the others take by the clock with so many processes, of which each reads what the crate stands on for itself;
+# and how much longer all of them take side by side.
+BY_JOBS = {1: 1.0, 2: 0.62, 3: 0.5, 4: 0.44}
+BESIDE = 1.15
+
+
 class Crate(NamedTuple):
     name: str
     line: str
@@ -30,7 +46,7 @@ def read(root: str, names: List[str]) -> Dict[str, Crate]:
                 name = head.split()[0]
                 below = [word for word in uses.split() if word in names]
                 lines = lines_of_code(os.path.join(root, 'crates', name, 'src'))
-                found[name] = Crate(name, line.strip(), below, 15 + 2 * len(below) + lines // 7)
+                found[name] = Crate(name, line.strip(), below, MEASURED.get(name, 15 + 2 * len(below) + lines // 7))
     return {name: found[name] for name in names}
 
 

@@ -106,7 +106,13 @@ keep() {
 # Compiles the program before its proofs, if need be, while no other call does. $kept is its folder then.
 compile_alone() {
     is_built && return
-    command -v rt >/dev/null && command -v python3 >/dev/null && alone compile_changed
+    for it in rt:"the kit's command" python3:"a command that the kit needs too"; do
+        command -v "${it%%:*}" >/dev/null || {
+            say "there is no program yet, and it can't be compiled: ${it#*:}, ${it%%:*}, isn't on the PATH. README.md says what to do without the kit"
+            return 1
+        }
+    done
+    alone compile_changed
 }
 
 # Builds, if need be, while no other call does; with a word it says so where nothing is to be done.

@@ -10,9 +10,9 @@ import re
 import shutil
 import subprocess
 import threading
-from typing import Dict, List, Optional, Tuple
+from typing import Container, Dict, List, Optional, Set, Tuple
 
-from crates import Crate, chains
+from crates import BESIDE, BY_JOBS, IN_A_ROW, Crate, chains
 from progress import Progress
 
 PARTS = ('src', 'specs', 'proofs')
@@ -89,24 +89,14 @@ class Lanes:
                 command.end()
 
     def start_ready(self, left: List[str]) -> None:
-        """Starts those that only stand on what is done, those with the longest chain above them first. A crate gets the
-        processors that no other one waits for, four at most. The first of the longest chain gets two, where that chain takes
-        longer than all that is left does on all processors: then it is what the build waits for."""
-        undone = [name for name in self.crates if name not in self.progress.done]
-        rest = sum(self.crates[name].weight for name in undone)
-        longest = max(self.chains[name] for name in undone)
-        ready = [name for name in left if all(below in self.progress.done for below in self.crates[name].below)]
-        for at, name in enumerate(ready):
-            idle = self.processors - sum(jobs for _, _, jobs in self.running.values())
-            if idle > 0 and self.free:
-                spare = min(4, idle // (len(ready) - at))
-                wanted = 2 if self.chains[name] == longest and longest * self.processors > rest else 1
-                jobs = min(idle, max(spare, wanted))
-                lane = self.lane_for(name)
-                left.remove(name)
-                self.progress.begins(name)
-                command = Command(name, ['lib', '--jobs', str(jobs)], os.path.join(lane, 'crates', name), self.said)
-                self.running[name] = command, lane, jobs
+        """Starts those that only stand on what is done, as `chosen` has them."""
+        running = {name: jobs for name, (_, _, jobs) in self.running.items()}
+        for name, jobs in chosen(self.crates, self.chains, self.progress.done, running, left, self.processors)[:len(self.free)]:
+            lane = self.lane_for(name)
+            left.remove(name)
+            self.progress.begins(name)
+            command = Command(name, ['lib', '--jobs', str(jobs)], os.path.join(lane, 'crates', name), self.said)
+            self.running[name] = command, lane, jobs
 
     def lane_for(self, name: str) -> str:
         """A free lane: the one where a build that was stopped had begun with this crate, if there is one."""
@@ -142,6 +132,45 @@ def hear(command: Command, line: str, progress: Progress) -> None:
         command.functions = int(verdict[1])
     elif line.startswith('rt: waiting for ') or 'waiting for it' in line:
         progress.say(line)
+
+
+def chosen(crates: Dict[str, Crate], chains: Dict[str, int], done: Container[str], running: Dict[str, int], left: List[str],
+           processors: int) -> List[Tuple[str, int]]:
+    """The crates to be started now, each with its number of processors: those that only stand on what is done, those with the longest chain
+    above them first. A crate gets the processors that no other one waits for, four at most. The first of the longest chain gets two, where
+    that chain takes longer than all that is left does on all processors: then it is what the build waits for."""
+    undone = [name for name in crates if name not in done]
+    rest = sum(crates[name].weight for name in undone)
+    longest = max(chains[name] for name in undone)
+    ready = [name for name in left if all(below in done for below in crates[name].below)]
+    idle, found = processors - sum(running.values()), []
+    for at, name in enumerate(ready):
+        if idle > 0:
+            spare = min(4, idle // (len(ready) - at))
+            wanted = 2 if chains[name] == longest and longest * processors > rest else 1
+            jobs = min(idle, max(spare, wanted))
+            idle -= jobs
+            found.append((name, jobs))
+    return found
+
+
+def expected(crates: Dict[str, Crate], processors: int) -> float:
+    """How many seconds a build from nothing takes where nothing else is done: what was measured of each crate, in the order of `chosen`."""
+    longest, now = chains(crates), 0.0
+    done: Set[str] = set()
+    running: Dict[str, int] = {}
+    left = sorted(crates, key=lambda name: -longest[name])
+    ends: Dict[str, float] = {}
+    while left or running:
+        for name, jobs in chosen(crates, longest, done, running, left, processors):
+            left.remove(name)
+            running[name] = jobs
+            ends[name] = now + crates[name].weight * (1 if name in IN_A_ROW else BESIDE * BY_JOBS[jobs])
+        name = min(running, key=lambda it: ends[it])
+        now = ends[name]
+        del running[name]
+        done.add(name)
+    return now
 
 
 def failure(command: Command) -> str:

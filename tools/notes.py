@@ -1,4 +1,4 @@
-"""What is known of a recording of a program beside its steps: NAME.notes, which tools/uvt-record writes beside NAME.rec.
+"""What is known of a recording of a program beside its steps: NAME.notes, which ./uvt record writes beside NAME.rec.
 
 A line each: what a name stands for, which functions its callbacks are, which steps from outside nobody saw, which ticks are no
 callback's, which ops another thread did, and whether the recording is only a beginning. The first line has the recording's digest: of

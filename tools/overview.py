@@ -16,6 +16,8 @@ from why import KINDS, MANY, STANDING, Why, few, named, times
 LINES = 5
 # So many polls in a row that don't wait are a spin.
 ROUNDS = 10
+# So many names are listed at the most.
+NAMES = 40
 
 
 @dataclass
@@ -35,6 +37,11 @@ def head(walk: Walk) -> list[str]:
 def long_callbacks(walk: Walk) -> list[str]:
     found = sorted((it for it in walk.tooks if it.is_callback()), key=Took.took, reverse=True)[:LINES]
     return [f"{it.took()} ms: {named(it).rstrip(',')}, from step {it.first} to {it.last}, at {it.pieces[0][0]} ms" for it in found]
+
+
+def listed(names: list[str]) -> str:
+    """These names, or as many of them as a person reads."""
+    return ", ".join(names[:NAMES]) + (f" and {len(names) - NAMES} more" if len(names) > NAMES else "")
 
 
 class Overview:
@@ -179,4 +186,6 @@ class Overview:
             lines += [title, *(f"    {it}" for it in rows)] if rows else []
         late = max(self.next, default=(0, ""))[1]
         name = late or next(iter(self.whys), "")
+        names = self.walk.script.names()
+        lines += [f"names: {listed(names)}"] if names else []
         return lines + ([f"ask next: {ask.replace('NAME', name)}"] if name else [])

@@ -26,6 +26,7 @@ BAD_COMMAND = b'uvt: bad command line\n'
 SCRIPT = b'var t\nmain init t timer\nbegin\nloop\n'
 # A plain file whose first byte can't be read, whoever asks.
 UNREADABLE = '/proc/1/mem'
+NO_KIT = tempfile.TemporaryDirectory(prefix='uvt-path-')
 Check = Callable[..., None]
 
 
@@ -40,14 +41,15 @@ def same(check: Check, what: str, real: object, due: object) -> None:
 
 # Words that are no command line, and what the launcher says of them behind the program's own line: the beginning of its text.
 HELPED = [
-    ([], b'uvt runs a script'), (['help'], b'uvt runs a script'), (['--help'], b'uvt runs a script'), (['-h'], b'uvt runs a script'),
+    ([], b'uvt runs a script'), (['debug', 'help'], b'uvt: there is no file help\n'),
     (['run'], b'uvt: the words may be: '), (['--version'], b'uvt: the words may be: '), (['debug', '--help'], b'uvt: the words may be: '),
     (['debug', 'no-such-file'], b'uvt: there is no file no-such-file\nuvt: the words may be: '),
     (['replay', 'no-such-file'], b'uvt: there is no file no-such-file\n'), (['live', 'more'], b'uvt: there is no file more\n'),
     (['live', '--workers', '2', 'none'], b'uvt: there is no file none\n'), (['debug', '/'], b'uvt: / is a folder, and no file\n'),
     (['replay', '/dev/null'], b'uvt: /dev/null: this file cannot be taken as input'), (['debug', b'\xff'], b'uvt: there is no file \xff\n'),
     ([b'\xff'], b'uvt: the words may be: '), ([b'debug\xff'], b'uvt: the words may be: '), ([''], b'uvt runs a script'),
-    (['build', 'x'], b'uvt: the words may be: '), (['live', '--workers=2', '--workers=2'], b'uvt: the words may be: '),
+    (['build', 'x'], b'uvt: the words may be: '), (['install'], b'uvt: the words may be: '), (['kept'], b'uvt: the words may be: '),
+    (['../tools/uvt-why'], b'uvt: the words may be: '), (['live', '--workers=2', '--workers=2'], b'uvt: the words may be: '),
     (['debug', '--workers=2'], b'uvt: the words may be: '), (['live', '--workers'], b'uvt: the words may be: '),
     (['live', '--help'], b'uvt: the words may be: '),
 ]
@@ -61,6 +63,120 @@ def try_words(check: Check, uvt: str) -> None:
         check('the words %r' % words, (status, output) == (2, b'') and errors.startswith(BAD_COMMAND + said), 'got %r' % errors)
     for words in REFUSED:
         same(check, 'the words %r' % words, run([uvt] + words, SCRIPT), (2, b'', BAD_COMMAND))
+    with open(os.path.join(ROOT, 'tools', 'usage'), 'rb') as usage:
+        text = usage.read()
+    for words in (['help'], ['-h'], ['--help'], ['help', 'nothing']):
+        same(check, 'the usage alone, by %r' % words, run([uvt] + words), (0, text, b''))
+    same(check, 'help of a tool', run([uvt, 'help', 'why']), run([uvt, 'why', '--help']))
+    tools = sorted(it[4:] for it in os.listdir(os.path.join(ROOT, 'tools')) if it.startswith('uvt-'))
+    same(check, 'the usage names each tool', [it for it in tools if b'./uvt %s ' % it.encode() not in text], [])
+    for it in tools:
+        status, output, errors = run([uvt, it, '--help'])
+        check('%s --help' % it, status == 0 and output.startswith(b'usage: ') and not errors, 'got %r' % ((status, output, errors),))
+
+
+def try_recordings(check: Check, uvt: str, folder: str) -> None:
+    """A recording that is given for a script: it is said what it is, and what to do with it."""
+    path = os.path.join(folder, 'session.rec')
+    shutil.copy(os.path.join(ROOT, 'examples', 'sent-session.rec'), path)
+    for word in ('debug', 'live'):
+        status, output, errors = run([uvt, word, path], b'loop\n')
+        check('%s of a recording' % word, (status, output) == (2, b'') and errors.startswith(b'uvt: this is a recording, and no script: ')
+              and errors.count(b'\n') == 1 and b' shell %s`' % path.encode() in errors, 'got %r' % ((status, output, errors),))
+        with open(path, 'rb') as file:
+            ended = subprocess.run([uvt, word], stdin=file, stdout=subprocess.PIPE, stderr=subprocess.PIPE, timeout=SECONDS)
+        check('%s of a recording, redirected' % word, (ended.returncode, ended.stdout) == (2, b'')
+              and ended.stderr.startswith(b'uvt: bad script line 1\nuvt: this is a recording, and no script: '), 'got %r' % ended.stderr)
+
+
+def at_terminal(words: List[str], typed: List[bytes]) -> 'tuple[int, bytes, bytes]':
+    """What is printed, and what stands on the errors, where these lines are typed at a terminal."""
+    ours, theirs = pty.openpty()
+    with tempfile.TemporaryFile() as output, tempfile.TemporaryFile() as errors:
+        call = subprocess.Popen(words, stdin=theirs, stdout=output, stderr=errors, start_new_session=True)
+        os.close(theirs)
+        # (the terminal keeps what comes before it is read)
+        os.write(ours, b''.join(typed))
+        status = call.wait(SECONDS)
+        os.close(ours)
+        output.seek(0)
+        errors.seek(0)
+        return status, output.read(), errors.read()
+
+
+def interrupted(words: List[str], typed: bytes) -> 'tuple[int, bytes]':
+    """The status where Ctrl-C is typed behind this, and what stands on the terminal then."""
+    child, terminal = pty.fork()
+    if child == 0:
+        # (what is started in the background may have interrupts ignored)
+        signal.signal(signal.SIGINT, signal.SIG_DFL)
+        os.execv(words[0], words)
+    seen = b''
+    try:
+        while b'you may type' not in seen:
+            seen += os.read(terminal, 4096)
+        # (what reads the lines starts behind that word)
+        time.sleep(1)
+        os.write(terminal, typed)
+        while typed and b'call i' not in seen:
+            seen += os.read(terminal, 4096)
+        os.write(terminal, b'\x03')
+        while True:
+            seen += os.read(terminal, 65536)
+    except OSError:
+        # (the terminal's other side is closed)
+        pass
+    os.close(terminal)
+    return os.waitstatus_to_exitcode(os.waitpid(child, 0)[1]), seen
+
+
+# What is typed behind a script with one name `t`, and what is said of it behind the program's `bad command`.
+MISTYPED = [
+    (b'lop', b'`lop` is no command: did you mean `loop`?'), (b'nonsense', b'`nonsense` is no command; help has them all'),
+    (b'loop 0', b'`0` is out of range: N is 1 to 16777216'), (b'back 16777217', b'`16777217` is out of range: N is 0 to 16777216'),
+    (b'take x', b'`x` is no number: digits alone, with no sign and no zero in front'), (b'take 65536', b'`65536` is out of range: K is 0 to 65535'),
+    (b'tick', b'the command has the form `tick MS`'), (b'rback 1', b'the command has the form `rback`'),
+    (b'send u', b'`u` is no name of the script'), (b'break call u', b'`u` is no name of the script'),
+    (b'break code EBUZY', b'`EBUZY` is none of ok, EINVAL, EBUSY, ECANCELED, EBOUND, EFULL, ESTALE, EKIND'),
+    (b'break section timer', b'`timer` is none of pending, idle, prepare, poll, done, async, check, closing, timers'),
+    (b'break', b'the command has the form `break call NAME` or `break code CODE` or `break section WORD` or `break clear`'),
+    (b'main now', b'`main` is a line of a script, and the script has ended with `begin`'),
+    (b'loop  1', b'fields are separated by one space, and no line begins or ends with one'),
+    (b'#' + 256 * b'x', b'a line has at most 256 bytes, and this one has 257'),
+]
+
+
+def try_terminal(check: Check, uvt: str, folder: str) -> None:
+    """What somebody meets who types: why a line is bad, at once; help; the rest is the program's."""
+    status, output, errors = at_terminal([uvt, 'debug'], [b'var t\n', b'main stat t\n', b'help\n', b'main stop u\n', b'main init t timer\n',
+                                                          b'begin\n', b'loop\n', b'help\n', b'loop\n', b'quit\n'])
+    same(check, 'a script that is typed', (status, output), (0, b'init t timer = 0.0\nrefused ended\n'))
+    said = errors.decode().splitlines()
+    for due in ('`stat` is no op', "`u` isn't declared before this line"):
+        check('a bad line that is typed: ' + due, "uvt: line 2 isn't taken: " + due in said, 'got %r' % said)
+    for due in ('  main OP  ', '  rback  '):
+        check('help, with the line %s' % due.strip(), sum(it.startswith(due) for it in said) == 1, 'got %r' % said)
+    script = os.path.join(folder, 'typed.uvt')
+    with open(script, 'wb') as file:
+        file.write(SCRIPT)
+    status, output, errors = at_terminal([uvt, 'debug', script], [line + b'\n' for line, _ in MISTYPED] + [b'back 1\n', b'\x04'])
+    same(check, 'bad commands that are typed', (status, output), (0, b'init t timer = 0.0\n' + len(MISTYPED) * b'bad command\n' + b'at 0\n'))
+    same(check, 'why they are bad', [it for it in errors.splitlines() if b'you may type' not in it], [b'uvt: ' + why for _, why in MISTYPED])
+    with open(script, 'wb') as file:
+        file.write(b'var a\nmain stop b\nbegin\n')
+    status, output, errors = at_terminal([uvt, 'debug', script], [b'loop\n'])
+    check('a bad file at a terminal', (status, output) == (2, b'') and
+          errors.endswith(b"\nuvt: bad script line 2\nuvt: line 2 is: main stop b\nuvt: `b` isn't declared before this line\n"), 'got %r' % errors)
+    with open(script, 'wb') as file:
+        file.write(b'var i\nmain init i idle\nmain start i\nmain run default\nbegin\nloop 20000\n')
+    status, output, errors = at_terminal([uvt, 'debug', script], [b'back 20000\n', b'\x04'])
+    check('a long answer at a terminal', status == 0 and output.count(b'\n') > 10000 and output.endswith(b'\nat 0\n'), 'got %r' % output[-100:])
+    with open(script, 'wb') as file:
+        file.write(b'var i\nmain init i idle\nmain start i\nmain run default\nbegin\n')
+    for typed in (b'', b'loop 16000000\n'):
+        status, seen = interrupted([uvt, 'debug', script], typed)
+        check('Ctrl-C behind %r' % typed, status in (130, -signal.SIGINT) and b'Traceback' not in seen, 'status %d, seen %r' % (status, seen[-300:]))
+    same(check, 'a script that ends without begin', at_terminal([uvt, 'debug'], [b'var t\n', b'\x04'])[:2], (2, b''))
 
 
 def try_files(check: Check, uvt: str, folder: str) -> None:
@@ -220,9 +336,11 @@ def stand_in(folder: str, program: str) -> StandIn:
 
 def try_first_call(check: Check, kit: StandIn) -> None:
     """Without a built program: the answer of the one before its proofs, and the words that go with it. It is compiled once."""
-    for words, said in ((['help'], b'uvt runs a script'), (['replay', 'none'], b'uvt: there is no file none\n')):
+    for words, said in (([], b'uvt runs a script'), (['replay', 'none'], b'uvt: there is no file none\n'),
+                        (['debug', os.path.join(ROOT, 'examples', 'sent-session.rec')], b'uvt: this is a recording')):
         status, output, errors = kit.call(words)
         check('%r before a build' % words, (status, output) == (2, b'') and errors.startswith(said), 'got %r' % errors)
+    same(check, 'help before a build', kit.call(['help'])[0], 0)
     ended: List = [None, None]
 
     def call(at: int) -> None:
@@ -251,12 +369,13 @@ def try_first_call(check: Check, kit: StandIn) -> None:
     check('a first call of a bad script', (status, output) == (2, b'') and b'\nuvt: bad script line 2\n' in errors, 'got %r' % errors)
     status, output, errors = kit.call(['replay', os.path.join(ROOT, 'examples', 'changed-program.rec')])
     check('a first call of replay FILE', (status, output) == (3, b'differs at 1\n') and b'\nuvt: differs at 1\n' in errors, 'got %r' % errors)
-    text = b'var i\nmain init i idle\nmain start i\nmain run default\nbegin\nloop 200000\n'
+    text = b'var i\nmain init i idle\nmain start i\nmain run default\nbegin\nloop 30000\n'
     status, output, errors = kit.call(['debug'], text)
-    check('a first call with a long output', status == 0 and output.count(b'\n') > 100000, 'status %d, %d lines' % (status, output.count(b'\n')))
+    check('a first call with a long output', status == 0 and output.count(b'\n') > 20000, 'status %d, %d lines' % (status, output.count(b'\n')))
     with open(os.path.join(ROOT, 'examples', 'late-timer.uvt'), 'rb') as file:
         status, output, errors = kit.call(['why', 'beat'], file.read())
-    check('a first call of a tool', status == 0 and b'late by 35 ms' in output and b'none of it proved' in errors, 'got %r' % ((status, output, errors),))
+    check('a first call of a tool', status == 0 and b'late by 35 ms' in output and b'none of it proved' in errors,
+          'got %r' % ((status, output, errors),))
     status, output, errors = kit.call(['path'])
     same(check, 'the path of the program before its proofs', output, os.path.join(kit.folder, 'out', 'uvt', 'unproved', 'uvt').encode() + b'\n')
     same(check, 'first answers build nothing, and compile once', [line[0] for line in kit.log()], ['tries'])
@@ -370,21 +489,35 @@ def try_order(check: Check, kit: StandIn) -> None:
     same(check, 'a build at a terminal', build.wait(SECONDS), 0)
     line = rb'\r\x1b\[Kuvt: \d+ of \d+ crates, \d+ functions proved, \d+:\d\d, about '
     check('its line is rewritten', re.search(line, said) is not None, 'got %r' % said[-500:])
+    first = re.search(rb'of (\d+) crates, 4 at a time: about (\d+) minutes from nothing', said)
+    check('its first line says how long it will be', first and int(first[1]) == len(needed(crates_below(kit))) and 15 < int(first[2]) < 60,
+          'got %r' % said[:300])
     same(check, 'each crate after those that it stands on', order_faults(kit.log(), crates_below(kit)), [])
     same(check, 'the crates that it needs, and no other', sorted(crate for what, crate in kit.log() if what == 'ends'), needed(crates_below(kit)))
     check('several at a time', 3 <= most_at_once(kit.log()) <= 4, 'most %d' % most_at_once(kit.log()))
 
 
 def try_unanswered(check: Check, kit: StandIn) -> None:
-    """Where the program before its proofs can't be had it is built; one that is interrupted builds nothing, and keeps nothing."""
+    """Where the program before its proofs can't be had it is said, and nothing is built; one that is interrupted keeps nothing."""
     kit.write('took', '0.01')
     for fails, said in (('try', b"doesn't compile it"), ('link', b'leaves no program behind')):
         begin_anew(kit)
         kit.write('fails', fails)
         status, output, errors = kit.call(['debug'], SCRIPT)
-        check('a first call where %s fails' % fails, (status, output) == (0, b'init t timer = 0.0\n') and said in errors and b'built after' in errors,
+        check('a first call where %s fails' % fails, (status, output) == (70, b'') and said in errors and errors.count(b'./uvt build') == 1,
               'got %r' % ((status, output, errors),))
+        check('what a try says that %s' % fails, errors.count(b'\n') == (2004 if fails == 'try' else 3), 'got %d lines' % errors.count(b'\n'))
+        same(check, 'nothing is built where %s fails' % fails, [line[0] for line in kit.log()], ['tries'])
+    status, output, errors = kit.call(['why', 't'], SCRIPT)
+    check('a tool where there is no program', status == 1 and not output and errors.endswith(b'uvt-why: there is no program to talk with\n'),
+          'got %r' % ((status, output, errors),))
     begin_anew(kit)
+    no_kit = {**kit.env(), 'PATH': without('rt')}
+    status, output, errors = run([kit.uvt(), 'debug'], SCRIPT, env=no_kit)
+    check('a first call without the kit', (status, output) == (70, b'') and b"rt, isn't on the PATH. README.md says what to do" in errors,
+          'got %r' % ((status, output, errors),))
+    status, output, errors = kit.call(['install', os.path.join(kit.room, 'prefix')])
+    check('install without a proved program', (status, output) == (70, b'') and b'./uvt build' in errors, 'got %r' % ((status, output, errors),))
     kit.write('fails', '')
     kit.write('took', '20')
     call = subprocess.Popen([kit.uvt(), 'debug'], env=kit.env(), stdin=subprocess.DEVNULL, stdout=subprocess.PIPE, stderr=subprocess.PIPE,
@@ -397,6 +530,16 @@ def try_unanswered(check: Check, kit: StandIn) -> None:
     same(check, 'a first call that is interrupted', (call.returncode, output, [line[0] for line in kit.log()]), (130, b'', ['tries']))
     same(check, 'what it leaves', sorted(os.listdir(os.path.join(kit.folder, 'out', 'uvt', 'unproved'))), ['lock'])
     kit.write('took', '0.05')
+
+
+def without(name: str) -> str:
+    """The PATH without this command: a folder of links to the others."""
+    folder = tempfile.mkdtemp(prefix='uvt-path-', dir=NO_KIT.name)
+    for it in os.environ['PATH'].split(':'):
+        for command in os.listdir(it) if os.path.isdir(it) else []:
+            if command != name and not os.path.lexists(os.path.join(folder, command)):
+                os.symlink(os.path.join(it, command), os.path.join(folder, command))
+    return folder
 
 
 def try_typed(check: Check, kit: StandIn) -> None:

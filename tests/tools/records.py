@@ -283,11 +283,11 @@ def try_whys_of_parts(check, folder: str) -> None:
 def try_page(check, page: Path, folder: str) -> None:
     """Each call that the page shows, in order in one folder. In place of running `./late` its log is taken."""
     blocks = re.findall(r"```text\n(.*?)```", page.read_text(), re.DOTALL)
-    shown = [(block, behind) for block, behind in zip(blocks, blocks[1:]) if "late.rec" in block or "uvt-record ./late" in block]
-    calls = [(block, behind) for block, behind in shown if all(re.match(r"(tools/|printf |sed |grep )", it) for it in block.splitlines())]
+    shown = [(block, behind) for block, behind in zip(blocks, blocks[1:]) if "late.rec" in block or "uvt record ./late" in block]
+    calls = [(block, behind) for block, behind in shown if all(re.match(r"(\./uvt |printf |sed |grep )", it) for it in block.splitlines())]
     check(f"{page.name}: it shows calls", bool(calls))
     for block, behind in calls:
-        command = block.replace("tools/uvt-record ./late", "tools/uvt-record -o late --log late.log")
+        command = block.replace("./uvt record ./late", "./uvt record -o late --log late.log")
         ran = subprocess.run(["sh", "-c", command], cwd=folder, capture_output=True, text=True, timeout=SECONDS, env=os.environ)
         # (what the program printed)
         parts = [it for it in behind.splitlines() if not it.startswith("beat ")]
@@ -304,7 +304,7 @@ def try_page(check, page: Path, folder: str) -> None:
 def try_pages(check) -> None:
     for page in (ROOT / "README.md", ROOT / "docs" / "RECORD.md"):
         with tempfile.TemporaryDirectory() as folder:
-            (Path(folder) / "tools").symlink_to(ROOT / "tools")
+            (Path(folder) / "uvt").symlink_to(ROOT / "uvt")
             shutil.copy(LOGS / "late.log", folder)
             try_page(check, page, folder)
 

@@ -88,8 +88,8 @@ def calls_of(page: Path) -> list[tuple[str, str | None]]:
     blocks = BLOCK.findall(page.read_text())
     found = []
     for block, behind in zip(blocks, [*blocks[1:], ""]):
-        if re.match(r"(printf .* \| )?tools/uvt-\S+ ", block) and block.count("\n") == 1:
-            is_call = re.match(r"(printf|tools/uvt-|\./uvt )", behind)
+        if re.match(r"(printf .* \| )?\./uvt (why|shell|view) ", block) and block.count("\n") == 1:
+            is_call = re.match(r"(printf|\./uvt |cp |mkdir )", behind)
             found.append((block.strip(), None if is_call or " > " in block or not behind else behind))
     return found
 
@@ -112,7 +112,7 @@ def try_pages(check) -> None:
         check(f"{page.name} shows the tools", bool(calls))
         for call, shown in calls:
             with tempfile.TemporaryDirectory() as folder:
-                for name in ("tools", "examples"):
+                for name in ("uvt", "examples"):
                     (Path(folder) / name).symlink_to(ROOT / name)
                 ended = subprocess.run(["sh", "-c", call], cwd=folder, capture_output=True, text=True, timeout=SECONDS, env=os.environ)
             holds = ended.returncode == 0 and not ended.stderr and (shown is None or is_shown(shown, ended.stdout))

@@ -210,7 +210,7 @@ def told(made: Made, loop: int, path: Path, note: str) -> list[str]:
     if outcome.wakes:
         lines.append(f"    {outcome.wakes} times something woke the loop that called nobody: the handle `wake` stands for it")
     lines += [f"    {count} {text}" for text, count in program.notes.items()]
-    return lines + [f"    {'uvt shell' if INSTALLED else 'tools/uvt-shell'} {path}"]
+    return lines + [f"    {'uvt shell' if INSTALLED else './uvt shell'} {path}"]
 
 
 def from_data(data: bytes, log: Log, name: str, part: Part = Part()) -> tuple[list[str], bool]:

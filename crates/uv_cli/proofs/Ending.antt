@@ -8,8 +8,8 @@ use Rattle.uv_engine.specs.Out.{Converses, IsConversationFault}
 use Rattle.uv_engine.specs.Verdict as verdict
 use Rattle.uv_engine.specs.Verdict.{HasVerdict, answer_of, Tells, Replays, IsReplayFault}
 use Rattle.std.proofs.lemmas.Option.{none-some}
-use Rattle.uv_cli.specs.declared.command_line.Job.{Job}
-use Rattle.uv_cli.specs.declared.command_line.Job.TheVariants.{Debug, Replay, Live}
+use Rattle.uv_words.specs.declared.command_line.Job.{Job}
+use Rattle.uv_words.specs.declared.command_line.Job.TheVariants.{Debug, Replay, Live}
 use Rattle.uv_cli.specs.Status.{MayEnd, Runs, bad_script, broken, Reruns, judged, bad_line, nothing, cut_short, status_by, status_of}
 
 -- ---- the statuses

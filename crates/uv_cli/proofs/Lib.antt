@@ -1,4 +1,2 @@
 pub mod Ending
-pub mod Asked
-pub mod Built
 pub mod Recorded

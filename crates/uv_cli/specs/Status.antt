@@ -10,8 +10,8 @@ use Rattle.uv_engine.specs.Out.{Out, Ends, BadScript, IsCut, IsWhole}
 use Rattle.uv_engine.specs.Sink.{CutShort}
 use Rattle.uv_engine.specs.Recordings.{IsBadLine}
 use Rattle.uv_engine.specs.Verdict.{HasVerdict, verdict_text}
-use Rattle.uv_cli.specs.declared.command_line.Job.{Job}
-use Rattle.uv_cli.specs.declared.command_line.Job.TheVariants.{Debug, Replay, Live}
+use Rattle.uv_words.specs.declared.command_line.Job.{Job}
+use Rattle.uv_words.specs.declared.command_line.Job.TheVariants.{Debug, Replay, Live}
 use Rattle.uv_cli.specs.Live.{Lives}
 
 -- the status of a fault

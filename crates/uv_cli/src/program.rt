@@ -1,12 +1,11 @@
 //! The program over any reader and writers.
 ghost use Rattle.std.specs.Prelude.{◌≡◌, map, IfSome, Some, None};
 ghost use Rattle.uv_script.specs.Program.{IsWorkerCount};
-ghost use Rattle.uv_cli.specs.declared.command_line.Job.TheVariants.{Debug, Replay, Live};
+ghost use Rattle.uv_words.specs.declared.command_line.Job.TheVariants.{Debug, Replay, Live};
 ghost use Rattle.uv_cli.specs.Live.{Lives};
 ghost use Rattle.uv_cli.specs.Status.{Runs, Reruns, Ran, MayEnd, status_of};
-ghost use Rattle.uv_cli.specs.Words.{job_of};
+ghost use Rattle.uv_words.specs.Words.{job_of};
 
-use crate::command_line::{Job, NoJob, read_words};
 use crate::live::{NoRecording, run_live};
 use std::alloc::Global;
 use std::io::Write;
@@ -15,6 +14,7 @@ use std::thread::Threads;
 use uv_engine::{Sink, Source, converse, replay};
 use uv_ids::Fault;
 use uv_loop::ArenaLoop;
+use uv_words::{Job, NoJob, read_words};
 
 /// The machine of the program, by whatever words it is called.
 type ProgramLoop = ArenaLoop;

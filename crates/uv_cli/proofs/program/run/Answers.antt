@@ -1,6 +1,6 @@
 use Rattle.std.proofs.Common.{Some, refl, ap, subst, ◌∙◌}
 use Rattle.uv_cli.specs.Status.{conversed, replayed, lived, bad_words, no_memory}
-use Rattle.uv_cli.specs.Words.{IsJob}
+use Rattle.uv_words.specs.Words.{IsJob}
 use Rattle.uv_cli.proofs.Ending.{no_memory_status, asks_something}
 use Rattle.uv_cli.proofs.program.run.Goals as goal
 

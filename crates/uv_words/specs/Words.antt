@@ -6,8 +6,8 @@ use Rattle.clap.specs.Words.{App, Row, Rule, Text, new_app, new_rule, with_rule,
 use Rattle.clap.specs.declared.builder.action.ArgAction.TheVariants.{Set}
 use Rattle.uv_script.specs.Program.{IsWorkerCount}
 use Rattle.uv_script.specs.Checks.{number_of}
-use Rattle.uv_cli.specs.declared.command_line.Job.{Job}
-use Rattle.uv_cli.specs.declared.command_line.Job.TheVariants.{Debug, Replay, Live}
+use Rattle.uv_words.specs.declared.command_line.Job.{Job}
+use Rattle.uv_words.specs.declared.command_line.Job.TheVariants.{Debug, Replay, Live}
 
 -- a subcommand that takes no more words, help neither
 abbrev pub job_app : Text → App

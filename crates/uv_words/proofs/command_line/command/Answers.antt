@@ -1,7 +1,7 @@
 use Rattle.std.proofs.Common.{ap}
 use Rattle.clap.specs.Words.{App}
-use Rattle.uv_cli.proofs.Built.{app_added}
-use Rattle.uv_cli.proofs.command_line.command.Goals as goal
+use Rattle.uv_words.proofs.Built.{app_added}
+use Rattle.uv_words.proofs.command_line.command.Goals as goal
 
 pub returns : goal.returns
 returns c =

@@ -1,6 +1,6 @@
 use Rattle.std.proofs.Common.{sym, ◌∙◌}
-use Rattle.uv_cli.proofs.Asked.{found, refused}
-use Rattle.uv_cli.proofs.command_line.read_words.Goals as goal
+use Rattle.uv_words.proofs.Asked.{found, refused}
+use Rattle.uv_words.proofs.command_line.read_words.Goals as goal
 
 pub returns-in-Some-clause-job : goal.returns-in-Some-clause-job
 returns-in-Some-clause-job c =

@@ -6,13 +6,13 @@ use Rattle.std.proofs.lemmas.Option.{same_Some}
 use Rattle.clap.specs.Kinds.{Kinds, IsAmong}
 use Rattle.clap.specs.Words.{App, Row, Text, is_simple, is_simple_and_free, matches_of, rows_of, found_of, subcommand_of, subcommand_rows, subcommand_rows_of, fault_of}
 use Rattle.clap.specs.declared.parser.matches.ArgMatches.{ArgMatches}
-use Rattle.clap.specs.declared.parser.matches.ArgMatches.TheViews.{out-ArgMatches, out-SubCommand}
+use Rattle.clap.specs.declared.parser.matches.ArgMatches.TheViews.{out-SubCommand}
 use Rattle.clap.specs.declared.parser.matches.SubCommand.{SubCommand}
 use Rattle.clap.specs.declared.error.kind.ErrorKind.{ErrorKind}
 use Rattle.clap.proofs.OnLiterals.{clap_on_literals}
 use Rattle.uv_script.specs.Checks.{number_of}
-use Rattle.uv_cli.specs.declared.command_line.Job.TheVariants.{Debug, Replay, Live}
-use Rattle.uv_cli.specs.Words.{uvt_app, job_by, job_in, job_of}
+use Rattle.uv_words.specs.declared.command_line.Job.TheVariants.{Debug, Replay, Live}
+use Rattle.uv_words.specs.Words.{uvt_app, job_by, job_in, job_of}
 
 simple : is_simple uvt_app ≡ true
 unfolding clap_on_literals

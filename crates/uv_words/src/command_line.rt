@@ -3,8 +3,8 @@ ghost use Rattle.std.specs.Prelude.{◌≡◌, map, option_map, Some, None, IfOk
 ghost use Rattle.clap.specs.Words.{app_of, with_rule, first_of, found_of, rows_of, subcommand_rows_of};
 ghost use Rattle.clap.specs.declared.builder.command.Command.TheViews.{out-Command};
 ghost use Rattle.uv_script.specs.Program.{IsWorkerCount};
-ghost use Rattle.uv_cli.specs.declared.command_line.NoJob.TheVariants.{BadWords};
-ghost use Rattle.uv_cli.specs.Words.{uvt_app, two_app, job_app, workers_rule, count_in, live_by, job_named, job_by, job_of, IsJob};
+ghost use Rattle.uv_words.specs.declared.command_line.NoJob.TheVariants.{BadWords};
+ghost use Rattle.uv_words.specs.Words.{uvt_app, two_app, job_app, workers_rule, count_in, live_by, job_named, job_by, job_of, IsJob};
 
 use clap::error::ErrorKind;
 use clap::{Arg, ArgAction, ArgMatches, Command};

@@ -1,0 +1,196 @@
+"""The commands of README.md, docs/TOOLS.md and docs/RECORD.md, each as it stands, in order, in a fresh clone with a home of its own.
+
+A block of text on a page is a block of commands if its first line begins with one of the words of COMMANDS. Each line has to end with
+status 0 (or the one of STATUS) and with nothing on the errors, and the block behind it is what its lines print: all of it, or with
+lines `..` parts of it. What is not run as it stands:
+
+  apt-get     isn't run: where no compiler with libuv's header is there, the commands behind it that need one are left out, and that is said
+  real runs   of ./late and what stands on its recording: the figures differ from run to run, so numbers count as equal. Where the page goes
+              on in another way by its own figures (a `tick`), the recording is that of its own run, whose log is kept (tests/tools/logs)
+  packages    `tools/package` and what is done with its files, where the program isn't a proved one: it refuses to pack that"""
+from __future__ import annotations
+
+import os
+import re
+import shutil
+import subprocess
+import tempfile
+from pathlib import Path
+from typing import Callable, NamedTuple, Optional
+
+PAGES = ('README.md', 'docs/TOOLS.md', 'docs/RECORD.md')
+COMMANDS = ('./uvt ', 'uvt ', 'tools/', 'tests/', 'make ', 'cc ', 'cp ', 'ln ', 'mkdir ', 'cd ', 'tar ', 'printf ', 'grep ', 'sed ', 'cat ',
+            'apt-get ', 'git ', 'rt ')
+# What doesn't end with status 0: on the real libuv the example goes another way, and the page shows which.
+STATUS = {'./uvt libuv examples/cancel-in-time.uvt': 3, 'uvt libuv examples/cancel-in-time.uvt': 3}
+# What says something on the errors, and is well.
+SAYS = {'./uvt build': 'uvt: the program is built already, and nothing has changed since\n'}
+LOG = Path(__file__).resolve().parent.parent / 'tools' / 'logs' / 'late.log'
+SECONDS = 120
+Check = Callable[..., None]
+
+
+class Block(NamedTuple):
+    page: str
+    line: int
+    commands: list[str]
+    shown: Optional[str]
+
+
+def without_comments(text: str) -> str:
+    """The page as its readers see it, with as many lines."""
+    return re.sub(r'^<!--.*?-->$', lambda it: it[0].count('\n') * '\n', text, flags=re.DOTALL | re.MULTILINE)
+
+
+def blocks_of(text: str, page: str) -> list[Block]:
+    """The blocks of commands of a page, each with what it prints if that stands behind it. What only installed pages show stands in comments."""
+    text = without_comments(text)
+    blocks = [(text[:it.start()].count('\n') + 1, it[1]) for it in re.finditer(r'^```text\n(.*?)^```$', text, re.DOTALL | re.MULTILINE)]
+    found = []
+    for at, (line, block) in enumerate(blocks):
+        if not block.startswith(COMMANDS):
+            continue
+        behind = blocks[at + 1][1] if at + 1 < len(blocks) else ''
+        lines = block.splitlines()
+        writes = any(' > ' in it for it in lines) or all(it.startswith(('cp ', 'ln ', 'mkdir ', 'cd ', 'apt-get ', 'cc ', 'tools/package', 'tar '))
+                                                       or it == './uvt build' for it in lines[-1:])
+        found.append(Block(page, line, lines, None if writes or behind.startswith(COMMANDS) else behind))
+    return found
+
+
+def mixed_lines(text: str) -> list[str]:
+    """Lines of commands in blocks that don't begin with one, or the other way round: nobody would run them."""
+    found = []
+    for block in re.findall(r'^```text\n(.*?)^```$', without_comments(text), re.DOTALL | re.MULTILINE):
+        are = [it.startswith(COMMANDS) for it in block.splitlines()]
+        if any(are) and not all(are):
+            found += [it for it, is_one in zip(block.splitlines(), are) if is_one != are[0]]
+    return found
+
+
+def has_libuv() -> bool:
+    if not shutil.which('cc'):
+        return False
+    return subprocess.run(['cc', '-E', '-x', 'c', '-'], input='#include <uv.h>\n', capture_output=True, text=True).returncode == 0
+
+
+def is_shown(shown: str, output: str) -> bool:
+    """Whether the parts, with lines `..` between them, stand in the output one behind the other; all of it where there is no `..`."""
+    if '\n..\n' not in '\n' + shown:
+        return shown == output
+    at = 0
+    for part in filter(None, (it.strip('\n') for it in ('\n' + shown).split('\n..\n'))):
+        at = ('\n' + output).find('\n' + part + '\n', at)
+        if at < 0:
+            return False
+    return True
+
+
+def without_numbers(text: str) -> str:
+    return re.sub(r'\d+(, \d+)*', 'N', text)
+
+
+def is_like(shown: str, output: str) -> bool:
+    """The same of a real run: each line that is shown stands in the output, in this order, numbers aside."""
+    lines, at = without_numbers(output).splitlines(), 0
+    for line in without_numbers(shown).splitlines():
+        if line == '..':
+            continue
+        if line not in lines[at:]:
+            return False
+        at = lines.index(line, at) + 1
+    return True
+
+
+class Walker:
+    """Somebody who types the commands of the pages, one after another."""
+
+    def __init__(self, check: Check, command: str, folder: str, home: str, env: dict[str, str], proved: bool) -> None:
+        self.check, self.folder, self.proved = check, folder, proved
+        self.env = {**env, 'HOME': home, 'LC_ALL': 'C'}
+        self.left_out: list[str] = []
+        self.libuv = has_libuv()
+        self.recorded = ''
+        self.command = command
+        self.count = 0
+
+    def why_left_out(self, command: str) -> str:
+        if command.startswith('apt-get '):
+            return 'it changes the machine'
+        if not self.libuv and re.search(r'^cc |record |late\.rec|uvt libuv ', command):
+            return 'there is no C compiler `cc` with libuv\'s header'
+        if not self.proved and re.match(r'tools/package |tar ', command):
+            return 'the program is none that was proved'
+        return ''
+
+    def type(self, block: Block) -> str:
+        """Runs the lines of a block, and gives what they print."""
+        output = ''
+        for command in block.commands:
+            why = self.why_left_out(command)
+            if why:
+                self.left_out.append('%s (%s)' % (command, why))
+                continue
+            # (whoever is given a package stands where its file is)
+            folder = os.path.join(self.folder, 'out', 'packages') if command.startswith('tar ') else self.folder
+            ended = self.run(command, folder)
+            self.count += 1
+            what = '%s:%d: %s' % (block.page, block.line, command)
+            self.check(what, ended.returncode == STATUS.get(command, 0), 'got %r' % ((ended.returncode, ended.stdout, ended.stderr),))
+            self.check(what + ', its errors', ended.stderr == SAYS.get(command, ''), 'got %r' % ended.stderr)
+            output += ended.stdout
+            if command.endswith('uvt record ./late'):
+                self.recorded = command
+        return output
+
+    def of_kept_log(self, block: Block) -> None:
+        shutil.copy(LOG, os.path.join(self.folder, 'kept.log'))
+        made = self.run(self.command + ' record -o late --log kept.log', self.folder)
+        self.check('%s:%d: the recording of the kept log' % (block.page, block.line), made.returncode == 0, 'got %r' % (made,))
+        output = self.type(block)
+        holds = is_shown(block.shown or '', output)
+        self.check('%s:%d: what is shown behind it' % (block.page, block.line), holds, 'wanted %r, got %r' % (block.shown, output))
+
+    def run(self, command: str, folder: str) -> 'subprocess.CompletedProcess[str]':
+        with tempfile.NamedTemporaryFile('r') as where:
+            ended = subprocess.run(['sh', '-c', '%s\nstatus=$?\npwd >"$WHERE"\nexit $status' % command], cwd=folder,
+                                   env={**self.env, 'WHERE': where.name}, capture_output=True, text=True, timeout=SECONDS)
+            if command.startswith('cd '):
+                self.folder = where.read().strip() or self.folder
+        return ended
+
+    def walk(self, block: Block) -> None:
+        before = len(self.left_out)
+        if any('tick' in it and 'late.rec' in it for it in block.commands):
+            self.of_kept_log(block)
+            return
+        output = self.type(block)
+        if block.shown is None or len(self.left_out) > before:
+            return
+        real = any('./late' in it or 'late.rec' in it for it in block.commands)
+        holds = is_like(block.shown, output) if real else is_shown(block.shown, output)
+        for _ in range(2):
+            # (on a machine that does much else a run may go another way: it is recorded once more)
+            if real and not holds:
+                self.run(self.recorded, self.folder)
+                output = self.type(block)
+                holds = is_like(block.shown, output)
+        self.check('%s:%d: what is shown behind it' % (block.page, block.line), holds, 'wanted %r, got %r' % (block.shown, output))
+
+
+def try_commands(check: Check, copy: str, room: str, proved: bool) -> None:
+    """The copy has a program already, as behind the first command."""
+    folder, home = os.path.join(room, 'clone'), os.path.join(room, 'home')
+    os.mkdir(home)
+    shutil.copytree(copy, folder, symlinks=True)
+    walker = Walker(check, './uvt', folder, home, dict(os.environ), proved)
+    for name in PAGES:
+        text = Path(folder, name).read_text(encoding='utf-8')
+        check('%s: lines of commands among others' % name, not mixed_lines(text), 'got %r' % mixed_lines(text))
+        blocks = blocks_of(text, name)
+        check('%s shows commands' % name, len(blocks) > 2)
+        for block in blocks:
+            walker.walk(block)
+    for it in walker.left_out:
+        print('program: the pages: not run: ' + it, flush=True)
+    check('the pages: most commands were run', walker.count > 12, 'only %d' % walker.count)

@@ -1,0 +1,21 @@
+# Completion of uvt for bash.
+_uvt() {
+    local word=${COMP_WORDS[COMP_CWORD]} command=${COMP_WORDS[1]} words=''
+    if [ "$COMP_CWORD" = 1 ]; then
+        words='debug replay live why shell view record libuv dap help'
+    else
+        case $command in
+        help) [ "$COMP_CWORD" != 2 ] || words='why shell view record libuv dap' ;;
+        live) words='--workers' ;;
+        view) words='--trace-event' ;;
+        libuv) words='--node' ;;
+        record) words='-o --log' ;;
+        esac
+    fi
+    COMPREPLY=($(compgen -W "$words" -- "$word"))
+    if [ "$COMP_CWORD" != 1 ] && [ "$command" != help ] && [ "$command" != dap ]; then
+        compopt -o filenames
+        mapfile -t -O "${#COMPREPLY[@]}" COMPREPLY < <(compgen -f -- "$word")
+    fi
+}
+complete -F _uvt uvt
