@@ -3,7 +3,7 @@ ghost use Rattle.std.specs.Prelude.{◌≡◌, ◌<◌, [], IfOk};
 ghost use Rattle.uv_wake.specs.Seats.{names_of};
 
 use crate::given::{Quiet, id, put};
-use crate::noting::Noting;
+use crate::noting::{Flags, Noting};
 use std::alloc::Global;
 use std::marker::Brand;
 use std::process::Abort;
@@ -108,7 +108,9 @@ fn settles_once_it_follows<F: Follower, L: Ledger, R: Abort + Wait>(
 fn one_job<M: Machine, R: Abort + Wait>(rt: &R, alloc: Global) -> Result<bool, Fault> {
     let mut session = begun::<M>(alloc, b"workers 1\nvar p\nmain queue p 1\n")?;
     session.do_event(Event::Loop)?;
-    let mut live = Noting::new(LiveSession::of(alloc, session, Vec::new(alloc))?);
+    let flags = Flags::new();
+    let live = LiveSession::of(alloc, session, Vec::new(alloc))?;
+    let mut live = Noting::new(live, &flags);
     let settles = settles_once_it_follows::<_, Brand, _>(rt, alloc, Blank::new(2), &mut live)?;
     Ok(settles && live.last == Some(WorkResult::compute(job(rt, id(0), b""))))
 }

@@ -1,16 +1,34 @@
-//! A session that notes which results it is handed.
+//! A session that notes which results it is handed, and tells threads how far it is.
 ghost use Rattle.std.specs.Prelude.{◌≡◌};
 
-use uv_ids::{Event, Fault, Id, ThreadLine, Var};
+use std::sync::atomic::{AtomicBool, Ordering};
+use uv_ids::{Event, Fault, Id, ThreadLine, Var, Why};
 use uv_live::{Did, Follower};
 use uv_model::{Machine, Outcome};
 use uv_run::LiveSession;
 use uv_work::{PoolEvent, WorkResult};
 
+/// What a session tells: that its loop is at its end, and that a send was recorded.
+#[derive(Drop)]
+pub struct Flags {
+    pub ended: AtomicBool,
+    pub sent: AtomicBool,
+}
+
+impl Flags {
+    pub fn new() -> Flags {
+        Flags {
+            ended: AtomicBool::new(false),
+            sent: AtomicBool::new(false),
+        }
+    }
+}
+
 /// A session of a live run, how many results it was handed, each that of the request that finished, and the last one.
 #[derive(Drop)]
-pub struct Noting<M: Machine> {
+pub struct Noting<'a, M: Machine> {
     pub session: LiveSession<M>,
+    flags: &'a Flags,
     pub handed: u32,
     pub last: Option<WorkResult>,
 }
@@ -23,20 +41,21 @@ fn is_of(work: &Option<WorkResult>, id: Id) -> bool {
     }
 }
 
-impl<M: Machine> Noting<M> {
+impl<'a, M: Machine> Noting<'a, M> {
     /// A session that was handed nothing yet.
-    pub fn new(session: LiveSession<M>) -> Noting<M>
+    pub fn new(session: LiveSession<M>, flags: &'a Flags) -> Noting<'a, M>
         ensures { result.session ≡ session }
     {
         Noting {
             session,
+            flags,
             handed: 0,
             last: None,
         }
     }
 }
 
-impl<M: Machine> Follower for Noting<M> {
+impl<'a, M: Machine> Follower for Noting<'a, M> {
     ghost use Rattle.uv_run.specs.Events.{events_of_loop, job_by};
     ghost use Rattle.uv_run.specs.Bound.{Asked, plan_within, course_of, refusal_in, polls_in, due_in, hours_in};
 
@@ -45,6 +64,8 @@ impl<M: Machine> Follower for Noting<M> {
     ghost Script = { Asked };
 
     ghost plan = { λ s. plan_within s.session.session s.session.lines };
+
+    ghost most = { λ a. a.limit };
 
     ghost course = { λ s. course_of s.session.session };
 
@@ -105,7 +126,11 @@ impl<M: Machine> Follower for Noting<M> {
     }
 
     fn step(&mut self) -> Result<Outcome, Fault> {
-        self.session.step()
+        let answer = self.session.step();
+        if matches!(answer, Err(Fault::Refused(Why::Ended))) {
+            self.flags.ended.store(true, Ordering::SeqCst);
+        }
+        answer
     }
 
     fn did(&self, outcome: Outcome) -> Did {
@@ -113,7 +138,9 @@ impl<M: Machine> Follower for Noting<M> {
     }
 
     fn send(&mut self, name: Var) -> Result<(), Fault> {
-        self.session.send(name)
+        let answer = self.session.send(name);
+        self.flags.sent.store(true, Ordering::SeqCst);
+        answer
     }
 
     fn tick(&mut self, span: u64) -> Result<(), Fault> {

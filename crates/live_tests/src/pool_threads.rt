@@ -6,20 +6,23 @@ use std::alloc::Global;
 use std::marker::Brand;
 use std::process::Abort;
 use std::sync::Wait;
+use std::sync::atomic::{AtomicU32, Ordering};
 use std::sync::ledger::{Blank, Ledger};
-use std::thread::{Threads, join, map_indices};
-use uv_ids::Fault;
-use uv_pool::{Desk, LockedBook, PoolBook, Shift, worker};
+use std::thread::{Threads, join, map_indices, sleep};
+use std::time::{Clock, Duration};
+use uv_ids::{Fault, Id, Why};
+use uv_pool::{Desk, Gate, LockedBook, PoolBook, Shift, worker};
 use uv_work::PoolEvent;
 
-fn work<L: Ledger, R: Wait>(
+fn work<L: Ledger, G: Gate, R: Wait>(
     rt: &R,
     alloc: Global,
     book: &LockedBook<L>,
+    gate: &G,
     k: u16,
 ) -> Result<Shift<L>, Fault> {
     let mut desk = Desk::new(rt, alloc, book);
-    worker(rt, alloc, &mut desk, &Quiet, k)
+    worker(rt, alloc, &mut desk, gate, k)
 }
 
 fn submit<L: Ledger, R: Abort + Wait>(
@@ -143,7 +146,7 @@ fn submit_all<L: Ledger, R: Abort + Wait>(
 ) -> Result<(), Fault> {
     for slot in 0..load.jobs {
         if slot == load.open {
-            book.wait_past(rt, load.open as usize);
+            drop(book.wait_past(rt, load.open as usize));
             close(rt, book);
         }
         submit(rt, book, slot)?;
@@ -171,7 +174,7 @@ fn work_all<L: Ledger + Send + Sync, R: Abort + Threads + Wait + Sync>(
                 rt,
                 alloc,
                 workers as usize,
-                &|k| { work(rt, alloc, book, k.min(1024) as u16) },
+                &|k| { work(rt, alloc, book, &Quiet, k.min(1024) as u16) },
             )
         },
     );
@@ -222,5 +225,126 @@ fn eight_threads_end_by_themselves(rt: HostRuntime) -> Result<(), Fault> {
     let finished = tally.finished;
     assert!(&rt; 0 < finished && tally.events / 2 == finished && tally.events % 2 == 0);
     assert!(&rt; tally.unknown == 0 && tally.running == 0);
+    Ok(())
+}
+
+/// A gate that looks into the book at each call: how often the log hadn't what it was told of.
+#[derive(Drop)]
+struct Looking<'a, R: Wait, L: Ledger> {
+    rt: &'a R,
+    book: &'a LockedBook<L>,
+    missed: AtomicU32,
+}
+
+impl<'a, R: Wait, L: Ledger> Looking<'a, R, L> {
+    fn look(&self, event: PoolEvent) {
+        if !self.book.lock(self.rt).log().contains(&event) {
+            self.missed.fetch_add(1, Ordering::SeqCst);
+        }
+    }
+}
+
+impl<'a, R: Wait, L: Ledger> Gate for Looking<'a, R, L> {
+    fn begun(&self, k: u16, id: Id) {
+        self.look(PoolEvent::Take(k, id));
+    }
+
+    fn ended(&self, k: u16, id: Id) {
+        self.look(PoolEvent::Finish(k, id));
+    }
+
+    fn sending(&self, _s: u8) {}
+}
+
+/// How often the gate of a worker that does eight jobs missed an event.
+fn missed<L: Ledger, R: Abort + Wait>(rt: &R, alloc: Global, blank: Blank) -> Result<u32, Fault>
+    requires name { blank.name ≡ L.name }
+    requires parts { blank.parts ≡ L.parts }
+    requires more { 1 < blank.parts }
+{
+    let book = LockedBook::new(PoolBook::<L>::new(alloc, blank, 1)?);
+    for slot in 0..8 {
+        submit(rt, &book, slot)?;
+    }
+    close(rt, &book);
+    let gate = Looking {
+        rt,
+        book: &book,
+        missed: AtomicU32::new(0),
+    };
+    let shift = work(rt, alloc, &book, &gate, 0)?;
+    assert!(rt; shift.events.len() == 16);
+    Ok(gate.missed.load(Ordering::SeqCst))
+}
+
+#[test]
+fn the_gate_is_told_of_what_the_log_has(rt: HostRuntime) -> Result<(), Fault> {
+    assert!(&rt; missed::<Brand, _>(&rt, rt.alloc(), Blank::new(2))? == 0);
+    Ok(())
+}
+
+/// A gate that takes the worker's next job itself, so that the worker's own take is refused, and lets others wait meanwhile.
+#[derive(Drop)]
+struct Grasping<'a, R: Clock + Wait, L: Ledger> {
+    rt: &'a R,
+    book: &'a LockedBook<L>,
+}
+
+impl<'a, R: Clock + Wait, L: Ledger> Gate for Grasping<'a, R, L> {
+    fn begun(&self, _k: u16, _id: Id) {}
+
+    fn ended(&self, k: u16, _id: Id) {
+        let _ = self.book.lock(self.rt).take(k);
+        sleep(self.rt, Duration::from_millis(100));
+    }
+
+    fn sending(&self, _s: u8) {}
+}
+
+/// The fault of a worker whose take is refused, and whether its book was closed then.
+fn refused<L: Ledger, R: Clock + Wait>(
+    rt: &R,
+    alloc: Global,
+    book: &LockedBook<L>,
+) -> (Option<Fault>, bool) {
+    let gate = Grasping { rt, book };
+    let fault = work(rt, alloc, book, &gate, 0).err();
+    (fault, book.lock(rt).closed())
+}
+
+/// That fault, while a thread waits for a second finish, and another one for a sixth entry.
+fn refused_beside<L: Ledger + Send + Sync, R: Abort + Threads + Clock + Wait + Sync>(
+    rt: &R,
+    alloc: Global,
+    blank: Blank,
+) -> Result<(Option<Fault>, bool), Fault>
+    requires name { blank.name ≡ L.name }
+    requires parts { blank.parts ≡ L.parts }
+    requires more { 1 < blank.parts }
+{
+    let locked = LockedBook::new(PoolBook::<L>::new(alloc, blank, 1)?);
+    submit(rt, &locked, 0)?;
+    submit(rt, &locked, 1)?;
+    let book = &locked;
+    let (answer, _) = join(
+        rt,
+        move || refused(rt, alloc, book),
+        move || {
+            join(
+                rt,
+                move || {
+                    book.wait_finished(rt, 4);
+                },
+                move || drop(book.wait_past(rt, 5)),
+            )
+        },
+    );
+    Ok(answer)
+}
+
+#[test]
+fn a_worker_that_faults_closes_its_book(rt: HostRuntime) -> Result<(), Fault> {
+    let answer = refused_beside::<Brand, _>(&rt, rt.alloc(), Blank::new(2))?;
+    assert!(&rt; answer == (Some(Fault::Refused(Why::BusyWorker)), true));
     Ok(())
 }

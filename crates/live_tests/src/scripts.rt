@@ -1,14 +1,15 @@
 //! Live runs of scripts on real threads.
-use crate::gates::Ordered;
+use crate::asked::Asked;
+use crate::gates::{Between, Held, Ordered};
 use crate::given::{Quiet, id};
-use crate::noting::Noting;
+use crate::noting::{Flags, Noting};
 use std::alloc::{AllocError, Global};
 use std::process::Abort;
 use std::sync::Wait;
 use std::thread::Threads;
 use std::time::Clock;
 use uv_ids::{Code, Event, Fault, Id, Seen, Var};
-use uv_live::{JumpClock, live};
+use uv_live::{Follower, JumpClock, live};
 use uv_model::{Machine, PlainLoop, STEPS};
 use uv_pool::Gate;
 use uv_run::{LiveSession, live_within};
@@ -148,24 +149,80 @@ fn the_clock_goes_on_to_each_deadline(rt: HostRuntime) -> Result<(), Fault> {
     Ok(())
 }
 
-/// How many results a session is handed in a run of two jobs.
-fn handed_in<M: Machine, R: Threads + Wait + Sync>(rt: &R, alloc: Global) -> Result<u32, Fault> {
-    let script = Script::parse(alloc, TWO_JOBS)?;
+/// Runs a script on real threads by a session that tells how far it is, for half a million steps at most.
+fn noted<M: Machine, G: Gate + Sync, R: Threads + Wait + Sync>(
+    rt: &R,
+    alloc: Global,
+    text: &[u8],
+    flags: &Flags,
+    gate: &G,
+) -> Result<Upshot, Fault> {
+    let script = Script::parse(alloc, text)?;
+    let lines = Vec::from_slice(alloc, script.thread_lines())?;
     let machine = M::begin(alloc, script)?;
-    let session = LiveSession::of(alloc, Session::new(alloc, machine, STEPS), Vec::new(alloc))?;
-    let ran = live(
-        rt,
-        alloc,
-        Noting::new(session),
-        &mut JumpClock::new(0),
-        &Quiet,
-    )?;
-    Ok(ran.handed)
+    let session = LiveSession::of(alloc, Session::new(alloc, machine, 500_000), lines)?;
+    let mut clock = JumpClock::new(0);
+    let ran = live(rt, alloc, Noting::new(session, flags), &mut clock, gate)?;
+    Ok(Upshot {
+        handed: ran.handed,
+        counts: counted(ran.session.steps()),
+        last: ran.session.steps().last().copied(),
+        pool: ran.session.pool_events().len(),
+    })
+}
+
+/// What such a run came to: the results that were handed in, its steps, the last one of them, and how many were the pool's.
+#[derive(Clone, Copy)]
+struct Upshot {
+    handed: u32,
+    counts: Counts,
+    last: Option<Event>,
+    pool: usize,
 }
 
 #[test]
 fn the_loop_does_no_job_itself(rt: HostRuntime) -> Result<(), Fault> {
-    assert!(&rt; handed_in::<PlainLoop, _>(&rt, rt.alloc())? == 2);
+    let ran = noted::<PlainLoop, _, _>(&rt, rt.alloc(), TWO_JOBS, &Flags::new(), &Quiet)?;
+    assert!(&rt; ran.handed == 2 && ran.pool == 8);
+    Ok(())
+}
+
+#[test]
+fn a_job_that_is_held_past_the_end_is_taken_over(rt: HostRuntime) -> Result<(), Fault> {
+    let text = b"workers 1\nvar w\nmain queue w 1\nmain run nowait\n";
+    let flags = Flags::new();
+    let gate = Held::new(&rt, &flags);
+    let ran = noted::<PlainLoop, _, _>(&rt, rt.alloc(), text, &flags, &gate)?;
+    assert!(&rt; !gate.is_late() && ran.last == Some(Event::Finish(0)));
+    Ok(())
+}
+
+#[test]
+fn a_send_is_absorbed_while_another_sender_is_held(rt: HostRuntime) -> Result<(), Fault> {
+    let text =
+        b"workers 1\nvar a\nvar i\nmain init a async\nmain init i idle\nmain start i\nmain run default\n\
+        on a @1 stop i\non a @2 close a\nthread 0 send a\nthread 1 send a\n";
+    let flags = Flags::new();
+    let gate = Held::new(&rt, &flags);
+    let ran = noted::<PlainLoop, _, _>(&rt, rt.alloc(), text, &flags, &gate)?;
+    assert!(&rt; !gate.is_late() && ran.counts.sends == 2);
+    Ok(())
+}
+
+/// The machine of a run of two jobs: how many of them it did itself.
+fn done_by_itself<M: Machine, R: Threads + Wait + Sync>(
+    rt: &R,
+    alloc: Global,
+) -> Result<u32, Fault> {
+    let script = Script::parse(alloc, TWO_JOBS)?;
+    let mut clock = JumpClock::new(0);
+    let session = live_within::<Asked<M>, _, _, _>(rt, alloc, STEPS, script, &mut clock, &Quiet)?;
+    Ok(session.machine().finishes)
+}
+
+#[test]
+fn the_loop_s_machine_does_no_job_itself(rt: HostRuntime) -> Result<(), Fault> {
+    assert!(&rt; done_by_itself::<PlainLoop, _>(&rt, rt.alloc())? == 0);
     Ok(())
 }
 
@@ -264,6 +321,28 @@ fn two_senders_wait_for_one_another(rt: HostRuntime) -> Result<(), Fault> {
     let gate = Ordered::new(&rt, rt.alloc(), id(1));
     let wanted = [Seen::Call(Var(0), id(0)), Seen::Closed(Var(0), id(0))];
     assert!(&rt; are_sent(&rt, rt.alloc(), &gate, &wanted)? && !gate.is_late());
+    Ok(())
+}
+
+/// Whether some request called back before a send was recorded.
+fn calls_back_first(trace: &[Seen]) -> bool {
+    for seen in trace {
+        match *seen {
+            Seen::After(_, _, _) => return true,
+            Seen::Send(_, _) => return false,
+            _ => {}
+        }
+    }
+    false
+}
+
+#[test]
+fn the_gate_is_asked_before_the_first_send(rt: HostRuntime) -> Result<(), Fault> {
+    let text = b"workers 1\nvar a\nvar w\nmain init a async\nmain queue w 1\nmain run default\n\
+        after w @1 queue w 1\non a close a\nthread 0 send a\n";
+    let gate = Between::new(&rt);
+    let story = ran(&rt, rt.alloc(), text, &gate)?;
+    assert!(&rt; !gate.is_late() && calls_back_first(&story.trace));
     Ok(())
 }
 

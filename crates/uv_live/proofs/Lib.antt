@@ -3,3 +3,4 @@ pub mod Places
 pub mod Entered
 pub mod Shares
 pub mod Settled
+pub mod Absorbed

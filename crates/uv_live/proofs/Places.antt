@@ -9,7 +9,7 @@ use Rattle.uv_live.specs.Course.{Course, step_of, stepped, taken}
 use Rattle.uv_ids.specs.declared.fault.Fault.{Fault}
 use Rattle.uv_ids.specs.declared.fault.Why.{Why}
 use Rattle.uv_ids.specs.declared.fault.Fault.TheVariants as fault
-use Rattle.uv_live.specs.Following.{Applies, IsWorkers, MayTake, Syncs}
+use Rattle.uv_live.specs.Following.{Applies, IsWorkers, MayTake, OnFull, Syncs}
 use Rattle.uv_live.proofs.Legal.{legal_take}
 
 -- the next entry may follow the session's events
@@ -84,11 +84,19 @@ pub record AreApplied (n : ℕ) (log : List PoolEvent) (s t : Course) : Type 0 w
   pub course : t ≡ taken n log s
 
 -- the entry was not applied, for want of memory or of a step
-pub some_applied : (e : PoolEvent) (log : List PoolEvent) (s t u : Course) (n : ℕ) (f : Fault) → AreApplied n log s t → Applies e t (Err f) u
-    → Syncs log s (Err f) u
-some_applied e log s t u n fault.Memory h a = (n, h.may, a ∙ h.course)
-some_applied e log s t u n fault.StepsFull h a = (n, h.may, a ∙ h.course)
-some_applied e log s t u n f h a = absurd a
+pub some_applied : (e : PoolEvent) (log : List PoolEvent) (s t u : Course) (n : ℕ) (f : Fault) → n < length log → AreApplied n log s t
+    → Applies e t (Err f) u → Syncs log s (Err f) u
+some_applied e log s t u n fault.Memory within h a = (n, h.may, a ∙ h.course)
+some_applied e log s t u n fault.StepsFull within h a = (n, within, h.may, a ∙ h.course)
+some_applied e log s t u n f within h a = absurd a
+
+-- where that was for want of a step, as many steps stand as may
+pub full_there : (e : PoolEvent) (t u : Course) (f : Fault) (asked most : ℕ) → asked ≡ most → Applies e t (Err f) u
+    → OnFull {X = Unit {0}} (Err f) (asked ≤ length t.steps) → OnFull {X = ℕ} (Err f) (most ≤ length u.steps)
+full_there e t u fault.StepsFull asked most same a full =
+    subst (λ (n : ℕ). n ≤ length u.steps) same (subst (λ (c : Course). asked ≤ length c.steps) (sym a) full)
+full_there e t u fault.Memory asked most same a full = tt
+full_there e t u f asked most same a full = absurd a
 
 -- an entry that may follow isn't refused
 pub never_refused : (e : PoolEvent) (s t : Course) (f : Fault) (w : Why) → f ≡ fault.Refused w → Applies e s (Err f) t → ⊥

@@ -53,6 +53,15 @@ pub record MayTake (n : ℕ) (log : List PoolEvent) (events : List PoolEvent) : 
 abbrev pub TakesSome : List PoolEvent → Course → Course → Type 0
 TakesSome log s t = (n : ℕ) × MayTake n log s.events × (t ≡ taken n log s)
 
+-- and not all of it
+abbrev pub TakesFew : List PoolEvent → Course → Course → Type 0
+TakesFew log s t = (n : ℕ) × (n < length log) × MayTake n log s.events × (t ≡ taken n log s)
+
+-- where the answer is that no step more may be taken, P
+abbrev pub OnFull : {X : Type 0} → Result X Fault → Type 0 → Type 0
+OnFull (Err fault.StepsFull) P = P
+OnFull _ P = Unit {0}
+
 -- the log and the events part at a place, from 1, and nothing changed; or the entry there is no worker's, and those before it were applied
 abbrev pub TearsAt : ℕ → List PoolEvent → Course → Course → Type 0
 TearsAt at log s t = (n : ℕ) × (at ≡ n + 1)
@@ -64,7 +73,7 @@ abbrev pub Syncs : List PoolEvent → Course → Result ℕ Fault → Course →
 Syncs log s (Ok n) t = MayTake (length log) log s.events × (length s.events + n ≡ length log) × (t ≡ taken (length log) log s)
 Syncs log s (Err (fault.Torn at)) t = TearsAt at log s t
 Syncs log s (Err fault.Memory) t = TakesSome log s t
-Syncs log s (Err fault.StepsFull) t = TakesSome log s t
+Syncs log s (Err fault.StepsFull) t = TakesFew log s t
 Syncs log s (Err _) t = ⊥
 
 -- a session of so many workers and with these events follows the book

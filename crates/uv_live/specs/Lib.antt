@@ -4,3 +4,4 @@ pub mod Turning
 pub mod Settling
 pub mod Running
 pub mod Working
+pub mod Sending

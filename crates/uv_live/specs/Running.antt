@@ -1,5 +1,5 @@
 -- A live run.
-use Rattle.std.specs.Prelude.{◌≡◌, ◌-◌, ◌<◌, ℕ, List, [], Bool, true, Option, Some, Result, Ok, Err}
+use Rattle.std.specs.Prelude.{◌≡◌, ◌-◌, ◌<◌, ℕ, List, [], ◌∷◌, Bool, true, Option, Some, None, Result, Ok, Err}
 use Rattle.uv_ids.specs.declared.event.Event.TheVariants as step
 use Rattle.uv_ids.specs.declared.fault.Fault.{Fault}
 use Rattle.uv_ids.specs.declared.fault.Why.{Why}
@@ -21,3 +21,9 @@ RunSettles plan s = (book : Standing) × (shifts : List Worked) × (counts : Lis
 abbrev pub PassesTo : ℕ → ℕ → Course → Result (Unit {0}) Fault → Course → Type 0
 PassesTo before moment s (Ok _) t = (before < moment) × (t ≡ stepped (step.Tick (moment - before)) [] s)
 PassesTo before moment s (Err f) t = t ≡ s
+
+-- the first fault of some answers
+abbrev pub first_fault : {X : Type 0} → List (Result X Fault) → Option Fault
+first_fault [] = None
+first_fault (Err f ∷ more) = Some f
+first_fault (Ok x ∷ more) = first_fault more

@@ -1,12 +1,12 @@
 -- A step of the loop, and its entry in the book.
-use Rattle.std.specs.Prelude.{◌≡◌, ◌<◌, ◌≤◌, List, Option, Some, None, Result, Ok, Err, length}
+use Rattle.std.specs.Prelude.{◌≡◌, ◌<◌, ◌≤◌, ◌⊎◌, List, Option, Some, None, Result, Ok, Err, length}
 use Rattle.uv_ids.specs.declared.event.Event.TheVariants as step
 use Rattle.uv_ids.specs.declared.fault.Fault.{Fault}
 use Rattle.uv_ids.specs.declared.fault.Fault.TheVariants as fault
 use Rattle.uv_ids.specs.declared.fault.Why.{Why}
 use Rattle.uv_work.specs.declared.event.PoolEvent.{PoolEvent}
 use Rattle.uv_live.specs.Course.{Course, stepped, taken}
-use Rattle.uv_live.specs.Following.{MayTake, TakesSome, TearsAt}
+use Rattle.uv_live.specs.Following.{MayTake, TakesSome, TakesFew, TearsAt}
 
 -- an answer, by the pool's events that the step is
 abbrev pub events_as : {O : Type 0} → (O → List PoolEvent) → Result O Fault → Result (List PoolEvent) Fault
@@ -34,7 +34,7 @@ Turns log s (Ok events) log' t =
 Turns log s (Err (fault.Torn at)) log' t = (log' ≡ log) × TearsAt at log s t
 Turns log s (Err (fault.Refused w)) log' t = (log' ≡ log) × (length log < 16777216) × TakesAll log s t
 Turns log s (Err fault.Memory) log' t = (log' ≡ log) × TakesSome log s t
-Turns log s (Err fault.StepsFull) log' t = (log' ≡ log) × TakesSome log s t
+Turns log s (Err fault.StepsFull) log' t = (log' ≡ log) × (TakesFew log s t ⊎ ((length log < 16777216) × TakesAll log s t))
 Turns log s (Err fault.Limit) log' t = (log' ≡ log) × (16777216 ≤ length log) × TakesAll log s t
 Turns log s (Err _) log' t = ⊥
 

@@ -1,4 +1,7 @@
 //! The workers' threads of a live run.
+ghost use Rattle.std.specs.Prelude.{◌≡◌, ◌+◌, ◌<◌, ◌≤◌, IfErr, OnOk, vec_len, vec_capacity};
+ghost use Rattle.uv_ids.specs.declared.fault.Fault.TheVariants.{Memory};
+ghost use Rattle.uv_live.specs.Running.{first_fault};
 
 use std::alloc::Global;
 use std::sync::Wait;
@@ -22,7 +25,55 @@ fn work<L: Ledger, G: Gate, R: Wait>(
     worker(rt, alloc, &mut desk, gate, k)
 }
 
-/// Starts a thread for each worker, which is in the crew then.
+/// What a worker's thread answered.
+pub(crate) type Answer<L> = Result<Shift<L>, Fault>;
+
+/// How many workers a run has, their threads that were started and aren't joined, and what those that were joined have answered. For the
+/// answer of each thread that isn't joined there is room.
+#[derive(Drop)]
+pub(crate) struct Crew<L: Ledger> {
+    pub(crate) workers: u16,
+    pub(crate) started: Vec<Worker<L>>,
+    pub(crate) answers: Vec<Answer<L>>,
+    pub ghost roomy: { vec_len answers + vec_len started ≤ vec_capacity answers },
+}
+
+impl<L: Ledger> Crew<L> {
+    /// A crew of so many workers, of which none is started.
+    pub(crate) fn new(alloc: Global, workers: u16) -> Crew<L> {
+        Crew {
+            workers,
+            started: Vec::new(alloc),
+            answers: Vec::new(alloc),
+        }
+    }
+
+    /// Makes room for one thread more, and for its answer.
+    fn reserve(&mut self) -> Result<(), Fault>
+        ensures room { OnOk result (vec_len self.new.started < vec_capacity self.new.started) }
+        ensures answer { OnOk result (vec_len self.new.answers + vec_len self.new.started < vec_capacity self.new.answers) }
+        ensures err { IfErr result (λ fault. fault ≡ Memory) }
+    {
+        match self.answers.reserve(self.started.len() + 1) {
+            Ok(()) => {}
+            Err(_) => return Err(Fault::Memory),
+        }
+        match self.started.reserve(1) {
+            Ok(()) => Ok(()),
+            Err(_) => Err(Fault::Memory),
+        }
+    }
+
+    /// A thread more, which was started.
+    fn add(&mut self, worker: Worker<L>)
+        requires room { vec_len self.old.started < vec_capacity self.old.started }
+        requires answer { vec_len self.old.answers + vec_len self.old.started < vec_capacity self.old.answers }
+    {
+        self.started.push_reserved(worker);
+    }
+}
+
+/// Starts a thread for each worker, which is in the crew then. Room comes first, so each thread that was started is joined.
 pub(crate) fn start_workers<
     's,
     E,
@@ -36,44 +87,60 @@ pub(crate) fn start_workers<
     book: &'s LockedBook<L>,
     gate: &'s G,
     crew: &mut Crew<L>,
-) -> Result<(), Fault> {
+) -> Result<(), Fault>
+    ensures { IfErr result (λ fault. fault ≡ Memory) }
+{
     for k in 0..crew.workers {
+        match crew.reserve() {
+            Ok(()) => {}
+            Err(fault) => return Err(fault),
+        }
         match scope.spawn(move || work(rt, alloc, book, gate, k)) {
-            Ok(worker) => match crew.started.push(worker) {
-                Ok(()) => {}
-                Err(_) => return Err(Fault::Memory),
-            },
+            Ok(worker) => crew.add(worker),
             Err(_) => return Err(Fault::Memory),
         }
     }
     Ok(())
 }
 
-/// How many workers a run has, and their threads that were started and aren't joined.
-#[derive(Drop)]
-pub(crate) struct Crew<L: Ledger> {
-    pub(crate) workers: u16,
-    pub(crate) started: Vec<Worker<L>>,
+/// Joins the workers' threads: what they answer, in the order of their numbers.
+pub(crate) fn join_workers<L: Ledger, R: Threads>(rt: &R, crew: Crew<L>) -> Vec<Answer<L>> {
+    let Crew {
+        started,
+        mut answers,
+        ..
+    } = crew;
+    'left: for worker in started {
+        answers.push_reserved(worker.join(rt));
+    }
+    answers
 }
 
-/// Joins the workers' threads in their order, and answers the fault of the lowest worker that has one.
-pub(crate) fn join_workers<L: Ledger, R: Threads>(
-    rt: &R,
-    crew: Crew<L>,
-    shifts: &mut Vec<Shift<L>>,
-) -> Option<Fault> {
-    let mut first = None;
-    for worker in crew.started {
-        let fault = match worker.join(rt) {
-            Ok(shift) => match shifts.push(shift) {
-                Ok(()) => None,
-                Err(_) => Some(Fault::Memory),
-            },
-            Err(fault) => Some(fault),
-        };
-        if first.is_none() {
-            first = fault;
+/// The fault of the lowest worker that has one.
+pub(crate) fn lowest_fault<L: Ledger>(answers: &[Answer<L>]) -> Option<Fault>
+    ensures { result ≡ first_fault answers.now }
+{
+    'answers: for k in 0..answers.len() {
+        if let Err(fault) = &answers[k] {
+            return Some(*fault);
         }
     }
-    first
+    None
+}
+
+/// The shifts of the workers that have no fault, in their order.
+pub(crate) fn shifts_of<L: Ledger>(
+    alloc: Global,
+    answers: Vec<Answer<L>>,
+) -> Result<Vec<Shift<L>>, Fault> {
+    let mut shifts = Vec::new(alloc);
+    for answer in answers {
+        if let Ok(shift) = answer {
+            match shifts.push(shift) {
+                Ok(()) => {}
+                Err(_) => return Err(Fault::Memory),
+            }
+        }
+    }
+    Ok(shifts)
 }

@@ -17,11 +17,11 @@ pub enum Did {
     Collected(Id),
 }
 
-/// A session, as a live run needs it. Contracts see its script and what that says of the run (`plan`), the steps that stand and the pool's
-/// events that they are (`course`), why a step of the loop would be refused (`refusal`), whether the loop is at a poll (`polling`),
-/// when that poll times out (`due`), and the loop's clock (`hours`).
+/// A session, as a live run needs it. Contracts see its script and what that says of the run (`plan`), how many steps it may take
+/// (`most`), the steps that stand and the pool's events that they are (`course`), why a step of the loop would be refused (`refusal`),
+/// whether the loop is at a poll (`polling`), when that poll times out (`due`), and the loop's clock (`hours`).
 pub trait Follower {
-    ghost use Rattle.std.specs.Prelude.{◌≡◌, ◌<◌, ◌+◌, ◌++◌, ◌∷◌, [], ℕ, Bool, true, List, Option, OnOk, OnErr, count_by};
+    ghost use Rattle.std.specs.Prelude.{◌≡◌, ◌<◌, ◌≤◌, ◌+◌, ◌++◌, ◌∷◌, [], ℕ, Bool, true, List, Option, OnOk, OnErr, count_by, length};
     ghost use Rattle.uv_ids.specs.declared.event.Event.TheVariants as step;
     ghost use Rattle.uv_ids.specs.declared.fault.Why.{Why};
     ghost use Rattle.uv_work.specs.Pool.{IsLegal};
@@ -29,7 +29,7 @@ pub trait Follower {
     ghost use Rattle.uv_work.specs.declared.event.PoolEvent.{PoolEvent};
     ghost use Rattle.uv_work.specs.declared.job.Job.{Job};
     ghost use Rattle.uv_live.specs.Course.{Course, Plan, AreNamed, events_of, job_of};
-    ghost use Rattle.uv_live.specs.Following.{Adds, Applies, StaysEnded};
+    ghost use Rattle.uv_live.specs.Following.{Adds, Applies, OnFull, StaysEnded};
     ghost use Rattle.uv_live.specs.Settling.{is_send, is_line};
     ghost use Rattle.uv_live.specs.Turning.{Steps, events_as};
     ghost use Rattle.uv_live.specs.Working.{is_at_work};
@@ -42,6 +42,9 @@ pub trait Follower {
 
     // The script, and what it says of the run. No call changes it.
     ghost plan: { Self → Plan Script };
+
+    // How many steps a session of that script may take.
+    ghost most: { Script → ℕ };
 
     // The steps that stand, and the pool's events that they are.
     ghost course: { Self → Course };
@@ -116,7 +119,8 @@ pub trait Follower {
     fn step(&mut self) -> Result<Self::Outcome, Fault>
         ensures plan { plan self.new ≡ plan self.old }
         ensures answer { Steps (refusal self.old) (course self.old) (events_as (events_by (plan self.old).script) result) (course self.new) }
-        ensures same { OnErr result (refusal self.new ≡ refusal self.old) };
+        ensures same { OnErr result (refusal self.new ≡ refusal self.old) }
+        ensures full { OnFull result (most (plan self.old).script ≤ length (course self.old).steps) };
 
     /// What a step of the loop that answered this did to the thread pool.
     fn did(&self, outcome: Self::Outcome) -> Did
@@ -129,20 +133,23 @@ pub trait Follower {
         requires name { name.0 < (plan self.old).names }
         ensures plan { plan self.new ≡ plan self.old }
         ensures answer { Adds (step.Send name) (course self.old) result (course self.new) }
-        ensures polling { polling self.new ≡ true };
+        ensures polling { polling self.new ≡ true }
+        ensures full { OnFull result (most (plan self.old).script ≤ length (course self.old).steps) };
 
     /// The clock goes on (`Event::Tick`).
     fn tick(&mut self, span: u64) -> Result<(), Fault>
         ensures plan { plan self.new ≡ plan self.old }
         ensures answer { Adds (step.Tick span) (course self.old) result (course self.new) }
-        ensures hours { OnOk result (hours self.new ≡ hours self.old + span) };
+        ensures hours { OnOk result (hours self.new ≡ hours self.old + span) }
+        ensures full { OnFull result (most (plan self.old).script ≤ length (course self.old).steps) };
 
     /// A worker takes the request that waits longest (`Event::Take`).
     fn take(&mut self, k: u16, id: Id) -> Result<(), Fault>
         ensures plan { plan self.new ≡ plan self.old }
         ensures answer { IsLegal (plan self.old).workers ((course self.old).events ++ event.Take k id ∷ [])
             → Applies (event.Take k id) (course self.old) result (course self.new) }
-        ensures ended { StaysEnded (refusal self.old) (refusal self.new) };
+        ensures ended { StaysEnded (refusal self.old) (refusal self.new) }
+        ensures full { OnFull result (most (plan self.old).script ≤ length (course self.old).steps) };
 
     /// A worker finishes its request (`Event::Finish`), with that result where it is of the very job that the worker runs. Without
     /// one the session does the job.
@@ -150,5 +157,6 @@ pub trait Follower {
         ensures plan { plan self.new ≡ plan self.old }
         ensures answer { IsLegal (plan self.old).workers ((course self.old).events ++ event.Finish k id ∷ [])
             → Applies (event.Finish k id) (course self.old) result (course self.new) }
-        ensures ended { StaysEnded (refusal self.old) (refusal self.new) };
+        ensures ended { StaysEnded (refusal self.old) (refusal self.new) }
+        ensures full { OnFull result (most (plan self.old).script ≤ length (course self.old).steps) };
 }

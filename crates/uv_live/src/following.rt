@@ -1,7 +1,7 @@
 //! How a session follows a book.
-ghost use Rattle.std.specs.Prelude.{◌≡◌, ◌++◌, ◌∷◌, [], Some, IfErr, length};
+ghost use Rattle.std.specs.Prelude.{◌≡◌, ◌≤◌, ◌++◌, ◌∷◌, [], Some, IfErr, length};
 ghost use Rattle.uv_work.specs.Pool.{IsLegal};
-ghost use Rattle.uv_live.specs.Following.{Applies, Decides, Follows, IsNoRefusal, IsWorkers, PartsAt, StaysEnded, Syncs};
+ghost use Rattle.uv_live.specs.Following.{Applies, Decides, Follows, IsNoRefusal, IsWorkers, OnFull, PartsAt, StaysEnded, Syncs};
 
 use crate::follower::Follower;
 use std::sync::ledger::Ledger;
@@ -53,6 +53,7 @@ fn apply<F: Follower, L: Ledger>(
     ensures answer { IsLegal (F.plan session.old).workers ((F.course session.old).events ++ event ∷ [])
         → Applies event (F.course session.old) result (F.course session.new) }
     ensures ended { StaysEnded (F.refusal session.old) (F.refusal session.new) }
+    ensures full { OnFull result (F.most (F.plan session.old).script ≤ length (F.course session.old).steps) }
 {
     match event {
         PoolEvent::Take(k, id) => session.take(k, id),
@@ -72,6 +73,8 @@ pub(crate) fn sync_rest<F: Follower, L: Ledger>(
         → Syncs book.now.hold.contents.log (F.course session.old) result (F.course session.new) }
     ensures faults { IfErr result IsNoRefusal }
     ensures ended { StaysEnded (F.refusal session.old) (F.refusal session.new) }
+    ensures full { Follows (F.plan session.old).workers (F.course session.old).events book.now.hold.contents
+        → OnFull result (F.most (F.plan session.old).script ≤ length (F.course session.new).steps) }
 {
     let log = book.log();
     let start = session.pool_events().len();
@@ -95,12 +98,14 @@ pub(crate) fn sync_rest<F: Follower, L: Ledger>(
 /// Applies the rest of the book's log to the session, each entry as the same event, and answers how many there were.
 ///
 /// `Torn` names the first place of the log, from 1, that isn't the session's own event, or is missing, or past those is no
-/// worker's. The entries before it stand in the session then, as some do after `StepsFull` and `Memory`.
+/// worker's. The entries before it stand in the session then, as some do after `StepsFull` and `Memory`. `StepsFull` comes only where as
+/// many steps stand as the session may take.
 pub fn sync<F: Follower, L: Ledger>(session: &mut F, book: &PoolBook<L>) -> Result<usize, Fault>
     requires { (F.plan session.old).workers ≡ length book.now.hold.contents.running }
     ensures plan { F.plan session.new ≡ F.plan session.old }
     ensures synced { Syncs book.now.hold.contents.log (F.course session.old) result (F.course session.new) }
     ensures ended { StaysEnded (F.refusal session.old) (F.refusal session.new) }
+    ensures full { OnFull result (F.most (F.plan session.old).script ≤ length (F.course session.new).steps) }
 {
     if let Some(n) = first_apart(session.pool_events(), book.log()) {
         return Err(Fault::Torn { at: n + 1 });

@@ -1,7 +1,10 @@
 //! What comes to the loop from outside the thread pool: the sends of the senders' threads.
-ghost use Rattle.std.specs.Prelude.{◌≡◌, ◌<◌, true, All};
-ghost use Rattle.uv_wake.specs.Seats.{names_of};
+ghost use Rattle.std.specs.Prelude.{◌≡◌, ◌<◌, ◌+◌, ◌-◌, ◌++◌, ◌∷◌, ◌⊎◌, [], true, false, cond, All, OnOk, IfErr, vec_len};
+ghost use Rattle.std.specs.List.{list_any};
+ghost use Rattle.uv_ids.specs.declared.fault.Fault.TheVariants as fault;
+ghost use Rattle.uv_wake.specs.Seats.{names_of, AllCarried, AllJoined};
 ghost use Rattle.uv_live.specs.Course.{AreNamed};
+ghost use Rattle.uv_live.specs.Sending.{Absorbs, AreCarried, Records, is_by, names_by, names_in, threads_below};
 
 use crate::follower::Follower;
 use std::alloc::Global;
@@ -14,14 +17,19 @@ use uv_wake::{Board, LoopSeat, SenderSeat};
 const MOST_ABSORBED: u64 = 1 << 62;
 
 /// A sender's thread that isn't joined.
-type Sender<'a> = PromisedHandle<SenderSeat, OfBoard<'a>>;
+type Sender<'a> = PromisedHandle<SenderSeat, Sends<'a>>;
 
-/// What a sender's thread promises: the seat that it gives back is of this board.
+/// What a sender's thread promises: the seat that it gives back is of this board, and with it just the thread's lines were sent, in their
+/// order.
 #[derive(Clone, Copy)]
-pub(crate) struct OfBoard<'a>(&'a Board);
+pub(crate) struct Sends<'a> {
+    board: &'a Board,
+    thread: u8,
+    lines: &'a [ThreadLine],
+}
 
-impl<'a> Promise<SenderSeat> for OfBoard<'a> {
-    ghost kept_by = { λ p seat. seat.board ≡ p.0.now.board };
+impl<'a> Promise<SenderSeat> for Sends<'a> {
+    ghost kept_by = { λ p seat. (seat.board ≡ p.board.now.board) × (names_in seat.knows.tickets ≡ names_by p.thread p.lines.now) };
 }
 
 /// The board, the loop's seat at it, and the senders' threads that aren't joined.
@@ -29,14 +37,30 @@ impl<'a> Promise<SenderSeat> for OfBoard<'a> {
 pub(crate) struct Outside<'a> {
     board: &'a Board,
     seat: LoopSeat,
-    senders: Vec<Sender<'a>>,
+    pub(crate) senders: Vec<Sender<'a>>,
     /// The names that some thread sends to, in their order.
     names: Vec<Var>,
     /// Whether no send may come any more: no sender's thread is left, and every word was absorbed since.
     quiet: bool,
+    /// Whether a seat was lost with a thread that couldn't be started.
+    lost: bool,
     pub ghost seated: { seat.board ≡ board.now.board },
     pub ghost known: { All (λ v. v.0 < names_of board.now.board) names.items },
-    pub ghost ours: { All (λ h. h.promise.0.now.board ≡ board.now.board) senders.items },
+    pub ghost ours: { All (λ h. h.promise.board.now.board ≡ board.now.board) senders.items },
+    pub ghost all: { lost ≡ false → seat.knows.splits ≡ seat.knows.joins + vec_len senders },
+    pub ghost rests: { quiet ≡ true → (senders.items ≡ []) × AreCarried seat.knows names.items },
+}
+
+/// Sends by a line, if it is the thread's.
+fn send_line(board: &Board, seat: &mut SenderSeat, thread: u8, line: ThreadLine)
+    requires seat { seat.old.board ≡ board.now.board }
+    requires name { line.name.0 < names_of board.now.board }
+    ensures board { seat.new.board ≡ seat.old.board }
+    ensures sent { names_in seat.new.knows.tickets ≡ names_in seat.old.knows.tickets ++ names_by thread (line ∷ []) }
+{
+    if line.thread == thread {
+        board.send(seat, line.name);
+    }
 }
 
 /// What the thread of a sender does: the sends of its lines, in their order.
@@ -49,41 +73,87 @@ fn send_all<G: Gate>(
 ) -> SenderSeat
     requires seat { seat.board ≡ board.now.board }
     requires names { AreNamed (names_of board.now.board) lines.now }
-    ensures { result.board ≡ board.now.board }
+    ensures board { result.board ≡ board.now.board }
+    ensures sent { names_in result.knows.tickets ≡ names_in seat.knows.tickets ++ names_by thread lines.now }
 {
     let mut seat = seat;
     gate.sending(thread);
     'lines: for n in 0..lines.len() {
-        let line = lines[n];
-        if line.thread == thread {
-            board.send(&mut seat, line.name);
-        }
+        send_line(board, &mut seat, thread, lines[n]);
     }
     seat
 }
 
 /// Whether some line is of the sender thread of that number.
-fn has_line(lines: &[ThreadLine], thread: u8) -> bool {
+fn has_line(lines: &[ThreadLine], thread: u8) -> bool
+    ensures { result ≡ list_any (is_by thread) lines.now }
+{
     lines.iter().any(|line| line.thread == thread)
 }
 
-/// Absorbs the word of a name, and answers whether a send stood in it.
-fn absorb(board: &Board, seat: &mut LoopSeat, name: Var) -> Result<bool, Fault>
+/// Absorbs the word of a name, and records a send if one stood in it.
+fn absorb_one<S: Follower>(
+    board: &Board,
+    seat: &mut LoopSeat,
+    name: Var,
+    session: &mut S,
+) -> Result<(), Fault>
     requires seat { seat.old.board ≡ board.now.board }
     requires name { name.0 < names_of board.now.board }
-    ensures { seat.new.board ≡ seat.old.board }
+    requires polling { S.polling session.old ≡ true }
+    requires names { names_of board.now.board ≡ (S.plan session.old).names }
+    ensures board { seat.new.board ≡ seat.old.board }
+    ensures absorbs { Absorbs seat.old.knows seat.new.knows }
+    ensures carried { OnOk result (AllCarried seat.new.knows name) }
+    ensures plan { S.plan session.new ≡ S.plan session.old }
+    ensures polling { OnOk result (S.polling session.new ≡ true) }
+    ensures records { OnOk result (Records (name ∷ []) (S.course session.old) (S.course session.new)) }
 {
     if seat.count(name) >= MOST_ABSORBED {
         return Err(Fault::Limit);
     }
-    Ok(board.absorb(seat, name))
+    if !board.absorb(seat, name) {
+        return Ok(());
+    }
+    match session.send(name) {
+        Ok(()) => Ok(()),
+        Err(fault) => Err(fault),
+    }
+}
+
+/// Absorbs the words of these names, in their order, and records a send for each in which one stood.
+fn absorb_names<S: Follower>(
+    board: &Board,
+    seat: &mut LoopSeat,
+    names: &[Var],
+    session: &mut S,
+) -> Result<(), Fault>
+    requires seat { seat.old.board ≡ board.now.board }
+    requires known { All (λ v. v.0 < names_of board.now.board) names.now }
+    requires polling { S.polling session.old ≡ true }
+    requires names { names_of board.now.board ≡ (S.plan session.old).names }
+    ensures board { seat.new.board ≡ seat.old.board }
+    ensures absorbs { Absorbs seat.old.knows seat.new.knows }
+    ensures carried { OnOk result (AreCarried seat.new.knows names.now) }
+    ensures plan { S.plan session.new ≡ S.plan session.old }
+    ensures records { OnOk result (Records names.now (S.course session.old) (S.course session.new)) }
+{
+    'names: for n in 0..names.len() {
+        match absorb_one(board, seat, names[n], session) {
+            Ok(()) => {}
+            Err(fault) => return Err(fault),
+        }
+    }
+    Ok(())
 }
 
 impl<'a> Outside<'a> {
     /// No thread is started yet.
     pub(crate) fn new(alloc: Global, board: &'a Board, seat: LoopSeat) -> Outside<'a>
-        requires { seat.board ≡ board.now.board }
-        ensures { result.board.now.board ≡ board.now.board }
+        requires board { seat.board ≡ board.now.board }
+        requires joined { AllJoined seat.knows }
+        ensures board { result.board.now.board ≡ board.now.board }
+        ensures lost { result.lost ≡ false }
     {
         Outside {
             board,
@@ -91,13 +161,15 @@ impl<'a> Outside<'a> {
             senders: Vec::new(alloc),
             names: Vec::new(alloc),
             quiet: false,
+            lost: false,
         }
     }
 
     /// Notes the names that some thread sends to.
     pub(crate) fn note_names<S: Follower>(&mut self, session: &S) -> Result<(), Fault>
         requires { names_of self.old.board.now.board ≡ (S.plan session.now).names }
-        ensures { self.new.board.now.board ≡ self.old.board.now.board }
+        ensures board { self.new.board.now.board ≡ self.old.board.now.board }
+        ensures lost { self.new.lost ≡ self.old.lost }
     {
         'names: for v in 0..session.name_count() {
             if session.lines_to(Var(v)) > 0 {
@@ -109,8 +181,10 @@ impl<'a> Outside<'a> {
 
     fn note_name(&mut self, name: Var) -> Result<(), Fault>
         requires { name.0 < names_of self.old.board.now.board }
-        ensures { self.new.board.now.board ≡ self.old.board.now.board }
+        ensures board { self.new.board.now.board ≡ self.old.board.now.board }
+        ensures lost { self.new.lost ≡ self.old.lost }
     {
+        self.quiet = false;
         match self.names.push(name) {
             Ok(()) => Ok(()),
             Err(_) => Err(Fault::Memory),
@@ -125,17 +199,21 @@ impl<'a> Outside<'a> {
         lines: &'a [ThreadLine],
     ) -> Result<(), Fault>
         requires { AreNamed (names_of self.old.board.now.board) lines.now }
-        ensures { self.new.board.now.board ≡ self.old.board.now.board }
+        ensures board { self.new.board.now.board ≡ self.old.board.now.board }
+        ensures lost { OnOk result (self.new.lost ≡ self.old.lost) }
+        ensures threads { OnOk result (self.new.seat.knows.splits ≡ self.old.seat.knows.splits + threads_below 64 lines.now) }
+        ensures err { IfErr result (λ f. (f ≡ fault.Memory) ⊎ (f ≡ fault.Limit)) }
     {
-        self.quiet = false;
         'threads: for thread in 0..MOST_SENDERS {
-            if has_line(lines, thread) {
-                self.start_one(scope, gate, thread, lines)?;
+            match self.start_one(scope, gate, thread, lines) {
+                Ok(()) => {}
+                Err(fault) => return Err(fault),
             }
         }
         Ok(())
     }
 
+    /// Starts the thread of that number, if it has a line. Room comes first, so each thread that was started is joined.
     fn start_one<E, G: Gate + Sync>(
         &mut self,
         scope: &Scope<'a, E>,
@@ -144,21 +222,42 @@ impl<'a> Outside<'a> {
         lines: &'a [ThreadLine],
     ) -> Result<(), Fault>
         requires { AreNamed (names_of self.old.board.now.board) lines.now }
-        ensures { self.new.board.now.board ≡ self.old.board.now.board }
+        ensures board { self.new.board.now.board ≡ self.old.board.now.board }
+        ensures lost { OnOk result (self.new.lost ≡ self.old.lost) }
+        ensures threads { OnOk result (self.new.seat.knows.splits ≡ self.old.seat.knows.splits + cond (list_any (is_by thread) lines.now) 1 0) }
+        ensures err { IfErr result (λ f. (f ≡ fault.Memory) ⊎ (f ≡ fault.Limit)) }
     {
-        let board = self.board;
-        let given = board.split(&mut self.seat)?;
-        let sending = move || -> SenderSeat
-            requires { (given.board ≡ board.now.board) × AreNamed (names_of board.now.board) lines.now }
-            ensures { result.board ≡ board.entry.now.board }
-        { send_all(board, given, gate, thread, lines) };
-        let sender = match scope.spawn_with(OfBoard(board), sending) {
-            Ok(sender) => sender,
+        if !has_line(lines, thread) {
+            return Ok(());
+        }
+        self.quiet = false;
+        match self.senders.reserve(1) {
+            Ok(()) => {}
             Err(_) => return Err(Fault::Memory),
+        }
+        let board = self.board;
+        let given = match board.split(&mut self.seat) {
+            Ok(given) => given,
+            Err(fault) => return Err(fault),
         };
-        match self.senders.push(sender) {
-            Ok(()) => Ok(()),
-            Err(_) => Err(Fault::Memory),
+        let sending = move || -> SenderSeat
+            requires { (given.board ≡ board.now.board) × (given.knows.tickets ≡ []) × AreNamed (names_of board.now.board) lines.now }
+            ensures { (result.board ≡ board.entry.now.board) × (names_in result.knows.tickets ≡ names_by thread lines.entry.now) }
+        { send_all(board, given, gate, thread, lines) };
+        let promise = Sends {
+            board,
+            thread,
+            lines,
+        };
+        match scope.spawn_with(promise, sending) {
+            Ok(sender) => {
+                self.senders.push_reserved(sender);
+                Ok(())
+            }
+            Err(_) => {
+                self.lost = true;
+                Err(Fault::Memory)
+            }
         }
     }
 
@@ -168,16 +267,16 @@ impl<'a> Outside<'a> {
         requires polling { S.polling session.old ≡ true }
         requires names { names_of self.old.board.now.board ≡ (S.plan session.old).names }
         ensures board { self.new.board.now.board ≡ self.old.board.now.board }
+        ensures lost { self.new.lost ≡ self.old.lost }
+        ensures carried { OnOk result (AreCarried self.new.seat.knows self.new.names.items) }
         ensures plan { S.plan session.new ≡ S.plan session.old }
     {
         if self.quiet {
             return Ok(());
         }
-        'names: for n in 0..self.names.len() {
-            let name = self.names[n];
-            if absorb(self.board, &mut self.seat, name)? {
-                session.send(name)?;
-            }
+        match absorb_names(self.board, &mut self.seat, self.names.as_slice(), session) {
+            Ok(()) => {}
+            Err(fault) => return Err(fault),
         }
         self.quiet = self.senders.is_empty();
         Ok(())
@@ -185,23 +284,28 @@ impl<'a> Outside<'a> {
 
     /// Joins a sender's thread and takes its seat back. False where none is left.
     pub(crate) fn join_one<R: Threads>(&mut self, rt: &R) -> bool
-        ensures { self.new.board.now.board ≡ self.old.board.now.board }
+        ensures board { self.new.board.now.board ≡ self.old.board.now.board }
+        ensures lost { self.new.lost ≡ self.old.lost }
+        ensures left { vec_len self.new.senders ≡ vec_len self.old.senders - 1 }
+        ensures none { result ≡ false → vec_len self.old.senders ≡ 0 }
     {
         match self.senders.pop() {
             None => false,
             Some(sender) => {
+                self.quiet = false;
                 self.board.join(&mut self.seat, sender.join(rt));
                 true
             }
         }
     }
 
-    /// Joins all senders' threads that are left, and gives the loop's seat.
+    /// Joins all senders' threads that are left, and gives the loop's seat, which has all seats back then.
     pub(crate) fn into_seat<R: Threads>(self, rt: &R) -> LoopSeat
-        ensures { result.board ≡ self.entry.board.now.board }
+        ensures board { result.board ≡ self.entry.board.now.board }
+        ensures joined { self.entry.lost ≡ false → AllJoined result.knows }
     {
         let mut outside = self;
-        'left: for _ in 0..outside.senders.len() {
+        'left: for n in 0..outside.senders.len() {
             outside.join_one(rt);
         }
         outside.seat

@@ -1,15 +1,15 @@
 //! A live run.
 ghost use Rattle.std.specs.Prelude.{◌≡◌, ◌<◌, Some, Ok, true, IfOk, IfNone};
 ghost use Rattle.uv_ids.specs.declared.fault.Why.TheVariants as why;
-ghost use Rattle.uv_wake.specs.Seats.{names_of};
+ghost use Rattle.uv_wake.specs.Seats.{names_of, AllJoined};
 ghost use Rattle.uv_live.specs.Course.{AreNamed};
 ghost use Rattle.uv_live.specs.Running.{HaltsAt, RunSettles, PassesTo};
 ghost use Rattle.uv_live.specs.Turning.{Refuses};
 ghost use Rattle.uv_live.specs.Working.{is_at_work};
-ghost use Rattle.std.specs.Prelude.{IfSome, None, Err, OnErr, IfErr};
+ghost use Rattle.std.specs.Prelude.{IfSome, IfErr, is_some, length, vec_len};
 
 use crate::clock::Clock;
-use crate::crew::{Crew, join_workers, start_workers};
+use crate::crew::{Crew, join_workers, lowest_fault, shifts_of, start_workers};
 use crate::follower::{Did, Follower};
 use crate::following::sync;
 use crate::outside::Outside;
@@ -22,7 +22,7 @@ use std::sync::ledger::{Blank, Ledger};
 use std::thread;
 use std::thread::{Scope, Threads};
 use uv_ids::{Fault, MOST_SENDERS, ThreadLine, Why};
-use uv_pool::{Gate, LockedBook, PoolBook, Shift};
+use uv_pool::{Gate, HasFinished, LockedBook, PoolBook, Shift, WasOpen};
 use uv_wake::{Board, LoopSeat};
 
 /// Lets the clock go on up to the poll's deadline. `Stalled` where there is none, or where the clock doesn't go on.
@@ -43,45 +43,59 @@ fn pass_time<S: Follower, C: Clock>(session: &mut S, clock: &mut C) -> Result<()
     }
 }
 
-/// What the loop's thread does where the loop is blocked: it waits until a worker has finished a job, or else joins a sender, or else
-/// lets the clock go on.
+/// What the loop's thread does where the loop is blocked and the book was open: it waits until a worker has finished a job, or else joins a
+/// sender, or else lets the clock go on. It answers what it saw of the book where it waited for that.
 fn unblock<S: Follower, L: Ledger, C: Clock, R: Threads + Wait>(
     rt: &R,
     session: &mut S,
     book: &LockedBook<L>,
     outside: &mut Outside<'_>,
     clock: &mut C,
-) -> Result<(), Fault>
+    _open: WasOpen<L>,
+) -> Result<Option<HasFinished<L>>, Fault>
     ensures board { outside.new.board.now.board ≡ outside.old.board.now.board }
+    ensures lost { outside.new.lost ≡ outside.old.lost }
     ensures plan { S.plan session.new ≡ S.plan session.old }
+
+    // Where a request is open it waits for its workers, past what the session knows of them, and does nothing else.
     ensures works { is_at_work (S.plan session.old).workers (S.course session.old).events ≡ true → S.course session.new ≡ S.course session.old }
     ensures unasked { is_at_work (S.plan session.old).workers (S.course session.old).events ≡ true → C.hours clock.new ≡ C.hours clock.old }
+    ensures unjoined { is_at_work (S.plan session.old).workers (S.course session.old).events ≡ true → outside.new ≡ outside.old }
+    ensures waits { is_at_work (S.plan session.old).workers (S.course session.old).events ≡ true → IfOk result (λ seen. is_some seen ≡ true) }
+    ensures past { IfOk result (λ seen. IfSome seen (λ book. book.past ≡ length (S.course session.old).events)) }
+
+    // Where a sender's thread is left the clock stands.
+    ensures joins { 0 < vec_len outside.old.senders → S.course session.new ≡ S.course session.old }
+    ensures stands { 0 < vec_len outside.old.senders → C.hours clock.new ≡ C.hours clock.old }
 {
     if session.is_working() {
-        book.wait_finished(rt, session.pool_events().len());
-        return Ok(());
+        let seen = book.wait_finished(rt, session.pool_events().len());
+        return Ok(Some(seen));
     }
     if outside.join_one(rt) {
-        return Ok(());
+        return Ok(None);
     }
-    pass_time(session, clock)
+    match pass_time(session, clock) {
+        Ok(()) => Ok(None),
+        Err(fault) => Err(fault),
+    }
 }
 
-/// A turn under the book's lock: what its step did, and whether the book is closed.
+/// A turn under the book's lock: what its step did, and whether the book was open.
 fn locked_turn<S: Follower, L: Ledger, R: Wait>(
     rt: &R,
     session: &mut S,
     book: &LockedBook<L>,
-) -> (Result<Did, Fault>, bool)
+) -> (Result<Did, Fault>, Option<WasOpen<L>>)
     ensures plan { S.plan session.new ≡ S.plan session.old }
     ensures refused { Refuses result.0 (S.refusal session.new) }
 {
     let mut guard = book.lock(rt);
     let answer = match turn_rest(session, &mut guard) {
-        Ok(outcome) => Ok(session.did(outcome)),
+        Ok((_, did)) => Ok(did),
         Err(fault) => Err(fault),
     };
-    (answer, guard.closed())
+    (answer, WasOpen::look(&guard))
 }
 
 /// Takes turns until the loop is at its end. False where the book was closed before.
@@ -94,6 +108,7 @@ fn run<S: Follower, L: Ledger, C: Clock, R: Threads + Wait>(
 ) -> Result<bool, Fault>
     requires names { names_of outside.old.board.now.board ≡ (S.plan session.old).names }
     ensures board { outside.new.board.now.board ≡ outside.old.board.now.board }
+    ensures lost { outside.new.lost ≡ outside.old.lost }
     ensures plan { S.plan session.new ≡ S.plan session.old }
     ensures end { HaltsAt result (S.refusal session.new) }
 {
@@ -104,20 +119,18 @@ fn run<S: Follower, L: Ledger, C: Clock, R: Threads + Wait>(
                 Err(fault) => return Err(fault),
             }
         }
-        let (answer, closed) = locked_turn(rt, session, book);
+        let (answer, open) = locked_turn(rt, session, book);
         match answer {
             Ok(Did::Queued(_)) => book.wake_worker(),
             Ok(_) => {}
             Err(Fault::Refused(Why::Ended)) => return Ok(true),
-            Err(Fault::Refused(Why::Blocked)) => {
-                if closed {
-                    return Ok(false);
-                }
-                match unblock(rt, session, book, outside, clock) {
-                    Ok(()) => {}
+            Err(Fault::Refused(Why::Blocked)) => match open {
+                None => return Ok(false),
+                Some(open) => match unblock(rt, session, book, outside, clock, open) {
+                    Ok(_) => {}
                     Err(fault) => return Err(fault),
-                }
-            }
+                },
+            },
             Err(fault) => return Err(fault),
         }
     }
@@ -174,8 +187,10 @@ fn within<
     clock: &mut C,
 ) -> Result<Joined<S, L>, Fault>
     requires board { seat.board ≡ shared.board.now.board }
+    requires joined { AllJoined seat.knows }
     requires names { names_of shared.board.now.board ≡ (S.plan session).names }
     ensures board { IfOk result (λ r. r.seat.board ≡ shared.entry.board.now.board) }
+    ensures joined { IfOk result (λ r. AllJoined r.seat.knows) }
     ensures plan { IfOk result (λ r. S.plan r.session ≡ S.plan session) }
     ensures end { IfOk result (λ r. S.refusal r.session ≡ Some why.Ended) }
 {
@@ -188,11 +203,7 @@ fn within<
         gate,
     } = shared;
     let mut outside = Outside::new(alloc, board, seat);
-    let mut crew = Crew {
-        workers: session.worker_count(),
-        started: Vec::new(alloc),
-    };
-    let mut shifts: Vec<Shift<L>> = Vec::new(alloc);
+    let mut crew = Crew::new(alloc, session.worker_count());
     let started = match start_workers(rt, alloc, scope, book, gate, &mut crew) {
         Ok(()) => match outside.note_names(&session) {
             Ok(()) => outside.start(scope, gate, lines),
@@ -204,17 +215,19 @@ fn within<
         Ok(()) => run(rt, &mut session, book, &mut outside, clock),
         Err(fault) => Err(fault),
     };
-    book.lock(rt).close();
-    book.wake();
+    book.close(rt);
     let seat = outside.into_seat(rt);
-    let theirs = join_workers(rt, crew, &mut shifts);
-    match fault_of(halt, theirs) {
-        None => Ok(Joined {
+    let answers = join_workers(rt, crew);
+    if let Some(fault) = fault_of(halt, lowest_fault(answers.as_slice())) {
+        return Err(fault);
+    }
+    match shifts_of(alloc, answers) {
+        Ok(shifts) => Ok(Joined {
             session,
             seat,
             shifts,
         }),
-        Some(fault) => Err(fault),
+        Err(fault) => Err(fault),
     }
 }
 
@@ -273,6 +286,7 @@ fn scoped<
     clock: &'a mut C,
 ) -> Result<Joined<S, L>, Fault>
     requires board { seat.board ≡ shared.board.now.board }
+    requires joined { AllJoined seat.knows }
     requires names { names_of shared.board.now.board ≡ (S.plan session).names }
     ensures board { IfOk result (λ r. r.seat.board ≡ shared.entry.board.now.board) }
     ensures plan { IfOk result (λ r. S.plan r.session ≡ S.plan session) }
@@ -283,6 +297,7 @@ fn scoped<
         rt,
         |scope| -> Result<Joined<S, L>, Fault>
             requires board { seat.board ≡ shared.board.now.board }
+            requires joined { AllJoined seat.knows }
             requires names { names_of shared.board.now.board ≡ (S.plan session).names }
             ensures board { IfOk result (λ r. r.seat.board ≡ shared.entry.board.now.board) }
             ensures plan { IfOk result (λ r. S.plan r.session ≡ S.plan session) }

@@ -1,9 +1,9 @@
 //! One turn of the loop, with its entry in the book.
-ghost use Rattle.std.specs.Prelude.{◌≡◌, ◌<◌, ◌++◌, ◌∷◌, [], true, length};
+ghost use Rattle.std.specs.Prelude.{◌≡◌, ◌<◌, ◌≤◌, ◌++◌, ◌∷◌, [], true, length};
 ghost use Rattle.uv_work.specs.Pool.{IsLegal};
 ghost use Rattle.uv_work.specs.declared.event.PoolEvent.TheVariants as event;
 ghost use Rattle.uv_live.specs.Course.{events_of};
-ghost use Rattle.uv_live.specs.Following.{Follows};
+ghost use Rattle.uv_live.specs.Following.{Follows, OnFull};
 ghost use Rattle.uv_live.specs.Turning.{Turns, Refuses, events_as};
 
 use crate::follower::{Did, Follower};
@@ -62,32 +62,44 @@ fn enter<L: Ledger>(book: &mut PoolBook<L>, did: Did)
     }
 }
 
-/// `turn` on a session and a book that were compared before, as `sync_rest` is `sync`.
+/// `turn` on a session and a book that were compared before, as `sync_rest` is `sync`. It says what the step did, too.
 pub(crate) fn turn_rest<F: Follower, L: Ledger>(
     session: &mut F,
     book: &mut PoolBook<L>,
-) -> Result<F::Outcome, Fault>
+) -> Result<(F::Outcome, Did), Fault>
     ensures plan { F.plan session.new ≡ F.plan session.old }
     ensures turned { Follows (F.plan session.old).workers (F.course session.old).events book.old.hold.contents
-        → Turns book.old.hold.contents.log (F.course session.old) (events_as (F.events_by (F.plan session.old).script) result)
+        → Turns book.old.hold.contents.log (F.course session.old) (events_as (λ r. F.events_by (F.plan session.old).script r.0) result)
         book.new.hold.contents.log (F.course session.new) }
     ensures rest { book.new.rest ≡ book.old.rest }
     ensures refused { Refuses result (F.refusal session.new) }
+    ensures full { Follows (F.plan session.old).workers (F.course session.old).events book.old.hold.contents
+        → OnFull result (F.most (F.plan session.old).script ≤ length (F.course session.new).steps) }
 {
     book.is_sound();
-    sync_rest(session, book)?;
-    book.reserve()?;
-    let outcome = session.step()?;
+    match sync_rest(session, book) {
+        Ok(_) => {}
+        Err(fault) => return Err(fault),
+    }
+    match book.reserve() {
+        Ok(()) => {}
+        Err(fault) => return Err(fault),
+    }
+    let outcome = match session.step() {
+        Ok(outcome) => outcome,
+        Err(fault) => return Err(fault),
+    };
+    let did = session.did(outcome);
     let _ = session.pool_events();
-    enter(book, session.did(outcome));
-    Ok(outcome)
+    enter(book, did);
+    Ok((outcome, did))
 }
 
 /// Applies the rest of the book's log to the session, does one step of the loop, and enters in the book what that did. It answers what
 /// the step answered.
 ///
 /// Room in the book is made before the step, so `Memory` and `Limit` of the book come before any refusal of the step. On a fault
-/// neither has taken the step, and what was applied stands.
+/// neither has taken the step, and what was applied stands. `StepsFull` comes only where as many steps stand as the session may take.
 pub fn turn<F: Follower, L: Ledger>(
     session: &mut F,
     book: &mut PoolBook<L>,
@@ -98,9 +110,13 @@ pub fn turn<F: Follower, L: Ledger>(
         book.new.hold.contents.log (F.course session.new) }
     ensures rest { book.new.rest ≡ book.old.rest }
     ensures refused { Refuses result (F.refusal session.new) }
+    ensures full { OnFull result (F.most (F.plan session.old).script ≤ length (F.course session.new).steps) }
 {
     if let Some(n) = first_apart(session.pool_events(), book.log()) {
         return Err(Fault::Torn { at: n + 1 });
     }
-    turn_rest(session, book)
+    match turn_rest(session, book) {
+        Ok((outcome, _)) => Ok(outcome),
+        Err(fault) => Err(fault),
+    }
 }

@@ -1,5 +1,5 @@
 -- One turn more.
-use Rattle.std.proofs.Common.{◌≡◌, ◌==◌, ◌&&◌, ℕ, ◌+◌, List, [], ◌∷◌, ◌++◌, Bool, true, false, refl, sym, ◌∙◌, ap, arith, append_assoc}
+use Rattle.std.proofs.Common.{◌≡◌, ◌==◌, ◌&&◌, ℕ, ◌+◌, List, [], ◌∷◌, ◌++◌, Bool, true, false, refl, sym, ◌∙◌, ap, arith, append_assoc, subst}
 use Rattle.std.proofs.lemmas.Bool.Decides.{nat_tests}
 use Rattle.uv_ids.specs.declared.id.Id.{Id}
 use Rattle.uv_work.specs.Ids.{same_id}
@@ -7,7 +7,8 @@ use Rattle.uv_work.specs.declared.event.PoolEvent.{PoolEvent}
 use Rattle.uv_work.specs.declared.event.PoolEvent.TheVariants as event
 use Rattle.uv_pool.specs.Book.{finish_count}
 use Rattle.uv_work.proofs.Replays.{same_itself}
-use Rattle.uv_pool.specs.Benches.{are_turns, turn, Serves}
+use Rattle.uv_work.specs.declared.result.WorkResult.{WorkResult}
+use Rattle.uv_pool.specs.Benches.{are_turns, turn, Serves, Breaks, Stops}
 use Rattle.uv_pool.proofs.Replays.{count_more}
 
 and_more : (b x y : Bool) → (b && x) ≡ true → (x ≡ true → y ≡ true) → (b && y) ≡ true
@@ -45,3 +46,12 @@ served_turns k true b e n b' e' n' before is (id, s0, s1, s2) i = record {
   answered = rw (s0, s1, i.answered) (append_assoc before e (turn k id));
 }
 served_turns k false b e n b' e' n' before is s i = cc
+
+-- turns, and then what the last one came to
+pub stopped : {B : Type 0} (answered : B → List PoolEvent) (refuses : B → ℕ → WorkResult → Type 0) (k : ℕ) (before events here there after : List PoolEvent)
+    → are_turns k events ≡ true → here ≡ before ++ events → Breaks answered refuses k here there → after ≡ there → Stops answered refuses k before after
+stopped answered refuses k before events here there after turns are breaks same = (
+  events,
+  turns,
+  subst (λ xs. Breaks answered refuses k (before ++ events) xs) (sym same) (subst (λ xs. Breaks answered refuses k xs there) are breaks),
+)

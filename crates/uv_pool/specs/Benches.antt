@@ -66,13 +66,15 @@ Serves k true bench events amount bench' events' amount' = (id : Id) × (bench' 
     × (amount' ≡ amount + 1)
 Serves k false bench events amount bench' events' amount' = (bench' ≡ bench) × (events' ≡ events) × (amount' ≡ amount)
 
--- nothing more, or one job that was taken and not finished
-abbrev pub Breaks : ℕ → List PoolEvent → List PoolEvent → Type 0
-Breaks k bench bench' = (bench' ≡ bench) ⊎ ((id : Id) × (bench' ≡ bench ++ event.Take k id ∷ []))
+-- What a bench is when it answers a fault, by what it answered before (`answered`) and by why it may not take a result (`refuses`):
+-- nothing more, or one job that was taken and whose result it didn't take
+abbrev pub Breaks : {B : Type 0} → (B → List PoolEvent) → (B → ℕ → WorkResult → Type 0) → ℕ → List PoolEvent → List PoolEvent → Type 0
+Breaks answered refuses k before after =
+    (after ≡ before) ⊎ ((b : _) × (work : WorkResult) × (answered b ≡ before ++ event.Take k work.job.req ∷ []) × refuses b k work × (after ≡ answered b))
 
 -- turns, and then at most one job that was taken and not finished
-abbrev pub Stops : ℕ → List PoolEvent → List PoolEvent → Type 0
-Stops k bench bench' = (turns : List PoolEvent) × (are_turns k turns ≡ true) × Breaks k (bench ++ turns) bench'
+abbrev pub Stops : {B : Type 0} → (B → List PoolEvent) → (B → ℕ → WorkResult → Type 0) → ℕ → List PoolEvent → List PoolEvent → Type 0
+Stops answered refuses k before after = (turns : List PoolEvent) × (are_turns k turns ≡ true) × Breaks answered refuses k (before ++ turns) after
 
 -- what a desk knows: the events that it answered, the job that it gave and that isn't finished, whether it had no job at
 -- last, and whether it was closed

@@ -1,5 +1,5 @@
 -- What callers see of the pool's book.
-use Rattle.std.specs.Prelude.{◌≡◌, ◌+◌, ◌<◌, ◌≤◌, ℕ, List, Bool, true, false, Some, length, cond}
+use Rattle.std.specs.Prelude.{◌≡◌, ◌+◌, ◌<◌, ◌≤◌, ℕ, List, Bool, true, false, Some, length, cond, slice_get}
 use Rattle.std.specs.List.{count_by}
 use Rattle.uv_work.specs.Pool.{replay}
 use Rattle.uv_work.specs.declared.event.PoolEvent.{PoolEvent}
@@ -24,6 +24,10 @@ is_finish _ = false
 -- the finishes of a log
 abbrev pub finish_count : List PoolEvent → ℕ
 finish_count log = count_by is_finish log
+
+-- a job was finished past the first n entries
+abbrev pub IsFinishedPast : ℕ → List PoolEvent → Type 0
+IsFinishedPast n log = (place : ℕ) × (e : PoolEvent) × (n ≤ place) × (slice_get log place ≡ Some e) × (is_finish e ≡ true)
 
 -- the pool is the replay of the log, so each entry could be at its place
 abbrev pub IsReplay : Contents → Type 0

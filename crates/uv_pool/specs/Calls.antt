@@ -62,6 +62,10 @@ Finishes s k r (Err fault.Memory) t = (run_at s k ≡ Some (Some r.job)) × Want
 Finishes s k r (Err fault.Limit) t = (run_at s k ≡ Some (Some r.job)) × IsFull s t
 Finishes s k r (Err _) t = ⊥
 
+-- why a worker's result isn't taken: the worker doesn't run its job, no room was reserved, or the log is full
+abbrev pub RefusesFinish : Hold → ℕ → WorkResult → Type 0
+RefusesFinish s k r = (run_at s k ≡ Some (Some r.job) → ⊥) ⊎ (s.room ≡ false) ⊎ (16777216 ≤ length s.contents.log)
+
 -- a request that waits is cancelled; EBUSY where it runs or is done, ESTALE where it isn't in the pool
 abbrev pub Cancels : Hold → Id → Result Code Fault → Hold → Type 0
 Cancels s id (Ok code.Ok) t = (waits (pool_of s.contents).waiting id ≡ true) × (t.contents ≡ cancelled s.contents id)

@@ -3,6 +3,7 @@ ghost use Rattle.std.specs.Prelude.{◌≡◌, None, false, []};
 
 use crate::bench::Bench;
 use crate::locked::LockedBook;
+use crate::sightings::{WasClosed, WasOver};
 use std::alloc::Global;
 use std::marker::Model;
 use std::sync::Wait;
@@ -18,16 +19,20 @@ pub struct Desk<'a, R: Wait, L: Ledger> {
     book: &'a LockedBook<L>,
     events: Vec<PoolEvent>,
     job: Option<Job>,
-    idle: bool,
-    closed: bool,
+    over: Option<WasOver<L>>,
+    closed: Option<WasClosed<L>>,
 }
 
 impl<'a, R: Wait, L: Ledger> Model for Desk<'a, R, L> {
+    ghost use Rattle.std.specs.Prelude.{◌≡◌, ◌<◌, true, is_some, vec_len, vec_capacity};
     ghost use Rattle.uv_pool.specs.Benches.{AtDesk};
 
     ghost Value = { AtDesk };
 
-    ghost view = { λ d. record { events = d.events.items; job = d.job; idle = d.idle; closed = d.closed } };
+    ghost view = { λ d. record { events = d.events.items; job = d.job; idle = is_some d.over; closed = is_some d.closed } };
+
+    // While a job isn't finished there is room for its second event.
+    ghost invariant = { λ d. is_some d.job ≡ true → vec_len d.events < vec_capacity d.events };
 }
 
 impl<'a, R: Wait, L: Ledger> Desk<'a, R, L> {
@@ -40,8 +45,8 @@ impl<'a, R: Wait, L: Ledger> Desk<'a, R, L> {
             book,
             events: Vec::new(alloc),
             job: None,
-            idle: false,
-            closed: false,
+            over: None,
+            closed: None,
         }
     }
 
@@ -64,6 +69,9 @@ impl<'a, R: Wait, L: Ledger> Bench<L> for Desk<'a, R, L> {
 
     ghost shut = { λ d. d.closed ≡ true };
 
+    // The book that is lent may refuse it: what it holds isn't known here.
+    ghost refuses = { λ d k work. Unit {0} };
+
     fn enrol(&mut self, k: u16) -> Result<Share<L>, Fault> {
         self.book.enrol(self.rt, k)
     }
@@ -73,14 +81,14 @@ impl<'a, R: Wait, L: Ledger> Bench<L> for Desk<'a, R, L> {
             Ok(()) => {}
             Err(_) => return Err(Fault::Memory),
         }
-        match self.book.take(self.rt, k) {
-            Ok(Some(job)) => {
+        match self.book.take(self.rt, k, &self.events) {
+            Ok(Ok(job)) => {
                 self.events.push_reserved(PoolEvent::Take(k, job.req));
                 self.job = Some(job);
                 Ok(Some(job))
             }
-            Ok(None) => {
-                self.idle = true;
+            Ok(Err(over)) => {
+                self.over = Some(over);
                 Ok(None)
             }
             Err(fault) => Err(fault),
@@ -97,10 +105,6 @@ impl<'a, R: Wait, L: Ledger> Bench<L> for Desk<'a, R, L> {
                 }
             }
         }
-        match self.events.reserve(1) {
-            Ok(()) => {}
-            Err(_) => return Err(Fault::Memory),
-        }
         match self.book.finish(self.rt, k, work, share) {
             Ok(()) => {}
             Err(fault) => return Err(fault),
@@ -111,7 +115,6 @@ impl<'a, R: Wait, L: Ledger> Bench<L> for Desk<'a, R, L> {
     }
 
     fn close(&mut self) {
-        self.book.close(self.rt);
-        self.closed = true;
+        self.closed = Some(self.book.close(self.rt));
     }
 }

@@ -11,6 +11,7 @@ mod locked;
 mod places;
 mod queue;
 mod shift;
+mod sightings;
 
 pub use bench::Bench;
 pub use book::PoolBook;
@@ -18,3 +19,4 @@ pub use desk::Desk;
 pub use locked::LockedBook;
 pub use places::Collected;
 pub use shift::{Gate, Shift, worker};
+pub use sightings::{HasFinished, WasClosed, WasOpen};

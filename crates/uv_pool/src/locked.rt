@@ -1,11 +1,12 @@
 //! The book under its lock.
 ghost use Rattle.std.specs.Prelude.{◌≡◌, ◌+◌, ◌<◌, IfOk, IfErr, cond, is_ok};
 ghost use Rattle.uv_pool.specs.Benches.{IsEnrolFault, IsTakeFault, IsFinishFault};
-ghost use Rattle.std.specs.Prelude.{◌⊎◌, true, length, IfSome, IfNone, Some, []};
+ghost use Rattle.std.specs.Prelude.{◌⊎◌, ◌≤◌, true, length, Some, vec_len, vec_capacity};
 ghost use Rattle.uv_pool.specs.Calls.{run_at};
 ghost use Rattle.std.specs.Sync.Mutex.{mutex_guard_value};
 
 use crate::book::PoolBook;
+use crate::sightings::{HasFinished, WasClosed, WasOver};
 use std::sync::ledger::{Ledger, Share};
 use std::sync::{Condvar, Mutex, MutexGuard, Wait};
 use uv_ids::Fault;
@@ -26,16 +27,6 @@ pub struct LockedBook<L: Ledger> {
     queued: Condvar,
 }
 
-/// Whether a job was finished past the first n entries of the log.
-fn is_finished_past(log: &[PoolEvent], n: usize) -> bool {
-    for place in n..log.len() {
-        if matches!(log[place], PoolEvent::Finish(_, _)) {
-            return true;
-        }
-    }
-    false
-}
-
 impl<L: Ledger> LockedBook<L> {
     /// Takes a book into a lock.
     pub fn new(book: PoolBook<L>) -> LockedBook<L> {
@@ -53,7 +44,7 @@ impl<L: Ledger> LockedBook<L> {
     }
 
     /// Waits until the log is longer than n, or the book closed, and gives the lock.
-    fn past<R: Wait>(&self, rt: &R, n: usize) -> MutexGuard<'_, PoolBook<L>>
+    pub fn wait_past<R: Wait>(&self, rt: &R, n: usize) -> MutexGuard<'_, PoolBook<L>>
         ensures { (n < length (mutex_guard_value result).hold.contents.log) ⊎ ((mutex_guard_value result).rest.closed ≡ true) }
     {
         let mut guard = self.book.lock(rt);
@@ -66,17 +57,14 @@ impl<L: Ledger> LockedBook<L> {
         unreachable!()
     }
 
-    /// Waits until the log is longer than n, or the book closed.
-    pub fn wait_past<R: Wait>(&self, rt: &R, n: usize) {
-        drop(self.past(rt, n));
-    }
-
     /// Waits until a job was finished past the log's first n entries, or the book closed.
-    pub fn wait_finished<R: Wait>(&self, rt: &R, n: usize) {
+    pub fn wait_finished<R: Wait>(&self, rt: &R, n: usize) -> HasFinished<L>
+        ensures { result.past ≡ n }
+    {
         let mut guard = self.book.lock(rt);
         for _ in rt.forever() {
-            if is_finished_past(guard.log(), n) || guard.closed() {
-                return;
+            if let Some(seen) = HasFinished::look(&guard, n) {
+                return seen;
             }
             guard = self.finished.wait(rt, guard);
         }
@@ -107,35 +95,45 @@ impl<L: Ledger> LockedBook<L> {
         self.book.lock(rt).enrol_worker(k)
     }
 
-    /// Gives a worker a job; waits while nothing waits and the book is open. The lock is still held.
+    /// Gives a worker a job; waits while nothing waits and the book is open. It gives the lock, too.
     fn taken<R: Wait>(
         &self,
         rt: &R,
         k: u16,
-    ) -> (Result<Option<Job>, Fault>, MutexGuard<'_, PoolBook<L>>)
+    ) -> (
+        Result<Result<Job, WasOver<L>>, Fault>,
+        MutexGuard<'_, PoolBook<L>>,
+    )
         ensures faults { IfErr result.0 IsTakeFault }
-        ensures runs { IfOk result.0 (λ given. IfSome given (λ job. run_at (mutex_guard_value result.1).hold k ≡ Some (Some job))) }
-        ensures closed { IfOk result.0 (λ given. IfNone given ((mutex_guard_value result.1).rest.closed ≡ true)) }
-        ensures over { IfOk result.0 (λ given. IfNone given ((mutex_guard_value result.1).hold.contents.waiting ≡ [])) }
+        ensures runs { IfOk result.0 (λ given. IfOk given (λ job. run_at (mutex_guard_value result.1).hold k ≡ Some (Some job))) }
     {
         let mut guard = self.book.lock(rt);
         for _ in rt.forever() {
             match guard.take(k) {
-                Ok(Some(job)) => return (Ok(Some(job)), guard),
+                Ok(Some(job)) => return (Ok(Ok(job)), guard),
                 Ok(None) => {}
                 Err(fault) => return (Err(fault), guard),
             }
             if guard.closed() {
-                return (Ok(None), guard);
+                let over = WasOver::seen(&guard);
+                return (Ok(Err(over)), guard);
             }
             guard = self.queued.wait(rt, guard);
         }
         unreachable!()
     }
 
-    pub(crate) fn take<R: Wait>(&self, rt: &R, k: u16) -> Result<Option<Job>, Fault>
-        ensures { IfErr result IsTakeFault }
+    /// Gives a worker a job, or says that the book was closed and nothing waited. The worker has room for both of its events.
+    pub(crate) fn take<R: Wait>(
+        &self,
+        rt: &R,
+        k: u16,
+        events: &Vec<PoolEvent>,
+    ) -> Result<Result<Job, WasOver<L>>, Fault>
+        requires room { vec_len events.now + 2 ≤ vec_capacity events.now }
+        ensures faults { IfErr result IsTakeFault }
     {
+        let _ = events;
         let (answer, guard) = self.taken(rt, k);
         drop(guard);
         self.grown.notify_all();
@@ -160,8 +158,13 @@ impl<L: Ledger> LockedBook<L> {
         answer
     }
 
-    pub(crate) fn close<R: Wait>(&self, rt: &R) {
-        self.book.lock(rt).close();
+    /// Closes the book, and wakes all that wait.
+    pub fn close<R: Wait>(&self, rt: &R) -> WasClosed<L> {
+        let mut guard = self.book.lock(rt);
+        guard.close();
+        let closed = WasClosed::seen(&guard);
+        drop(guard);
         self.wake();
+        closed
     }
 }

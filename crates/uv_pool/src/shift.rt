@@ -36,8 +36,8 @@ pub struct Shift<L: Ledger> {
 /// Works until its bench has no job for it: takes a job, does it, and hands the result in, each in its turn.
 ///
 /// The shift's events are those that the bench answered meanwhile, Take and Finish of one request in turn; its share counts
-/// the finishes. Where it answers a fault it has closed its bench first, and left at most one job taken and not finished:
-/// it makes room for both events of a job before it takes the job.
+/// the finishes. Where it answers a fault it has closed its bench first, and left at most one job taken and not finished, whose
+/// result the bench didn't take: it makes room for both events of a job before it takes the job.
 pub fn worker<L: Ledger, B: Bench<L>, G: Gate, R: Wait>(
     rt: &R,
     alloc: Global,
@@ -52,7 +52,7 @@ pub fn worker<L: Ledger, B: Bench<L>, G: Gate, R: Wait>(
     ensures idle { OnOk result (B.idle bench.new) }
     ensures faults { IfErr result IsWorkerFault }
     ensures closed { OnErr result (B.shut bench.new) }
-    ensures stops { OnErr result (Stops k (B.answered bench.old) (B.answered bench.new)) }
+    ensures stops { OnErr result (Stops B.answered B.refuses k (B.answered bench.old) (B.answered bench.new)) }
 {
     let mut share = match bench.enrol(k) {
         Ok(share) => share,
@@ -95,7 +95,7 @@ fn serve<L: Ledger, B: Bench<L>, G: Gate>(
     ensures parts { share.new.parts ≡ share.old.parts }
     ensures idle { IfOk result (λ more. (more ≡ true → ⊥) → B.idle bench.new) }
     ensures faults { IfErr result IsWorkerFault }
-    ensures breaks { OnErr result (Breaks k (B.answered bench.old) (B.answered bench.new)) }
+    ensures breaks { OnErr result (Breaks B.answered B.refuses k (B.answered bench.old) (B.answered bench.new)) }
 {
     match events.reserve(2) {
         Ok(()) => {}

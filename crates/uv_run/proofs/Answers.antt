@@ -1,5 +1,5 @@
 -- What a session answers to a step, as a live run sees it.
-use Rattle.std.proofs.Common.{◌≡◌, ℕ, ◌+◌, List, [], ◌∷◌, ◌++◌, false, cond, Option, Some, None, Result, Ok, Err, refl, ap, ap₂, sym, subst, ◌∙◌, append-nil, arith}
+use Rattle.std.proofs.Common.{◌≡◌, inl, inr, ℕ, ◌+◌, List, [], ◌∷◌, ◌++◌, false, cond, Option, Some, None, Result, Ok, Err, refl, ap, ap₂, sym, subst, ◌∙◌, append-nil, arith}
 use Rattle.std.specs.List.{count_by}
 use Rattle.uv_ids.specs.declared.event.Event.{Event}
 use Rattle.uv_ids.specs.declared.event.Event.TheVariants.{Loop, Take, Finish, Send, Tick}
@@ -16,7 +16,9 @@ use Rattle.uv_work.specs.declared.event.PoolEvent.{PoolEvent}
 use Rattle.uv_work.specs.declared.event.PoolEvent.TheVariants as event
 use Rattle.uv_work.specs.Pool.{IsLegal}
 use Rattle.uv_model.specs.declared.machine.Outcome.{Outcome}
-use Rattle.uv_model.specs.Next.{Moves, Refuses}
+use Rattle.uv_model.specs.Next.{Moves, Refuses, next}
+use Rattle.uv_model.specs.Handing.{RefusesResult}
+use Rattle.uv_ids.specs.declared.fault.Why.TheVariants.{NoWork}
 use Rattle.uv_model.specs.After.{after, refusal_of}
 use Rattle.uv_session.specs.Shown.{Shown, Responds, TakesEvent, TakesResult}
 use Rattle.uv_order.specs.PoolEvents.{pool_of}
@@ -178,10 +180,13 @@ event_of s t k job f h a = record {
   taken_back = h.taken_back;
 }
 
--- and where there is no memory, or no step left
-pub result_err : (s t : Shown) (k : ℕ) (job : Job) (f : Fault) → ((why : Why) → f ≡ fault.Refused why → ⊥) → TakesResult s k job (Err f) t →
+-- and where there is no memory, or no step left, or the worker may not finish at all
+pub result_err : (s t : Shown) (k : ℕ) (job : Job) (f : Fault) → (f ≡ fault.Refused NoWork → ⊥) → TakesResult s k job (Err f) t →
     TakesEvent s (Finish k) (Err f) t
-result_err s t k job (fault.Refused why) n h = absurd (n why refl)
+result_err s t k job (fault.Refused why) n h = event_of s t k job (fault.Refused why) h (h.answer.0, h.answer.1, refused h.answer.2) where
+  refused : RefusesResult s.program (after s.program s.standing) k job why → next s.program (after s.program s.standing) (Finish k) ≡ Refuses why
+  refused (inl same) = same
+  refused (inr other) = absurd (n (ap (λ (w : Why). fault.Refused w) other.0))
 result_err s t k job fault.Memory n h = event_of s t k job fault.Memory h h.answer
 result_err s t k job fault.StepsFull n h = event_of s t k job fault.StepsFull h h.answer
 result_err s t k job _ n h = absurd h.answer

@@ -1,10 +1,10 @@
 //! The steps of a live run, each as a step of the session, with the list of the pool's events.
-ghost use Rattle.std.specs.Prelude.{◌≡◌, ◌<◌, ◌+◌, ◌++◌, OnOk, OnErr, vec_len, vec_capacity};
+ghost use Rattle.std.specs.Prelude.{◌≡◌, ◌<◌, ◌≤◌, ◌+◌, ◌++◌, OnOk, OnErr, length, vec_len, vec_capacity};
 ghost use Rattle.uv_ids.specs.declared.event.Event.TheVariants as step;
 ghost use Rattle.uv_work.specs.declared.event.PoolEvent.TheVariants as event;
 ghost use Rattle.uv_session.specs.Shown.{TakesEvent};
 ghost use Rattle.uv_order.specs.Taking.{IsTakenAs};
-ghost use Rattle.uv_live.specs.Following.{Adds, Applies, StaysEnded};
+ghost use Rattle.uv_live.specs.Following.{Adds, Applies, OnFull, StaysEnded};
 ghost use Rattle.uv_live.specs.Turning.{Steps, events_as};
 ghost use Rattle.uv_run.specs.Events as spec;
 ghost use Rattle.uv_run.specs.Events.{events_in, events_of_loop};
@@ -12,7 +12,7 @@ ghost use Rattle.uv_run.specs.Bound.{course_of, refusal_in, polls_in, hours_in, 
 
 use crate::did::event_of_line;
 use crate::pool_log::PoolLog;
-use uv_ids::{Event, Fault, Id, Seen, Var};
+use uv_ids::{Event, Fault, Id, Seen, Var, Why};
 use uv_model::{Machine, Outcome, Place, Stage};
 use uv_script::Script;
 use uv_session::Session;
@@ -64,6 +64,7 @@ pub(crate) fn step<M: Machine>(
     ensures answer { Steps (refusal_in session.old) (course_of session.old) (events_as (λ o. events_of_loop session.old.program o.seen) result)
         (course_of session.new) }
     ensures same { OnErr result (refusal_in session.new ≡ refusal_in session.old) }
+    ensures full { OnFull result (session.old.limit ≤ length session.old.standing) }
     ensures sends { SameSends session.old session.new }
 {
     log.reserve()?;
@@ -85,6 +86,7 @@ pub(crate) fn send<M: Machine>(session: &mut Session<M>, name: Var) -> Result<()
     ensures answer { Adds (step.Send name) (course_of session.old) result (course_of session.new) }
     ensures polling { polls_in session.new ≡ polls_in session.old }
     ensures sends { Sends name.0 session.old result session.new }
+    ensures full { OnFull result (session.old.limit ≤ length session.old.standing) }
 {
     match session.do_event(Event::Send(name)) {
         Ok(_) => Ok(()),
@@ -100,6 +102,7 @@ pub(crate) fn tick<M: Machine>(session: &mut Session<M>, span: u64) -> Result<()
     ensures events { (course_of session.new).events ≡ (course_of session.old).events }
     ensures answer { Adds (step.Tick span) (course_of session.old) result (course_of session.new) }
     ensures hours { OnOk result (hours_in session.new ≡ hours_in session.old + span) }
+    ensures full { OnFull result (session.old.limit ≤ length session.old.standing) }
     ensures sends { SameSends session.old session.new }
 {
     match session.do_event(Event::Tick(span)) {
@@ -123,6 +126,7 @@ pub(crate) fn take<M: Machine>(
     ensures answer { IsTakenAs session.old.program session.old.standing (step.Take k) (event.Take k id)
         → Applies (event.Take k id) (course_of session.old) result (course_of session.new) }
     ensures ended { StaysEnded (refusal_in session.old) (refusal_in session.new) }
+    ensures full { OnFull result (session.old.limit ≤ length session.old.standing) }
     ensures sends { SameSends session.old session.new }
 {
     log.reserve()?;
@@ -135,7 +139,8 @@ pub(crate) fn take<M: Machine>(
     }
 }
 
-/// The finish of a worker's request, with this result where it is of the very job that the worker runs.
+/// The finish of a worker's request, with this result where it is of the very job that the worker runs. Only where it is of another one
+/// the session does the job.
 #[tactic(auto, using(crate::proofs::Answers::answers))]
 fn hand_in<M: Machine>(
     session: &mut Session<M>,
@@ -149,7 +154,7 @@ fn hand_in<M: Machine>(
     };
     match session.finish_with(k, work) {
         Ok(outcome) => Ok(outcome),
-        Err(Fault::Refused(_)) => session.do_event(Event::Finish(k)),
+        Err(Fault::Refused(Why::NoWork)) => session.do_event(Event::Finish(k)),
         Err(fault) => Err(fault),
     }
 }
@@ -170,6 +175,7 @@ pub(crate) fn finish<M: Machine>(
     ensures answer { IsTakenAs session.old.program session.old.standing (step.Finish k) (event.Finish k id)
         → Applies (event.Finish k id) (course_of session.old) result (course_of session.new) }
     ensures ended { StaysEnded (refusal_in session.old) (refusal_in session.new) }
+    ensures full { OnFull result (session.old.limit ≤ length session.old.standing) }
     ensures sends { SameSends session.old session.new }
 {
     log.reserve()?;

@@ -124,6 +124,8 @@ impl<M: Machine> Follower for LiveSession<M> {
 
     ghost plan = { λ s. plan_within s.session s.lines };
 
+    ghost most = { λ a. a.limit };
+
     ghost course = { λ s. course_of s.session };
 
     ghost events_by = { λ a o. events_of_loop a.program o.seen };

@@ -1,6 +1,7 @@
-use Rattle.std.proofs.Common.{length, sym, ap, ap₂, ◌∙◌, subst}
+use Rattle.std.proofs.Common.{length, refl, sym, ap, ap₂, ◌∙◌, subst}
 use Rattle.uv_script.specs.Program.{Program}
 use Rattle.uv_session.specs.Shown.{Shown}
+use Rattle.uv_session.proofs.Traces.{is_documented, is_once}
 use Rattle.uv_live.specs.Course.{AreNamed}
 use Rattle.uv_live.specs.Running.{RunSettles}
 use Rattle.uv_run.specs.Bound.{plan_of, plan_within, course_of}
@@ -25,3 +26,10 @@ returns-in-Ok-live-clause-settled g c =
     subst (λ (s : Shown). RunSettles (plan_of c.args.script c.args.script.threads) (course_of s)) (sym c.into_session.ensures)
     (settled_by (plan_within ran.session ran.lines) (plan_of c.args.script c.args.script.threads) (course_of ran.session) same
     c.in-Ok-live.ensures.settled)
+
+-- the lines of every session are documented, and by them each handle closes once
+pub returns-in-Ok-live-clause-documented : goal.returns-in-Ok-live-clause-documented
+returns-in-Ok-live-clause-documented g c = is_documented c.into_session.result _ refl
+
+pub returns-in-Ok-live-clause-once : goal.returns-in-Ok-live-clause-once
+returns-in-Ok-live-clause-once g c = is_once c.into_session.result _ refl

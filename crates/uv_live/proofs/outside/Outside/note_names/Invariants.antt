@@ -2,4 +2,7 @@ use Rattle.std.proofs.Common.{◌≡◌}
 use Rattle.uv_live.proofs.outside.Outside.note_names.Given as goal
 
 abbrev pub invariant-names : goal.invariant-names
-invariant-names g l = l.self.board.now.board ≡ l.initial.self.board.now.board
+invariant-names g l = record {
+  board : l.self.board.now.board ≡ l.initial.self.board.now.board;
+  lost : l.self.lost ≡ l.initial.self.lost;
+}

@@ -1,5 +1,10 @@
-use Rattle.std.proofs.Common.{◌≡◌}
+use Rattle.std.proofs.Common.{◌≡◌, ◌+◌}
+use Rattle.uv_live.specs.Sending.{threads_below}
 use Rattle.uv_live.proofs.outside.Outside.start.Given as goal
 
 abbrev pub invariant-threads : goal.invariant-threads
-invariant-threads g l = l.self.board.now.board ≡ l.initial.self.board.now.board
+invariant-threads g l = record {
+  board : l.self.board.now.board ≡ l.initial.self.board.now.board;
+  lost : l.self.lost ≡ l.initial.self.lost;
+  threads : l.self.seat.knows.splits ≡ l.initial.self.seat.knows.splits + threads_below l.thread l.lines;
+}

@@ -1,0 +1,66 @@
+-- One name more is absorbed.
+use Rattle.std.proofs.Common.{◌≡◌, ◌∙◌, inl, inr, ℕ, ◌+◌, ◌<◌, Bool, List, [], ◌∷◌, ◌++◌, Some, take, length, get_or, slice_get, map, filter, refl, sym, ap, subst}
+use Rattle.std.specs.List.{Contains}
+use Rattle.std.proofs.lemmas.List.{take_more, map-append}
+use Rattle.std.proofs.lemmas.List.Elements.{filter-append}
+use Rattle.uv_ids.specs.declared.event.Event.TheVariants as step
+use Rattle.uv_ids.specs.declared.id.Var.{Var}
+use Rattle.uv_wake.specs.declared.tickets.Ticket.{Ticket}
+use Rattle.uv_wake.specs.declared.views.LoopView.{LoopView}
+use Rattle.uv_wake.specs.Seats.{AllCarried, Carries, after_absorb}
+use Rattle.uv_live.specs.Course.{Course, stepped}
+use Rattle.uv_ids.specs.declared.thread_line.ThreadLine.{ThreadLine}
+use Rattle.uv_live.specs.Sending.{Absorbs, Records, is_by, names_by}
+use Rattle.uv_live.proofs.Shares.{one_more}
+
+-- an absorb leaves what was carried
+pub absorbs : (l l' : LoopView) (v : Var) (took : Bool) → l' ≡ after_absorb l v took → Carries l v took l' → Absorbs l l'
+absorbs l l' v took is carries = record {
+  tickets = ap (λ (k : LoopView). k.tickets) is;
+  splits = ap (λ (k : LoopView). k.splits) is;
+  joins = ap (λ (k : LoopView). k.joins) is;
+  carried = λ t h. (carries t).1 (inl h);
+}
+
+pub absorbs_none : (l : LoopView) → Absorbs l l
+absorbs_none l = record { tickets = refl; splits = refl; joins = refl; carried = λ t h. h }
+
+still_carried : (l l' : LoopView) (v : Var) → Absorbs l l' → AllCarried l v → AllCarried l' v
+still_carried l l' v a h = λ t is in_list. a.carried t (h t is (subst (λ (ts : List Ticket). Contains ts t) a.tickets in_list))
+
+pub absorbs_both : (l l' l'' : LoopView) → Absorbs l l' → Absorbs l' l'' → Absorbs l l''
+absorbs_both l l' l'' a b = record {
+  tickets = b.tickets ∙ a.tickets;
+  splits = b.splits ∙ a.splits;
+  joins = b.joins ∙ a.joins;
+  carried = λ t h. b.carried t (a.carried t h);
+}
+
+-- no ticket of the first n names waits
+abbrev pub CarriedBelow : LoopView → List Var → ℕ → Type 0
+CarriedBelow l names n = (k : ℕ) → k < n → (v : Var) → slice_get names k ≡ Some v → AllCarried l v
+
+pub carried_more : (l l' : LoopView) (names : List Var) (n : ℕ) (name : Var) → slice_get names n ≡ Some name → Absorbs l l' → AllCarried l' name
+    → CarriedBelow l names n → CarriedBelow l' names (n + 1)
+carried_more l l' names n name at a here before =
+    one_more (λ (k : ℕ). (v : Var) → slice_get names k ≡ Some v → AllCarried l' v) n
+    (λ k low v there. still_carried l l' v a (before k low v there))
+    (λ v there. let some : Some name ≡ Some v = sym at ∙ there in let same : name ≡ v = cc in subst (AllCarried l') same here)
+
+records_both : (xs ys : List Var) (s t u : Course) → Records xs s t → Records ys t u → Records (xs ++ ys) s u
+records_both [] ys s t u h k = subst (λ (x : Course). Records ys x u) h k
+records_both (v ∷ vs) ys s t u (inl h) k = inl (records_both vs ys s t u h k)
+records_both (v ∷ vs) ys s t u (inr h) k = inr (records_both vs ys (stepped (step.Send v) [] s) t u h k)
+
+pub records_more : (names : List Var) (n : ℕ) (d : Var) (s t u : Course) → n < length names → Records (take n names) s t
+    → Records (get_or names n d ∷ []) t u → Records (take (n + 1) names) s u
+records_more names n d s t u within h k =
+    subst (λ (xs : List Var). Records xs s u) (sym (take_more names n d within)) (records_both (take n names) (get_or names n d ∷ []) s t u h k)
+
+-- one line more of a thread's
+pub names_more : (thread : ℕ) (lines : List ThreadLine) (n : ℕ) (d : ThreadLine) → n < length lines
+    → names_by thread (take (n + 1) lines) ≡ names_by thread (take n lines) ++ names_by thread (get_or lines n d ∷ [])
+names_more thread lines n d within =
+    ap (names_by thread) (take_more lines n d within)
+    ∙ (ap (map (λ (l : ThreadLine). l.name)) (filter-append (is_by thread) (take n lines) (get_or lines n d ∷ []))
+    ∙ map-append (λ (l : ThreadLine). l.name) (filter (is_by thread) (take n lines)) (filter (is_by thread) (get_or lines n d ∷ [])))

@@ -1,0 +1,9 @@
+use Rattle.std.proofs.Common.{◌≡◌, ◌+◌, ℕ, subst, arith}
+use Rattle.uv_live.specs.Sending.{threads_below}
+use Rattle.uv_live.proofs.outside.Outside.start.Goals as goal
+
+pub returns-clause-threads : goal.returns-clause-threads
+returns-clause-threads g c =
+    let all : c.threads.thread ≡ 64 = omega (arith, c.threads.auto.thread-end, c.threads-test.false) in
+    subst (λ (n : ℕ). c.threads.self.seat.knows.splits ≡ c.args.self.now.seat.knows.splits + threads_below n c.args.lines.now) all
+    c.threads.invariant.threads

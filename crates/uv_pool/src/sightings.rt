@@ -1,0 +1,99 @@
+//! What a thread saw of a book while it held the lock, kept once the lock is let go. No clause knows what lies under a lock
+//! then. But these values are made here alone, each where a book that is lent is just so: who has one has seen it.
+ghost use Rattle.std.specs.Prelude.{◌≡◌, ◌⊎◌, true, false, [], IfSome, IfNone};
+ghost use Rattle.uv_pool.specs.Book.{IsFinishedPast};
+
+use crate::book::PoolBook;
+use std::marker::PhantomData;
+use std::sync::ledger::Ledger;
+use uv_work::PoolEvent;
+
+/// The book was open.
+#[derive(Drop)]
+pub struct WasOpen<L: Ledger> {
+    of: PhantomData<L>,
+}
+
+impl<L: Ledger> WasOpen<L> {
+    /// The book is open, or none where it was closed.
+    pub fn look(book: &PoolBook<L>) -> Option<WasOpen<L>>
+        ensures some { IfSome result (λ seen. book.now.rest.closed ≡ false) }
+        ensures none { IfNone result (book.now.rest.closed ≡ true) }
+    {
+        if book.closed() {
+            return None;
+        }
+        Some(WasOpen { of: PhantomData })
+    }
+}
+
+/// The book was closed.
+#[derive(Drop)]
+pub struct WasClosed<L: Ledger> {
+    of: PhantomData<L>,
+}
+
+impl<L: Ledger> WasClosed<L> {
+    pub(crate) fn seen(book: &PoolBook<L>) -> WasClosed<L>
+        requires { book.now.rest.closed ≡ true }
+    {
+        let _ = book;
+        WasClosed { of: PhantomData }
+    }
+}
+
+/// The book was closed, and nothing waited for a worker.
+#[derive(Drop)]
+pub(crate) struct WasOver<L: Ledger> {
+    of: PhantomData<L>,
+}
+
+impl<L: Ledger> WasOver<L> {
+    pub(crate) fn seen(book: &PoolBook<L>) -> WasOver<L>
+        requires closed { book.now.rest.closed ≡ true }
+        requires nothing { book.now.hold.contents.waiting ≡ [] }
+    {
+        let _ = book;
+        WasOver { of: PhantomData }
+    }
+}
+
+/// A job was finished past the first `past` entries of the log, or the book was closed.
+#[derive(Drop)]
+pub struct HasFinished<L: Ledger> {
+    pub past: usize,
+    of: PhantomData<L>,
+}
+
+impl<L: Ledger> HasFinished<L> {
+    pub(crate) fn look(book: &PoolBook<L>, past: usize) -> Option<HasFinished<L>>
+        ensures past { IfSome result (λ seen. seen.past ≡ past) }
+        ensures seen { IfSome result (λ seen. IsFinishedPast past book.now.hold.contents.log ⊎ (book.now.rest.closed ≡ true)) }
+    {
+        if !is_finished_past(book.log(), past) && !book.closed() {
+            return None;
+        }
+        Some(HasFinished {
+            past,
+            of: PhantomData,
+        })
+    }
+}
+
+fn is_finish(event: PoolEvent) -> bool
+    ensures { result ≡ Rattle.uv_pool.specs.Book.is_finish event }
+{
+    matches!(event, PoolEvent::Finish(_, _))
+}
+
+/// Whether a job was finished past the first n entries of the log.
+fn is_finished_past(log: &[PoolEvent], n: usize) -> bool
+    ensures { result ≡ true → IsFinishedPast n log.now }
+{
+    'places: for place in n..log.len() {
+        if is_finish(log[place]) {
+            return true;
+        }
+    }
+    false
+}
