@@ -4,6 +4,7 @@ use Rattle.uv_ids.specs.declared.fault.Fault.{Fault}
 use Rattle.uv_ids.specs.declared.fault.Fault.TheVariants as fault
 use Rattle.uv_engine.specs.declared.verdict.Verdict.{Verdict}
 use Rattle.uv_engine.specs.declared.verdict.Verdict.TheVariants.{Same, Differs, Refused, Full}
+use Rattle.uv_engine.specs.Devices.{IfOfInput}
 use Rattle.uv_engine.specs.Out.{Converses, IsConversationFault}
 use Rattle.uv_engine.specs.Verdict as verdict
 use Rattle.uv_engine.specs.Verdict.{HasVerdict, answer_of, Tells, Replays, IsReplayFault}
@@ -30,6 +31,13 @@ replayed_status fault.Memory h = refl
 replayed_status fault.Read h = refl
 replayed_status fault.Write h = refl
 replayed_status _ h = absurd h
+
+-- what holds of a fault of the input alone holds where the status isn't 4
+pub of_status : (f : Fault) (Holds : Type 0) → (status_of f ≡ 4 → ⊥) → IfOfInput f Holds → Holds
+of_status fault.Memory Holds n h = absurd (n refl)
+of_status fault.Read Holds n h = absurd (n refl)
+of_status fault.Write Holds n h = absurd (n refl)
+of_status _ Holds n h = h
 
 -- where there was no memory to read the words
 pub no_memory_status : (asked : Option Job) → MayEnd asked 4

@@ -48,6 +48,12 @@ RunsLive workers input (Ok done) old new = IsWritten workers input old new
 RunsLive workers input (Err (BadScript line)) old new = SaysInFront input (Err (fault.Script line)) × (new ≡ old)
 RunsLive workers input (Err (Failed why)) old new = IsBroken workers input old new
 
+-- where the script was read, be it bad, and the run didn't fail
+abbrev pub OnRead : Result (Unit {0}) NoRecording → Type 0 → Type 0
+OnRead (Ok done) Holds = Holds
+OnRead (Err (BadScript line)) Holds = Holds
+OnRead (Err (Failed why)) Holds = Unit {0}
+
 -- a live run. 0: the recording was written. 2: the script is bad, and nothing was written. 4: nothing was written, or a beginning
 -- of the recording
 pub data Lives (workers : Option ℕ) (input old new : List ℕ) : ℕ → Type 0 where

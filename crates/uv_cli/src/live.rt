@@ -1,10 +1,10 @@
 //! A live run of the script of a reader.
-ghost use Rattle.std.specs.Prelude.{◌≡◌, IfErr, IfSome, OnOk};
+ghost use Rattle.std.specs.Prelude.{◌≡◌, ◌^◌, IfErr, IfSome, OnOk};
 ghost use Rattle.uv_ids.specs.declared.fault.Fault.TheVariants.{Write};
 ghost use Rattle.uv_script.specs.Program.{IsWorkerCount};
-ghost use Rattle.uv_engine.specs.Devices.{WriterCounts};
+ghost use Rattle.uv_engine.specs.Devices.{TakesWithin, WriterCounts};
 ghost use Rattle.uv_engine.specs.Sink.{WritesText};
-ghost use Rattle.uv_cli.specs.Live.{to_run, RunsLive};
+ghost use Rattle.uv_cli.specs.Live.{to_run, OnRead, RunsLive};
 
 use std::alloc::Global;
 use std::sync::Wait;
@@ -74,6 +74,7 @@ pub fn run_live<M: Machine, H: Threads + Wait + Sync, R: Source, W: Sink>(
 ) -> Result<(), NoRecording>
     requires within { IfSome workers IsWorkerCount }
     ensures text { R.Tells → W.Tells → RunsLive workers (R.remaining reader.old) result (W.written writer.old) (W.written writer.new) }
+    ensures within { OnRead result (R.Tells → TakesWithin (2 ^ 30) (R.remaining reader.old) (R.remaining reader.new)) }
     ensures reader { OnOk result (R.failures reader.new ≡ R.failures reader.old) }
     ensures writer { OnOk result (W.failures writer.new ≡ W.failures writer.old) }
 {

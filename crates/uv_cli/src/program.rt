@@ -1,7 +1,8 @@
 //! The program over any reader and writers.
-ghost use Rattle.std.specs.Prelude.{◌≡◌, map, IfSome, Some, None};
+ghost use Rattle.std.specs.Prelude.{◌≡◌, ◌≢◌, ◌^◌, map, IfSome, Some, None};
 ghost use Rattle.uv_script.specs.Program.{IsWorkerCount};
 ghost use Rattle.uv_words.specs.declared.command_line.Job.TheVariants.{Debug, Replay, Live};
+ghost use Rattle.uv_engine.specs.Devices.{TakesWithin};
 ghost use Rattle.uv_cli.specs.Live.{Lives};
 ghost use Rattle.uv_cli.specs.Status.{Runs, Reruns, Ran, MayEnd, status_of};
 ghost use Rattle.uv_words.specs.Words.{job_of};
@@ -39,6 +40,9 @@ pub fn run<H: Threads + Wait + Sync, R: Source, W: Sink, E: Write>(
     // Where the words are no command line, nothing is read and nothing is written.
     ensures untouched { job_of (map (λ word. word.now) words.now) ≡ None → (reader.new ≡ reader.old) × (writer.new ≡ writer.old) }
 
+    // With any status but 4, that of want of memory and of a device that failed, it has read 2^30 bytes at the most.
+    ensures within { result ≢ 4 → R.Tells → TakesWithin (2 ^ 30) (R.remaining reader.old) (R.remaining reader.new) }
+
     // A terminal doesn't tell its bytes. Yet with status 0 neither device has failed.
     ensures reader { result ≡ 0 → R.failures reader.new ≡ R.failures reader.old }
     ensures writer { result ≡ 0 → W.failures writer.new ≡ W.failures writer.old }
@@ -60,6 +64,7 @@ fn debug<R: Source, W: Sink, E: Write>(
 ) -> u8
     ensures text { R.Tells → W.Tells → Runs (R.remaining reader.old) (W.written writer.old) (W.written writer.new) result }
     ensures status { MayEnd (Some Debug) result }
+    ensures within { result ≢ 4 → R.Tells → TakesWithin (2 ^ 30) (R.remaining reader.old) (R.remaining reader.new) }
     ensures reader { result ≡ 0 → R.failures reader.new ≡ R.failures reader.old }
     ensures writer { result ≡ 0 → W.failures writer.new ≡ W.failures writer.old }
 {
@@ -77,6 +82,7 @@ fn rerun<R: Source, W: Sink, E: Write>(
 ) -> u8
     ensures text { R.Tells → W.Tells → Reruns (R.remaining reader.old) (W.written writer.old) (W.written writer.new) result }
     ensures status { MayEnd (Some Replay) result }
+    ensures within { result ≢ 4 → R.Tells → TakesWithin (2 ^ 30) (R.remaining reader.old) (R.remaining reader.new) }
     ensures reader { result ≡ 0 → R.failures reader.new ≡ R.failures reader.old }
     ensures writer { result ≡ 0 → W.failures writer.new ≡ W.failures writer.old }
 {
@@ -97,6 +103,7 @@ fn live<H: Threads + Wait + Sync, R: Source, W: Sink, E: Write>(
     requires within { IfSome workers IsWorkerCount }
     ensures text { R.Tells → W.Tells → Lives workers (R.remaining reader.old) (W.written writer.old) (W.written writer.new) result }
     ensures status { MayEnd (Some (Live workers)) result }
+    ensures within { result ≢ 4 → R.Tells → TakesWithin (2 ^ 30) (R.remaining reader.old) (R.remaining reader.new) }
     ensures reader { result ≡ 0 → R.failures reader.new ≡ R.failures reader.old }
     ensures writer { result ≡ 0 → W.failures writer.new ≡ W.failures writer.old }
 {

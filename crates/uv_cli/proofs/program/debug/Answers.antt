@@ -1,5 +1,6 @@
+use Rattle.std.proofs.Common.{◌∙◌}
 use Rattle.uv_cli.specs.Status.{done}
-use Rattle.uv_cli.proofs.Ending.{by_fault, conversed_status}
+use Rattle.uv_cli.proofs.Ending.{of_status, by_fault, conversed_status}
 use Rattle.uv_cli.proofs.program.debug.Goals as goal
 
 pub returns-in-Ok-clause-text : goal.returns-in-Ok-clause-text
@@ -10,3 +11,6 @@ returns-in-Err-clause-text g c = λ reads tells. rw c.fail.ensures (by_fault _ _
 
 pub returns-in-Err-clause-status : goal.returns-in-Err-clause-status
 returns-in-Err-clause-status g c = rw c.fail.ensures (conversed_status c.in-Err.fault c.in-Err.ensures.err)
+
+pub returns-in-Err-clause-within : goal.returns-in-Err-clause-within
+returns-in-Err-clause-within g c = λ n. of_status c.in-Err.fault _ (λ e. n (c.fail.ensures ∙ e)) c.in-Err.ensures.within

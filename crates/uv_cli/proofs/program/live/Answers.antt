@@ -1,6 +1,7 @@
-use Rattle.std.proofs.Common.{Err, subst}
+use Rattle.std.proofs.Common.{◌^◌, Err, refl, subst}
 use Rattle.uv_cli.specs.declared.live.NoRecording.{NoRecording}
-use Rattle.uv_cli.specs.Live.{RunsLive, recorded, bad_script, broken}
+use Rattle.uv_engine.specs.Devices.{TakesWithin}
+use Rattle.uv_cli.specs.Live.{OnRead, RunsLive, recorded, bad_script, broken}
 use Rattle.uv_cli.proofs.program.live.Goals as goal
 
 pub returns-in-Ok-clause-text : goal.returns-in-Ok-clause-text
@@ -19,3 +20,11 @@ returns-in-Err-Failed-clause-text g c = λ reads tells.
     (g.W.Sink.written c.args.writer.now) (g.W.Sink.written c.run_live.new.writer)) c.in-Err-Failed.field-0-is
     (c.in-Err-Failed.ensures.text reads tells) in
     broken h
+
+pub returns-in-Err-BadScript-clause-within : goal.returns-in-Err-BadScript-clause-within
+returns-in-Err-BadScript-clause-within g c = λ n reads.
+    subst (λ (why : NoRecording). OnRead (Err why) (g.R.Source.Tells → TakesWithin (2 ^ 30) (g.R.Source.remaining c.args.reader.now)
+    (g.R.Source.remaining c.run_live.new.reader))) c.in-Err-BadScript.field-0-is c.in-Err-BadScript.ensures.within reads
+
+pub returns-in-Err-Failed-clause-within : goal.returns-in-Err-Failed-clause-within
+returns-in-Err-Failed-clause-within g c = λ n reads. absurd (n refl)

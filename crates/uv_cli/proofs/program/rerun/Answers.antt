@@ -1,4 +1,5 @@
-use Rattle.uv_cli.proofs.Ending.{replayed_well, replayed_fault, replayed_status}
+use Rattle.std.proofs.Common.{◌∙◌}
+use Rattle.uv_cli.proofs.Ending.{of_status, replayed_well, replayed_fault, replayed_status}
 use Rattle.uv_cli.proofs.program.rerun.Goals as goal
 
 pub returns-in-Ok-clause-text : goal.returns-in-Ok-clause-text
@@ -9,3 +10,6 @@ returns-in-Err-clause-text g c = λ reads tells. rw c.fail.ensures (replayed_fau
 
 pub returns-in-Err-clause-status : goal.returns-in-Err-clause-status
 returns-in-Err-clause-status g c = rw c.fail.ensures (replayed_status c.in-Err.fault c.in-Err.ensures.err)
+
+pub returns-in-Err-clause-within : goal.returns-in-Err-clause-within
+returns-in-Err-clause-within g c = λ n. of_status c.in-Err.fault _ (λ e. n (c.fail.ensures ∙ e)) c.in-Err.ensures.within

@@ -1,4 +1,4 @@
-use Rattle.std.proofs.Common.{Some, refl, ap, subst, ◌∙◌}
+use Rattle.std.proofs.Common.{arith, Some, refl, ap, subst, ◌∙◌}
 use Rattle.uv_cli.specs.Status.{conversed, replayed, lived, bad_words, no_memory}
 use Rattle.uv_words.specs.Words.{IsJob}
 use Rattle.uv_cli.proofs.Ending.{no_memory_status, asks_something}
@@ -55,3 +55,9 @@ returns-in-Err-Memory-clause-status g c = rw c.fail.ensures (no_memory_status _)
 
 pub returns-in-Err-Memory-clause-untouched : goal.returns-in-Err-Memory-clause-untouched
 returns-in-Err-Memory-clause-untouched g c = λ none. (refl, refl)
+
+pub returns-in-Err-BadWords-clause-within : goal.returns-in-Err-BadWords-clause-within
+returns-in-Err-BadWords-clause-within g c = λ n reads. omega arith
+
+pub returns-in-Err-Memory-clause-within : goal.returns-in-Err-Memory-clause-within
+returns-in-Err-Memory-clause-within g c = λ n reads. absurd (n c.fail.ensures)
