@@ -364,8 +364,10 @@ did_known p past s n (row.refused why) kept work begun k = tt
 did_known p past s n (row.still x time clock stop idled l q) kept work begun k = still_known p past (timed s x time clock stop idled) l q k
 did_known p past s n (row.op x at o e) kept work begun k = (op_line p past s at o e kept begun k, op_known p past s o kept k at e)
 did_known p past s n (row.begun run q e) kept work begun k = begin_known p past s run q k
-did_known p past s n (row.begun_closing run e) kept work begun k = begins_known p past (record s { closing = all_yet s.closing }) run Closing phase.Closing k
-did_known p past s n (row.begun_done run e) kept work begun k = begins_known p past (record (refreshed s) { done = all_yet s.done }) run Done phase.Done k
+did_known p past s n (row.begun_closing run e) kept work begun k = begins_known p past (record s { closing = all_yet s.closing }) run Closing
+    phase.Closing k
+did_known p past s n (row.begun_done run e) kept work begun k = begins_known p past (record (refreshed s) { done = all_yet s.done }) run Done
+    phase.Done k
 did_known p past s n (row.collected run part t f) kept work begun k = changed p past s t (records.stopped t.1) f.holds refl refl k
 did_known p past s n (row.fired run t f) kept work begun k = fired_known p past s run t f kept begun k
 did_known p past s n (row.walked run q t sync f) kept work begun k = walked_known p past s run q t f kept begun k

@@ -145,7 +145,8 @@ turn_did p s run turn = by (step.way (order_of p) run.mode (goes s) turn) where
   by ToEnd = still _ s.time s.clock false s.idled _ (end _)
 
 fire_did : (p : Program) (s : State) (run : Run) (part : TimersOf) → Did p s (step.fire p s run part)
-fire_did p s run part = found_both (front s s.ready) _ _ (Did p s) (λ t e. fired (record run { stage = Timers part Firing }) t (front_of s s.ready t e))
+fire_did p s run part = found_both (front s s.ready) _ _ (Did p s)
+    (λ t e. fired (record run { stage = Timers part Firing }) t (front_of s s.ready t e))
     (λ e. turn_did p s run (Behind part))
 
 walk_did : (p : Program) (s : State) (run : Run) (q : WatcherKind) → IsSync q → Did p s (step.after_walk s run q) → Did p s (step.walk p s run q)

@@ -228,7 +228,8 @@ holds_next p told past s at e k =
     (follows p told s at e k.kept k.sent k.working k.stands) (did_known p past s n d k.kept k.working k.started k.known)
     (did_started p past s n d k.kept k.known k.started) (says p s n d) (did_pools p s n d k.kept k.working)
   where
-    by : (n : Next) → StaysKept n → SentFollows p told s n → StaysWorking n → Follows p told at s n → known.Follows p past n → StartedFollows p past n →
+    by : (n : Next) → StaysKept n → SentFollows p told s n → StaysWorking n → Follows p told at s n → known.Follows p past n → StartedFollows p
+        past n →
         Told_by p s n → Pools p s n → HoldsNext p told past s at n
     by (Moves t (Some l)) j i x f o b h q =
         let agree = by_lines p past s k.known in
@@ -325,7 +326,8 @@ pool_by {p} {ls = ls} (quiet f c) = ap (λ (o : Pool). after_events (Some o) (po
 
 pub pools : (p : Program) (es : List Event) → replay (worker_count p) (pool_events p (lines p es)) ≡ Some (pool_of (after.after p es))
 unfolding replay
-pools p es = ap (λ (ls : List Seen). after_events (Some (empty_pool (worker_count p))) (pool_events p ls)) (lines-history p es) ∙ pool_by (course p es)
+pools p es = ap (λ (ls : List Seen). after_events (Some (empty_pool (worker_count p))) (pool_events p ls)) (lines-history p es) ∙ pool_by
+    (course p es)
 
 -- and all of it is kept
 pub record HoldsAt (p : Program) (s : State) : Type 0 where

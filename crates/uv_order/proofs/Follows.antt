@@ -96,7 +96,8 @@ pub left_poll : (p : Program) (told : Told) (s : State) (run : Run) (deadline : 
 left_poll p told s run deadline sent g c e = cond_both (may_leave s deadline) _ _ (Follows p told (Running run.mode run.line (Polling deadline)) s)
     (λ h. record {
       to = Running run.mode run.line (Within (In phase.Done) (begun_with s.done.list));
-      goes = doc.section (In phase.Done) (more_or (has_passed s.clock deadline) (has_some s.done.list) (has_pending s) (has_some told.sent && has_pending s)
+      goes = doc.section (In phase.Done) (more_or (has_passed s.clock deadline) (has_some s.done.list) (has_pending s)
+          (has_some told.sent && has_pending s)
           (λ on. let r = found_pending s.arena.slots on in rw (some_of told.sent r.0 (sent.are r.0 ∙ r.1), on) refl) h)
           (done_next (order_of p) run.mode (doc.goes_on s)) refl
           (record { list = (refl, are_ended s e.done g); off = refl; sent = refl; body = refl }) refl;
@@ -198,7 +199,8 @@ op_left s told o part w more k h l =
     (left_in phase.Prepare (word_of part) (names_at s) o a w more _ s.prepare.yet f.prepare l.prepare)
     (left_in phase.Check (word_of part) (names_at s) o a w more _ s.check.yet f.check l.check)
     (async_in s told o (word_of part) w more k h l.async)
-    (left_in phase.Closing (word_of part) (names_at s) o a w more _ s.closing.yet (untouched _ s.closing.yet _ f.closing (closing_takes_none s o a)) l.closing)
+    (left_in phase.Closing (word_of part) (names_at s) o a w more _ s.closing.yet
+    (untouched _ s.closing.yet _ f.closing (closing_takes_none s o a)) l.closing)
     (left_in phase.Done (word_of part) (names_at s) o a w more _ s.done.yet (untouched _ s.done.yet _ f.done (done_takes_none s o a)) l.done))
 
 pub nothing_there : {A : Type 0} {o : Option A} {x : A} → o ≡ None → o ≡ Some x → ⊥
@@ -247,17 +249,22 @@ body_follows p told s run body x at None st e k h c (fires b) l = absurd (nothin
 body_follows p told s run body x at (Some y) st e k h c (idle {w = w} b) l =
     op_follows p told s run body (In phase.Idle) w y e k c b (λ more is. rw st (running (idle is) (op_left s told y.op (In phase.Idle) w more k h l)))
 body_follows p told s run body x at (Some y) st e k h c (prepare {w = w} b) l =
-    op_follows p told s run body (In phase.Prepare) w y e k c b (λ more is. rw st (running (prepare is) (op_left s told y.op (In phase.Prepare) w more k h l)))
+    op_follows p told s run body (In phase.Prepare) w y e k c b
+    (λ more is. rw st (running (prepare is) (op_left s told y.op (In phase.Prepare) w more k h l)))
 body_follows p told s run body x at (Some y) st e k h c (check {w = w} b) l =
-    op_follows p told s run body (In phase.Check) w y e k c b (λ more is. rw st (running (check is) (op_left s told y.op (In phase.Check) w more k h l)))
+    op_follows p told s run body (In phase.Check) w y e k c b
+    (λ more is. rw st (running (check is) (op_left s told y.op (In phase.Check) w more k h l)))
 body_follows p told s run body x at (Some y) st e k h c (async {w = w} b) l =
-    op_follows p told s run body (In phase.Async) w y e k c b (λ more is. rw st (running (async is) (op_left s told y.op (In phase.Async) w more k h l)))
+    op_follows p told s run body (In phase.Async) w y e k c b
+    (λ more is. rw st (running (async is) (op_left s told y.op (In phase.Async) w more k h l)))
 body_follows p told s run body x at (Some y) st e k h c (closing {w = w} b) l =
-    op_follows p told s run body (In phase.Closing) w y e k c b (λ more is. rw st (running (closing is) (op_left s told y.op (In phase.Closing) w more k h l)))
+    op_follows p told s run body (In phase.Closing) w y e k c b
+    (λ more is. rw st (running (closing is) (op_left s told y.op (In phase.Closing) w more k h l)))
 body_follows p told s run body x at (Some y) st e k h c (done {w = w} b) l =
     op_follows p told s run body (In phase.Done) w y e k c b (λ more is. rw st (running (done is) (op_left s told y.op (In phase.Done) w more k h l)))
 body_follows p told s run body x at (Some y) st e k h c (fires {part = part} {w = w} b) l =
-    op_follows p told s run body (section_of part) w y e k c b (λ more is. rw st (running (fires is) (op_left s told y.op (section_of part) w more k h l)))
+    op_follows p told s run body (section_of part) w y e k c b
+    (λ more is. rw st (running (fires is) (op_left s told y.op (section_of part) w more k h l)))
 
 -- ---- the main program, and a whole step
 

@@ -479,7 +479,8 @@ collected_started p past s t f kept k =
     pushed (y ∷ ids) x i d = ap (λ (b : Bool). same_id y i || b) (pushed ids x i d)
 
     or_end : (b : Bool) → has_id (s.ready ++ t.0 ∷ []) t.0 ≡ true →
-        record { timer = is_timer t.1.kind; repeat = t.1.repeat; started = b || true } ≡ shown (records.stopped t.1) (has_id (s.ready ++ t.0 ∷ []) t.0)
+        record { timer = is_timer t.1.kind; repeat = t.1.repeat; started = b || true } ≡ shown (records.stopped t.1)
+        (has_id (s.ready ++ t.0 ∷ []) t.0)
     or_end true g = rw g refl
     or_end false g = rw g refl
 

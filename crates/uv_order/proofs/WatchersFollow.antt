@@ -363,7 +363,8 @@ closing_follows p told s run w alive st k c l b = found_both (front s s.closing.
     (λ e. let each = each_back (Fits s.arena.slots Closes) s.closing.list s.closing.yet k.closing.lists.each in
     let none : s.closing.yet ≡ [] = no_front s Closes s.closing.yet each e in
     turn_follows p told s run BehindClosing (Within (In phase.Closing) w) alive refl
-    (record { done = b; may_pass = all_off w.ahead w.off (sym l.closing ∙ none) }) k c (left_all l.timers l.idle l.prepare l.check l.async none l.done))
+    (record { done = b; may_pass = all_off w.ahead w.off (sym l.closing ∙ none) }) k c
+    (left_all l.timers l.idle l.prepare l.check l.async none l.done))
   where
     at : (t : Id × HandleRecord) → FrontOf s s.closing.yet t → Follows p told (Running run.mode run.line (Within (In phase.Closing) w)) s
         (calls p (record s {

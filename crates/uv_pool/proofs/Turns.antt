@@ -48,8 +48,10 @@ served_turns k true b e n b' e' n' before is (id, s0, s1, s2) i = record {
 served_turns k false b e n b' e' n' before is s i = cc
 
 -- turns, and then what the last one came to
-pub stopped : {B : Type 0} (answered : B → List PoolEvent) (refuses : B → ℕ → WorkResult → Type 0) (k : ℕ) (before events here there after : List PoolEvent)
-    → are_turns k events ≡ true → here ≡ before ++ events → Breaks answered refuses k here there → after ≡ there → Stops answered refuses k before after
+pub stopped : {B : Type 0} (answered : B → List PoolEvent) (refuses : B → ℕ → WorkResult → Type 0) (k : ℕ)
+    (before events here there after : List PoolEvent)
+    → are_turns k events ≡ true → here ≡ before ++ events → Breaks answered refuses k here there → after ≡ there → Stops answered refuses k before
+    after
 stopped answered refuses k before events here there after turns are breaks same = (
   events,
   turns,

@@ -70,7 +70,8 @@ Serves k false bench events amount bench' events' amount' = (bench' ≡ bench) �
 -- nothing more, or one job that was taken and whose result it didn't take
 abbrev pub Breaks : {B : Type 0} → (B → List PoolEvent) → (B → ℕ → WorkResult → Type 0) → ℕ → List PoolEvent → List PoolEvent → Type 0
 Breaks answered refuses k before after =
-    (after ≡ before) ⊎ ((b : _) × (work : WorkResult) × (answered b ≡ before ++ event.Take k work.job.req ∷ []) × refuses b k work × (after ≡ answered b))
+    (after ≡ before) ⊎ ((b : _) × (work : WorkResult) × (answered b ≡ before ++ event.Take k work.job.req ∷ []) × refuses b k work ×
+    (after ≡ answered b))
 
 -- turns, and then at most one job that was taken and not finished
 abbrev pub Stops : {B : Type 0} → (B → List PoolEvent) → (B → ℕ → WorkResult → Type 0) → ℕ → List PoolEvent → List PoolEvent → Type 0

@@ -18,9 +18,10 @@ use uv_pool::Gate;
 use uv_script::Script;
 use uv_session::Session;
 
-/// Runs a script to its end with a thread for each worker and for each sender of its `thread` lines, and answers the session that is
-/// what they did. Its lines are in the documented order, and by them each handle closes once and each request calls back once. The session takes so many steps at most, and 16,777,216 in any case: `StepsFull` where the run would take more. The
-/// workers and the other faults are as `live` of uv_live says.
+/// Runs a script to its end with a thread for each worker and for each sender of its `thread` lines, and answers the session that is what
+/// they did. Its lines are in the documented order, and by them each handle closes once and each request calls back once. The session takes
+/// so many steps at most, and 16,777,216 in any case: `StepsFull` where the run would take more. The workers and the other faults are as
+/// `live` of uv_live says.
 pub fn live_within<M: Machine, C: Clock, G: Gate + Sync, R: Threads + Wait + Sync>(
     rt: &R,
     alloc: Global,

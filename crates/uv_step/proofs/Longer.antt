@@ -161,7 +161,8 @@ module _ {P : Type 0} where
       (ts : List (Entry P Small)) (x : Entry P Small) (y : Row) (r : Record P) → zs ≡ xs ++ y ∷ [] → y ≡ row.Smalls → ts ≡ ss ++ x ∷ []
       → of_small x ≡ r → Fits xs ss ms ks → records_of zs ts ms ks ≡ records_of xs ss ms ks ++ r ∷ []
   small_records xs zs ss ms ks ts x y r e is f same k =
-      ap (λ z. records_of z ts ms ks) (e ∙ ap (λ z. xs ++ z ∷ []) is) ∙ ap (λ (t : List (Entry P Small)). records_of (xs ++ row.Smalls ∷ []) t ms ks) f
+      ap (λ z. records_of z ts ms ks) (e ∙ ap (λ z. xs ++ z ∷ []) is) ∙ ap
+      (λ (t : List (Entry P Small)). records_of (xs ++ row.Smalls ∷ []) t ms ks) f
       ∙ small_more xs ss ms ks x k ∙ ap (λ q. records_of xs ss ms ks ++ q ∷ []) same
 
   -- a record and its entry
@@ -196,11 +197,13 @@ module _ {P : Type 0} where
       (ts : List (Entry P Medium)) (x : Entry P Medium) (y : Row) (r : Record P) → zs ≡ xs ++ y ∷ [] → y ≡ row.Mediums → ts ≡ ms ++ x ∷ []
       → of_medium x ≡ r → Fits xs ss ms ks → records_of zs ss ts ks ≡ records_of xs ss ms ks ++ r ∷ []
   medium_records xs zs ss ms ks ts x y r e is f same k =
-      ap (λ z. records_of z ss ts ks) (e ∙ ap (λ z. xs ++ z ∷ []) is) ∙ ap (λ (t : List (Entry P Medium)). records_of (xs ++ row.Mediums ∷ []) ss t ks) f
+      ap (λ z. records_of z ss ts ks) (e ∙ ap (λ z. xs ++ z ∷ []) is) ∙ ap
+      (λ (t : List (Entry P Medium)). records_of (xs ++ row.Mediums ∷ []) ss t ks) f
       ∙ medium_more xs ss ms ks x k ∙ ap (λ q. records_of xs ss ms ks ++ q ∷ []) same
 
   -- a record and its entry
-  pub medium_kept : (k : KeptRecord P) (e : Entry P Medium) (c : Medium) (r : Record P) → e ≡ record { place = k.place; naming = k.naming; change = c }
+  pub medium_kept : (k : KeptRecord P) (e : Entry P Medium) (c : Medium) (r : Record P) → e ≡ record
+      { place = k.place; naming = k.naming; change = c }
       → k.form ≡ form.Medium c → record_of k ≡ r → of_medium e ≡ r
   medium_kept k e c r a b d =
       ap of_medium a ∙ ap (λ f. record { place = k.place; naming = k.naming; change = change_in f }) (sym b) ∙ d
@@ -231,7 +234,8 @@ module _ {P : Type 0} where
       (ts : List (Entry P Large)) (x : Entry P Large) (y : Row) (r : Record P) → zs ≡ xs ++ y ∷ [] → y ≡ row.Larges → ts ≡ ks ++ x ∷ []
       → of_large x ≡ r → Fits xs ss ms ks → records_of zs ss ms ts ≡ records_of xs ss ms ks ++ r ∷ []
   large_records xs zs ss ms ks ts x y r e is f same k =
-      ap (λ z. records_of z ss ms ts) (e ∙ ap (λ z. xs ++ z ∷ []) is) ∙ ap (λ (t : List (Entry P Large)). records_of (xs ++ row.Larges ∷ []) ss ms t) f
+      ap (λ z. records_of z ss ms ts) (e ∙ ap (λ z. xs ++ z ∷ []) is) ∙ ap
+      (λ (t : List (Entry P Large)). records_of (xs ++ row.Larges ∷ []) ss ms t) f
       ∙ large_more xs ss ms ks x k ∙ ap (λ q. records_of xs ss ms ks ++ q ∷ []) same
 
   -- a record and its entry

@@ -115,7 +115,8 @@ module _ {P : Type 0} where
   -- ---- a step with its record
 
   pub recorded : (c : Change) (r : Record P) (i j : Image P) (room more : ℕ) → more ≡ room → r ≡ changed i.place c
-      → unwind_parts (change_parts c) (standing i.place j) ≡ i → CanUndo more c (standing i.place j) → IsFit i → IsFit j → j.place ≡ i.place → j.names ≡ i.names
+      → unwind_parts (change_parts c) (standing i.place j) ≡ i → CanUndo more c (standing i.place j) → IsFit i → IsFit j → j.place ≡ i.place →
+      j.names ≡ i.names
       → Recorded r (record { image = i; room = room }) (record { image = j; room = more })
   recorded c r i j room more same is back can fit now place names =
       let whole : unwind (changed i.place c) j ≡ i = unwind_apart (changed i.place c) j ∙ back in

@@ -143,7 +143,8 @@ only_restarted s d h = at (h.repeat == 0) where
 
 -- ---- the ops
 
-module _ (r : Record Place) (h w : Held Place) (d : Id) (from : HandleRecord) (c : TimerChange) (fit : IsFit h.image) (frame : OnlyTimed h.image w.image)
+module _ (r : Record Place) (h w : Held Place) (d : Id) (from : HandleRecord) (c : TimerChange) (fit : IsFit h.image)
+    (frame : OnlyTimed h.image w.image)
     (by : By change.Timer (λ u. IsRescheduled handle_of Handle w.room (timed_of h.image) (timed_of w.image) d c u) r.change) where
   changed : (b : TimerChange) → c ≡ b → IsRescheduled handle_of Handle w.room (timed_of h.image) (timed_of w.image) d b by.undo
   changed b is = subst (λ z. IsRescheduled handle_of Handle w.room (timed_of h.image) (timed_of w.image) d z by.undo) is by.does

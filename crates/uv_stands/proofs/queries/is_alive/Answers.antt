@@ -9,7 +9,8 @@ returns-then-active_referenced-gt0 c s h r =
 
 pub returns-then-open_requests-gt0 : goal.returns-then-open_requests-gt0
 returns-then-open_requests-gt0 c s h r =
-    alive_requests (image_of c.args.memory.now) s c.is_fit.ensures h r (omega (arith, c.if-open_requests-gt0.true, rw c.requests.ensures at c.open_requests.ensures))
+    alive_requests (image_of c.args.memory.now) s c.is_fit.ensures h r
+    (omega (arith, c.if-open_requests-gt0.true, rw c.requests.ensures at c.open_requests.ensures))
 
 pub returns : goal.returns
 returns c s h r =

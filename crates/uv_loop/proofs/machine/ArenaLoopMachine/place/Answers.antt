@@ -6,4 +6,5 @@ use Rattle.uv_stands.proofs.Single.{place_is}
 
 pub returns : goal.returns
 returns c =
-    asked _ _ _ _ (held c.self.inside.memory) _ c.self.view_is c.self.invariant (λ s. c.place.result ≡ s.place) (λ s h. c.place.ensures ∙ (place_is h))
+    asked _ _ _ _ (held c.self.inside.memory) _ c.self.view_is c.self.invariant (λ s. c.place.result ≡ s.place)
+    (λ s h. c.place.ensures ∙ (place_is h))
