@@ -8,7 +8,7 @@ from typing import Dict, List, NamedTuple
 MEASURED = {
     'uv_ids': 74, 'uv_records': 36, 'uv_work': 38, 'uv_script': 283, 'uv_heap': 66, 'uv_model': 355, 'uv_order': 22, 'uv_session': 103,
     'uv_text': 255, 'uv_engine': 259, 'uv_words': 76, 'uv_raw': 20, 'uv_arena': 122, 'uv_requests': 88, 'uv_handle': 47, 'uv_watch': 35,
-    'uv_timer': 60, 'uv_step': 189, 'uv_trail': 62, 'uv_stands': 74, 'uv_timing': 60, 'uv_ops': 151, 'uv_sections': 170, 'uv_layout': 107,
+    'uv_timer': 60, 'uv_step': 189, 'uv_stands': 74, 'uv_timing': 60, 'uv_ops': 151, 'uv_sections': 170, 'uv_layout': 107,
     'uv_loop': 190, 'uv_pool': 165, 'uv_wake': 36, 'uv_live': 212, 'uv_run': 102, 'uv_cli': 220, 'uvt': 250,
 }
 # The last two go by the clock, whatever processors they have: their modules wait for one another.
