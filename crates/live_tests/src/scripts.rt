@@ -10,6 +10,7 @@ use std::thread::Threads;
 use std::time::Clock;
 use uv_ids::{Code, Event, Fault, Id, Seen, Var};
 use uv_live::{Follower, JumpClock, live};
+use uv_loop::ArenaLoop;
 use uv_model::{Machine, PlainLoop, STEPS};
 use uv_pool::Gate;
 use uv_run::{LiveSession, live_within};
@@ -89,14 +90,14 @@ fn ran_over<M: Machine, G: Gate + Sync, R: Threads + Wait + Sync>(
     told(alloc, &session)
 }
 
-/// Runs a script on real threads, over the plain loop.
+/// Runs a script on real threads, over the program's own machine.
 fn ran<G: Gate + Sync, R: Threads + Wait + Sync>(
     rt: &R,
     alloc: Global,
     text: &[u8],
     gate: &G,
 ) -> Result<Story, Fault> {
-    ran_over::<PlainLoop, _, _>(rt, alloc, STEPS, text, gate)
+    ran_over::<ArenaLoop, _, _>(rt, alloc, STEPS, text, gate)
 }
 
 /// Whether the callbacks of a run are these, in this order.
