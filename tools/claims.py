@@ -55,6 +55,10 @@ CLAIMS = (
     Claim("The verdict on a recording is that of one definition.", (Clause("uv_engine", "replaying", "replay", "text"),)),
     Claim("A live run that ends well gives a session of its script whose events are what its threads did.",
           (Clause("uv_run", "running", "live", ""),)),
+    Claim("Where a search of all orders answers `never`, no list of events that may come, however long, has a step that answers the question; and "
+          "there are as many states as it says.", (Clause("uv_find", "finding", "find", "found"),)),
+    Claim("A search takes two states for one only where they are equal.", (Clause("uv_state_key", "laws", "keys_tell", ""),)),
+    Claim("What the search's program writes is the answer to what its input asks.", (Clause("uvt_find", "running", "run", "text"),)),
 )
 
 

@@ -3,7 +3,7 @@ import os
 from typing import Dict, List, NamedTuple
 
 
-# What the proof of a crate took from nothing by one process, in processor seconds (the table of docs/PROVING.md, "Costs"). Of a crate
+# What the proof of a crate took from nothing by one process, in processor seconds in a quiet run. Of a crate
 # that isn't here it is reckoned from its lines.
 MEASURED = {
     'uv_ids': 74, 'uv_records': 36, 'uv_work': 38, 'uv_script': 283, 'uv_heap': 66, 'uv_model': 355, 'uv_order': 22, 'uv_session': 103,

@@ -1,6 +1,7 @@
-# What is kept of a build, in the folder $kept: read by `uvt` and by `.ci/run`, which set $root and $kept and have `say` and `fail`.
+# What is kept of a build of the crate $crate, in the folder $kept: read by `uvt` and by `.ci/run`, which set $root, $crate and $kept, and
+# have `say` and `fail`. The crate is uvt, or uvt_find, with a folder of its own.
 #
-#   uvt     the built program. It comes by a rename, so a running one is never written to
+#   uvt     the built program, which is named as its crate is. It comes by a rename, so a running one is never written to
 #   sums    the kit and the sources that it was built from: what `rt version` says, and the SHA-256 of each file
 #   stats   the same files, and the kit's, as the file system has them: while nothing differs here, nothing was changed
 #   log     what rt said of the crate that failed last
@@ -10,7 +11,7 @@
 # Whether the files that the stored list names, and those beside them, are as they were when it was written.
 # Its first line names the folders, so that nothing else has to be read.
 is_unchanged() {
-    [ -x "$kept/uvt" ] && read -r sources 2>/dev/null <"$kept/stats" && stats | cmp -s - "$kept/stats"
+    [ -x "$kept/$crate" ] && read -r sources 2>/dev/null <"$kept/stats" && stats | cmp -s - "$kept/stats"
 }
 
 # Each file of $sources, of which some may not be there, with its size, its times and its number. The time
@@ -43,7 +44,7 @@ sums() {
 # marked as such. It says nothing, and builds nothing.
 is_built() {
     is_unchanged && return
-    [ -x "$kept/uvt" ] && [ -s "$kept/sums" ] || return
+    [ -x "$kept/$crate" ] && [ -s "$kept/sums" ] || return
     # (what the program before its proofs was compiled from is something else)
     ! (kept=$kept/unproved && is_unchanged) || return
     list_sources
@@ -62,8 +63,8 @@ list_sources() {
     mkdir -p "$kept" || fail "cannot write to $kept"
     find_crates
     sources=crates.txt
-    for crate in $crates; do
-        sources="$sources crates/$crate/src crates/$crate/specs crates/$crate/proofs"
+    for it in $crates; do
+        sources="$sources crates/$it/src crates/$it/specs crates/$it/proofs"
     done
     true >"$kept/stats.$$" || fail "cannot write to $kept"
     stats >"$kept/stats.$$"
@@ -89,17 +90,17 @@ find_crates() {
             for (i = 1; i <= count; i++) add(deps[i])
             print name
         }
-        END { add("uvt") }' "$root/crates.txt")
-    [ -n "$crates" ] || fail "crates.txt has no line for the crate uvt"
+        END { add(program) }' program="$crate" "$root/crates.txt")
+    [ -n "$crates" ] || fail "crates.txt has no line for the crate $crate"
 }
 
 # Keeps a program that was built of the sources as the lists have them.
 keep() {
-    cp "$1" "$kept/uvt.new" || fail "cannot copy the program to $kept"
+    cp "$1" "$kept/$crate.new" || fail "cannot copy the program to $kept"
     # (without the lists a call builds again, so one that ends between these steps does no harm)
     rm -f "$kept/stats" "$kept/sums"
     rm -rf "$kept/unproved"
-    mv -f "$kept/uvt.new" "$kept/uvt" && mv -f "$kept/sums.$$" "$kept/sums" && mv -f "$kept/stats.$$" "$kept/stats" ||
+    mv -f "$kept/$crate.new" "$kept/$crate" && mv -f "$kept/sums.$$" "$kept/sums" && mv -f "$kept/stats.$$" "$kept/stats" ||
         fail "cannot write to $kept"
 }
 
@@ -154,14 +155,14 @@ build_changed() {
     command -v rt >/dev/null || fail "the program has to be built, and the kit's command rt, which proves and builds it, isn't on the PATH"
     command -v python3 >/dev/null || fail "the program has to be built, and the command python3, which the kit needs too, isn't on the PATH"
     list_sources
-    make "$root/crates/uvt/out/uvt" build.py "$root" "$kept" $crates || return 70
+    make "$root/crates/$crate/out/$crate" build.py "$root" "$kept" $crates || return 70
 }
 
 # The same for the program before its proofs.
 compile_changed() {
     is_built && return
     list_sources
-    make "$kept/compiled" unproved.py "$root" "$kept/compiled" && rm -f "$kept/compiled"
+    make "$kept/compiled" unproved.py "$root" "$crate" "$kept/compiled" && rm -f "$kept/compiled"
 }
 
 # Runs a tool that makes the program, and keeps what it has made.

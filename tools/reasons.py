@@ -40,6 +40,17 @@ REASONS = {
     'behind': 'nothing may stand behind the line `end`',
 }
 
+# The same of the lines that ask a search.
+ASKED_REASONS = {
+    'listed': '`{0}` is none of {1}',
+    'asked': 'no line behind `begin` begins with `{0}` here: it is may, most or find',
+    'form': 'no line says `{0}`: it has the form {1}',
+    'again': '`{0}` stands in line {1} already, and a search has it once at most',
+    'question': 'a second question: line {0} has the first, and one is asked at a time',
+    'offers': 'at most 256 lines begin with `may`',
+    'find': 'the line is missing that says what to look for: `find ..`',
+}
+
 # What stands behind each op. NAME is declared, KIND and MODE are words, and the others are numbers.
 OPS = {
     'init': 'NAME KIND', 'start': 'NAME [TIMEOUT REPEAT]', 'stop': 'NAME', 'again': 'NAME', 'repeat': 'NAME N', 'due': 'NAME',
@@ -49,6 +60,10 @@ OPS = {
 MAIN_OPS = {'run': 'MODE', 'closeloop': ''}
 STEPS = {'loop': '', 'take': 'K', 'finish': 'K', 'cancel': 'NAME', 'send': 'NAME', 'tick': 'MS'}
 WORDS = {'KIND': ('timer', 'idle', 'prepare', 'check', 'async'), 'MODE': ('default', 'once', 'nowait'), 'VERSION': ('1.44', '1.45')}
+LISTED = {
+    'CODE': ('ok', 'EINVAL', 'EBUSY', 'ECANCELED', 'EBOUND', 'EFULL', 'ESTALE', 'EKIND'),
+    'WORD': ('pending', 'idle', 'prepare', 'poll', 'done', 'async', 'check', 'closing', 'timers'),
+}
 SETTINGS = {'order': 'VERSION', 'slots': 'N [G]', 'workers': 'N'}
 RANGES = {'workers N': (1, 1024), 'slots N': (1, 16777215), 'slots G': (0, 4294967295), 'ROUNDS': (1, 1000), 'thread K': (0, 63), 'K': (0, 65535)}
 
@@ -60,7 +75,7 @@ class Why(Exception):
         self.row, self.filled = row, filled
 
     def sentence(self) -> str:
-        return REASONS[self.row].format(*self.filled)
+        return {**REASONS, **ASKED_REASONS}[self.row].format(*self.filled)
 
 
 class Context(NamedTuple):
@@ -251,11 +266,86 @@ def of_recording(lines: List[bytes], number: int) -> None:
         of_words(words[1:], STEPS[words[0]], words[0], context(script, len(script) + 1))
 
 
+# What stands behind `may`, `most` and `find`, and the word behind them; of two forms the longer one last.
+ASKED = {
+    'may': {'send': ['NAME N'], 'cancel': ['NAME N'], 'tick': ['MS N'], 'wait': ['']},
+    'most': {'clock': ['MS'], 'states': ['N'], 'NAME': ['CALLS']},
+    'find': {'call': ['NAME', 'NAME N'], 'code': ['CODE', 'CODE of NAME'], 'section': ['WORD'], 'never': ['NAME'], 'stuck': [''], 'late': ['NAME MS'],
+             'NAME': ['before NAME']},
+}
+ASKED_RANGES = {'N': (1, 4294967295), 'may MS': (1, 2**62), 'MS': (0, 2**62), 'CALLS': (0, 4294967295)}
+
+
+def of_field(word: str, what: str, head: str, found: Context) -> None:
+    """A field of a line that asks, against what it has to be: a name, a number, a word of a list, or this very word."""
+    if what == 'NAME':
+        of_name(word, found)
+    elif what in LISTED:
+        if word not in LISTED[what]:
+            raise Why('listed', word, ', '.join(LISTED[what]))
+    elif what.isupper():
+        of_number(word, what, *ASKED_RANGES.get('%s %s' % (head, what), ASKED_RANGES.get(what, (0, LARGEST))))
+
+
+def of_asked_line(line: bytes, found: Context) -> None:
+    """A line behind `begin`, where a search is asked."""
+    of_bytes(line)
+    words = split(line.decode('ascii'), 9)
+    if words[0] not in ASKED:
+        raise Why('asked', words[0])
+    head, forms = words[0], ASKED[words[0]]
+    second = words[1] if len(words) > 1 else ''
+    if head == 'find' and len(words) == 4 and words[2] == 'before' or second not in forms and 'NAME' in forms:
+        second = 'NAME'
+    shapes = [('%s %s %s' % (head, word, form)).strip() for word in ([second] if second in forms else forms) for form in forms[word]]
+    for shape in shapes:
+        fields = shape.split(' ')
+        if len(fields) == len(words) and all(word == what for word, what in zip(words, fields) if what.islower()):
+            for word, what in zip(words, fields):
+                of_field(word, what, head, found)
+            return
+    raise Why('form', line.decode('ascii'), ' or '.join('`%s`' % it for it in shapes))
+
+
+def said(words: List[bytes]) -> bytes:
+    """What a line that asks says once at most: its first fields, up to a number that may differ."""
+    return b' '.join(words[:2] if words[0] == b'most' or words[1:2] == [b'wait'] else words[:3])
+
+
+def of_inquiry(lines: List[bytes], number: int) -> None:
+    """The input of a search: a script, `begin`, and the lines that ask."""
+    if b'begin' not in lines[:number - 1]:
+        of_script(lines, number)
+        return
+    begin = lines.index(b'begin') + 1
+    before = [(at, it) for at, it in enumerate(lines[begin:number - 1], begin + 1) if it and not it.startswith(b'#')]
+    questions = [at for at, it in before if it.startswith(b'find ')]
+    if number > len(lines):
+        if not questions:
+            raise Why('find')
+        return
+    line = lines[number - 1]
+    if not line or line.startswith(b'#'):
+        of_bytes(line)
+        return
+    of_asked_line(line, context(lines[:begin], begin + 1))
+    words = line.split(b' ')
+    if words[0] == b'find' and questions:
+        raise Why('question', questions[0])
+    for at, it in before:
+        if words[0] != b'find' and said(it.split(b' ')) == said(words):
+            raise Why('again', said(words).decode('ascii'), at)
+    if words[0] == b'may' and sum(it.startswith(b'may ') for _, it in before) >= 256:
+        raise Why('offers')
+
+
 def why(word: str, lines: List[bytes], number: int) -> Optional[Why]:
     """Why this line is the first bad one of the input of `uvt WORD`; None where it can't be told."""
     try:
         if word == 'replay':
             of_recording(lines, number)
+        elif word == 'find':
+            of_inquiry(lines, number)
         else:
             of_script(lines, number, word == 'debug')
     except Why as found:

@@ -51,10 +51,6 @@ FORMS = {
     'rback': [''], 'trace': [''], 'state': [''], 'image': [''], 'record': [''], 'quit': [''],
     'break': ['call NAME', 'code CODE', 'section WORD', 'clear'],
 }
-LISTED = {
-    'CODE': ['ok', 'EINVAL', 'EBUSY', 'ECANCELED', 'EBOUND', 'EFULL', 'ESTALE', 'EKIND'],
-    'WORD': ['pending', 'idle', 'prepare', 'poll', 'done', 'async', 'check', 'closing', 'timers'],
-}
 RANGES = {'MS': (0, reasons.LARGEST), 'K': (0, 65535), 'loop': (1, 16777216), 'back': (0, 16777216), 'forward': (0, 16777216)}
 
 
@@ -75,8 +71,8 @@ def near(word: str, known: List[str]) -> str:
 
 def why_no_word(word: str, what: str, command: str, names: List[str]) -> Optional[str]:
     """Why a word can't stand where a command's form has this."""
-    if what in LISTED:
-        return None if word in LISTED[what] else '`%s` is none of %s' % (word, ', '.join(LISTED[what]))
+    if what in reasons.LISTED:
+        return None if word in reasons.LISTED[what] else '`%s` is none of %s' % (word, ', '.join(reasons.LISTED[what]))
     if what == 'NAME':
         return None if word in names else '`%s` is no name of the script%s' % (word, near(word, names))
     least, most = RANGES.get(what, RANGES.get(command, (0, reasons.LARGEST)))

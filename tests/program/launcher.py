@@ -68,6 +68,9 @@ def try_words(check: Check, uvt: str) -> None:
     for words in (['help'], ['-h'], ['--help'], ['help', 'nothing']):
         same(check, 'the usage alone, by %r' % words, run([uvt] + words), (0, text, b''))
     same(check, 'help of a tool', run([uvt, 'help', 'why']), run([uvt, 'why', '--help']))
+    search = os.path.join(os.path.dirname(uvt), 'out', 'uvt_find', 'uvt_find')
+    if os.path.exists(search):
+        same(check, 'the path of the search', run([uvt, 'path', 'find']), (0, search.encode() + b'\n', b''))
     tools = sorted(it[4:] for it in os.listdir(os.path.join(ROOT, 'tools')) if it.startswith('uvt-'))
     same(check, 'the usage names each tool', [it for it in tools if b'./uvt %s ' % it.encode() not in text], [])
     for it in tools:

@@ -1,4 +1,4 @@
-"""The commands of README.md, docs/TOOLS.md and docs/RECORD.md, each as it stands, in order, in a fresh clone with a home of its own.
+"""The commands of README.md, docs/TOOLS.md, docs/RECORD.md and docs/FIND.md, each as it stands, in order, in a fresh clone with a home of its own.
 
 A block of text on a page is a block of commands if its first line begins with one of the words of COMMANDS. Each line has to end with
 status 0 (or the one of STATUS) and with nothing on the errors, and the block behind it is what its lines print: all of it, or with
@@ -7,7 +7,9 @@ lines `..` parts of it. What is not run as it stands:
   apt-get     isn't run: where no compiler with libuv's header is there, the commands behind it that need one are left out, and that is said
   real runs   of ./late and what stands on its recording: the figures differ from run to run, so numbers count as equal. Where the page goes
               on in another way by its own figures (a `tick`), the recording is that of its own run, whose log is kept (tests/tools/logs)
-  packages    `tools/package` and what is done with its files, where the program isn't a proved one: it refuses to pack that"""
+  packages    `tools/package` and what is done with its files, where the program isn't a proved one: it refuses to pack that
+
+Where the clone has no search that is proved, its first line on the errors says so, and is passed over."""
 from __future__ import annotations
 
 import os
@@ -18,13 +20,21 @@ import tempfile
 from pathlib import Path
 from typing import Callable, NamedTuple, Optional
 
-PAGES = ('README.md', 'docs/TOOLS.md', 'docs/RECORD.md')
+PAGES = ("README.md", "docs/TOOLS.md", "docs/RECORD.md", "docs/FIND.md")
 COMMANDS = ('./uvt ', 'uvt ', 'tools/', 'tests/', 'make ', 'cc ', 'cp ', 'ln ', 'mkdir ', 'cd ', 'tar ', 'printf ', 'grep ', 'sed ', 'cat ',
             'apt-get ', 'git ', 'rt ')
 # What doesn't end with status 0: on the real libuv the example goes another way, and the page shows which.
-STATUS = {'./uvt libuv examples/cancel-in-time.uvt': 3, 'uvt libuv examples/cancel-in-time.uvt': 3}
+# And a search that answers `never` ends with status 1.
+ENDS = {
+    'libuv examples/cancel-in-time.uvt': 3,
+    "find examples/late-timer.uvt 'may tick 40 1' 'may wait' 'find late beat 41'": 1,
+    'find examples/debounce.find': 1,
+}
+STATUS = {'%s %s' % (uvt, words): status for words, status in ENDS.items() for uvt in ('./uvt', 'uvt')}
 # What says something on the errors, and is well.
 SAYS = {'./uvt build': 'uvt: the program is built already, and nothing has changed since\n'}
+# The line of a program that was compiled before its proofs.
+NOTICE = re.compile(r'uvt: this is the program before its proofs: .*\n')
 LOG = Path(__file__).resolve().parent.parent / 'tools' / 'logs' / 'late.log'
 SECONDS = 120
 Check = Callable[..., None]
@@ -112,6 +122,7 @@ class Walker:
         self.libuv = has_libuv()
         self.recorded = ''
         self.command = command
+        self.has_search = os.path.exists(os.path.join(folder, 'out', 'uvt_find', 'uvt_find'))
         self.count = 0
 
     def why_left_out(self, command: str) -> str:
@@ -137,7 +148,8 @@ class Walker:
             self.count += 1
             what = '%s:%d: %s' % (block.page, block.line, command)
             self.check(what, ended.returncode == STATUS.get(command, 0), 'got %r' % ((ended.returncode, ended.stdout, ended.stderr),))
-            self.check(what + ', its errors', ended.stderr == SAYS.get(command, ''), 'got %r' % ended.stderr)
+            errors = NOTICE.sub('', ended.stderr) if 'uvt find ' in command and not self.has_search else ended.stderr
+            self.check(what + ', its errors', errors == SAYS.get(command, ''), 'got %r' % errors)
             output += ended.stdout
             if command.endswith('uvt record ./late'):
                 self.recorded = command

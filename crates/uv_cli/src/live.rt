@@ -54,10 +54,7 @@ fn write_whole<W: Sink>(writer: &mut W, text: &[u8]) -> Result<(), Fault>
     ensures err { IfErr result (λ fault. fault ≡ Write) }
     ensures writer { WriterCounts result (W.failures writer.old) (W.failures writer.new) }
 {
-    match write_text(writer, text) {
-        Ok(()) => {}
-        Err(fault) => return Err(fault),
-    }
+    write_text(writer, text)?;
     if writer.flush().is_err() {
         return Err(Fault::Write);
     }

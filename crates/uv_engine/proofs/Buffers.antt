@@ -1,10 +1,5 @@
 -- A line that was cut off the bytes that were read.
-use Rattle.std.proofs.Common.{◌≡◌, ℕ, ◌+◌, ◌-◌, ◌==◌, false, true, List, ◌∷◌, ◌++◌, length, take, drop, ap, sym, ◌∙◌, append_assoc}
-use Rattle.std.proofs.lemmas.List.{drop-drop}
-use Rattle.std.proofs.lemmas.List.Elements.{All-append}
-use Rattle.std.proofs.Math.Seq.{drop-append-add}
-use Rattle.uv_script.specs.Lines.{IsCut}
-use Rattle.uv_engine.specs.Input.{NoFeed, TakesLine}
+use Rattle.uv_engine.proofs.Names.{◌≡◌, ℕ, ◌+◌, ◌-◌, ◌==◌, false, true, List, ◌∷◌, ◌++◌, length, take, drop, ap, sym, ◌∙◌, append_assoc, drop-drop, All-append, drop-append-add, IsCut, NoFeed, TakesLine}
 use Rattle.uv_engine.proofs.Text.{tail_is}
 
 pub takes_line : (part bytes line rest : List ℕ) (at : ℕ) → NoFeed part → IsCut 10 (take (length bytes - at) (drop at bytes)) line rest

@@ -1,13 +1,6 @@
 -- Which faults answer the input, and which those of a device.
-use Rattle.std.proofs.Common.{◌≡◌, ℕ, ◌+◌, List, length, arith, Result, Ok, Err, IfErr, OnOk, sym, subst}
-use Rattle.uv_ids.specs.declared.fault.Fault.{Fault}
+use Rattle.uv_engine.proofs.Names.{◌≡◌, ℕ, ◌+◌, List, length, arith, Result, Ok, Err, IfErr, OnOk, sym, subst, Fault, OnAnswer, IfOfInput, TakesWithin, IsDeviceFault, IsConversationFault, IsReadingFault, IsTellingFault, IsStartFault, IsReadFault, IsReplayFault}
 use Rattle.uv_ids.specs.declared.fault.Fault.TheVariants as fault
-use Rattle.uv_engine.specs.Devices.{OnAnswer, IfOfInput, TakesWithin}
-use Rattle.uv_engine.specs.Out.{IsDeviceFault, IsConversationFault}
-use Rattle.uv_engine.specs.Rerun.{IsReadingFault, IsTellingFault}
-use Rattle.uv_engine.specs.Start.{IsStartFault}
-use Rattle.uv_engine.specs.Taking.{IsReadFault}
-use Rattle.uv_engine.specs.Verdict.{IsReplayFault}
 
 -- ---- what holds on each answer
 

@@ -1,13 +1,6 @@
 -- A script that no commands follow.
-use Rattle.std.proofs.Common.{◌≡◌, ℕ, List, [], ◌++◌, Bool, Result, Ok, Err, IfErr, ap, subst}
-use Rattle.uv_ids.specs.declared.fault.Fault.{Fault}
+use Rattle.uv_engine.proofs.Names.{◌≡◌, ℕ, List, [], ◌++◌, Bool, Result, Ok, Err, IfErr, ap, subst, Fault, Program, Parses, ReadsAlone, Buffered, pending, left, IsFront, IsStartFault, IsReadFault}
 use Rattle.uv_ids.specs.declared.fault.Fault.TheVariants as fault
-use Rattle.uv_script.specs.Program.{Program}
-use Rattle.uv_script.specs.Grammar.{Parses}
-use Rattle.uv_engine.specs.Alone.{ReadsAlone}
-use Rattle.uv_engine.specs.Input.{Buffered, pending, left}
-use Rattle.uv_engine.specs.Start.{IsFront, IsStartFault}
-use Rattle.uv_engine.specs.Taking.{IsReadFault}
 
 -- the reader failed, or there was no memory
 pub no_front : (input : List ℕ) (f : Fault) → IsReadFault f → ReadsAlone input (Err f)

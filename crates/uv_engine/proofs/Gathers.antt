@@ -1,12 +1,6 @@
 -- Text that is gathered and written, a piece at a time.
-use Rattle.std.proofs.Common.{◌≡◌, ℕ, List, [], ◌++◌, Result, Ok, Err, OnOk, refl, ap, sym, subst, ◌∙◌, append_assoc, append-nil, zero, suc, ◌+◌, ◌-◌, ◌<◌, length, drop, get_or, drop-cons, arith}
-use Rattle.std.specs.List.{flat_map}
-use Rattle.std.proofs.lemmas.List.{append_cancel_left}
-use Rattle.uv_ids.specs.declared.fault.Fault.{Fault}
-use Rattle.uv_text.specs.Parts.{parts_from, in_parts}
-use Rattle.uv_text.proofs.Wholes.{next_part}
-use Rattle.uv_engine.specs.Sink.{CutShort}
-use Rattle.uv_engine.specs.Gather.{Grown, CutOff, Gathered, Gathers, GathersOne}
+use Rattle.uv_engine.proofs.Names.{◌≡◌, ℕ, List, [], ◌++◌, Result, Ok, Err, OnOk, refl, ap, sym, subst, ◌∙◌, append_assoc, append-nil, zero, suc, ◌+◌, ◌-◌, ◌<◌, length, drop, get_or, drop-cons, arith, flat_map, append_cancel_left, Fault, parts_from, next_part, CutShort, Grown, CutOff, Gathered, Gathers, GathersOne}
+use Rattle.uv_text.specs.Parts.{in_parts}
 
 pub grown_none : (w : List ℕ) → Grown w w
 grown_none w = record { part = []; is = sym (append-nil w) }

@@ -1,16 +1,17 @@
 pub mod Buffers
-pub mod Text
-pub mod Replies
-pub mod Gathers
-pub mod Loops
-pub mod Talking
-pub mod Starting
 pub mod Faults
 pub mod Fronts
+pub mod Gathers
+pub mod Loops
+mod Names
 mod OneAnswer
-pub mod Reruns
-pub mod Recordings
-pub mod Replays
-pub mod Remade
 pub mod OneRecording
 pub mod OneVerdict
+pub mod Recordings
+pub mod Remade
+pub mod Replays
+pub mod Replies
+pub mod Reruns
+pub mod Starting
+pub mod Talking
+pub mod Text

@@ -1,8 +1,7 @@
 -- The steps of a loop command, one after another.
-use Rattle.std.proofs.Common.{◌≡◌, ℕ, suc, ◌+◌, ◌-◌, ◌<◌, ◌≤◌, [], ◌++◌, Bool, true, false, if◌then◌else◌, refl, ap, sym, ◌∙◌, arith}
+use Rattle.uv_engine.proofs.Names.{◌≡◌, ℕ, suc, ◌+◌, ◌-◌, ◌<◌, ◌≤◌, [], ◌++◌, Bool, true, false, if◌then◌else◌, refl, ap, sym, ◌∙◌, arith, Shown, Reply, reply, reply_text, reply_after, may_follow}
 use Rattle.uv_ids.specs.declared.event.Event.TheVariants as event
-use Rattle.uv_session.specs.Shown.{Shown}
-use Rattle.uv_engine.specs.Reply.{Reply, reply, reply_text, reply_after, may_follow, loop_text, loop_after}
+use Rattle.uv_engine.specs.Reply.{loop_text, loop_after}
 
 -- what a step of the loop is answered
 abbrev one : Shown → Reply

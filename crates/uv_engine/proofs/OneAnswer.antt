@@ -1,30 +1,10 @@
 -- An input has one answer.
-use Rattle.std.proofs.Common.{◌≡◌, ℕ, ◌==◌, List, [], ◌∷◌, ◌++◌, false, refl, ap, sym, subst, ◌∙◌}
-use Rattle.std.specs.Prelude.{zero, suc, length, nat_lt, nat_le, Option, Some, None, codes}
-use Rattle.std.proofs.lemmas.Bool.{cond_both}
-use Rattle.uv_ids.specs.declared.event.Event.{Event}
+use Rattle.uv_engine.proofs.Names.{◌≡◌, ℕ, ◌==◌, List, [], ◌∷◌, ◌++◌, false, refl, ap, sym, subst, ◌∙◌, nat_lt, nat_le, cond_both, Event, Next, Moves, Refuses, All-head, All-tail, All-from_recursion, lines_of, IsScript, IsBadLine, Program, some_reading, distinct_names, one_script, no_bad_line, one_bad_line, AreDistinct, Break, Shown, moved_back, moved_forward, BREAKS, Loop, Step, Back, Forward, AddBreak, ClearBreaks, BackToBreak, Trace, State, Image, Record, Quit, Asked, Nothing, Do, Bad, Asks, asks, asks_one, Ended, NoFeed, IsAnswer, image_in, images_in, asked_after, Talks, input_ends, quits, goes_on, Begins, here, here_at_end, later, NeverBegins, nothing, last_line, one_line, fresh_session, Ends, BadScript, talks, bad_line, no_begin, bad_input, HasAnswer, HasOneAnswer, Reply, Full, reply, reply_to, reply_after, may_follow, back_after, forward_after, add_after, last_break, break_back_after}
+use Rattle.std.specs.Prelude.{zero, suc, length, Option, Some, None, codes}
 use Rattle.uv_ids.specs.declared.event.Event.TheVariants as event
-use Rattle.uv_model.specs.Next.{Next, Moves, Refuses, next}
+use Rattle.uv_model.specs.Next.{next}
 use Rattle.uv_model.specs.After.{after}
-use Rattle.std.proofs.lemmas.List.Elements.{All-head, All-tail, All-from_recursion}
-use Rattle.uv_script.specs.Lines.{lines_of}
-use Rattle.uv_script.specs.Grammar.{IsScript, IsBadLine}
-use Rattle.uv_script.specs.Program.{Program}
-use Rattle.uv_script.proofs.SomeReading.{some_reading}
-use Rattle.uv_script.proofs.OneReading.{distinct_names, one_script, no_bad_line, one_bad_line}
-use Rattle.uv_script.proofs.Agrees.{AreDistinct}
-use Rattle.uv_session.specs.declared.breaks.Break.{Break}
-use Rattle.uv_session.specs.Shown.{Shown, moved_back}
-use Rattle.uv_session.specs.Moving.{moved_forward, BREAKS}
-use Rattle.uv_text.specs.declared.command.Command.TheVariants.{Loop, Step, Back, Forward, AddBreak, ClearBreaks, BackToBreak, Trace, State, Image, Record, Quit}
-use Rattle.uv_text.specs.declared.command.Asked.{Asked}
-use Rattle.uv_text.specs.declared.command.Asked.TheVariants.{Nothing, Do, Bad}
-use Rattle.uv_text.specs.Commands.{Asks}
-use Rattle.uv_text.proofs.Commands.{asks, asks_one}
-use Rattle.uv_engine.specs.declared.conversation.Ended.{Ended}
-use Rattle.uv_engine.specs.Input.{NoFeed}
-use Rattle.uv_engine.specs.Out.{IsAnswer, image_in, images_in, asked_after, Talks, input_ends, quits, goes_on, Begins, here, here_at_end, later, NeverBegins, nothing, last_line, one_line, fresh_session, Ends, BadScript, talks, bad_line, no_begin, bad_input, HasAnswer, HasOneAnswer}
-use Rattle.uv_engine.specs.Reply.{Reply, Full, reply, reply_to, reply_after, may_follow, loop_after, back_after, forward_after, add_after, last_break, break_back_after}
+use Rattle.uv_engine.specs.Reply.{loop_after}
 use Rattle.uv_engine.proofs.Starting.{some_out}
 
 -- ---- the commands

@@ -1,32 +1,12 @@
 -- A text is one recording at most; and of one that was made the verdict is same alone.
-use Rattle.std.proofs.Common.{◌≡◌, ℕ, ◌<◌, List, [], ◌∷◌, ◌++◌, length, take, get_or, refl, ap, sym, subst, ◌∙◌, arith, length-append, codes}
-use Rattle.std.proofs.Math.Seq.{get_or-append_seam}
-use Rattle.std.proofs.lemmas.List.{append_cancel_left, take-append-le, take_all}
-use Rattle.std.proofs.lemmas.Option.{none-some, same_Some}
-use Rattle.uv_ids.specs.declared.event.Event.{Event}
-use Rattle.uv_script.specs.Program.{Program}
-use Rattle.uv_script.specs.Lines.{fields_of}
+use Rattle.uv_engine.proofs.Names.{◌≡◌, ℕ, ◌<◌, List, [], ◌∷◌, ◌++◌, length, take, get_or, refl, ap, sym, subst, ◌∙◌, arith, length-append, codes, get_or-append_seam, append_cancel_left, take-append-le, take_all, none-some, same_Some, Event, Program, fields_of, Draft, IsScript, AreDistinct, after_complete, distinct_reads, distinct_none, Refuses, not_refused, Do, Step, IsCommand, command, SaysStep, loop, outside, IsCallbackLine, call, after_callback, closed, step_asked, callback_lines, asks_one, Verdict, Same, Version, version_line, unread_in, Part, Start, InScript, InSteps, InCalls, Whole, Reads, version, in_script, begins, step, calls, callback, ends, ReadsAll, none, one, IsHalt, refused, full, AreApart, AllTaken, IsVerdict, halts, same, differs, HasVerdict}
 use Rattle.uv_script.specs.Reading as reading
 use Rattle.uv_script.specs.Grammar as script
-use Rattle.uv_script.specs.Grammar.{Draft, IsScript}
-use Rattle.uv_script.proofs.Agrees.{AreDistinct}
-use Rattle.uv_script.proofs.AfterLines.{after_complete, distinct_reads, distinct_none}
-use Rattle.uv_model.specs.Next.{Refuses, next}
+use Rattle.uv_model.specs.Next.{next}
 use Rattle.uv_model.specs.After.{after}
-use Rattle.uv_model.proofs.Runs.{not_refused}
-use Rattle.uv_text.specs.declared.command.Asked.TheVariants.{Do}
-use Rattle.uv_text.specs.declared.command.Command.TheVariants.{Step}
 use Rattle.uv_text.specs.Commands as is
-use Rattle.uv_text.specs.Commands.{IsCommand, command}
-use Rattle.uv_text.specs.Recorded.{SaysStep, loop, outside, IsCallbackLine, call, after as after_callback, closed, step_asked}
-use Rattle.uv_text.specs.Recording.{callback_lines, recording_text}
-use Rattle.uv_text.proofs.Commands.{asks_one}
-use Rattle.uv_engine.specs.declared.verdict.Verdict.{Verdict}
-use Rattle.uv_engine.specs.declared.verdict.Verdict.TheVariants.{Same}
-use Rattle.uv_engine.specs.declared.version.Version.{Version}
+use Rattle.uv_text.specs.Recording.{recording_text}
 use Rattle.uv_engine.specs.declared.version.Version.TheVariants as versions
-use Rattle.uv_engine.specs.Recordings.{version_line, unread_in, Part, Start, InScript, InSteps, InCalls, Whole, Reads, version, in_script, begins, step, calls, callback, ends, ReadsAll, none, one}
-use Rattle.uv_engine.specs.Verdict.{IsHalt, refused, full, AreApart, AllTaken, IsVerdict, halts, same, differs, HasVerdict}
 use Rattle.uv_engine.proofs.Remade.{is_made, made_read}
 
 -- ---- which lines are no step and no callback

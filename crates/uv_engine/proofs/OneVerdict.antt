@@ -1,20 +1,9 @@
 -- A text has one verdict, or one first bad line, and not both.
-use Rattle.std.proofs.Common.{◌≡◌, ⊎_elim, ℕ, suc, ◌+◌, ◌<◌, ◌≤◌, List, [], ◌∷◌, ◌++◌, length, take, get_or, refl, ap, ap₂, sym, subst, ◌∙◌, arith}
-use Rattle.std.proofs.Math.Seq.{get_or-append_seam}
-use Rattle.std.proofs.lemmas.Bool.{cases_lt}
-use Rattle.std.proofs.lemmas.List.{append_cancel_left, take-append-le, take_all, get_or_append_left}
-use Rattle.uv_ids.specs.declared.event.Event.{Event}
-use Rattle.uv_ids.specs.declared.fault.Why.{Why}
-use Rattle.uv_script.specs.Program.{Program}
-use Rattle.uv_script.specs.Lines.{lines_of}
-use Rattle.uv_model.specs.Next.{Next, Refuses, next}
+use Rattle.uv_engine.proofs.Names.{◌≡◌, ⊎_elim, ℕ, suc, ◌+◌, ◌<◌, ◌≤◌, List, [], ◌∷◌, ◌++◌, length, take, get_or, refl, ap, ap₂, sym, subst, ◌∙◌, arith, get_or-append_seam, cases_lt, append_cancel_left, take-append-le, take_all, get_or_append_left, Event, Why, Program, lines_of, Next, Refuses, not_refused, callback_lines, Verdict, Differs, Refused, Part, Start, Whole, Reads, ReadsAll, none, one, IsStuck, IsHalt, refused, full, AreApart, PartAt, IsVerdict, halts, same, differs, HasVerdict, HasOneVerdict}
+use Rattle.uv_model.specs.Next.{next}
 use Rattle.uv_model.specs.After.{after, Accepts}
-use Rattle.uv_model.proofs.Runs.{not_refused}
-use Rattle.uv_text.specs.Recording.{callback_lines}
-use Rattle.uv_engine.specs.declared.verdict.Verdict.{Verdict}
-use Rattle.uv_engine.specs.declared.verdict.Verdict.TheVariants.{Differs, Refused, Full}
-use Rattle.uv_engine.specs.Recordings.{Part, Start, Whole, Reads, ReadsAll, none, one, IsStuck, IsBadLine}
-use Rattle.uv_engine.specs.Verdict.{IsHalt, refused, full, AreApart, PartAt, IsVerdict, halts, same, differs, HasVerdict, HasOneVerdict}
+use Rattle.uv_engine.specs.declared.verdict.Verdict.TheVariants.{Full}
+use Rattle.uv_engine.specs.Recordings.{IsBadLine}
 use Rattle.uv_engine.proofs.OneRecording.{IsDistinct, Judged, one_part, distinct_part, all_one, never_halts, never_apart}
 
 -- neither number is below the other

@@ -1,20 +1,7 @@
 -- The lines of a recording, one after another.
-use Rattle.std.proofs.Common.{◌≡◌, ◌≢◌, inl, inr, ℕ, ◌+◌, ◌<◌, ◌≤◌, ◌==◌, List, [], ◌∷◌, ◌++◌, Bool, true, false, length, map, get_or, Option, Some, None, Ok, Err, refl, ap, sym, subst, ◌∙◌, arith, append_assoc, append-nil, length-append, codes}
-use Rattle.std.proofs.lemmas.Bool.{both_ways}
-use Rattle.std.proofs.lemmas.List.{map-append, length-map}
-use Rattle.uv_ids.specs.declared.event.Event.{Event}
+use Rattle.uv_engine.proofs.Names.{◌≡◌, ◌≢◌, inl, inr, ℕ, ◌+◌, ◌<◌, ◌≤◌, ◌==◌, List, [], ◌∷◌, ◌++◌, Bool, true, false, length, map, get_or, Option, Some, None, Ok, Err, refl, ap, sym, subst, ◌∙◌, arith, append_assoc, append-nil, length-append, codes, both_ways, map-append, length-map, Event, Program, lines_of, IsSkipped, empty, comment, Draft, MakesFrom, SaysStep, IsCallbackLine, TakesLine, Begins, here, here_at_end, later, NeverBegins, nothing, last_line, one_line, IsFront, ParsesFront, after_last, at_line, NoneSkipped, IsFirstSkipped, FindsSkipped, IsFirstBad, version_line, Part, Start, InScript, InSteps, InCalls, Whole, Reads, version, in_script, begins, step, calls, callback, ends, ReadsAll, none, one, IsStuck, IsBadFrom, ReadsTo, Version}
 use Rattle.uv_ids.specs.declared.fault.Fault.TheVariants as fault
-use Rattle.uv_script.specs.Program.{Program}
-use Rattle.uv_script.specs.Lines.{lines_of, IsSkipped, empty, comment}
 use Rattle.uv_script.specs.Grammar as script
-use Rattle.uv_script.specs.Grammar.{Draft, MakesFrom}
-use Rattle.uv_text.specs.Recorded.{SaysStep, IsCallbackLine}
-use Rattle.uv_engine.specs.Input.{TakesLine}
-use Rattle.uv_engine.specs.Out.{Begins, here, here_at_end, later, NeverBegins, nothing, last_line, one_line}
-use Rattle.uv_engine.specs.Start.{IsFront, ParsesFront, after_last, at_line, NoneSkipped, IsFirstSkipped, FindsSkipped, IsFirstBad}
-use Rattle.uv_engine.specs.Recordings.{version_line, Part, Start, InScript, InSteps, InCalls, Whole, Reads, version, in_script, begins, step, calls, callback, ends, ReadsAll, none, one, IsStuck, IsBadFrom}
-use Rattle.uv_engine.specs.Rerun.{ReadsTo}
-use Rattle.uv_engine.specs.declared.version.Version.{Version}
 use Rattle.uv_engine.proofs.Talking.{lines_fed, lines_last, lines_next}
 
 -- ---- one part after another

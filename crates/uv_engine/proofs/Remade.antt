@@ -1,33 +1,11 @@
 -- The recording of a script and of steps that it takes is read as that very script, those steps and their callbacks; so its rerun says same,
 -- and nothing else.
-use Rattle.std.proofs.Common.{ℕ, ◌+◌, ◌≤◌, List, [], ◌∷◌, ◌++◌, length, map, Contains, refl, sym, subst, arith, append_assoc, append-nil, codes}
-use Rattle.std.specs.List.{AllByRecursion}
-use Rattle.uv_ids.specs.declared.event.Event.{Event}
-use Rattle.uv_ids.specs.declared.id.Var.{Var}
-use Rattle.uv_ids.specs.declared.seen.Callback.{Callback}
+use Rattle.uv_engine.proofs.Names.{ℕ, ◌+◌, ◌≤◌, List, [], ◌∷◌, ◌++◌, length, map, Contains, refl, sym, subst, arith, append_assoc, append-nil, codes, AllByRecursion, Event, Var, Callback, CallbackLine, MainOp, Program, worker_count, lines_in, lines_of, IsLine, IsSkipped, var_line, main_line, callback_line, name_lines, script_callbacks, thread_line, script_lines, IsName, unread, IsScript, is_line_decides, settled, lines_back, lines_read_back, read_lines, script_written, SaysStep, loop, outside, IsCallbackLine, call, after_line, closed, step_line, callback_lines, recording_lines, played, callbacks_said, step_said, CanBe, Same, Start, InScript, InSteps, InCalls, Whole, version, begins, step, calls, callback, ends, ReadsAll, none, one, NoneSkipped, AllTaken, same, HasVerdict}
 use Rattle.uv_ids.specs.declared.seen.Callback.TheVariants as kinds
-use Rattle.uv_script.specs.declared.op.CallbackLine.{CallbackLine}
-use Rattle.uv_script.specs.declared.op.MainOp.{MainOp}
 use Rattle.uv_script.specs.declared.op.MainOp.TheVariants as main
-use Rattle.uv_script.specs.Program.{Program, worker_count, lines_in}
-use Rattle.uv_script.specs.Lines.{lines_of, IsLine, IsSkipped}
-use Rattle.uv_script.specs.Text.{var_line, main_line, callback_line, name_lines, callback_lines as script_callbacks, thread_line, script_lines}
-use Rattle.uv_script.specs.Words.{IsName}
 use Rattle.uv_script.specs.Grammar as script
-use Rattle.uv_script.specs.Grammar.{unread, IsScript}
-use Rattle.uv_script.proofs.Checks.{is_line_decides}
-use Rattle.uv_script.proofs.ReadBack.{settled, lines_back, lines_read_back, read_lines}
-use Rattle.uv_script.proofs.Written.{script_written}
-use Rattle.uv_text.specs.Recorded.{SaysStep, loop, outside, IsCallbackLine, call, after as after_line, closed}
-use Rattle.uv_text.specs.Recording.{step_line, callback_lines, recording_lines, recording_text}
-use Rattle.uv_text.proofs.Played.{played, callbacks_said}
-use Rattle.uv_text.proofs.Printed.{step_said}
-use Rattle.uv_text.proofs.Sizes.{CanBe}
-use Rattle.uv_engine.specs.declared.verdict.Verdict.TheVariants.{Same}
+use Rattle.uv_text.specs.Recording.{recording_text}
 use Rattle.uv_engine.specs.declared.version.Version.TheVariants as versions
-use Rattle.uv_engine.specs.Recordings.{Start, InScript, InSteps, InCalls, Whole, version, begins, step, calls, callback, ends, ReadsAll, none, one}
-use Rattle.uv_engine.specs.Start.{NoneSkipped}
-use Rattle.uv_engine.specs.Verdict.{AllTaken, same, HasVerdict}
 use Rattle.uv_engine.proofs.Recordings.{reads_on, begins_says, script_on}
 
 -- ---- its lines

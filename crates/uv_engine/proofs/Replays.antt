@@ -1,25 +1,10 @@
 -- The parts of a recording, as a replay reads and runs them.
-use Rattle.std.proofs.Common.{◌≡◌, ◌≢◌, ℕ, ◌+◌, List, [], ◌∷◌, ◌++◌, Bool, true, false, length, Option, Some, None, Ok, Err, refl, ap, sym, subst, ◌∙◌, arith, append-nil, codes}
-use Rattle.uv_ids.specs.declared.event.Event.{Event}
-use Rattle.uv_ids.specs.declared.fault.Fault.{Fault}
+use Rattle.uv_engine.proofs.Names.{◌≡◌, ◌≢◌, ℕ, ◌+◌, List, [], ◌∷◌, ◌++◌, Bool, true, false, length, Option, Some, None, Ok, Err, refl, ap, sym, subst, ◌∙◌, arith, append-nil, codes, Event, Fault, Program, lines_of, SaysStep, IsCallbackLine, Verdict, Version, TakesLine, version_line, unread_in, Part, Start, InScript, InSteps, InCalls, Whole, Reads, version, step, calls, callback, ends, ReadsAll, IsBadFrom, IsFront, ParsesFront, NoneSkipped, CutShort, CutOff, IsVerdict, HasVerdict, verdict_text, Tells, cut_short, Replays, no_memory, no_read, ReadsTo, RanSo, HasSteps, Met, HasCalls, FailsAt, Draft}
 use Rattle.uv_ids.specs.declared.fault.Fault.TheVariants as fault
-use Rattle.uv_script.specs.Program.{Program}
-use Rattle.uv_script.specs.Lines.{lines_of}
-use Rattle.uv_text.specs.Recorded.{SaysStep, IsCallbackLine}
-use Rattle.uv_engine.specs.declared.verdict.Verdict.{Verdict}
-use Rattle.uv_engine.specs.declared.version.Version.{Version}
-use Rattle.uv_engine.specs.Input.{TakesLine}
-use Rattle.uv_engine.specs.Recordings.{version_line, unread_in, Part, Start, InScript, InSteps, InCalls, Whole, Reads, version, step, calls, callback, ends, ReadsAll, IsBadFrom}
-use Rattle.uv_engine.specs.Start.{IsFront, ParsesFront, NoneSkipped}
-use Rattle.uv_engine.specs.Sink.{CutShort}
-use Rattle.uv_engine.specs.Gather.{CutOff}
-use Rattle.uv_engine.specs.Verdict.{IsVerdict, HasVerdict, verdict_text, Tells, cut_short, Replays, no_memory, no_read}
 use Rattle.uv_engine.specs.Verdict as verdict
 use Rattle.uv_engine.specs.Recordings as grammar
-use Rattle.uv_engine.specs.Rerun.{ReadsTo, RanSo, HasSteps, Met, HasCalls, FailsAt}
 use Rattle.uv_engine.proofs.Recordings.{reads_none, reads_then, reads_line, bad_then, bad_line, bad_end, only_version, only_steps, only_calls, only_whole, script_read}
 use Rattle.uv_engine.proofs.Gathers.{short_of_cut}
-use Rattle.uv_script.specs.Grammar.{Draft}
 
 -- ---- the first line and the script
 

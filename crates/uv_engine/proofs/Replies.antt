@@ -1,25 +1,11 @@
 -- What a session answers, as a reply.
-use Rattle.std.proofs.Common.{◌≡◌, ℕ, suc, zero, ◌+◌, inl, inr, ◌<◌, ◌≤◌, List, [], ◌∷◌, length, Bool, true, false, nat_lt, nat_le, take, codes, ◌-◌, ◌++◌, length-take, length-append, Option, Some, None, Ok, Err, Result, if◌then◌else◌, refl, ap, ap₂, sym, subst, ◌∙◌, arith}
-use Rattle.std.specs.Prelude.{not, slice_get, unwrap_or}
-use Rattle.std.proofs.lemmas.Bool.{cases_order}
-use Rattle.std.proofs.lemmas.Bool.Decides.{nat_tests}
-use Rattle.uv_ids.specs.declared.event.Event.{Event}
-use Rattle.uv_model.specs.declared.machine.Outcome.{Outcome}
-use Rattle.uv_ids.specs.declared.fault.Why.{Why}
+use Rattle.uv_engine.proofs.Names.{◌≡◌, ℕ, suc, zero, ◌+◌, inl, inr, ◌<◌, ◌≤◌, List, [], ◌∷◌, length, Bool, true, false, take, codes, ◌-◌, ◌++◌, length-take, length-append, Option, Some, None, Ok, Err, Result, if◌then◌else◌, refl, ap, ap₂, sym, subst, ◌∙◌, arith, not, slice_get, unwrap_or, cases_order, nat_tests, Event, Outcome, Why, Program, Break, Fault, Seen, seen_by-moves, length-seen_by, Stop, stops, stop_of, Shown, TakesEvent, moved_back, moved_forward, BREAKS, RunsTo, all, matches, on, stops_at, NoneFrom, IsLastBreak, last_seen, Took, Full, reply, reply_text, reply_after, may_follow, appended_text, break_text, stop_text, at_text, back_text, back_after, forward_text, forward_after, add_text, add_after, last_match, last_break, break_back_text, break_back_after}
+use Rattle.std.proofs.Common.{nat_lt, nat_le}
 use Rattle.uv_ids.specs.declared.fault.Fault.TheVariants as fault
-use Rattle.uv_script.specs.Program.{Program}
-use Rattle.uv_session.specs.declared.breaks.Break.{Break}
-use Rattle.uv_ids.specs.declared.fault.Fault.{Fault}
-use Rattle.uv_ids.specs.declared.seen.Seen.{Seen}
 use Rattle.uv_model.specs.After.{after, seen_by}
-use Rattle.uv_model.proofs.Runs.{seen_by-moves, length-seen_by}
-use Rattle.uv_session.specs.declared.breaks.Stop.{Stop}
 use Rattle.uv_session.specs.declared.breaks.Stop.TheVariants as stop
-use Rattle.uv_session.specs.Breaks.{stops, stop_of}
-use Rattle.uv_session.specs.Shown.{Shown, TakesEvent, moved_back}
-use Rattle.uv_session.specs.Moving.{moved_forward, BREAKS, RunsTo, all, matches, ends, on, stops_at, NoneFrom, IsLastBreak}
-use Rattle.uv_engine.specs.Steps.{last_seen}
-use Rattle.uv_engine.specs.Reply.{Took, Refused, Full, reply, reply_text, reply_after, may_follow, appended_text, break_text, stop_text, at_text, back_text, back_after, forward_text, forward_after, add_text, add_after, last_match, last_break, break_back_text, break_back_after}
+use Rattle.uv_session.specs.Moving.{ends}
+use Rattle.uv_engine.specs.Reply.{Refused}
 
 below : (m n : ℕ) → m < n → nat_lt m n ≡ true
 below m n h = grind (arith, nat_tests)

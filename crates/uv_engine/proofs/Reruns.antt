@@ -1,26 +1,10 @@
 -- The steps of a recording, run again, and its callbacks, compared.
-use Rattle.std.proofs.Common.{◌≡◌, ℕ, suc, ◌+◌, ◌-◌, ◌<◌, ◌≤◌, List, [], ◌∷◌, ◌++◌, true, false, length, map, drop, Option, Some, None, Ok, Err, refl, ap, sym, subst, ◌∙◌, arith, append_assoc, append-nil, length-append}
-use Rattle.std.specs.Prelude.{slice_get, option_to_list}
-use Rattle.std.specs.List.{flat_map, filter}
+use Rattle.uv_engine.proofs.Names.{◌≡◌, ℕ, suc, ◌+◌, ◌-◌, ◌<◌, ◌≤◌, List, [], ◌∷◌, ◌++◌, true, false, length, map, drop, Option, Some, None, Ok, Err, refl, ap, sym, subst, ◌∙◌, arith, append_assoc, append-nil, length-append, slice_get, option_to_list, flat_map, filter, drop_all, get_or_from_slice_get, filter-append, Event, Seen, Why, Program, Outcome, Refuses, Answers, STEPS, accepts-push, length-seen_by, line_text, is_callback, callback_lines, Verdict, Same, Differs, Refused, IsHalt, refused, full, AllTaken, AreApart, PartAt, IsVerdict, halts, same, differs, RanSo, MetSo, called_from}
 use Rattle.std.proofs.Math.Seq.{drop-cons}
-use Rattle.std.proofs.lemmas.List.{drop_all}
-use Rattle.std.proofs.lemmas.Option.{get_or_from_slice_get}
-use Rattle.std.proofs.lemmas.List.Elements.{filter-append}
-use Rattle.uv_ids.specs.declared.event.Event.{Event}
-use Rattle.uv_ids.specs.declared.seen.Seen.{Seen}
 use Rattle.uv_ids.specs.declared.fault.Fault.TheVariants as fault
-use Rattle.uv_ids.specs.declared.fault.Why.{Why}
-use Rattle.uv_script.specs.Program.{Program}
-use Rattle.uv_model.specs.declared.machine.Outcome.{Outcome}
-use Rattle.uv_model.specs.Next.{Refuses, next}
-use Rattle.uv_model.specs.After.{after, seen_by, Answers, Accepts, STEPS}
-use Rattle.uv_model.proofs.Runs.{accepts-push, length-seen_by}
-use Rattle.uv_text.specs.Trace.{line_text}
-use Rattle.uv_text.specs.Recording.{is_callback, callback_lines}
-use Rattle.uv_engine.specs.declared.verdict.Verdict.{Verdict}
-use Rattle.uv_engine.specs.declared.verdict.Verdict.TheVariants.{Same, Differs, Refused, Full}
-use Rattle.uv_engine.specs.Verdict.{IsHalt, refused, full, AllTaken, AreApart, PartAt, IsVerdict, halts, same, differs}
-use Rattle.uv_engine.specs.Rerun.{RanSo, MetSo, called_from}
+use Rattle.uv_model.specs.Next.{next}
+use Rattle.uv_model.specs.After.{after, seen_by, Accepts}
+use Rattle.uv_engine.specs.declared.verdict.Verdict.TheVariants.{Full}
 
 -- ---- the steps
 

@@ -1,25 +1,9 @@
 -- The lines of a script, one after another.
-use Rattle.std.proofs.Common.{◌≡◌, ◌≢◌, inl, inr, ℕ, ◌+◌, List, [], ◌∷◌, ◌++◌, Bool, true, false, length, Result, Ok, Err, refl, ap, sym, ◌∙◌, subst, arith, ◌==◌, IfErr, append_assoc, append-nil, codes}
-use Rattle.uv_ids.specs.declared.fault.Fault.{Fault}
+use Rattle.uv_engine.proofs.Names.{◌≡◌, ◌≢◌, inl, inr, ℕ, ◌+◌, List, [], ◌∷◌, ◌++◌, Bool, true, false, length, Result, Ok, Err, refl, ap, sym, ◌∙◌, subst, arith, ◌==◌, IfErr, append_assoc, append-nil, codes, Fault, Program, lines_of, bytes_eq, bytes_eq-Decides, both_ways, Decides-eqb, elements, Draft, IsScript, MakesFrom, IsBadLine, Parses, ParsesFrom, unread, HasReading, STEPS, Shown, Ended, TalksCut, TalksOn, TakesLine, NoFeed, Buffered, pending, left, Out, Begins, NeverBegins, Ends, BadScript, Converses, IsDeviceFault, fresh_session, talks, here, here_at_end, later, nothing, last_line, one_line, bad_line, no_begin, bad_input, HasAnswer, HasScript, ReadsScript, IsFront, ParsesFront, MissesBegin, after_last, at_line, NoScript, IsStartFault, with_line}
 use Rattle.uv_ids.specs.declared.fault.Fault.TheVariants as fault
-use Rattle.uv_script.specs.Program.{Program}
-use Rattle.uv_script.specs.Lines.{lines_of}
-use Rattle.std.specs.Str.{bytes_eq}
-use Rattle.std.proofs.lemmas.Slice.Eq.{bytes_eq-Decides}
-use Rattle.std.proofs.lemmas.Bool.{both_ways}
-use Rattle.std.proofs.lemmas.Bool.Decides.{Decides-eqb}
-use Rattle.std.proofs.lemmas.Grind.{elements}
-use Rattle.uv_script.specs.Grammar.{Draft, IsScript, MakesFrom, IsBadLine, Parses, ParsesFrom, unread}
-use Rattle.uv_script.specs.Laws.{HasReading}
-use Rattle.uv_model.specs.After.{STEPS}
-use Rattle.uv_session.specs.Shown.{Shown}
-use Rattle.uv_engine.specs.declared.conversation.Ended.{Ended}
-use Rattle.uv_engine.specs.Talk.{TalksCut, TalksOn}
 use Rattle.uv_engine.proofs.Talking.{EveryLine, some_talk}
 use Rattle.uv_engine.proofs.Replies.{same_shown}
-use Rattle.uv_engine.specs.Input.{TakesLine, NoFeed, Buffered, pending, left}
-use Rattle.uv_engine.specs.Out.{Out, Begins, NeverBegins, Ends, BadScript, IsCut, Converses, IsDeviceFault, fresh_session, talks, here, here_at_end, later, nothing, last_line, one_line, bad_line, no_begin, bad_input, HasAnswer}
-use Rattle.uv_engine.specs.Start.{HasScript, ReadsScript, IsFront, ParsesFront, MissesBegin, after_last, at_line, NoScript, IsStartFault, with_line}
+use Rattle.uv_engine.specs.Out.{IsCut}
 
 -- what was read goes on to the whole input: where the rest has a script its front is this text, and where the rest is
 -- never `begin` nor is the whole, which is this text and the rest

@@ -1,20 +1,7 @@
 -- The answers to lines, one line after another.
-use Rattle.std.proofs.Common.{◌≡◌, ◌≢◌, ℕ, List, [], ◌∷◌, ◌++◌, Result, Ok, Err, suc, ◌==◌, arith, Bool, true, false, refl, ap, sym, ◌∙◌, subst, append_assoc, append-nil}
-use Rattle.uv_ids.specs.declared.fault.Fault.{Fault}
-use Rattle.uv_session.specs.Shown.{Shown}
-use Rattle.uv_text.specs.declared.command.Command.TheVariants.{Loop, Step, Back, Forward, AddBreak, ClearBreaks, BackToBreak, Trace, State, Image, Record, Quit}
-use Rattle.uv_text.specs.declared.command.Asked.{Asked}
-use Rattle.uv_text.specs.declared.command.Asked.TheVariants.{Nothing, Do, Bad}
-use Rattle.uv_text.specs.Commands.{Asks}
-use Rattle.uv_text.specs.Reading.{asked_of}
-use Rattle.uv_script.specs.Lines.{lines_of}
-use Rattle.uv_engine.specs.Input.{TakesLine, NoFeed}
-use Rattle.uv_engine.specs.declared.conversation.Ended.{Ended}
+use Rattle.uv_engine.proofs.Names.{◌≡◌, ◌≢◌, ℕ, List, [], ◌∷◌, ◌++◌, Result, Ok, Err, suc, ◌==◌, arith, Bool, true, false, refl, ap, sym, ◌∙◌, subst, append_assoc, append-nil, Fault, Shown, Loop, Step, Back, Forward, AddBreak, ClearBreaks, BackToBreak, Trace, State, Image, Record, Quit, Asked, Nothing, Do, Bad, Asks, asked_of, lines_of, TakesLine, NoFeed, Ended, append_cancel_left, Grown, CutOff, Gathers, GathersOne, Talks, input_ends, quits, goes_on, IsAnswer, asked_after, TalksCut, TalksOn, Finishes}
 use Rattle.uv_engine.specs.declared.conversation.Ended.TheVariants as ended
-use Rattle.std.proofs.lemmas.List.{append_cancel_left}
-use Rattle.uv_engine.specs.Gather.{Grown, CutOff, Gathers, GathersOne}
-use Rattle.uv_engine.specs.Out.{refused, Talks, input_ends, quits, goes_on, IsAnswer, asked_after}
-use Rattle.uv_engine.specs.Talk.{TalksCut, TalksOn, Finishes}
+use Rattle.uv_engine.specs.Out.{refused}
 use Rattle.uv_engine.proofs.Gathers.{grown_none, grown_more}
 
 -- what was written and gathered goes on to the answers to all lines, by any answers to the lines that are left

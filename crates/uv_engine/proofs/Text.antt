@@ -1,8 +1,5 @@
 -- Texts that are written, whole or cut short.
-use Rattle.std.proofs.Common.{◌≡◌, ℕ, zero, suc, zero-add, add-zero, ◌+◌, ◌-◌, List, [], ◌∷◌, ◌++◌, length, take, drop, refl, ap, sym, ◌∙◌, arith, append_assoc}
-use Rattle.std.proofs.lemmas.Grind.{common_steps}
-use Rattle.std.proofs.lemmas.List.{take-append-drop}
-use Rattle.uv_engine.specs.Sink.{CutShort}
+use Rattle.uv_engine.proofs.Names.{◌≡◌, ℕ, zero, suc, zero-add, add-zero, ◌+◌, ◌-◌, List, [], ◌∷◌, ◌++◌, length, take, drop, refl, ap, sym, ◌∙◌, arith, append_assoc, common_steps, take-append-drop, CutShort}
 
 take-add : (n m : ℕ) (xs : List ℕ) → take (n + m) xs ≡ take n xs ++ take m (drop n xs)
 take-add zero m xs = rw zero-add refl

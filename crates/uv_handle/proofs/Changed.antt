@@ -1,17 +1,5 @@
 -- A handle is added, or gets another record.
-use Rattle.std.proofs.Common.{◌≡◌, ℕ, ◌+◌, Option, Some, option_and_then, refl, sym, ap, ◌∙◌, arith}
-use Rattle.uv_ids.specs.declared.id.Id.{Id}
-use Rattle.uv_ids.specs.declared.id.Var.{Var}
-use Rattle.uv_ids.specs.declared.phase.Kind.{Kind}
-use Rattle.uv_records.specs.declared.handle.HandleRecord.{HandleRecord}
-use Rattle.uv_records.specs.Handles.{inited, keeps_alive}
-use Rattle.uv_records.specs.Count.{one_if, keeps_in}
-use Rattle.uv_arena.specs.declared.undo.InsertUndo.{InsertUndo}
-use Rattle.uv_arena.specs.Image.{Image, IsSound}
-use Rattle.uv_arena.specs.Calls.{IsInserted, IsSet}
-use Rattle.uv_arena.proofs.Contents.{content_is}
-use Rattle.uv_handle.specs.Counted.{counted, alive_count, record_at, Fits32}
-use Rattle.uv_handle.specs.Changes.{IsAdded, IsChanged}
+use Rattle.uv_handle.proofs.Names.{◌≡◌, ℕ, ◌+◌, Option, Some, option_and_then, refl, sym, ap, ◌∙◌, arith, Id, Var, Kind, HandleRecord, inited, keeps_alive, one_if, keeps_in, InsertUndo, Image, IsSound, IsInserted, IsSet, content_is, counted, alive_count, record_at, Fits32, IsAdded, IsChanged}
 use Rattle.uv_handle.proofs.Counts.{count_below, count_changed, count_inserted}
 
 module _ {X : Type 0} (read : X → Option HandleRecord) (make : HandleRecord → X) (gives_back : (r : HandleRecord) → read (make r) ≡ Some r) where

@@ -1,19 +1,6 @@
 -- A handle is closed, and a closing one is taken and freed.
-use Rattle.std.proofs.Common.{◌≡◌, ℕ, ◌+◌, ◌∷◌, Option, Some, option_and_then, sym, ap, ◌∙◌, subst, arith}
-use Rattle.uv_ids.specs.declared.id.Id.{Id}
-use Rattle.uv_records.specs.declared.handle.HandleRecord.{HandleRecord}
-use Rattle.uv_records.specs.declared.lists.ListName.{ListName}
-use Rattle.uv_records.specs.declared.lists.ListName.TheVariants.{ClosingYet}
-use Rattle.uv_records.specs.Count.{one_if, keeps_in, active_count}
+use Rattle.uv_handle.proofs.Names.{◌≡◌, ℕ, ◌+◌, ◌∷◌, Option, Some, option_and_then, sym, ap, ◌∙◌, subst, arith, Id, HandleRecord, ListName, ClosingYet, one_if, keeps_in, active_count, ChainPlace, RemoveUndo, Image, members, IsSound, remove_undone, unlink_undone, CanUndoUnlink, IsPushed, IsUnlinked, IsRemoved, IsFirst, SameSlots, RecordUndo, counted, alive_count, record_at, record_undone, CanUndoRecord, Fits32, IsChanged, IsEnlisted, IsTaken}
 use Rattle.uv_records.specs.Slots as plain
-use Rattle.uv_arena.specs.declared.links.ChainPlace.{ChainPlace}
-use Rattle.uv_arena.specs.declared.undo.RemoveUndo.{RemoveUndo}
-use Rattle.uv_arena.specs.Image.{Image, members, IsSound}
-use Rattle.uv_arena.specs.Undo.{remove_undone, unlink_undone, CanUndoUnlink}
-use Rattle.uv_arena.specs.Calls.{IsPushed, IsUnlinked, IsRemoved, IsFirst, SameSlots}
-use Rattle.uv_handle.specs.declared.undo.RecordUndo.{RecordUndo}
-use Rattle.uv_handle.specs.Counted.{counted, alive_count, record_at, record_undone, CanUndoRecord, Fits32}
-use Rattle.uv_handle.specs.Changes.{IsChanged, IsEnlisted, IsTaken}
 use Rattle.uv_handle.proofs.Counts.{count_below, count_removed}
 
 module _ {X : Type 0} (read : X → Option HandleRecord) (make : HandleRecord → X) where

@@ -1,20 +1,7 @@
 -- How the count of active referenced handles goes with the slots.
-use Rattle.std.proofs.Common.{◌≡◌, ℕ, zero, suc, ◌+◌, ◌<◌, ◌≤◌, Bool, true, false, List, [], ◌∷◌, ◌++◌, length, set, slice_get, Option, Some, None, sym, ap, ◌∙◌, inl, inr, arith}
-use Rattle.std.proofs.lemmas.Bool.Decides.{eqb_tells}
-use Rattle.std.proofs.lemmas.List.{length-map}
-use Rattle.uv_ids.specs.declared.id.Id.{Id}
-use Rattle.uv_records.specs.declared.handle.HandleRecord.{HandleRecord}
-use Rattle.uv_records.specs.declared.slot.Slot.{Slot}
-use Rattle.uv_records.specs.Count.{keeps_in, one_if, content_keeps, active_count}
+use Rattle.uv_handle.proofs.Names.{◌≡◌, ℕ, zero, suc, ◌+◌, ◌<◌, ◌≤◌, Bool, true, false, List, [], ◌∷◌, ◌++◌, length, set, slice_get, Option, Some, None, sym, ap, ◌∙◌, inl, inr, arith, eqb_tells, length-map, Id, HandleRecord, Slot, keeps_in, one_if, content_keeps, active_count, Cell, InsertUndo, RemoveUndo, Image, held, held_slots, plain_slots, IsSound, IsInserted, IsRemoved, IsSet, slot_tells, next_tells, alive_count}
 use Rattle.uv_records.specs.Slots as plain
-use Rattle.uv_arena.specs.declared.links.Cell.{Cell}
-use Rattle.uv_arena.specs.declared.undo.InsertUndo.{InsertUndo}
-use Rattle.uv_arena.specs.declared.undo.RemoveUndo.{RemoveUndo}
-use Rattle.uv_arena.specs.Image.{Image, held, held_slots, plain_slots, IsSound}
-use Rattle.uv_arena.specs.Calls.{IsInserted, IsRemoved, IsSet}
 pub use Rattle.uv_arena.proofs.Contents.{content_of}
-use Rattle.uv_arena.proofs.Contents.{slot_tells, next_tells}
-use Rattle.uv_handle.specs.Counted.{alive_count}
 
 one_le : (b : Bool) (n m : ℕ) → n ≤ m → one_if b + n ≤ suc m
 one_le true n m le = omega (arith, le)

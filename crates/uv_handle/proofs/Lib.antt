@@ -1,3 +1,4 @@
 pub mod Changed
 pub mod Closed
 pub mod Counts
+mod Names

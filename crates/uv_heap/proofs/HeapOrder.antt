@@ -1,13 +1,6 @@
 -- No entry comes before its parent, again after a push or a removal.
-use Rattle.std.proofs.Common.{◌≡◌, ℕ, zero, suc, ◌+◌, ◌-◌, ◌*◌, ◌<◌, ◌≤◌, ◌⊎◌, inl, inr, Bool, true, false, List, [], ◌∷◌, ◌++◌, length, sym, ap, ◌∙◌, arith, ltb, eqb, ◌&&◌, take, set}
-use Rattle.std.specs.List.{swap}
-use Rattle.std.proofs.lemmas.List.{length_push, length-set, length-take-le, get_or-set_other, get_or-take, get_or_append_left}
-use Rattle.std.proofs.lemmas.List.Edits.{Swapped, length-swap}
-use Rattle.std.proofs.lemmas.Bool.{and_cases, and_parts, cases_eq, cases_lt, ltb-false, eqb-false}
-use Rattle.uv_heap.specs.declared.entry.Entry.{Entry}
-use Rattle.uv_heap.specs.Order.{is_before}
-use Rattle.uv_heap.specs.Array.{entry_at, no_entry, parent, IsHeap}
-use Rattle.uv_heap.specs.Moves.{Moved, must_rise, must_sink, lesser_child, moved_up, moved_down, settled, pushed, removed}
+use Rattle.uv_heap.proofs.Names.{◌≡◌, ℕ, zero, suc, ◌+◌, ◌-◌, ◌*◌, ◌<◌, ◌≤◌, ◌⊎◌, inl, inr, Bool, true, false, List, [], ◌∷◌, ◌++◌, length, sym, ap, ◌∙◌, arith, ltb, eqb, ◌&&◌, take, set, swap, length_push, length-set, length-take-le, get_or-set_other, get_or-take, get_or_append_left, Swapped, length-swap, and_cases, and_parts, cases_eq, cases_lt, ltb-false, eqb-false, Entry, is_before, entry_at, no_entry, parent, IsHeap, Moved, must_rise, must_sink, lesser_child}
+use Rattle.uv_heap.specs.Moves.{moved_up, moved_down, settled, pushed, removed}
 use Rattle.uv_heap.proofs.Lists.{swapped_at}
 use Rattle.uv_heap.proofs.Ranks.{ranks, itself}
 use Rattle.uv_heap.proofs.MoveLemmas.{if_when, child_is, child_within, rises_from}

@@ -1,7 +1,8 @@
-pub mod Lists
-pub mod PlaceLemmas
-pub mod MoveLemmas
-pub mod Ranks
 pub mod HeapOrder
+pub mod Lists
+pub mod MoveLemmas
+mod Names
 pub mod OrderLemmas
+pub mod PlaceLemmas
+pub mod Ranks
 pub mod UndoLemmas

@@ -1,11 +1,5 @@
 -- What stands where after two entries change places, and after one comes last.
-use Rattle.std.proofs.Common.{◌≡◌, ℕ, ◌+◌, ◌<◌, ◌≤◌, ◌⊎◌, inl, inr, List, [], ◌∷◌, ◌++◌, length, set, take, refl, sym, ap, ◌∙◌, arith}
-use Rattle.std.specs.List.{swap}
-use Rattle.std.proofs.lemmas.List.{ext_get_or, get_or_append_left, get_or_push, length_push, get_or-take, length-take-le, length-set, get_or-set_same, get_or-set_other}
-use Rattle.std.proofs.lemmas.List.Edits.{Swapped, swapped_from_swap, length-swap}
-use Rattle.std.proofs.lemmas.Bool.{cases_eq, cases_lt}
-use Rattle.uv_heap.specs.declared.entry.Entry.{Entry}
-use Rattle.uv_heap.specs.Array.{entry_at, no_entry}
+use Rattle.uv_heap.proofs.Names.{◌≡◌, ℕ, ◌+◌, ◌<◌, ◌≤◌, ◌⊎◌, inl, inr, List, [], ◌∷◌, ◌++◌, length, set, take, refl, sym, ap, ◌∙◌, arith, swap, ext_get_or, get_or_append_left, get_or_push, length_push, get_or-take, length-take-le, length-set, get_or-set_same, get_or-set_other, Swapped, swapped_from_swap, length-swap, cases_eq, cases_lt, Entry, entry_at, no_entry}
 
 pub swapped_at : (xs : List Entry) (a b : ℕ) → a < length xs → b < length xs → Swapped (λ i. entry_at xs i) (λ i. entry_at (swap xs a b) i) a b
 swapped_at xs a b p q = swapped_from_swap xs (swap xs a b) a b no_entry p q refl

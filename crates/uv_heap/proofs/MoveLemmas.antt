@@ -1,12 +1,6 @@
 -- An entry moves up and down, and back the same way.
-use Rattle.std.proofs.Common.{◌≡◌, ℕ, zero, suc, ◌+◌, ◌*◌, ◌<◌, ◌≤◌, Bool, true, false, List, length, refl, sym, ap, ◌∙◌, arith, cond, ltb, ◌&&◌}
-use Rattle.std.specs.List.{swap}
-use Rattle.std.proofs.lemmas.List.Edits.{length-swap}
-use Rattle.std.proofs.lemmas.Bool.{and_left, and_parts, false≢true, ltb-true, lt-ltb, le-ltb}
-use Rattle.uv_heap.specs.declared.entry.Entry.{Entry}
-use Rattle.uv_heap.specs.Order.{is_before}
-use Rattle.uv_heap.specs.Array.{entry_at, parent}
-use Rattle.uv_heap.specs.Moves.{Moved, must_rise, must_sink, lesser_child, moved_up, moved_down, settled}
+use Rattle.uv_heap.proofs.Names.{◌≡◌, ℕ, zero, suc, ◌+◌, ◌*◌, ◌<◌, ◌≤◌, Bool, true, false, List, length, refl, sym, ap, ◌∙◌, arith, cond, ltb, ◌&&◌, swap, length-swap, and_left, and_parts, false≢true, ltb-true, lt-ltb, le-ltb, Entry, is_before, entry_at, parent, Moved, must_rise, must_sink, lesser_child}
+use Rattle.uv_heap.specs.Moves.{moved_up, moved_down, settled}
 use Rattle.uv_heap.specs.Undo.{raised, lowered}
 use Rattle.uv_heap.proofs.Lists.{swap-swap}
 

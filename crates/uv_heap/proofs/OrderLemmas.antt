@@ -1,15 +1,6 @@
 -- The order of timers after a push and a removal.
-use Rattle.std.proofs.Common.{◌≡◌, ℕ, zero, suc, ◌+◌, ◌-◌, ◌<◌, ◌⊎◌, inl, inr, Bool, true, false, List, [], ◌∷◌, ◌++◌, length, refl, sym, ap, ◌∙◌, arith, cond, eqb, count_by, take, set}
-use Rattle.std.specs.List.{swap}
-use Rattle.std.proofs.lemmas.List.{length_push, length-take-le, take_more, take_all}
-use Rattle.std.proofs.lemmas.List.Edits.{length-swap}
-use Rattle.std.proofs.lemmas.List.Sorted.{IsPermutation-swap, sum_by-IsPermutation}
-use Rattle.std.proofs.lemmas.List.Sums.{sum_by-cons, sum_by_push}
-use Rattle.std.proofs.lemmas.Bool.{cases_Bool, false≢true, eqb-true, eqb-false}
-use Rattle.uv_heap.specs.declared.entry.Entry.{Entry}
-use Rattle.uv_heap.specs.Order.{is_before, is_same, NoneBefore, IsBeforeAll, IsOrdered, IsInOrder, inserted, without}
-use Rattle.uv_heap.specs.Array.{entry_at, no_entry, parent, IsHeap}
-use Rattle.uv_heap.specs.Moves.{Moved, must_rise, must_sink, lesser_child, moved_up, moved_down, settled, pushed, removed}
+use Rattle.uv_heap.proofs.Names.{◌≡◌, ℕ, zero, suc, ◌+◌, ◌-◌, ◌<◌, ◌⊎◌, inl, inr, Bool, true, false, List, [], ◌∷◌, ◌++◌, length, refl, sym, ap, ◌∙◌, arith, cond, eqb, count_by, take, set, swap, length_push, length-take-le, take_more, take_all, length-swap, IsPermutation-swap, sum_by-IsPermutation, sum_by-cons, sum_by_push, cases_Bool, false≢true, eqb-true, eqb-false, Entry, is_before, is_same, NoneBefore, IsBeforeAll, IsOrdered, IsInOrder, inserted, without, entry_at, no_entry, parent, IsHeap, Moved, must_rise, must_sink, lesser_child}
+use Rattle.uv_heap.specs.Moves.{moved_up, moved_down, settled, pushed, removed}
 use Rattle.uv_heap.proofs.Lists.{swapped_at, take-swap}
 use Rattle.uv_heap.proofs.Ranks.{ranks, same_is, same_itself}
 use Rattle.uv_heap.proofs.MoveLemmas.{if_when, if_true, if_false, child_within}

@@ -1,14 +1,5 @@
 -- The places stay right.
-use Rattle.std.proofs.Common.{◌≡◌, ℕ, zero, suc, replicate, ◌+◌, ◌-◌, ◌<◌, ◌≤◌, ◌^◌, ◌⊎◌, inl, inr, Bool, List, [], ◌∷◌, ◌++◌, length, get_or, set, take, refl, sym, ap, ◌∙◌, arith, Option, Some, None, count_by, eqb, cond, ltb, IfSome}
-use Rattle.std.specs.Option.{is_some}
-use Rattle.std.specs.List.{swap, position_or_len}
-use Rattle.std.proofs.lemmas.List.{get_or-set_same, get_or-set_other, get_or_append_left, get_or-append_right, get_or_push, get_or_past, take_all, length-set, length_push, length-append, length-replicate}
-use Rattle.std.proofs.lemmas.List.Edits.{Swapped, length-swap}
-use Rattle.std.proofs.lemmas.List.Sums.{sum_by-set, sum_by-cons, sum_by-append, count_by-le-length, position_or_len_is}
-use Rattle.std.proofs.lemmas.Bool.{cases_eq, cases_lt, eq-eqb, ne_eqb, lt-ltb, le-ltb}
-use Rattle.uv_heap.specs.declared.entry.Entry.{Entry}
-use Rattle.uv_heap.specs.Array.{entry_at, no_entry, place_in}
-use Rattle.uv_heap.specs.Places.{ArePlaces}
+use Rattle.uv_heap.proofs.Names.{◌≡◌, ℕ, zero, suc, replicate, ◌+◌, ◌-◌, ◌<◌, ◌≤◌, ◌^◌, ◌⊎◌, inl, inr, Bool, List, [], ◌∷◌, ◌++◌, length, get_or, set, take, refl, sym, ap, ◌∙◌, arith, Option, Some, None, count_by, eqb, cond, ltb, IfSome, is_some, swap, position_or_len, get_or-set_same, get_or-set_other, get_or_append_left, get_or-append_right, get_or_push, get_or_past, take_all, length-set, length_push, length-append, length-replicate, Swapped, length-swap, sum_by-set, sum_by-cons, sum_by-append, count_by-le-length, position_or_len_is, cases_eq, cases_lt, eq-eqb, ne_eqb, lt-ltb, le-ltb, Entry, entry_at, no_entry, place_in, ArePlaces}
 use Rattle.uv_heap.proofs.Lists.{at_push, swapped_at}
 
 -- one, if there is a place

@@ -1,13 +1,5 @@
 -- Entries are ranked by when they are due.
-use Rattle.std.proofs.Common.{◌≡◌, Bool, true, false, refl, ◌&&◌, eqb}
-use Rattle.std.specs.Cmp.{IsTotalOrder, IsStrictWeakOrder}
-use Rattle.std.proofs.lemmas.Cmp.{on_total, then_total, nat_cmp_total}
-use Rattle.std.proofs.lemmas.List.Sorted.{ranks_by}
-use Rattle.std.proofs.lemmas.Bool.{and_parts, and_from, eqb-true, eq-eqb}
-use Rattle.uv_ids.specs.Due.{due_cmp}
-use Rattle.uv_ids.specs.declared.due.Due.{Due}
-use Rattle.uv_heap.specs.declared.entry.Entry.{Entry}
-use Rattle.uv_heap.specs.Order.{is_before, is_same}
+use Rattle.uv_heap.proofs.Names.{◌≡◌, Bool, true, false, refl, ◌&&◌, eqb, IsTotalOrder, IsStrictWeakOrder, on_total, then_total, nat_cmp_total, ranks_by, and_parts, and_from, eqb-true, eq-eqb, due_cmp, Due, Entry, is_before, is_same}
 
 due_total : IsTotalOrder due_cmp
 due_total = then_total (on_total (λ (d : Due). d.at) nat_cmp_total) (on_total (λ (d : Due). d.start) nat_cmp_total)

@@ -1,15 +1,7 @@
 -- A push and a removal are taken back exactly.
-use Rattle.std.proofs.Common.{◌≡◌, ℕ, zero, suc, ◌+◌, ◌-◌, ◌<◌, ◌≤◌, ◌⊎◌, inl, inr, List, [], ◌∷◌, ◌++◌, Some, None, length, refl, sym, ap, ◌∙◌, arith, eqb, ltb, leb, take, set}
-use Rattle.std.specs.List.{swap, position_or_len}
-use Rattle.std.proofs.lemmas.List.{length_push, length-take-le, length-set, take_more, take_all, take_at, get_or-take, ext_get_or}
-use Rattle.std.proofs.lemmas.List.Edits.{Swapped, length-swap}
-use Rattle.std.proofs.lemmas.List.Sums.{position_or_len_is, fails_before_first}
-use Rattle.std.proofs.lemmas.Bool.{cases_eq, cases_lt, eqb-false, eq-eqb, ne_eqb, le-leb, lt-leb, le-ltb, lt-ltb}
-use Rattle.uv_heap.specs.declared.entry.Entry.{Entry}
-use Rattle.uv_heap.specs.declared.undo.HeapRemoveUndo.{HeapRemoveUndo}
-use Rattle.uv_heap.specs.Array.{entry_at, no_entry, parent, place_in, SlotsDiffer}
-use Rattle.uv_heap.specs.Moves.{Moved, must_rise, must_sink, lesser_child, moved_up, moved_down, settled, pushed, removed}
-use Rattle.uv_heap.specs.Undo.{raised, lowered, returned, push_undone, removal_undone}
+use Rattle.uv_heap.proofs.Names.{◌≡◌, ℕ, zero, suc, ◌+◌, ◌-◌, ◌<◌, ◌≤◌, ◌⊎◌, inl, inr, List, [], ◌∷◌, ◌++◌, Some, None, length, refl, sym, ap, ◌∙◌, arith, eqb, ltb, leb, take, set, swap, position_or_len, length_push, length-take-le, length-set, take_more, take_all, take_at, get_or-take, ext_get_or, Swapped, length-swap, position_or_len_is, fails_before_first, cases_eq, cases_lt, eqb-false, eq-eqb, ne_eqb, le-leb, lt-leb, le-ltb, lt-ltb, Entry, HeapRemoveUndo, entry_at, no_entry, parent, place_in, SlotsDiffer, Moved, must_rise, must_sink, lesser_child, returned}
+use Rattle.uv_heap.specs.Moves.{moved_up, moved_down, settled, pushed, removed}
+use Rattle.uv_heap.specs.Undo.{raised, lowered, push_undone, removal_undone}
 use Rattle.uv_heap.proofs.Lists.{swapped_at, swap-swap, swap_same, take-swap, swap-push}
 use Rattle.uv_heap.proofs.MoveLemmas
 

@@ -1,3 +1,4 @@
-pub mod Walked
-pub mod Same
 pub mod Lies
+mod Names
+pub mod Same
+pub mod Walked

@@ -1,47 +1,9 @@
 -- A layout that shows all of a memory lies for each state that the memory stands for.
-use Rattle.std.proofs.Common.{◌≡◌, ℕ, zero, suc, ◌<◌, ◌≤◌, ◌+◌, ◌++◌, ◌⊎◌, List, [], ◌∷◌, map, length, length-append, slice_get, Option, Some, None, IfNone, IfSome, refl, inl, inr, sym, ap, ◌∙◌, subst, arith}
+use Rattle.uv_layout.proofs.Names.{◌≡◌, ℕ, zero, suc, ◌<◌, ◌≤◌, ◌+◌, ◌++◌, ◌⊎◌, List, [], ◌∷◌, map, length, length-append, slice_get, Option, Some, None, IfNone, IfSome, refl, inl, inr, sym, ap, ◌∙◌, subst, arith, eqb_tells, length-map, slice_get_past, slice_get_within, Id, LIST_COUNT, ListName, Slot, number, all_lists, first, last, ends_of, IsIn, Cell, Links, IsFirst, IsLast, link, loose, IsSegment, CHAIN_COUNT, FREE, IsSound, chain, chains, links_in, links_at, name_at, slot_in, slot_at, number_apart, number_below, get-links, last_append, segment_tells, Entry, IsInOrder, IsHeap, SlotsDiffer, place_in, id_in, LaidSlot, Layout, ListEnds, Numbers, Place, State, members, LiesFor, HasNeighbours, AreWalked, slots_on, with_ends, generation_in, id_now, entry_of, Content, Image, StandsFor, timer_in, list_named, ShowsSlot, ShowsSlots, ShowsAll, shown_ends, IsFit, active_fit, opened_fit, names_is, place_is, running_is}
 use Rattle.uv_layout.proofs.Walked.{by_links}
-use Rattle.std.proofs.lemmas.Bool.Decides.{eqb_tells}
-use Rattle.std.proofs.lemmas.List.{length-map}
-use Rattle.std.proofs.lemmas.Option.{slice_get_past, slice_get_within}
-use Rattle.uv_ids.specs.declared.id.Id.{Id}
-use Rattle.uv_records.specs.declared.lists.TheConstants.{LIST_COUNT}
-use Rattle.uv_records.specs.declared.lists.ListName.{ListName}
-use Rattle.uv_records.specs.declared.slot.Slot.{Slot}
-use Rattle.uv_records.specs.Lists.{number, all_lists}
-use Rattle.uv_records.specs.Linked.{first, last, ends_of, IsIn}
 use Rattle.uv_records.specs.Slots as plain
-use Rattle.uv_arena.specs.declared.links.Cell.{Cell}
-use Rattle.uv_arena.specs.declared.links.Links.{Links}
 use Rattle.uv_arena.specs.Calls as calls
-use Rattle.uv_arena.specs.Calls.{IsFirst, IsLast}
-use Rattle.uv_arena.specs.Chains.{link, loose, IsSegment}
 use Rattle.uv_arena.specs.Image as arena
-use Rattle.uv_arena.specs.declared.links.TheConstants.{CHAIN_COUNT, FREE}
-use Rattle.uv_arena.specs.Image.{IsSound, chain, chains, links_in, links_at, name_at, slot_in, slot_at}
-use Rattle.uv_arena.proofs.Names.{number_apart, number_below}
-use Rattle.uv_arena.proofs.Memories.{get-links}
-use Rattle.uv_arena.proofs.Lists.{last_append, segment_tells}
-use Rattle.uv_heap.specs.declared.entry.Entry.{Entry}
-use Rattle.uv_heap.specs.Order.{IsInOrder}
-use Rattle.uv_heap.specs.Array.{IsHeap, SlotsDiffer, place_in}
-use Rattle.uv_requests.specs.Working.{id_in}
-use Rattle.uv_model.specs.declared.layout.LaidSlot.{LaidSlot}
-use Rattle.uv_model.specs.declared.layout.Layout.{Layout}
-use Rattle.uv_model.specs.declared.layout.ListEnds.{ListEnds}
-use Rattle.uv_model.specs.declared.numbers.Numbers.{Numbers}
-use Rattle.uv_model.specs.declared.place.Place.{Place}
-use Rattle.uv_model.specs.State.{State}
-use Rattle.uv_model.specs.Queries.{members}
-use Rattle.uv_model.specs.Layout.{LiesFor, HasNeighbours, AreWalked, slots_on, with_ends, generation_in, id_now, entry_of}
-use Rattle.uv_work.specs.declared.content.Content.{Content}
-use Rattle.uv_step.specs.Image.{Image}
-use Rattle.uv_stands.specs.Stands.{StandsFor, timer_in}
-use Rattle.uv_stands.proofs.Onto.{list_named}
-use Rattle.uv_layout.specs.Laid.{ShowsSlot, ShowsSlots, ShowsAll, shown_ends}
-use Rattle.uv_step.specs.Fit.{IsFit}
-use Rattle.uv_stands.proofs.Pools.{active_fit, opened_fit}
-use Rattle.uv_stands.proofs.Single.{names_is, place_is, running_is}
 
 slots_same : (cs : List LaidSlot) (ks : List (Cell Content)) → length cs ≡ length ks
     → ((x : ℕ) (c : LaidSlot) → slice_get cs x ≡ Some c → c.slot ≡ slot_in (slice_get ks x))

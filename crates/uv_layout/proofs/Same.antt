@@ -1,16 +1,6 @@
 -- What the memory shows is what the state has.
-use Rattle.std.proofs.Common.{◌≡◌, ◌<◌, ◌≤◌, ℕ, zero, suc, List, [], ◌∷◌, map, length, slice_get, Some, None, sym, ap, ◌∙◌, arith}
-use Rattle.std.proofs.lemmas.List.{length-map}
-use Rattle.std.proofs.lemmas.Option.{slice_get_past}
-use Rattle.uv_records.specs.declared.slot.Slot.{Slot}
+use Rattle.uv_layout.proofs.Names.{◌≡◌, ◌<◌, ◌≤◌, ℕ, zero, suc, List, [], ◌∷◌, map, length, slice_get, Some, None, sym, ap, ◌∙◌, arith, length-map, slice_get_past, Slot, Content, Cell, slot_at, slot_in, Place, State, Image, StandsFor}
 use Rattle.uv_records.specs.Slots as plain
-use Rattle.uv_work.specs.declared.content.Content.{Content}
-use Rattle.uv_arena.specs.declared.links.Cell.{Cell}
-use Rattle.uv_arena.specs.Image.{slot_at, slot_in}
-use Rattle.uv_model.specs.declared.place.Place.{Place}
-use Rattle.uv_model.specs.State.{State}
-use Rattle.uv_step.specs.Image.{Image}
-use Rattle.uv_stands.specs.Stands.{StandsFor}
 
 slot_in_row : (cs : List (Cell Content)) (n : ℕ) (t : Slot Content) → n < length cs → t ≡ slot_in (slice_get cs n)
     → Some t ≡ slice_get (map (λ (c : Cell Content). c.slot) cs) n

@@ -1,15 +1,7 @@
 -- The free list is walked from its front.
-use Rattle.std.proofs.Common.{◌≡◌, ℕ, zero, suc, ◌<◌, List, [], ◌∷◌, ◌++◌, map, length, slice_get, Option, Some, None, sym, ap, ◌∙◌, subst, arith}
-use Rattle.std.proofs.lemmas.Option.{slice_get_within}
-use Rattle.std.proofs.lemmas.List.{length-map, append_assoc}
-use Rattle.uv_arena.specs.declared.links.Cell.{Cell}
-use Rattle.uv_arena.specs.declared.links.Links.{Links}
-use Rattle.uv_arena.specs.Chains.{first, last, link, IsSegment}
-use Rattle.uv_arena.specs.declared.links.TheConstants.{FREE}
-use Rattle.uv_arena.specs.Image.{Image, IsSound, chain, chains, links_in, links_at}
-use Rattle.uv_arena.proofs.Lists.{segment_right}
-use Rattle.uv_work.specs.declared.content.Content.{Content}
-use Rattle.uv_stands.proofs.Walked.{begins_with}
+use Rattle.uv_layout.proofs.Names.{◌≡◌, ℕ, zero, suc, ◌<◌, List, [], ◌∷◌, ◌++◌, map, length, slice_get, Option, Some, None, sym, ap, ◌∙◌, subst, arith, slice_get_within, length-map, append_assoc, Cell, Links, link, IsSegment, FREE, IsSound, chain, chains, links_in, links_at, segment_right, Content, begins_with}
+use Rattle.uv_arena.specs.Chains.{first, last}
+use Rattle.uv_arena.specs.Image.{Image}
 
 pub by_links : (cs : List (Cell Content)) (y : ℕ) (l : Links) → slice_get (map (λ (c : Cell Content). c.links) cs) y ≡ Some l
     → links_in (slice_get cs y) ≡ l

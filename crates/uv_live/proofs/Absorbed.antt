@@ -1,16 +1,6 @@
 -- One name more is absorbed.
-use Rattle.std.proofs.Common.{◌≡◌, ◌∙◌, inl, inr, ℕ, ◌+◌, ◌<◌, Bool, List, [], ◌∷◌, ◌++◌, Some, take, length, get_or, slice_get, map, filter, refl, sym, ap, subst}
-use Rattle.std.specs.List.{Contains}
-use Rattle.std.proofs.lemmas.List.{take_more, map-append}
-use Rattle.std.proofs.lemmas.List.Elements.{filter-append}
+use Rattle.uv_live.proofs.Names.{◌≡◌, ◌∙◌, inl, inr, ℕ, ◌+◌, ◌<◌, Bool, List, [], ◌∷◌, ◌++◌, Some, take, length, get_or, slice_get, map, filter, refl, sym, ap, subst, Contains, take_more, map-append, filter-append, Var, Ticket, LoopView, AllCarried, Carries, after_absorb, Course, stepped, ThreadLine, Absorbs, Records, is_by, names_by}
 use Rattle.uv_ids.specs.declared.event.Event.TheVariants as step
-use Rattle.uv_ids.specs.declared.id.Var.{Var}
-use Rattle.uv_wake.specs.declared.tickets.Ticket.{Ticket}
-use Rattle.uv_wake.specs.declared.views.LoopView.{LoopView}
-use Rattle.uv_wake.specs.Seats.{AllCarried, Carries, after_absorb}
-use Rattle.uv_live.specs.Course.{Course, stepped}
-use Rattle.uv_ids.specs.declared.thread_line.ThreadLine.{ThreadLine}
-use Rattle.uv_live.specs.Sending.{Absorbs, Records, is_by, names_by}
 use Rattle.uv_live.proofs.Shares.{one_more}
 
 -- an absorb leaves what was carried

@@ -1,22 +1,9 @@
 -- With room made, an event that may follow the log is entered: no call refuses it.
-use Rattle.std.proofs.Common.{◌≡◌, ◌∙◌, ◌||◌, ◌<◌, List, [], ◌∷◌, ◌++◌, Bool, true, false, Option, Some, None, Result, Ok, Err, length, map, cond, refl, sym, ap, subst, arith}
-use Rattle.uv_ids.specs.declared.id.Id.{Id}
-use Rattle.uv_ids.specs.declared.code.Code.{Code}
+use Rattle.uv_live.proofs.Names.{◌≡◌, ◌∙◌, ◌||◌, ◌<◌, List, [], ◌∷◌, ◌++◌, Bool, true, false, Option, Some, None, Result, Ok, Err, length, map, cond, refl, sym, ap, subst, arith, Id, Code, Fault, same_id, Job, Pool, IsLegal, has, waits, then_event, collected_from, PoolEvent, replay_more, same_when, Contents, pool_of, member, Hold, IsReplay, Submits, Cancels, CollectsNext, WantsMemory, IsFull, Collected}
 use Rattle.uv_ids.specs.declared.code.Code.TheVariants as code
-use Rattle.uv_ids.specs.declared.fault.Fault.{Fault}
 use Rattle.uv_ids.specs.declared.fault.Fault.TheVariants as fault
 use Rattle.uv_ids.specs.declared.fault.Why.TheVariants as why
-use Rattle.uv_work.specs.Ids.{same_id}
-use Rattle.uv_work.specs.declared.job.Job.{Job}
-use Rattle.uv_work.specs.Pool.{Pool, IsLegal, has, waits, then_event, collected_from}
-use Rattle.uv_work.specs.declared.event.PoolEvent.{PoolEvent}
 use Rattle.uv_work.specs.declared.event.PoolEvent.TheVariants as event
-use Rattle.uv_work.proofs.Replays.{replay_more, same_when}
-use Rattle.uv_pool.specs.Contents.{Contents, pool_of, member}
-use Rattle.uv_pool.specs.Hold.{Hold}
-use Rattle.uv_pool.specs.Book.{IsReplay}
-use Rattle.uv_pool.specs.Calls.{Submits, Cancels, CollectsNext, WantsMemory, IsFull}
-use Rattle.uv_pool.specs.declared.places.Collected.{Collected}
 
 -- there is room for an event, which may follow the log
 pub record IsNext (s : Hold) (e : PoolEvent) : Type 0 where

@@ -1,11 +1,6 @@
 -- Each beginning of a log that follows the pool's rules follows them.
-use Rattle.std.proofs.Common.{◌≡◌, ◌∙◌, ℕ, List, [], ◌∷◌, ◌++◌, Option, Some, None, take, drop, length, refl, sym, subst}
-use Rattle.uv_work.proofs.Replays.{events_both}
-use Rattle.std.proofs.lemmas.List.{take-append-drop}
-use Rattle.uv_work.specs.Pool.{Pool, empty_pool, after_events, replay, IsLegal}
-use Rattle.uv_work.specs.declared.event.PoolEvent.{PoolEvent}
-use Rattle.uv_pool.specs.Contents.{Contents, pool_of}
-use Rattle.uv_pool.specs.Book.{IsReplay}
+use Rattle.uv_live.proofs.Names.{◌≡◌, ◌∙◌, ℕ, List, [], ◌∷◌, ◌++◌, Option, Some, None, take, drop, length, refl, sym, subst, events_both, take-append-drop, Pool, empty_pool, after_events, IsLegal, PoolEvent, Contents, pool_of, IsReplay}
+use Rattle.uv_work.specs.Pool.{replay}
 
 none_after : (es : List PoolEvent) → after_events None es ≡ None
 none_after [] = refl

@@ -1,6 +1,7 @@
-pub mod Legal
-pub mod Places
-pub mod Entered
-pub mod Shares
-pub mod Settled
 pub mod Absorbed
+pub mod Entered
+pub mod Legal
+mod Names
+pub mod Places
+pub mod Settled
+pub mod Shares

@@ -1,15 +1,6 @@
 -- One place further along a log.
-use Rattle.std.proofs.Common.{◌≡◌, ◌∙◌, ◌<◌, ◌≤◌, ⊎_elim, ℕ, ◌+◌, List, [], ◌∷◌, ◌++◌, Option, Some, Err, take, drop, map, length, get_or, slice_get, sym, ap, subst, arith, append_assoc}
-use Rattle.std.proofs.lemmas.Bool.{cases_lt}
-use Rattle.std.proofs.lemmas.List.{take_more, length-take-le, drop_all, drop-append-le, map-append, append-nil}
-use Rattle.uv_ids.specs.declared.event.Event.{Event}
-use Rattle.uv_work.specs.Pool.{IsLegal}
-use Rattle.uv_work.specs.declared.event.PoolEvent.{PoolEvent}
-use Rattle.uv_live.specs.Course.{Course, step_of, stepped, taken}
-use Rattle.uv_ids.specs.declared.fault.Fault.{Fault}
-use Rattle.uv_ids.specs.declared.fault.Why.{Why}
+use Rattle.uv_live.proofs.Names.{◌≡◌, ◌∙◌, ◌<◌, ◌≤◌, ⊎_elim, ℕ, ◌+◌, List, [], ◌∷◌, ◌++◌, Option, Some, Err, take, drop, map, length, get_or, slice_get, sym, ap, subst, arith, append_assoc, cases_lt, take_more, length-take-le, drop_all, drop-append-le, map-append, append-nil, Event, IsLegal, PoolEvent, Course, step_of, stepped, taken, Fault, Why, Applies, IsWorkers, MayTake, OnFull, Syncs}
 use Rattle.uv_ids.specs.declared.fault.Fault.TheVariants as fault
-use Rattle.uv_live.specs.Following.{Applies, IsWorkers, MayTake, OnFull, Syncs}
 use Rattle.uv_live.proofs.Legal.{legal_take}
 
 -- the next entry may follow the session's events

@@ -1,11 +1,5 @@
 -- A run is settled just where nothing was cancelled from outside, once all else agrees.
-use Rattle.std.proofs.Common.{◌≡◌, ◌∙◌, ◌==◌, ℕ, List, Bool, true, false, sym, refl}
-use Rattle.std.specs.List.{count_by}
-use Rattle.std.proofs.lemmas.Bool.{eqb-true, eqb-false}
-use Rattle.uv_pool.specs.Book.{Standing}
-use Rattle.uv_live.specs.Course.{Course, Plan}
-use Rattle.uv_live.specs.Following.{Decides}
-use Rattle.uv_live.specs.Settling.{Worked, IsSettled, is_cancel}
+use Rattle.uv_live.proofs.Names.{◌≡◌, ◌∙◌, ◌==◌, ℕ, List, Bool, true, false, sym, refl, count_by, eqb-true, eqb-false, Standing, Course, Plan, Decides, Worked, IsSettled, is_cancel}
 
 pub is_settled : {S : Type 0} (plan : Plan S) (s : Course) (book : Standing) (shifts : List Worked) (counts : List ℕ) (cancels : ℕ)
     → cancels ≡ count_by is_cancel s.steps → (count_by is_cancel s.steps ≡ 0 → IsSettled plan s book shifts counts)

@@ -1,14 +1,5 @@
 -- What is left of a log's part for a worker, and of the finishes that the shares count.
-use Rattle.std.proofs.Common.{◌≡◌, ◌∙◌, ◌<◌, ◌≤◌, ⊎_elim, ℕ, ◌+◌, ◌-◌, Bool, true, false, List, Some, map, option_map, length, take, get_or, slice_get, sym, ap, subst, arith}
-use Rattle.std.proofs.lemmas.Bool.{cases_lt}
-use Rattle.std.proofs.lemmas.List.{length-map, get_or-map}
-use Rattle.std.proofs.lemmas.List.Sums.{sum_by_more, sum_by_more_le}
-use Rattle.std.proofs.lemmas.Option.{slice_get-map, slice_get-get_or, slice_get_within}
-use Rattle.uv_work.specs.declared.event.PoolEvent.{PoolEvent}
-use Rattle.uv_pool.specs.Benches.{are_turns}
-use Rattle.uv_pool.specs.Book.{finish_count}
-use Rattle.uv_live.specs.Following.{Decides}
-use Rattle.uv_live.specs.Settling.{Worked, part_of, IsShift, AreShifts, counted}
+use Rattle.uv_live.proofs.Names.{◌≡◌, ◌∙◌, ◌<◌, ◌≤◌, ⊎_elim, ℕ, ◌+◌, ◌-◌, Bool, true, false, List, Some, map, option_map, length, take, get_or, slice_get, sym, ap, subst, arith, cases_lt, length-map, get_or-map, sum_by_more, sum_by_more_le, slice_get-map, slice_get-get_or, slice_get_within, PoolEvent, are_turns, finish_count, Decides, Worked, part_of, IsShift, AreShifts, counted}
 
 -- what is left of the events is the part of what is left of the log, just where all of them are the part of all of it
 pub record IsLeft (k : ℕ) (log events rest left : List PoolEvent) : Type 0 where

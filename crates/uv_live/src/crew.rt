@@ -91,10 +91,7 @@ pub(crate) fn start_workers<
     ensures { IfErr result (λ fault. fault ≡ Memory) }
 {
     for k in 0..crew.workers {
-        match crew.reserve() {
-            Ok(()) => {}
-            Err(fault) => return Err(fault),
-        }
+        crew.reserve()?;
         match scope.spawn(move || work(rt, alloc, book, gate, k)) {
             Ok(worker) => crew.add(worker),
             Err(_) => return Err(Fault::Memory),

@@ -139,10 +139,7 @@ fn absorb_names<S: Follower>(
     ensures records { OnOk result (Records names.now (S.course session.old) (S.course session.new)) }
 {
     'names: for n in 0..names.len() {
-        match absorb_one(board, seat, names[n], session) {
-            Ok(()) => {}
-            Err(fault) => return Err(fault),
-        }
+        absorb_one(board, seat, names[n], session)?;
     }
     Ok(())
 }
@@ -205,10 +202,7 @@ impl<'a> Outside<'a> {
         ensures err { IfErr result (λ f. (f ≡ fault.Memory) ⊎ (f ≡ fault.Limit)) }
     {
         'threads: for thread in 0..MOST_SENDERS {
-            match self.start_one(scope, gate, thread, lines) {
-                Ok(()) => {}
-                Err(fault) => return Err(fault),
-            }
+            self.start_one(scope, gate, thread, lines)?;
         }
         Ok(())
     }
@@ -236,10 +230,7 @@ impl<'a> Outside<'a> {
             Err(_) => return Err(Fault::Memory),
         }
         let board = self.board;
-        let given = match board.split(&mut self.seat) {
-            Ok(given) => given,
-            Err(fault) => return Err(fault),
-        };
+        let given = board.split(&mut self.seat)?;
         let sending = move || -> SenderSeat
             requires { (given.board ≡ board.now.board) × (given.knows.tickets ≡ []) × AreNamed (names_of board.now.board) lines.now }
             ensures { (result.board ≡ board.entry.now.board) × (names_in result.knows.tickets ≡ names_by thread lines.entry.now) }
@@ -274,10 +265,7 @@ impl<'a> Outside<'a> {
         if self.quiet {
             return Ok(());
         }
-        match absorb_names(self.board, &mut self.seat, self.names.as_slice(), session) {
-            Ok(()) => {}
-            Err(fault) => return Err(fault),
-        }
+        absorb_names(self.board, &mut self.seat, self.names.as_slice(), session)?;
         self.quiet = self.senders.is_empty();
         Ok(())
     }

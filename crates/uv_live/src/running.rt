@@ -114,10 +114,7 @@ fn run<S: Follower, L: Ledger, C: Clock, R: Threads + Wait>(
 {
     'turns: for _ in rt.forever() {
         if session.is_polling() {
-            match outside.absorb_all(session) {
-                Ok(()) => {}
-                Err(fault) => return Err(fault),
-            }
+            outside.absorb_all(session)?;
         }
         let (answer, open) = locked_turn(rt, session, book);
         match answer {
@@ -321,19 +318,13 @@ fn live_over<
     ensures end { IfOk result (λ s. S.refusal s ≡ Some why.Ended) }
     ensures settled { IfOk result (λ s. RunSettles (S.plan s) (S.course s)) }
 {
-    let book = match PoolBook::<L>::new(alloc, blank, session.worker_count()) {
-        Ok(book) => book,
-        Err(fault) => return Err(fault),
-    };
+    let book = PoolBook::<L>::new(alloc, blank, session.worker_count())?;
     let names = session.name_count() as usize;
     let (board, seat) = match Board::new(alloc, names, MOST_SENDERS as u64) {
         Ok(both) => both,
         Err(fault) => return Err(fault),
     };
-    let lines = match copied_lines(alloc, &session) {
-        Ok(lines) => lines,
-        Err(fault) => return Err(fault),
-    };
+    let lines = copied_lines(alloc, &session)?;
     let book = LockedBook::new(book);
     let shared = Shared {
         alloc,

@@ -81,14 +81,8 @@ pub(crate) fn turn_rest<F: Follower, L: Ledger>(
         Ok(_) => {}
         Err(fault) => return Err(fault),
     }
-    match book.reserve() {
-        Ok(()) => {}
-        Err(fault) => return Err(fault),
-    }
-    let outcome = match session.step() {
-        Ok(outcome) => outcome,
-        Err(fault) => return Err(fault),
-    };
+    book.reserve()?;
+    let outcome = session.step()?;
     let did = session.did(outcome);
     let _ = session.pool_events();
     enter(book, did);

@@ -1,21 +1,8 @@
 -- Where a section may begin, none of its list is yet to run: so the state says, and so it is in the memory.
-use Rattle.std.proofs.Common.{◌≡◌, List, [], ◌∷◌, map, Option, Some, None, refl, sym, ◌∙◌, subst}
-use Rattle.uv_records.specs.declared.lists.ListName.{ListName}
+use Rattle.uv_loop.proofs.Names.{◌≡◌, List, [], ◌∷◌, map, Option, Some, None, refl, sym, ◌∙◌, subst, ListName, id_in, Body, Place, Main, Running, Stage, State, members, IsReached, BeginsBehind, BeginsIn, BeginsAt, Image, StandsFor, IsClear, IsClearAt, IsClearIn, IsClearBehind, place_is}
 use Rattle.uv_records.specs.declared.lists.ListName.TheVariants as name
 use Rattle.uv_arena.specs.Image as arena
-use Rattle.uv_requests.specs.Working.{id_in}
-use Rattle.uv_model.specs.declared.place.Body.{Body}
-use Rattle.uv_model.specs.declared.place.Place.{Place}
-use Rattle.uv_model.specs.declared.place.Place.TheVariants.{Main, Running}
-use Rattle.uv_model.specs.declared.place.Stage.{Stage}
 use Rattle.uv_model.specs.declared.place.Stage.TheVariants as stage
-use Rattle.uv_model.specs.State.{State}
-use Rattle.uv_model.specs.Queries.{members}
-use Rattle.uv_order.specs.Reached.{IsReached, BeginsBehind, BeginsIn, BeginsAt}
-use Rattle.uv_step.specs.Image.{Image}
-use Rattle.uv_stands.specs.Stands.{StandsFor}
-use Rattle.uv_loop.specs.Begins.{IsClear, IsClearAt, IsClearIn, IsClearBehind}
-use Rattle.uv_stands.proofs.Single.{place_is}
 
 none_mapped : {A B : Type 0} (f : A → B) (xs : List A) → [] ≡ map f xs → xs ≡ []
 none_mapped f [] e = refl

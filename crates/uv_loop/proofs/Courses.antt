@@ -1,35 +1,10 @@
 -- One step more with its record, and one step less.
-use Rattle.std.proofs.Common.{◌≡◌, ◌+◌, ◌-◌, ◌<◌, ◌≤◌, ℕ, suc, List, [], ◌∷◌, ◌++◌, length, length-append, take, get_or, Option, Some, Result, Ok, Err, refl, inl, inr, sym, ap, ◌∙◌, subst, arith}
-use Rattle.std.proofs.lemmas.List.{take_more, take_all}
-use Rattle.uv_ids.specs.declared.event.Event.{Event}
-use Rattle.uv_ids.specs.declared.event.Event.TheVariants.{Tick, Finish}
-use Rattle.uv_ids.specs.declared.seen.Seen.{Seen}
-use Rattle.uv_ids.specs.declared.fault.Fault.{Fault}
+use Rattle.uv_loop.proofs.Names.{◌≡◌, ◌+◌, ◌-◌, ◌<◌, ◌≤◌, ℕ, suc, List, [], ◌∷◌, ◌++◌, length, length-append, take, get_or, Option, Some, Result, Ok, Err, refl, inl, inr, sym, ap, ◌∙◌, subst, arith, take_more, take_all, Event, Tick, Finish, Seen, Fault, Why, Program, arena_size, Outcome, Place, State, Next, Moves, Refuses, Job, RefusesResult, AnswersResult, job_run, Answers, goes_on, state_of, IsMove, STEPS, after-moves, seen_by-nil, seen_by-moves, seen_by-take, Record, Image, Held, unwind, unwound, DropsOne, CanUnwind, IsFit, unwound-push, begins_same, unwind_still, StandsFor, Returns, OfEach, reached, Course, StandFrom, IsCourse, Leads, first_image}
 use Rattle.uv_ids.specs.declared.fault.Fault.TheVariants as fault
-use Rattle.uv_ids.specs.declared.fault.Why.{Why}
-use Rattle.uv_script.specs.Program.{Program, arena_size}
-use Rattle.uv_model.specs.declared.machine.Outcome.{Outcome}
-use Rattle.uv_model.specs.declared.place.Place.{Place}
 use Rattle.uv_model.specs.State as state
-use Rattle.uv_model.specs.State.{State}
-use Rattle.uv_model.specs.Next.{Next, Moves, Refuses, next}
-use Rattle.uv_work.specs.declared.job.Job.{Job}
-use Rattle.uv_model.specs.Handing.{RefusesResult, AnswersResult, job_run}
-use Rattle.uv_model.specs.After.{Answers, after, goes_on, state_of, IsMove, STEPS}
-use Rattle.uv_model.proofs.Runs.{after-moves, seen_by-nil, seen_by-moves, seen_by-take}
-use Rattle.uv_step.specs.Record.{Record}
-use Rattle.uv_step.specs.Image.{Image, Held}
-use Rattle.uv_step.specs.Parts.{unwind}
-use Rattle.uv_step.specs.Trail.{unwound, DropsOne}
-use Rattle.uv_step.specs.Undo.{CanUnwind}
-use Rattle.uv_step.specs.Fit.{IsFit}
-use Rattle.uv_step.proofs.Trails.{unwound-push, begins_same}
-use Rattle.uv_step.proofs.Rooms.{unwind_still}
-use Rattle.uv_stands.specs.Stands.{StandsFor}
-use Rattle.uv_stands.specs.Doing.{Returns, OfEach}
-use Rattle.uv_order.proofs.Reaching.{reached}
+use Rattle.uv_model.specs.Next.{next}
+use Rattle.uv_model.specs.After.{after}
 use Rattle.uv_loop.proofs.Lasts.{unwound_limits}
-use Rattle.uv_loop.specs.Course.{Course, StandFrom, IsCourse, Leads, first_image}
 
 -- one record a step
 stand_length : (p : Program) (s : State) (room : ℕ) (i : Image Place) (rs : List (Record Place)) (es : List Event) → StandFrom p s room i rs es

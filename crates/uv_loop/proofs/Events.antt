@@ -1,27 +1,8 @@
 -- What an event from outside is answered, by what the memory shows.
-use Rattle.std.proofs.Common.{◌≡◌, ◌+◌, ◌<◌, ◌≤◌, ℕ, suc, Bool, if◌then◌else◌, length, Option, Some, refl, sym, subst, ap, ◌∙◌, inl, inr, arith}
-use Rattle.std.proofs.lemmas.Bool.{le-leb, lt-ltb}
-use Rattle.std.proofs.lemmas.Bool.Decides.{leb_tells}
-use Rattle.uv_ids.specs.declared.id.Var.{Var}
-use Rattle.uv_ids.specs.declared.event.Event.TheVariants.{Tick, Send, Cancel}
-use Rattle.uv_ids.specs.declared.seen.Seen.{Seen}
+use Rattle.uv_loop.proofs.Names.{◌≡◌, ◌+◌, ◌<◌, ◌≤◌, ℕ, suc, Bool, if◌then◌else◌, length, Option, Some, refl, sym, subst, ap, ◌∙◌, inl, inr, arith, le-leb, lt-ltb, leb_tells, Var, Tick, Send, Cancel, Seen, Code, Answer, Range, Program, LATEST, Place, State, live_handle, live_request, Next, Moves, Refuses, Coded, Done, send, cancel, IsMove, Image, StandsFor, Sends, Cancels, Leads, clock_is, names_is}
 use Rattle.uv_ids.specs.declared.seen.Seen.TheVariants as seen
-use Rattle.uv_ids.specs.declared.code.Code.{Code}
-use Rattle.uv_ids.specs.declared.code.Answer.{Answer}
-use Rattle.uv_ids.specs.declared.fault.Why.TheVariants.{Range}
-use Rattle.uv_script.specs.Program.{Program}
-use Rattle.uv_model.specs.Limits.{LATEST}
-use Rattle.uv_model.specs.declared.place.Place.{Place}
-use Rattle.uv_model.specs.State.{State, live_handle, live_request}
-use Rattle.uv_model.specs.Next.{Next, Moves, Refuses, next}
-use Rattle.uv_model.specs.Ops.{Coded, Done, send, cancel}
-use Rattle.uv_model.specs.After.{IsMove}
-use Rattle.uv_step.specs.Image.{Image}
-use Rattle.uv_stands.specs.Stands.{StandsFor}
-use Rattle.uv_ops.specs.Outside.{Sends, Cancels}
-use Rattle.uv_loop.specs.Course.{Leads}
+use Rattle.uv_model.specs.Next.{next}
 use Rattle.uv_loop.proofs.Simulation.{ticked}
-use Rattle.uv_stands.proofs.Single.{clock_is, names_is}
 
 pub tick_moves : (p : Program) (i : Image Place) (s : State) (ms : ℕ) → StandsFor i s → i.clock + ms ≤ LATEST
     → next p s (Tick ms) ≡ Moves (record s { clock = i.clock + ms }) (Some (seen.Tick ms))

@@ -1,45 +1,15 @@
 -- A worker finishes the request that it runs.
-use Rattle.std.proofs.Common.{◌≡◌, ℕ, List, [], slice_get, slice_set, Some, None, Ok, Err, refl, sym, ap, ◌∙◌, subst, inr}
-use Rattle.uv_ids.specs.declared.id.Id.{Id}
-use Rattle.uv_ids.specs.declared.event.Event.TheVariants.{Finish}
+use Rattle.uv_loop.proofs.Names.{◌≡◌, ℕ, List, [], slice_get, slice_set, Some, None, Ok, Err, refl, sym, ap, ◌∙◌, subst, inr, Id, Finish, Why, Program, text_of, padded, rounds_within, text_within, with_last, Job, Request, finished, job_of, FinishUndo, id_in, IsFinished, RefusesFinish, RunsOther, id_is, content_of, Place, found_or, State, with_id, Moves, Refuses, finish, work_of, IsMove, job_in, job_run, RefusesResult, Content, Asked, request_of, Image, Held, working_of, OnlyWork, StandsFor, Leads, MayFinish, slots_set, ids_kept, asked_there, run_there, list_same, done_more, pool_stands, running_is}
 use Rattle.uv_ids.specs.declared.seen.Seen.TheVariants as seen
-use Rattle.uv_ids.specs.declared.fault.Why.{Why}
 use Rattle.uv_ids.specs.declared.fault.Why.TheVariants as why
-use Rattle.uv_script.specs.Program.{Program}
-use Rattle.uv_work.specs.Tasks.{text_of}
-use Rattle.uv_work.specs.TaskFields.{padded}
-use Rattle.uv_work.specs.TaskReading.{rounds_within, text_within}
 use Rattle.uv_records.specs.declared.lists.ListName.TheVariants as name
 use Rattle.uv_records.specs.Slots as plain
-use Rattle.uv_records.specs.Walks.{with_last}
 use Rattle.uv_arena.specs.Image as arena
-use Rattle.uv_work.specs.declared.job.Job.{Job}
 use Rattle.uv_work.specs.Digests.{digest_of}
-use Rattle.uv_work.specs.declared.request.Request.{Request}
-use Rattle.uv_work.specs.Requests.{finished, job_of}
 use Rattle.uv_work.specs.declared.outcome.Outcome.TheVariants as outcome
-use Rattle.uv_requests.specs.declared.undo.FinishUndo.{FinishUndo}
 use Rattle.uv_requests.specs.Working as work
-use Rattle.uv_requests.specs.Working.{id_in}
-use Rattle.uv_requests.specs.Calls.{IsFinished, RefusesFinish, RunsOther}
-use Rattle.uv_requests.proofs.Holding.{id_is, content_of}
-use Rattle.uv_model.specs.declared.place.Place.{Place}
 use Rattle.uv_model.specs.Content as model
-use Rattle.uv_model.specs.Found.{found_or}
-use Rattle.uv_model.specs.State.{State, with_id}
-use Rattle.uv_model.specs.Next.{Moves, Refuses, next, finish, work_of}
-use Rattle.uv_model.specs.After.{IsMove}
-use Rattle.uv_model.specs.Handing.{job_in, job_run, RefusesResult}
-use Rattle.uv_work.specs.declared.content.Content.{Content}
-use Rattle.uv_work.specs.declared.content.Content.TheVariants.{Request as Asked}
-use Rattle.uv_work.specs.Content.{request_of}
-use Rattle.uv_step.specs.Image.{Image, Held, working_of, OnlyWork}
-use Rattle.uv_stands.specs.Stands.{StandsFor}
-use Rattle.uv_loop.specs.Course.{Leads}
-use Rattle.uv_loop.specs.Pooling.{MayFinish}
-use Rattle.uv_stands.proofs.Holding.{slots_set, ids_kept}
-use Rattle.uv_stands.proofs.Pools.{asked_there, run_there, list_same, done_more, pool_stands}
-use Rattle.uv_stands.proofs.Single.{running_is}
+use Rattle.uv_model.specs.Next.{next}
 
 -- ---- what the event does
 

@@ -1,22 +1,8 @@
 -- No step and no undo changes how many slots the arena may have, and at which generation it retires one.
-use Rattle.std.proofs.Common.{◌≡◌, ℕ, List, [], ◌∷◌, Option, Some, None, refl, ◌∙◌}
-use Rattle.std.proofs.lemmas.Bool.{cond_both}
-use Rattle.uv_arena.specs.declared.undo.InsertUndo.{InsertUndo}
-use Rattle.uv_arena.specs.declared.undo.RemoveUndo.{RemoveUndo}
+use Rattle.uv_loop.proofs.Names.{◌≡◌, ℕ, List, [], ◌∷◌, Option, Some, None, refl, ◌∙◌, cond_both, InsertUndo, RemoveUndo, insert_undone, remove_undone, Request, reopened_by, Place, Content, Asked, Record, request_of, Image, Part, undo, unwind, unwind_parts, parts, unwound}
 use Rattle.uv_arena.specs.Image as arena
-use Rattle.uv_arena.specs.Undo.{insert_undone, remove_undone}
-use Rattle.uv_work.specs.declared.request.Request.{Request}
 use Rattle.uv_requests.specs.Working as work
-use Rattle.uv_requests.specs.Undo.{reopened_by}
-use Rattle.uv_model.specs.declared.place.Place.{Place}
-use Rattle.uv_work.specs.declared.content.Content.{Content}
-use Rattle.uv_work.specs.declared.content.Content.TheVariants.{Request as Asked}
-use Rattle.uv_step.specs.Record.{Record}
-use Rattle.uv_work.specs.Content.{request_of}
-use Rattle.uv_step.specs.Image.{Image}
 use Rattle.uv_step.specs.Parts as part
-use Rattle.uv_step.specs.Parts.{Part, undo, unwind, unwind_parts, parts}
-use Rattle.uv_step.specs.Trail.{unwound}
 
 -- the last generation, and how many slots there may be
 abbrev pub limits : arena.Image Content → ℕ × ℕ

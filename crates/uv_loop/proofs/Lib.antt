@@ -1,12 +1,13 @@
-pub mod Simulation
-pub mod Lasts
-pub mod Courses
-pub mod Told
 pub mod Clear
-pub mod Ready
-pub mod Lines
+pub mod Courses
 pub mod Events
-pub mod Refusing
-pub mod Takes
 pub mod Finishes
+pub mod Lasts
+pub mod Lines
+mod Names
 mod Popped
+pub mod Ready
+pub mod Refusing
+pub mod Simulation
+pub mod Takes
+pub mod Told

@@ -1,20 +1,7 @@
 -- A body's next line, and the place behind it.
-use Rattle.std.proofs.Common.{◌≡◌, ◌+◌, Some, None, slice_get, sym, ap, subst}
-use Rattle.uv_ids.specs.declared.code.Answer.{Answer}
+use Rattle.uv_loop.proofs.Names.{◌≡◌, ◌+◌, Some, None, slice_get, sym, ap, subst, Answer, CallbackLine, Program, lines_in, Body, Place, Running, Run, Moves, body_step, body_from, Done, Record, Held, Returns, Turns, PerformsAt}
 use Rattle.uv_ids.specs.declared.seen.Site.TheVariants as site
 use Rattle.uv_ids.specs.declared.seen.Seen.TheVariants as seen
-use Rattle.uv_script.specs.declared.op.CallbackLine.{CallbackLine}
-use Rattle.uv_script.specs.Program.{Program, lines_in}
-use Rattle.uv_model.specs.declared.place.Body.{Body}
-use Rattle.uv_model.specs.declared.place.Place.{Place}
-use Rattle.uv_model.specs.declared.place.Place.TheVariants.{Running}
-use Rattle.uv_model.specs.declared.place.Run.{Run}
-use Rattle.uv_model.specs.Next.{Moves, body_step, body_from}
-use Rattle.uv_model.specs.Ops.{Done}
-use Rattle.uv_step.specs.Record.{Record}
-use Rattle.uv_step.specs.Image.{Held}
-use Rattle.uv_stands.specs.Doing.{Returns}
-use Rattle.uv_loop.specs.Turning.{Turns, PerformsAt}
 
 module _ (p : Program) (run : Run) (body : Body) (h k : Held Place) where
   pub left : (r : Record Place) → slice_get (lines_in p body.callback body.name) body.next ≡ None

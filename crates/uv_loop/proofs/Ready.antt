@@ -1,28 +1,9 @@
 -- What each step of the loop finds in the memory: it follows from the steps that stand.
-use Rattle.std.proofs.Common.{◌≡◌, ◌<◌, ◌≤◌, ◌^◌, ℕ, List, length, slice_get, true, Option, Result, Ok, Err, OnOk, is_ok, refl, sym, ap, ◌∙◌, subst, arith}
-use Rattle.uv_ids.specs.declared.event.Event.{Event}
-use Rattle.uv_ids.specs.declared.seen.Seen.{Seen}
-use Rattle.uv_script.specs.Program.{Program, arena_size}
-use Rattle.uv_model.specs.declared.place.Place.{Place}
-use Rattle.uv_model.specs.Bounds.{CanStep, line_of}
+use Rattle.uv_loop.proofs.Names.{◌≡◌, ◌<◌, ◌≤◌, ◌^◌, ℕ, List, length, slice_get, true, Option, Result, Ok, Err, OnOk, is_ok, refl, sym, ap, ◌∙◌, subst, arith, Event, Seen, Program, arena_size, Place, CanStep, line_of, after_able, at_name, count_below, reached, Named, Record, Image, Held, named, count_of, StandsFor, IsReady, idle_loose, IsCourse, IsClear, names_is, place_is, start_is, time_is, IsSound}
 use Rattle.uv_model.specs.After.{after}
-use Rattle.uv_model.proofs.Bounded.{after_able}
-use Rattle.uv_model.proofs.Calls.{at_name, count_below}
-use Rattle.uv_order.proofs.Reaching.{reached}
-use Rattle.uv_records.specs.declared.named.Named.{Named}
-use Rattle.uv_step.specs.Record.{Record}
-use Rattle.uv_step.specs.Image.{Image, Held}
-use Rattle.uv_records.specs.Names.{named, count_of}
-use Rattle.uv_stands.specs.Stands.{StandsFor}
-use Rattle.uv_stands.specs.Ready.{IsReady}
-use Rattle.uv_stands.proofs.Loose.{idle_loose}
-use Rattle.uv_loop.specs.Course.{IsCourse}
-use Rattle.uv_loop.specs.Begins.{IsClear}
 use Rattle.uv_loop.proofs.Clear.{is_clear}
 use Rattle.uv_loop.proofs.Lasts.{unwound_limits}
 use Rattle.uv_loop.proofs.Courses.{course_stands}
-use Rattle.uv_stands.proofs.Single.{names_is, place_is, start_is, time_is}
-use Rattle.uv_arena.specs.Image.{IsSound}
 
 -- what an answer says that is no fault
 pub granted : {T E P : Type 0} (r : Result T E) → OnOk r P → is_ok r ≡ true → P

@@ -1,22 +1,6 @@
 -- What a step of the loop does, by where the memory stands.
-use Rattle.std.proofs.Common.{◌≡◌, ℕ, slice_get, Option, Some, None, Result, Ok, Err, IfOk, IfNone, sym, ap, ◌∙◌}
-use Rattle.uv_ids.specs.declared.seen.Seen.{Seen}
-use Rattle.uv_ids.specs.declared.fault.Why.{Why}
-use Rattle.uv_ids.specs.declared.event.Event.TheVariants.{Loop}
-use Rattle.uv_script.specs.Program.{Program, order_of}
-use Rattle.uv_model.specs.declared.place.Place.{Place}
-use Rattle.uv_model.specs.declared.place.Place.TheVariants.{Main, Running}
-use Rattle.uv_model.specs.declared.place.Run.{Run}
-use Rattle.uv_model.specs.State.{State}
-use Rattle.uv_model.specs.Next.{Next, Moves, Refuses, next, loop_step, main_step, run_step}
-use Rattle.uv_model.specs.After.{refusal_of, IsMove}
-use Rattle.uv_step.specs.Record.{Record}
-use Rattle.uv_step.specs.Image.{Image, Held}
-use Rattle.uv_stands.specs.Doing.{OfEach}
-use Rattle.uv_stands.specs.Stands.{StandsFor}
-use Rattle.uv_loop.specs.Acting.{MayAt, Refusal}
-use Rattle.uv_loop.specs.Turning.{Turns}
-use Rattle.uv_stands.proofs.Single.{place_is}
+use Rattle.uv_loop.proofs.Names.{◌≡◌, ℕ, slice_get, Option, Some, None, Result, Ok, Err, IfOk, IfNone, sym, ap, ◌∙◌, Seen, Why, Loop, Program, order_of, Place, Main, Running, Run, State, Next, Moves, Refuses, loop_step, main_step, run_step, refusal_of, IsMove, Record, Image, Held, OfEach, StandsFor, MayAt, Refusal, Turns, place_is}
+use Rattle.uv_model.specs.Next.{next}
 
 module _ (p : Program) (i : Image Place) (s : State) (h : StandsFor i s) where
   pub main_there : (line : ℕ) → i.place ≡ Main line → next p s Loop ≡ main_step (order_of p) s line (slice_get p.main line)

@@ -1,21 +1,9 @@
 -- A memory that was never run stands for the state in which its script begins, and each step goes on from there.
-use Rattle.std.proofs.Common.{◌≡◌, ◌-◌, ℕ, [], map, refl, sym, ap, ◌∙◌, arith}
-use Rattle.uv_records.specs.declared.lists.ListName.{ListName}
+use Rattle.uv_loop.proofs.Names.{◌≡◌, ◌-◌, ℕ, [], map, refl, sym, ap, ◌∙◌, arith, ListName, fresh_image, plain_slots, id_in, Program, arena_size, Place, State, members, Content, Image, beside_lists, StandsFor, first_image}
 use Rattle.uv_records.specs.declared.lists.ListName.TheVariants as name
 use Rattle.uv_arena.specs.Chains.{list_of, walk}
 use Rattle.uv_arena.specs.Image as arena
-use Rattle.uv_arena.specs.Image.{fresh_image, plain_slots}
-use Rattle.uv_requests.specs.Working.{id_in}
-use Rattle.uv_script.specs.Program.{Program, arena_size}
-use Rattle.uv_model.specs.declared.place.Place.{Place}
 use Rattle.uv_model.specs.State as state
-use Rattle.uv_model.specs.State.{State}
-use Rattle.uv_model.specs.Queries.{members}
-use Rattle.uv_work.specs.declared.content.Content.{Content}
-use Rattle.uv_step.specs.Image.{Image}
-use Rattle.uv_stands.proofs.Lists.{beside_lists}
-use Rattle.uv_stands.specs.Stands.{StandsFor}
-use Rattle.uv_loop.specs.Course.{first_image}
 
 none_listed : (p : Program) (l : ListName) → members (state.fresh p) l ≡ []
 none_listed p name.Ready = refl

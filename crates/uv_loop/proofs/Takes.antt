@@ -1,32 +1,11 @@
 -- A worker takes the request that waits longest.
-use Rattle.std.proofs.Common.{◌≡◌, ℕ, List, [], ◌∷◌, map, slice_get, slice_set, drop, Some, None, Ok, Err, sym, ap, ◌∙◌, subst}
-use Rattle.uv_ids.specs.declared.id.Id.{Id}
-use Rattle.uv_ids.specs.declared.event.Event.TheVariants.{Take}
+use Rattle.uv_loop.proofs.Names.{◌≡◌, ℕ, List, [], ◌∷◌, map, slice_get, slice_set, drop, Some, None, Ok, Err, sym, ap, ◌∙◌, subst, Id, Take, Why, Program, IsFirst, Request, TakeWorkUndo, id_in, IsTaken, RefusesTake, Place, found_or, State, with_id, front_request, Moves, Refuses, next_work, IsMove, request_of, Image, Held, working_of, OnlyWork, StandsFor, Leads, MayTake, map_same, asked_there, front_there, first_one, run_there, list_same, ids_moved, pool_stands, running_is}
 use Rattle.uv_ids.specs.declared.seen.Seen.TheVariants as seen
-use Rattle.uv_ids.specs.declared.fault.Why.{Why}
 use Rattle.uv_ids.specs.declared.fault.Why.TheVariants as why
-use Rattle.uv_script.specs.Program.{Program}
 use Rattle.uv_records.specs.declared.lists.ListName.TheVariants as name
-use Rattle.uv_arena.specs.Calls.{IsFirst}
-use Rattle.uv_work.specs.declared.request.Request.{Request}
-use Rattle.uv_requests.specs.declared.undo.TakeWorkUndo.{TakeWorkUndo}
 use Rattle.uv_requests.specs.Working as work
-use Rattle.uv_requests.specs.Working.{id_in}
-use Rattle.uv_requests.specs.Calls.{IsTaken, RefusesTake}
-use Rattle.uv_model.specs.declared.place.Place.{Place}
 use Rattle.uv_model.specs.Content as model
-use Rattle.uv_model.specs.Found.{found_or}
-use Rattle.uv_model.specs.State.{State, with_id, front_request}
-use Rattle.uv_model.specs.Next.{Moves, Refuses, next, take, next_work}
-use Rattle.uv_model.specs.After.{IsMove}
-use Rattle.uv_work.specs.Content.{request_of}
-use Rattle.uv_step.specs.Image.{Image, Held, working_of, OnlyWork}
-use Rattle.uv_stands.specs.Stands.{StandsFor}
-use Rattle.uv_loop.specs.Course.{Leads}
-use Rattle.uv_loop.specs.Pooling.{MayTake}
-use Rattle.uv_stands.proofs.Holding.{map_same}
-use Rattle.uv_stands.proofs.Pools.{asked_there, front_there, first_one, run_there, list_same, ids_moved, pool_stands}
-use Rattle.uv_stands.proofs.Single.{running_is}
+use Rattle.uv_model.specs.Next.{next, take}
 
 -- ---- what the event does
 

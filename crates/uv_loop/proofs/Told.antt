@@ -1,29 +1,9 @@
 -- Which event appended a line.
-use Rattle.std.proofs.Common.{◌≡◌, ◌<◌, ℕ, List, [], ◌∷◌, ◌++◌, length, take, slice_get, nat_le, nat_lt, ◌+◌, Option, Some, None, Result, Ok, Err, refl, sym, ap, ◌∙◌, subst}
-use Rattle.std.proofs.lemmas.Bool.{cond_both}
-use Rattle.std.proofs.lemmas.List.{map-append, take-map, length-map}
-use Rattle.uv_ids.specs.declared.id.Id.{Id}
-use Rattle.uv_ids.specs.declared.id.Var.{Var}
-use Rattle.uv_ids.specs.declared.event.Event.{Event}
-use Rattle.uv_ids.specs.declared.event.Event.TheVariants.{Loop, Take, Finish, Cancel, Send, Tick}
-use Rattle.uv_ids.specs.declared.seen.Seen.{Seen}
+use Rattle.uv_loop.proofs.Names.{◌≡◌, ◌<◌, ℕ, List, [], ◌∷◌, ◌++◌, length, take, slice_get, nat_le, nat_lt, ◌+◌, Option, Some, None, Result, Ok, Err, refl, sym, ap, ◌∙◌, subst, cond_both, map-append, take-map, length-map, Id, Var, Event, Loop, Take, Finish, Cancel, Send, Tick, Seen, Why, Program, LATEST, Place, Request, State, Next, Moves, Refuses, STEPS, IsOfLoop, OfLoop, loop_lines, Record, Image, Held, reached, IsCourse, Leads, event_of, events_of}
 use Rattle.uv_ids.specs.declared.seen.Seen.TheVariants as seen
-use Rattle.uv_ids.specs.declared.fault.Why.{Why}
-use Rattle.uv_script.specs.Program.{Program}
-use Rattle.uv_model.specs.Limits.{LATEST}
-use Rattle.uv_model.specs.declared.place.Place.{Place}
-use Rattle.uv_work.specs.declared.request.Request.{Request}
-use Rattle.uv_model.specs.State.{State}
 use Rattle.uv_model.specs.Next as step
-use Rattle.uv_model.specs.Next.{Next, Moves, Refuses, next}
-use Rattle.uv_model.specs.After.{after, STEPS}
-use Rattle.uv_model.specs.Steps.{IsOfLoop}
-use Rattle.uv_model.proofs.Refusals.{OfLoop, loop_lines}
-use Rattle.uv_step.specs.Record.{Record}
-use Rattle.uv_step.specs.Image.{Image, Held}
-use Rattle.uv_order.proofs.Reaching.{reached}
-use Rattle.uv_loop.specs.Course.{IsCourse, Leads}
-use Rattle.uv_loop.specs.Taken.{event_of, events_of}
+use Rattle.uv_model.specs.Next.{next}
+use Rattle.uv_model.specs.After.{after}
 use Rattle.uv_loop.proofs.Courses.{course_stands}
 
 -- what is appended, if the step is taken, is of this event

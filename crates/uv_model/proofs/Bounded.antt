@@ -1,79 +1,19 @@
 -- A state's numbers are no larger than the number of its steps, and its times no later than the clock's limit.
-use Rattle.std.proofs.Common.{◌≡◌, ℕ, zero, suc, ◌+◌, ◌≤◌, ◌^◌, List, [], ◌∷◌, ◌++◌, length, drop, Bool, true, false, Option, Some, None, if◌then◌else◌, nat_le, nat_lt, ◌==◌, option_and_then, Result, Ok, Err, slice_get, slice_set, refl, arith, subst, replicate, add-zero, zero-add}
-use Rattle.std.proofs.lemmas.Grind.{elements}
-use Rattle.std.specs.List.{list_any}
-use Rattle.std.proofs.lemmas.Bool.{cond_both}
-use Rattle.std.proofs.lemmas.Option.{none-some, same_Some}
-use Rattle.std.proofs.lemmas.Bool.Decides.{nat_tests}
-use Rattle.uv_ids.specs.declared.id.Id.{Id}
-use Rattle.uv_ids.specs.declared.id.Var.{Var}
-use Rattle.uv_ids.specs.declared.due.Due.{Due}
-use Rattle.uv_ids.specs.declared.order.Order.{Order}
-use Rattle.uv_ids.specs.declared.order.Order.TheVariants.{V144, V145}
-use Rattle.uv_ids.specs.declared.phase.Kind.{Kind}
+use Rattle.uv_model.proofs.Names.{◌≡◌, ℕ, zero, suc, ◌+◌, ◌≤◌, ◌^◌, List, [], ◌∷◌, ◌++◌, length, drop, Bool, true, false, Option, Some, None, if◌then◌else◌, nat_le, nat_lt, ◌==◌, option_and_then, Result, Ok, Err, slice_get, slice_set, refl, arith, subst, replicate, add-zero, zero-add, elements, list_any, cond_both, none-some, same_Some, nat_tests, Id, Var, Due, Order, V144, V145, Kind, Event, Loop, Take, Finish, Cancel, Send, Tick, Op, MainOp, CallbackLine, Task, Program, arena_size, order_of, text_of, Outcome, Finished, Cancelled, Code, Why, IdleWorker, Seen, Callback, HandleRecord, Slot, WatcherKind, inited, is_timer, is_async, activated, referenced_as, repeating, watcher_kind, start_timer_refusal, start_watcher_refusal, stop_refusal, again_refusal, timer_refusal, close_refusal, no_refusal, send_refusal, Slots, taken, taken_from, freed, next_free, Walk, with_first, with_last, all_yet, Content, Calls, Named, Body, Run, Stage, Entry, Pending, Idle, Prepare, Poll, Done, Async, Check, Closing, Timers, TimersOf, Turn, AtEntry, Behind, BehindClosing, Way, ToTimers, ToPending, ToEnd, Timing, Collecting, Firing, Place, Main, Running, Request, found_or, same_id, without_id, queued, digest_in, handle_in, State, fresh, named, handle, with_handle, request, with_named, with_id, live, live_handle, live_request, front, front_request, watched, with_watched, refreshed, unbound, counted, count_of, taken_off, stopped, started, restarted, do_op, refuses, Next, Moves, Refuses, loop_step, main_step, run_step, body_step, stage_step, tick, sent_to, next_work, finish, work_of, cancels, begin_done, collect_request, timers, collected, first_due, fire, way, time_at, idled_at, idled_then, goes_by, turns, refreshes, ends, calls, may_leave, body_from, goes, begin_walk, after_walk, front_moved, walk, walk_async, close_front, stage_of, goes_on, state_of, line_of, HoldsBefore, StartsBefore, CanStep}
 use Rattle.uv_ids.specs.declared.phase.Kind.TheVariants as kind
-use Rattle.uv_ids.specs.declared.event.Event.{Event}
-use Rattle.uv_ids.specs.declared.event.Event.TheVariants.{Loop, Take, Finish, Cancel, Send, Tick}
-use Rattle.uv_script.specs.declared.op.Op.{Op}
 use Rattle.uv_script.specs.declared.op.Op.TheVariants as op
-use Rattle.uv_script.specs.declared.op.MainOp.{MainOp}
 use Rattle.uv_script.specs.declared.op.MainOp.TheVariants as main
-use Rattle.uv_script.specs.declared.op.CallbackLine.{CallbackLine}
-use Rattle.uv_work.specs.declared.task.Task.{Task}
-use Rattle.uv_script.specs.Program.{Program, arena_size, order_of}
-use Rattle.uv_work.specs.Tasks.{text_of}
 use Rattle.uv_work.specs.Digests.{digest_of}
-use Rattle.uv_work.specs.declared.outcome.Outcome.{Outcome}
-use Rattle.uv_work.specs.declared.outcome.Outcome.TheVariants.{Finished, Cancelled}
-use Rattle.uv_ids.specs.declared.code.Code.{Code}
-use Rattle.uv_ids.specs.declared.fault.Why.{Why}
-use Rattle.uv_ids.specs.declared.fault.Why.TheVariants.{IdleWorker}
-use Rattle.uv_ids.specs.declared.seen.Seen.{Seen}
 use Rattle.uv_ids.specs.declared.seen.Seen.TheVariants as seen
-use Rattle.uv_ids.specs.declared.seen.Callback.{Callback}
 use Rattle.uv_ids.specs.declared.seen.Callback.TheVariants as callback
-use Rattle.uv_records.specs.declared.handle.HandleRecord.{HandleRecord}
-use Rattle.uv_records.specs.declared.slot.Slot.{Slot}
-use Rattle.uv_records.specs.declared.lists.WatcherKind.{WatcherKind}
 use Rattle.uv_records.specs.declared.lists.WatcherKind.TheVariants as watcher
 use Rattle.uv_records.specs.Handles as records
-use Rattle.uv_records.specs.Handles.{inited, is_timer, is_async, activated, referenced_as, repeating}
-use Rattle.uv_records.specs.Lists.{watcher_kind}
-use Rattle.uv_records.specs.Refusals.{start_timer_refusal, start_watcher_refusal, stop_refusal, again_refusal, timer_refusal, close_refusal, no_refusal, send_refusal}
 use Rattle.uv_records.specs.Slots as slots
-use Rattle.uv_records.specs.Slots.{Slots, taken, taken_from, freed, next_free}
-use Rattle.uv_records.specs.Walks.{Walk, with_first, with_last, all_yet}
-use Rattle.uv_work.specs.declared.content.Content.{Content}
 use Rattle.uv_work.specs.declared.content.Content.TheVariants as content
-use Rattle.uv_records.specs.declared.named.Calls.{Calls}
-use Rattle.uv_records.specs.declared.named.Named.{Named}
-use Rattle.uv_model.specs.declared.place.Body.{Body}
-use Rattle.uv_model.specs.declared.place.Run.{Run}
-use Rattle.uv_model.specs.declared.place.Stage.{Stage}
-use Rattle.uv_model.specs.declared.place.Stage.TheVariants.{Entry, Pending, Idle, Prepare, Poll, Done, Async, Check, Closing, Timers}
-use Rattle.uv_model.specs.declared.place.TimersOf.{TimersOf}
 use Rattle.uv_model.specs.declared.place.TimersOf.TheVariants as timers_of
-use Rattle.uv_model.specs.declared.place.Turn.{Turn}
-use Rattle.uv_model.specs.declared.place.Turn.TheVariants.{AtEntry, Behind, BehindClosing}
-use Rattle.uv_model.specs.declared.place.Way.{Way}
-use Rattle.uv_model.specs.declared.place.Way.TheVariants.{ToTimers, ToPending, ToEnd}
-use Rattle.uv_model.specs.declared.place.Timing.{Timing}
-use Rattle.uv_model.specs.declared.place.Timing.TheVariants.{Collecting, Firing}
-use Rattle.uv_model.specs.declared.place.Place.{Place}
-use Rattle.uv_model.specs.declared.place.Place.TheVariants.{Main, Running}
-use Rattle.uv_work.specs.declared.request.Request.{Request}
-use Rattle.uv_model.specs.Found.{found_or}
-use Rattle.uv_model.specs.Ids.{same_id, without_id}
-use Rattle.uv_work.specs.Requests.{queued, digest_in}
-use Rattle.uv_model.specs.Content.{handle_in}
-use Rattle.uv_model.specs.State.{State, fresh, named, handle, with_handle, request, with_named, with_id, live, live_handle, live_request, front, front_request, watched, with_watched, refreshed}
-use Rattle.uv_records.specs.Names.{unbound, counted, count_of}
-use Rattle.uv_model.specs.Timers.{taken_off, stopped, started, restarted}
 use Rattle.uv_model.specs.Ops as ops
-use Rattle.uv_model.specs.Ops.{do_op, refuses}
-use Rattle.uv_model.specs.Next.{Next, Moves, Refuses, next, loop_step, main_step, run_step, body_step, stage_step, tick, sent_to, take, next_work, finish, work_of, cancels, begin_done, collect_request, timers, collected, first_due, fire, way, time_at, idled_at, idled_then, goes_by, turns, refreshes, ends, calls, may_leave, body_from, goes, begin_walk, after_walk, front_moved, walk, walk_async, close_front, stage_of}
-use Rattle.uv_model.specs.After.{after, goes_on, state_of}
-use Rattle.uv_model.specs.Bounds.{line_of, HoldsBefore, StartsBefore, CanStep}
+use Rattle.uv_model.specs.Next.{next, take}
+use Rattle.uv_model.specs.After.{after}
 use Rattle.uv_model.proofs.Found.{found_both}
 use Rattle.uv_model.proofs.Counting.{AreUpTo, Counts, Drawn, Freed, IsBounded, StaysBounded, if_keeps, drawn_set, drawn_push, freed_more, freed_set, freed_push, slot_freed, never_timer, counts_at, IsHeld, LiveBefore, handle_before, RequestBefore, request_before, NamedBefore, live_before, AskedBefore, asked_before, more, placed, renamed, listed, off_bounded, kept_in, requested, pooled, rested_in, at_clock, flagged, watched_bounded, watched_names, stopped_bounded, started_bounded}
 

@@ -1,14 +1,6 @@
 -- The counts of names, read one at a time.
-use Rattle.std.proofs.Common.{◌≡◌, ℕ, ◌<◌, ◌^◌, List, Option, Some, None, All, slice_get, unwrap_or, refl, arith}
-use Rattle.std.proofs.lemmas.Grind.{elements}
-use Rattle.uv_ids.specs.declared.id.Var.{Var}
-use Rattle.uv_ids.specs.declared.seen.Callback.{Callback}
+use Rattle.uv_model.proofs.Names.{◌≡◌, ℕ, ◌<◌, ◌^◌, List, Option, Some, None, All, slice_get, unwrap_or, refl, arith, elements, Var, Callback, Calls, Named, unbound, count_of, State, named, AreBelow, CanStep}
 use Rattle.uv_ids.specs.declared.seen.Callback.TheVariants as callback
-use Rattle.uv_records.specs.declared.named.Calls.{Calls}
-use Rattle.uv_records.specs.declared.named.Named.{Named}
-use Rattle.uv_records.specs.Names.{unbound, count_of}
-use Rattle.uv_model.specs.State.{State, named}
-use Rattle.uv_model.specs.Bounds.{AreBelow, CanStep}
 
 pub at_name : (m : ℕ) (names : List Named) (i : ℕ) (x : Option Named) → slice_get names i ≡ x → All (λ (n : Named). AreBelow m n.calls) names
     → 0 < m →

@@ -1,35 +1,10 @@
 -- A state's numbers: what it means that they are no larger than the number of its steps, and how each change of a state keeps it.
-use Rattle.std.proofs.Common.{◌≡◌, ℕ, suc, ◌+◌, ◌≤◌, ◌^◌, List, [], ◌∷◌, ◌++◌, Bool, true, false, Option, Some, None, if◌then◌else◌, ◌==◌, option_and_then, Result, Ok, Err, slice_get, slice_set, All, refl, arith, subst}
-use Rattle.std.proofs.lemmas.Grind.{elements}
-use Rattle.std.proofs.lemmas.Bool.{cond_both, eqb-true}
-use Rattle.std.proofs.lemmas.Option.{none-some}
-use Rattle.uv_ids.specs.declared.id.Id.{Id}
-use Rattle.uv_ids.specs.declared.id.Var.{Var}
-use Rattle.uv_ids.specs.declared.due.Due.{Due}
-use Rattle.uv_ids.specs.declared.phase.Kind.{Kind}
+use Rattle.uv_model.proofs.Names.{◌≡◌, ℕ, suc, ◌+◌, ◌≤◌, ◌^◌, List, [], ◌∷◌, ◌++◌, Bool, true, false, Option, Some, None, if◌then◌else◌, ◌==◌, option_and_then, Result, Ok, Err, slice_get, slice_set, All, refl, arith, subst, elements, cond_both, eqb-true, none-some, Id, Var, Due, Kind, Code, HandleRecord, Slot, WatcherKind, inited, is_timer, is_async, activated, referenced_as, repeating, watcher_kind, Slots, taken, taken_from, freed, next_free, Walk, Content, Calls, Named, Place, Request, handle_in, request_in, State, named, handle, with_handle, request, with_request, with_named, with_id, live_id, as_handle, as_request, live_handle, live_request, with_watched, refreshed, taken_off, stopped, started, Next, Moves, Refuses, line_of, HoldsBefore, StartsBefore, AreBelow}
 use Rattle.uv_ids.specs.declared.phase.Kind.TheVariants as kind
-use Rattle.uv_ids.specs.declared.code.Code.{Code}
-use Rattle.uv_records.specs.declared.handle.HandleRecord.{HandleRecord}
-use Rattle.uv_records.specs.declared.slot.Slot.{Slot}
-use Rattle.uv_records.specs.declared.lists.WatcherKind.{WatcherKind}
 use Rattle.uv_records.specs.declared.lists.WatcherKind.TheVariants as watcher
 use Rattle.uv_records.specs.Handles as records
-use Rattle.uv_records.specs.Handles.{inited, is_timer, is_async, activated, referenced_as, repeating}
-use Rattle.uv_records.specs.Lists.{watcher_kind}
 use Rattle.uv_records.specs.Slots as slots
-use Rattle.uv_records.specs.Slots.{Slots, taken, taken_from, freed, next_free}
-use Rattle.uv_records.specs.Walks.{Walk}
-use Rattle.uv_work.specs.declared.content.Content.{Content}
 use Rattle.uv_work.specs.declared.content.Content.TheVariants as content
-use Rattle.uv_records.specs.declared.named.Calls.{Calls}
-use Rattle.uv_records.specs.declared.named.Named.{Named}
-use Rattle.uv_model.specs.declared.place.Place.{Place}
-use Rattle.uv_work.specs.declared.request.Request.{Request}
-use Rattle.uv_model.specs.Content.{handle_in, request_in}
-use Rattle.uv_model.specs.State.{State, named, handle, with_handle, request, with_request, with_named, with_id, live_id, as_handle, as_request, live_handle, live_request, with_watched, refreshed}
-use Rattle.uv_model.specs.Timers.{taken_off, stopped, started}
-use Rattle.uv_model.specs.Next.{Next, Moves, Refuses}
-use Rattle.uv_model.specs.Bounds.{line_of, HoldsBefore, StartsBefore, AreBelow}
 use Rattle.uv_model.proofs.Calls.{at_name}
 
 abbrev pub AreUpTo : ℕ → Calls → Type 0

@@ -1,6 +1,5 @@
 -- What is done with something that may be found or not, by cases.
-use Rattle.std.proofs.Common.{◌≡◌, Option, Some, None, refl}
-use Rattle.uv_model.specs.Found.{found_or}
+use Rattle.uv_model.proofs.Names.{◌≡◌, Option, Some, None, refl, found_or}
 
 pub found_both : {A B : Type 0} (o : Option A) (f : A → B) (other : B) (P : B → Type 0) → ((x : A) → o ≡ Some x → P (f x)) → (o ≡ None → P other) →
     P (found_or o f other)

@@ -1,6 +1,5 @@
 -- The slot that is taken next.
-use Rattle.std.proofs.Common.{◌≡◌, ℕ, List, [], ◌∷◌, Some, option_and_then, slice_get, refl}
-use Rattle.uv_records.specs.Slots.{Slots, next_id, next_free, id_of}
+use Rattle.uv_model.proofs.Names.{◌≡◌, ℕ, List, [], ◌∷◌, Some, option_and_then, slice_get, refl, Slots, next_id, next_free, id_of}
 
 pub next_free_front : {X : Type 0} (s : Slots X) (n : ℕ) → slice_get s.free 0 ≡ Some n
     → next_free s ≡ option_and_then (λ slot. Some (id_of n slot)) (slice_get s.slots n)

@@ -1,19 +1,9 @@
 -- What the plain loop keeps, and what it answers, after a step that is taken, refused or without memory.
-use Rattle.std.proofs.Common.{◌≡◌, ◌<◌, ℕ, List, [], ◌∷◌, ◌++◌, length, length-append, Option, Some, None, Ok, Err, ap, sym, ◌∙◌, subst, arith}
-use Rattle.uv_ids.specs.declared.event.Event.{Event}
-use Rattle.uv_ids.specs.declared.fault.Fault.{Fault}
+use Rattle.uv_model.proofs.Names.{◌≡◌, ◌<◌, ℕ, List, [], ◌∷◌, ◌++◌, length, length-append, Option, Some, None, Ok, Err, ap, sym, ◌∙◌, subst, arith, Event, Fault, Why, Seen, Program, Job, State, Next, Moves, Refuses, refusal_of, IsMove, Answers, STEPS, RefusesResult, AnswersResult, Steps, Trail, IsAfter}
 use Rattle.uv_ids.specs.declared.fault.Fault.TheVariants as fault
-use Rattle.uv_ids.specs.declared.fault.Why.{Why}
-use Rattle.uv_ids.specs.declared.seen.Seen.{Seen}
-use Rattle.uv_script.specs.Program.{Program}
-use Rattle.uv_work.specs.declared.job.Job.{Job}
 use Rattle.uv_model.specs.declared.machine.Outcome.{Outcome}
-use Rattle.uv_model.specs.State.{State}
-use Rattle.uv_model.specs.Next.{Next, Moves, Refuses, next}
-use Rattle.uv_model.specs.After.{after, refusal_of, IsMove, Answers, STEPS}
-use Rattle.uv_model.specs.Handing.{RefusesResult, AnswersResult}
-use Rattle.uv_model.specs.Steps.{Steps}
-use Rattle.uv_model.specs.Trail.{Trail, IsAfter}
+use Rattle.uv_model.specs.Next.{next}
+use Rattle.uv_model.specs.After.{after}
 use Rattle.uv_model.proofs.Runs.{after-moves, seen_by-moves}
 
 -- what isn't refused is taken

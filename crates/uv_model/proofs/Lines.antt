@@ -1,8 +1,5 @@
 -- The next line of a callback.
-use Rattle.std.proofs.Common.{◌≡◌, ℕ, ◌+◌, ◌<◌, List, length, get_or, drop, Some, if◌then◌else◌, add-one, drop-cons, refl}
-use Rattle.uv_script.specs.declared.op.CallbackLine.{CallbackLine}
-use Rattle.uv_script.specs.Program.{is_for}
-use Rattle.uv_model.specs.Next.{next_line}
+use Rattle.uv_model.proofs.Names.{◌≡◌, ℕ, ◌+◌, ◌<◌, List, length, get_or, drop, Some, if◌then◌else◌, add-one, drop-cons, refl, CallbackLine, is_for, next_line}
 
 -- it is the first of these, or is sought after that
 pub next_line-drop : (call at : ℕ) (lines : List CallbackLine) (line : CallbackLine) → at < length lines → line ≡ get_or lines at line →

@@ -1,8 +1,5 @@
 -- A handle put at the end of a list, and taken off again.
-use Rattle.std.proofs.Common.{◌≡◌, ◌-◌, List, [], ◌∷◌, ◌++◌, length, take, ap, arith}
-use Rattle.std.proofs.lemmas.Grind.{common_steps}
-use Rattle.uv_ids.specs.declared.id.Id.{Id}
-use Rattle.uv_records.specs.Walks.{Walk, with_last}
+use Rattle.uv_model.proofs.Names.{◌≡◌, ◌-◌, List, [], ◌∷◌, ◌++◌, length, take, ap, arith, common_steps, Id, Walk, with_last}
 
 front_again : (ids : List Id) (id : Id) → take (length (ids ++ id ∷ []) - 1) (ids ++ id ∷ []) ≡ ids
 front_again ids id = grind (arith, common_steps)

@@ -1,18 +1,6 @@
 -- The order of timers, where one is put in and another taken out.
-use Rattle.std.proofs.Common.{◌≡◌, ℕ, ◌<◌, List, [], ◌∷◌, Bool, true, false, cond, refl, ap, sym, ◌∙◌, arith}
-use Rattle.std.proofs.lemmas.Bool.Decides.{nat_tests}
-use Rattle.std.proofs.lemmas.Cmp.{nat_cmp_total, then_total, on_total}
-use Rattle.std.specs.Cmp.{IsTotalOrder}
-use Rattle.std.specs.Ordering.{ordering_then, nat_cmp, match_ordering, is_eq, ordering_reverse}
-use Rattle.std.specs.declared.cmp.Ordering.{Ordering}
-use Rattle.std.specs.declared.cmp.Ordering.TheVariants.{Less, Equal, Greater}
-use Rattle.std.specs.List.{AllByRecursion}
+use Rattle.uv_model.proofs.Names.{◌≡◌, ℕ, ◌<◌, List, [], ◌∷◌, Bool, true, false, cond, refl, ap, sym, ◌∙◌, arith, nat_tests, nat_cmp_total, then_total, on_total, IsTotalOrder, ordering_then, nat_cmp, match_ordering, is_eq, ordering_reverse, Ordering, Less, Equal, Greater, AllByRecursion, keys_of, due_cmp, Id, Due, with_timer, without_timer}
 use Rattle.std.specs.List.Sorted.{IsStrictlySortedBy}
-use Rattle.std.specs.Map.{keys_of}
-use Rattle.uv_ids.specs.Due.{due_cmp}
-use Rattle.uv_ids.specs.declared.id.Id.{Id}
-use Rattle.uv_ids.specs.declared.due.Due.{Due}
-use Rattle.uv_model.specs.Timers.{with_timer, without_timer}
 
 pub due_cmp_total : IsTotalOrder due_cmp
 due_cmp_total = then_total (on_total (λ (d : Due). d.at) nat_cmp_total) (on_total (λ (d : Due). d.start) nat_cmp_total)

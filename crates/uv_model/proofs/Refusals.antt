@@ -1,35 +1,10 @@
 -- Which steps of the loop are refused: those past the main program's end, and those in a poll that can't be left yet. All others
 -- are taken, with a line of the loop's own.
-use Rattle.std.proofs.Common.{◌≡◌, ℕ, Option, Some, None, slice_get, refl, if◌then◌else◌}
-use Rattle.std.proofs.lemmas.Bool.{cond_both}
-use Rattle.uv_ids.specs.declared.event.Event.TheVariants.{Loop}
-use Rattle.uv_ids.specs.declared.fault.Why.{Why}
-use Rattle.uv_ids.specs.declared.fault.Why.TheVariants.{Blocked}
-use Rattle.uv_ids.specs.declared.order.Order.{Order}
-use Rattle.uv_script.specs.declared.op.MainOp.{MainOp}
+use Rattle.uv_model.proofs.Names.{◌≡◌, ℕ, Option, Some, None, slice_get, refl, if◌then◌else◌, cond_both, Loop, Why, Blocked, Order, MainOp, CallbackLine, Program, order_of, lines_in, Body, Place, Main, Running, Run, Stage, TimersOf, Turn, AtEntry, Behind, BehindClosing, Way, ToTimers, ToPending, ToEnd, Timing, Collecting, Firing, WatcherKind, State, front, front_request, watched, Next, Moves, Refuses, IsOfLoop, refusal_of}
 use Rattle.uv_script.specs.declared.op.MainOp.TheVariants as main
-use Rattle.uv_script.specs.declared.op.CallbackLine.{CallbackLine}
-use Rattle.uv_script.specs.Program.{Program, order_of, lines_in}
-use Rattle.uv_model.specs.declared.place.Body.{Body}
-use Rattle.uv_model.specs.declared.place.Place.{Place}
-use Rattle.uv_model.specs.declared.place.Place.TheVariants.{Main, Running}
-use Rattle.uv_model.specs.declared.place.Run.{Run}
-use Rattle.uv_model.specs.declared.place.Stage.{Stage}
 use Rattle.uv_model.specs.declared.place.Stage.TheVariants as stage
-use Rattle.uv_model.specs.declared.place.TimersOf.{TimersOf}
-use Rattle.uv_model.specs.declared.place.Turn.{Turn}
-use Rattle.uv_model.specs.declared.place.Turn.TheVariants.{AtEntry, Behind, BehindClosing}
-use Rattle.uv_model.specs.declared.place.Way.{Way}
-use Rattle.uv_model.specs.declared.place.Way.TheVariants.{ToTimers, ToPending, ToEnd}
-use Rattle.uv_model.specs.declared.place.Timing.{Timing}
-use Rattle.uv_model.specs.declared.place.Timing.TheVariants.{Collecting, Firing}
-use Rattle.uv_records.specs.declared.lists.WatcherKind.{WatcherKind}
 use Rattle.uv_records.specs.declared.lists.WatcherKind.TheVariants as watcher
-use Rattle.uv_model.specs.State.{State, front, front_request, watched}
 use Rattle.uv_model.specs.Next as step
-use Rattle.uv_model.specs.Next.{Next, Moves, Refuses}
-use Rattle.uv_model.specs.Steps.{IsOfLoop}
-use Rattle.uv_model.specs.After.{refusal_of}
 use Rattle.uv_model.proofs.Found.{found_both}
 
 -- a step of the loop: refused so, or taken, with a line of the loop's own

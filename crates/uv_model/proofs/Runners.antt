@@ -1,9 +1,5 @@
 -- The worker that runs a request.
-use Rattle.std.proofs.Common.{◌≡◌, ℕ, ◌+◌, ◌<◌, ◌≤◌, List, [], length, get_or, drop, true, false, Option, Some, None, if◌then◌else◌, add-one, drop-cons, refl, sym, ◌∙◌, arith}
-use Rattle.std.proofs.lemmas.Grind.{common_steps}
-use Rattle.uv_ids.specs.declared.id.Id.{Id}
-use Rattle.uv_work.specs.Pool.{is_run}
-use Rattle.uv_model.specs.Queries.{runner_from}
+use Rattle.uv_model.proofs.Names.{◌≡◌, ℕ, ◌+◌, ◌<◌, ◌≤◌, List, [], length, get_or, drop, true, false, Option, Some, None, if◌then◌else◌, add-one, drop-cons, refl, sym, ◌∙◌, arith, common_steps, Id, is_run, runner_from}
 
 -- the worker sought among all of them is the one sought among those from here on
 abbrev IsSoughtFrom : ℕ → List (Option Id) → Id → Type 0

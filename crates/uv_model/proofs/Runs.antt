@@ -1,17 +1,9 @@
 -- A list of events with one more, and the first of a list.
-use Rattle.std.proofs.Common.{◌≡◌, ℕ, suc, ◌+◌, ◌<◌, zero, List, [], ◌∷◌, ◌++◌, length, take, slice_get, Option, Some, refl, ap, ◌∙◌, get_or, subst, arith}
-use Rattle.std.proofs.lemmas.List.{take_more}
-use Rattle.std.proofs.lemmas.Option.{slice_get_read}
-use Rattle.uv_ids.specs.declared.event.Event.{Event}
-use Rattle.uv_ids.specs.declared.seen.Seen.{Seen}
-use Rattle.uv_script.specs.Program.{Program}
-use Rattle.uv_model.specs.State.{State, fresh}
-use Rattle.uv_model.specs.Next.{Next, Moves, Refuses, next}
-use Rattle.uv_model.specs.After.{after, seen_by, goes_on, seen_from, state_of, seen_of, IsMove, AcceptsFrom, Accepts, Answers}
-use Rattle.uv_ids.specs.declared.fault.Fault.{Fault}
+use Rattle.uv_model.proofs.Names.{◌≡◌, ℕ, suc, ◌+◌, ◌<◌, zero, List, [], ◌∷◌, ◌++◌, length, take, slice_get, Option, Some, refl, ap, ◌∙◌, get_or, subst, arith, take_more, slice_get_read, Event, Seen, Program, State, fresh, Next, Moves, Refuses, goes_on, seen_from, state_of, seen_of, IsMove, AcceptsFrom, Answers, Fault, Why}
+use Rattle.uv_model.specs.Next.{next}
+use Rattle.uv_model.specs.After.{after, seen_by, Accepts}
 use Rattle.uv_ids.specs.declared.fault.Fault.TheVariants as fault
 use Rattle.std.specs.Prelude.{Err}
-use Rattle.uv_ids.specs.declared.fault.Why.{Why}
 
 pub after-nil : (p : Program) → after p [] ≡ fresh p
 unfolding after

@@ -1,18 +1,5 @@
 -- A timer that is started again.
-use Rattle.std.proofs.Common.{◌≡◌, ℕ, ◌+◌, ◌<◌, ◌&&◌, List, Bool, true, false, if◌then◌else◌, refl, sym, ap₂}
-use Rattle.std.proofs.lemmas.List.{set-set}
-use Rattle.std.specs.List.Sorted.{IsStrictlySortedBy}
-use Rattle.std.specs.Map.{keys_of}
-use Rattle.uv_ids.specs.Due.{due_cmp}
-use Rattle.uv_ids.specs.declared.id.Id.{Id}
-use Rattle.uv_ids.specs.declared.due.Due.{Due}
-use Rattle.uv_records.specs.declared.handle.HandleRecord.{HandleRecord}
-use Rattle.uv_records.specs.declared.slot.Slot.{Slot}
-use Rattle.uv_records.specs.Handles.{is_timer, begun_at}
-use Rattle.uv_work.specs.declared.content.Content.{Content}
-use Rattle.uv_model.specs.State.{State, with_handle}
-use Rattle.uv_model.specs.Timers.{with_timer, without_timer, due_after, taken_off, stopped, started}
-use Rattle.uv_model.specs.Bounds.{StartsBefore}
+use Rattle.uv_model.proofs.Names.{◌≡◌, ℕ, ◌+◌, ◌<◌, ◌&&◌, List, Bool, true, false, if◌then◌else◌, refl, sym, ap₂, set-set, IsStrictlySortedBy, keys_of, due_cmp, Id, Due, HandleRecord, Slot, is_timer, begun_at, Content, State, with_handle, with_timer, without_timer, due_after, taken_off, stopped, started, StartsBefore}
 use Rattle.uv_model.proofs.Order.{without-with_timer, another}
 
 -- the new key may be put in before the old one is taken out

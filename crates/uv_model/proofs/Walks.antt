@@ -1,22 +1,7 @@
 -- The counts of names and the lists of handles, where a section calls one.
-use Rattle.std.proofs.Common.{◌≡◌, ℕ, ◌<◌, ◌^◌, ◌==◌, Bool, true, false, cond, List, [], ◌∷◌, length, All, Option, Some, None, option_and_then, slice_get, refl, ap, subst, arith}
-use Rattle.std.proofs.lemmas.Grind.{elements}
-use Rattle.std.proofs.lemmas.Bool.{eqb-true}
-use Rattle.std.proofs.lemmas.Option.{none-some, same_Some}
-use Rattle.uv_ids.specs.declared.id.Id.{Id}
-use Rattle.uv_ids.specs.declared.id.Var.{Var}
-use Rattle.uv_records.specs.declared.handle.HandleRecord.{HandleRecord}
-use Rattle.uv_records.specs.declared.lists.WatcherKind.{WatcherKind}
+use Rattle.uv_model.proofs.Names.{◌≡◌, ℕ, ◌<◌, ◌^◌, ◌==◌, Bool, true, false, cond, List, [], ◌∷◌, length, All, Option, Some, None, option_and_then, slice_get, refl, ap, subst, arith, elements, eqb-true, none-some, same_Some, Id, Var, HandleRecord, WatcherKind, Slot, held_in, held, Walk, Content, Request, handle_in, request_in, State, named, with_id, front, front_request, with_watched, CanStep, AreBelow}
 use Rattle.uv_records.specs.declared.lists.WatcherKind.TheVariants as watcher
-use Rattle.uv_records.specs.declared.slot.Slot.{Slot}
-use Rattle.uv_records.specs.Slots.{held_in, held}
-use Rattle.uv_records.specs.Walks.{Walk}
-use Rattle.uv_work.specs.declared.content.Content.{Content}
 use Rattle.uv_work.specs.declared.content.Content.TheVariants as content
-use Rattle.uv_work.specs.declared.request.Request.{Request}
-use Rattle.uv_model.specs.Content.{handle_in, request_in}
-use Rattle.uv_model.specs.State.{State, named, with_id, front, front_request, with_watched}
-use Rattle.uv_model.specs.Bounds.{CanStep, AreBelow}
 use Rattle.uv_model.proofs.Calls.{able_small}
 
 -- the handles of a kind change no name

@@ -1,46 +1,14 @@
 -- A request is cancelled by its name.
-use Rattle.std.proofs.Common.{◌≡◌, ℕ, ◌||◌, Bool, true, false, if◌then◌else◌, cond, eqb, List, [], ◌∷◌, map, Option, Some, None, option_map, refl, sym, ap, ◌∙◌, subst}
-use Rattle.std.specs.List.{list_any}
-use Rattle.uv_ids.specs.declared.id.Id.{Id}
-use Rattle.uv_ids.specs.declared.id.Var.{Var}
-use Rattle.uv_ids.specs.declared.code.Code.{Code}
+use Rattle.uv_ops.proofs.Names.{◌≡◌, ℕ, ◌||◌, Bool, true, false, if◌then◌else◌, cond, eqb, List, [], ◌∷◌, map, Option, Some, None, option_map, refl, sym, ap, ◌∙◌, subst, list_any, Id, Var, Code, Answer, with_last, without, Pool, waits, cancelled, cancel_refusal, CancelUndo, id_in, pool_of, IsCancelled, id_is, content_of, Place, same_id, without_id, State, with_id, as_request, live_id, live_request, Done, refuses, cancel, turned, Content, Handle, Asked, Record, request_of, By, Image, Held, working_of, OnlyWork, named, Performs, StandsFor, held_there, slots_set, ids_kept, map_same, live_by, asked_there, list_same, done_more, pool_stands, without_ids, Cancels, running_is}
 use Rattle.uv_ids.specs.declared.code.Code.TheVariants as code
-use Rattle.uv_ids.specs.declared.code.Answer.{Answer}
 use Rattle.uv_ids.specs.declared.code.Answer.TheVariants as answer
 use Rattle.uv_script.specs.declared.op.Op.TheVariants as op
 use Rattle.uv_records.specs.declared.lists.ListName.TheVariants as name
 use Rattle.uv_records.specs.Slots as plain
-use Rattle.uv_records.specs.Walks.{with_last, without}
 use Rattle.uv_arena.specs.Image as arena
-use Rattle.uv_work.specs.Pool.{Pool, waits}
-use Rattle.uv_work.specs.Requests.{cancelled, cancel_refusal}
-use Rattle.uv_requests.specs.declared.undo.CancelUndo.{CancelUndo}
 use Rattle.uv_requests.specs.Working as work
-use Rattle.uv_requests.specs.Working.{id_in, pool_of}
-use Rattle.uv_requests.specs.Calls.{IsCancelled}
-use Rattle.uv_requests.proofs.Holding.{id_is, content_of}
-use Rattle.uv_model.specs.declared.place.Place.{Place}
-use Rattle.uv_model.specs.Ids.{same_id, without_id}
-use Rattle.uv_model.specs.State.{State, with_id, as_request, live_id, live_request}
 use Rattle.uv_model.specs.Ops as ops
-use Rattle.uv_model.specs.Ops.{Done, refuses, cancel}
-use Rattle.uv_order.proofs.IdLists.{turned}
-use Rattle.uv_work.specs.declared.content.Content.{Content}
-use Rattle.uv_work.specs.declared.content.Content.TheVariants.{Handle, Request as Asked}
 use Rattle.uv_step.specs.Change as change
-use Rattle.uv_step.specs.Record.{Record}
-use Rattle.uv_work.specs.Content.{request_of}
-use Rattle.uv_step.specs.Does.{By}
-use Rattle.uv_step.specs.Image.{Image, Held, working_of, OnlyWork}
-use Rattle.uv_records.specs.Names.{named}
-use Rattle.uv_stands.specs.Doing.{Performs}
-use Rattle.uv_stands.specs.Stands.{StandsFor}
-use Rattle.uv_stands.proofs.Holding.{held_there, slots_set, ids_kept, map_same}
-use Rattle.uv_stands.proofs.Naming.{live_by}
-use Rattle.uv_stands.proofs.Pools.{asked_there, list_same, done_more, pool_stands}
-use Rattle.uv_stands.proofs.Without.{without_ids}
-use Rattle.uv_ops.specs.Outside.{Cancels}
-use Rattle.uv_stands.proofs.Single.{running_is}
 
 -- ---- who waits
 

@@ -1,35 +1,12 @@
 -- A handle is made, and a name bound to it.
-use Rattle.std.proofs.Common.{◌≡◌, ◌≢◌, ◌∷◌, [], ◌++◌, Bool, true, false, if◌then◌else◌, Some, is_some, refl, sym, ap, ◌∙◌, subst}
-use Rattle.uv_ids.specs.declared.id.Id.{Id}
-use Rattle.uv_ids.specs.declared.id.Var.{Var}
-use Rattle.uv_ids.specs.declared.phase.Kind.{Kind}
+use Rattle.uv_ops.proofs.Names.{◌≡◌, ◌≢◌, ◌∷◌, [], ◌++◌, Bool, true, false, if◌then◌else◌, Some, is_some, refl, sym, ap, ◌∙◌, subst, Id, Var, Kind, ListName, inited, taken, with_last, plain_slots, id_is, Place, State, live, listed_last, with_new, Content, Handle, Added, Record, By, IsMade, JoinsIf, is_async, Image, Held, counted_of, OnlyHandles, binding, Performs, StandsFor, list_stays, bound_stands}
 use Rattle.uv_ids.specs.declared.phase.Kind.TheVariants as kind
 use Rattle.uv_ids.specs.declared.code.Answer.TheVariants as answer
 use Rattle.uv_script.specs.declared.op.Op.TheVariants as op
-use Rattle.uv_records.specs.declared.lists.ListName.{ListName}
 use Rattle.uv_records.specs.declared.lists.ListName.TheVariants as name
 use Rattle.uv_records.specs.Handles as records
-use Rattle.uv_records.specs.Handles.{inited}
-use Rattle.uv_records.specs.Slots.{taken}
-use Rattle.uv_records.specs.Walks.{with_last}
 use Rattle.uv_arena.specs.Image as arena
-use Rattle.uv_arena.specs.Image.{plain_slots}
-use Rattle.uv_requests.proofs.Holding.{id_is}
-use Rattle.uv_model.specs.declared.place.Place.{Place}
-use Rattle.uv_model.specs.State.{State, live}
-use Rattle.uv_model.specs.Ops.{listed_last, with_new}
-use Rattle.uv_work.specs.declared.content.Content.{Content}
-use Rattle.uv_work.specs.declared.content.Content.TheVariants.{Handle}
-use Rattle.uv_step.specs.declared.record.Added.{Added}
 use Rattle.uv_step.specs.Change as change
-use Rattle.uv_step.specs.Record.{Record}
-use Rattle.uv_step.specs.Does.{By, IsMade, JoinsIf, is_async}
-use Rattle.uv_step.specs.Image.{Image, Held, counted_of, OnlyHandles}
-use Rattle.uv_records.specs.Names.{binding}
-use Rattle.uv_stands.specs.Doing.{Performs}
-use Rattle.uv_stands.specs.Stands.{StandsFor}
-use Rattle.uv_stands.proofs.Lists.{list_stays}
-use Rattle.uv_stands.proofs.Values.{bound_stands}
 use Rattle.uv_ops.proofs.Made.{make_done, taken_ids, at_end, with_asyncs, handle_stands}
 
 -- which kinds are listed as they are made, in the memory and in the state

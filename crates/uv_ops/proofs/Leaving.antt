@@ -1,8 +1,5 @@
 -- A list that a slot leaves, or doesn't.
-use Rattle.std.proofs.Common.{◌≡◌, ℕ, Bool, true, false, if◌then◌else◌, not, eqb, List, refl, sym, ◌∙◌}
-use Rattle.uv_records.specs.Walks.{without}
-use Rattle.uv_arena.specs.Chains.{IsIn}
-use Rattle.uv_arena.proofs.Lookups.{without_none}
+use Rattle.uv_ops.proofs.Names.{◌≡◌, ℕ, Bool, true, false, if◌then◌else◌, not, eqb, List, refl, sym, ◌∙◌, without, IsIn, without_none}
 
 -- a list that a slot leaves, unless it stays there: where it stays it wasn't there
 pub gone : (stays : Bool) (xs ys : List ℕ) (x : ℕ) → (stays ≡ true → IsIn x xs → ⊥) → ys ≡ (if not stays then without eqb xs x else xs)

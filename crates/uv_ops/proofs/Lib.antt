@@ -1,12 +1,13 @@
+pub mod Cancels
 pub mod Edited
-pub mod Valued
-pub mod Relisted
-pub mod Starting
+pub mod Inits
 pub mod Leaving
+pub mod Made
+mod Names
+pub mod Queues
+pub mod Relisted
+pub mod Sends
+pub mod Starting
 pub mod Stopping
 pub mod Taking
-pub mod Made
-pub mod Inits
-pub mod Queues
-pub mod Sends
-pub mod Cancels
+pub mod Valued

@@ -1,28 +1,9 @@
 -- A handle is made, or a request queued: what the memory stands for then.
-use Rattle.std.proofs.Common.{◌≡◌, ◌≢◌, ℕ, ◌∷◌, [], ◌++◌, false, List, map, Option, Some, None, is_some, refl, sym, ap, ◌∙◌, subst}
-use Rattle.std.proofs.lemmas.List.{map-append}
-use Rattle.uv_ids.specs.declared.id.Id.{Id}
-use Rattle.uv_ids.specs.declared.id.Var.{Var}
+use Rattle.uv_ops.proofs.Names.{◌≡◌, ◌≢◌, ℕ, ◌∷◌, [], ◌++◌, false, List, map, Option, Some, None, is_some, refl, sym, ap, ◌∙◌, subst, map-append, Id, Var, ListName, next_free, taken, plain_slots, Entry, id_in, Place, found_or, State, live, make, refuses, members, Content, Image, Does, StandsFor, timer_in, map_same, Listed, all_but_one}
 use Rattle.uv_ids.specs.declared.code.Code.TheVariants as code
 use Rattle.uv_ids.specs.declared.code.Answer.TheVariants as answer
-use Rattle.uv_records.specs.declared.lists.ListName.{ListName}
 use Rattle.uv_records.specs.declared.lists.ListName.TheVariants as name
-use Rattle.uv_records.specs.Slots.{next_free, taken}
 use Rattle.uv_arena.specs.Image as arena
-use Rattle.uv_arena.specs.Image.{plain_slots}
-use Rattle.uv_heap.specs.declared.entry.Entry.{Entry}
-use Rattle.uv_requests.specs.Working.{id_in}
-use Rattle.uv_model.specs.declared.place.Place.{Place}
-use Rattle.uv_model.specs.Found.{found_or}
-use Rattle.uv_model.specs.State.{State, live}
-use Rattle.uv_model.specs.Ops.{make, refuses}
-use Rattle.uv_model.specs.Queries.{members}
-use Rattle.uv_work.specs.declared.content.Content.{Content}
-use Rattle.uv_step.specs.Image.{Image}
-use Rattle.uv_stands.specs.Doing.{Does}
-use Rattle.uv_stands.specs.Stands.{StandsFor, timer_in}
-use Rattle.uv_stands.proofs.Holding.{map_same}
-use Rattle.uv_stands.proofs.Lists.{Listed, all_but_one}
 use Rattle.uv_ops.proofs.Taking.{ids_taken}
 
 -- ---- what is made, or not

@@ -1,36 +1,10 @@
 -- A request is queued, and a name bound to it.
-use Rattle.std.proofs.Common.{◌≡◌, ◌∷◌, [], ◌++◌, false, Some, is_some, sym, ap, ◌∙◌, subst}
-use Rattle.uv_ids.specs.declared.id.Id.{Id}
-use Rattle.uv_ids.specs.declared.id.Var.{Var}
+use Rattle.uv_ops.proofs.Names.{◌≡◌, ◌∷◌, [], ◌++◌, false, Some, is_some, sym, ap, ◌∙◌, subst, Id, Var, Task, taken, plain_slots, Request, QueueUndo, Working, id_in, IsQueued, id_is, content_of, Place, queued, State, live, with_queued, Content, Asked, Record, request_of, By, Image, Held, working_of, OnlyWork, binding, Performs, StandsFor, list_same, pool_stands, bound_stands, running_is}
 use Rattle.uv_ids.specs.declared.code.Answer.TheVariants as answer
 use Rattle.uv_script.specs.declared.op.Op.TheVariants as op
-use Rattle.uv_work.specs.declared.task.Task.{Task}
 use Rattle.uv_records.specs.declared.lists.ListName.TheVariants as name
-use Rattle.uv_records.specs.Slots.{taken}
-use Rattle.uv_arena.specs.Image.{plain_slots}
-use Rattle.uv_work.specs.declared.request.Request.{Request}
-use Rattle.uv_requests.specs.declared.undo.QueueUndo.{QueueUndo}
-use Rattle.uv_requests.specs.Working.{Working, id_in}
-use Rattle.uv_requests.specs.Calls.{IsQueued}
-use Rattle.uv_requests.proofs.Holding.{id_is, content_of}
-use Rattle.uv_model.specs.declared.place.Place.{Place}
-use Rattle.uv_work.specs.Requests.{queued}
-use Rattle.uv_model.specs.State.{State, live}
-use Rattle.uv_model.specs.Ops.{with_queued}
-use Rattle.uv_work.specs.declared.content.Content.{Content}
-use Rattle.uv_work.specs.declared.content.Content.TheVariants.{Request as Asked}
 use Rattle.uv_step.specs.Change as change
-use Rattle.uv_step.specs.Record.{Record}
-use Rattle.uv_work.specs.Content.{request_of}
-use Rattle.uv_step.specs.Does.{By}
-use Rattle.uv_step.specs.Image.{Image, Held, working_of, OnlyWork}
-use Rattle.uv_records.specs.Names.{binding}
-use Rattle.uv_stands.specs.Doing.{Performs}
-use Rattle.uv_stands.specs.Stands.{StandsFor}
-use Rattle.uv_stands.proofs.Pools.{list_same, pool_stands}
-use Rattle.uv_stands.proofs.Values.{bound_stands}
 use Rattle.uv_ops.proofs.Made.{make_done, taken_ids, taken_slots, at_end}
-use Rattle.uv_stands.proofs.Single.{running_is}
 
 module _ (r : Record Place) (h w : Held Place) (frame : OnlyWork h.image w.image) (v : Var) (task : Task) (d : Id)
     (q : Request) (is : q ≡ queued v task) where

@@ -1,25 +1,8 @@
 -- A handle gets another record, and is on other lists: what the memory stands for then.
-use Rattle.std.proofs.Common.{◌≡◌, ℕ, List, map, Some, sym, ap, ◌∙◌}
-use Rattle.uv_ids.specs.declared.id.Id.{Id}
-use Rattle.uv_records.specs.declared.handle.HandleRecord.{HandleRecord}
-use Rattle.uv_records.specs.declared.lists.ListName.{ListName}
+use Rattle.uv_ops.proofs.Names.{◌≡◌, ℕ, List, map, Some, sym, ap, ◌∙◌, Id, HandleRecord, ListName, Walk, plain_slots, record_at, Entry, id_in, Place, State, with_handle, Content, Handle, handle_of, Image, StandsFor, timer_in, slots_set, ids_kept, map_same, Listed}
 use Rattle.uv_records.specs.Slots as plain
-use Rattle.uv_records.specs.Walks.{Walk}
 use Rattle.uv_arena.specs.Image as arena
-use Rattle.uv_arena.specs.Image.{plain_slots}
-use Rattle.uv_handle.specs.Counted.{record_at}
 use Rattle.uv_handle.proofs.Counts as handles
-use Rattle.uv_heap.specs.declared.entry.Entry.{Entry}
-use Rattle.uv_requests.specs.Working.{id_in}
-use Rattle.uv_model.specs.declared.place.Place.{Place}
-use Rattle.uv_model.specs.State.{State, with_handle}
-use Rattle.uv_work.specs.declared.content.Content.{Content}
-use Rattle.uv_work.specs.declared.content.Content.TheVariants.{Handle}
-use Rattle.uv_work.specs.Content.{handle_of}
-use Rattle.uv_step.specs.Image.{Image}
-use Rattle.uv_stands.specs.Stands.{StandsFor, timer_in}
-use Rattle.uv_stands.proofs.Holding.{slots_set, ids_kept, map_same}
-use Rattle.uv_stands.proofs.Lists.{Listed}
 
 -- a list of ids is that list of the arena
 abbrev pub IsList : arena.Image Content → List Id → ListName → Type 0

@@ -1,25 +1,9 @@
 -- A send to the async handle of a name.
-use Rattle.std.proofs.Common.{◌≡◌, Option, Some, None, Result, Ok, Err, refl, sym, ap, ◌∙◌}
-use Rattle.uv_ids.specs.declared.id.Id.{Id}
-use Rattle.uv_ids.specs.declared.id.Var.{Var}
-use Rattle.uv_ids.specs.declared.code.Code.{Code}
+use Rattle.uv_ops.proofs.Names.{◌≡◌, Option, Some, None, Result, Ok, Err, refl, sym, ap, ◌∙◌, Id, Var, Code, Answer, HandleRecord, sent, send_refusal, Place, found_or, State, live_handle, with_handle, Coded, Done, send, says_code, on_handle, refuses, succeeds, Image, Allows, ComesTo, Performs, StandsFor, Sends}
 use Rattle.uv_ids.specs.declared.code.Code.TheVariants as code
-use Rattle.uv_ids.specs.declared.code.Answer.{Answer}
 use Rattle.uv_ids.specs.declared.code.Answer.TheVariants as answer
 use Rattle.uv_script.specs.declared.op.Op.TheVariants as op
-use Rattle.uv_records.specs.declared.handle.HandleRecord.{HandleRecord}
-use Rattle.uv_records.specs.Handles.{sent}
-use Rattle.uv_records.specs.Refusals.{send_refusal}
-use Rattle.uv_model.specs.declared.place.Place.{Place}
-use Rattle.uv_model.specs.Found.{found_or}
-use Rattle.uv_model.specs.State.{State, live_handle, with_handle}
-use Rattle.uv_model.specs.Ops.{Coded, Done, send, says_code, on_handle, refuses, succeeds}
-use Rattle.uv_step.specs.Image.{Image}
 use Rattle.uv_stands.specs.declared.ask.Ask.TheVariants as ask
-use Rattle.uv_stands.specs.Asking.{Allows, ComesTo}
-use Rattle.uv_stands.specs.Doing.{Performs}
-use Rattle.uv_stands.specs.Stands.{StandsFor}
-use Rattle.uv_ops.specs.Outside.{Sends}
 
 -- the handle was sent to
 abbrev sent_to : State → Id → HandleRecord → Done

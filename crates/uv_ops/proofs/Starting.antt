@@ -1,44 +1,14 @@
 -- A watcher is started.
-use Rattle.std.proofs.Common.{◌≡◌, ◌≢◌, ℕ, ◌∷◌, map, if◌then◌else◌, refl, sym, ap, ◌∙◌, subst}
-use Rattle.uv_ids.specs.declared.id.Id.{Id}
-use Rattle.uv_ids.specs.declared.id.Var.{Var}
+use Rattle.uv_ops.proofs.Names.{◌≡◌, ◌≢◌, ℕ, ◌∷◌, map, if◌then◌else◌, refl, sym, ap, ◌∙◌, subst, Id, Var, HandleRecord, ListName, WatcherKind, activated, list_of, watcher_kind, with_first, ListUndo, counted, IsEnlisted, IsStarted, id_in, id_is, Place, found_or, State, succeeds, start_watcher, watcher_started, members, Content, Handle, Record, handle_of, By, Image, Held, counted_of, OnlyHandles, Allows, Performs, StandsFor, map_same, Listed, all_but_one}
 use Rattle.uv_ids.specs.declared.code.Code.TheVariants as code
 use Rattle.uv_ids.specs.declared.code.Answer.TheVariants as answer
 use Rattle.uv_script.specs.declared.op.Op.TheVariants as op
-use Rattle.uv_records.specs.declared.handle.HandleRecord.{HandleRecord}
-use Rattle.uv_records.specs.declared.lists.ListName.{ListName}
 use Rattle.uv_records.specs.declared.lists.ListName.TheVariants as name
-use Rattle.uv_records.specs.declared.lists.WatcherKind.{WatcherKind}
 use Rattle.uv_records.specs.declared.lists.WatcherKind.TheVariants as watcher
-use Rattle.uv_records.specs.Handles.{activated}
-use Rattle.uv_records.specs.Lists.{list_of, watcher_kind}
-use Rattle.uv_records.specs.Walks.{with_first}
 use Rattle.uv_arena.specs.Image as arena
-use Rattle.uv_handle.specs.declared.undo.ListUndo.{ListUndo}
-use Rattle.uv_handle.specs.Counted.{counted}
-use Rattle.uv_handle.specs.Changes.{IsEnlisted}
 use Rattle.uv_handle.proofs.Counts as handles
-use Rattle.uv_watch.specs.Watch.{IsStarted}
-use Rattle.uv_requests.specs.Working.{id_in}
-use Rattle.uv_requests.proofs.Holding.{id_is}
-use Rattle.uv_model.specs.declared.place.Place.{Place}
-use Rattle.uv_model.specs.Found.{found_or}
-use Rattle.uv_model.specs.State.{State}
-use Rattle.uv_model.specs.Ops.{succeeds, start_watcher, watcher_started}
-use Rattle.uv_model.specs.Queries.{members}
-use Rattle.uv_work.specs.declared.content.Content.{Content}
-use Rattle.uv_work.specs.declared.content.Content.TheVariants.{Handle}
 use Rattle.uv_step.specs.Change as change
-use Rattle.uv_step.specs.Record.{Record}
-use Rattle.uv_work.specs.Content.{handle_of}
-use Rattle.uv_step.specs.Does.{By}
-use Rattle.uv_step.specs.Image.{Image, Held, counted_of, OnlyHandles}
 use Rattle.uv_stands.specs.declared.ask.Ask.TheVariants as ask
-use Rattle.uv_stands.specs.Asking.{Allows}
-use Rattle.uv_stands.specs.Doing.{Performs}
-use Rattle.uv_stands.specs.Stands.{StandsFor}
-use Rattle.uv_stands.proofs.Holding.{map_same}
-use Rattle.uv_stands.proofs.Lists.{Listed, all_but_one}
 use Rattle.uv_ops.proofs.Relisted.{same_ids, relisted_stands}
 
 -- ---- the watcher was inactive

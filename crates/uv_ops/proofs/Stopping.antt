@@ -1,44 +1,13 @@
 -- A watcher is stopped. The memory takes its slot off the list that it is on, unless it is closing; the state takes its id off each list that it
 -- could be called from.
-use Rattle.std.proofs.Common.{◌≡◌, ℕ, ◌++◌, ◌&&◌, true, false, if◌then◌else◌, eqb, List, map, Some, refl, sym, ap, ◌∙◌, subst}
-use Rattle.uv_ids.specs.declared.id.Id.{Id}
+use Rattle.uv_ops.proofs.Names.{◌≡◌, ℕ, ◌++◌, ◌&&◌, true, false, if◌then◌else◌, eqb, List, map, Some, refl, sym, ap, ◌∙◌, subst, Id, Kind, HandleRecord, ListName, is_timer, without, DelistUndo, counted, record_at, IsStopped, id_in, Place, without_id, walk_without_id, State, with_handle, without_timer, stop, succeeds, members, has_id, AreActive, IsReached, Content, Handle, Record, handle_of, By, IsFit, Image, Held, counted_of, OnlyHandles, Does, StandsFor, map_same, IsOn, has_first, has_second, own_id, holds_it, has_it, ready_stays, not_waiting, not_done, not_done_yet, not_closing, not_closing_yet, without_ids, Listed}
 use Rattle.uv_ids.specs.declared.code.Code.TheVariants as code
 use Rattle.uv_ids.specs.declared.code.Answer.TheVariants as answer
-use Rattle.uv_ids.specs.declared.phase.Kind.{Kind}
 use Rattle.uv_ids.specs.declared.phase.Kind.TheVariants as kind
-use Rattle.uv_records.specs.declared.handle.HandleRecord.{HandleRecord}
-use Rattle.uv_records.specs.declared.lists.ListName.{ListName}
 use Rattle.uv_records.specs.declared.lists.ListName.TheVariants as name
 use Rattle.uv_records.specs.Handles as records
-use Rattle.uv_records.specs.Handles.{is_timer}
-use Rattle.uv_records.specs.Walks.{without}
 use Rattle.uv_arena.specs.Image as arena
-use Rattle.uv_handle.specs.declared.undo.DelistUndo.{DelistUndo}
-use Rattle.uv_handle.specs.Counted.{counted, record_at}
-use Rattle.uv_watch.specs.Watch.{IsStopped}
-use Rattle.uv_requests.specs.Working.{id_in}
-use Rattle.uv_model.specs.declared.place.Place.{Place}
-use Rattle.uv_model.specs.Ids.{without_id, walk_without_id}
-use Rattle.uv_model.specs.State.{State, with_handle}
-use Rattle.uv_model.specs.Timers.{without_timer}
-use Rattle.uv_model.specs.Ops.{stop, succeeds}
-use Rattle.uv_model.specs.Queries.{members}
-use Rattle.uv_order.specs.Active.{has_id, AreActive}
-use Rattle.uv_order.specs.Reached.{IsReached}
-use Rattle.uv_work.specs.declared.content.Content.{Content}
-use Rattle.uv_work.specs.declared.content.Content.TheVariants.{Handle}
 use Rattle.uv_step.specs.Change as change
-use Rattle.uv_step.specs.Record.{Record}
-use Rattle.uv_work.specs.Content.{handle_of}
-use Rattle.uv_step.specs.Does.{By}
-use Rattle.uv_step.specs.Fit.{IsFit}
-use Rattle.uv_step.specs.Image.{Image, Held, counted_of, OnlyHandles}
-use Rattle.uv_stands.specs.Doing.{Does}
-use Rattle.uv_stands.specs.Stands.{StandsFor}
-use Rattle.uv_stands.proofs.Holding.{map_same}
-use Rattle.uv_stands.proofs.Absent.{IsOn, has_first, has_second, own_id, holds_it, has_it, ready_stays, not_waiting, not_done, not_done_yet, not_closing, not_closing_yet}
-use Rattle.uv_stands.proofs.Without.{without_ids}
-use Rattle.uv_stands.proofs.Lists.{Listed}
 use Rattle.uv_ops.proofs.Relisted.{IsList, same_ids, relisted_stands}
 use Rattle.uv_ops.proofs.Leaving.{gone, kept}
 

@@ -1,13 +1,6 @@
 -- A slot is taken, and the ids of all stay.
-use Rattle.std.proofs.Common.{◌≡◌, ℕ, zero, suc, List, [], ◌∷◌, ◌++◌, slice_get, Option, Some, None, option_and_then, refl, sym, ap, ◌∙◌}
-use Rattle.uv_ids.specs.declared.id.Id.{Id}
-use Rattle.uv_records.specs.declared.slot.Slot.{Slot}
-use Rattle.uv_records.specs.Slots.{Slots, next_id, next_free, id_of, taken, taken_from}
+use Rattle.uv_ops.proofs.Names.{◌≡◌, ℕ, zero, suc, List, [], ◌∷◌, ◌++◌, slice_get, Option, Some, None, option_and_then, refl, sym, ap, ◌∙◌, Id, Slot, Slots, next_id, next_free, id_of, taken, taken_from, plain_slots, held_slots, slot_at, id_in, Content, slot_or, slot_by, generation_kept}
 use Rattle.uv_arena.specs.Image as arena
-use Rattle.uv_arena.specs.Image.{plain_slots, held_slots, slot_at}
-use Rattle.uv_requests.specs.Working.{id_in}
-use Rattle.uv_work.specs.declared.content.Content.{Content}
-use Rattle.uv_stands.proofs.Holding.{slot_or, slot_by, generation_kept}
 
 module _ {X : Type 0} where
   grown_same : (ss : List (Slot X)) (x : ℕ) (v : X)

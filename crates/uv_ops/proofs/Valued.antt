@@ -1,14 +1,8 @@
 -- The run is to stop, or the loop's time is the clock's: what the memory stands for then.
-use Rattle.std.proofs.Common.{◌≡◌, true, refl, sym, ◌∙◌, subst}
+use Rattle.uv_ops.proofs.Names.{◌≡◌, true, refl, sym, ◌∙◌, subst, Place, State, refreshed, Image, Performs, StandsFor, valued}
 use Rattle.uv_ids.specs.declared.code.Code.TheVariants as code
 use Rattle.uv_ids.specs.declared.code.Answer.TheVariants as answer
 use Rattle.uv_script.specs.declared.op.Op.TheVariants as op
-use Rattle.uv_model.specs.declared.place.Place.{Place}
-use Rattle.uv_model.specs.State.{State, refreshed}
-use Rattle.uv_step.specs.Image.{Image}
-use Rattle.uv_stands.specs.Doing.{Performs}
-use Rattle.uv_stands.specs.Stands.{StandsFor}
-use Rattle.uv_stands.proofs.Values.{valued}
 
 module _ (i j : Image Place) where
   pub stop_performs : j ≡ record i { stop_flag = true } → Performs op.StopLoop i j (answer.Code code.Ok)

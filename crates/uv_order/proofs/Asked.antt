@@ -1,14 +1,6 @@
 -- Requests as steps find them: the front of a list, what a worker may take, and what one may finish.
-use Rattle.std.proofs.Common.{arith, ◌≡◌, ℕ, ◌+◌, ◌==◌, List, [], ◌∷◌, Some, None, Ok, drop, slice_get, slice_set}
-use Rattle.std.proofs.lemmas.Bool.{cond_both}
-use Rattle.uv_ids.specs.declared.id.Id.{Id}
-use Rattle.uv_records.specs.declared.slot.Slot.{Slot}
-use Rattle.uv_records.specs.Slots.{Slots, held, freed}
-use Rattle.uv_work.specs.declared.content.Content.{Content}
+use Rattle.uv_order.proofs.Names.{arith, ◌≡◌, ℕ, ◌+◌, ◌==◌, List, [], ◌∷◌, Some, None, Ok, drop, slice_get, slice_set, cond_both, Id, Slot, Slots, held, freed, Content, Request, State, front_request, next_work, work_of}
 use Rattle.uv_work.specs.declared.content.Content.TheVariants as content
-use Rattle.uv_work.specs.declared.request.Request.{Request}
-use Rattle.uv_model.specs.State.{State, front_request}
-use Rattle.uv_model.specs.Next.{next_work, work_of}
 use Rattle.uv_order.proofs.Contents.{Turns, slot_with, emptied_turns, holds, set_turns, as_request}
 use Rattle.uv_order.proofs.OpCases.{with_id_is}
 

@@ -1,14 +1,6 @@
 -- The ops of a callback that are still to be done.
-use Rattle.std.proofs.Common.{◌≡◌, ℕ, zero, suc, ◌+◌, List, [], ◌∷◌, Bool, true, false, Option, Some, None, slice_get, drop, refl, ap, sym, ◌∙◌, arith, if◌then◌else◌}
-use Rattle.uv_ids.specs.declared.id.Var.{Var}
-use Rattle.uv_ids.specs.declared.seen.Callback.{Callback}
-use Rattle.uv_ids.specs.declared.seen.Site.{Site}
+use Rattle.uv_order.proofs.Names.{◌≡◌, ℕ, zero, suc, ◌+◌, List, [], ◌∷◌, Bool, true, false, Option, Some, None, slice_get, drop, refl, ap, sym, ◌∙◌, arith, if◌then◌else◌, Var, Callback, Site, CallbackLine, Program, lines_in, is_for, Body, next_line, body_from, body_at, sites_from, body_of}
 use Rattle.uv_ids.specs.declared.seen.Site.TheVariants as site
-use Rattle.uv_script.specs.declared.op.CallbackLine.{CallbackLine}
-use Rattle.uv_script.specs.Program.{Program, lines_in, is_for}
-use Rattle.uv_model.specs.declared.place.Body.{Body}
-use Rattle.uv_model.specs.Next.{next_line, body_from, body_at}
-use Rattle.uv_order.specs.Documented.{sites_from, body_of}
 
 -- the line of the next op, and the ops from it on
 pub record IsAt (lines : List CallbackLine) (kind : Callback) (v : Var) (call next : ℕ) (sites : List Site) : Type 0 where

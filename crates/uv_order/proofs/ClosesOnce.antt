@@ -1,51 +1,18 @@
 -- Each handle closes once: every op and every step of the loop appends a line that may follow those before it.
-use Rattle.std.proofs.Common.{◌≡◌, ◌⊎◌, inl, inr, ℕ, zero, suc, ◌+◌, ◌==◌, ◌||◌, List, [], ◌∷◌, ◌++◌, Bool, true, false, drop, Option, Some, None, Ok, length, slice_get, slice_set, unwrap_or, replicate, refl, ap, sym, subst, ◌∙◌, arith}
-use Rattle.std.proofs.lemmas.Bool.{cond_both, both_ways, eqb-true, or_right, false_from_ne_true}
-use Rattle.std.proofs.lemmas.Option.{same_Some, none-some}
-use Rattle.uv_ids.specs.declared.id.Id.{Id}
-use Rattle.uv_ids.specs.declared.id.Var.{Var}
-use Rattle.uv_ids.specs.declared.code.Code.{Code}
+use Rattle.uv_order.proofs.Names.{◌≡◌, ◌⊎◌, inl, inr, ℕ, zero, suc, ◌+◌, ◌==◌, ◌||◌, List, [], ◌∷◌, ◌++◌, Bool, true, false, drop, Option, Some, None, Ok, length, slice_get, slice_set, unwrap_or, replicate, refl, ap, sym, subst, ◌∙◌, arith, cond_both, both_ways, eqb-true, or_right, false_from_ne_true, same_Some, none-some, Id, Var, Code, Kind, Phase, Seen, Site, Op, Program, op_at, arena_size, worker_count, HandleRecord, WatcherKind, inited, referenced_as, repeating, Slots, freed, Content, Named, Request, digest_in, is_open, request_in, text_of, Finished, Run, Stage, Idle, Prepare, Done, Async, Check, Closing, Walk, all_yet, same_id, has_id, AreDistinct, run_ids, State, fresh, handle, live, live_handle, live_request, with_handle, with_request, watched, with_watched, refreshed, unbound, started, restarted, do_op, Next, Moves, Refuses, call, calls, first_due, collected, front_moved, goes, is_default, may_leave, next_work, work_of, SaysTrue, CancelSays, MakesNew, OpSays, MayFollow, activity}
 use Rattle.uv_ids.specs.declared.code.Code.TheVariants as code
 use Rattle.uv_ids.specs.declared.code.Answer.TheVariants as answer
-use Rattle.uv_ids.specs.declared.phase.Kind.{Kind}
-use Rattle.uv_ids.specs.declared.phase.Phase.{Phase}
 use Rattle.uv_ids.specs.declared.phase.Phase.TheVariants as phase
 use Rattle.uv_ids.specs.declared.seen.Callback.TheVariants as callback
-use Rattle.uv_ids.specs.declared.seen.Seen.{Seen}
 use Rattle.uv_ids.specs.declared.seen.Seen.TheVariants as seen
-use Rattle.uv_ids.specs.declared.seen.Site.{Site}
-use Rattle.uv_script.specs.declared.op.Op.{Op}
 use Rattle.uv_script.specs.declared.op.Op.TheVariants as op
-use Rattle.uv_script.specs.Program.{Program, op_at, arena_size, worker_count}
-use Rattle.uv_records.specs.declared.handle.HandleRecord.{HandleRecord}
-use Rattle.uv_records.specs.declared.lists.WatcherKind.{WatcherKind}
 use Rattle.uv_records.specs.declared.lists.WatcherKind.TheVariants as watcher
 use Rattle.uv_records.specs.Handles as records
-use Rattle.uv_records.specs.Handles.{inited, referenced_as, repeating}
-use Rattle.uv_records.specs.Slots.{Slots, freed}
-use Rattle.uv_work.specs.declared.content.Content.{Content}
 use Rattle.uv_work.specs.declared.content.Content.TheVariants as content
-use Rattle.uv_records.specs.declared.named.Named.{Named}
-use Rattle.uv_work.specs.declared.request.Request.{Request}
-use Rattle.uv_work.specs.Requests.{digest_in, is_open}
-use Rattle.uv_model.specs.Content.{request_in}
-use Rattle.uv_work.specs.Tasks.{text_of}
 use Rattle.uv_work.specs.Digests.{digest_of}
-use Rattle.uv_work.specs.declared.outcome.Outcome.TheVariants.{Finished}
-use Rattle.uv_model.specs.declared.place.Run.{Run}
-use Rattle.uv_model.specs.declared.place.Stage.{Stage}
-use Rattle.uv_model.specs.declared.place.Stage.TheVariants.{Idle, Prepare, Done, Async, Check, Closing}
-use Rattle.uv_records.specs.Walks.{Walk, all_yet}
-use Rattle.uv_model.specs.Ids.{same_id}
-use Rattle.uv_order.specs.Active.{has_id, AreDistinct, run_ids}
-use Rattle.uv_model.specs.State.{State, fresh, handle, live, live_handle, live_request, with_handle, with_request, watched, with_watched, refreshed}
-use Rattle.uv_records.specs.Names.{unbound}
-use Rattle.uv_model.specs.Timers.{started, restarted}
 use Rattle.uv_model.specs.Ops as ops
-use Rattle.uv_model.specs.Ops.{do_op}
 use Rattle.uv_model.specs.Next as step
-use Rattle.uv_model.specs.Next.{Next, Moves, Refuses, next, call, calls, first_due, collected, front_moved, goes, is_default, may_leave, next_work, work_of}
-use Rattle.uv_order.specs.Once.{SaysTrue, CancelSays, MakesNew, OpSays, MayFollow, activity}
+use Rattle.uv_model.specs.Next.{next}
 use Rattle.uv_order.proofs.OpCases.{kind_as, IsRefusal, cancel_both, make_both}
 use Rattle.uv_order.proofs.IdLists.{Each, each_back, same, itself, turned, has_new_middle, distinct_back}
 use Rattle.uv_order.proofs.Holding.{names_turned, same_handles, is_held, put_same, Fits, its_handle, Everyone}

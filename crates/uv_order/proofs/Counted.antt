@@ -1,19 +1,6 @@
 -- How often each name was called, as the lines tell it and as the state counts it.
-use Rattle.std.proofs.Common.{◌≡◌, inl, inr, ℕ, zero, suc, ◌+◌, ◌<◌, ◌≤◌, ◌==◌, List, [], ◌∷◌, length, Bool, true, false, Option, None, slice_get, slice_set, unwrap_or, replicate, refl, ap, sym, subst, ◌∙◌, arith}
-use Rattle.std.proofs.lemmas.Grind.{elements}
-use Rattle.std.proofs.lemmas.Bool.{eqb-true, eq-eqb, both_ways, cases_lt}
-use Rattle.uv_ids.specs.declared.id.Id.{Id}
-use Rattle.uv_ids.specs.declared.id.Var.{Var}
-use Rattle.uv_ids.specs.declared.seen.Callback.{Callback}
+use Rattle.uv_order.proofs.Names.{◌≡◌, inl, inr, ℕ, zero, suc, ◌+◌, ◌<◌, ◌≤◌, ◌==◌, List, [], ◌∷◌, length, Bool, true, false, Option, None, slice_get, slice_set, unwrap_or, replicate, refl, ap, sym, subst, ◌∙◌, arith, elements, eqb-true, eq-eqb, both_ways, cases_lt, Id, Var, Callback, Program, Callbacks, no_callbacks, lines_of, lines_in, Calls, Named, without_id, fresh, unbound, count_of, counted, body_from, Told, nothing_told, told_of, times, next_call, body_of}
 use Rattle.uv_ids.specs.declared.seen.Callback.TheVariants as callback
-use Rattle.uv_script.specs.Program.{Program, Callbacks, no_callbacks, lines_of, lines_in}
-use Rattle.uv_records.specs.declared.named.Calls.{Calls}
-use Rattle.uv_records.specs.declared.named.Named.{Named}
-use Rattle.uv_model.specs.Ids.{without_id}
-use Rattle.uv_model.specs.State.{fresh}
-use Rattle.uv_records.specs.Names.{unbound, count_of, counted}
-use Rattle.uv_model.specs.Next.{body_from}
-use Rattle.uv_order.specs.Documented.{Told, nothing_told, told_of, times, next_call, body_of}
 use Rattle.uv_order.proofs.Bodies.{IsBody, whole_body}
 use Rattle.uv_order.proofs.OpEffects.{SameCalls, set_long}
 

@@ -1,53 +1,17 @@
 -- What a step does, in a row for each way: the tree of the steps is walked here, once, and whatever steps keep is shown by rows.
-use Rattle.std.proofs.Common.{arith, ◌≡◌, ℕ, ◌+◌, List, [], ◌∷◌, Bool, true, false, Option, Some, None, Result, Ok, Err, drop, length, nat_le, nat_lt, slice_get, option_map, refl, ap}
-use Rattle.std.proofs.lemmas.Bool.{cond_both}
-use Rattle.std.proofs.lemmas.Option.{same_Some}
-use Rattle.uv_ids.specs.declared.id.Id.{Id}
-use Rattle.uv_ids.specs.declared.id.Var.{Var}
-use Rattle.uv_ids.specs.declared.due.Due.{Due}
-use Rattle.uv_ids.specs.declared.event.Event.{Event}
-use Rattle.uv_ids.specs.declared.event.Event.TheVariants.{Loop, Take, Finish, Cancel, Send, Tick}
-use Rattle.uv_ids.specs.declared.fault.Why.{Why}
-use Rattle.uv_ids.specs.declared.fault.Why.TheVariants.{Blocked, Ended, Range}
-use Rattle.uv_ids.specs.declared.phase.Mode.{Mode}
-use Rattle.uv_ids.specs.declared.phase.Phase.{Phase}
+use Rattle.uv_order.proofs.Names.{arith, ◌≡◌, ℕ, ◌+◌, List, [], ◌∷◌, Bool, true, false, Option, Some, None, Result, Ok, Err, drop, length, nat_le, nat_lt, slice_get, option_map, refl, ap, cond_both, same_Some, Id, Var, Due, Event, Loop, Take, Finish, Cancel, Send, Tick, Why, Blocked, Ended, Range, Mode, Phase, Seen, Site, HandleRecord, WatcherKind, CallbackLine, MainOp, Op, Program, arena_size, lines_in, main_op, op_at, order_of, Request, digest_in, Body, Place, Main, Run, Stage, Pending, Idle, Prepare, Poll, Done, Async, Check, Closing, Timers, Collecting, Firing, TimersOf, Turn, AtEntry, Behind, BehindClosing, Way, ToTimers, ToPending, ToEnd, State, handle, with_handle, live_handle, live_request, front, front_request, watched, refreshed, restarted, do_op, Next, Moves, Refuses, call, calls, first_due, front_moved, goes, may_leave, next_work, work_of, found_both, BeginsBehind, BeginsIn, BeginsAt}
 use Rattle.uv_ids.specs.declared.seen.Callback.TheVariants as callback
-use Rattle.uv_ids.specs.declared.seen.Seen.{Seen}
 use Rattle.uv_ids.specs.declared.seen.Seen.TheVariants as seen
-use Rattle.uv_ids.specs.declared.seen.Site.{Site}
 use Rattle.uv_ids.specs.declared.seen.Site.TheVariants as site
-use Rattle.uv_records.specs.declared.handle.HandleRecord.{HandleRecord}
-use Rattle.uv_records.specs.declared.lists.WatcherKind.{WatcherKind}
 use Rattle.uv_records.specs.declared.lists.WatcherKind.TheVariants as watcher
 use Rattle.uv_records.specs.Handles as records
 use Rattle.uv_records.specs.Slots as slots
-use Rattle.uv_script.specs.declared.op.CallbackLine.{CallbackLine}
-use Rattle.uv_script.specs.declared.op.MainOp.{MainOp}
 use Rattle.uv_script.specs.declared.op.MainOp.TheVariants as main
-use Rattle.uv_script.specs.declared.op.Op.{Op}
-use Rattle.uv_script.specs.Program.{Program, arena_size, lines_in, main_op, op_at, order_of}
-use Rattle.uv_work.specs.declared.request.Request.{Request}
-use Rattle.uv_work.specs.Requests.{digest_in}
-use Rattle.uv_model.specs.declared.place.Body.{Body}
-use Rattle.uv_model.specs.declared.place.Place.{Place}
-use Rattle.uv_model.specs.declared.place.Place.TheVariants.{Main, Running}
-use Rattle.uv_model.specs.declared.place.Run.{Run}
-use Rattle.uv_model.specs.declared.place.Stage.{Stage}
-use Rattle.uv_model.specs.declared.place.Stage.TheVariants.{Entry, Pending, Idle, Prepare, Poll, Done, Async, Check, Closing, Timers}
-use Rattle.uv_model.specs.declared.place.Timing.TheVariants.{Collecting, Firing}
-use Rattle.uv_model.specs.declared.place.TimersOf.{TimersOf}
-use Rattle.uv_model.specs.declared.place.Turn.{Turn}
-use Rattle.uv_model.specs.declared.place.Turn.TheVariants.{AtEntry, Behind, BehindClosing}
-use Rattle.uv_model.specs.declared.place.Way.{Way}
-use Rattle.uv_model.specs.declared.place.Way.TheVariants.{ToTimers, ToPending, ToEnd}
-use Rattle.uv_model.specs.State.{State, handle, with_handle, live_handle, live_request, front, front_request, watched, refreshed}
-use Rattle.uv_model.specs.Timers.{restarted}
+use Rattle.uv_model.specs.declared.place.Place.TheVariants.{Running}
+use Rattle.uv_model.specs.declared.place.Stage.TheVariants.{Entry}
 use Rattle.uv_model.specs.Ops as ops
-use Rattle.uv_model.specs.Ops.{do_op}
 use Rattle.uv_model.specs.Next as step
-use Rattle.uv_model.specs.Next.{Next, Moves, Refuses, next, call, calls, first_due, front_moved, goes, may_leave, next_work, work_of}
-use Rattle.uv_model.proofs.Found.{found_both}
-use Rattle.uv_order.specs.Reached.{BeginsBehind, BeginsIn, BeginsAt}
+use Rattle.uv_model.specs.Next.{next}
 use Rattle.uv_order.proofs.Contents.{holds}
 use Rattle.uv_order.proofs.Asked.{FrontRequest, request_front, TakesFront, takes_front, RunsWork, runs_work}
 

@@ -1,38 +1,20 @@
 -- The lines of every list of steps are in the documented order: what names are bound to by the lines is what the accepted ops of a step
 -- find them bound to.
-use Rattle.std.proofs.Common.{false, map, ◌≡◌, List, [], ◌∷◌, ◌++◌, Option, Some, None, Ok, refl, ap, sym, subst, ◌∙◌}
-use Rattle.std.proofs.lemmas.Option.{same_Some}
-use Rattle.uv_ids.specs.declared.id.Id.{Id}
-use Rattle.uv_ids.specs.declared.id.Var.{Var}
-use Rattle.uv_ids.specs.declared.event.Event.{Event}
-use Rattle.uv_ids.specs.declared.code.Code.{Code}
+use Rattle.uv_order.proofs.Names.{false, map, ◌≡◌, List, [], ◌∷◌, ◌++◌, Option, Some, None, Ok, refl, ap, sym, subst, ◌∙◌, same_Some, Id, Var, Event, Code, Answer, Phase, Seen, Op, Program, worker_count, op_at, HandleRecord, State, fresh, named, live_handle, do_op, Next, Moves, Refuses, state_of, lines, Line, line_of_step, history_from, MayFollow, OnceFrom, line_events, pool_events, pool_of, Pool, empty_pool, then_event, after_events, PoolEvent, Names, names_by, ids_of, sent_by, sent_after, off_by, taken_off, Told, nothing_told, told_by, Lasting, lasting, at_first, Within, Position, Between, Running, Goes, GoesOn, cut, line, Documented, word_of}
 use Rattle.uv_ids.specs.declared.code.Code.TheVariants as code
-use Rattle.uv_ids.specs.declared.code.Answer.{Answer}
 use Rattle.uv_ids.specs.declared.code.Answer.TheVariants as answer
-use Rattle.uv_ids.specs.declared.phase.Phase.{Phase}
 use Rattle.uv_ids.specs.declared.phase.Phase.TheVariants as phase
-use Rattle.uv_ids.specs.declared.seen.Seen.{Seen}
 use Rattle.uv_ids.specs.declared.seen.Seen.TheVariants as seen
-use Rattle.uv_script.specs.declared.op.Op.{Op}
 use Rattle.uv_script.specs.declared.op.Op.TheVariants as op
-use Rattle.uv_script.specs.Program.{Program, worker_count, op_at}
-use Rattle.uv_records.specs.declared.handle.HandleRecord.{HandleRecord}
-use Rattle.uv_model.specs.State.{State, fresh, named, live_handle}
 use Rattle.uv_model.specs.Ops as ops
-use Rattle.uv_model.specs.Ops.{do_op}
-use Rattle.uv_model.specs.Next.{Next, Moves, Refuses, next}
+use Rattle.uv_model.specs.Next.{next}
 use Rattle.uv_model.specs.After as after
-use Rattle.uv_model.specs.After.{state_of, lines}
-use Rattle.uv_order.specs.Line.{Line}
-use Rattle.uv_order.specs.History.{line_of_step, history_from, history}
+use Rattle.uv_order.specs.History.{history}
 use Rattle.uv_order.specs.Documented as doc
-use Rattle.uv_order.specs.Once.{MayFollow, OnceFrom, Once}
-use Rattle.uv_order.specs.PoolEvents.{line_events, pool_events, pool_of}
-use Rattle.uv_work.specs.Pool.{Pool, empty_pool, then_event, after_events, replay}
-use Rattle.uv_work.specs.declared.event.PoolEvent.{PoolEvent}
+use Rattle.uv_order.specs.Once.{Once}
+use Rattle.uv_work.specs.Pool.{replay}
 use Rattle.uv_order.proofs.Histories.{lines-history}
 use Rattle.uv_order.proofs.Pooling.{Pools, did_pools}
-use Rattle.uv_order.specs.Documented.{Names, names_by, ids_of, sent_by, sent_after, off_by, taken_off, Told, nothing_told, told_by, Lasting, lasting, at_first, Within, Position, Between, Running, Goes, GoesOn, cut, line, Documented, word_of}
 use Rattle.uv_order.proofs.Holding.{name_at}
 use Rattle.uv_order.proofs.OpCases as which
 use Rattle.uv_order.proofs.OpCases.{DidOp, op_did, names_at, live_bound, IsRefusal, refuses_stop, refuses_start, refuses_again, refuses_close, on_handle_both, send_both, make_both}

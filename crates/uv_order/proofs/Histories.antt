@@ -1,14 +1,8 @@
 -- The lines of a history are those of the trace.
-use Rattle.std.proofs.Common.{◌≡◌, List, [], ◌∷◌, ◌++◌, map, option_to_list, Some, None, refl, ap}
-use Rattle.std.specs.List.{flat_map}
-use Rattle.uv_ids.specs.declared.event.Event.{Event}
-use Rattle.uv_ids.specs.declared.seen.Seen.{Seen}
-use Rattle.uv_script.specs.Program.{Program}
-use Rattle.uv_model.specs.State.{State, fresh}
-use Rattle.uv_model.specs.Next.{Next, Moves, Refuses, next}
-use Rattle.uv_model.specs.After.{seen_by, seen_from, state_of, seen_of, lines}
-use Rattle.uv_order.specs.Line.{Line}
-use Rattle.uv_order.specs.History.{line_of_step, history_from, history}
+use Rattle.uv_order.proofs.Names.{◌≡◌, List, [], ◌∷◌, ◌++◌, map, option_to_list, Some, None, refl, ap, flat_map, Event, Seen, Program, State, fresh, Next, Moves, Refuses, seen_from, state_of, seen_of, lines, Line, line_of_step, history_from}
+use Rattle.uv_model.specs.Next.{next}
+use Rattle.uv_model.specs.After.{seen_by}
+use Rattle.uv_order.specs.History.{history}
 
 line_of_next : (s : State) (n : Next) (ls : List Seen) (hs : List Line) → ls ≡ map (λ (l : Line). l.seen) hs →
     option_to_list (seen_of n) ++ ls ≡ map (λ (l : Line). l.seen) (line_of_step s n ++ hs)

@@ -1,20 +1,8 @@
 -- What the slots hold, and the lists of ids of handles.
-use Rattle.std.proofs.Common.{◌≡◌, ◌⊎◌, inl, inr, ℕ, ◌<◌, List, ◌∷◌, ◌++◌, Bool, true, false, Option, Some, None, slice_set, refl, ap, sym, subst, ◌∙◌, arith}
+use Rattle.uv_order.proofs.Names.{◌≡◌, ◌⊎◌, inl, inr, ℕ, ◌<◌, List, ◌∷◌, ◌++◌, Bool, true, false, Option, Some, None, slice_set, refl, ap, sym, subst, ◌∙◌, arith, same_Some, Id, Var, Due, HandleRecord, Slot, held, Content, handle_in, same_id, without_id, with_timer, without_timer, Has, InOrder, has_id, AreDistinct}
 use Rattle.std.specs.Prelude.{option_map}
-use Rattle.std.proofs.lemmas.Option.{same_Some}
-use Rattle.uv_ids.specs.declared.id.Id.{Id}
-use Rattle.uv_ids.specs.declared.id.Var.{Var}
-use Rattle.uv_ids.specs.declared.due.Due.{Due}
 use Rattle.uv_ids.specs.declared.phase.Kind.TheVariants as kind
-use Rattle.uv_records.specs.declared.handle.HandleRecord.{HandleRecord}
-use Rattle.uv_records.specs.declared.slot.Slot.{Slot}
-use Rattle.uv_records.specs.Slots.{held}
-use Rattle.uv_work.specs.declared.content.Content.{Content}
 use Rattle.uv_work.specs.declared.content.Content.TheVariants as content
-use Rattle.uv_model.specs.Content.{handle_in}
-use Rattle.uv_model.specs.Ids.{same_id, without_id}
-use Rattle.uv_model.specs.Timers.{with_timer, without_timer}
-use Rattle.uv_order.specs.Active.{Has, InOrder, has_id, AreDistinct}
 use Rattle.uv_order.proofs.Contents.{slot_with, holds, Turns, set_turns, emptied, emptied_turns, as_handle}
 use Rattle.uv_order.proofs.IdLists.{same, other, turned, Each, each_mapped, each_without, absent, distinct_without, still_there, without_absent, each_middle, distinct_middle, has_new_middle, has_old_middle, each_but, distinct_but, has_but}
 use Rattle.uv_order.proofs.TimerKeys.{one_id, not_before_itself, before_each, still_has, had, in_order_without, IsNew, has_new, has_old, new_or_old, in_order_with, is_new}

@@ -1,11 +1,5 @@
 -- Lists of ids, and what was taken off them.
-use Rattle.std.proofs.Common.{arith, ◌≡◌, List, [], ◌∷◌, ◌++◌, Bool, true, false, refl, ap, sym, ◌∙◌, if◌then◌else◌}
-use Rattle.std.specs.Prelude.{filter, not}
-use Rattle.std.proofs.lemmas.Bool.{eq-eqb, or_parts, both_ways}
-use Rattle.uv_ids.specs.declared.id.Id.{Id}
-use Rattle.uv_model.specs.Ids.{same_id, without_id}
-use Rattle.uv_order.specs.Active.{has_id, AreDistinct}
-use Rattle.uv_order.specs.Documented.{AllOff}
+use Rattle.uv_order.proofs.Names.{arith, ◌≡◌, List, [], ◌∷◌, ◌++◌, Bool, true, false, refl, ap, sym, ◌∙◌, if◌then◌else◌, filter, not, eq-eqb, or_parts, both_ways, Id, same_id, without_id, has_id, AreDistinct, AllOff}
 
 -- ---- one id and another
 

@@ -1,33 +1,13 @@
 -- What every step keeps: the lists and the handles agree. The order of timers has just the active ones, the ready list has inactive
 -- timers, and the lists of watchers, async and closing handles have just those of their kind; no id stands twice on a list. A handle that
 -- closes is inactive. The free slots are empty.
-use Rattle.std.proofs.Common.{◌≡◌, ℕ, zero, suc, ◌+◌, ◌==◌, ◌&&◌, ◌||◌, List, [], ◌∷◌, ◌++◌, Bool, true, false, Some, None, length, slice_get, slice_set, refl, ap, sym, subst, ◌∙◌, append_assoc, arith, if◌then◌else◌}
-use Rattle.std.specs.Prelude.{not, option_and_then}
-use Rattle.std.proofs.lemmas.Bool.{cond_both, and_parts, both_ways, or_parts, eqb-true, eq-eqb}
-use Rattle.std.proofs.lemmas.Option.{same_Some}
-use Rattle.std.proofs.lemmas.List.Elements.{filter-append}
-use Rattle.uv_ids.specs.declared.id.Id.{Id}
-use Rattle.uv_ids.specs.declared.id.Var.{Var}
-use Rattle.uv_ids.specs.declared.due.Due.{Due}
-use Rattle.uv_ids.specs.declared.phase.Kind.{Kind}
+use Rattle.uv_order.proofs.Names.{◌≡◌, ℕ, zero, suc, ◌+◌, ◌==◌, ◌&&◌, ◌||◌, List, [], ◌∷◌, ◌++◌, Bool, true, false, Some, None, length, slice_get, slice_set, refl, ap, sym, subst, ◌∙◌, append_assoc, arith, if◌then◌else◌, not, option_and_then, cond_both, and_parts, both_ways, or_parts, eqb-true, eq-eqb, same_Some, filter-append, Id, Var, Due, Kind, HandleRecord, Slot, WatcherKind, inited, activated, begun_at, referenced_as, repeating, is_timer, is_async, Slots, held, taken, freed, next_free, next_id, next_unused, id_of, Walk, with_last, Content, same_id, walk_without_id, State, handle, with_handle, without_timer, stopped, started, restarted, due_after, do_op, has_id}
 use Rattle.uv_ids.specs.declared.phase.Kind.TheVariants as kind
-use Rattle.uv_records.specs.declared.handle.HandleRecord.{HandleRecord}
-use Rattle.uv_records.specs.declared.slot.Slot.{Slot}
-use Rattle.uv_records.specs.declared.lists.WatcherKind.{WatcherKind}
 use Rattle.uv_records.specs.declared.lists.WatcherKind.TheVariants as watcher
 use Rattle.uv_records.specs.Handles as records
-use Rattle.uv_records.specs.Handles.{inited, activated, begun_at, referenced_as, repeating, is_timer, is_async}
 use Rattle.uv_records.specs.Slots as arena
-use Rattle.uv_records.specs.Slots.{Slots, held, taken, freed, next_free, next_id, next_unused, id_of}
-use Rattle.uv_records.specs.Walks.{Walk, with_last}
-use Rattle.uv_work.specs.declared.content.Content.{Content}
 use Rattle.uv_work.specs.declared.content.Content.TheVariants as content
-use Rattle.uv_model.specs.Ids.{same_id, walk_without_id}
-use Rattle.uv_model.specs.State.{State, handle, with_handle}
-use Rattle.uv_model.specs.Timers.{without_timer, stopped, started, restarted, due_after}
 use Rattle.uv_model.specs.Ops as ops
-use Rattle.uv_model.specs.Ops.{do_op}
-use Rattle.uv_order.specs.Active.{has_id}
 use Rattle.uv_order.proofs.IdLists.{same, other, without_absent, without_itself}
 use Rattle.uv_order.proofs.Contents.{slot_with, IsThere, Turns, set_turns, pushed_turns, get_set_other}
 use Rattle.uv_order.proofs.Holding.{held_at, is_held, put, slot_of, SameHandles, Grown, grown, Lists, lists_same, everyone_same, times_same, lists_put, lists_without, lists_grown, Everyone, everyone_put, everyone_without, everyone_front, everyone_grown, everyone_listed, IsSet, Times, times_put, times_without, times_with, times_grown, put_same, put_other}

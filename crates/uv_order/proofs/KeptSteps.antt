@@ -1,32 +1,11 @@
 -- Each op and each step of the loop keeps what is kept.
-use Rattle.std.proofs.Common.{arith, ◌≡◌, inl, ℕ, ◌+◌, ◌==◌, List, [], ◌∷◌, ◌++◌, true, false, Some, None, drop, refl, ap, sym, subst, ◌∙◌, append_assoc, append-nil}
-use Rattle.std.proofs.lemmas.Bool.{cond_both, false_from_ne_true}
-use Rattle.uv_ids.specs.declared.id.Id.{Id}
-use Rattle.uv_ids.specs.declared.id.Var.{Var}
+use Rattle.uv_order.proofs.Names.{arith, ◌≡◌, inl, ℕ, ◌+◌, ◌==◌, List, [], ◌∷◌, ◌++◌, true, false, Some, None, drop, refl, ap, sym, subst, ◌∙◌, append_assoc, append-nil, cond_both, false_from_ne_true, Id, Var, HandleRecord, Slot, WatcherKind, inited, activated, begun_at, referenced_as, repeating, is_timer, is_async, Slots, held, freed, taken, next_free, Walk, all_yet, moved_on, Op, Task, Program, arena_size, Content, Request, queued, Run, State, fresh, handle, with_handle, with_request, with_id, live, front, watched, with_watched, started, restarted, do_op, Next, Moves, Refuses, collected, front_moved, begin_walk, has_id}
 use Rattle.uv_ids.specs.declared.phase.Kind.TheVariants as kind
-use Rattle.uv_records.specs.declared.handle.HandleRecord.{HandleRecord}
-use Rattle.uv_records.specs.declared.slot.Slot.{Slot}
-use Rattle.uv_records.specs.declared.lists.WatcherKind.{WatcherKind}
 use Rattle.uv_records.specs.declared.lists.WatcherKind.TheVariants as watcher
 use Rattle.uv_records.specs.Handles as records
-use Rattle.uv_records.specs.Handles.{inited, activated, begun_at, referenced_as, repeating, is_timer, is_async}
-use Rattle.uv_records.specs.Slots.{Slots, held, freed, taken, next_free}
-use Rattle.uv_records.specs.Walks.{Walk, all_yet, moved_on}
-use Rattle.uv_script.specs.declared.op.Op.{Op}
 use Rattle.uv_script.specs.declared.op.Op.TheVariants as op
-use Rattle.uv_work.specs.declared.task.Task.{Task}
-use Rattle.uv_script.specs.Program.{Program, arena_size}
-use Rattle.uv_work.specs.declared.content.Content.{Content}
 use Rattle.uv_work.specs.declared.content.Content.TheVariants as content
-use Rattle.uv_work.specs.declared.request.Request.{Request}
-use Rattle.uv_work.specs.Requests.{queued}
-use Rattle.uv_model.specs.declared.place.Run.{Run}
-use Rattle.uv_model.specs.State.{State, fresh, handle, with_handle, with_request, with_id, live, front, watched, with_watched}
-use Rattle.uv_model.specs.Timers.{started, restarted}
 use Rattle.uv_model.specs.Ops as ops
-use Rattle.uv_model.specs.Ops.{do_op}
-use Rattle.uv_model.specs.Next.{Next, Moves, Refuses, collected, front_moved, begin_walk}
-use Rattle.uv_order.specs.Active.{has_id}
 use Rattle.uv_order.proofs.IdLists.{Each, each_push, distinct_push, member, has_new_middle}
 use Rattle.uv_order.proofs.Contents.{holds, emptied, get_set_same}
 use Rattle.uv_order.proofs.Holding.{is_held, put, same_handles, Fits, its_handle, Lists, lists_emptied, not_listed, Everyone, everyone_put, everyone_emptied, everyone_rest, fitted_emptied, IsSet, Times, times_rest, times_emptied, put_same}

@@ -1,35 +1,36 @@
-pub mod IdLists
-mod TimerKeys
-mod Contents
-mod Holding
-mod Works
-pub mod Histories
-mod OpCases
 mod Asked
-mod Keeping
-mod Did
-mod KeptSteps
-mod Quiet
-mod Working
-mod Lives
 mod Bodies
-mod OpEffects
-mod Counted
-mod Standing
-mod TimersFollow
-mod WatchersFollow
-mod Follows
-mod Sends
-mod Gone
-mod Worked
-mod Known
-mod OpsOnce
-mod Started
 mod ClosesOnce
+mod Contents
+mod Counted
+mod Did
+pub mod Documents
+mod Follows
+mod Gone
+pub mod Histories
+mod Holding
+pub mod IdLists
+mod Keeping
+mod KeptSteps
+mod Known
+mod Lives
+mod Names
+mod OpCases
+mod OpEffects
+mod OpsOnce
+mod Pooling
+mod Quiet
+pub mod Reaching
 pub mod RefusedOnce
 pub mod RefusedOrder
 pub mod RefusedTimers
-mod Pooling
-pub mod Documents
+mod Sends
+mod Standing
+mod Started
 pub mod Taking
-pub mod Reaching
+mod TimerKeys
+mod TimersFollow
+mod WatchersFollow
+mod Worked
+mod Working
+mod Works

@@ -1,27 +1,6 @@
 -- Whether the loop is alive by its lists is whether it is by what its slots hold.
-use Rattle.std.proofs.Common.{arith, ◌≡◌, ℕ, zero, suc, ◌==◌, ◌&&◌, ◌||◌, List, [], ◌∷◌, ◌++◌, Bool, true, false, Option, Some, None, refl, ap, sym, ◌∙◌, if◌then◌else◌}
-use Rattle.std.proofs.Math.Bool.{or-true, or_assoc}
-use Rattle.std.specs.Prelude.{not}
-use Rattle.std.specs.List.{list_any}
-use Rattle.std.proofs.lemmas.Bool.{eq-eqb, or_left, or_right}
-use Rattle.uv_ids.specs.declared.id.Id.{Id}
-use Rattle.uv_ids.specs.declared.due.Due.{Due}
-use Rattle.uv_ids.specs.declared.phase.Mode.{Mode}
-use Rattle.uv_ids.specs.declared.phase.Mode.TheVariants.{Default, Once, Nowait}
-use Rattle.uv_records.specs.Handles.{keeps_alive}
-use Rattle.uv_records.specs.declared.slot.Slot.{Slot}
-use Rattle.uv_records.specs.Slots.{held_in}
-use Rattle.uv_work.specs.Requests.{is_open}
-use Rattle.uv_work.specs.declared.content.Content.{Content}
+use Rattle.uv_order.proofs.Names.{arith, ◌≡◌, ℕ, zero, suc, ◌==◌, ◌&&◌, ◌||◌, List, [], ◌∷◌, ◌++◌, Bool, true, false, Option, Some, None, refl, ap, sym, ◌∙◌, if◌then◌else◌, or-true, or_assoc, not, list_any, eq-eqb, or_left, or_right, Id, Due, Mode, Default, Once, Nowait, keeps_alive, Slot, held_in, is_open, Content, Request, content_keeps, request_in, has_some, State, is_alive, poll_timeout_by, goes, has_id, run_ids, is_kept_by, has_handle, has_run, has_request, closes_some, lives, waits, may_wait}
 use Rattle.uv_work.specs.declared.content.Content.TheVariants as content
-use Rattle.uv_work.specs.declared.request.Request.{Request}
-use Rattle.uv_model.specs.Content.{content_keeps, request_in}
-use Rattle.uv_model.specs.Ids.{has_some}
-use Rattle.uv_model.specs.State.{State}
-use Rattle.uv_model.specs.Timeout.{is_alive, poll_timeout_by}
-use Rattle.uv_model.specs.Next.{goes}
-use Rattle.uv_order.specs.Active.{has_id, run_ids}
-use Rattle.uv_order.specs.Alive.{is_kept_by, has_handle, has_run, has_request, closes_some, lives, waits, may_wait}
 use Rattle.uv_order.proofs.IdLists.{itself}
 use Rattle.uv_order.proofs.Works.{asked_at, AllAsk, IsOpen, HasEnded}
 use Rattle.uv_order.proofs.Working.{Working}

@@ -1,30 +1,12 @@
 -- What an op leaves of the lists that a section walks, of the counts of calls, and of what lasts from line to line.
-use Rattle.std.proofs.Common.{Bool, true, false, arith, ◌≡◌, ℕ, ◌==◌, List, [], ◌∷◌, false, Option, Some, None, Ok, length, slice_get, slice_set, unwrap_or, refl, ap, sym, ◌∙◌, zero, suc}
-use Rattle.std.proofs.lemmas.Bool.{cond_both}
-use Rattle.uv_ids.specs.declared.id.Id.{Id}
-use Rattle.uv_ids.specs.declared.id.Var.{Var}
-use Rattle.uv_ids.specs.declared.code.Code.{Code}
+use Rattle.uv_order.proofs.Names.{Bool, true, false, arith, ◌≡◌, ℕ, ◌==◌, List, [], ◌∷◌, Option, Some, None, Ok, length, slice_get, slice_set, unwrap_or, refl, ap, sym, ◌∙◌, zero, suc, cond_both, Id, Var, Code, Answer, Kind, Phase, Op, HandleRecord, Named, Walk, without_id, State, handle, live_handle, unbound, stopped, started, do_op, has_id, Names, lasting, after_op, taken_off, ids_of, off_by}
 use Rattle.uv_ids.specs.declared.code.Code.TheVariants as code
-use Rattle.uv_ids.specs.declared.code.Answer.{Answer}
 use Rattle.uv_ids.specs.declared.code.Answer.TheVariants as answer
-use Rattle.uv_ids.specs.declared.phase.Kind.{Kind}
 use Rattle.uv_ids.specs.declared.phase.Kind.TheVariants as kind
-use Rattle.uv_ids.specs.declared.phase.Phase.{Phase}
 use Rattle.uv_ids.specs.declared.phase.Phase.TheVariants as phase
-use Rattle.uv_script.specs.declared.op.Op.{Op}
 use Rattle.uv_script.specs.declared.op.Op.TheVariants as op
-use Rattle.uv_records.specs.declared.handle.HandleRecord.{HandleRecord}
-use Rattle.uv_records.specs.declared.named.Named.{Named}
 use Rattle.uv_records.specs.declared.lists.WatcherKind.TheVariants as watcher
-use Rattle.uv_records.specs.Walks.{Walk}
-use Rattle.uv_model.specs.Ids.{without_id}
-use Rattle.uv_model.specs.State.{State, handle, live_handle}
-use Rattle.uv_records.specs.Names.{unbound}
-use Rattle.uv_model.specs.Timers.{stopped, started}
 use Rattle.uv_model.specs.Ops as ops
-use Rattle.uv_model.specs.Ops.{do_op}
-use Rattle.uv_order.specs.Active.{has_id}
-use Rattle.uv_order.specs.Documented.{Names, lasting, after_op, taken_off, ids_of, off_by}
 use Rattle.uv_order.proofs.IdLists.{left_of, none_off, one_off, without_absent, has_back}
 use Rattle.uv_order.proofs.Holding.{Everyone, not_listed}
 use Rattle.uv_order.proofs.Keeping.{Kept, Watches, members}

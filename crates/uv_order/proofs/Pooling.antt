@@ -1,42 +1,15 @@
 -- Each line is the event of the thread pool that it says, by the rules of the pool.
-use Rattle.std.proofs.Common.{arith, ◌≡◌, ℕ, ◌||◌, List, [], ◌∷◌, ◌++◌, map, Bool, true, false, Option, Some, None, Ok, drop, slice_set, option_map, refl, ap, sym, subst, ◌∙◌, append_assoc, append-nil}
-use Rattle.std.proofs.lemmas.List.{map-append}
-use Rattle.std.proofs.Math.Bool.{or_comm, or-true}
-use Rattle.std.specs.List.{list_any}
-use Rattle.std.proofs.lemmas.Bool.{both_ways, or_right, false_from_ne_true}
-use Rattle.std.proofs.lemmas.Option.{same_Some, none-some}
-use Rattle.uv_ids.specs.declared.id.Id.{Id}
-use Rattle.uv_ids.specs.declared.id.Var.{Var}
-use Rattle.uv_ids.specs.declared.code.Code.{Code}
-use Rattle.uv_ids.specs.declared.code.Answer.{Answer}
+use Rattle.uv_order.proofs.Names.{arith, ◌≡◌, ℕ, ◌||◌, List, [], ◌∷◌, ◌++◌, map, Bool, true, false, Option, Some, None, Ok, drop, slice_set, option_map, refl, ap, sym, subst, ◌∙◌, append_assoc, append-nil, map-append, or_comm, or-true, list_any, both_ways, or_right, false_from_ne_true, same_Some, none-some, Id, Var, Code, Answer, Site, Slot, all_yet, held, freed, next_free, Op, Task, Program, arena_size, op_at, text_of, Pool, runs, is_done, has, without, collected_from, after_event, after_events, is_open, queued, Finished, Cancelled, Content, Request, request_in, same_id, without_id, State, request, live, live_request, refreshed, do_op, Next, Moves, Refuses, first_due, goes, is_default, may_leave, next_work, work_of, has_id, AreDistinct, run_ids, op_events, answered_events, outside_events, line_events, was_finished, done_as, pool_of}
 use Rattle.uv_ids.specs.declared.code.Answer.TheVariants as answer
 use Rattle.uv_ids.specs.declared.seen.Seen.TheVariants as seen
-use Rattle.uv_ids.specs.declared.seen.Site.{Site}
-use Rattle.uv_records.specs.declared.slot.Slot.{Slot}
-use Rattle.uv_records.specs.Walks.{all_yet}
-use Rattle.uv_records.specs.Slots.{held, freed, next_free}
-use Rattle.uv_script.specs.declared.op.Op.{Op}
 use Rattle.uv_script.specs.declared.op.Op.TheVariants as op
-use Rattle.uv_work.specs.declared.task.Task.{Task}
-use Rattle.uv_script.specs.Program.{Program, arena_size, op_at}
-use Rattle.uv_work.specs.Tasks.{text_of}
 use Rattle.uv_work.specs.Digests.{digest_of}
-use Rattle.uv_work.specs.Pool.{Pool, Done as Ended, waits, runs, is_done, has, without, collected_from, after_event, after_events}
-use Rattle.uv_work.specs.Requests.{is_open, queued}
+use Rattle.uv_work.specs.Pool.{Done as Ended, waits}
 use Rattle.uv_work.specs.declared.event.PoolEvent.TheVariants as event
-use Rattle.uv_work.specs.declared.outcome.Outcome.TheVariants.{Finished, Cancelled}
-use Rattle.uv_work.specs.declared.content.Content.{Content}
 use Rattle.uv_work.specs.declared.content.Content.TheVariants as content
-use Rattle.uv_work.specs.declared.request.Request.{Request}
-use Rattle.uv_model.specs.Content.{request_in}
-use Rattle.uv_model.specs.Ids.{same_id, without_id}
-use Rattle.uv_model.specs.State.{State, request, live, live_request, refreshed}
 use Rattle.uv_model.specs.Ops as ops
-use Rattle.uv_model.specs.Ops.{do_op}
 use Rattle.uv_model.specs.Next as step
-use Rattle.uv_model.specs.Next.{Next, Moves, Refuses, next, first_due, goes, is_default, may_leave, next_work, work_of}
-use Rattle.uv_order.specs.Active.{has_id, AreDistinct, run_ids}
-use Rattle.uv_order.specs.PoolEvents.{op_events, answered_events, outside_events, line_events, was_finished, done_as, pool_of}
+use Rattle.uv_model.specs.Next.{next}
 use Rattle.uv_order.proofs.IdLists.{same, other, itself, turned, without_absent, distinct_front, has_new_middle}
 use Rattle.uv_order.proofs.Contents.{Turns}
 use Rattle.uv_order.proofs.OpCases.{cancel_both, make_both}

@@ -1,27 +1,11 @@
 -- The steps that change no request: those of handles, of the loop's sections but for the requests that are done, and of the clock.
-use Rattle.std.proofs.Common.{◌≡◌, ◌==◌, List, Option, Some, None, drop, refl, ◌∙◌}
-use Rattle.std.proofs.lemmas.Bool.{cond_both}
-use Rattle.uv_ids.specs.declared.id.Id.{Id}
-use Rattle.uv_ids.specs.declared.id.Var.{Var}
-use Rattle.uv_ids.specs.declared.phase.Kind.{Kind}
+use Rattle.uv_order.proofs.Names.{◌≡◌, ◌==◌, List, Option, Some, None, drop, refl, ◌∙◌, cond_both, Id, Var, Kind, HandleRecord, Slot, Walk, inited, activated, referenced_as, repeating, begun_at, taken, next_free, Op, Program, arena_size, Content, State, handle, stopped, restarted, do_op, Next, Moves, Refuses}
 use Rattle.uv_ids.specs.declared.phase.Kind.TheVariants as kind
-use Rattle.uv_records.specs.declared.handle.HandleRecord.{HandleRecord}
 use Rattle.uv_records.specs.declared.lists.WatcherKind.TheVariants as watcher
-use Rattle.uv_records.specs.declared.slot.Slot.{Slot}
-use Rattle.uv_records.specs.Walks.{Walk}
 use Rattle.uv_records.specs.Handles as records
-use Rattle.uv_records.specs.Handles.{inited, activated, referenced_as, repeating, begun_at}
-use Rattle.uv_records.specs.Slots.{taken, next_free}
-use Rattle.uv_script.specs.declared.op.Op.{Op}
 use Rattle.uv_script.specs.declared.op.Op.TheVariants as op
-use Rattle.uv_script.specs.Program.{Program, arena_size}
-use Rattle.uv_work.specs.declared.content.Content.{Content}
 use Rattle.uv_work.specs.declared.content.Content.TheVariants as content
-use Rattle.uv_model.specs.State.{State, handle}
-use Rattle.uv_model.specs.Timers.{stopped, restarted}
 use Rattle.uv_model.specs.Ops as ops
-use Rattle.uv_model.specs.Ops.{do_op}
-use Rattle.uv_model.specs.Next.{Next, Moves, Refuses}
 use Rattle.uv_order.proofs.Contents.{Turns}
 use Rattle.uv_order.proofs.Holding.{put, put_same, is_held}
 use Rattle.uv_order.proofs.Asked.{freed_turns}

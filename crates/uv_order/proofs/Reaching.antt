@@ -1,12 +1,7 @@
 -- Each state that steps lead to is a reached one.
-use Rattle.std.proofs.Common.{List}
-use Rattle.uv_ids.specs.declared.id.Id.{Id}
-use Rattle.uv_ids.specs.declared.event.Event.{Event}
+use Rattle.uv_order.proofs.Names.{List, Id, Event, Program, State, IsReached, IsSetAside, AreSetAside}
 use Rattle.uv_ids.specs.declared.phase.Kind.TheVariants as kind
-use Rattle.uv_script.specs.Program.{Program}
-use Rattle.uv_model.specs.State.{State}
 use Rattle.uv_model.specs.After.{after}
-use Rattle.uv_order.specs.Reached.{IsReached, IsSetAside, AreSetAside}
 use Rattle.uv_order.proofs.IdLists.{member}
 use Rattle.uv_order.proofs.Holding.{Fits, Lists}
 use Rattle.uv_order.proofs.Keeping.{Rests, members}

@@ -1,19 +1,8 @@
 -- What once refuses.
-use Rattle.std.proofs.Common.{◌≡◌, ◌||◌, List, [], ◌∷◌, ◌++◌, Bool, true, false, Option, Some, None, option_map, refl, ap, sym, subst, ◌∙◌}
-use Rattle.std.proofs.lemmas.Bool.{both_ways, or_parts, or_from}
-use Rattle.std.proofs.lemmas.Option.{none-some}
-use Rattle.uv_ids.specs.declared.id.Id.{Id}
-use Rattle.uv_ids.specs.declared.id.Var.{Var}
-use Rattle.uv_ids.specs.declared.code.Answer.{Answer}
-use Rattle.uv_ids.specs.declared.code.Code.TheVariants.{Ok as Success}
+use Rattle.uv_order.proofs.Names.{◌≡◌, ◌||◌, List, [], ◌∷◌, ◌++◌, Bool, true, false, Option, Some, None, option_map, refl, ap, sym, subst, ◌∙◌, both_ways, or_parts, or_from, none-some, Id, Var, Answer, Success, Seen, Op, Program, op_at, makes, made_as, activity, cancels, cancelled_by, is_cancel_line, has_cancel_line, CancelSays, is_take_line, has_take_line, is_after_line, has_after_line, OpSays, MayFollow, OnceFrom, turned, RefusedOnce}
 use Rattle.uv_ids.specs.declared.code.Answer.TheVariants as answer
-use Rattle.uv_ids.specs.declared.seen.Seen.{Seen}
 use Rattle.uv_ids.specs.declared.seen.Seen.TheVariants as seen
-use Rattle.uv_script.specs.declared.op.Op.{Op}
 use Rattle.uv_script.specs.declared.op.Op.TheVariants as op
-use Rattle.uv_script.specs.Program.{Program, op_at}
-use Rattle.uv_order.specs.Once.{makes, made_as, activity, cancels, cancelled_by, is_cancel_line, has_cancel_line, CancelSays, is_take_line, has_take_line, is_after_line, has_after_line, OpSays, MayFollow, OnceFrom}
-use Rattle.uv_order.specs.Refused.{turned, RefusedOnce}
 use Rattle.uv_order.proofs.IdLists.{same}
 
 -- a line may follow those before it

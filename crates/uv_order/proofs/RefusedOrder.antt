@@ -1,42 +1,14 @@
 -- What the documented order refuses.
-use Rattle.std.proofs.Common.{arith, ◌≡◌, ℕ, ◌&&◌, ◌||◌, List, [], ◌∷◌, ◌++◌, Bool, true, false, Option, Some, None, refl, ap, sym, subst, ◌∙◌, if◌then◌else◌}
-use Rattle.std.specs.Prelude.{not, option_map}
-use Rattle.std.proofs.lemmas.Bool.{both_ways}
-use Rattle.std.proofs.lemmas.Option.{same_Some}
-use Rattle.uv_ids.specs.declared.id.Id.{Id}
-use Rattle.uv_ids.specs.declared.id.Var.{Var}
-use Rattle.uv_ids.specs.declared.due.Due.{Due}
+use Rattle.uv_order.proofs.Names.{arith, ◌≡◌, ℕ, ◌&&◌, ◌||◌, List, [], ◌∷◌, ◌++◌, Bool, true, false, Option, Some, None, refl, ap, sym, subst, ◌∙◌, if◌then◌else◌, not, both_ways, same_Some, Id, Var, Due, Success, Answer, Order, V145, Kind, Mode, Default, Once, Nowait, Phase, Callback, Seen, Site, Op, Program, op_at, order_of, Request, digest_in, has_some, without_id, same_id, State, request, has_pending, deadline_of, has_passed, Line, has_id, closes_some, has_request, has_handle, lives, waits, may_wait, until_due, bound, made_as, Names, names_by, ids_of, taken_off, Told, nothing_told, told_by, Lasting, lasting, Section, In, word_of, is_called, IsCallLine, MayCall, Standing, Within, Polling, MayLeave, Position, Between, Running, Goes, GoesOn, line, Documented, at_first, past_after, told_after, callback_of, is_within, AllWithin, is_send_op, is_send, AllSilent, RefusedOrder}
+use Rattle.std.specs.Prelude.{option_map}
 use Rattle.uv_ids.specs.declared.code.Code.TheVariants as code
-use Rattle.uv_ids.specs.declared.code.Code.TheVariants.{Ok as Success}
-use Rattle.uv_ids.specs.declared.code.Answer.{Answer}
 use Rattle.uv_ids.specs.declared.code.Answer.TheVariants as answer
-use Rattle.uv_ids.specs.declared.order.Order.{Order}
-use Rattle.uv_ids.specs.declared.order.Order.TheVariants.{V145}
-use Rattle.uv_ids.specs.declared.phase.Kind.{Kind}
-use Rattle.uv_ids.specs.declared.phase.Mode.{Mode}
-use Rattle.uv_ids.specs.declared.phase.Mode.TheVariants.{Default, Once, Nowait}
-use Rattle.uv_ids.specs.declared.phase.Phase.{Phase}
 use Rattle.uv_ids.specs.declared.phase.Phase.TheVariants as phase
-use Rattle.uv_ids.specs.declared.seen.Callback.{Callback}
 use Rattle.uv_ids.specs.declared.seen.Callback.TheVariants as callback
-use Rattle.uv_ids.specs.declared.seen.Seen.{Seen}
 use Rattle.uv_ids.specs.declared.seen.Seen.TheVariants as seen
-use Rattle.uv_ids.specs.declared.seen.Site.{Site}
-use Rattle.uv_script.specs.declared.op.Op.{Op}
 use Rattle.uv_script.specs.declared.op.Op.TheVariants as op
-use Rattle.uv_script.specs.Program.{Program, op_at, order_of}
-use Rattle.uv_work.specs.declared.request.Request.{Request}
-use Rattle.uv_work.specs.Requests.{digest_in}
-use Rattle.uv_model.specs.Ids.{has_some, without_id, same_id}
-use Rattle.uv_model.specs.State.{State, request}
-use Rattle.uv_model.specs.Timeout.{has_pending, deadline_of, has_passed}
-use Rattle.uv_order.specs.Line.{Line}
-use Rattle.uv_order.specs.Active.{has_id}
-use Rattle.uv_order.specs.Alive.{closes_some, has_request, has_handle, lives, waits, may_wait, until_due}
-use Rattle.uv_order.specs.Once.{bound, made_as}
 use Rattle.uv_order.specs.Documented as doc
-use Rattle.uv_order.specs.Documented.{Names, names_by, ids_of, taken_off, Told, nothing_told, told_by, Lasting, lasting, Section, In, word_of, Walk, is_called, IsCallLine, MayCall, Standing, Within, Polling, MayLeave, Position, Between, Running, Goes, GoesOn, line, Documented, at_first}
-use Rattle.uv_order.specs.Refused.{past_after, told_after, callback_of, is_within, AllWithin, is_send_op, is_send, AllSilent, RefusedOrder}
+use Rattle.uv_order.specs.Documented.{Walk}
 use Rattle.uv_order.proofs.IdLists.{itself, without_itself, still_absent}
 
 -- ---- where the lines stand
@@ -214,42 +186,10 @@ is_iteration (doc.Of (In phase.Pending)) = true
 is_iteration part = false
 
 no_iteration : (m : Mode) (part : doc.Part) → is_iteration (doc.part_after V145 m false part) ≡ false
-no_iteration Default doc.Start = refl
-no_iteration Default (doc.Of doc.Entry) = refl
 no_iteration Default (doc.Of (In phase.Pending)) = refl
-no_iteration Default (doc.Of (In phase.Idle)) = refl
-no_iteration Default (doc.Of (In phase.Prepare)) = refl
-no_iteration Default (doc.Of (In phase.Done)) = refl
-no_iteration Default (doc.Of (In phase.Async)) = refl
-no_iteration Default (doc.Of (In phase.Check)) = refl
-no_iteration Default (doc.Of (In phase.Closing)) = refl
-no_iteration Default (doc.Of (In phase.Timers)) = refl
-no_iteration Default doc.Poll = refl
-no_iteration Default doc.End = refl
-no_iteration Once doc.Start = refl
-no_iteration Once (doc.Of doc.Entry) = refl
 no_iteration Once (doc.Of (In phase.Pending)) = refl
-no_iteration Once (doc.Of (In phase.Idle)) = refl
-no_iteration Once (doc.Of (In phase.Prepare)) = refl
-no_iteration Once (doc.Of (In phase.Done)) = refl
-no_iteration Once (doc.Of (In phase.Async)) = refl
-no_iteration Once (doc.Of (In phase.Check)) = refl
-no_iteration Once (doc.Of (In phase.Closing)) = refl
-no_iteration Once (doc.Of (In phase.Timers)) = refl
-no_iteration Once doc.Poll = refl
-no_iteration Once doc.End = refl
-no_iteration Nowait doc.Start = refl
-no_iteration Nowait (doc.Of doc.Entry) = refl
 no_iteration Nowait (doc.Of (In phase.Pending)) = refl
-no_iteration Nowait (doc.Of (In phase.Idle)) = refl
-no_iteration Nowait (doc.Of (In phase.Prepare)) = refl
-no_iteration Nowait (doc.Of (In phase.Done)) = refl
-no_iteration Nowait (doc.Of (In phase.Async)) = refl
-no_iteration Nowait (doc.Of (In phase.Check)) = refl
-no_iteration Nowait (doc.Of (In phase.Closing)) = refl
-no_iteration Nowait (doc.Of (In phase.Timers)) = refl
-no_iteration Nowait doc.Poll = refl
-no_iteration Nowait doc.End = refl
+no_iteration m part = refl
 
 pub of_pending : (part : Section) → word_of part ≡ phase.Pending → is_iteration (doc.Of part) ≡ true
 of_pending doc.Entry e = cc e

@@ -1,24 +1,10 @@
 -- What the documented order refuses of where the timers stand in a run, in each of the two orders.
-use Rattle.std.proofs.Common.{◌≡◌, ℕ, ◌&&◌, List, [], ◌∷◌, ◌++◌, Bool, true, false, refl, ap, sym, subst, ◌∙◌}
-use Rattle.std.specs.Prelude.{not}
-use Rattle.std.proofs.lemmas.Bool.{both_ways}
-use Rattle.uv_ids.specs.declared.order.Order.{Order}
-use Rattle.uv_ids.specs.declared.order.Order.TheVariants.{V144, V145}
-use Rattle.uv_ids.specs.declared.phase.Mode.{Mode}
-use Rattle.uv_ids.specs.declared.phase.Mode.TheVariants.{Default, Once, Nowait}
-use Rattle.uv_ids.specs.declared.phase.Phase.{Phase}
+use Rattle.uv_order.proofs.Names.{◌≡◌, ℕ, ◌&&◌, List, [], ◌∷◌, ◌++◌, Bool, true, false, refl, ap, sym, subst, ◌∙◌, not, both_ways, Order, V144, V145, Mode, Default, Once, Nowait, Phase, Seen, Op, Program, order_of, State, Line, lives, Names, names_by, Told, nothing_told, told_by, Lasting, lasting, Section, Entry, In, word_of, Standing, Begun, Within, Position, Between, Running, Goes, GoesOn, line, Documented, at_first, past_after, told_after, is_within, AllWithin, is_inside, AllInside, RefusedTimers}
 use Rattle.uv_ids.specs.declared.phase.Phase.TheVariants as phase
-use Rattle.uv_ids.specs.declared.seen.Seen.{Seen}
 use Rattle.uv_ids.specs.declared.seen.Seen.TheVariants as seen
-use Rattle.uv_script.specs.declared.op.Op.{Op}
 use Rattle.uv_script.specs.declared.op.Op.TheVariants as op
-use Rattle.uv_script.specs.Program.{Program, order_of}
-use Rattle.uv_model.specs.State.{State}
-use Rattle.uv_order.specs.Line.{Line}
-use Rattle.uv_order.specs.Alive.{lives}
 use Rattle.uv_order.specs.Documented as doc
-use Rattle.uv_order.specs.Documented.{Names, names_by, Told, nothing_told, told_by, Lasting, lasting, Section, Entry, In, word_of, Walk, Standing, Begun, Within, Position, Between, Running, Goes, GoesOn, line, Documented, at_first}
-use Rattle.uv_order.specs.Refused.{past_after, told_after, is_within, AllWithin, is_inside, AllInside, RefusedTimers}
+use Rattle.uv_order.specs.Documented.{Walk}
 use Rattle.uv_order.proofs.RefusedOrder.{behind, begins_on, steps, not_call, not_within, is_iteration, of_pending}
 
 -- ---- the line of a run

@@ -1,38 +1,11 @@
 -- Where a state stands in the documented order, and the lists of the sections there.
-use Rattle.std.proofs.Common.{arith, ◌≡◌, ℕ, List, [], ◌++◌, Bool, true, false, Option, Some, None, refl, ap, sym, subst, ◌∙◌, append-nil}
-use Rattle.uv_ids.specs.declared.order.Order.{Order}
-use Rattle.uv_ids.specs.declared.order.Order.TheVariants.{V144, V145}
-use Rattle.uv_ids.specs.declared.id.Id.{Id}
-use Rattle.uv_ids.specs.declared.due.Due.{Due}
-use Rattle.uv_ids.specs.declared.phase.Kind.{Kind}
-use Rattle.uv_ids.specs.declared.phase.Mode.{Mode}
-use Rattle.uv_ids.specs.declared.phase.Mode.TheVariants.{Default, Once, Nowait}
-use Rattle.uv_ids.specs.declared.phase.Phase.{Phase}
+use Rattle.uv_order.proofs.Names.{arith, ◌≡◌, ℕ, List, [], ◌++◌, Bool, true, false, Option, Some, None, refl, ap, sym, subst, ◌∙◌, append-nil, Order, V144, V145, Id, Due, Kind, Mode, Default, Once, Nowait, Phase, Seen, Program, Body, Run, Stage, TimersOf, Turn, AtEntry, Behind, BehindClosing, Way, ToTimers, ToPending, ToEnd, Collecting, Firing, Place, Listed, Slot, Content, State, Next, Moves, Refuses, way, time_at, idled_at, idled_then, Line, has_id, IsTimer, AreTimers, AreDistinct, AreActive, AreClosing, IsEnded, AreEnded, IsOpened, AreOpened, run_ids, Told, nothing_told, told_of, told_by, AllOffOrUnsent, Lasting, lasting, at_first, Section, Entry, In, word_of, part_after, part_of, Opens, IsOver, CallsNext, MayCall, is_called, callback_in, IsCallLine, Standing, Begun, Within, Polling, MayLeave, PollsFor, Position, Between, Running, Goes, GoesOn, cut, line, Documented, body_of, next_call, taken_off}
 use Rattle.uv_ids.specs.declared.phase.Phase.TheVariants as phase
-use Rattle.uv_ids.specs.declared.seen.Seen.{Seen}
-use Rattle.uv_script.specs.Program.{Program}
-use Rattle.uv_model.specs.declared.place.Body.{Body}
-use Rattle.uv_model.specs.declared.place.Run.{Run}
-use Rattle.uv_model.specs.declared.place.Stage.{Stage}
 use Rattle.uv_model.specs.declared.place.Stage.TheVariants as stage
-use Rattle.uv_model.specs.declared.place.TimersOf.{TimersOf}
 use Rattle.uv_model.specs.declared.place.TimersOf.TheVariants as timers_of
-use Rattle.uv_model.specs.declared.place.Turn.{Turn}
-use Rattle.uv_model.specs.declared.place.Turn.TheVariants.{AtEntry, Behind, BehindClosing}
-use Rattle.uv_model.specs.declared.place.Way.{Way}
-use Rattle.uv_model.specs.declared.place.Way.TheVariants.{ToTimers, ToPending, ToEnd}
-use Rattle.uv_model.specs.declared.place.Timing.TheVariants.{Collecting, Firing}
-use Rattle.uv_model.specs.declared.place.Place.{Place}
 use Rattle.uv_model.specs.declared.place.Place.TheVariants as place
-use Rattle.uv_records.specs.Walks.{Walk as Listed}
-use Rattle.uv_records.specs.declared.slot.Slot.{Slot}
-use Rattle.uv_work.specs.declared.content.Content.{Content}
-use Rattle.uv_model.specs.State.{State}
-use Rattle.uv_model.specs.Next.{Next, Moves, Refuses, way, time_at, idled_at, idled_then}
-use Rattle.uv_order.specs.Line.{Line}
-use Rattle.uv_order.specs.Active.{has_id, IsTimer, AreTimers, AreDistinct, AreActive, AreClosing, IsEnded, AreEnded, IsOpened, AreOpened, run_ids}
 use Rattle.uv_order.specs.Documented as doc
-use Rattle.uv_order.specs.Documented.{Told, nothing_told, told_of, told_by, AllOffOrUnsent, Lasting, lasting, at_first, Section, Entry, In, word_of, part_after, part_of, Walk, Opens, IsOver, CallsNext, MayCall, is_called, callback_in, IsCallLine, Standing, Begun, Within, Polling, MayLeave, PollsFor, Position, Between, Running, Goes, GoesOn, cut, line, Documented, body_of, next_call, taken_off}
+use Rattle.uv_order.specs.Documented.{Walk}
 use Rattle.uv_order.proofs.OpCases.{names_at}
 use Rattle.uv_order.proofs.IdLists.{left_of, member}
 use Rattle.uv_order.proofs.TimerKeys.{due_ids, distinct_due}
@@ -206,54 +179,19 @@ reached_by ToEnd = doc.End
 
 -- the table of the step is that of the documented order
 pub ways_agree : (o : Order) (m : Mode) (go : Bool) (turn : Turn) → part_after o m go (left turn) ≡ reached_by (way o m go turn)
-ways_agree V144 Default true AtEntry = refl
 ways_agree V144 Default true (Behind timers_of.Entry) = refl
-ways_agree V144 Default true (Behind timers_of.Iteration) = refl
-ways_agree V144 Default true BehindClosing = refl
-ways_agree V144 Default false AtEntry = refl
 ways_agree V144 Default false (Behind timers_of.Entry) = refl
-ways_agree V144 Default false (Behind timers_of.Iteration) = refl
-ways_agree V144 Default false BehindClosing = refl
-ways_agree V144 Once true AtEntry = refl
 ways_agree V144 Once true (Behind timers_of.Entry) = refl
-ways_agree V144 Once true (Behind timers_of.Iteration) = refl
-ways_agree V144 Once true BehindClosing = refl
-ways_agree V144 Once false AtEntry = refl
 ways_agree V144 Once false (Behind timers_of.Entry) = refl
-ways_agree V144 Once false (Behind timers_of.Iteration) = refl
-ways_agree V144 Once false BehindClosing = refl
-ways_agree V144 Nowait true AtEntry = refl
 ways_agree V144 Nowait true (Behind timers_of.Entry) = refl
-ways_agree V144 Nowait true (Behind timers_of.Iteration) = refl
-ways_agree V144 Nowait true BehindClosing = refl
-ways_agree V144 Nowait false AtEntry = refl
 ways_agree V144 Nowait false (Behind timers_of.Entry) = refl
-ways_agree V144 Nowait false (Behind timers_of.Iteration) = refl
-ways_agree V144 Nowait false BehindClosing = refl
-ways_agree V145 Default true AtEntry = refl
 ways_agree V145 Default true (Behind timers_of.Entry) = refl
-ways_agree V145 Default true (Behind timers_of.Iteration) = refl
-ways_agree V145 Default true BehindClosing = refl
-ways_agree V145 Default false AtEntry = refl
 ways_agree V145 Default false (Behind timers_of.Entry) = refl
-ways_agree V145 Default false (Behind timers_of.Iteration) = refl
-ways_agree V145 Default false BehindClosing = refl
-ways_agree V145 Once true AtEntry = refl
 ways_agree V145 Once true (Behind timers_of.Entry) = refl
-ways_agree V145 Once true (Behind timers_of.Iteration) = refl
-ways_agree V145 Once true BehindClosing = refl
-ways_agree V145 Once false AtEntry = refl
 ways_agree V145 Once false (Behind timers_of.Entry) = refl
-ways_agree V145 Once false (Behind timers_of.Iteration) = refl
-ways_agree V145 Once false BehindClosing = refl
-ways_agree V145 Nowait true AtEntry = refl
 ways_agree V145 Nowait true (Behind timers_of.Entry) = refl
-ways_agree V145 Nowait true (Behind timers_of.Iteration) = refl
-ways_agree V145 Nowait true BehindClosing = refl
-ways_agree V145 Nowait false AtEntry = refl
 ways_agree V145 Nowait false (Behind timers_of.Entry) = refl
-ways_agree V145 Nowait false (Behind timers_of.Iteration) = refl
-ways_agree V145 Nowait false BehindClosing = refl
+ways_agree o m go turn = refl
 
 -- so is what the lines of the sections set
 pub timers_last : (o : Order) (part : TimersOf) (s : State) →

@@ -1,42 +1,14 @@
 -- Who was started, as the lines tell it and as the handles say it, and which ids were made: each step keeps that they agree.
-use Rattle.std.proofs.Common.{arith, ◌≡◌, ◌⊎◌, inl, inr, ℕ, ◌==◌, ◌||◌, ◌&&◌, List, [], ◌∷◌, ◌++◌, Bool, true, false, drop, if◌then◌else◌, Option, Some, None, Ok, refl, ap, sym, subst, ◌∙◌}
-use Rattle.std.proofs.lemmas.Bool.{cond_both, or_right}
-use Rattle.std.proofs.lemmas.Option.{same_Some, none-some}
-use Rattle.uv_ids.specs.declared.id.Id.{Id}
-use Rattle.uv_ids.specs.declared.id.Var.{Var}
-use Rattle.uv_ids.specs.declared.code.Code.{Code}
+use Rattle.uv_order.proofs.Names.{arith, ◌≡◌, ◌⊎◌, inl, inr, ℕ, ◌==◌, ◌||◌, ◌&&◌, List, [], ◌∷◌, ◌++◌, Bool, true, false, drop, if◌then◌else◌, Option, Some, None, Ok, refl, ap, sym, subst, ◌∙◌, cond_both, or_right, same_Some, none-some, Id, Var, Code, Answer, Kind, Seen, Site, Op, Program, op_at, arena_size, Task, Request, queued, Content, HandleRecord, WatcherKind, Slot, inited, is_timer, is_async, referenced_as, repeating, Slots, held, freed, taken, next_free, handle_in, same_id, without_id, State, fresh, handle, live_handle, live_request, with_request, watched, stopped, started, restarted, do_op, Next, Moves, Refuses, has_id, Activity, Answered, activity, activity_answered, activity_done, activity_by, activity_called, new_activity, is_some_id, bound, makes, made_by, made_as, first_of}
 use Rattle.uv_ids.specs.declared.code.Code.TheVariants as code
-use Rattle.uv_ids.specs.declared.code.Answer.{Answer}
 use Rattle.uv_ids.specs.declared.code.Answer.TheVariants as answer
-use Rattle.uv_ids.specs.declared.phase.Kind.{Kind}
 use Rattle.uv_ids.specs.declared.phase.Kind.TheVariants as kind
-use Rattle.uv_ids.specs.declared.seen.Seen.{Seen}
 use Rattle.uv_ids.specs.declared.seen.Seen.TheVariants as seen
-use Rattle.uv_ids.specs.declared.seen.Site.{Site}
-use Rattle.uv_script.specs.declared.op.Op.{Op}
 use Rattle.uv_script.specs.declared.op.Op.TheVariants as op
-use Rattle.uv_script.specs.Program.{Program, op_at, arena_size}
-use Rattle.uv_work.specs.declared.task.Task.{Task}
-use Rattle.uv_work.specs.declared.request.Request.{Request}
-use Rattle.uv_work.specs.Requests.{queued}
-use Rattle.uv_work.specs.declared.content.Content.{Content}
 use Rattle.uv_work.specs.declared.content.Content.TheVariants as content
-use Rattle.uv_records.specs.declared.handle.HandleRecord.{HandleRecord}
-use Rattle.uv_records.specs.declared.lists.WatcherKind.{WatcherKind}
 use Rattle.uv_records.specs.declared.lists.WatcherKind.TheVariants as watcher
-use Rattle.uv_records.specs.declared.slot.Slot.{Slot}
 use Rattle.uv_records.specs.Handles as records
-use Rattle.uv_records.specs.Handles.{inited, is_timer, is_async, referenced_as, repeating}
-use Rattle.uv_records.specs.Slots.{Slots, held, freed, taken, next_free}
-use Rattle.uv_model.specs.Content.{handle_in}
-use Rattle.uv_model.specs.Ids.{same_id, without_id}
-use Rattle.uv_model.specs.State.{State, fresh, handle, live_handle, live_request, with_request, watched}
-use Rattle.uv_model.specs.Timers.{stopped, started, restarted}
 use Rattle.uv_model.specs.Ops as ops
-use Rattle.uv_model.specs.Ops.{do_op}
-use Rattle.uv_model.specs.Next.{Next, Moves, Refuses}
-use Rattle.uv_order.specs.Active.{has_id}
-use Rattle.uv_order.specs.Once.{Activity, Answered, activity, activity_answered, activity_done, activity_by, activity_called, new_activity, is_some_id, bound, makes, made_by, made_as, first_of}
 use Rattle.uv_order.proofs.IdLists.{Each, each_back, absent, same, other, itself, turned, has_without, has_new_middle, without_itself}
 use Rattle.uv_order.proofs.Contents.{Turns, IsHeld, held_turned}
 use Rattle.uv_order.proofs.Holding.{held_at, is_held, put, put_turns, put_same, SameHandles, same_handles, Fits, its_handle, Lists, IsSet, Times}

@@ -1,24 +1,10 @@
 -- What a worker may do by the pool's rules it may do as the next step.
-use Rattle.std.proofs.Common.{◌≡◌, ℕ, List, [], ◌∷◌, ◌++◌, Bool, true, false, cond, Option, Some, None, Ok, Err, slice_get, refl, ap, sym, ◌∙◌, append_assoc}
-use Rattle.uv_work.proofs.Replays.{events_both}
-use Rattle.uv_ids.specs.declared.id.Id.{Id}
-use Rattle.uv_ids.specs.declared.event.Event.{Event}
-use Rattle.uv_ids.specs.declared.event.Event.TheVariants.{Take, Finish}
-use Rattle.uv_ids.specs.declared.fault.Why.TheVariants.{NoWork, IdleWorker}
-use Rattle.uv_script.specs.Program.{Program, worker_count}
-use Rattle.uv_work.specs.Pool.{Pool, IsLegal, taken_by, finished_by, after_event, after_events, replay, empty_pool}
-use Rattle.uv_work.specs.declared.event.PoolEvent.{PoolEvent}
+use Rattle.uv_order.proofs.Names.{◌≡◌, ℕ, List, [], ◌∷◌, ◌++◌, Bool, true, false, cond, Option, Some, None, Ok, Err, slice_get, refl, ap, sym, ◌∙◌, append_assoc, events_both, Id, Event, Take, Finish, NoWork, IdleWorker, Program, worker_count, Pool, IsLegal, taken_by, finished_by, after_event, after_events, empty_pool, PoolEvent, Request, same_id, found_or, State, request, with_id, front_request, Next, Moves, Refuses, next_work, work_of, lines, has_id, run_ids, pool_events, pool_of, IsTakenAs}
+use Rattle.uv_work.specs.Pool.{replay}
 use Rattle.uv_work.specs.declared.event.PoolEvent.TheVariants as event
-use Rattle.uv_work.specs.declared.request.Request.{Request}
-use Rattle.uv_model.specs.Ids.{same_id}
-use Rattle.uv_model.specs.Found.{found_or}
-use Rattle.uv_model.specs.State.{State, request, with_id, front_request}
 use Rattle.uv_model.specs.Next as step
-use Rattle.uv_model.specs.Next.{Next, Moves, Refuses, next, next_work, work_of}
-use Rattle.uv_model.specs.After.{after, lines}
-use Rattle.uv_order.specs.Active.{has_id, run_ids}
-use Rattle.uv_order.specs.PoolEvents.{pool_events, pool_of}
-use Rattle.uv_order.specs.Taking.{IsTakenAs}
+use Rattle.uv_model.specs.Next.{next}
+use Rattle.uv_model.specs.After.{after}
 use Rattle.uv_order.proofs.IdLists.{same, itself, has_new_middle}
 use Rattle.uv_order.proofs.Works.{LetsGo, lets_go}
 use Rattle.uv_order.proofs.Working.{Working}

@@ -1,19 +1,6 @@
 -- The timers in their order: one is put in, one is taken out, and those that are due stand in front.
-use Rattle.std.proofs.Common.{◌≡◌, ◌⊎◌, inl, inr, ℕ, ◌<◌, ◌≤◌, List, [], ◌∷◌, Bool, true, false, cond, nat_le, refl, ap, sym, subst, ◌∙◌, arith}
-use Rattle.std.specs.Prelude.{filter, map}
-use Rattle.std.specs.Ordering.{ordering_then, nat_cmp, match_ordering, is_eq, ordering_reverse, MatchOrdering}
-use Rattle.std.specs.BTreeMap.{is_at}
-use Rattle.std.specs.declared.cmp.Ordering.{Ordering}
-use Rattle.std.specs.declared.cmp.Ordering.TheVariants.{Less, Equal, Greater}
-use Rattle.std.proofs.lemmas.Bool.Decides.{nat_tests}
-use Rattle.std.proofs.lemmas.Cmp.{ranked, tied_itself}
-use Rattle.uv_ids.specs.Due.{due_cmp}
-use Rattle.uv_ids.specs.declared.id.Id.{Id}
-use Rattle.uv_ids.specs.declared.due.Due.{Due}
-use Rattle.uv_model.specs.Ids.{same_id}
-use Rattle.uv_model.specs.Timers.{with_timer, without_timer}
-use Rattle.uv_order.specs.Active.{Has, Before, InOrder, has_id, AreDistinct}
-use Rattle.uv_model.proofs.Order.{due_cmp_total, another}
+use Rattle.uv_order.proofs.Names.{◌≡◌, ◌⊎◌, inl, inr, ℕ, ◌<◌, ◌≤◌, List, [], ◌∷◌, Bool, true, false, cond, nat_le, refl, ap, sym, subst, ◌∙◌, arith, filter, ordering_then, nat_cmp, match_ordering, is_eq, ordering_reverse, MatchOrdering, is_at, Ordering, Less, Equal, Greater, nat_tests, ranked, tied_itself, due_cmp, Id, Due, same_id, with_timer, without_timer, Has, Before, InOrder, has_id, AreDistinct, due_cmp_total, another}
+use Rattle.std.specs.Prelude.{map}
 use Rattle.uv_order.proofs.IdLists.{same}
 
 -- ---- one key and another

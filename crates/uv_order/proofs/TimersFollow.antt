@@ -1,38 +1,16 @@
 -- The timers of the entry and of an iteration, and callbacks: each step goes on from where the state stands.
-use Rattle.std.proofs.Common.{◌≡◌, inl, ℕ, ◌+◌, ◌==◌, List, [], ◌∷◌, ◌++◌, Bool, true, false, drop, Option, Some, None, nat_le, refl, ap, sym, ◌∙◌, append_assoc, append-nil, if◌then◌else◌}
+use Rattle.uv_order.proofs.Names.{◌≡◌, inl, ℕ, ◌+◌, ◌==◌, List, [], ◌∷◌, ◌++◌, Bool, true, false, drop, Option, Some, None, nat_le, refl, ap, sym, ◌∙◌, append_assoc, append-nil, if◌then◌else◌, cond_both, Id, Var, Due, Callback, Program, order_of, HandleRecord, Named, Run, TimersOf, Turn, Behind, Way, ToTimers, ToPending, ToEnd, Collecting, Firing, State, handle, with_id, front, named, with_named, counted, count_of, started, restarted, is_alive, Next, Moves, Refuses, goes, is_default, call, calls, first_due, collected, front_moved, may_leave, body_from, lives, has_id, Told, nothing_told, told_of, told_by, Lasting, lasting, at_first, Section, Entry, In, word_of, part_after, part_of, Opens, IsOver, CallsNext, MayCall, is_called, callback_in, IsCallLine, Standing, Begun, Within, Polling, MayLeave, PollsFor, Position, Between, Running, Goes, GoesOn, cut, line, Documented, body_of, next_call, taken_off, found_both}
 use Rattle.std.specs.Prelude.{option_map}
-use Rattle.std.proofs.lemmas.Bool.{cond_both}
-use Rattle.uv_ids.specs.declared.id.Id.{Id}
-use Rattle.uv_ids.specs.declared.id.Var.{Var}
-use Rattle.uv_ids.specs.declared.due.Due.{Due}
 use Rattle.uv_ids.specs.declared.phase.Phase.TheVariants as phase
 use Rattle.uv_ids.specs.declared.seen.Seen.TheVariants as seen
-use Rattle.uv_ids.specs.declared.seen.Callback.{Callback}
 use Rattle.uv_ids.specs.declared.seen.Callback.TheVariants as callback
-use Rattle.uv_script.specs.Program.{Program, order_of}
-use Rattle.uv_records.specs.declared.handle.HandleRecord.{HandleRecord}
-use Rattle.uv_records.specs.declared.named.Named.{Named}
 use Rattle.uv_model.specs.declared.place.Place.TheVariants as place
-use Rattle.uv_model.specs.declared.place.Run.{Run}
 use Rattle.uv_model.specs.declared.place.Stage.TheVariants as stage
-use Rattle.uv_model.specs.declared.place.TimersOf.{TimersOf}
 use Rattle.uv_model.specs.declared.place.TimersOf.TheVariants as timers_of
-use Rattle.uv_model.specs.declared.place.Turn.{Turn}
-use Rattle.uv_model.specs.declared.place.Turn.TheVariants.{Behind}
-use Rattle.uv_model.specs.declared.place.Way.{Way}
-use Rattle.uv_model.specs.declared.place.Way.TheVariants.{ToTimers, ToPending, ToEnd}
-use Rattle.uv_model.specs.declared.place.Timing.TheVariants.{Collecting, Firing}
-use Rattle.uv_model.specs.State.{State, handle, with_id, front, named, with_named}
-use Rattle.uv_records.specs.Names.{counted, count_of}
-use Rattle.uv_model.specs.Timers.{started, restarted}
-use Rattle.uv_model.specs.Timeout.{is_alive}
 use Rattle.uv_model.specs.Next as step
-use Rattle.uv_model.specs.Next.{Next, Moves, Refuses, next, goes, is_default, call, calls, first_due, collected, front_moved, may_leave, body_from}
-use Rattle.uv_order.specs.Alive.{lives}
-use Rattle.uv_order.specs.Active.{has_id}
+use Rattle.uv_model.specs.Next.{next}
 use Rattle.uv_order.specs.Documented as doc
-use Rattle.uv_order.specs.Documented.{Told, nothing_told, told_of, told_by, Lasting, lasting, at_first, Section, Entry, In, word_of, part_after, part_of, Walk, Opens, IsOver, CallsNext, MayCall, is_called, callback_in, IsCallLine, Standing, Begun, Within, Polling, MayLeave, PollsFor, Position, Between, Running, Goes, GoesOn, cut, line, Documented, body_of, next_call, taken_off}
-use Rattle.uv_model.proofs.Found.{found_both}
+use Rattle.uv_order.specs.Documented.{Walk}
 use Rattle.uv_order.proofs.IdLists.{left_of, none_off, all_off, first_left}
 use Rattle.uv_order.proofs.TimerKeys.{due_ids, none_due}
 use Rattle.uv_order.proofs.Holding.{is_held, name_in, name_at, Fits, IsSet, Times}

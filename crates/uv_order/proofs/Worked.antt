@@ -1,29 +1,9 @@
 -- What the lines of a trace tell of requests, and how each change keeps it.
-use Rattle.std.proofs.Common.{arith, ◌≡◌, ◌⊎◌, inl, inr, ℕ, ◌||◌, List, ◌∷◌, Bool, true, false, Option, Some, None, option_map, refl, ap, sym, subst, ◌∙◌, if◌then◌else◌}
-use Rattle.std.proofs.Math.Bool.{or-true}
-use Rattle.std.proofs.lemmas.Bool.{both_ways, or_right, or_cases, false_from_ne_true}
-use Rattle.std.proofs.lemmas.Option.{same_Some, none-some}
-use Rattle.uv_ids.specs.declared.id.Id.{Id}
-use Rattle.uv_ids.specs.declared.id.Var.{Var}
+use Rattle.uv_order.proofs.Names.{arith, ◌≡◌, ◌⊎◌, inl, inr, ℕ, ◌||◌, List, ◌∷◌, Bool, true, false, Option, Some, None, option_map, refl, ap, sym, subst, ◌∙◌, if◌then◌else◌, or-true, both_ways, or_right, or_cases, false_from_ne_true, same_Some, none-some, Id, Var, Seen, Site, Op, Task, Program, op_at, Slots, held, is_open, queued, digest_in, Outcome, Open, Finished, Cancelled, Content, Request, request_in, same_id, has_id, Answered, answered, queued_by, cancelled_by, first_of, queued_task, is_take_line, has_take_line, is_cancel_line, has_cancel_line, is_finish_line, has_finish_line, is_after_line, has_after_line, SaysTrue}
 use Rattle.uv_ids.specs.declared.code.Answer.TheVariants as answer
-use Rattle.uv_ids.specs.declared.seen.Seen.{Seen}
 use Rattle.uv_ids.specs.declared.seen.Seen.TheVariants as seen
-use Rattle.uv_ids.specs.declared.seen.Site.{Site}
-use Rattle.uv_script.specs.declared.op.Op.{Op}
 use Rattle.uv_script.specs.declared.op.Op.TheVariants as op
-use Rattle.uv_work.specs.declared.task.Task.{Task}
-use Rattle.uv_script.specs.Program.{Program, op_at}
-use Rattle.uv_records.specs.Slots.{Slots, held}
-use Rattle.uv_work.specs.Requests.{is_open, queued, digest_in}
-use Rattle.uv_work.specs.declared.outcome.Outcome.{Outcome}
-use Rattle.uv_work.specs.declared.outcome.Outcome.TheVariants.{Open, Finished, Cancelled}
-use Rattle.uv_work.specs.declared.content.Content.{Content}
 use Rattle.uv_work.specs.declared.content.Content.TheVariants as content
-use Rattle.uv_work.specs.declared.request.Request.{Request}
-use Rattle.uv_model.specs.Content.{request_in}
-use Rattle.uv_model.specs.Ids.{same_id}
-use Rattle.uv_order.specs.Active.{has_id}
-use Rattle.uv_order.specs.Once.{Answered, answered, queued_by, cancelled_by, first_of, queued_task, is_take_line, has_take_line, is_cancel_line, has_cancel_line, is_finish_line, has_finish_line, is_after_line, has_after_line, SaysTrue}
 use Rattle.uv_order.proofs.IdLists.{same, other, itself, turned}
 use Rattle.uv_order.proofs.Contents.{Turns}
 use Rattle.uv_order.proofs.Works.{asked_at, SameRequests}

@@ -1,26 +1,11 @@
 -- Each op and each step of the loop keeps that the requests agree with their lists.
-use Rattle.std.proofs.Common.{arith, drop, ◌≡◌, ℕ, List, [], ◌∷◌, ◌++◌, true, Option, Some, None, Ok, slice_set, refl, ap, sym, subst, ◌∙◌}
-use Rattle.std.specs.List.{list_any}
-use Rattle.uv_ids.specs.declared.id.Id.{Id}
-use Rattle.uv_ids.specs.declared.id.Var.{Var}
-use Rattle.uv_records.specs.Walks.{Walk}
-use Rattle.uv_records.specs.Slots.{held, freed, next_free}
-use Rattle.uv_script.specs.declared.op.Op.{Op}
+use Rattle.uv_order.proofs.Names.{arith, drop, ◌≡◌, ℕ, List, [], ◌∷◌, ◌++◌, true, Option, Some, None, Ok, slice_set, refl, ap, sym, subst, ◌∙◌, list_any, Id, Var, Walk, held, freed, next_free, Op, Task, Program, arena_size, text_of, Finished, Cancelled, Request, queued, same_id, State, fresh, live_request, with_id, front_request, do_op, Next, Moves, Refuses, loop_step, first_due, goes, is_default, may_leave, front_moved, next_work, work_of}
 use Rattle.uv_script.specs.declared.op.Op.TheVariants as op
-use Rattle.uv_work.specs.declared.task.Task.{Task}
-use Rattle.uv_script.specs.Program.{Program, arena_size}
-use Rattle.uv_work.specs.Tasks.{text_of}
 use Rattle.uv_work.specs.Digests.{digest_of}
-use Rattle.uv_work.specs.declared.outcome.Outcome.TheVariants.{Finished, Cancelled}
 use Rattle.uv_work.specs.declared.content.Content.TheVariants as content
-use Rattle.uv_work.specs.declared.request.Request.{Request}
-use Rattle.uv_work.specs.Requests.{queued}
-use Rattle.uv_model.specs.Ids.{same_id}
-use Rattle.uv_model.specs.State.{State, fresh, live_request, with_id, front_request}
 use Rattle.uv_model.specs.Ops as ops
-use Rattle.uv_model.specs.Ops.{do_op}
 use Rattle.uv_model.specs.Next as step
-use Rattle.uv_model.specs.Next.{Next, Moves, Refuses, next, loop_step, first_due, goes, is_default, may_leave, front_moved, next_work, work_of}
+use Rattle.uv_model.specs.Next.{next}
 use Rattle.uv_order.proofs.IdLists.{has_new_middle}
 use Rattle.uv_order.proofs.Asked.{FrontRequest, TakesFront, RunsWork, request_turns, freed_turns}
 use Rattle.uv_order.proofs.Works.{AllAsk, Works, works_same, works_queued, works_cancelled, works_taken, works_finished, works_collected, works_begun, none_run}

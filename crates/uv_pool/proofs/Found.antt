@@ -1,20 +1,5 @@
 -- What the place of a request says of the pool.
-use Rattle.std.proofs.Common.{◌+◌, ◌<◌, ◌≤◌, ◌⊎◌, length, ◌≡◌, ◌-◌, ◌||◌, ℕ, zero, suc, List, [], ◌∷◌, Bool, true, false, Option, Some, None, cond, map, set, slice_get, inl, inr, refl, ap, sym, ◌∙◌, arith}
-use Rattle.std.proofs.lemmas.Bool.{or_right}
-use Rattle.std.specs.List.{list_any}
-use Rattle.uv_ids.specs.declared.id.Id.{Id}
-use Rattle.uv_work.specs.Ids.{same_id}
-use Rattle.uv_work.specs.Pool.{Pool, Done, has, waits, runs, is_done, is_run}
-use Rattle.uv_work.specs.declared.job.Job.{Job}
-use Rattle.uv_work.proofs.Replays.{same_itself, same_when}
-use Rattle.uv_pool.specs.Contents.{id_run, jobs_without, member, result_in}
-use Rattle.std.specs.Option.{MatchOption}
-use Rattle.uv_pool.specs.Held.{IsKept, Finds, contents_of, rows_of, place_of}
-use Rattle.uv_pool.specs.declared.held.Held.{Held}
-use Rattle.uv_pool.specs.Jobs.{jobs_of}
-use Rattle.uv_pool.specs.Rows.{Rows, at_number, id_of_job, id_of_done, id_at, IsNowhere, IsIndexed}
-use Rattle.uv_pool.specs.declared.places.Collected.{Collected}
-use Rattle.uv_pool.specs.declared.places.Place.{Place}
+use Rattle.uv_pool.proofs.Names.{◌+◌, ◌<◌, ◌≤◌, ◌⊎◌, length, ◌≡◌, ◌-◌, ◌||◌, ℕ, zero, suc, List, [], ◌∷◌, Bool, true, false, Option, Some, None, cond, map, set, slice_get, inl, inr, refl, ap, sym, ◌∙◌, arith, or_right, list_any, Id, same_id, Pool, Done, has, waits, runs, is_done, is_run, Job, same_itself, same_when, id_run, jobs_without, member, result_in, MatchOption, IsKept, Finds, contents_of, rows_of, place_of, Held, jobs_of, Rows, at_number, id_of_job, id_of_done, id_at, IsNowhere, IsIndexed, Collected, Place}
 use Rattle.uv_pool.specs.declared.places.Place.TheVariants as place
 use Rattle.uv_pool.proofs.Numbers.{number_front, number_popped, number_rest, number_nothing, number_within, from_first}
 use Rattle.uv_pool.proofs.Standing.{same_place}

@@ -1,7 +1,5 @@
 -- The jobs that wait, after the places have changed.
-use Rattle.std.proofs.Common.{drop-drop, ℕ, ◌+◌, ◌<◌, drop, length, get_or, sym, ◌∙◌, arith, ◌≡◌, List, [], ◌∷◌, ◌++◌, Option, Some, None, refl, ap}
-use Rattle.uv_work.specs.declared.job.Job.{Job}
-use Rattle.uv_pool.specs.Jobs.{jobs_of}
+use Rattle.uv_pool.proofs.Names.{drop-drop, ℕ, ◌+◌, ◌<◌, drop, length, get_or, sym, ◌∙◌, arith, ◌≡◌, List, [], ◌∷◌, ◌++◌, Option, Some, None, refl, ap, Job, jobs_of}
 
 pub jobs_appended : (xs : List (Option Job)) (job : Job) → jobs_of (xs ++ Some job ∷ []) ≡ jobs_of xs ++ job ∷ []
 jobs_appended [] job = refl

@@ -1,20 +1,9 @@
 -- Each call keeps the book's rule: the pool is the replay of the log, and the ledger counts the finishes.
-use Rattle.std.proofs.Common.{◌≡◌, ℕ, ◌+◌, Option, Some, None, Result, Ok, Err, refl, ap, sym, subst, arith, is_ok, cond, length}
-use Rattle.std.proofs.lemmas.List.{length-set}
-use Rattle.uv_ids.specs.declared.id.Id.{Id}
-use Rattle.uv_ids.specs.declared.code.Code.{Code}
+use Rattle.uv_pool.proofs.Names.{◌≡◌, ℕ, ◌+◌, Option, Some, None, Result, Ok, Err, refl, ap, sym, subst, arith, is_ok, cond, length, length-set, Id, Code, Fault, Job, WorkResult, IsCounted, IsReplay, finish_count, Reserves, Submits, TakesNext, Finishes, Cancels, CollectsNext, Contents, queued, taken, finished, cancelled, collected, Hold, Collected}
 use Rattle.uv_ids.specs.declared.code.Code.TheVariants as code
-use Rattle.uv_ids.specs.declared.fault.Fault.{Fault}
 use Rattle.uv_ids.specs.declared.fault.Fault.TheVariants as fault
 use Rattle.uv_ids.specs.declared.fault.Why.TheVariants as why
-use Rattle.uv_work.specs.declared.job.Job.{Job}
 use Rattle.uv_work.specs.declared.event.PoolEvent.TheVariants as event
-use Rattle.uv_work.specs.declared.result.WorkResult.{WorkResult}
-use Rattle.uv_pool.specs.Book.{IsCounted, IsReplay, finish_count}
-use Rattle.uv_pool.specs.Calls.{Reserves, Submits, TakesNext, Finishes, Cancels, CollectsNext}
-use Rattle.uv_pool.specs.Contents.{Contents, queued, taken, finished, cancelled, collected}
-use Rattle.uv_pool.specs.Hold.{Hold}
-use Rattle.uv_pool.specs.declared.places.Collected.{Collected}
 use Rattle.uv_pool.proofs.Replays.{replays_queue, replays_take, replays_finish, replays_cancel, replays_collect, count_more}
 
 -- the rule holds after the call, and so many finishes are new

@@ -1,16 +1,6 @@
 -- What the book knows of its requests stays right.
-use Rattle.std.proofs.Common.{◌≡◌, ◌+◌, ◌≤◌, ℕ, List, [], ◌∷◌, ◌++◌, Option, Some, None, length, slice_get, set, cond, sym, subst, ◌∙◌, arith, length-append, suc, ap}
-use Rattle.uv_ids.specs.declared.id.Id.{Id}
-use Rattle.uv_work.specs.Ids.{same_id}
-use Rattle.uv_work.specs.declared.job.Job.{Job}
-use Rattle.uv_work.specs.declared.event.PoolEvent.{PoolEvent}
-use Rattle.uv_pool.specs.declared.held.Held.{Held}
-use Rattle.uv_pool.specs.declared.places.Collected.{Collected}
-use Rattle.uv_pool.specs.declared.places.Place.{Place}
+use Rattle.uv_pool.proofs.Names.{◌≡◌, ◌+◌, ◌≤◌, ℕ, List, [], ◌∷◌, ◌++◌, Option, Some, None, length, slice_get, set, cond, sym, subst, ◌∙◌, arith, length-append, suc, ap, Id, same_id, Job, PoolEvent, Held, Collected, Place, IsKept, rows_of, place_of, Leaves, Pops, Rows, IsIndexed, IsNowhere, id_at}
 use Rattle.uv_pool.specs.declared.places.Place.TheVariants as place
-use Rattle.uv_pool.specs.Held.{IsKept, rows_of, place_of}
-use Rattle.uv_pool.specs.Jobs.{Leaves, Pops}
-use Rattle.uv_pool.specs.Rows.{Rows, IsIndexed, IsNowhere, id_at}
 use Rattle.uv_pool.proofs.Standing.{still_indexed, Moved, moved, left, queue_moves, take_moves, finish_moves, cancel_moves, collect_leaves}
 
 -- the lists are the same, and the places that are known

@@ -1,8 +1,5 @@
 -- A job leaves the queue.
-use Rattle.std.proofs.Common.{inl, inr, ◌≡◌, ◌+◌, ◌-◌, ◌≤◌, ℕ, suc, List, ◌∷◌, Option, Some, None, length, drop, set, ap, sym, subst, arith}
-use Rattle.uv_work.specs.declared.job.Job.{Job}
-use Rattle.uv_pool.specs.Rows.{at_number}
-use Rattle.uv_pool.specs.Jobs.{jobs_of, Leaves, Pops}
+use Rattle.uv_pool.proofs.Names.{inl, inr, ◌≡◌, ◌+◌, ◌-◌, ◌≤◌, ℕ, suc, List, ◌∷◌, Option, Some, None, length, drop, set, ap, sym, subst, arith, Job, at_number, jobs_of, Leaves, Pops}
 use Rattle.uv_pool.proofs.Numbers.{number_popped, number_front, number_set, number_dropped}
 
 -- at the front, and then so many empty places

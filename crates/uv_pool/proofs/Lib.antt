@@ -1,10 +1,11 @@
-pub mod Numbers
-pub mod JobLists
-pub mod Leaving
-pub mod Standing
-pub mod Kept
 pub mod Found
-pub mod Results
-pub mod Replays
+pub mod JobLists
 pub mod Keeps
+pub mod Kept
+pub mod Leaving
+mod Names
+pub mod Numbers
+pub mod Replays
+pub mod Results
+pub mod Standing
 pub mod Turns

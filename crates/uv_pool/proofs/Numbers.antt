@@ -1,7 +1,5 @@
 -- What has a number, after the list has changed.
-use Rattle.std.proofs.Common.{get_or, ◌≡◌, ◌+◌, ◌-◌, ◌<◌, ◌≤◌, ◌⊎◌, ℕ, zero, suc, List, [], ◌∷◌, ◌++◌, Some, None, length, drop, slice_get, set, refl, ap, sym, ◌∙◌, inl, inr, arith}
-use Rattle.std.proofs.lemmas.Option.{slice_get_read, slice_get_past, slice_get_within}
-use Rattle.uv_pool.specs.Rows.{at_number}
+use Rattle.uv_pool.proofs.Names.{get_or, ◌≡◌, ◌+◌, ◌-◌, ◌<◌, ◌≤◌, ◌⊎◌, ℕ, zero, suc, List, [], ◌∷◌, ◌++◌, Some, None, length, drop, slice_get, set, refl, ap, sym, ◌∙◌, inl, inr, arith, slice_get_read, slice_get_past, slice_get_within, at_number}
 
 pub before : {X : Type 0} (first : ℕ) (xs : List X) (n : ℕ) → n < first → at_number first xs n ≡ None
 before zero xs n h = absurd (omega arith)

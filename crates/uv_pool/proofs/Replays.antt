@@ -1,19 +1,7 @@
 -- The pool stays the replay of the log.
-use Rattle.std.proofs.Common.{◌≡◌, ℕ, ◌+◌, List, ◌∷◌, [], ◌++◌, true, false, Option, Some, None, map, refl, ap, ◌∙◌, length, cond, slice_get, arith, replicate, zero, suc, Bool}
-use Rattle.std.proofs.lemmas.List.{map-append, map-set, length-set, length-replicate}
-use Rattle.std.proofs.lemmas.List.Sums.{sum_by-append}
-use Rattle.std.proofs.lemmas.Option.{slice_get-map}
-use Rattle.uv_ids.specs.declared.id.Id.{Id}
-use Rattle.uv_work.specs.Ids.{same_id}
-use Rattle.uv_work.specs.Pool.{has, waits, without, replay}
-use Rattle.uv_work.specs.declared.job.Job.{Job}
-use Rattle.uv_work.specs.declared.event.PoolEvent.{PoolEvent}
+use Rattle.uv_pool.proofs.Names.{◌≡◌, ℕ, ◌+◌, List, ◌∷◌, [], ◌++◌, true, false, Option, Some, None, map, refl, ap, ◌∙◌, length, cond, slice_get, arith, replicate, zero, suc, Bool, map-append, map-set, length-set, length-replicate, sum_by-append, slice_get-map, Id, same_id, has, waits, without, Job, PoolEvent, WorkResult, replay_more, same_itself, IsReplay, is_finish, finish_count, Contents, fresh, pool_of, id_run, member, jobs_without, queued, taken, finished, cancelled, collected, Collected}
+use Rattle.uv_work.specs.Pool.{replay}
 use Rattle.uv_work.specs.declared.event.PoolEvent.TheVariants as event
-use Rattle.uv_work.specs.declared.result.WorkResult.{WorkResult}
-use Rattle.uv_work.proofs.Replays.{replay_more, same_itself}
-use Rattle.uv_pool.specs.Book.{IsReplay, is_finish, finish_count}
-use Rattle.uv_pool.specs.Contents.{Contents, fresh, pool_of, id_run, member, jobs_without, queued, taken, finished, cancelled, collected}
-use Rattle.uv_pool.specs.declared.places.Collected.{Collected}
 
 pub replays_queue : (c : Contents) (job : Job) → IsReplay c → has (pool_of c) job.req ≡ false → IsReplay (queued c job)
 replays_queue c job h new =

@@ -1,14 +1,5 @@
 -- The results after a change of those that are done.
-use Rattle.std.proofs.Common.{◌≡◌, ◌||◌, ℕ, suc, List, [], ◌∷◌, ◌++◌, Bool, true, false, Option, Some, None, cond, slice_get, refl, ap, sym, ◌∙◌}
-use Rattle.std.specs.List.{list_any}
-use Rattle.uv_ids.specs.declared.id.Id.{Id}
-use Rattle.uv_work.specs.Ids.{same_id}
-use Rattle.uv_work.specs.declared.result.WorkResult.{WorkResult}
-use Rattle.uv_work.proofs.Replays.{same_itself, same_when}
-use Rattle.uv_pool.specs.Contents.{result_in}
-use Rattle.uv_pool.specs.Rows.{Rows, id_of_job, id_at, IsIndexed}
-use Rattle.uv_pool.specs.declared.places.Collected.{Collected}
-use Rattle.uv_pool.specs.declared.places.Place.{Place}
+use Rattle.uv_pool.proofs.Names.{◌≡◌, ◌||◌, ℕ, suc, List, [], ◌∷◌, ◌++◌, Bool, true, false, Option, Some, None, cond, slice_get, refl, ap, sym, ◌∙◌, list_any, Id, same_id, WorkResult, same_itself, same_when, result_in, Rows, id_of_job, id_at, IsIndexed, Collected, Place}
 use Rattle.uv_pool.specs.declared.places.Place.TheVariants as place
 use Rattle.uv_pool.proofs.Standing.{same_place, collect_leaves}
 use Rattle.uv_pool.proofs.Found.{done_is, not_done, result_nowhere}

@@ -1,14 +1,6 @@
 -- Where requests stand, and that it is known.
-use Rattle.std.proofs.Common.{◌≡◌, ◌+◌, ◌⊎◌, ℕ, zero, suc, List, [], ◌∷◌, ◌++◌, Bool, true, false, Option, Some, None, length, cond, set, slice_get, replicate, inl, inr, refl, ap, sym, ◌∙◌}
-use Rattle.uv_ids.specs.declared.id.Id.{Id}
-use Rattle.uv_work.specs.Ids.{same_id}
-use Rattle.uv_work.specs.declared.job.Job.{Job}
-use Rattle.uv_work.proofs.Replays.{same_itself, same_when}
-use Rattle.uv_pool.specs.declared.places.Collected.{Collected}
-use Rattle.uv_pool.specs.declared.places.Place.{Place}
+use Rattle.uv_pool.proofs.Names.{◌≡◌, ◌+◌, ◌⊎◌, ℕ, zero, suc, List, [], ◌∷◌, ◌++◌, Bool, true, false, Option, Some, None, length, cond, set, slice_get, replicate, inl, inr, refl, ap, sym, ◌∙◌, Id, same_id, Job, same_itself, same_when, Collected, Place, Leaves, Rows, at_number, id_of_job, id_of_done, id_at, IsNowhere, IsIndexed}
 use Rattle.uv_pool.specs.declared.places.Place.TheVariants as place
-use Rattle.uv_pool.specs.Jobs.{Leaves}
-use Rattle.uv_pool.specs.Rows.{Rows, at_number, id_of_job, id_of_done, id_at, IsNowhere, IsIndexed}
 use Rattle.uv_pool.proofs.Numbers.{number_appended, number_popped, number_front, get_set}
 
 pub same_place : (at : Id → Option Place) (id : Id) (p q : Place) → at id ≡ Some p → at id ≡ Some q → p ≡ q

@@ -1,14 +1,6 @@
 -- One turn more.
-use Rattle.std.proofs.Common.{◌≡◌, ◌==◌, ◌&&◌, ℕ, ◌+◌, List, [], ◌∷◌, ◌++◌, Bool, true, false, refl, sym, ◌∙◌, ap, arith, append_assoc, subst}
-use Rattle.std.proofs.lemmas.Bool.Decides.{nat_tests}
-use Rattle.uv_ids.specs.declared.id.Id.{Id}
-use Rattle.uv_work.specs.Ids.{same_id}
-use Rattle.uv_work.specs.declared.event.PoolEvent.{PoolEvent}
+use Rattle.uv_pool.proofs.Names.{◌≡◌, ◌==◌, ◌&&◌, ℕ, ◌+◌, List, [], ◌∷◌, ◌++◌, Bool, true, false, refl, sym, ◌∙◌, ap, arith, append_assoc, subst, nat_tests, Id, same_id, PoolEvent, finish_count, same_itself, WorkResult, are_turns, turn, Serves, Breaks, Stops}
 use Rattle.uv_work.specs.declared.event.PoolEvent.TheVariants as event
-use Rattle.uv_pool.specs.Book.{finish_count}
-use Rattle.uv_work.proofs.Replays.{same_itself}
-use Rattle.uv_work.specs.declared.result.WorkResult.{WorkResult}
-use Rattle.uv_pool.specs.Benches.{are_turns, turn, Serves, Breaks, Stops}
 use Rattle.uv_pool.proofs.Replays.{count_more}
 
 and_more : (b x y : Bool) → (b && x) ≡ true → (x ≡ true → y ≡ true) → (b && y) ≡ true

@@ -187,10 +187,7 @@ impl<L: Ledger> PoolBook<L> {
         ensures parts { share.new.parts ≡ share.old.parts }
         ensures amount { share.new.amount ≡ share.old.amount + cond (is_ok result) 1 0 }
     {
-        match self.held.finish_job(k, work) {
-            Ok(()) => {}
-            Err(fault) => return Err(fault),
-        }
+        self.held.finish_job(k, work)?;
         self.finishes.add(share, 1);
         Ok(())
     }

@@ -40,10 +40,7 @@ impl Held {
             Some(_) => return Err(Fault::Refused(Why::Range)),
             None => {}
         }
-        match self.make_room() {
-            Ok(()) => {}
-            Err(fault) => return Err(fault),
-        }
+        self.make_room()?;
         self.queue(job);
         Ok(())
     }
@@ -61,10 +58,7 @@ impl Held {
         if self.waiting.is_empty() {
             return Ok(None);
         }
-        match self.make_room() {
-            Ok(()) => {}
-            Err(fault) => return Err(fault),
-        }
+        self.make_room()?;
         Ok(self.take(k))
     }
 
@@ -83,10 +77,7 @@ impl Held {
                 }
             }
         }
-        match self.make_room() {
-            Ok(()) => {}
-            Err(fault) => return Err(fault),
-        }
+        self.make_room()?;
         self.finish(k, work);
         Ok(())
     }
@@ -103,10 +94,7 @@ impl Held {
             Some(Place::Done(_)) => return Ok(Code::Ebusy),
             Some(Place::Waiting(number)) => number,
         };
-        match self.make_room() {
-            Ok(()) => {}
-            Err(fault) => return Err(fault),
-        }
+        self.make_room()?;
         self.cancel(id, number);
         Ok(Code::Ok)
     }
@@ -120,10 +108,7 @@ impl Held {
         if self.done.is_empty() {
             return Ok(None);
         }
-        match self.make_room() {
-            Ok(()) => {}
-            Err(fault) => return Err(fault),
-        }
+        self.make_room()?;
         Ok(self.collect())
     }
 

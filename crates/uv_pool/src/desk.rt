@@ -105,10 +105,7 @@ impl<'a, R: Wait, L: Ledger> Bench<L> for Desk<'a, R, L> {
                 }
             }
         }
-        match self.book.finish(self.rt, k, work, share) {
-            Ok(()) => {}
-            Err(fault) => return Err(fault),
-        }
+        self.book.finish(self.rt, k, work, share)?;
         self.events.push_reserved(PoolEvent::Finish(k, job.req));
         self.job = None;
         Ok(())

@@ -1,25 +1,8 @@
 -- A call that changes what one slot holds, where that slot stands, and what one worker runs: all else of the requests stays, and all of
 -- them do where the slot holds no request.
-use Rattle.std.proofs.Common.{◌≡◌, ◌≢◌, ℕ, ◌⊎◌, Bool, true, false, eqb, List, [], ◌∷◌, ◌++◌, map, slice_get, Option, Some, not, option_and_then, refl, sym, ap, ◌∙◌, subst, inl, inr, ◌||◌, None}
-use Rattle.std.proofs.lemmas.Bool.Decides.{eqb_tells}
-use Rattle.std.proofs.lemmas.List.Elements.{filter-append}
-use Rattle.uv_ids.specs.declared.id.Id.{Id}
-use Rattle.uv_records.specs.declared.lists.ListName.TheVariants.{Waiting, Done as Ended, DoneYet as EndedYet}
+use Rattle.uv_requests.proofs.Names.{◌≡◌, ◌≢◌, ℕ, ◌⊎◌, Bool, true, false, eqb, List, [], ◌∷◌, ◌++◌, map, slice_get, Option, Some, not, option_and_then, refl, sym, ap, ◌∙◌, subst, inl, inr, ◌||◌, None, eqb_tells, filter-append, Id, Waiting, Ended, EndedYet, IsIn, Image, members, held, on_list, plain_slots, in_left, in_right, in_either, Request, is_open, IsDigest, Pool, Done, size, has, Running, working, id_in, request_in, done_in, was_finished, pool_of, IsHeld, IsRun, IsWork, InsertUndo, IsInserted, next_slot, or_none, without_none, same_id}
 use Rattle.uv_records.specs.Walks.{without}
-use Rattle.uv_arena.specs.Chains.{IsIn}
-use Rattle.uv_arena.specs.Image.{Image, members, held, on_list, plain_slots}
-use Rattle.uv_arena.proofs.Lists.{in_left, in_right, in_either}
-use Rattle.uv_work.specs.declared.request.Request.{Request}
-use Rattle.uv_work.specs.Requests.{is_open, IsDigest}
-use Rattle.uv_work.specs.Pool.{Pool, Done, size, has}
-use Rattle.uv_requests.specs.Working.{Running, working, id_in, request_in, done_in, was_finished, pool_of, IsHeld, IsRun, IsWork}
 use Rattle.uv_requests.proofs.Holding.{held_id, one_held, one_id}
-use Rattle.uv_arena.specs.declared.undo.InsertUndo.{InsertUndo}
-use Rattle.uv_arena.specs.Calls.{IsInserted}
-use Rattle.uv_arena.proofs.Contents.{next_slot}
-use Rattle.uv_arena.proofs.Memories.{or_none}
-use Rattle.uv_arena.proofs.Lookups.{without_none}
-use Rattle.uv_work.specs.Ids.{same_id}
 use Rattle.uv_requests.proofs.Rules.{not_same, none_of, none_runs}
 
 -- ---- one more at the end of a list, or none

@@ -1,17 +1,5 @@
 -- The open requests are a number of slots.
-use Rattle.std.proofs.Common.{◌≡◌, ℕ, suc, ◌<◌, Bool, true, false, List, [], ◌∷◌, ◌++◌, length, slice_get, Option, Some, None, refl, sym, ap, ◌∙◌, subst, inl, inr, arith, length-append}
-use Rattle.std.proofs.lemmas.List.{length-map}
-use Rattle.std.proofs.lemmas.Option.{slice_get_within}
-use Rattle.uv_ids.specs.declared.id.Id.{Id}
-use Rattle.uv_records.specs.declared.lists.ListName.TheVariants.{Waiting, Done as Ended, DoneYet as EndedYet}
-use Rattle.uv_arena.specs.Chains.{IsIn, IsApart}
-use Rattle.uv_arena.specs.Image.{Image, members, IsSound}
-use Rattle.uv_arena.proofs.Lists.{in_either, apart_join}
-use Rattle.uv_arena.proofs.Lookups.{held_tells, one_list}
-use Rattle.uv_arena.proofs.Walk.{few}
-use Rattle.uv_work.specs.declared.request.Request.{Request}
-use Rattle.uv_work.specs.Pool.{busy}
-use Rattle.uv_requests.specs.Working.{Working, id_in, done_in, IsHeld, IsRun, IsWork}
+use Rattle.uv_requests.proofs.Names.{◌≡◌, ℕ, suc, ◌<◌, Bool, true, false, List, [], ◌∷◌, ◌++◌, length, slice_get, Option, Some, None, refl, sym, ap, ◌∙◌, subst, inl, inr, arith, length-append, length-map, slice_get_within, Id, Waiting, Ended, EndedYet, IsIn, IsApart, Image, members, IsSound, in_either, apart_join, held_tells, one_list, few, Request, busy, Working, id_in, done_in, IsHeld, IsRun, IsWork}
 use Rattle.uv_requests.proofs.Beside.{end_held}
 use Rattle.uv_requests.proofs.Holding.{content_of, held_id, one_held, not_both, member, list_apart}
 

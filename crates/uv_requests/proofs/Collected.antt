@@ -1,23 +1,7 @@
 -- The done section begins, and the front of those yet to be called back is taken off its list, and its slot is freed.
-use Rattle.std.proofs.Common.{◌≡◌, ◌≢◌, ◌-◌, false, List, [], ◌∷◌, ◌++◌, map, length, Option, Some, None, option_and_then, sym, ap, ◌∙◌, subst, inr, arith}
-use Rattle.std.proofs.lemmas.List.{append-nil, length-map}
-use Rattle.uv_ids.specs.declared.id.Id.{Id}
-use Rattle.uv_records.specs.declared.lists.ListName.{ListName}
-use Rattle.uv_records.specs.declared.lists.ListName.TheVariants.{Waiting, Done as Ended, DoneYet as EndedYet}
+use Rattle.uv_requests.proofs.Names.{◌≡◌, ◌≢◌, ◌-◌, false, List, [], ◌∷◌, ◌++◌, map, length, Option, Some, None, option_and_then, sym, ap, ◌∙◌, subst, inr, arith, append-nil, length-map, Id, ListName, Waiting, Ended, EndedYet, ChainPlace, RemoveUndo, SpliceUndo, Image, members, held_slots, plain_slots, unlink_undone, CanUndoUnlink, IsFirst, IsUnlinked, IsRemoved, IsSpliced, past_end, Request, Done, Running, working, request_in, done_in, pool_of, IsWork, with_count, collect_undone, IsBegun, IsCollected}
 use Rattle.uv_records.specs.Slots as plain
-use Rattle.uv_arena.specs.declared.links.ChainPlace.{ChainPlace}
-use Rattle.uv_arena.specs.declared.undo.RemoveUndo.{RemoveUndo}
-use Rattle.uv_arena.specs.declared.undo.SpliceUndo.{SpliceUndo}
-use Rattle.uv_arena.specs.Image.{Image, members, held_slots, plain_slots}
-use Rattle.uv_arena.specs.Undo.{unlink_undone, CanUndoUnlink}
-use Rattle.uv_arena.specs.Calls.{IsFirst, IsUnlinked, IsRemoved, IsSpliced}
 pub use Rattle.uv_arena.proofs.Contents.{freed_slot}
-use Rattle.uv_arena.proofs.Contents.{past_end}
-use Rattle.uv_work.specs.declared.request.Request.{Request}
-use Rattle.uv_work.specs.Pool.{Done}
-use Rattle.uv_requests.specs.Working.{Running, working, request_in, done_in, pool_of, IsWork}
-use Rattle.uv_requests.specs.Undo.{with_count, collect_undone}
-use Rattle.uv_requests.specs.Calls.{IsBegun, IsCollected}
 use Rattle.uv_requests.proofs.Beside.{beside, Leaves, pool_now, work_now, ends_stay, run_elsewhere}
 use Rattle.uv_requests.proofs.Holding.{listed_id, front_held}
 use Rattle.uv_requests.proofs.Rules.{collect_rule, collect_size}

@@ -1,31 +1,6 @@
 -- A request is finished or cancelled, and goes to the end of those that are done.
-use Rattle.std.proofs.Common.{◌≡◌, ◌≢◌, ℕ, true, false, eqb, List, [], ◌∷◌, ◌++◌, map, slice_get, Option, Some, None, is_some, option_and_then, option_map, refl, sym, ap, ◌∙◌, subst, append_assoc, inl, inr, arith}
-use Rattle.std.proofs.lemmas.Bool.Decides.{eqb_tells}
-use Rattle.std.proofs.lemmas.List.{length-set}
-use Rattle.std.proofs.lemmas.Option.{slice_get_within}
-use Rattle.uv_ids.specs.declared.id.Id.{Id}
-use Rattle.uv_ids.specs.declared.code.Code.TheVariants.{Ebusy}
-use Rattle.uv_records.specs.declared.lists.ListName.{ListName}
-use Rattle.uv_records.specs.declared.lists.ListName.TheVariants.{Waiting, Done as Ended, DoneYet as EndedYet}
+use Rattle.uv_requests.proofs.Names.{◌≡◌, ◌≢◌, ℕ, true, false, eqb, List, [], ◌∷◌, ◌++◌, map, slice_get, Option, Some, None, is_some, option_and_then, option_map, refl, sym, ap, ◌∙◌, subst, append_assoc, inl, inr, arith, eqb_tells, length-set, slice_get_within, Id, Ebusy, ListName, Waiting, Ended, EndedYet, slots_without, ChainPlace, Image, members, held, on_list, IsSound, set_undone, push_undone, unlink_undone, CanUndoSet, CanUndoUnlink, IsSet, IsPushed, IsUnlinked, content_of, set_here, set_there, set_back, one_list, without_none, apart_from, same_id, Job, Request, is_open, is_finished, ended, finished, cancelled, reopened, job_of, cancel_refusal, IsDigest, waits, without, Outcome, Open, Finished, Cancelled, Running, working, found, id_in, request_in, done_in, was_finished, pool_of, IsHeld, IsRun, IsWork, with_run, reopened_by, reopened_in, finish_undone, cancel_undone, CanReopen, IsFinished, IsCancelled}
 use Rattle.uv_records.specs.Slots as plain
-use Rattle.uv_records.specs.Walks.{without as slots_without}
-use Rattle.uv_arena.specs.declared.links.ChainPlace.{ChainPlace}
-use Rattle.uv_arena.specs.Image.{Image, members, held, on_list, IsSound}
-use Rattle.uv_arena.specs.Undo.{set_undone, push_undone, unlink_undone, CanUndoSet, CanUndoUnlink}
-use Rattle.uv_arena.specs.Calls.{IsSet, IsPushed, IsUnlinked}
-use Rattle.uv_arena.proofs.Contents.{content_of, set_here, set_there, set_back}
-use Rattle.uv_arena.proofs.Lookups.{one_list, without_none}
-use Rattle.uv_arena.proofs.Readings.{apart_from}
-use Rattle.uv_work.specs.Ids.{same_id}
-use Rattle.uv_work.specs.declared.job.Job.{Job}
-use Rattle.uv_work.specs.declared.request.Request.{Request}
-use Rattle.uv_work.specs.Requests.{is_open, is_finished, ended, finished, cancelled, reopened, job_of, cancel_refusal, IsDigest}
-use Rattle.uv_work.specs.Pool.{waits, without}
-use Rattle.uv_work.specs.declared.outcome.Outcome.{Outcome}
-use Rattle.uv_work.specs.declared.outcome.Outcome.TheVariants.{Open, Finished, Cancelled}
-use Rattle.uv_requests.specs.Working.{Running, working, found, id_in, request_in, done_in, was_finished, pool_of, IsHeld, IsRun, IsWork}
-use Rattle.uv_requests.specs.Undo.{with_run, reopened_by, reopened_in, finish_undone, cancel_undone, CanReopen}
-use Rattle.uv_requests.specs.Calls.{IsFinished, IsCancelled}
 use Rattle.uv_requests.proofs.Beside.{Leaves, told_by, pool_now, work_now, ends_stay, run_elsewhere}
 use Rattle.uv_requests.proofs.Holding.{held_id, one_held, not_both, member, list_apart}
 use Rattle.uv_requests.proofs.Rules.{not_same, none_of, waits_in, without_in, finish_rule, finish_size, cancel_rule, cancel_size}

@@ -1,11 +1,6 @@
 -- An arena without slots, and workers that run nothing.
-use Rattle.std.proofs.Common.{◌≡◌, ℕ, zero, suc, Option, Some, None, replicate, slice_get, refl, arith}
-use Rattle.uv_ids.specs.declared.id.Id.{Id}
+use Rattle.uv_requests.proofs.Names.{◌≡◌, ℕ, zero, suc, Option, Some, None, replicate, slice_get, refl, arith, Id, fresh_image, Request, busy, working, idle_workers, IsWork}
 use Rattle.uv_arena.specs.Chains.{list_of, walk}
-use Rattle.uv_arena.specs.Image.{fresh_image}
-use Rattle.uv_work.specs.declared.request.Request.{Request}
-use Rattle.uv_work.specs.Pool.{busy}
-use Rattle.uv_requests.specs.Working.{working, idle_workers, IsWork}
 
 none_busy : (n : ℕ) → busy (replicate n None) ≡ 0
 none_busy zero = refl

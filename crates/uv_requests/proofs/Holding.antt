@@ -1,20 +1,6 @@
 -- What is held under ids, before and after a call.
-use Rattle.std.proofs.Common.{◌≡◌, ℕ, ◌<◌, Bool, true, false, Option, Some, None, is_some, refl, sym, ap, ◌∙◌, subst, inl, inr, arith}
-use Rattle.uv_ids.specs.declared.id.Id.{Id}
-use Rattle.uv_records.specs.declared.lists.TheConstants.{LIST_COUNT}
-use Rattle.uv_records.specs.declared.lists.ListName.{ListName}
-use Rattle.uv_records.specs.declared.lists.ListName.TheVariants.{Waiting, DoneYet as EndedYet}
-use Rattle.uv_records.specs.Lists.{number}
-use Rattle.uv_arena.specs.Chains.{IsIn, IsApart}
-use Rattle.uv_arena.specs.Image.{Image, slot_in, slot_at, name_at, members, held, IsSound}
-use Rattle.uv_arena.specs.Calls.{IsListed, IsFirst}
+use Rattle.uv_requests.proofs.Names.{◌≡◌, ℕ, ◌<◌, Bool, true, false, Option, Some, None, is_some, refl, sym, ap, ◌∙◌, subst, inl, inr, arith, Id, LIST_COUNT, ListName, Waiting, EndedYet, number, IsIn, IsApart, Image, slot_in, slot_at, name_at, members, held, IsSound, IsListed, IsFirst, or_none, held_tells, name_below, is_member, Request, is_open, Running, working, id_in, request_in, IsHeld, IsWork}
 pub use Rattle.uv_arena.proofs.Contents.{content_of}
-use Rattle.uv_arena.proofs.Memories.{or_none}
-use Rattle.uv_arena.proofs.Lookups.{held_tells, name_below}
-use Rattle.uv_arena.proofs.Readings.{is_member}
-use Rattle.uv_work.specs.declared.request.Request.{Request}
-use Rattle.uv_work.specs.Requests.{is_open}
-use Rattle.uv_requests.specs.Working.{Running, working, id_in, request_in, IsHeld, IsWork}
 
 module _ {X : Type 0} where
   -- an id under which something is held is that of its slot

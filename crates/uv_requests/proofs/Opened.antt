@@ -1,24 +1,5 @@
 -- A request is queued, and a worker takes it: it is open.
-use Rattle.std.proofs.Common.{◌≡◌, ℕ, ◌+◌, ◌<◌, true, false, [], ◌∷◌, ◌++◌, map, slice_get, Option, Some, None, option_and_then, refl, sym, ap, ◌∙◌, subst, inl, inr, arith}
-use Rattle.std.proofs.lemmas.Bool.Decides.{eqb_tells}
-use Rattle.std.proofs.lemmas.List.{length-set}
-use Rattle.std.proofs.lemmas.Option.{slice_get_within}
-use Rattle.uv_ids.specs.declared.id.Id.{Id}
-use Rattle.uv_records.specs.declared.lists.ListName.TheVariants.{Waiting, Done as Ended, DoneYet as EndedYet}
-use Rattle.uv_arena.specs.declared.links.ChainPlace.{ChainPlace}
-use Rattle.uv_arena.specs.declared.undo.InsertUndo.{InsertUndo}
-use Rattle.uv_arena.specs.Image.{Image, members, on_list, IsSound}
-use Rattle.uv_arena.specs.Undo.{insert_undone, push_undone, CanUndoInsert, CanUndoPush}
-use Rattle.uv_arena.specs.Calls.{IsFirst, IsInserted, IsPushed, IsUnlinked}
-use Rattle.uv_arena.proofs.Contents.{set_back, set_here, set_there}
-use Rattle.uv_work.specs.declared.task.Task.{Task}
-use Rattle.uv_work.specs.declared.outcome.Outcome.{Outcome}
-use Rattle.uv_work.specs.declared.outcome.Outcome.TheVariants.{Open, Finished, Cancelled}
-use Rattle.uv_work.specs.declared.request.Request.{Request}
-use Rattle.uv_work.specs.Requests.{is_open, IsDigest}
-use Rattle.uv_requests.specs.Working.{Running, working, id_in, request_in, done_in, pool_of, IsHeld, IsRun, IsWork}
-use Rattle.uv_requests.specs.Undo.{with_count, with_run, queue_undone, take_undone}
-use Rattle.uv_requests.specs.Calls.{IsQueued, IsTaken}
+use Rattle.uv_requests.proofs.Names.{◌≡◌, ℕ, ◌+◌, ◌<◌, true, false, [], ◌∷◌, ◌++◌, map, slice_get, Option, Some, None, option_and_then, refl, sym, ap, ◌∙◌, subst, inl, inr, arith, eqb_tells, length-set, slice_get_within, Id, Waiting, Ended, EndedYet, ChainPlace, InsertUndo, Image, members, on_list, IsSound, insert_undone, push_undone, CanUndoInsert, CanUndoPush, IsFirst, IsInserted, IsPushed, IsUnlinked, set_back, set_here, set_there, Task, Outcome, Open, Finished, Cancelled, Request, is_open, IsDigest, Running, working, id_in, request_in, done_in, pool_of, IsHeld, IsRun, IsWork, with_count, with_run, queue_undone, take_undone, IsQueued, IsTaken}
 use Rattle.uv_requests.proofs.Bounds.{pool_fits}
 use Rattle.uv_requests.proofs.Beside.{Leaves, told_by, pool_now, work_now, ends_stay, run_elsewhere, elsewhere, none_waits, none_ends, not_in, none_before}
 use Rattle.uv_requests.proofs.Holding.{listed_id, one_held, front_held}

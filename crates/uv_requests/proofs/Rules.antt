@@ -1,18 +1,6 @@
 -- The rules of the pool, where its lists are known, and how many requests are in it.
-use Rattle.std.proofs.Common.{◌≡◌, ℕ, suc, ◌+◌, ◌||◌, Bool, true, false, cond, eqb, List, [], ◌∷◌, ◌++◌, map, length, set, slice_get, Option, Some, None, refl, sym, ap, ◌∙◌, subst, inl, inr, arith, length-append}
-use Rattle.std.proofs.lemmas.Bool.{false_from_ne_true}
-use Rattle.std.specs.List.{list_any}
-use Rattle.std.proofs.Math.Bool.{or-true}
-use Rattle.std.proofs.lemmas.Bool.Decides.{eqb_tells}
-use Rattle.uv_ids.specs.declared.id.Id.{Id}
-use Rattle.uv_records.specs.Walks.{without as slots_without}
-use Rattle.uv_arena.specs.Chains.{IsIn, IsApart}
+use Rattle.uv_requests.proofs.Names.{◌≡◌, ℕ, suc, ◌+◌, ◌||◌, Bool, true, false, cond, eqb, List, [], ◌∷◌, ◌++◌, map, length, set, slice_get, Option, Some, None, refl, sym, ap, ◌∙◌, subst, inl, inr, arith, length-append, false_from_ne_true, list_any, or-true, eqb_tells, Id, slots_without, IsIn, IsApart, without_none, same_id, Pool, Done, has, waits, runs, without, size, after_queue, taken_by, after_take, finished_by, after_finish, after_cancel, collected_from, after_collect, busy_set_some, busy_set_none, without_one, same_itself, same_when}
 pub use Rattle.uv_arena.proofs.Contents.{set_back}
-use Rattle.uv_arena.proofs.Lookups.{without_none}
-use Rattle.uv_work.specs.Ids.{same_id}
-use Rattle.uv_work.specs.Pool.{Pool, Done, has, waits, runs, without, size, after_queue, taken_by, after_take, finished_by, after_finish, after_cancel, collected_from, after_collect}
-use Rattle.uv_work.proofs.Counts.{busy_set_some, busy_set_none, without_one}
-use Rattle.uv_work.proofs.Replays.{same_itself, same_when}
 
 pub not_same : (a b : Id) → (a ≡ b → ⊥) → same_id a b ≡ false
 not_same a b n = false_from_ne_true (same_id a b) (λ e. n (same_when a b e))

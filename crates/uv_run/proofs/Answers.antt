@@ -1,37 +1,11 @@
 -- What a session answers to a step, as a live run sees it.
-use Rattle.std.proofs.Common.{◌≡◌, inl, inr, ℕ, ◌+◌, List, [], ◌∷◌, ◌++◌, false, cond, Option, Some, None, Result, Ok, Err, refl, ap, ap₂, sym, subst, ◌∙◌, append-nil, arith}
-use Rattle.std.specs.List.{count_by}
-use Rattle.uv_ids.specs.declared.event.Event.{Event}
-use Rattle.uv_ids.specs.declared.event.Event.TheVariants.{Loop, Take, Finish, Send, Tick}
-use Rattle.uv_ids.specs.declared.fault.Fault.{Fault}
+use Rattle.uv_run.proofs.Names.{◌≡◌, inl, inr, ℕ, ◌+◌, List, [], ◌∷◌, ◌++◌, false, cond, Option, Some, None, Result, Ok, Err, refl, ap, ap₂, sym, subst, ◌∙◌, append-nil, arith, count_by, Event, Loop, Take, Finish, Send, Tick, Fault, Why, Seen, Id, Var, Program, worker_count, Job, PoolEvent, IsLegal, Outcome, Moves, Refuses, RefusesResult, NoWork, refusal_of, Shown, Responds, TakesEvent, TakesResult, pool_of, IsTakenAs, pools, take_is_taken, finish_is_taken, Course, stepped, Applies, StaysEnded, is_send, Steps, events_in, events_of_loop, IsOfLoop, course_of, refusal_in, polls_in, hours_in, SameSends, Sends}
 use Rattle.uv_ids.specs.declared.fault.Fault.TheVariants as fault
-use Rattle.uv_ids.specs.declared.fault.Why.{Why}
-use Rattle.uv_ids.specs.declared.seen.Seen.{Seen}
 use Rattle.uv_ids.specs.declared.seen.Seen.TheVariants as seen
-use Rattle.uv_ids.specs.declared.id.Id.{Id}
-use Rattle.uv_ids.specs.declared.id.Var.{Var}
-use Rattle.uv_script.specs.Program.{Program, worker_count}
-use Rattle.uv_work.specs.declared.job.Job.{Job}
-use Rattle.uv_work.specs.declared.event.PoolEvent.{PoolEvent}
 use Rattle.uv_work.specs.declared.event.PoolEvent.TheVariants as event
-use Rattle.uv_work.specs.Pool.{IsLegal}
-use Rattle.uv_model.specs.declared.machine.Outcome.{Outcome}
-use Rattle.uv_model.specs.Next.{Moves, Refuses, next}
-use Rattle.uv_model.specs.Handing.{RefusesResult}
-use Rattle.uv_ids.specs.declared.fault.Why.TheVariants.{NoWork}
-use Rattle.uv_model.specs.After.{after, refusal_of}
-use Rattle.uv_session.specs.Shown.{Shown, Responds, TakesEvent, TakesResult}
-use Rattle.uv_order.specs.PoolEvents.{pool_of}
-use Rattle.uv_order.specs.Taking.{IsTakenAs}
-use Rattle.uv_order.proofs.Documents.{pools}
-use Rattle.uv_order.proofs.Taking.{take_is_taken, finish_is_taken}
-use Rattle.uv_live.specs.Course.{Course, stepped}
-use Rattle.uv_live.specs.Following.{Applies, StaysEnded}
-use Rattle.uv_live.specs.Settling.{is_send}
-use Rattle.uv_live.specs.Turning.{Steps}
-use Rattle.uv_run.specs.Events.{events_by, events_in, refusal_after, polls_after, hours_after, events_of_loop}
-use Rattle.uv_model.specs.Steps.{IsOfLoop}
-use Rattle.uv_run.specs.Bound.{course_of, refusal_in, polls_in, hours_in, SameSends, Sends}
+use Rattle.uv_model.specs.Next.{next}
+use Rattle.uv_model.specs.After.{after}
+use Rattle.uv_run.specs.Events.{events_by, refusal_after, polls_after, hours_after}
 use Rattle.uv_run.proofs.Counting.{count_push}
 use Rattle.uv_run.proofs.Loops.{of_loop}
 use Rattle.uv_run.proofs.Steps.{events_more, IsBeside, stays_ended, stays_polling, IsOutside, quiet, IsNoSend, ticked}

@@ -1,14 +1,5 @@
 -- What always holds of a session in a live run: after a step that is no send, and after one send more.
-use Rattle.std.proofs.Common.{◌≡◌, ◌∙◌, ◌==◌, ℕ, ◌+◌, cond, List, length, slice_index, slice_set, sym, subst}
-use Rattle.std.specs.List.{count_by}
-use Rattle.uv_ids.specs.declared.thread_line.ThreadLine.{ThreadLine}
-use Rattle.uv_script.specs.Program.{Program}
-use Rattle.uv_work.specs.declared.event.PoolEvent.{PoolEvent}
-use Rattle.uv_session.specs.Shown.{Shown}
-use Rattle.uv_live.specs.Course.{AreNamed}
-use Rattle.uv_live.specs.Settling.{is_send, is_line}
-use Rattle.uv_run.specs.Bound.{IsBound, SameSends}
-use Rattle.uv_run.specs.Counts.{AreCounts}
+use Rattle.uv_run.proofs.Names.{◌≡◌, ◌∙◌, ◌==◌, ℕ, ◌+◌, cond, List, length, slice_index, slice_set, sym, subst, count_by, ThreadLine, Program, PoolEvent, Shown, AreNamed, is_send, is_line, IsBound, SameSends, AreCounts}
 use Rattle.uv_run.specs.Events.{events_by}
 use Rattle.uv_run.proofs.Counting.{as_counted, one_counted}
 

@@ -1,14 +1,5 @@
 -- Counts by name: nothing, and one more.
-use Rattle.std.proofs.Common.{◌≡◌, ◌∙◌, ◌<◌, ◌==◌, ℕ, ◌+◌, Bool, true, false, cond, List, [], ◌∷◌, ◌++◌, length, replicate, take, get_or, slice_index, slice_set, refl, sym, ap, subst, arith}
-use Rattle.std.specs.List.{count_by}
-use Rattle.std.proofs.lemmas.Bool.{eqb-true, eqb-false}
-use Rattle.std.proofs.lemmas.List.{length-replicate, get_or-replicate, length-set, get_or-set_same, get_or-set_other, take_more}
-use Rattle.std.proofs.lemmas.List.Sums.{sum_by_push}
-use Rattle.uv_ids.specs.declared.event.Event.{Event}
-use Rattle.uv_ids.specs.declared.event.Event.TheVariants.{Send}
-use Rattle.uv_ids.specs.declared.id.Var.{Var}
-use Rattle.uv_live.specs.Settling.{is_send}
-use Rattle.uv_run.specs.Counts.{AreCounts}
+use Rattle.uv_run.proofs.Names.{◌≡◌, ◌∙◌, ◌<◌, ◌==◌, ℕ, ◌+◌, Bool, true, false, cond, List, [], ◌∷◌, ◌++◌, length, replicate, take, get_or, slice_index, slice_set, refl, sym, ap, subst, arith, count_by, eqb-true, eqb-false, length-replicate, get_or-replicate, length-set, get_or-set_same, get_or-set_other, take_more, sum_by_push, Event, Send, Var, is_send, AreCounts}
 
 pub count_push : {X : Type 0} (p : X → Bool) (xs : List X) (x : X) → count_by p (xs ++ x ∷ []) ≡ count_by p xs + cond (p x) 1 0
 count_push p xs x = sum_by_push (λ y. cond (p y) 1 0) xs x

@@ -1,8 +1,9 @@
-pub mod Loops
-pub mod Steps
 pub mod Answers
-pub mod Named
-pub mod Plans
-pub mod Counting
-pub mod Open
 pub mod Binding
+pub mod Counting
+pub mod Loops
+pub mod Named
+mod Names
+pub mod Open
+pub mod Plans
+pub mod Steps

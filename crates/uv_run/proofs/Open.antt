@@ -1,17 +1,7 @@
 -- How many requests are open by the pool's events: as many as were queued, and neither finished nor cancelled.
-use Rattle.std.proofs.Common.{◌≡◌, ◌∙◌, ℕ, zero, suc, ◌+◌, Bool, true, false, cond, List, [], ◌∷◌, ◌++◌, length, nat_lt, slice_get, slice_set, Option, Some, None, refl, sym, ap, arith, length-append}
-use Rattle.uv_live.proofs.Entered.{is_true}
-use Rattle.std.specs.List.{count_by}
-use Rattle.std.proofs.lemmas.Bool.Decides.{nat_tests}
-use Rattle.std.proofs.lemmas.List.Sums.{sum_by-cons}
-use Rattle.uv_ids.specs.declared.id.Id.{Id}
-use Rattle.uv_work.specs.Ids.{same_id}
-use Rattle.uv_work.specs.Pool.{Pool, Done, busy, has, waits, without, empty_pool, taken_by, finished_by, collected_from, after_event, after_events, replay, IsLegal}
-use Rattle.uv_work.specs.declared.event.PoolEvent.{PoolEvent}
+use Rattle.uv_run.proofs.Names.{◌≡◌, ◌∙◌, ℕ, zero, suc, ◌+◌, Bool, true, false, cond, List, [], ◌∷◌, ◌++◌, length, nat_lt, slice_get, slice_set, Option, Some, None, refl, sym, ap, arith, length-append, is_true, count_by, nat_tests, sum_by-cons, Id, same_id, Pool, Done, busy, has, waits, without, empty_pool, taken_by, finished_by, collected_from, after_event, after_events, IsLegal, PoolEvent, busy_set_some, busy_set_none, without_one, open_in, has_work, is_at_work, is_queue, is_end}
+use Rattle.uv_work.specs.Pool.{replay}
 use Rattle.uv_work.specs.declared.event.PoolEvent.TheVariants as event
-use Rattle.uv_work.proofs.Counts.{busy_set_some, busy_set_none, without_one}
-use Rattle.uv_live.specs.Working.{open_in, has_work, is_at_work}
-use Rattle.uv_run.specs.Counts.{is_queue, is_end}
 
 is_it : (b : Bool) (x y : Pool) → cond b (Some x) None ≡ Some y → x ≡ y
 is_it true x y h = cc

@@ -1,9 +1,5 @@
 -- What a run is settled by doesn't depend on how many steps its session may take.
-use Rattle.std.proofs.Common.{◌≡◌, subst}
-use Rattle.uv_script.specs.Program.{Program}
-use Rattle.uv_live.specs.Course.{Plan, Course}
-use Rattle.uv_live.specs.Running.{RunSettles}
-use Rattle.uv_run.specs.Bound.{Asked}
+use Rattle.uv_run.proofs.Names.{◌≡◌, subst, Program, Plan, Course, RunSettles, Asked}
 
 -- what the script alone says of the run
 abbrev pub of_script : Plan Asked → Plan Program

@@ -1,39 +1,11 @@
 -- What one step more does to what a live run sees of a session.
-use Rattle.std.proofs.Common.{◌≡◌, ℕ, ◌+◌, List, [], ◌∷◌, ◌++◌, length, nat_lt, nat_le, ◌<◌, ◌≤◌, take, Option, Some, None, Result, Ok, Err, refl, ap, sym, subst, ◌∙◌, append_assoc, append-nil, slice_get}
-use Rattle.std.proofs.lemmas.Bool.{cond_both}
-use Rattle.std.proofs.lemmas.Option.{slice_get_within, none-some}
-use Rattle.std.specs.Prelude.{option_to_list}
-use Rattle.std.specs.List.{flat_map}
-use Rattle.uv_ids.specs.declared.id.Id.{Id}
-use Rattle.uv_ids.specs.declared.id.Var.{Var}
-use Rattle.uv_ids.specs.declared.code.Code.{Code}
-use Rattle.uv_ids.specs.declared.event.Event.{Event}
-use Rattle.uv_ids.specs.declared.event.Event.TheVariants.{Loop, Take, Finish, Send, Tick}
-use Rattle.uv_ids.specs.declared.fault.Why.{Why}
-use Rattle.uv_ids.specs.declared.fault.Why.TheVariants.{Ended}
-use Rattle.uv_ids.specs.declared.seen.Seen.{Seen}
-use Rattle.uv_records.specs.declared.handle.HandleRecord.{HandleRecord}
-use Rattle.uv_script.specs.declared.op.MainOp.{MainOp}
-use Rattle.uv_script.specs.Program.{Program, lines_in, order_of}
-use Rattle.uv_work.specs.declared.event.PoolEvent.{PoolEvent}
-use Rattle.uv_model.specs.declared.place.Body.{Body}
-use Rattle.uv_model.specs.declared.place.Place.{Place}
-use Rattle.uv_model.specs.declared.place.Place.TheVariants.{Main, Running}
-use Rattle.uv_model.specs.declared.place.Run.{Run}
-use Rattle.uv_model.specs.declared.place.Stage.{Stage}
+use Rattle.uv_run.proofs.Names.{◌≡◌, ℕ, ◌+◌, List, [], ◌∷◌, ◌++◌, length, nat_lt, nat_le, ◌<◌, ◌≤◌, take, Option, Some, None, Result, Ok, Err, refl, ap, sym, subst, ◌∙◌, append_assoc, append-nil, slice_get, cond_both, slice_get_within, none-some, option_to_list, flat_map, Id, Var, Code, Event, Loop, Take, Finish, Send, Tick, Why, Ended, Seen, HandleRecord, MainOp, Program, lines_in, order_of, PoolEvent, Body, Place, Main, Running, Run, Stage, Request, State, live_handle, Next, Moves, Refuses, next_work, work_of, lines, refusal_of, found_both, stage_refusal, stage_moves, body_moves, main_moves, after-moves, seen_by-moves, seen_by-nil, line_events, pool_events, those, those_more, those_all, events_in, is_polling}
 use Rattle.uv_model.specs.declared.place.Stage.TheVariants as stage
-use Rattle.uv_work.specs.declared.request.Request.{Request}
-use Rattle.uv_model.specs.State.{State, live_handle}
 use Rattle.uv_model.specs.Ops as ops
 use Rattle.uv_model.specs.Next as step
-use Rattle.uv_model.specs.Next.{Next, Moves, Refuses, next, next_work, work_of}
-use Rattle.uv_model.specs.After.{after, seen_by, lines, refusal_of}
-use Rattle.uv_model.proofs.Found.{found_both}
-use Rattle.uv_model.proofs.Refusals.{stage_refusal, stage_moves, body_moves, main_moves}
-use Rattle.uv_model.proofs.Runs.{after-moves, seen_by-moves, seen_by-nil}
-use Rattle.uv_order.specs.PoolEvents.{line_events, pool_events}
-use Rattle.uv_session.proofs.Traces.{those, those_more, those_all}
-use Rattle.uv_run.specs.Events.{events_by, events_in, refusal_after, is_polling, polls_after, hours_after}
+use Rattle.uv_model.specs.Next.{next}
+use Rattle.uv_model.specs.After.{after, seen_by}
+use Rattle.uv_run.specs.Events.{events_by, refusal_after, polls_after, hours_after}
 
 -- ---- the pool's events
 

@@ -41,14 +41,8 @@ pub fn live_within<M: Machine, C: Clock, G: Gate + Sync, R: Threads + Wait + Syn
         Ok(lines) => lines,
         Err(_) => return Err(Fault::Memory),
     };
-    let machine = match M::begin(alloc, script) {
-        Ok(machine) => machine,
-        Err(fault) => return Err(fault),
-    };
-    let session = match LiveSession::of(alloc, Session::new(alloc, machine, limit), lines) {
-        Ok(session) => session,
-        Err(fault) => return Err(fault),
-    };
+    let machine = M::begin(alloc, script)?;
+    let session = LiveSession::of(alloc, Session::new(alloc, machine, limit), lines)?;
     match uv_live::live(rt, alloc, session, clock, gate) {
         Ok(session) => Ok(session.into_session()),
         Err(fault) => Err(fault),

@@ -1,21 +1,8 @@
 -- One more line, and all lines.
-use Rattle.std.proofs.Common.{◌≡◌, ◌≢◌, ◌⊎◌, inl, inr, ℕ, ◌+◌, ◌<◌, ◌≤◌, Bool, true, false, not, ◌&&◌, ◌==◌, cond, nat_lt, List, [], ◌∷◌, ◌++◌, length, map, Option, Some, None, Err, Contains, refl, ap, sym, subst, ◌∙◌, arith, append_assoc, append-nil, length-append}
-use Rattle.std.specs.List.{onto_first}
-use Rattle.std.proofs.lemmas.Bool.{cases_Bool, cond_both, and_parts, and_from, ltb-true, lt-ltb}
-use Rattle.std.proofs.lemmas.List.{map-append, length-map}
-use Rattle.std.proofs.lemmas.List.Quantifiers.{all_pairs_push}
-use Rattle.std.proofs.lemmas.List.Elements.{Contains-get_or}
-use Rattle.std.proofs.lemmas.Option.{same_Some, cond_some, none-some, slice_get_within}
-use Rattle.uv_ids.specs.declared.fault.Fault.{Fault}
+use Rattle.uv_script.proofs.ProofNames.{◌≡◌, ◌≢◌, ◌⊎◌, inl, inr, ℕ, ◌+◌, ◌<◌, ◌≤◌, Bool, true, false, not, ◌&&◌, ◌==◌, cond, nat_lt, List, [], ◌∷◌, ◌++◌, length, map, Option, Some, None, Err, Contains, refl, ap, sym, subst, ◌∙◌, arith, append_assoc, append-nil, length-append, onto_first, cases_Bool, cond_both, and_parts, and_from, ltb-true, lt-ltb, map-append, length-map, all_pairs_push, Contains-get_or, same_Some, cond_some, none-some, slice_get_within, Fault, Settings, Statement, Declares, InMain, InCallback, Sizes, HasWorkers, Orders, InThread, Says, declares, in_main, runs, closes_loop, in_callback, in_call, sizes, sizes_to, has_workers, orders, in_thread, HasRoom, IsNew, with_statement, with_said, Draft, Reads, skips, says, ReadsAll, none, one, IsBadLineFrom, ParsesFrom, MOST_NAMES, MOST_LINES, lines_of, fields_of, Program, line_count, has_room, is_new, IsSound, IsSaid, ReadsLine, is_line, is_skipped}
 use Rattle.uv_ids.specs.declared.fault.Fault.TheVariants as fault
 use Rattle.uv_ids.specs.declared.seen.Callback.TheVariants as callback
-use Rattle.uv_script.specs.declared.settings.Settings.{Settings}
-use Rattle.uv_script.specs.Grammar.{Statement, Declares, InMain, InCallback, Sizes, HasWorkers, Orders, InThread, Says, declares, in_main, runs, closes_loop, in_callback, in_call, sizes, sizes_to, has_workers, orders, in_thread, HasRoom, IsNew, with_statement, with_said, Draft, Reads, skips, says, ReadsAll, none, one, IsBadLineFrom, ParsesFrom}
-use Rattle.uv_script.specs.Limits.{MOST_NAMES, MOST_LINES}
-use Rattle.uv_script.specs.Lines.{lines_of, fields_of}
-use Rattle.uv_script.specs.Program.{Program, line_count}
-use Rattle.uv_script.specs.Reading.{statement_of, has_room, is_new, IsSound, IsSaid, after_line, ReadsLine}
-use Rattle.uv_script.specs.Checks.{is_line, is_skipped}
+use Rattle.uv_script.specs.Reading.{statement_of, after_line}
 use Rattle.uv_script.proofs.Agrees.{AreDistinct, bound, statement_sound, statement_complete}
 use Rattle.uv_script.proofs.Checks.{is_line_decides, is_skipped_decides}
 

@@ -1,34 +1,14 @@
 -- The reader's functions agree with the grammar.
-use Rattle.std.proofs.Common.{◌≡◌, ◌≢◌, inl, inr, ℕ, ◌<◌, ◌≤◌, ◌^◌, true, false, ◌&&◌, ◌==◌, cond, nat_le, nat_lt, List, [], ◌∷◌, Option, Some, None, slice_get, option_map, Contains, refl, ap, sym, subst, ◌∙◌}
-use Rattle.std.specs.Prelude.{codes, is_none, option_and_then}
-use Rattle.std.specs.List.{AllPairs, join_with_byte}
-use Rattle.std.specs.Str.{bytes_eq}
-use Rattle.std.proofs.lemmas.Bool.{cases_order, and_parts, and_from, eqb-true, ltb-true, lt-ltb, leb-true, le-leb}
-use Rattle.std.proofs.lemmas.Option.{same_Some, none-some, cond_some, slice_get_within, get_or_from_slice_get}
-use Rattle.uv_ids.specs.declared.id.Var.{Var}
-use Rattle.uv_ids.specs.declared.phase.Mode.{Mode}
-use Rattle.uv_ids.specs.declared.seen.Callback.{Callback}
+use Rattle.uv_script.proofs.ProofNames.{◌≡◌, ◌≢◌, inl, inr, ℕ, ◌<◌, ◌≤◌, ◌^◌, true, false, ◌&&◌, ◌==◌, cond, nat_le, nat_lt, List, [], ◌∷◌, Option, Some, None, slice_get, option_map, Contains, refl, ap, sym, subst, ◌∙◌, codes, is_none, option_and_then, AllPairs, join_with_byte, bytes_eq, cases_order, and_parts, and_from, eqb-true, ltb-true, lt-ltb, leb-true, le-leb, same_Some, none-some, cond_some, slice_get_within, get_or_from_slice_get, Var, Mode, Callback, Order, kind_word, mode_word, order_word, MOST_SENDERS, Op, Statement, Declares, InMain, InCallback, Sizes, HasWorkers, Orders, InThread, named_word, bare_word, IsOp, init, start, repeat, queue, queue_text, on_name, bare, callback_word, Says, declares, in_main, runs, closes_loop, in_callback, in_call, sizes, sizes_to, has_workers, orders, in_thread, MOST_SLOTS, first_of, none_left, start_by, filled, text_by, marked, Task, rest_of, IsTask, text_of, IsSlotCount, LAST_GENERATION, IsWorkerCount, is_name, IsName, IsNumber, IsDeclared, task_of-complete, task_of-sound}
 use Rattle.uv_ids.specs.declared.seen.Callback.TheVariants as callback
-use Rattle.uv_ids.specs.declared.order.Order.{Order}
-use Rattle.uv_ids.specs.Words.{kind_word, mode_word, order_word}
-use Rattle.uv_script.specs.Limits.{MOST_SENDERS}
-use Rattle.uv_script.specs.declared.op.Op.{Op}
 use Rattle.uv_script.specs.declared.op.Op.TheVariants as op
 use Rattle.uv_script.specs.declared.op.MainOp.TheVariants as main
-use Rattle.uv_script.specs.Grammar.{Statement, Declares, InMain, InCallback, Sizes, HasWorkers, Orders, InThread, named_word, bare_word, IsOp, init, start, repeat, queue, queue_text, on_name, bare, callback_word, Says, declares, in_main, runs, closes_loop, in_callback, in_call, sizes, sizes_to, has_workers, orders, in_thread}
-use Rattle.uv_script.specs.Limits.{MOST_SLOTS}
-use Rattle.uv_script.specs.Reading.{first_of, none_left, place_of, kind_of, mode_of, version_of, init_of, timer_start_of, start_by, start_of, repeat_of, filled, text_by, queue_of, bare_op, named_op, name_alone, short_op_of, op_of, declaration_of, run_of, close_loop_of, main_by, main_of, call_of, marked, in_calls_of, in_call_of, calls_of, callback_of, last_of, size_of, workers_of, orders_of, sender_of, thread_of, setting_of, statement_of}
-use Rattle.uv_work.specs.declared.task.Task.{Task}
-use Rattle.uv_script.specs.Lines.{rest_of}
+use Rattle.uv_script.specs.Reading.{place_of, kind_of, mode_of, version_of, init_of, timer_start_of, start_of, repeat_of, queue_of, bare_op, named_op, name_alone, short_op_of, op_of, declaration_of, run_of, close_loop_of, main_by, main_of, call_of, in_calls_of, in_call_of, calls_of, callback_of, last_of, size_of, workers_of, orders_of, sender_of, thread_of, setting_of, statement_of}
 use Rattle.uv_work.specs.TaskReading.{task_of}
-use Rattle.uv_work.specs.Tasks.{IsTask, text_of}
-use Rattle.uv_script.specs.Program.{IsSlotCount, LAST_GENERATION, IsWorkerCount}
-use Rattle.uv_script.specs.Checks.{is_name, number_of}
-use Rattle.uv_script.specs.Words.{IsName, IsNumber, IsDeclared}
+use Rattle.uv_script.specs.Checks.{number_of}
 use Rattle.uv_script.proofs.OpWords.{named_op-sound, bare_op-sound}
 use Rattle.uv_script.proofs.KindWords.{kind_of-some, kind_of-sound, mode_of-some, mode_of-sound, version_of-some, version_of-sound, choice_cases}
 use Rattle.uv_script.proofs.Places.{place_of-sound, place_of-finds}
-use Rattle.uv_work.proofs.TaskLemmas.{task_of-complete, task_of-sound}
 use Rattle.uv_script.proofs.Checks.{is_name_decides, number_of-sound, number_of-complete}
 
 -- a step of a reader that went well

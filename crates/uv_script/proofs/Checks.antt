@@ -1,19 +1,7 @@
 -- The tests decide the rules.
-use Rattle.std.proofs.Common.{◌≡◌, ◌≢◌, ℕ, zero, suc, ◌<◌, ◌≤◌, ◌^◌, ◌⊎◌, inl, inr, true, false, not, ◌&&◌, ◌==◌, cond, nat_le, List, [], ◌∷◌, length, get_or, Option, Some, None, Ok, Err, IfSome, IfNone, All, refl, ap, sym, ◌∙◌, subst, arith}
-use Rattle.std.specs.Bool.{Decides}
-use Rattle.std.specs.List.{list_all}
-use Rattle.std.specs.Str.{all_ascii_digits, IsUtf8, IsAscii}
-use Rattle.std.specs.Str.Parse.{digits_value, ParsesUnsigned}
+use Rattle.uv_script.proofs.ProofNames.{◌≡◌, ◌≢◌, ℕ, zero, suc, ◌<◌, ◌≤◌, ◌^◌, ◌⊎◌, inl, inr, true, false, not, ◌&&◌, ◌==◌, cond, nat_le, List, [], ◌∷◌, length, get_or, Option, Some, None, Ok, Err, IfSome, IfNone, All, refl, ap, sym, ◌∙◌, subst, arith, Decides, list_all, all_ascii_digits, IsUtf8, IsAscii, digits_value, ParsesUnsigned, and_parts, and_from, leb-true, le-leb, ltb-true, lt-ltb, eqb-true, eqb-false, ne_eqb, not-true, both_ways, cases_Bool, Decides-by_and, Decides-or, Decides-eqb, decimal-digits_value, digits_decimal, digits_value-decimal, decimal_nonempty, decimal_digit, first_decimal, IsAscii-decimal, parse-decimal, cond_some, IsUtf8-from_ascii, IsNumeralModel, numerals_by_value, tells_all_ascii_digits, parse_plain, IsLine, IsSkipped, empty, comment, IsLetter, IsDigit, IsName, IsNumber, is_printable, is_line, is_skipped, is_name_byte, is_name, is_canonical, is_number}
 use Rattle.std.specs.Fmt.{decimal}
-use Rattle.std.proofs.lemmas.Bool.{and_parts, and_from, leb-true, le-leb, ltb-true, lt-ltb, eqb-true, eqb-false, ne_eqb, not-true, both_ways, cases_Bool}
-use Rattle.std.proofs.lemmas.Bool.Decides.{Decides-by_and, Decides-or, Decides-eqb}
-use Rattle.std.proofs.lemmas.Fmt.{decimal-digits_value, digits_decimal, digits_value-decimal, decimal_nonempty, decimal_digit, first_decimal, IsAscii-decimal, parse-decimal}
-use Rattle.std.proofs.lemmas.Option.{cond_some}
-use Rattle.std.proofs.lemmas.Str.{IsUtf8-from_ascii}
-use Rattle.std.proofs.lemmas.Str.Parse.{IsNumeralModel, numerals_by_value, tells_all_ascii_digits, parse_plain}
-use Rattle.uv_script.specs.Lines.{IsLine, IsSkipped, empty, comment}
-use Rattle.uv_script.specs.Words.{IsLetter, IsDigit, IsName, IsNumber}
-use Rattle.uv_script.specs.Checks.{is_printable, is_line, is_skipped, is_name_byte, is_name, is_canonical, is_number, number_of}
+use Rattle.uv_script.specs.Checks.{number_of}
 
 pub within : (low high b : ℕ) → Decides (nat_le low b && nat_le b high) ((low ≤ b) × (b ≤ high))
 within low high b = (

@@ -1,11 +1,5 @@
 -- Lines and fields, one at a time.
-use Rattle.std.proofs.Common.{◌≡◌, ℕ, ◌==◌, false, cond, List, [], ◌∷◌, ◌++◌, length, Option, Some, None, option_map, All, refl, ap, sym, ◌∙◌, arith}
-use Rattle.std.specs.Borrow.{Bor}
-use Rattle.std.specs.List.{onto_first, join_with_byte}
-use Rattle.std.proofs.lemmas.List.Elements.{All-head, All-tail}
-use Rattle.std.proofs.lemmas.List.Splits.{slice_split_at, slice_split_none, length-slice_split, join_with_byte-slice_split}
-use Rattle.uv_script.specs.Fields.{fields_left}
-use Rattle.uv_script.specs.Lines.{lines_of, fields_of, rest_of, IsCut}
+use Rattle.uv_script.proofs.ProofNames.{◌≡◌, ℕ, ◌==◌, false, cond, List, [], ◌∷◌, ◌++◌, length, Option, Some, None, option_map, All, refl, ap, sym, ◌∙◌, arith, Bor, onto_first, join_with_byte, All-head, All-tail, slice_split_at, slice_split_none, length-slice_split, join_with_byte-slice_split, fields_left, lines_of, fields_of, rest_of, IsCut}
 
 abbrev pub AreNot : ℕ → List ℕ → Type 0
 AreNot byte bs = All (λ b. (b == byte) ≡ false) bs

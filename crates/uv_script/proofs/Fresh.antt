@@ -1,16 +1,5 @@
 -- One more name.
-use Rattle.std.proofs.Common.{if◌then◌else◌, ◌≡◌, ◌≢◌, inl, inr, ℕ, suc, ◌<◌, false, ◌||◌, List, [], ◌∷◌, ◌++◌, length, map, Contains, refl, ap, sym, ◌∙◌, subst, arith, length-append}
-use Rattle.std.specs.List.{list_any}
-use Rattle.std.specs.Str.{bytes_eq}
-use Rattle.std.proofs.lemmas.Bool.{cases_Bool}
-use Rattle.std.proofs.lemmas.List.{map-append}
-use Rattle.std.proofs.lemmas.List.Elements.{All-push, Contains-get_or}
-use Rattle.std.proofs.lemmas.List.Quantifiers.{all_pairs_push}
-use Rattle.std.proofs.lemmas.Slice.Eq.{bytes_eq-Decides}
-use Rattle.indexmap.specs.IndexSet.{insert_key}
-use Rattle.uv_script.specs.Limits.{MOST_NAMES}
-use Rattle.uv_script.specs.Names.{AreNames}
-use Rattle.uv_script.specs.Words.{IsName}
+use Rattle.uv_script.proofs.ProofNames.{if◌then◌else◌, ◌≡◌, ◌≢◌, inl, inr, ℕ, suc, ◌<◌, false, ◌||◌, List, [], ◌∷◌, ◌++◌, length, map, Contains, refl, ap, sym, ◌∙◌, subst, arith, length-append, list_any, bytes_eq, cases_Bool, map-append, All-push, Contains-get_or, all_pairs_push, bytes_eq-Decides, insert_key, MOST_NAMES, AreNames, IsName}
 
 -- a name that isn't there is told from each that is
 none_equal : {A : Type 0} (f : A → List ℕ) (ks : List A) (name : List ℕ) → (Contains (map f ks) name → ⊥) →

@@ -1,11 +1,5 @@
 -- What the type of scripts keeps.
-use Rattle.std.proofs.Common.{◌≡◌, ℕ, ◌+◌, ◌<◌, [], ◌∷◌, length, All, sym, ap, ◌∙◌, subst, refl, arith, length-append}
-use Rattle.std.proofs.lemmas.List.Elements.{Contains-get_or}
-use Rattle.std.proofs.lemmas.List.Sums.{sum_by_push, sum_by-set}
-use Rattle.std.proofs.lemmas.Option.{unwrap_or-slice_get}
-use Rattle.uv_script.specs.Grammar.{Statement, Declares, InMain, InCallback, Sizes, HasWorkers, Orders, InThread, HasRoom, with_statement, WasRead, IsReadScript, blank}
-use Rattle.uv_script.specs.Program.{Program, no_callbacks, callbacks_of, with_line, callback_count, line_count, with_workers, IsWorkerCount, IsThreadLine, IsWhole}
-use Rattle.uv_script.specs.Reading.{IsSound, IsSaid}
+use Rattle.uv_script.proofs.ProofNames.{◌≡◌, ℕ, ◌+◌, ◌<◌, [], ◌∷◌, length, All, sym, ap, ◌∙◌, subst, refl, arith, length-append, Contains-get_or, sum_by_push, sum_by-set, unwrap_or-slice_get, Statement, Declares, InMain, InCallback, Sizes, HasWorkers, Orders, InThread, HasRoom, with_statement, WasRead, IsReadScript, blank, Program, no_callbacks, callbacks_of, with_line, callback_count, line_count, with_workers, IsWorkerCount, IsThreadLine, IsWhole, IsSound, IsSaid}
 use Rattle.uv_script.proofs.AfterLines.{says_sound, said_sound}
 use Rattle.uv_script.proofs.ReadBack.{was_read}
 use Rattle.uv_script.proofs.Written.{AreWritten, count_more, script_written, after_said, set_workers, written_none}

@@ -1,17 +1,8 @@
 -- Words of kinds, modes and orders.
-use Rattle.std.proofs.Common.{◌≡◌, ◌⊎◌, inl, inr, ℕ, cond, List, Some, None, ap, sym, ◌∙◌}
-use Rattle.std.specs.Prelude.{codes}
-use Rattle.std.specs.Str.{bytes_eq}
-use Rattle.std.proofs.lemmas.Bool.{cases_Bool}
-use Rattle.std.proofs.lemmas.Option.{same_Some}
-use Rattle.std.proofs.lemmas.Slice.Eq.{bytes_eq-Decides}
-use Rattle.uv_ids.specs.declared.phase.Kind.{Kind}
+use Rattle.uv_script.proofs.ProofNames.{◌≡◌, ◌⊎◌, inl, inr, ℕ, cond, List, Some, None, ap, sym, ◌∙◌, codes, bytes_eq, cases_Bool, same_Some, bytes_eq-Decides, Kind, Mode, Order, kind_word, IsNoKind, mode_word, IsNoMode, order_word, IsNoOrder}
 use Rattle.uv_ids.specs.declared.phase.Kind.TheVariants as kind
-use Rattle.uv_ids.specs.declared.phase.Mode.{Mode}
 use Rattle.uv_ids.specs.declared.phase.Mode.TheVariants as mode
-use Rattle.uv_ids.specs.declared.order.Order.{Order}
 use Rattle.uv_ids.specs.declared.order.Order.TheVariants as order
-use Rattle.uv_ids.specs.Words.{kind_word, IsNoKind, mode_word, IsNoMode, order_word, IsNoOrder}
 use Rattle.uv_script.specs.Reading.{kind_of, mode_of, version_of}
 
 -- a choice by a word

@@ -1,15 +1,16 @@
-pub mod Places
+pub mod AfterLines
+pub mod Agrees
 pub mod Checks
 pub mod Cuts
-pub mod KindWords
-pub mod Fresh
-pub mod OpWords
-pub mod Agrees
-pub mod AfterLines
-pub mod OneReading
-pub mod SomeReading
 pub mod Exact
+pub mod Fresh
+pub mod Kept
+pub mod KindWords
+pub mod OneReading
+pub mod OpWords
+pub mod Places
+mod ProofNames
+pub mod ReadBack
+pub mod SomeReading
 pub mod Texts
 pub mod Written
-pub mod ReadBack
-pub mod Kept

@@ -1,11 +1,5 @@
 -- A text is read in one way.
-use Rattle.std.proofs.Common.{◌≡◌, inl, inr, ℕ, ◌+◌, ◌<◌, List, [], ◌∷◌, ◌++◌, length, refl, ap, sym, subst, ◌∙◌, arith}
-use Rattle.std.proofs.lemmas.Bool.{cases_order}
-use Rattle.std.proofs.lemmas.Option.{same_Some}
-use Rattle.uv_script.specs.Grammar.{Draft, Reads, ReadsAll, none, one, unread, IsScript, IsBadLine}
-use Rattle.uv_script.specs.Laws.{HasOneScript, HasNoBadLine, HasOneBadLine}
-use Rattle.uv_script.specs.Lines.{lines_of}
-use Rattle.uv_script.specs.Program.{Program}
+use Rattle.uv_script.proofs.ProofNames.{◌≡◌, inl, inr, ℕ, ◌+◌, ◌<◌, List, [], ◌∷◌, ◌++◌, length, refl, ap, sym, subst, ◌∙◌, arith, cases_order, same_Some, Draft, Reads, ReadsAll, none, one, unread, IsScript, IsBadLine, HasOneScript, HasNoBadLine, HasOneBadLine, lines_of, Program}
 use Rattle.uv_script.proofs.Agrees.{AreDistinct}
 use Rattle.uv_script.proofs.AfterLines.{after_complete, distinct_reads, distinct_all, distinct_none}
 

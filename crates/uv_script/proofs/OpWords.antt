@@ -1,12 +1,6 @@
 -- Words of ops.
-use Rattle.std.proofs.Common.{◌≡◌, inl, inr, ℕ, cond, List, Option, Some, None, refl, ap, sym, ◌∙◌}
-use Rattle.std.specs.Prelude.{codes}
-use Rattle.std.specs.Str.{bytes_eq}
-use Rattle.std.proofs.lemmas.Option.{same_Some}
-use Rattle.uv_ids.specs.declared.id.Var.{Var}
-use Rattle.uv_script.specs.declared.op.Op.{Op}
+use Rattle.uv_script.proofs.ProofNames.{◌≡◌, inl, inr, ℕ, cond, List, Option, Some, None, refl, ap, sym, ◌∙◌, codes, bytes_eq, same_Some, Var, Op, named_word, bare_word}
 use Rattle.uv_script.specs.declared.op.Op.TheVariants as op
-use Rattle.uv_script.specs.Grammar.{named_word, bare_word}
 use Rattle.uv_script.specs.Reading.{named_op, bare_op}
 use Rattle.uv_script.proofs.KindWords.{choice_cases}
 

@@ -1,16 +1,6 @@
 -- The place of a name among names.
-use Rattle.std.proofs.Common.{◌≡◌, ℕ, ◌+◌, ◌≤◌, Bool, true, not, cond, List, [], ◌∷◌, length, map, get_or, Some, None, slice_get, Option, option_map, Contains, refl, ap, sym, ◌∙◌, arith}
-use Rattle.std.proofs.lemmas.List.{length-map}
-use Rattle.std.specs.List.{position, position_or_len, prefix_len}
-use Rattle.std.specs.Str.{bytes_eq}
-use Rattle.uv_ids.specs.declared.id.Var.{Var}
+use Rattle.uv_script.proofs.ProofNames.{◌≡◌, ℕ, ◌+◌, ◌≤◌, Bool, true, not, cond, List, [], ◌∷◌, length, map, get_or, Some, None, slice_get, Option, option_map, Contains, refl, ap, sym, ◌∙◌, arith, length-map, position, position_or_len, prefix_len, bytes_eq, Var, IsDeclared, common_steps, position-Some, prefix_len_passes, slice_get-get_or, same_Some, bytes_eq-Decides}
 use Rattle.uv_script.specs.Reading.{place_of}
-use Rattle.uv_script.specs.Words.{IsDeclared}
-use Rattle.std.proofs.lemmas.Grind.{common_steps}
-use Rattle.std.proofs.lemmas.List.Quantifiers.{position-Some}
-use Rattle.std.proofs.lemmas.List.Sums.{prefix_len_passes}
-use Rattle.std.proofs.lemmas.Option.{slice_get-get_or, same_Some}
-use Rattle.std.proofs.lemmas.Slice.Eq.{bytes_eq-Decides}
 
 abbrev as_var : ℕ → Var
 as_var n = record { 0 = n }

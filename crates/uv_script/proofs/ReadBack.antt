@@ -1,36 +1,9 @@
 -- A script's text is read back.
-use Rattle.std.proofs.Common.{◌≡◌, ◌⊎◌, inl, inr, ℕ, zero, suc, ◌+◌, ◌<◌, ◌≤◌, ◌^◌, true, false, ◌&&◌, ◌==◌, nat_le, List, [], ◌∷◌, ◌++◌, length, map, get_or, Ok, Err, Result, slice_get, unwrap_or, Contains, All, refl, ap, sym, subst, ◌∙◌, arith, length-append, append-nil, append_assoc}
-use Rattle.std.specs.Prelude.{codes, decimal, slice_set, sum_by}
-use Rattle.std.specs.List.{AllByRecursion, list_all}
-use Rattle.std.specs.Char.{is_ascii_digit}
-use Rattle.std.specs.Str.{all_ascii_digits}
-use Rattle.std.proofs.Math.Seq.{get_or-append_seam, set-append_seam}
-use Rattle.std.proofs.lemmas.Bool.{ne_eqb}
-use Rattle.std.proofs.lemmas.Bool.Decides.{Decides-by_and}
-use Rattle.std.proofs.lemmas.Fmt.{digits_decimal, length-decimal-le}
-use Rattle.std.proofs.lemmas.List.{get_or_append_left}
-use Rattle.std.proofs.lemmas.List.Elements.{All-append}
-use Rattle.std.proofs.lemmas.List.Sums.{sum_by-cons, sum_by-append}
-use Rattle.std.proofs.lemmas.Option.{unwrap_or-slice_get}
-use Rattle.std.proofs.lemmas.Str.Parse.{numerals_by_value, tells_all_ascii_digits}
-use Rattle.uv_ids.specs.declared.fault.Fault.{Fault}
+use Rattle.uv_script.proofs.ProofNames.{◌≡◌, ◌⊎◌, inl, inr, ℕ, zero, suc, ◌+◌, ◌<◌, ◌≤◌, ◌^◌, true, false, ◌&&◌, ◌==◌, nat_le, List, [], ◌∷◌, ◌++◌, length, map, get_or, Ok, Err, Result, slice_get, unwrap_or, Contains, All, refl, ap, sym, subst, ◌∙◌, arith, length-append, append-nil, append_assoc, codes, decimal, slice_set, sum_by, AllByRecursion, list_all, is_ascii_digit, all_ascii_digits, get_or-append_seam, set-append_seam, ne_eqb, Decides-by_and, digits_decimal, length-decimal-le, get_or_append_left, All-append, sum_by-cons, sum_by-append, unwrap_or-slice_get, numerals_by_value, tells_all_ascii_digits, Fault, Var, Order, Callback, MainOp, CallbackLine, ArenaSize, ThreadLine, Declares, InMain, InCallback, Sizes, HasWorkers, Orders, InThread, declares, sizes_to, has_workers, orders, Draft, Reads, skips, says, ReadsAll, none, one, unread, WasRead, IsScript, Parses, IsBack, IsReadBack, MOST_NAMES, MOST_LINES, lines_of, fields_of, IsLine, Program, Callbacks, no_callbacks, callbacks_of, lines_in_callbacks, with_line, callback_count, line_count, IsWorkerCount, order_line, workers_line, slots_line, var_line, main_line, callback_line, name_lines, callback_lines, thread_line, script_lines, lines_text, IsLetter, IsDigit, IsName, IsNumber}
 use Rattle.uv_ids.specs.declared.fault.Fault.TheVariants as fault
-use Rattle.uv_ids.specs.declared.id.Var.{Var}
-use Rattle.uv_ids.specs.declared.order.Order.{Order}
 use Rattle.uv_ids.specs.declared.order.Order.TheVariants as order
-use Rattle.uv_ids.specs.declared.seen.Callback.{Callback}
 use Rattle.uv_ids.specs.declared.seen.Callback.TheVariants as callback
-use Rattle.uv_script.specs.declared.op.MainOp.{MainOp}
-use Rattle.uv_script.specs.declared.op.CallbackLine.{CallbackLine}
-use Rattle.uv_script.specs.declared.size.ArenaSize.{ArenaSize}
-use Rattle.uv_ids.specs.declared.thread_line.ThreadLine.{ThreadLine}
-use Rattle.uv_script.specs.Grammar.{Declares, InMain, InCallback, Sizes, HasWorkers, Orders, InThread, declares, sizes_to, has_workers, orders, Draft, Reads, skips, says, ReadsAll, none, one, unread, WasRead, IsScript, Parses}
-use Rattle.uv_script.specs.Laws.{IsBack, IsReadBack}
-use Rattle.uv_script.specs.Limits.{MOST_NAMES, MOST_LINES}
-use Rattle.uv_script.specs.Lines.{lines_of, fields_of, IsLine}
-use Rattle.uv_script.specs.Program.{Program, Callbacks, no_callbacks, callbacks_of, lines_of as lines_in_callbacks, with_line, callback_count, line_count, IsWorkerCount}
-use Rattle.uv_script.specs.Text.{order_line, workers_line, slots_line, var_line, main_line, callback_line, name_lines, callback_lines, thread_line, script_lines, lines_text, script_text}
-use Rattle.uv_script.specs.Words.{IsLetter, IsDigit, IsName, IsNumber}
+use Rattle.uv_script.specs.Text.{script_text}
 use Rattle.uv_script.proofs.AfterLines.{with_one}
 use Rattle.uv_script.proofs.Agrees.{AreDistinct}
 use Rattle.uv_script.proofs.Checks.{within, is_line_decides}

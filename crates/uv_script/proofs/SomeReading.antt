@@ -1,8 +1,5 @@
 -- Every text is read in some way.
-use Rattle.std.proofs.Common.{◌≡◌, inl, inr, ℕ, ◌+◌, List, [], ◌∷◌, ◌++◌, length, Option, Some, None, refl, sym, ◌∙◌, subst, append_assoc, append-nil}
-use Rattle.uv_script.specs.Grammar.{Draft, ReadsAll, none, unread}
-use Rattle.uv_script.specs.Laws.{HasReading}
-use Rattle.uv_script.specs.Lines.{lines_of}
+use Rattle.uv_script.proofs.ProofNames.{◌≡◌, inl, inr, ℕ, ◌+◌, List, [], ◌∷◌, ◌++◌, length, Option, Some, None, refl, sym, ◌∙◌, subst, append_assoc, append-nil, Draft, ReadsAll, none, unread, HasReading, lines_of}
 use Rattle.uv_script.specs.Reading.{after_line}
 use Rattle.uv_script.proofs.AfterLines.{after_sound, refused_line, distinct_none, ReadsAll-push}
 

@@ -1,10 +1,6 @@
 -- The text of lines, a line at a time.
-use Rattle.std.proofs.Common.{◌≡◌, ℕ, ◌+◌, ◌<◌, List, [], ◌∷◌, ◌++◌, suc, length, map, drop, get_or, refl, ap, sym, ◌∙◌, arith, append_assoc, append-nil}
-use Rattle.std.specs.Prelude.{codes}
-use Rattle.std.proofs.Math.Seq.{drop-length, drop-cons}
-use Rattle.std.proofs.lemmas.Option.{slice_get-get_or}
-use Rattle.uv_script.specs.Program.{Program}
-use Rattle.uv_script.specs.Text.{text_or_none, name_text, setting_lines, var_line, main_line, name_lines, callback_lines, thread_line, lines_text, script_text}
+use Rattle.uv_script.proofs.ProofNames.{◌≡◌, ℕ, ◌+◌, ◌<◌, List, [], ◌∷◌, ◌++◌, suc, length, map, drop, get_or, refl, ap, sym, ◌∙◌, arith, append_assoc, append-nil, codes, drop-length, drop-cons, slice_get-get_or, Program, text_or_none, name_text, setting_lines, var_line, main_line, name_lines, callback_lines, thread_line, lines_text}
+use Rattle.uv_script.specs.Text.{script_text}
 
 pub lines_text-append : (xs ys : List (List ℕ)) → lines_text (xs ++ ys) ≡ lines_text xs ++ lines_text ys
 lines_text-append [] ys = refl

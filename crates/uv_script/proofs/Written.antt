@@ -1,26 +1,7 @@
 -- What every script's parts are: each was written in a line of its own.
-use Rattle.std.proofs.Common.{◌≡◌, ◌⊎◌, inl, inr, ℕ, zero, suc, ◌+◌, ◌<◌, ◌≤◌, ◌^◌, List, [], ◌∷◌, ◌++◌, length, get_or, slice_get, unwrap_or, Contains, refl, ap, sym, subst, ◌∙◌, arith, length-append, length-set}
-use Rattle.std.specs.Prelude.{slice_set}
-use Rattle.std.proofs.lemmas.Bool.{cases_order}
-use Rattle.std.proofs.lemmas.List.{get_or-set_same, get_or-set_other}
-use Rattle.std.proofs.lemmas.List.Elements.{Contains-push_cases}
-use Rattle.std.proofs.lemmas.List.Sums.{sum_by_push, sum_by-set}
-use Rattle.std.proofs.lemmas.Option.{unwrap_or-slice_get}
-use Rattle.uv_ids.specs.declared.id.Var.{Var}
-use Rattle.uv_ids.specs.declared.order.Order.{Order}
-use Rattle.uv_ids.specs.declared.seen.Callback.{Callback}
+use Rattle.uv_script.proofs.ProofNames.{◌≡◌, ◌⊎◌, inl, inr, ℕ, zero, suc, ◌+◌, ◌<◌, ◌≤◌, ◌^◌, List, [], ◌∷◌, ◌++◌, length, get_or, slice_get, unwrap_or, Contains, refl, ap, sym, subst, ◌∙◌, arith, length-append, length-set, slice_set, cases_order, get_or-set_same, get_or-set_other, Contains-push_cases, sum_by_push, sum_by-set, unwrap_or-slice_get, Var, Order, Callback, MainOp, CallbackLine, ArenaSize, ThreadLine, Statement, Declares, InMain, InCallback, Sizes, HasWorkers, Orders, InThread, Says, declares, in_main, runs, closes_loop, in_callback, in_call, sizes, sizes_to, has_workers, orders, in_thread, HasRoom, with_statement, Draft, Reads, skips, says, ReadsAll, none, one, blank, unread, Makes, MOST_NAMES, MOST_LINES, fields_of, IsLine, Program, Callbacks, no_callbacks, callbacks_of, with_line, lines_in, callback_count, line_count, IsSlotCount, IsWorkerCount, IsSound, var_line, IsName}
 use Rattle.uv_ids.specs.declared.seen.Callback.TheVariants as callback
-use Rattle.uv_script.specs.declared.op.MainOp.{MainOp}
-use Rattle.uv_script.specs.declared.op.CallbackLine.{CallbackLine}
-use Rattle.uv_script.specs.declared.size.ArenaSize.{ArenaSize}
-use Rattle.uv_ids.specs.declared.thread_line.ThreadLine.{ThreadLine}
-use Rattle.uv_script.specs.Grammar.{Statement, Declares, InMain, InCallback, Sizes, HasWorkers, Orders, InThread, Says, declares, in_main, runs, closes_loop, in_callback, in_call, sizes, sizes_to, has_workers, orders, in_thread, HasRoom, with_statement, Draft, Reads, skips, says, ReadsAll, none, one, blank, unread, Makes}
-use Rattle.uv_script.specs.Limits.{MOST_NAMES, MOST_LINES}
-use Rattle.uv_script.specs.Lines.{fields_of, IsLine}
-use Rattle.uv_script.specs.Program.{Program, Callbacks, no_callbacks, callbacks_of, lines_of, with_line, lines_in, callback_count, line_count, IsSlotCount, IsWorkerCount}
-use Rattle.uv_script.specs.Reading.{IsSound}
-use Rattle.uv_script.specs.Text.{var_line}
-use Rattle.uv_script.specs.Words.{IsName}
+use Rattle.uv_script.specs.Program.{lines_of}
 use Rattle.uv_script.proofs.Agrees.{AreDistinct}
 use Rattle.uv_script.proofs.AfterLines.{says_sound, distinct_push, distinct_none}
 use Rattle.uv_script.proofs.Exact.{statement_text, IsKept, IsNoName, line_exact, says_more}

@@ -312,11 +312,7 @@ fn call(digits: &[u8]) -> Option<u32>
     ensures { result ≡ call_of digits.now }
 {
     let call = number(digits)?;
-    if 1 <= call && call < 0x1_0000_0000 {
-        Some(call as u32)
-    } else {
-        None
-    }
+    u32::try_from(call).ok().filter(|call| *call >= 1)
 }
 
 /// What stands behind `@`, in a field that begins with it.
@@ -383,11 +379,7 @@ fn last_generation(mut fields: Fields<'_>) -> Option<u32>
     };
     let last = number(last)?;
     none_left(fields)?;
-    if last < 0x1_0000_0000 {
-        Some(last as u32)
-    } else {
-        None
-    }
+    u32::try_from(last).ok()
 }
 
 #[tactic(auto, unfolding(crate::specs::Reading::size_of))]

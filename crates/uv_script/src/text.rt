@@ -16,10 +16,15 @@ use uv_ids::{Callback, Fault, ThreadLine, Var};
 use uv_work::Task;
 
 /// Writes a number at the end of a text, in decimal digits.
+#[tactic(auto, using(std::proofs::lemmas::Fmt::decimal_digit))]
 pub fn push_number(text: &mut Vec<u8>, number: u64) -> Result<(), AllocError>
     ensures ok { OnOk result (text.new.items ≡ text.old.items ++ decimal number) }
     ensures err { OnErr result (text.new.items ≡ text.old.items) }
 {
+    if number < 10 {
+        text.push(b'0' + number as u8)?;
+        return Ok(());
+    }
     let mut buffer = Buffer::new();
     text.extend_from_slice(buffer.format(number).as_bytes())
 }

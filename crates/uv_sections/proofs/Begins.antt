@@ -1,24 +1,11 @@
 -- A section begins: what the memory stands for then.
-use Rattle.std.proofs.Common.{◌≡◌, ℕ, [], refl, sym, ap, ◌∙◌}
+use Rattle.uv_sections.proofs.Names.{◌≡◌, ℕ, [], refl, sym, ap, ◌∙◌, WatcherKind, list_of, yet_of, Walk, all_yet, SpliceUndo, IsSpliced, Place, State, watched, with_watched, refreshed, request_of, Image, working_of, OnlySlots, StandsFor, Listed, all_but_two, ids_moved, clock_is, time_is}
 use Rattle.uv_records.specs.declared.lists.ListName.TheVariants as name
-use Rattle.uv_records.specs.declared.lists.WatcherKind.{WatcherKind}
-use Rattle.uv_records.specs.Lists.{list_of, yet_of}
-use Rattle.uv_records.specs.Walks.{Walk, all_yet}
-use Rattle.uv_arena.specs.declared.undo.SpliceUndo.{SpliceUndo}
-use Rattle.uv_arena.specs.Calls.{IsSpliced}
 use Rattle.uv_arena.specs.Image as arena
 use Rattle.uv_watch.specs.Watch as watch
 use Rattle.uv_requests.specs.Calls as work
-use Rattle.uv_model.specs.declared.place.Place.{Place}
-use Rattle.uv_model.specs.State.{State, watched, with_watched, refreshed}
-use Rattle.uv_work.specs.Content.{request_of}
-use Rattle.uv_step.specs.Image.{Image, working_of, OnlySlots}
-use Rattle.uv_stands.specs.Stands.{StandsFor}
-use Rattle.uv_stands.proofs.Lists.{Listed, all_but_two}
-use Rattle.uv_stands.proofs.Pools.{ids_moved}
 use Rattle.uv_sections.proofs.Keeping.{sections_kept, all_timers, listed_as, stands_then}
 use Rattle.uv_sections.proofs.Watched.{list_is, list_now, yet_now, others_stay, arena_stays, time_stays, state_stays, beside_closing, beside_done}
-use Rattle.uv_stands.proofs.Single.{clock_is, time_is}
 
 module _ (i j : Image Place) where
   -- a section of watchers

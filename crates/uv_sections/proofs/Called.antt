@@ -1,36 +1,8 @@
 -- A callback begins behind a change: of what was freed, or of what moved on.
-use Rattle.std.proofs.Common.{◌≡◌, ◌≢◌, ℕ, Bool, true, if◌then◌else◌, List, Option, None, ◌<◌, ◌^◌, drop, Some, sym, ap, ◌∙◌, subst}
-use Rattle.uv_ids.specs.declared.id.Id.{Id}
-use Rattle.uv_ids.specs.declared.id.Var.{Var}
-use Rattle.uv_ids.specs.declared.seen.Seen.{Seen}
+use Rattle.uv_sections.proofs.Names.{◌≡◌, ◌≢◌, ℕ, Bool, true, if◌then◌else◌, List, Option, None, ◌<◌, ◌^◌, drop, Some, sym, ap, ◌∙◌, subst, Id, Var, Seen, Callback, HandleRecord, WatcherKind, woken, Request, Program, arena_size, Run, Async, Timers, TimersOf, Firing, restarted, Fires, Goes, Place, State, with_handle, digest_in, Moves, calls, close_front, collect_request, walk, walk_async, call, at, fire, front_moved, named, count_of, Record, Recorded, Image, Held, IsReady, StandsFor, RequestGone, HandleGone, HandleMoved, moved_state}
 use Rattle.uv_ids.specs.declared.seen.Seen.TheVariants as seen
-use Rattle.uv_ids.specs.declared.seen.Callback.{Callback}
 use Rattle.uv_ids.specs.declared.seen.Callback.TheVariants as callback
-use Rattle.uv_records.specs.declared.handle.HandleRecord.{HandleRecord}
-use Rattle.uv_records.specs.declared.lists.WatcherKind.{WatcherKind}
 use Rattle.uv_records.specs.declared.lists.WatcherKind.TheVariants as watcher
-use Rattle.uv_records.specs.Handles.{woken}
-use Rattle.uv_work.specs.declared.request.Request.{Request}
-use Rattle.uv_script.specs.Program.{Program, arena_size}
-use Rattle.uv_model.specs.declared.place.Run.{Run}
-use Rattle.uv_model.specs.declared.place.Stage.TheVariants.{Async, Timers}
-use Rattle.uv_model.specs.declared.place.TimersOf.{TimersOf}
-use Rattle.uv_model.specs.declared.place.Timing.TheVariants.{Firing}
-use Rattle.uv_model.specs.Timers.{restarted}
-use Rattle.uv_timing.specs.Section.{Fires}
-use Rattle.uv_stands.specs.Doing.{Goes}
-use Rattle.uv_model.specs.declared.place.Place.{Place}
-use Rattle.uv_model.specs.State.{State, with_handle}
-use Rattle.uv_work.specs.Requests.{digest_in}
-use Rattle.uv_model.specs.Next.{Moves, calls, close_front, collect_request, walk, walk_async, call, at, fire, front_moved}
-use Rattle.uv_records.specs.Names.{named, count_of}
-use Rattle.uv_step.specs.Record.{Record}
-use Rattle.uv_step.specs.Undo.{Recorded}
-use Rattle.uv_step.specs.Image.{Image, Held}
-use Rattle.uv_stands.specs.Ready.{IsReady}
-use Rattle.uv_stands.specs.Stands.{StandsFor}
-use Rattle.uv_sections.specs.Gone.{RequestGone, HandleGone}
-use Rattle.uv_sections.specs.Moved.{HandleMoved, moved_state}
 use Rattle.uv_sections.proofs.Moves.{calls_all}
 
 -- how often it was called is what it was before the change

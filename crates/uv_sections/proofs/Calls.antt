@@ -1,21 +1,6 @@
 -- A callback begins: what the memory stands for then.
-use Rattle.std.proofs.Common.{◌≡◌, ◌+◌, ℕ, Some, Option, refl, sym, ap, ◌∙◌, subst}
-use Rattle.uv_ids.specs.declared.id.Var.{Var}
-use Rattle.uv_ids.specs.declared.seen.Seen.{Seen}
-use Rattle.uv_ids.specs.declared.seen.Callback.{Callback}
-use Rattle.uv_script.specs.Program.{Program}
-use Rattle.uv_model.specs.declared.place.Body.{Body}
-use Rattle.uv_model.specs.declared.place.Run.{Run}
-use Rattle.uv_model.specs.declared.place.Place.{Place}
-use Rattle.uv_model.specs.declared.place.Place.TheVariants.{Running}
+use Rattle.uv_sections.proofs.Names.{◌≡◌, ◌+◌, ℕ, Some, Option, refl, sym, ap, ◌∙◌, subst, Var, Seen, Callback, Program, Body, Run, Place, Running, State, with_named, Moves, calls, body_from, named, calling, count_of, counted, Image, standing, StandsFor, called_stands, count_after, placed, names_is}
 use Rattle.uv_model.specs.State as state
-use Rattle.uv_model.specs.State.{State, with_named}
-use Rattle.uv_model.specs.Next.{Moves, calls, body_from}
-use Rattle.uv_records.specs.Names.{named, calling, count_of, counted}
-use Rattle.uv_step.specs.Image.{Image, standing}
-use Rattle.uv_stands.specs.Stands.{StandsFor}
-use Rattle.uv_stands.proofs.Values.{called_stands, count_after, placed}
-use Rattle.uv_stands.proofs.Single.{names_is}
 
 module _ (i m k : Image Place) (p : Program) (run : Run) (kind : Callback) (v : Var) (n : ℕ) (b : Option Body)
     (count : n ≡ count_of kind (named i.names v.0).calls + 1) (one : m ≡ record i { names = calling v.0 kind n i.names })

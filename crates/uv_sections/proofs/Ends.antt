@@ -1,41 +1,13 @@
 -- The front of those that end is gone, and its slot is free: what the memory stands for then.
-use Rattle.std.proofs.Common.{◌≡◌, ◌++◌, ◌∷◌, ℕ, eqb, Bool, ◌||◌, List, [], map, drop, Some, inl, inr, true, false, refl, sym, ap, ◌∙◌, subst}
-use Rattle.std.proofs.lemmas.Bool.{eq-eqb}
-use Rattle.uv_ids.specs.declared.id.Id.{Id}
-use Rattle.uv_ids.specs.declared.due.Due.{Due}
-use Rattle.uv_records.specs.declared.handle.HandleRecord.{HandleRecord}
-use Rattle.uv_records.specs.declared.lists.ListName.{ListName}
+use Rattle.uv_sections.proofs.Names.{◌≡◌, ◌++◌, ◌∷◌, ℕ, eqb, Bool, ◌||◌, List, [], map, drop, Some, inl, inr, true, false, refl, sym, ap, ◌∙◌, subst, eq-eqb, Id, Due, HandleRecord, ListName, freed, without, plain_slots, TakeUndo, IsTaken, Request, CollectWorkUndo, IsCollected, Working, id_in, Place, same_id, State, with_id, front_request, IsTimer, has_id, IsReached, Content, Asked, handle_of, request_of, FirstIs, Image, counted_of, working_of, OnlyHandles, OnlyWork, StandsFor, list_is, asked_there, first_one, front_there, RequestGone, HandleGone, time_is}
 use Rattle.uv_records.specs.declared.lists.ListName.TheVariants as name
-use Rattle.uv_records.specs.Slots.{freed}
-use Rattle.uv_records.specs.Walks.{without}
 use Rattle.uv_arena.specs.Image as arena
-use Rattle.uv_arena.specs.Image.{plain_slots}
-use Rattle.uv_handle.specs.declared.undo.TakeUndo.{TakeUndo}
-use Rattle.uv_handle.specs.Changes.{IsTaken}
-use Rattle.uv_work.specs.declared.request.Request.{Request}
-use Rattle.uv_requests.specs.declared.undo.CollectWorkUndo.{CollectWorkUndo}
-use Rattle.uv_requests.specs.Calls.{IsCollected}
-use Rattle.uv_requests.specs.Working.{Working, id_in}
-use Rattle.uv_model.specs.declared.place.Place.{Place}
 use Rattle.uv_model.specs.Content as model
-use Rattle.uv_model.specs.Ids.{same_id}
-use Rattle.uv_model.specs.State.{State, with_id, front_request}
-use Rattle.uv_order.specs.Active.{IsTimer, has_id}
-use Rattle.uv_order.specs.Reached.{IsReached}
-use Rattle.uv_work.specs.declared.content.Content.{Content}
-use Rattle.uv_work.specs.declared.content.Content.TheVariants.{Handle, Request as Asked}
-use Rattle.uv_work.specs.Content.{handle_of, request_of}
-use Rattle.uv_step.specs.Does.{FirstIs}
-use Rattle.uv_step.specs.Image.{Image, counted_of, working_of, OnlyHandles, OnlyWork}
-use Rattle.uv_stands.specs.Stands.{StandsFor}
-use Rattle.uv_stands.proofs.Lists.{list_is}
-use Rattle.uv_stands.proofs.Pools.{asked_there, first_one, front_there}
-use Rattle.uv_sections.specs.Gone.{RequestGone, HandleGone}
+use Rattle.uv_work.specs.declared.content.Content.TheVariants.{Handle}
 use Rattle.uv_sections.proofs.Keeping.{touched, sections_kept, stands_then}
 use Rattle.uv_sections.proofs.Frees.{freed_slots, freed_lists, freed_timers}
 use Rattle.uv_sections.proofs.Firsts.{front_is}
 use Rattle.uv_sections.proofs.Watched.{beside_closing_yet, beside_done_yet}
-use Rattle.uv_stands.proofs.Single.{time_is}
 
 -- an id in the middle of a list is on it
 itself : (d : Id) → same_id d d ≡ true

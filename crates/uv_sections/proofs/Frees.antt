@@ -1,30 +1,7 @@
 -- The front of a list leaves it, and its slot is freed: what the ids, the lists and the timers are then.
-use Rattle.std.proofs.Common.{◌≡◌, ◌≢◌, ◌⊎◌, ℕ, zero, suc, ◌+◌, ◌==◌, Bool, true, false, if◌then◌else◌, eqb, List, [], ◌∷◌, map, set, slice_get, drop, None, inl, inr, refl, sym, ap, ◌∙◌, subst}
-use Rattle.std.proofs.lemmas.Bool.Decides.{eqb_tells}
-use Rattle.uv_ids.specs.declared.id.Id.{Id}
-use Rattle.uv_ids.specs.declared.due.Due.{Due}
-use Rattle.uv_records.specs.declared.lists.ListName.{ListName}
-use Rattle.uv_records.specs.declared.slot.Slot.{Slot}
+use Rattle.uv_sections.proofs.Names.{◌≡◌, ◌≢◌, ◌⊎◌, ℕ, zero, suc, ◌+◌, ◌==◌, Bool, true, false, if◌then◌else◌, eqb, List, [], ◌∷◌, map, set, slice_get, drop, None, inl, inr, refl, sym, ap, ◌∙◌, subst, eqb_tells, Id, Due, ListName, Slot, freed, without, IsFirst, plain_slots, held_slots, slot_at, Entry, id_in, listed_id, Place, State, members, IsTimer, Has, IsReached, Content, Image, StandsFor, timer_in, slot_or, slot_by, Listed, list_is, front_there}
 use Rattle.uv_records.specs.Slots as plain
-use Rattle.uv_records.specs.Slots.{freed}
-use Rattle.uv_records.specs.Walks.{without}
-use Rattle.uv_arena.specs.Calls.{IsFirst}
 use Rattle.uv_arena.specs.Image as arena
-use Rattle.uv_arena.specs.Image.{plain_slots, held_slots, slot_at}
-use Rattle.uv_heap.specs.declared.entry.Entry.{Entry}
-use Rattle.uv_requests.specs.Working.{id_in}
-use Rattle.uv_requests.proofs.Holding.{listed_id}
-use Rattle.uv_model.specs.declared.place.Place.{Place}
-use Rattle.uv_model.specs.State.{State}
-use Rattle.uv_model.specs.Queries.{members}
-use Rattle.uv_order.specs.Active.{IsTimer, Has}
-use Rattle.uv_order.specs.Reached.{IsReached}
-use Rattle.uv_work.specs.declared.content.Content.{Content}
-use Rattle.uv_step.specs.Image.{Image}
-use Rattle.uv_stands.specs.Stands.{StandsFor, timer_in}
-use Rattle.uv_stands.proofs.Holding.{slot_or, slot_by}
-use Rattle.uv_stands.proofs.Lists.{Listed, list_is}
-use Rattle.uv_stands.proofs.Pools.{front_there}
 use Rattle.uv_sections.proofs.Keeping.{SameTimers}
 
 -- ---- slots

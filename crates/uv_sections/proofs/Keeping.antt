@@ -1,22 +1,7 @@
 -- What the steps of sections leave as it was, in the memory and in the state, and what stands then.
-use Rattle.std.proofs.Common.{◌≡◌, ℕ, List, map, refl, sym, ap, ◌∙◌, subst}
-use Rattle.uv_ids.specs.declared.id.Id.{Id}
-use Rattle.uv_ids.specs.declared.due.Due.{Due}
-use Rattle.uv_records.specs.declared.lists.ListName.{ListName}
+use Rattle.uv_sections.proofs.Names.{◌≡◌, ℕ, List, map, refl, sym, ap, ◌∙◌, subst, Id, Due, ListName, Walk, plain_slots, Entry, id_in, Place, State, members, Content, Image, StandsFor, timer_in, values_in, map_same, Listed}
 use Rattle.uv_records.specs.Slots as plain
-use Rattle.uv_records.specs.Walks.{Walk}
 use Rattle.uv_arena.specs.Image as arena
-use Rattle.uv_arena.specs.Image.{plain_slots}
-use Rattle.uv_heap.specs.declared.entry.Entry.{Entry}
-use Rattle.uv_requests.specs.Working.{id_in}
-use Rattle.uv_model.specs.declared.place.Place.{Place}
-use Rattle.uv_model.specs.State.{State}
-use Rattle.uv_model.specs.Queries.{members}
-use Rattle.uv_work.specs.declared.content.Content.{Content}
-use Rattle.uv_step.specs.Image.{Image}
-use Rattle.uv_stands.specs.Stands.{StandsFor, timer_in, values_in}
-use Rattle.uv_stands.proofs.Holding.{map_same}
-use Rattle.uv_stands.proofs.Lists.{Listed}
 
 -- ---- the memory
 

@@ -1,9 +1,10 @@
-pub mod Calls
-pub mod Called
-pub mod Keeping
-pub mod Watched
 pub mod Begins
-pub mod Frees
-pub mod Firsts
+pub mod Called
+pub mod Calls
 pub mod Ends
+pub mod Firsts
+pub mod Frees
+pub mod Keeping
 pub mod Moves
+mod Names
+pub mod Watched

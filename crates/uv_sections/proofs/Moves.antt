@@ -1,41 +1,13 @@
 -- The front of those that a section has yet to run moves to the end of its list: what the memory stands for then.
-use Rattle.std.proofs.Common.{◌≡◌, ◌≢◌, ◌++◌, ◌∷◌, [], ℕ, Bool, true, false, map, drop, Some, None, refl, sym, ap, ◌∙◌}
-use Rattle.std.proofs.lemmas.List.{map-append}
-use Rattle.uv_ids.specs.declared.id.Id.{Id}
-use Rattle.uv_records.specs.declared.handle.HandleRecord.{HandleRecord}
-use Rattle.uv_records.specs.declared.lists.WatcherKind.{WatcherKind}
+use Rattle.uv_sections.proofs.Names.{◌≡◌, ◌≢◌, ◌++◌, ◌∷◌, [], ℕ, Bool, true, false, map, drop, Some, None, refl, sym, ap, ◌∙◌, map-append, Id, HandleRecord, WatcherKind, ListName, woken, list_of, yet_of, Walk, moved_on, plain_slots, record_at, id_in, listed_id, WalkUndo, IsMovedOn, pending_of, Place, State, front, watched, with_handle, members, front_moved, Content, handle_of, FirstIs, NoHandleFirst, Image, counted_of, OnlyHandles, StandsFor, slots_set, ids_kept, Listed, all_but_two, beside_lists, ids_moved, front_there, first_one, HandleMoved, moved_state, time_is}
 use Rattle.uv_records.specs.declared.lists.WatcherKind.TheVariants as watcher
-use Rattle.uv_records.specs.declared.lists.ListName.{ListName}
-use Rattle.uv_records.specs.Handles.{woken}
-use Rattle.uv_records.specs.Lists.{list_of, yet_of}
 use Rattle.uv_records.specs.Slots as plain
-use Rattle.uv_records.specs.Walks.{Walk, moved_on}
 use Rattle.uv_arena.specs.Image as arena
-use Rattle.uv_arena.specs.Image.{plain_slots}
-use Rattle.uv_handle.specs.Counted.{record_at}
 use Rattle.uv_handle.proofs.Counts as handles
-use Rattle.uv_requests.specs.Working.{id_in}
-use Rattle.uv_requests.proofs.Holding.{listed_id}
-use Rattle.uv_watch.specs.declared.undo.WalkUndo.{WalkUndo}
-use Rattle.uv_watch.specs.Watch.{IsMovedOn, pending_of}
-use Rattle.uv_model.specs.declared.place.Place.{Place}
-use Rattle.uv_model.specs.State.{State, front, watched, with_handle}
-use Rattle.uv_model.specs.Queries.{members}
-use Rattle.uv_model.specs.Next.{front_moved}
-use Rattle.uv_work.specs.declared.content.Content.{Content}
 use Rattle.uv_work.specs.declared.content.Content.TheVariants.{Handle}
-use Rattle.uv_work.specs.Content.{handle_of}
-use Rattle.uv_step.specs.Does.{FirstIs, NoHandleFirst}
-use Rattle.uv_step.specs.Image.{Image, counted_of, OnlyHandles}
-use Rattle.uv_stands.specs.Stands.{StandsFor}
-use Rattle.uv_stands.proofs.Holding.{slots_set, ids_kept}
-use Rattle.uv_stands.proofs.Lists.{Listed, all_but_two, beside_lists}
-use Rattle.uv_stands.proofs.Pools.{ids_moved, front_there, first_one}
-use Rattle.uv_sections.specs.Moved.{HandleMoved, moved_state}
 use Rattle.uv_sections.proofs.Firsts.{front_is, none_first}
 use Rattle.uv_sections.proofs.Keeping.{KeepsState, all_timers, listed_as, stands_then}
 use Rattle.uv_sections.proofs.Watched.{list_is, yet_is, list_now, yet_now, others_stay, arena_stays, time_stays, state_stays}
-use Rattle.uv_stands.proofs.Single.{time_is}
 
 -- a handle that isn't an async one isn't woken
 pub calls_all : (w : WatcherKind) (r : HandleRecord) → w ≢ watcher.Async → pending_of w (Some r) ≡ false

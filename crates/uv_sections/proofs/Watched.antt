@@ -1,16 +1,8 @@
 -- The walked lists of a state: what one of them holds, and what the others do where it changes.
-use Rattle.std.proofs.Common.{◌≡◌, ◌≢◌, ℕ, List, refl}
-use Rattle.uv_ids.specs.declared.id.Id.{Id}
-use Rattle.uv_records.specs.declared.lists.ListName.{ListName}
+use Rattle.uv_sections.proofs.Names.{◌≡◌, ◌≢◌, ℕ, List, refl, Id, ListName, WatcherKind, list_of, yet_of, Walk, Content, State, watched, with_watched, members}
 use Rattle.uv_records.specs.declared.lists.ListName.TheVariants as name
-use Rattle.uv_records.specs.declared.lists.WatcherKind.{WatcherKind}
 use Rattle.uv_records.specs.declared.lists.WatcherKind.TheVariants as watcher
-use Rattle.uv_records.specs.Lists.{list_of, yet_of}
-use Rattle.uv_records.specs.Walks.{Walk}
 use Rattle.uv_records.specs.Slots as plain
-use Rattle.uv_work.specs.declared.content.Content.{Content}
-use Rattle.uv_model.specs.State.{State, watched, with_watched}
-use Rattle.uv_model.specs.Queries.{members}
 use Rattle.uv_sections.proofs.Keeping.{KeepsState, sections_kept}
 
 -- ---- what a section walks, as lists

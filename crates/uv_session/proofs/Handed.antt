@@ -1,13 +1,5 @@
 -- A result that is handed in and isn't taken.
-use Rattle.std.proofs.Common.{◌≡◌, ◌<◌, ◌≤◌, ℕ, List, length, Err, refl, subst, arith}
-use Rattle.uv_ids.specs.declared.event.Event.{Event}
-use Rattle.uv_ids.specs.declared.fault.Fault.{Fault}
-use Rattle.uv_ids.specs.declared.fault.Fault.TheVariants.{Memory, Refused, StepsFull}
-use Rattle.uv_script.specs.Program.{Program}
-use Rattle.uv_work.specs.declared.job.Job.{Job}
-use Rattle.uv_model.specs.After.{STEPS}
-use Rattle.uv_model.specs.Handing.{AnswersResult}
-use Rattle.uv_session.specs.Shown.{RespondsResult}
+use Rattle.uv_session.proofs.Names.{◌≡◌, ◌<◌, ◌≤◌, ℕ, List, length, Err, refl, subst, arith, Event, Fault, Memory, Refused, StepsFull, Program, Job, STEPS, AnswersResult, RespondsResult}
 
 responds : (limit : ℕ) (p : Program) (es fs : List Event) (k : ℕ) (job : Job) (f : Fault) → length es < limit → limit ≤ STEPS →
     AnswersResult STEPS p es k job (Err f) fs → RespondsResult limit p es k job (Err f) es

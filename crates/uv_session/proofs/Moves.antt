@@ -1,13 +1,5 @@
 -- Steps that are taken back.
-use Rattle.std.proofs.Common.{◌≡◌, ℕ, zero, suc, [], ◌∷◌, refl, ◌+◌, ◌-◌, ◌<◌, ◌≤◌, List, ◌++◌, length, take, drop, ap, ap₂, sym, ◌∙◌, arith, length-take, append_assoc}
-use Rattle.std.proofs.lemmas.Grind.{common_steps}
-use Rattle.std.proofs.lemmas.List.{take-append-drop}
-use Rattle.std.proofs.Math.Seq.{take-add}
-use Rattle.uv_ids.specs.declared.event.Event.{Event}
-use Rattle.uv_script.specs.Program.{Program}
-use Rattle.uv_session.specs.declared.breaks.Break.{Break}
-use Rattle.uv_session.specs.Shown.{Shown, moved_back}
-use Rattle.uv_session.specs.Moving.{moved_forward}
+use Rattle.uv_session.proofs.Names.{◌≡◌, ℕ, zero, suc, [], ◌∷◌, refl, ◌+◌, ◌-◌, ◌<◌, ◌≤◌, List, ◌++◌, length, take, drop, ap, ap₂, sym, ◌∙◌, arith, length-take, append_assoc, common_steps, take-append-drop, take-add, Event, Program, Break, Shown, moved_back, moved_forward}
 
 -- the first steps of a list as standing, and the others as taken back
 abbrev pub split : Program → ℕ → List Break → ℕ → List Event → Shown

@@ -1,15 +1,7 @@
 -- A run up to a break, by how its next step ends.
-use Rattle.std.proofs.Common.{◌≡◌, ℕ, zero, suc, ◌+◌, ◌<◌, List, length, true, false, Result, Ok, Err, ap, sym, subst, ◌∙◌, arith}
-use Rattle.uv_ids.specs.declared.event.Event.{Event}
-use Rattle.uv_ids.specs.declared.fault.Fault.{Fault}
-use Rattle.uv_model.specs.declared.machine.Outcome.{Outcome}
-use Rattle.uv_session.specs.declared.breaks.Break.{Break}
-use Rattle.uv_session.specs.declared.breaks.Stop.{Stop}
+use Rattle.uv_session.proofs.Names.{◌≡◌, ℕ, zero, suc, ◌+◌, ◌<◌, List, length, true, false, Result, Ok, Err, ap, sym, subst, ◌∙◌, arith, Event, Fault, Outcome, Break, Stop, stops, stop_of, Shown, TakesEvent, RunsTo}
 use Rattle.uv_session.specs.declared.breaks.Stop.TheVariants as stop
-use Rattle.uv_session.specs.Breaks.{stops, stop_of}
-use Rattle.uv_session.specs.Shown.{Shown, TakesEvent}
 use Rattle.uv_session.specs.Moving as run
-use Rattle.uv_session.specs.Moving.{RunsTo}
 
 pub at_break : (e : Event) (n : ℕ) (s t : Shown) (o : Outcome) (breaks : List Break) (k : ℕ) → 0 < n → TakesEvent s e (Ok o) t →
     breaks ≡ t.breaks → true ≡ stops breaks o.seen → k ≡ length t.standing → RunsTo e n s (Ok (stop.Break k)) t

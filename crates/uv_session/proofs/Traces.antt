@@ -1,21 +1,8 @@
 -- The lines of the first steps, one step after another.
-use Rattle.std.proofs.Common.{◌≡◌, ℕ, ◌+◌, ◌<◌, ◌≤◌, List, [], ◌∷◌, ◌++◌, length, take, Option, Some, refl, ap, sym, subst, ◌∙◌, append_assoc, append-nil}
-use Rattle.std.proofs.lemmas.List.{take_more, take_all}
-use Rattle.std.proofs.lemmas.Option.{get_or_from_slice_get}
-use Rattle.std.specs.Prelude.{slice_get, option_to_list}
-use Rattle.std.specs.List.{flat_map}
-use Rattle.uv_ids.specs.declared.event.Event.{Event}
-use Rattle.uv_ids.specs.declared.seen.Seen.{Seen}
-use Rattle.uv_script.specs.Program.{Program, worker_count}
-use Rattle.uv_work.specs.Pool.{replay, IsLegal}
-use Rattle.uv_model.specs.After.{after, seen_by, lines}
-use Rattle.uv_model.proofs.Runs.{length-seen_by}
-use Rattle.uv_order.proofs.Histories.{lines-history}
-use Rattle.uv_order.specs.Once.{Once}
-use Rattle.uv_order.specs.PoolEvents.{pool_events, pool_of}
-use Rattle.uv_order.proofs.Documents.{documented}
-use Rattle.uv_order.proofs.Documents.{once, pools}
-use Rattle.uv_session.specs.Shown.{Shown, IsDocumented}
+use Rattle.uv_session.proofs.Names.{◌≡◌, ℕ, ◌+◌, ◌<◌, ◌≤◌, List, [], ◌∷◌, ◌++◌, length, take, Option, Some, refl, ap, sym, subst, ◌∙◌, append_assoc, append-nil, take_more, take_all, get_or_from_slice_get, slice_get, option_to_list, flat_map, Event, Seen, Program, worker_count, IsLegal, lines, length-seen_by, lines-history, Once, pool_events, pool_of, documented, once, pools, Shown}
+use Rattle.uv_work.specs.Pool.{replay}
+use Rattle.uv_model.specs.After.{after, seen_by}
+use Rattle.uv_session.specs.Shown.{IsDocumented}
 
 -- the lines that are there
 abbrev pub those : List (Option Seen) → List Seen

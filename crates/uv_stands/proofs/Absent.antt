@@ -1,33 +1,10 @@
 -- The lists that a handle isn't on, as the memory and the states that it stands for say.
-use Rattle.std.proofs.Common.{◌≡◌, inl, inr, ℕ, ◌||◌, Bool, true, false, List, [], ◌∷◌, ◌++◌, map, Some, refl, sym, ap, ◌∙◌, subst}
-use Rattle.std.proofs.lemmas.Bool.{both_ways}
-use Rattle.uv_ids.specs.declared.id.Id.{Id}
-use Rattle.uv_ids.specs.declared.phase.Kind.{Kind}
+use Rattle.uv_stands.proofs.ProofNames.{◌≡◌, inl, inr, ℕ, ◌||◌, Bool, true, false, List, [], ◌∷◌, ◌++◌, map, Some, refl, sym, ap, ◌∙◌, subst, both_ways, Id, Kind, HandleRecord, ListName, is_timer, same_itself, IsIn, without_none, record_at, id_in, IsHeld, id_is, content_of, Place, same_id, without_id, members, State, handle, has_id, IsActive, AreActive, IsClosing, IsReached, IsSetAside, Handle, handle_of, request_of, only_handle, IsFit, Image, StandsFor}
 use Rattle.uv_ids.specs.declared.phase.Kind.TheVariants as kind
-use Rattle.uv_records.specs.declared.handle.HandleRecord.{HandleRecord}
-use Rattle.uv_records.specs.declared.lists.ListName.{ListName}
 use Rattle.uv_records.specs.declared.lists.ListName.TheVariants as name
-use Rattle.uv_records.specs.Handles.{is_timer}
-use Rattle.uv_work.proofs.Replays.{same_itself}
-use Rattle.uv_arena.specs.Chains.{IsIn}
 use Rattle.uv_arena.specs.Image as arena
-use Rattle.uv_arena.proofs.Lookups.{without_none}
-use Rattle.uv_handle.specs.Counted.{record_at}
 use Rattle.uv_handle.proofs.Counts as handles
-use Rattle.uv_requests.specs.Working.{id_in, IsHeld}
-use Rattle.uv_requests.proofs.Holding.{id_is, content_of}
-use Rattle.uv_model.specs.declared.place.Place.{Place}
 use Rattle.uv_model.specs.Content as model
-use Rattle.uv_model.specs.Ids.{same_id, without_id}
-use Rattle.uv_model.specs.Queries.{members}
-use Rattle.uv_model.specs.State.{State, handle}
-use Rattle.uv_order.specs.Active.{has_id, IsActive, AreActive, IsClosing}
-use Rattle.uv_order.specs.Reached.{IsReached, IsSetAside}
-use Rattle.uv_work.specs.declared.content.Content.TheVariants.{Handle}
-use Rattle.uv_work.specs.Content.{handle_of, request_of, only_handle}
-use Rattle.uv_step.specs.Fit.{IsFit}
-use Rattle.uv_step.specs.Image.{Image}
-use Rattle.uv_stands.specs.Stands.{StandsFor}
 use Rattle.uv_stands.proofs.Naming.{record_there}
 use Rattle.uv_stands.proofs.Without.{without_ids}
 

@@ -1,21 +1,7 @@
 -- A handle gets another record: what the memory stands for then.
-use Rattle.std.proofs.Common.{◌≡◌, ℕ, map, Some, sym, ap, ◌∙◌}
-use Rattle.uv_ids.specs.declared.id.Id.{Id}
-use Rattle.uv_records.specs.declared.handle.HandleRecord.{HandleRecord}
+use Rattle.uv_stands.proofs.ProofNames.{◌≡◌, ℕ, map, Some, sym, ap, ◌∙◌, Id, HandleRecord, RecordUndo, counted, record_at, IsChanged, Entry, id_in, Place, State, with_handle, Content, Handle, handle_of, Image, counted_of, StandsFor, timer_in}
 use Rattle.uv_arena.specs.Image as arena
-use Rattle.uv_handle.specs.declared.undo.RecordUndo.{RecordUndo}
-use Rattle.uv_handle.specs.Counted.{counted, record_at}
-use Rattle.uv_handle.specs.Changes.{IsChanged}
 use Rattle.uv_handle.proofs.Counts as handles
-use Rattle.uv_heap.specs.declared.entry.Entry.{Entry}
-use Rattle.uv_requests.specs.Working.{id_in}
-use Rattle.uv_model.specs.declared.place.Place.{Place}
-use Rattle.uv_model.specs.State.{State, with_handle}
-use Rattle.uv_work.specs.declared.content.Content.{Content}
-use Rattle.uv_work.specs.declared.content.Content.TheVariants.{Handle}
-use Rattle.uv_work.specs.Content.{handle_of}
-use Rattle.uv_step.specs.Image.{Image, counted_of}
-use Rattle.uv_stands.specs.Stands.{StandsFor, timer_in}
 use Rattle.uv_stands.proofs.Holding.{slots_set, ids_kept, map_same}
 use Rattle.uv_stands.proofs.Lists.{beside_lists}
 

@@ -1,20 +1,6 @@
 -- The first timer: the least entry of the heap.
-use Rattle.std.proofs.Common.{◌≡◌, ◌-◌, ◌∷◌, [], List, min, map, Option, Some, None, slice_get, refl, sym, ap, subst, ◌∙◌, arith}
-use Rattle.std.specs.Ordering.{is_lt}
-use Rattle.std.specs.declared.cmp.Ordering.{Ordering}
+use Rattle.uv_stands.proofs.ProofNames.{◌≡◌, ◌-◌, ◌∷◌, [], List, min, map, Option, Some, None, slice_get, refl, sym, ap, subst, ◌∙◌, arith, is_lt, Ordering, Entry, IsInOrder, IsBeforeAll, counts_itself, LONGEST_POLL, Place, State, until_first, IsReached, Before, InOrder, Content, Image, StandsFor, timer_in}
 use Rattle.uv_arena.specs.Image as arena
-use Rattle.uv_heap.specs.declared.entry.Entry.{Entry}
-use Rattle.uv_heap.specs.Order.{IsInOrder, IsBeforeAll}
-use Rattle.uv_heap.proofs.OrderLemmas.{counts_itself}
-use Rattle.uv_model.specs.Limits.{LONGEST_POLL}
-use Rattle.uv_model.specs.declared.place.Place.{Place}
-use Rattle.uv_model.specs.State.{State}
-use Rattle.uv_model.specs.Timeout.{until_first}
-use Rattle.uv_order.specs.Reached.{IsReached}
-use Rattle.uv_order.specs.Active.{Before, InOrder}
-use Rattle.uv_work.specs.declared.content.Content.{Content}
-use Rattle.uv_step.specs.Image.{Image}
-use Rattle.uv_stands.specs.Stands.{StandsFor, timer_in}
 use Rattle.uv_stands.proofs.Single.{time_is}
 
 -- an entry whose timer comes before each of the others comes before their entries

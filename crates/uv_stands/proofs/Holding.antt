@@ -1,24 +1,8 @@
 -- What the memory holds is what the state holds, and ids stay where another content is set.
-use Rattle.std.proofs.Common.{◌≡◌, ℕ, zero, suc, List, [], ◌∷◌, map, set, slice_get, Option, Some, None, option_and_then, refl, sym, ap, ◌∙◌}
-use Rattle.uv_ids.specs.declared.id.Id.{Id}
-use Rattle.uv_ids.specs.declared.id.Var.{Var}
-use Rattle.uv_records.specs.declared.slot.Slot.{Slot}
+use Rattle.uv_stands.proofs.ProofNames.{◌≡◌, ℕ, zero, suc, List, [], ◌∷◌, map, set, slice_get, Option, Some, None, option_and_then, refl, sym, ap, ◌∙◌, Id, Var, Slot, Cell, plain_slots, held_slots, slot_at, slot_in, get-slots, held_tells, record_at, handle_of, id_in, Place, State, handle, Content, named, Image, StandsFor}
 use Rattle.uv_records.specs.Slots as plain
-use Rattle.uv_arena.specs.declared.links.Cell.{Cell}
 use Rattle.uv_arena.specs.Image as arena
-use Rattle.uv_arena.specs.Image.{plain_slots, held_slots, slot_at, slot_in}
-use Rattle.uv_arena.proofs.Memories.{get-slots}
-use Rattle.uv_arena.proofs.Lookups.{held_tells}
-use Rattle.uv_handle.specs.Counted.{record_at}
-use Rattle.uv_work.specs.Content.{handle_of}
-use Rattle.uv_requests.specs.Working.{id_in}
-use Rattle.uv_model.specs.declared.place.Place.{Place}
 use Rattle.uv_model.specs.State as state
-use Rattle.uv_model.specs.State.{State, handle}
-use Rattle.uv_work.specs.declared.content.Content.{Content}
-use Rattle.uv_records.specs.Names.{named}
-use Rattle.uv_step.specs.Image.{Image}
-use Rattle.uv_stands.specs.Stands.{StandsFor}
 use Rattle.uv_stands.proofs.Single.{names_is}
 
 -- ---- what is held

@@ -1,22 +1,8 @@
 -- The lists of a state and of the memory that stands for it, where all but one or two of them stay.
-use Rattle.std.proofs.Common.{◌≡◌, ◌≢◌, ◌⊎◌, inl, inr, ℕ, Bool, List, map, Option, refl, sym, ap, ◌∙◌, subst}
-use Rattle.std.proofs.lemmas.Bool.Decides.{eqb_tells}
-use Rattle.uv_ids.specs.declared.id.Id.{Id}
-use Rattle.uv_ids.specs.declared.due.Due.{Due}
-use Rattle.uv_records.specs.declared.lists.ListName.{ListName}
+use Rattle.uv_stands.proofs.ProofNames.{◌≡◌, ◌≢◌, ◌⊎◌, inl, inr, ℕ, Bool, List, map, Option, refl, sym, ap, ◌∙◌, subst, eqb_tells, Id, Due, ListName, number, number_apart, id_in, Named, Place, State, members, Content, Image, StandsFor}
 use Rattle.uv_records.specs.declared.lists.ListName.TheVariants as name
-use Rattle.uv_records.specs.Lists.{number}
 use Rattle.uv_records.specs.Slots as plain
 use Rattle.uv_arena.specs.Image as arena
-use Rattle.uv_arena.proofs.Names.{number_apart}
-use Rattle.uv_requests.specs.Working.{id_in}
-use Rattle.uv_records.specs.declared.named.Named.{Named}
-use Rattle.uv_model.specs.declared.place.Place.{Place}
-use Rattle.uv_model.specs.State.{State}
-use Rattle.uv_model.specs.Queries.{members}
-use Rattle.uv_work.specs.declared.content.Content.{Content}
-use Rattle.uv_step.specs.Image.{Image}
-use Rattle.uv_stands.specs.Stands.{StandsFor}
 use Rattle.uv_stands.proofs.Holding.{map_same}
 
 -- what is no list leaves the lists

@@ -1,30 +1,7 @@
 -- What keeps the loop alive is counted: the active referenced handles, and the open requests.
-use Rattle.std.proofs.Common.{◌≡◌, ◌⊎◌, inl, inr, ℕ, zero, suc, ◌+◌, ◌||◌, Bool, true, false, if◌then◌else◌, List, [], ◌∷◌, ◌++◌, length, length-append, ◌<◌, ◌≤◌, slice_get, Option, Some, None, option_and_then, eq-eqb, refl, sym, ap, ◌∙◌, arith}
-use Rattle.std.specs.List.{list_any}
-use Rattle.std.proofs.lemmas.Bool.{both_ways}
-use Rattle.uv_ids.specs.declared.id.Id.{Id}
-use Rattle.uv_records.specs.declared.slot.Slot.{Slot}
+use Rattle.uv_stands.proofs.ProofNames.{◌≡◌, ◌⊎◌, inl, inr, ℕ, zero, suc, ◌+◌, ◌||◌, Bool, true, false, if◌then◌else◌, List, [], ◌∷◌, ◌++◌, length, length-append, ◌<◌, ◌≤◌, slice_get, Option, Some, None, option_and_then, eq-eqb, refl, sym, ap, ◌∙◌, arith, list_any, both_ways, Id, Slot, active_count, one_if, keeps_alive, busy, is_open, same_itself, Content, Handle, Asked, Place, Request, handle_of, content_keeps, request_in, open_requests, State, request, is_alive, has_closing, has_id, run_ids, IsReached, Image, StandsFor, IsFit}
 use Rattle.uv_records.specs.Count as counts
-use Rattle.uv_records.specs.Count.{active_count, one_if}
-use Rattle.uv_records.specs.Handles.{keeps_alive}
 use Rattle.uv_records.specs.Slots as plain
-use Rattle.uv_work.specs.Pool.{busy}
-use Rattle.uv_work.specs.Requests.{is_open}
-use Rattle.uv_work.proofs.Replays.{same_itself}
-use Rattle.uv_work.specs.declared.content.Content.{Content}
-use Rattle.uv_work.specs.declared.content.Content.TheVariants.{Handle, Request as Asked}
-use Rattle.uv_model.specs.declared.place.Place.{Place}
-use Rattle.uv_work.specs.declared.request.Request.{Request}
-use Rattle.uv_work.specs.Content.{handle_of}
-use Rattle.uv_model.specs.Content.{content_keeps, request_in}
-use Rattle.uv_model.specs.Layout.{open_requests}
-use Rattle.uv_model.specs.State.{State, request}
-use Rattle.uv_model.specs.Timeout.{is_alive, has_closing}
-use Rattle.uv_order.specs.Active.{has_id, run_ids}
-use Rattle.uv_order.specs.Reached.{IsReached}
-use Rattle.uv_step.specs.Image.{Image}
-use Rattle.uv_stands.specs.Stands.{StandsFor}
-use Rattle.uv_step.specs.Fit.{IsFit}
 use Rattle.uv_stands.proofs.Pools.{active_fit, opened_fit}
 use Rattle.uv_stands.proofs.Single.{running_is}
 

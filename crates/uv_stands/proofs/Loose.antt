@@ -1,23 +1,7 @@
 -- A watcher that isn't active is on no list.
-use Rattle.std.proofs.Common.{◌≡◌, Bool, true, false, Some, None, refl, ap, ◌∙◌}
-use Rattle.uv_ids.specs.declared.id.Id.{Id}
-use Rattle.uv_ids.specs.declared.phase.Kind.{Kind}
+use Rattle.uv_stands.proofs.ProofNames.{◌≡◌, Bool, true, false, Some, None, refl, ap, ◌∙◌, Id, Kind, HandleRecord, ListName, start_watcher_refusal, only_if, invalid_if, is_watcher, IsSound, on_list, record_at, Place, State, handle, members, has_id, IsActive, IsReached, handle_of, IsFit, Image, StandsFor}
 use Rattle.uv_ids.specs.declared.phase.Kind.TheVariants as kind
-use Rattle.uv_records.specs.declared.handle.HandleRecord.{HandleRecord}
-use Rattle.uv_records.specs.declared.lists.ListName.{ListName}
 use Rattle.uv_records.specs.declared.lists.ListName.TheVariants as name
-use Rattle.uv_records.specs.Refusals.{start_watcher_refusal, only_if, invalid_if, is_watcher}
-use Rattle.uv_arena.specs.Image.{IsSound, on_list}
-use Rattle.uv_handle.specs.Counted.{record_at}
-use Rattle.uv_model.specs.declared.place.Place.{Place}
-use Rattle.uv_model.specs.State.{State, handle}
-use Rattle.uv_model.specs.Queries.{members}
-use Rattle.uv_order.specs.Active.{has_id, IsActive}
-use Rattle.uv_order.specs.Reached.{IsReached}
-use Rattle.uv_work.specs.Content.{handle_of}
-use Rattle.uv_step.specs.Fit.{IsFit}
-use Rattle.uv_step.specs.Image.{Image}
-use Rattle.uv_stands.specs.Stands.{StandsFor}
 use Rattle.uv_stands.proofs.Onto.{listed_somewhere}
 use Rattle.uv_stands.proofs.Absent.{IsOn, has_first, has_second, holds_it, has_it, not_waiting, not_done, not_done_yet}
 

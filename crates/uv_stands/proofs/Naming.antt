@@ -1,23 +1,9 @@
 -- What a name is bound to and how often it was called, in the memory and in the state.
-use Rattle.std.proofs.Common.{◌≡◌, false, Option, Some, None, Ok, Err, is_some, option_map, refl, sym, ap, ◌∙◌}
-use Rattle.uv_ids.specs.declared.id.Id.{Id}
-use Rattle.uv_ids.specs.declared.id.Var.{Var}
-use Rattle.uv_ids.specs.declared.code.Code.{Code}
+use Rattle.uv_stands.proofs.ProofNames.{◌≡◌, false, Option, Some, None, Ok, Err, is_some, option_map, refl, sym, ap, ◌∙◌, Id, Var, Code, HandleRecord, refusal, content_is, found, record_at, Place, State, with_id, as_handle, live, live_handle, live_id, Content, handle_of, only_handle, named, Image, StandsFor}
 use Rattle.uv_ids.specs.declared.code.Code.TheVariants as code
-use Rattle.uv_records.specs.declared.handle.HandleRecord.{HandleRecord}
 use Rattle.uv_records.specs.Slots as plain
-use Rattle.uv_records.specs.Refusals.{refusal}
 use Rattle.uv_arena.specs.Image as arena
-use Rattle.uv_arena.proofs.Contents.{content_is}
-use Rattle.uv_handle.specs.Counted.{found, record_at}
 use Rattle.uv_work.specs.declared.content.Content.TheVariants as holds
-use Rattle.uv_model.specs.declared.place.Place.{Place}
-use Rattle.uv_model.specs.State.{State, with_id, as_handle, live, live_handle, live_id}
-use Rattle.uv_work.specs.declared.content.Content.{Content}
-use Rattle.uv_work.specs.Content.{handle_of, only_handle}
-use Rattle.uv_records.specs.Names.{named}
-use Rattle.uv_step.specs.Image.{Image}
-use Rattle.uv_stands.specs.Stands.{StandsFor}
 use Rattle.uv_stands.proofs.Holding.{held_there, bound_there}
 
 -- ---- what is live

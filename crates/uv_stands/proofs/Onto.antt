@@ -1,15 +1,7 @@
 -- A slot that is on a list is a member of one of the fourteen.
-use Rattle.std.proofs.Common.{◌≡◌, ◌≢◌, ◌⊎◌, inl, inr, ℕ, zero, suc, ◌<◌, true, cond, eqb, refl, sym, ap, ◌∙◌, subst, arith}
-use Rattle.std.proofs.lemmas.Bool.Decides.{eqb_tells}
-use Rattle.uv_ids.specs.declared.id.Id.{Id}
-use Rattle.uv_records.specs.declared.lists.TheConstants.{LIST_COUNT}
-use Rattle.uv_records.specs.declared.lists.ListName.{ListName}
+use Rattle.uv_stands.proofs.ProofNames.{◌≡◌, ◌≢◌, ◌⊎◌, inl, inr, ℕ, zero, suc, ◌<◌, true, cond, eqb, refl, sym, ap, ◌∙◌, subst, arith, eqb_tells, Id, LIST_COUNT, ListName, number, IsIn, IsSound, chain, name_at, on_list, get-links, is_on}
 use Rattle.uv_records.specs.declared.lists.ListName.TheVariants as name
-use Rattle.uv_records.specs.Lists.{number}
-use Rattle.uv_arena.specs.Chains.{IsIn}
-use Rattle.uv_arena.specs.Image.{Image, IsSound, members, chain, name_at, on_list}
-use Rattle.uv_arena.proofs.Memories.{get-links}
-use Rattle.uv_arena.proofs.Lookups.{is_on}
+use Rattle.uv_arena.specs.Image.{Image, members}
 
 -- ---- so many numbers, each smaller than that and no two alike, are all of them
 

@@ -1,33 +1,9 @@
 -- Requests change, and nothing else does: what the memory stands for then.
-use Rattle.std.proofs.Common.{◌≡◌, ◌≢◌, ℕ, ◌+◌, ◌++◌, List, [], ◌∷◌, map, slice_get, length, length-append, Option, Some, sym, ap, ◌∙◌, arith}
-use Rattle.std.proofs.lemmas.List.{length-map, map-append}
-use Rattle.uv_ids.specs.declared.id.Id.{Id}
-use Rattle.uv_records.specs.declared.lists.ListName.{ListName}
+use Rattle.uv_stands.proofs.ProofNames.{◌≡◌, ◌≢◌, ℕ, ◌+◌, ◌++◌, List, [], ◌∷◌, map, slice_get, length, length-append, Option, Some, sym, ap, ◌∙◌, arith, length-map, map-append, Id, ListName, Slot, Walk, active_count, IsFirst, plain_slots, held_slots, slot_at, Entry, busy, Request, Running, id_in, done_in, listed_id, content_is, Place, State, members, Content, Asked, handle_of, request_of, only_request, IsFit, Image, open_requests, StandsFor, timer_in}
 use Rattle.uv_records.specs.declared.lists.ListName.TheVariants as name
-use Rattle.uv_records.specs.declared.slot.Slot.{Slot}
 use Rattle.uv_records.specs.Slots as plain
-use Rattle.uv_records.specs.Walks.{Walk}
-use Rattle.uv_records.specs.Count.{active_count}
-use Rattle.uv_arena.specs.Calls.{IsFirst}
 use Rattle.uv_arena.specs.Image as arena
-use Rattle.uv_arena.specs.Image.{plain_slots, held_slots, slot_at}
-use Rattle.uv_heap.specs.declared.entry.Entry.{Entry}
-use Rattle.uv_work.specs.Pool.{busy}
-use Rattle.uv_work.specs.declared.request.Request.{Request}
 use Rattle.uv_requests.specs.Working as work
-use Rattle.uv_requests.specs.Working.{Running, id_in, done_in}
-use Rattle.uv_requests.proofs.Holding.{listed_id}
-use Rattle.uv_arena.proofs.Contents.{content_is}
-use Rattle.uv_model.specs.declared.place.Place.{Place}
-use Rattle.uv_model.specs.State.{State}
-use Rattle.uv_model.specs.Queries.{members}
-use Rattle.uv_work.specs.declared.content.Content.{Content}
-use Rattle.uv_work.specs.declared.content.Content.TheVariants.{Request as Asked}
-use Rattle.uv_work.specs.Content.{handle_of, request_of, only_request}
-use Rattle.uv_step.specs.Fit.{IsFit}
-use Rattle.uv_step.specs.Image.{Image}
-use Rattle.uv_model.specs.Layout.{open_requests}
-use Rattle.uv_stands.specs.Stands.{StandsFor, timer_in}
 use Rattle.uv_stands.proofs.Holding.{held_there, slot_or, slot_by, map_same}
 use Rattle.uv_stands.proofs.Single.{running_is}
 

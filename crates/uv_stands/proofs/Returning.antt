@@ -1,10 +1,5 @@
 -- A step's record, and a step that grew.
-use Rattle.std.proofs.Common.{◌∙◌}
-use Rattle.uv_model.specs.declared.place.Place.{Place}
-use Rattle.uv_step.specs.Record.{Record}
-use Rattle.uv_step.specs.Image.{Held}
-use Rattle.uv_step.specs.Undo.{Recorded, Extended}
-use Rattle.uv_stands.specs.Doing.{Returns}
+use Rattle.uv_stands.proofs.ProofNames.{◌∙◌, Place, Record, Held, Recorded, Extended, Returns}
 
 pub recorded_returns : {r : Record Place} {old new : Held Place} → Recorded r old new → Returns r old new
 recorded_returns h = record { back = h.back; can = h.can; fit = h.fit; room = h.room }

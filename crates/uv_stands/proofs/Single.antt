@@ -1,9 +1,5 @@
 -- The single values of a memory are those of each state that it stands for.
-use Rattle.std.proofs.Common.{◌≡◌}
-use Rattle.uv_model.specs.declared.place.Place.{Place}
-use Rattle.uv_model.specs.State.{State}
-use Rattle.uv_step.specs.Image.{Image}
-use Rattle.uv_stands.specs.Stands.{StandsFor}
+use Rattle.uv_stands.proofs.ProofNames.{◌≡◌, Place, State, Image, StandsFor}
 
 module _ {i : Image Place} {s : State} (h : StandsFor i s) where
   pub place_is : i.place ≡ s.place

@@ -1,17 +1,6 @@
 -- All slots in turn, in the memory and in the state.
-use Rattle.std.proofs.Common.{◌≡◌, ℕ, zero, suc, ◌+◌, ◌<◌, ◌||◌, Bool, true, false, List, [], ◌∷◌, map, drop, length, slice_get, Option, Some, None, is_some, refl, sym, ap, ◌∙◌, arith}
-use Rattle.std.specs.List.{list_any}
-use Rattle.uv_records.specs.declared.slot.Slot.{Slot}
-use Rattle.uv_arena.specs.declared.links.Cell.{Cell}
-use Rattle.uv_arena.specs.Image.{Memory}
-use Rattle.uv_arena.specs.Image.{held_slots, slot_at, slot_in}
-use Rattle.uv_work.specs.declared.content.Content.{Content}
+use Rattle.uv_stands.proofs.ProofNames.{◌≡◌, ℕ, zero, suc, ◌+◌, ◌<◌, ◌||◌, Bool, true, false, List, [], ◌∷◌, map, drop, length, slice_get, Option, Some, None, is_some, refl, sym, ap, ◌∙◌, arith, list_any, Slot, Cell, Memory, held_slots, slot_at, slot_in, Content, Place, is_in_use, State, Image, StandsFor}
 use Rattle.uv_records.specs.Slots as plain
-use Rattle.uv_model.specs.declared.place.Place.{Place}
-use Rattle.uv_model.specs.Ops.{is_in_use}
-use Rattle.uv_model.specs.State.{State}
-use Rattle.uv_step.specs.Image.{Image}
-use Rattle.uv_stands.specs.Stands.{StandsFor}
 
 any_drop : {X Y : Type 0} (f : X → Y) (none : Y) (P : Y → Bool) (g : Option X → Y) → ((x : X) → g (Some x) ≡ f x) → (xs : List X) (k : ℕ)
     → k < length xs → list_any P (drop k (map f xs)) ≡ (P (g (slice_get xs k)) || list_any P (drop (suc k) (map f xs)))

@@ -1,18 +1,8 @@
 -- Names, places and single values change: what the memory stands for then.
-use Rattle.std.proofs.Common.{◌≡◌, ◌+◌, ℕ, Bool, List, Some, refl, ap, ◌∙◌}
-use Rattle.uv_ids.specs.declared.id.Id.{Id}
-use Rattle.uv_ids.specs.declared.id.Var.{Var}
-use Rattle.uv_ids.specs.declared.seen.Callback.{Callback}
+use Rattle.uv_stands.proofs.ProofNames.{◌≡◌, ◌+◌, ℕ, Bool, List, Some, refl, ap, ◌∙◌, Id, Var, Callback, Calls, Place, State, with_named, bound_to, Named, named, binding, calling, count_of, Image, StandsFor}
 use Rattle.uv_ids.specs.declared.seen.Callback.TheVariants as callback
-use Rattle.uv_records.specs.declared.named.Calls.{Calls}
-use Rattle.uv_model.specs.declared.place.Place.{Place}
 use Rattle.uv_model.specs.State as state
-use Rattle.uv_model.specs.State.{State, with_named}
-use Rattle.uv_model.specs.Ops.{bound_to}
-use Rattle.uv_records.specs.declared.named.Named.{Named}
-use Rattle.uv_records.specs.Names.{named, binding, calling, counted, count_of}
-use Rattle.uv_step.specs.Image.{Image}
-use Rattle.uv_stands.specs.Stands.{StandsFor}
+use Rattle.uv_records.specs.Names.{counted}
 use Rattle.uv_stands.proofs.Lists.{beside_lists}
 use Rattle.uv_stands.proofs.Single.{names_is}
 

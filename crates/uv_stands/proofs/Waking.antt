@@ -1,37 +1,10 @@
 -- Who was sent to is on a list of async handles.
-use Rattle.std.proofs.Common.{◌≡◌, ℕ, ◌<◌, suc, ◌||◌, Bool, true, false, if◌then◌else◌, eqb, List, [], ◌∷◌, ◌++◌, append-nil, map, length, Option, Some, None, IfSome, option_and_then, refl, sym, ap, ◌∙◌, subst, inl, inr, arith}
-use Rattle.std.specs.List.{list_any}
+use Rattle.uv_stands.proofs.ProofNames.{◌≡◌, ℕ, ◌<◌, suc, ◌||◌, Bool, true, false, if◌then◌else◌, eqb, List, [], ◌∷◌, ◌++◌, append-nil, map, length, Option, Some, None, IfSome, option_and_then, refl, sym, ap, ◌∙◌, subst, inl, inr, arith, list_any, eqb_tells, map-append, append_assoc, list_any-append, Id, HandleRecord, ListName, slot_of, IsListed, first, IsIn, IsApart, IsSound, apart_across, record_at, id_in, list_apart, listed_id, Place, content_pends, handle_in, same_id, State, has_pending, has_id, IsReached, same, Content, handle_of, Image, pends_in, pends_at, StandsFor}
 use Rattle.std.specs.Cmp as tests
-use Rattle.std.proofs.lemmas.Bool.Decides.{eqb_tells}
-use Rattle.std.proofs.lemmas.List.{map-append, append_assoc}
-use Rattle.std.proofs.lemmas.List.Folds.{list_any-append}
-use Rattle.uv_ids.specs.declared.id.Id.{Id}
-use Rattle.uv_records.specs.declared.handle.HandleRecord.{HandleRecord}
-use Rattle.uv_records.specs.declared.lists.ListName.{ListName}
 use Rattle.uv_records.specs.declared.lists.ListName.TheVariants as name
 use Rattle.uv_records.specs.Slots as plain
-use Rattle.uv_arena.specs.Calls.{slot_of, IsListed}
-use Rattle.uv_arena.specs.Chains.{first, IsIn, IsApart}
 use Rattle.uv_arena.specs.Image as arena
-use Rattle.uv_arena.specs.Image.{IsSound}
-use Rattle.uv_arena.proofs.Lists.{apart_across}
-use Rattle.uv_handle.specs.Counted.{record_at}
-use Rattle.uv_requests.specs.Working.{id_in}
-use Rattle.uv_requests.proofs.Holding.{list_apart, listed_id}
 use Rattle.uv_work.specs.declared.content.Content.TheVariants as holds
-use Rattle.uv_model.specs.declared.place.Place.{Place}
-use Rattle.uv_model.specs.Content.{content_pends, handle_in}
-use Rattle.uv_model.specs.Ids.{same_id}
-use Rattle.uv_model.specs.State.{State}
-use Rattle.uv_model.specs.Timeout.{has_pending}
-use Rattle.uv_order.specs.Active.{has_id}
-use Rattle.uv_order.specs.Reached.{IsReached}
-use Rattle.uv_order.proofs.IdLists.{same}
-use Rattle.uv_work.specs.declared.content.Content.{Content}
-use Rattle.uv_work.specs.Content.{handle_of}
-use Rattle.uv_step.specs.Image.{Image}
-use Rattle.uv_stands.specs.Pending.{pends_in, pends_at}
-use Rattle.uv_stands.specs.Stands.{StandsFor}
 use Rattle.uv_stands.proofs.Holding.{held_there}
 use Rattle.uv_stands.proofs.Living.{Somewhere, somewhere, any_held, or_true}
 use Rattle.uv_stands.proofs.Naming.{record_there}

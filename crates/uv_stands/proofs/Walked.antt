@@ -1,14 +1,6 @@
 -- A list is walked from its front.
-use Rattle.std.proofs.Common.{◌≡◌, ℕ, List, [], ◌∷◌, ◌++◌, map, Option, Some, None, IfSome, sym, ap, ◌∙◌}
-use Rattle.std.proofs.lemmas.List.{map-append, append_assoc}
-use Rattle.uv_ids.specs.declared.id.Id.{Id}
-use Rattle.uv_records.specs.declared.lists.ListName.{ListName}
-use Rattle.uv_arena.specs.Chains.{first}
-use Rattle.uv_arena.specs.Calls.{slot_of, IsListed}
+use Rattle.uv_stands.proofs.ProofNames.{◌≡◌, ℕ, List, [], ◌∷◌, ◌++◌, map, Option, Some, None, IfSome, sym, ap, ◌∙◌, map-append, append_assoc, Id, ListName, first, slot_of, IsListed, id_in, listed_id, Content}
 use Rattle.uv_arena.specs.Image.{Image, members}
-use Rattle.uv_requests.specs.Working.{id_in}
-use Rattle.uv_requests.proofs.Holding.{listed_id}
-use Rattle.uv_work.specs.declared.content.Content.{Content}
 
 -- these were walked, and this one is next
 pub record IsWalked (i : Image Content) (list : ListName) (ids : List Id) (next : Option Id) : Type 0 where

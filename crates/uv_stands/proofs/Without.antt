@@ -1,11 +1,5 @@
 -- A list of slots without one of them, and the ids of these slots without the one's.
-use Rattle.std.proofs.Common.{◌≡◌, ℕ, Bool, true, false, if◌then◌else◌, not, eqb, List, [], ◌∷◌, map, refl, sym, ap, ◌∙◌, inl, inr}
-use Rattle.std.proofs.lemmas.Bool.Decides.{eqb_tells}
-use Rattle.uv_ids.specs.declared.id.Id.{Id}
-use Rattle.uv_records.specs.Walks.{without}
-use Rattle.uv_work.proofs.Replays.{same_itself}
-use Rattle.uv_requests.proofs.Rules.{not_same}
-use Rattle.uv_model.specs.Ids.{same_id, without_id}
+use Rattle.uv_stands.proofs.ProofNames.{◌≡◌, ℕ, Bool, true, false, if◌then◌else◌, not, eqb, List, [], ◌∷◌, map, refl, sym, ap, ◌∙◌, inl, inr, eqb_tells, Id, without, same_itself, not_same, same_id, without_id}
 
 module _ (f : ℕ → Id) (d : Id) (slots : (x : ℕ) → (f x).slot ≡ x) (one : f d.slot ≡ d) where
   same_at : (x : ℕ) → same_id (f x) d ≡ eqb x d.slot

@@ -1,22 +1,6 @@
 -- A handle's slot is changed: the requests are as before. A request's slot is changed: the handles are counted as before.
-use Rattle.std.proofs.Common.{◌≡◌, ℕ, Bool, true, false, if◌then◌else◌, eqb, List, Some, None, option_and_then, refl, ap, ◌∙◌, inl, inr}
-use Rattle.uv_ids.specs.declared.id.Id.{Id}
-use Rattle.uv_records.specs.declared.handle.HandleRecord.{HandleRecord}
-use Rattle.uv_records.specs.declared.lists.ListName.{ListName}
-use Rattle.uv_records.specs.declared.lists.ListName.TheVariants.{Waiting, Done as Ended, DoneYet as EndedYet}
-use Rattle.uv_records.specs.Walks.{without}
-use Rattle.uv_arena.specs.Chains.{IsIn}
+use Rattle.uv_step.proofs.Names.{◌≡◌, ℕ, Bool, true, false, if◌then◌else◌, eqb, List, Some, None, option_and_then, refl, ap, ◌∙◌, inl, inr, Id, HandleRecord, ListName, Waiting, Ended, EndedYet, without, IsIn, members, held, on_list, plain_slots, held_slots, or_none, without_none, record_at, content_of, Running, working, id_in, asked_at, IsWork, one_id, Content, handle_of, request_of, no_request}
 use Rattle.uv_arena.specs.Image as arena
-use Rattle.uv_arena.specs.Image.{members, held, on_list, plain_slots, held_slots}
-use Rattle.uv_arena.proofs.Memories.{or_none}
-use Rattle.uv_arena.proofs.Lookups.{without_none}
-use Rattle.uv_handle.specs.Counted.{record_at}
-use Rattle.uv_handle.proofs.Counts.{content_of}
-use Rattle.uv_requests.specs.Working.{Running, working, id_in, request_in as asked_at, IsWork}
-use Rattle.uv_requests.proofs.Holding.{one_id}
-use Rattle.uv_work.specs.declared.content.Content.{Content}
-use Rattle.uv_work.specs.Content.{handle_of, request_of}
-use Rattle.uv_work.proofs.Contents.{no_request}
 
 -- under no id of a handle's slot there is a request
 pub alone : (i : arena.Image Content) (d : Id) (h : HandleRecord) → record_at handle_of i d ≡ Some h → (e : Id) → e.slot ≡ d.slot

@@ -1,29 +1,8 @@
 -- What becomes of a request leaves the count of active referenced handles.
-use Rattle.std.proofs.Common.{◌≡◌, ℕ, zero, suc, ◌+◌, ◌<◌, Bool, false, if◌then◌else◌, List, [], ◌∷◌, ◌++◌, set, slice_get, Option, Some, None, option_and_then, refl, sym, ap, ◌∙◌, inl, inr, arith}
-use Rattle.std.proofs.lemmas.Bool.Decides.{eqb_tells}
-use Rattle.uv_ids.specs.declared.id.Id.{Id}
-use Rattle.uv_records.specs.declared.slot.Slot.{Slot}
-use Rattle.uv_records.specs.Count.{one_if, content_keeps, keeps_in, active_count}
+use Rattle.uv_step.proofs.Names.{◌≡◌, ℕ, zero, suc, ◌+◌, ◌<◌, Bool, false, if◌then◌else◌, List, [], ◌∷◌, ◌++◌, set, slice_get, Option, Some, None, option_and_then, refl, sym, ap, ◌∙◌, inl, inr, arith, eqb_tells, Id, Slot, one_if, content_keeps, keeps_in, active_count, ChainPlace, IsIn, CHAIN_COUNT, FREE, held, held_slots, plain_slots, slot_at, place_at, IsSound, push_undone, unlink_undone, SameSlots, get-slots, member_tells, slots_relinked, slots_edited, held_tells, alive_count, Request, reopened, asked_at, reopened_by, reopened_in, Content, Asked, handle_of, request_of, no_handle}
 use Rattle.uv_records.specs.Slots as plain
-use Rattle.uv_arena.specs.declared.links.ChainPlace.{ChainPlace}
-use Rattle.uv_arena.specs.Chains.{IsIn}
 use Rattle.uv_arena.specs.Image as arena
-use Rattle.uv_arena.specs.declared.links.TheConstants.{CHAIN_COUNT, FREE}
-use Rattle.uv_arena.specs.Image.{held, held_slots, plain_slots, slot_at, place_at, IsSound}
-use Rattle.uv_arena.specs.Undo.{push_undone, unlink_undone}
-use Rattle.uv_arena.specs.Calls.{SameSlots}
-use Rattle.uv_arena.proofs.Memories.{get-slots, member_tells, slots_relinked, slots_edited}
-use Rattle.uv_arena.proofs.Lookups.{held_tells}
-use Rattle.uv_handle.specs.Counted.{alive_count}
-use Rattle.uv_work.specs.declared.request.Request.{Request}
-use Rattle.uv_work.specs.Requests.{reopened}
-use Rattle.uv_requests.specs.Working.{request_in as asked_at}
-use Rattle.uv_requests.specs.Undo.{reopened_by, reopened_in}
 use Rattle.uv_requests.proofs.Holding.{content_of}
-use Rattle.uv_work.specs.declared.content.Content.{Content}
-use Rattle.uv_work.specs.declared.content.Content.TheVariants.{Request as Asked}
-use Rattle.uv_work.specs.Content.{handle_of, request_of}
-use Rattle.uv_work.proofs.Contents.{no_handle}
 
 count_set : (ss : List (Slot Content)) (x : ℕ) (s t : Slot Content) → slice_get ss x ≡ Some s → content_keeps handle_of s.content ≡ false
     → content_keeps handle_of t.content ≡ false → active_count handle_of (set ss x t) ≡ active_count handle_of ss

@@ -1,36 +1,9 @@
 -- What each step of handles leaves of the requests.
-use Rattle.std.proofs.Common.{◌≡◌, ◌≢◌, ℕ, Bool, true, false, if◌then◌else◌, refl, List, length, slice_get, Some, None, option_and_then, ap, ◌∙◌, subst, arith}
-use Rattle.std.proofs.lemmas.Option.{slice_get_past}
-use Rattle.uv_ids.specs.declared.id.Id.{Id}
-use Rattle.uv_records.specs.declared.handle.HandleRecord.{HandleRecord}
-use Rattle.uv_records.specs.declared.lists.ListName.{ListName}
+use Rattle.uv_step.proofs.Names.{◌≡◌, ◌≢◌, ℕ, Bool, true, false, if◌then◌else◌, refl, List, length, slice_get, Some, None, option_and_then, ap, ◌∙◌, subst, arith, slice_get_past, Id, HandleRecord, ListName, WatcherKind, list_of, yet_of, woken, members, held, on_list, plain_slots, SameSlots, IsPushed, without_none, RecordUndo, ListUndo, DelistUndo, TakeUndo, Counted, record_at, IsChanged, IsEnlisted, IsDelisted, IsTaken, CollectUndo, Timed, IsCollected, WalkUndo, woken_if, IsMovedOn, Running, working, asked_at, IsWork, freed_slot, kept_beside, Content, Handle, handle_of, request_of}
 use Rattle.uv_records.specs.declared.lists.ListName.TheVariants as name
-use Rattle.uv_records.specs.declared.lists.WatcherKind.{WatcherKind}
 use Rattle.uv_records.specs.declared.lists.WatcherKind.TheVariants as watcher
-use Rattle.uv_records.specs.Lists.{list_of, yet_of}
-use Rattle.uv_records.specs.Handles.{woken}
 use Rattle.uv_records.specs.Slots as plain
 use Rattle.uv_arena.specs.Image as arena
-use Rattle.uv_arena.specs.Image.{members, held, on_list, plain_slots}
-use Rattle.uv_arena.specs.Calls.{SameSlots, IsPushed}
-use Rattle.uv_arena.proofs.Lookups.{without_none}
-use Rattle.uv_handle.specs.declared.undo.RecordUndo.{RecordUndo}
-use Rattle.uv_handle.specs.declared.undo.ListUndo.{ListUndo}
-use Rattle.uv_handle.specs.declared.undo.DelistUndo.{DelistUndo}
-use Rattle.uv_handle.specs.declared.undo.TakeUndo.{TakeUndo}
-use Rattle.uv_handle.specs.Counted.{Counted, record_at}
-use Rattle.uv_handle.specs.Changes.{IsChanged, IsEnlisted, IsDelisted, IsTaken}
-use Rattle.uv_timer.specs.declared.undo.CollectUndo.{CollectUndo}
-use Rattle.uv_timer.specs.Timed.{Timed}
-use Rattle.uv_timer.specs.Timers.{IsCollected}
-use Rattle.uv_watch.specs.declared.undo.WalkUndo.{WalkUndo}
-use Rattle.uv_watch.specs.Watch.{woken_if, IsMovedOn}
-use Rattle.uv_requests.specs.Working.{Running, working, request_in as asked_at, IsWork}
-use Rattle.uv_requests.proofs.Collected.{freed_slot}
-use Rattle.uv_requests.proofs.Beside.{kept_beside}
-use Rattle.uv_work.specs.declared.content.Content.{Content}
-use Rattle.uv_work.specs.declared.content.Content.TheVariants.{Handle}
-use Rattle.uv_work.specs.Content.{handle_of, request_of}
 use Rattle.uv_step.proofs.Alone.{alone, absent, stays, OfRequests}
 
 abbrev Work : arena.Image Content → Running → Type 0

@@ -1,8 +1,9 @@
 pub mod Alone
 pub mod Counting
 pub mod Fits
+pub mod Longer
+mod Names
+pub mod Rooms
 pub mod Rows
 pub mod Steps
 pub mod Trails
-pub mod Rooms
-pub mod Longer

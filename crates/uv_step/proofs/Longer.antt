@@ -1,16 +1,6 @@
 -- Records over rows that get longer.
-use Rattle.std.proofs.Common.{◌≡◌, suc, List, [], ◌∷◌, ◌++◌, ◌+◌, length, refl, sym, ap, ◌∙◌, arith, length-append}
-use Rattle.std.proofs.lemmas.List.{append-nil}
-use Rattle.uv_step.specs.Record.{Record}
-use Rattle.uv_step.specs.Rows.{Fits, smalls_of, mediums_of, larges_of, of_small, of_medium, of_large, records_of}
-use Rattle.uv_step.specs.declared.entry.Entry.{Entry}
-use Rattle.uv_step.specs.declared.small.Small.{Small}
-use Rattle.uv_step.specs.declared.medium.Medium.{Medium}
-use Rattle.uv_step.specs.declared.large.Large.{Large}
-use Rattle.uv_step.specs.Forms.{change_in, record_of}
+use Rattle.uv_step.proofs.Names.{◌≡◌, suc, List, [], ◌∷◌, ◌++◌, ◌+◌, length, refl, sym, ap, ◌∙◌, arith, length-append, append-nil, Record, Fits, smalls_of, mediums_of, larges_of, of_small, of_medium, of_large, records_of, Entry, Small, Medium, Large, change_in, record_of, KeptRecord, Row}
 use Rattle.uv_step.specs.declared.kept.Form.TheVariants as form
-use Rattle.uv_step.specs.declared.kept.KeptRecord.{KeptRecord}
-use Rattle.uv_step.specs.declared.trail.Row.{Row}
 use Rattle.uv_step.specs.declared.trail.Row.TheVariants as row
 
 pub smalls_more : (xs ys : List Row) → smalls_of (xs ++ ys) ≡ smalls_of xs + smalls_of ys

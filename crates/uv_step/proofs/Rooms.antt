@@ -1,18 +1,7 @@
 -- What can be taken back can be where the heap has more room.
-use Rattle.std.proofs.Common.{◌≤◌, ℕ, List, Option, Some, None, arith}
+use Rattle.uv_step.proofs.Names.{◌≤◌, ℕ, List, Option, Some, None, arith, HeapRemoveUndo, Timed, CanPutBack, CanUndoTimer, CanUndoCollect, TimerUndo, CollectUndo, Content, Handle, Change, Record, handle_of, Image, CanUndo, CanUnwind}
 use Rattle.uv_heap.specs.declared.entry.Entry.{Entry}
-use Rattle.uv_heap.specs.declared.undo.HeapRemoveUndo.{HeapRemoveUndo}
-use Rattle.uv_timer.specs.Timed.{Timed, CanPutBack, CanUndoTimer, CanUndoCollect}
-use Rattle.uv_timer.specs.declared.undo.TimerUndo.{TimerUndo}
-use Rattle.uv_timer.specs.declared.undo.CollectUndo.{CollectUndo}
-use Rattle.uv_work.specs.declared.content.Content.{Content}
-use Rattle.uv_work.specs.declared.content.Content.TheVariants.{Handle}
-use Rattle.uv_step.specs.Change.{Change}
 use Rattle.uv_step.specs.Change as change
-use Rattle.uv_step.specs.Record.{Record}
-use Rattle.uv_work.specs.Content.{handle_of}
-use Rattle.uv_step.specs.Image.{Image}
-use Rattle.uv_step.specs.Undo.{CanUndo, CanUnwind}
 
 module _ (room more : ℕ) (grown : room ≤ more) where
   put_back_still : (u : Option HeapRemoveUndo) (es : List Entry) → CanPutBack room u es → CanPutBack more u es

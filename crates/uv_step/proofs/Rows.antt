@@ -1,38 +1,9 @@
 -- The parts of each change, undone one by one, are what takes the change back.
-use Rattle.std.proofs.Common.{◌≡◌, ℕ, zero, suc, ◌<◌, Bool, true, false, List, [], ◌∷◌, ◌++◌, length, set, Option, Some, None, refl, sym, ap, ◌∙◌, subst, arith}
-use Rattle.uv_ids.specs.declared.id.Id.{Id}
-use Rattle.uv_ids.specs.declared.id.Var.{Var}
-use Rattle.uv_ids.specs.declared.seen.Callback.{Callback}
+use Rattle.uv_step.proofs.Names.{◌≡◌, ℕ, zero, suc, ◌<◌, Bool, true, false, List, [], ◌∷◌, ◌++◌, length, set, Option, Some, None, refl, sym, ap, ◌∙◌, subst, arith, Id, Var, Callback, ChainPlace, RecordUndo, delist_undone, HeapRemoveUndo, SetUndo, TimerUndo, CollectUndo, timer_undone, collect_undone, WalkUndo, walk_undone, Handle, Change, Naming, Record, Calls, Named, count_of, with_count, named, binding, calling, alive_count, working, idle_workers, IsWork, Content, handle_of, request_of, Image, counted_of, timed_of, with_counted, with_timed, standing, Part, Stood, Bound, TakenOff, PutOn, undo, unwind_parts, unwind, was_bound, edit_parts, woken_parts, off_parts, put_parts, removed_parts, set_parts, timer_parts, change_parts, naming_parts, CanRename, CanUndo, CanUnwind, Recorded, Extended, off_if, IsFit, changed, moved_by}
 use Rattle.uv_ids.specs.declared.seen.Callback.TheVariants as callback
-use Rattle.uv_arena.specs.declared.links.ChainPlace.{ChainPlace}
-use Rattle.uv_handle.specs.declared.undo.RecordUndo.{RecordUndo}
-use Rattle.uv_handle.specs.Counted.{delist_undone}
-use Rattle.uv_heap.specs.declared.undo.HeapRemoveUndo.{HeapRemoveUndo}
-use Rattle.uv_timer.specs.declared.undo.SetUndo.{SetUndo}
-use Rattle.uv_timer.specs.declared.undo.TimerUndo.{TimerUndo}
-use Rattle.uv_timer.specs.declared.undo.CollectUndo.{CollectUndo}
-use Rattle.uv_timer.specs.Timed.{timer_undone, collect_undone}
-use Rattle.uv_watch.specs.declared.undo.WalkUndo.{WalkUndo}
-use Rattle.uv_watch.specs.Undo.{walk_undone}
-use Rattle.uv_work.specs.declared.content.Content.TheVariants.{Handle}
-use Rattle.uv_step.specs.Change.{Change}
 use Rattle.uv_step.specs.Change as change
-use Rattle.uv_step.specs.declared.record.Naming.{Naming}
 use Rattle.uv_step.specs.declared.record.Naming.TheVariants as naming
-use Rattle.uv_step.specs.Record.{Record}
-use Rattle.uv_records.specs.declared.named.Calls.{Calls}
-use Rattle.uv_records.specs.declared.named.Named.{Named}
-use Rattle.uv_records.specs.Names.{count_of, with_count, named, binding, calling}
 use Rattle.uv_arena.specs.Image as arena
-use Rattle.uv_handle.specs.Counted.{alive_count}
-use Rattle.uv_requests.specs.Working.{working, idle_workers, IsWork}
-use Rattle.uv_work.specs.declared.content.Content.{Content}
-use Rattle.uv_work.specs.Content.{handle_of, request_of}
-use Rattle.uv_step.specs.Image.{Image, counted_of, timed_of, with_counted, with_timed, standing}
-use Rattle.uv_step.specs.Parts.{Part, Stood, Bound, TakenOff, PutOn, undo, unwind_parts, unwind, was_bound, edit_parts, woken_parts, off_parts, put_parts, removed_parts, set_parts, timer_parts, change_parts, naming_parts}
-use Rattle.uv_step.specs.Undo.{CanRename, CanUndo, CanUnwind, Recorded, Extended, off_if}
-use Rattle.uv_step.specs.Fit.{IsFit}
-use Rattle.uv_step.specs.Does.{changed, moved_by}
 
 names_back : (ns : List Named) (v : ℕ) (a b : Named) → b ≡ named ns v → set (set ns v a) v b ≡ ns
 names_back [] v a b e = refl

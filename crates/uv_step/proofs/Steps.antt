@@ -1,58 +1,10 @@
 -- Each step leaves a record that gives back the very image from before it.
-use Rattle.std.proofs.Common.{◌≡◌, ℕ, Bool, true, false, List, Some, option_and_then, refl, sym, ap, ◌∙◌, subst}
-use Rattle.uv_ids.specs.declared.id.Id.{Id}
-use Rattle.uv_ids.specs.declared.id.Var.{Var}
-use Rattle.uv_ids.specs.declared.phase.Kind.{Kind}
-use Rattle.uv_records.specs.declared.handle.HandleRecord.{HandleRecord}
-use Rattle.uv_records.specs.declared.lists.ListName.{ListName}
+use Rattle.uv_step.proofs.Names.{◌≡◌, ℕ, Bool, true, false, List, Some, option_and_then, refl, sym, ap, ◌∙◌, subst, Id, Var, Kind, HandleRecord, ListName, WatcherKind, list_of, yet_of, inited, members, IsSound, push_undone, splice_undone, CanUndoPush, CanUndoSplice, IsPushed, IsFirst, IsSpliced, SameSlots, RecordUndo, AddUndo, ListUndo, DelistUndo, TakeUndo, SpliceUndo, Counted, counted, record_at, alive_count, add_undone, CanUndoAdd, IsTaken, IsAdded, IsChanged, IsEnlisted, IsDelisted, Heap, Times, TimerChange, TimerUndo, CollectUndo, timed, timer_undone, CanUndoTimer, IsRescheduled, IsFired, IsCollected, Running, working, id_in, IsWork, kept_by_insert, QueueUndo, TakeWorkUndo, CollectWorkUndo, FinishUndo, CancelUndo, reopened_in, IsQueued, IsFinished, IsCancelled, listed_id, Request, Job, WalkUndo, IsMovedOn, Content, Handle, Asked, Record, handle_of, request_of, only_handle, Image, Held, counted_of, timed_of, with_counted, with_timed, with_working, Recorded, IsFit, By, changed, moved_by, closed_by, ended_by, FirstIs}
 use Rattle.uv_records.specs.declared.lists.ListName.TheVariants as name
-use Rattle.uv_records.specs.declared.lists.WatcherKind.{WatcherKind}
-use Rattle.uv_records.specs.Lists.{list_of, yet_of}
-use Rattle.uv_records.specs.Handles.{inited}
 use Rattle.uv_arena.specs.Image as arena
-use Rattle.uv_arena.specs.Image.{members, IsSound}
-use Rattle.uv_arena.specs.Undo.{push_undone, splice_undone, CanUndoPush, CanUndoSplice}
-use Rattle.uv_arena.specs.Calls.{IsPushed, IsFirst, IsSpliced, SameSlots}
-use Rattle.uv_handle.specs.declared.undo.RecordUndo.{RecordUndo}
-use Rattle.uv_handle.specs.declared.undo.AddUndo.{AddUndo}
-use Rattle.uv_handle.specs.declared.undo.ListUndo.{ListUndo}
-use Rattle.uv_handle.specs.declared.undo.DelistUndo.{DelistUndo}
-use Rattle.uv_handle.specs.declared.undo.TakeUndo.{TakeUndo}
-use Rattle.uv_arena.specs.declared.undo.SpliceUndo.{SpliceUndo}
-use Rattle.uv_handle.specs.Counted.{Counted, counted, record_at, alive_count, add_undone, CanUndoAdd}
-use Rattle.uv_handle.specs.Changes.{IsTaken, IsAdded, IsChanged, IsEnlisted, IsDelisted}
-use Rattle.uv_heap.specs.Array.{Heap}
-use Rattle.uv_timer.specs.declared.change.Times.{Times}
-use Rattle.uv_timer.specs.declared.change.TimerChange.{TimerChange}
-use Rattle.uv_timer.specs.declared.undo.TimerUndo.{TimerUndo}
-use Rattle.uv_timer.specs.declared.undo.CollectUndo.{CollectUndo}
-use Rattle.uv_timer.specs.Timed.{timed, timer_undone, CanUndoTimer}
-use Rattle.uv_timer.specs.Timers.{IsRescheduled, IsFired, IsCollected}
-use Rattle.uv_requests.specs.Working.{Running, working, id_in, IsWork}
-use Rattle.uv_requests.proofs.Beside.{kept_by_insert}
-use Rattle.uv_requests.specs.declared.undo.QueueUndo.{QueueUndo}
-use Rattle.uv_requests.specs.declared.undo.TakeWorkUndo.{TakeWorkUndo}
-use Rattle.uv_requests.specs.declared.undo.CollectWorkUndo.{CollectWorkUndo}
-use Rattle.uv_requests.specs.declared.undo.FinishUndo.{FinishUndo}
-use Rattle.uv_requests.specs.declared.undo.CancelUndo.{CancelUndo}
-use Rattle.uv_requests.specs.Undo.{reopened_in}
 use Rattle.uv_requests.specs.Calls as requests
-use Rattle.uv_requests.specs.Calls.{IsQueued, IsFinished, IsCancelled}
-use Rattle.uv_requests.proofs.Holding.{listed_id}
-use Rattle.uv_work.specs.declared.request.Request.{Request}
-use Rattle.uv_work.specs.declared.job.Job.{Job}
-use Rattle.uv_watch.specs.declared.undo.WalkUndo.{WalkUndo}
 use Rattle.uv_watch.specs.Watch as watch
-use Rattle.uv_watch.specs.Watch.{IsMovedOn}
-use Rattle.uv_work.specs.declared.content.Content.{Content}
-use Rattle.uv_work.specs.declared.content.Content.TheVariants.{Handle, Request as Asked}
 use Rattle.uv_step.specs.Change as change
-use Rattle.uv_step.specs.Record.{Record}
-use Rattle.uv_work.specs.Content.{handle_of, request_of, only_handle}
-use Rattle.uv_step.specs.Image.{Image, Held, counted_of, timed_of, with_counted, with_timed, with_working}
-use Rattle.uv_step.specs.Undo.{Recorded}
-use Rattle.uv_step.specs.Fit.{IsFit}
-use Rattle.uv_step.specs.Does.{By, changed, moved_by, closed_by, ended_by, FirstIs}
 use Rattle.uv_step.proofs.Rows.{recorded, delist_back, timer_back, moved_back, walk_back}
 use Rattle.uv_step.proofs.Alone.{OfRequests}
 use Rattle.uv_step.proofs.Counting.{count_moved, count_pushed, count_unlinked, count_reopened, count_queued, count_freed}

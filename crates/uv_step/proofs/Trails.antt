@@ -1,10 +1,6 @@
 -- One step more, and one step less.
-use Rattle.std.proofs.Common.{◌≡◌, ℕ, suc, List, [], ◌∷◌, ◌++◌, length, refl, sym, ap, ◌∙◌, subst, append_assoc, append-nil}
-use Rattle.uv_step.specs.Record.{Record}
-use Rattle.uv_step.specs.Image.{Image}
-use Rattle.uv_step.specs.Parts.{unwind}
-use Rattle.uv_step.specs.Undo.{CanUnwind}
-use Rattle.uv_step.specs.Trail.{Walk, unwound, CanGoBack, AreSteps, AddEach, AddsAll}
+use Rattle.uv_step.proofs.Names.{◌≡◌, ℕ, suc, List, [], ◌∷◌, ◌++◌, length, refl, sym, ap, ◌∙◌, subst, append_assoc, Record, Image, unwind, CanUnwind, Walk, unwound, CanGoBack, AreSteps, AddEach, AddsAll}
+use Rattle.std.proofs.Common.{append-nil}
 
 module _ {P : Type 0} where
   pub unwound-push : (rs : List (Record P)) (r : Record P) (i : Image P) → unwound (rs ++ r ∷ []) i ≡ unwound rs (unwind r i)

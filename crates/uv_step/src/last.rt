@@ -149,9 +149,9 @@ impl<P: Copy> LastStep<P> {
     }
 
     /// All of it, as it is kept.
-    pub fn kept(&self) -> KeptRecord<P>
-        ensures { record_of result ≡ self.now }
+    pub fn kept(&self) -> &KeptRecord<P>
+        ensures { record_of result.now ≡ self.now }
     {
-        self.kept
+        &self.kept
     }
 }

@@ -94,18 +94,18 @@ impl<P: Copy> Trail<P> {
         ensures room { self.old.room ≤ self.new.room + 1 }
     {
         let record = last.kept();
-        match record.form {
+        match &record.form {
             Form::Small(change) => {
                 self.rows.push_reserved(Row::Smalls);
-                self.smalls.push_reserved(record.entry(change));
+                self.smalls.push_reserved(record.entry(*change));
             }
             Form::Medium(change) => {
                 self.rows.push_reserved(Row::Mediums);
-                self.mediums.push_reserved(record.entry(change));
+                self.mediums.push_reserved(record.entry(*change));
             }
             Form::Large(change) => {
                 self.rows.push_reserved(Row::Larges);
-                self.larges.push_reserved(record.entry(change));
+                self.larges.push_reserved(record.entry(*change));
             }
         }
     }

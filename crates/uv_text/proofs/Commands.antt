@@ -1,34 +1,14 @@
 -- The tests of the code decide which commands there are.
-use Rattle.std.proofs.Common.{if◌then◌else◌, Bool, ◌≡◌, ℕ, ◌≤◌, List, [], ◌∷◌, true, false, ◌&&◌, nat_le, Option, Some, None, option_map, codes, refl, ap, sym, ◌∙◌}
-use Rattle.std.specs.Str.{bytes_eq}
-use Rattle.std.proofs.lemmas.Slice.Eq.{bytes_eq-Decides}
-use Rattle.std.proofs.lemmas.Option.{same_Some}
-use Rattle.std.proofs.lemmas.Bool.{and_parts, cond_both, leb-true, le-leb, both_ways}
-use Rattle.uv_ids.specs.declared.id.Var.{Var}
-use Rattle.uv_ids.specs.declared.code.Code.{Code}
+use Rattle.uv_text.proofs.Names.{if◌then◌else◌, Bool, ◌≡◌, ℕ, ◌≤◌, List, [], ◌∷◌, true, false, ◌&&◌, nat_le, Option, Some, None, option_map, refl, ap, sym, ◌∙◌, bytes_eq, bytes_eq-Decides, same_Some, and_parts, cond_both, leb-true, le-leb, both_ways, Var, Code, Event, Take, Finish, Cancel, Send, Tick, Phase, code_word, phase_word, fields_of, IsLine, IsNumber, IsDeclared, is_line, is_skipped, line_begins, is_line_decides, is_skipped_decides, number_of-sound, number_of-complete, place_of-sound, place_of-finds, AreDistinct, declared_contains, place_complete, Break, Command, Step, Back, Forward, AddBreak, Asked, Nothing, Do, Bad, IsBreak, IsStep, IsCommand, IsNoCommand, Asks, nothing, command, bad, MOST, LAST_WORKER, section_of, break_of, command_alone, worker_step, step_by, command_by, clears, command_with, command_with_two, command_of, asked_for, asked_of}
+use Rattle.std.proofs.Common.{codes}
 use Rattle.uv_ids.specs.declared.code.Code.TheVariants as code
-use Rattle.uv_ids.specs.declared.event.Event.{Event}
-use Rattle.uv_ids.specs.declared.event.Event.TheVariants.{Take, Finish, Cancel, Send, Tick}
-use Rattle.uv_ids.specs.declared.phase.Phase.{Phase}
 use Rattle.uv_ids.specs.declared.phase.Phase.TheVariants as phase
-use Rattle.uv_ids.specs.Words.{code_word, phase_word}
-use Rattle.uv_script.specs.Lines.{fields_of, IsLine}
-use Rattle.uv_script.specs.Words.{IsNumber, IsDeclared}
-use Rattle.uv_script.specs.Checks.{is_line, is_skipped, number_of}
-use Rattle.uv_script.proofs.AfterLines.{line_begins}
-use Rattle.uv_script.proofs.Checks.{is_line_decides, is_skipped_decides, number_of-sound, number_of-complete}
+use Rattle.uv_script.specs.Checks.{number_of}
 use Rattle.uv_script.specs.Reading.{place_of}
-use Rattle.uv_script.proofs.Places.{place_of-sound, place_of-finds}
-use Rattle.uv_script.proofs.Agrees.{AreDistinct, declared_contains, place_complete}
-use Rattle.uv_session.specs.declared.breaks.Break.{Break}
 use Rattle.uv_session.specs.declared.breaks.Break.TheVariants as at
-use Rattle.uv_text.specs.declared.command.Command.{Command}
-use Rattle.uv_text.specs.declared.command.Command.TheVariants.{Loop, Step, Back, Forward, AddBreak}
-use Rattle.uv_text.specs.declared.command.Asked.{Asked}
-use Rattle.uv_text.specs.declared.command.Asked.TheVariants.{Nothing, Do, Bad}
+use Rattle.uv_text.specs.declared.command.Command.TheVariants.{Loop}
 use Rattle.uv_text.specs.Commands as is
-use Rattle.uv_text.specs.Commands.{IsBreak, IsStep, IsCommand, IsNoCommand, Asks, nothing, command, bad, MOST, LAST_WORKER}
-use Rattle.uv_text.specs.Reading.{code_of, phase_of, section_of, break_of, command_alone, worker_step, step_by, command_by, clears, command_with, command_with_two, command_of, asked_for, asked_of}
+use Rattle.uv_text.specs.Reading.{code_of, phase_of}
 
 same : (a b : List ℕ) → bytes_eq a b ≡ true → a ≡ b
 same a b e = (bytes_eq-Decides a b).0 e

@@ -1,9 +1,10 @@
 pub mod Commands
+mod Names
 pub mod Pieces
-pub mod Showing
-pub mod Recordings
-pub mod Wholes
-pub mod StepLines
-pub mod Sizes
-pub mod Printed
 pub mod Played
+pub mod Printed
+pub mod Recordings
+pub mod Showing
+pub mod Sizes
+pub mod StepLines
+pub mod Wholes

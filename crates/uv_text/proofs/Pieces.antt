@@ -1,12 +1,5 @@
 -- A text that is written a piece at a time.
-use Rattle.std.proofs.Common.{◌≡◌, ℕ, ◌+◌, ◌<◌, ◌≤◌, List, [], ◌∷◌, ◌++◌, length, take, get_or, ap, sym, ◌∙◌, append_assoc, append-nil, add-one, take_all}
-use Rattle.std.proofs.lemmas.List.{take_more}
-use Rattle.std.proofs.lemmas.Grind.{flat_map-append}
-use Rattle.std.specs.List.{flat_map}
-use Rattle.uv_script.specs.Program.{Program}
-use Rattle.uv_model.specs.State.{State}
-use Rattle.uv_model.specs.Queries.{run_by}
-use Rattle.uv_text.specs.State.{run_text, runs_upto}
+use Rattle.uv_text.proofs.Names.{◌≡◌, ℕ, ◌+◌, ◌<◌, ◌≤◌, List, [], ◌∷◌, ◌++◌, length, take, get_or, ap, sym, ◌∙◌, append_assoc, append-nil, add-one, take_all, take_more, flat_map-append, flat_map, Program, State, run_by, run_text, runs_upto}
 
 -- one more piece behind those before it
 pub one_more : (upto : ℕ → List ℕ) (n : ℕ) (start text piece : List ℕ) → upto (n + 1) ≡ upto n ++ piece → text ≡ start ++ upto n →

@@ -1,27 +1,7 @@
 -- What every list of accepted steps has: each step may be taken, and each line shows a callback as a recording has it.
-use Rattle.std.proofs.Common.{◌≡◌, ℕ, ◌+◌, ◌≤◌, List, [], ◌∷◌, ◌++◌, length, map, Bool, true, false, Contains, Option, Some, None, IfSome, refl, ap, subst, ◌∙◌, arith, length-append}
-use Rattle.std.specs.Prelude.{option_to_list}
-use Rattle.std.specs.List.{AllByRecursion, filter, flat_map}
-use Rattle.std.proofs.lemmas.List.{length-replicate}
-use Rattle.std.proofs.lemmas.List.Elements.{All-nil}
-use Rattle.uv_ids.specs.declared.id.Id.{Id}
-use Rattle.uv_ids.specs.declared.event.Event.{Event}
-use Rattle.uv_ids.specs.declared.seen.Seen.{Seen}
-use Rattle.uv_script.specs.Program.{Program, arena_size, worker_count, IsSlotCount}
-use Rattle.uv_script.specs.Words.{IsName}
-use Rattle.uv_records.specs.declared.slot.Slot.{Slot}
-use Rattle.uv_work.specs.declared.content.Content.{Content}
-use Rattle.uv_records.specs.declared.named.Named.{Named}
-use Rattle.uv_model.specs.Bounds.{CanStep}
-use Rattle.uv_model.specs.State.{State, fresh}
-use Rattle.uv_records.specs.Names.{unbound}
-use Rattle.uv_model.specs.Next.{Next, Moves, Refuses, next}
-use Rattle.uv_model.specs.After.{after, seen_from, seen_by, state_of, seen_of, AcceptsFrom, Accepts, STEPS}
-use Rattle.uv_model.proofs.Bounded.{after_able}
-use Rattle.uv_model.proofs.Runs.{after-nil, after-push}
-use Rattle.uv_text.specs.Trace.{line_text}
-use Rattle.uv_text.specs.Recorded.{IsCallbackLine}
-use Rattle.uv_text.specs.Recording.{is_callback, callback_lines}
+use Rattle.uv_text.proofs.Names.{◌≡◌, ℕ, ◌+◌, ◌≤◌, List, [], ◌∷◌, ◌++◌, length, map, Bool, true, false, Contains, Option, Some, None, IfSome, refl, ap, subst, ◌∙◌, arith, length-append, option_to_list, AllByRecursion, filter, flat_map, length-replicate, All-nil, Id, Event, Seen, Program, arena_size, worker_count, IsSlotCount, IsName, Slot, Content, Named, CanStep, State, fresh, unbound, Next, Moves, Refuses, seen_from, state_of, seen_of, AcceptsFrom, STEPS, after_able, after-nil, after-push, line_text, IsCallbackLine, is_callback, callback_lines}
+use Rattle.uv_model.specs.Next.{next}
+use Rattle.uv_model.specs.After.{after, seen_by, Accepts}
 use Rattle.uv_text.proofs.Printed.{callback_said}
 use Rattle.uv_text.proofs.Sizes.{IsContent, Sized, Shows, Stays, CanBe, next_sized, can_be}
 

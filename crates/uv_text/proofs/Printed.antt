@@ -1,30 +1,8 @@
 -- The lines of a recording are read as what they say: each step that may be taken, and each callback.
-use Rattle.std.proofs.Common.{◌≡◌, ◌⊎◌, inl, inr, ℕ, ◌+◌, ◌/◌, ◌%◌, ◌<◌, ◌≤◌, ◌^◌, ◌&&◌, nat_le, true, false, List, [], ◌∷◌, ◌++◌, length, get_or, All, Contains, Option, Some, None, IfSome, slice_get, refl, ap, sym, subst, ◌∙◌, arith, length-append}
-use Rattle.std.specs.Prelude.{codes, decimal}
-use Rattle.std.specs.List.{list_all}
-use Rattle.std.proofs.lemmas.Fmt.{length-decimal-le}
-use Rattle.std.proofs.lemmas.List.Elements.{All-append, All-cons, All-head, All-nil, All-tail}
-use Rattle.std.proofs.lemmas.Option.{slice_get-get_or}
-use Rattle.hex.specs.Hex.{encode_lower, encode_with, lower_digits}
-use Rattle.hex.proofs.HexLemmas.{length-encode_with}
-use Rattle.uv_ids.specs.declared.id.Id.{Id}
-use Rattle.uv_ids.specs.declared.id.Var.{Var}
-use Rattle.uv_ids.specs.declared.event.Event.{Event}
-use Rattle.uv_ids.specs.declared.event.Event.TheVariants.{Loop, Take, Finish, Cancel, Send, Tick}
-use Rattle.uv_ids.specs.declared.seen.Seen.{Seen}
+use Rattle.uv_text.proofs.Names.{◌≡◌, ◌⊎◌, inl, inr, ℕ, ◌+◌, ◌/◌, ◌%◌, ◌<◌, ◌≤◌, ◌^◌, ◌&&◌, nat_le, true, false, List, [], ◌∷◌, ◌++◌, length, get_or, All, Contains, Option, Some, None, IfSome, slice_get, refl, ap, sym, subst, ◌∙◌, arith, length-append, codes, decimal, list_all, length-decimal-le, All-append, All-cons, All-head, All-nil, All-tail, slice_get-get_or, encode_lower, lower_digits, length-encode_with, Id, Var, Event, Loop, Take, Finish, Cancel, Send, Tick, Seen, IsLine, Program, text_or_none, name_text, IsLetter, IsDigit, IsName, IsDeclared, declared_contains, fields-last, decimal_printable, decimal_unspaced, printable_front, is_number, name_unspaced, IsDigest, SaysStep, loop, outside, IsCallbackLine, call, after, closed, step_line, is_callback, id_text, handle_text, end_text, line_text}
+use Rattle.hex.specs.Hex.{encode_with}
 use Rattle.uv_ids.specs.declared.seen.Seen.TheVariants as seen
-use Rattle.uv_script.specs.Lines.{IsLine}
-use Rattle.uv_script.specs.Program.{Program}
-use Rattle.uv_script.specs.Text.{text_or_none, name_text}
-use Rattle.uv_script.specs.Words.{IsLetter, IsDigit, IsName, IsDeclared}
-use Rattle.uv_script.proofs.Agrees.{declared_contains}
-use Rattle.uv_script.proofs.Cuts.{fields-last}
-use Rattle.uv_script.proofs.ReadBack.{decimal_printable, decimal_unspaced, printable_front, is_number, name_unspaced}
-use Rattle.uv_work.proofs.DigestBytes.{IsDigest}
 use Rattle.uv_text.specs.Commands as is
-use Rattle.uv_text.specs.Recorded.{SaysStep, loop, outside, IsCallbackLine, call, after, closed}
-use Rattle.uv_text.specs.Recording.{step_line, is_callback}
-use Rattle.uv_text.specs.Trace.{id_text, handle_text, end_text, line_text}
 use Rattle.uv_text.proofs.Sizes.{IsShort, Shows, CanBe}
 
 -- ---- so many printable bytes at most

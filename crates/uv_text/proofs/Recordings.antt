@@ -1,14 +1,7 @@
 -- The text of a recording, a part at a time.
-use Rattle.std.proofs.Common.{◌≡◌, ℕ, List, [], ◌∷◌, ◌++◌, map, Bool, true, false, Option, Some, None, refl, ap, sym, ◌∙◌, append_assoc}
-use Rattle.std.specs.Prelude.{option_to_list, codes}
-use Rattle.std.specs.List.{flat_map, filter}
-use Rattle.uv_ids.specs.declared.event.Event.{Event}
-use Rattle.uv_ids.specs.declared.seen.Seen.{Seen}
-use Rattle.uv_script.specs.Program.{Program}
-use Rattle.uv_script.specs.Text.{script_lines, lines_text, script_text}
-use Rattle.uv_script.proofs.Texts.{lines_text-append}
-use Rattle.uv_text.specs.Trace.{line_text}
-use Rattle.uv_text.specs.Recording.{step_line, is_callback, callback_lines, called_text, recording_text, script_part}
+use Rattle.uv_text.proofs.Names.{◌≡◌, ℕ, List, [], ◌∷◌, ◌++◌, map, Bool, true, false, Option, Some, None, refl, ap, sym, ◌∙◌, append_assoc, option_to_list, codes, flat_map, filter, Event, Seen, Program, script_lines, lines_text, lines_text-append, line_text, step_line, is_callback, callback_lines, called_text}
+use Rattle.uv_script.specs.Text.{script_text}
+use Rattle.uv_text.specs.Recording.{recording_text, script_part}
 
 -- ---- the callbacks of the steps
 

@@ -1,12 +1,6 @@
 -- What a machine answers when it is asked how its memory lies.
-use Rattle.std.proofs.Common.{◌≡◌, ℕ, List, Option, Some, IfSome, subst}
-use Rattle.uv_ids.specs.declared.event.Event.{Event}
-use Rattle.uv_script.specs.Program.{Program}
-use Rattle.uv_model.specs.declared.layout.Layout.{Layout}
-use Rattle.uv_model.specs.Layout.{LiesFor}
+use Rattle.uv_text.proofs.Names.{◌≡◌, ℕ, List, Option, Some, IfSome, subst, Event, Program, Layout, LiesFor, Shown, image_text, IsImageText}
 use Rattle.uv_model.specs.After.{after}
-use Rattle.uv_session.specs.Shown.{Shown}
-use Rattle.uv_text.specs.Image.{image_text, IsImageText}
 
 -- it lies for the state of the session whose machine it is
 lies_for : (s : Shown) (p : Program) (events : List Event) (l : Layout) (o : Option Layout) → p ≡ s.program → events ≡ s.standing → o ≡ Some l →

@@ -1,77 +1,16 @@
 -- What a state keeps of its lists: as many names and workers as the script has, no more slots than a script may ask for, and a digest of
 -- 32 bytes in each request that was finished. So a step that is taken can be written as a line, and so can each callback.
-use Rattle.std.proofs.Common.{◌≡◌, ℕ, suc, zero, ◌+◌, ◌<◌, ◌≤◌, ◌^◌, List, [], ◌∷◌, ◌++◌, length, drop, Bool, true, false, Option, Some, None, IfSome, Result, Ok, Err, All, slice_get, slice_set, option_and_then, nat_le, nat_lt, ◌==◌, refl, ap, subst, ◌∙◌, arith, length-append, length-set, cond, if◌then◌else◌}
-use Rattle.std.specs.List.{list_any}
-use Rattle.std.proofs.lemmas.Grind.{elements}
-use Rattle.std.proofs.lemmas.Bool.{cond_both, leb-true, ltb-true}
-use Rattle.std.proofs.lemmas.Option.{none-some, same_Some, slice_get_within}
-use Rattle.uv_ids.specs.declared.id.Id.{Id}
-use Rattle.uv_ids.specs.declared.id.Var.{Var}
-use Rattle.uv_ids.specs.declared.phase.Kind.{Kind}
-use Rattle.uv_ids.specs.declared.code.Code.{Code}
-use Rattle.uv_ids.specs.declared.event.Event.{Event}
-use Rattle.uv_ids.specs.declared.event.Event.TheVariants.{Loop, Take, Finish, Cancel, Send, Tick}
-use Rattle.uv_ids.specs.declared.fault.Why.{Why}
-use Rattle.uv_ids.specs.declared.fault.Why.TheVariants.{Range}
-use Rattle.uv_ids.specs.declared.seen.Seen.{Seen}
+use Rattle.uv_text.proofs.Names.{◌≡◌, ℕ, suc, zero, ◌+◌, ◌<◌, ◌≤◌, ◌^◌, List, [], ◌∷◌, ◌++◌, length, drop, Bool, true, false, Option, Some, None, IfSome, Result, Ok, Err, All, slice_get, slice_set, option_and_then, nat_le, nat_lt, ◌==◌, refl, ap, subst, ◌∙◌, arith, length-append, length-set, cond, if◌then◌else◌, list_any, elements, cond_both, leb-true, ltb-true, none-some, same_Some, slice_get_within, Id, Var, Kind, Code, Event, Loop, Take, Finish, Cancel, Send, Tick, Why, Range, Seen, Callback, Op, MainOp, CallbackLine, Task, MOST_SLOTS, Program, arena_size, order_of, text_of, HandleRecord, Slot, WatcherKind, inited, is_async, activated, referenced_as, repeating, watcher_kind, start_timer_refusal, start_watcher_refusal, stop_refusal, again_refusal, timer_refusal, close_refusal, no_refusal, send_refusal, Slots, held, held_in, with_held, next_unused, next_id, next_free, taken, taken_from, freed, Walk, with_first, all_yet, Outcome, Open, Finished, Cancelled, IsDigest, is_digest, LATEST, Content, Named, Body, Run, Stage, Entry, Pending, Idle, Prepare, Poll, Done, Async, Check, Closing, Timers, TimersOf, Turn, AtEntry, Behind, BehindClosing, Way, ToTimers, ToPending, ToEnd, Timing, Collecting, Firing, Place, Main, Running, Request, CanStep, queued, digest_in, handle_in, request_in, same_id, State, named, with_handle, with_id, with_named, live, live_handle, live_request, front, front_request, watched, with_watched, refreshed, counted, stopped, started, restarted, do_op, Next, Moves, Refuses, loop_step, main_step, run_step, body_step, stage_step, next_work, finish, work_of, collect_request, timers, first_due, fire, way, goes_by, turns, refreshes, calls, may_leave, goes, begin_walk, after_walk, front_moved, walk, walk_async, close_front, IsMove, if_keeps, found_both, front_freed, request_freed}
 use Rattle.uv_ids.specs.declared.seen.Seen.TheVariants as seen
-use Rattle.uv_ids.specs.declared.seen.Callback.{Callback}
 use Rattle.uv_ids.specs.declared.seen.Callback.TheVariants as callback
-use Rattle.uv_script.specs.declared.op.Op.{Op}
 use Rattle.uv_script.specs.declared.op.Op.TheVariants as op
-use Rattle.uv_script.specs.declared.op.MainOp.{MainOp}
 use Rattle.uv_script.specs.declared.op.MainOp.TheVariants as main
-use Rattle.uv_script.specs.declared.op.CallbackLine.{CallbackLine}
-use Rattle.uv_work.specs.declared.task.Task.{Task}
-use Rattle.uv_script.specs.Limits.{MOST_SLOTS}
-use Rattle.uv_script.specs.Program.{Program, arena_size, order_of}
-use Rattle.uv_work.specs.Tasks.{text_of}
-use Rattle.uv_records.specs.declared.handle.HandleRecord.{HandleRecord}
-use Rattle.uv_records.specs.declared.slot.Slot.{Slot}
-use Rattle.uv_records.specs.declared.lists.WatcherKind.{WatcherKind}
 use Rattle.uv_records.specs.declared.lists.WatcherKind.TheVariants as watcher
 use Rattle.uv_records.specs.Handles as records
-use Rattle.uv_records.specs.Handles.{inited, is_async, activated, referenced_as, repeating}
-use Rattle.uv_records.specs.Lists.{watcher_kind}
-use Rattle.uv_records.specs.Refusals.{start_timer_refusal, start_watcher_refusal, stop_refusal, again_refusal, timer_refusal, close_refusal, no_refusal, send_refusal}
-use Rattle.uv_records.specs.Slots.{Slots, held, held_in, with_held, next_unused, next_id, next_free, taken, taken_from, freed}
-use Rattle.uv_records.specs.Walks.{Walk, with_first, all_yet}
-use Rattle.uv_work.specs.declared.outcome.Outcome.{Outcome}
-use Rattle.uv_work.specs.declared.outcome.Outcome.TheVariants.{Open, Finished, Cancelled}
 use Rattle.uv_work.specs.Digests.{digest_of}
-use Rattle.uv_work.proofs.DigestBytes.{IsDigest, is_digest}
-use Rattle.uv_model.specs.Limits.{LATEST}
-use Rattle.uv_work.specs.declared.content.Content.{Content}
 use Rattle.uv_work.specs.declared.content.Content.TheVariants as content
-use Rattle.uv_records.specs.declared.named.Named.{Named}
-use Rattle.uv_model.specs.declared.place.Body.{Body}
-use Rattle.uv_model.specs.declared.place.Run.{Run}
-use Rattle.uv_model.specs.declared.place.Stage.{Stage}
-use Rattle.uv_model.specs.declared.place.Stage.TheVariants.{Entry, Pending, Idle, Prepare, Poll, Done, Async, Check, Closing, Timers}
-use Rattle.uv_model.specs.declared.place.TimersOf.{TimersOf}
-use Rattle.uv_model.specs.declared.place.Turn.{Turn}
-use Rattle.uv_model.specs.declared.place.Turn.TheVariants.{AtEntry, Behind, BehindClosing}
-use Rattle.uv_model.specs.declared.place.Way.{Way}
-use Rattle.uv_model.specs.declared.place.Way.TheVariants.{ToTimers, ToPending, ToEnd}
-use Rattle.uv_model.specs.declared.place.Timing.{Timing}
-use Rattle.uv_model.specs.declared.place.Timing.TheVariants.{Collecting, Firing}
-use Rattle.uv_model.specs.declared.place.Place.{Place}
-use Rattle.uv_model.specs.declared.place.Place.TheVariants.{Main, Running}
-use Rattle.uv_work.specs.declared.request.Request.{Request}
-use Rattle.uv_model.specs.Bounds.{CanStep}
-use Rattle.uv_work.specs.Requests.{queued, digest_in}
-use Rattle.uv_model.specs.Content.{handle_in, request_in}
-use Rattle.uv_model.specs.Ids.{same_id}
-use Rattle.uv_model.specs.State.{State, named, with_handle, with_id, with_named, live, live_handle, live_request, front, front_request, watched, with_watched, refreshed}
-use Rattle.uv_records.specs.Names.{counted}
-use Rattle.uv_model.specs.Timers.{stopped, started, restarted}
 use Rattle.uv_model.specs.Ops as ops
-use Rattle.uv_model.specs.Ops.{do_op}
-use Rattle.uv_model.specs.Next.{Next, Moves, Refuses, next, loop_step, main_step, run_step, body_step, stage_step, take, next_work, finish, work_of, collect_request, timers, first_due, fire, way, goes_by, turns, refreshes, calls, may_leave, goes, begin_walk, after_walk, front_moved, walk, walk_async, close_front}
-use Rattle.uv_model.specs.After.{IsMove}
-use Rattle.uv_model.proofs.Counting.{if_keeps}
-use Rattle.uv_model.proofs.Found.{found_both}
-use Rattle.uv_model.proofs.Walks.{front_freed, request_freed}
+use Rattle.uv_model.specs.Next.{next, take}
 
 -- ---- what is kept
 

@@ -1,20 +1,5 @@
 -- The tests of the code decide which lines of a recording say a step, and which are of callbacks.
-use Rattle.std.proofs.Common.{◌≡◌, ◌↔◌, ◌&&◌, ◌||◌, ℕ, List, ◌++◌, Bool, true, false, drop, length, Option, Some, None, IfSome, IfNone, IsTrue, refl, ap, sym, subst, ◌∙◌}
-use Rattle.std.specs.Prelude.{codes}
-use Rattle.std.specs.Str.{bytes_eq}
-use Rattle.std.proofs.lemmas.Bool.{cond_both, and_parts}
-use Rattle.std.proofs.lemmas.Bool.Decides.{Decides-eqb}
-use Rattle.std.proofs.lemmas.Slice.Eq.{bytes_eq-Decides, starts_is}
-use Rattle.uv_ids.specs.declared.event.Event.{Event}
-use Rattle.uv_ids.specs.declared.event.Event.TheVariants.{Loop}
-use Rattle.uv_script.specs.Checks.{is_line}
-use Rattle.uv_script.proofs.Checks.{is_line_decides}
-use Rattle.uv_text.specs.declared.command.Asked.{Asked}
-use Rattle.uv_text.specs.declared.command.Asked.TheVariants.{Do}
-use Rattle.uv_text.specs.declared.command.Command.TheVariants.{Step}
-use Rattle.uv_text.specs.Commands.{Asks, command}
-use Rattle.uv_text.specs.Reading.{asked_of}
-use Rattle.uv_text.specs.Recorded.{SaysStep, loop, outside, IsCallbackLine, call, after, closed, step_asked, step_of, begins, is_callback_line}
+use Rattle.uv_text.proofs.Names.{◌≡◌, ◌↔◌, ◌&&◌, ◌||◌, ℕ, List, ◌++◌, Bool, true, false, drop, length, Option, Some, None, IfSome, IfNone, IsTrue, refl, ap, sym, subst, ◌∙◌, codes, bytes_eq, cond_both, and_parts, Decides-eqb, bytes_eq-Decides, starts_is, Event, Loop, is_line, is_line_decides, Asked, Do, Step, Asks, command, asked_of, SaysStep, loop, outside, IsCallbackLine, call, after, closed, step_asked, step_of, begins, is_callback_line}
 use Rattle.uv_text.proofs.Commands.{asks, step_found}
 
 -- ---- steps

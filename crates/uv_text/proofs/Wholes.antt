@@ -1,22 +1,10 @@
 -- The parts of a text, one after another, are all of it.
-use Rattle.std.proofs.Common.{◌≡◌, ℕ, zero, suc, ◌+◌, ◌-◌, ◌*◌, ◌<◌, ◌≤◌, ◌==◌, nat_le, nat_lt, List, [], ◌∷◌, ◌++◌, length, map, Option, Some, Result, OnOk, slice_get, refl, ap, sym, subst, ◌∙◌, arith, append_assoc, append-nil, add-one}
-use Rattle.std.specs.Prelude.{codes}
-use Rattle.std.specs.List.{flat_map}
-use Rattle.std.proofs.lemmas.Bool.{cond-true, cond-false, le-leb, lt-leb, lt-ltb, le-ltb, eq-eqb, ne_eqb}
-use Rattle.uv_ids.specs.declared.event.Event.{Event}
-use Rattle.uv_script.specs.Program.{Program}
-use Rattle.uv_script.specs.Text.{lines_text}
-use Rattle.uv_model.specs.declared.layout.LaidSlot.{LaidSlot}
-use Rattle.uv_model.specs.declared.layout.Layout.{Layout}
-use Rattle.uv_model.specs.State.{State}
-use Rattle.uv_model.specs.Queries.{numbers}
+use Rattle.uv_text.proofs.Names.{◌≡◌, ℕ, zero, suc, ◌+◌, ◌-◌, ◌*◌, ◌<◌, ◌≤◌, ◌==◌, nat_le, nat_lt, List, [], ◌∷◌, ◌++◌, length, map, Option, Some, Result, OnOk, slice_get, refl, ap, sym, subst, ◌∙◌, arith, append_assoc, append-nil, add-one, codes, flat_map, cond-true, cond-false, le-leb, lt-leb, lt-ltb, le-ltb, eq-eqb, ne_eqb, Event, Program, lines_text, LaidSlot, Layout, State, numbers, length-seen_by, Shown, parts_from, names_upto, slots_upto, LAST_PARTS, name_part, slot_part, part_count, text_after, state_text, state_part, state_parts, links_from, named_ends, link_part, LAYOUT_PARTS, layout_parts, step_line, step_part, called_part, callback_lines, recording_parts}
 use Rattle.uv_model.specs.After.{seen_by}
-use Rattle.uv_model.proofs.Runs.{length-seen_by}
-use Rattle.uv_session.specs.Shown.{Shown}
-use Rattle.uv_text.specs.Parts.{parts_from, in_parts}
-use Rattle.uv_text.specs.State.{steps_line, place_line, names_upto, slots_upto, free_line, unused_line, lists_text, LAST_PARTS, last_part, name_part, slot_part, part_after, part_count, text_after, state_text, state_part, state_parts}
-use Rattle.uv_text.specs.Image.{link_line, links_from, ends_line, named_ends, heap_line, places_line, counts_line, link_part, LAYOUT_PARTS, rest_part, layout_part, layout_parts, layout_text}
-use Rattle.uv_text.specs.Recording.{step_line, script_part, step_part, called_part, callback_lines, recording_part, recording_parts, recording_text}
+use Rattle.uv_text.specs.Parts.{in_parts}
+use Rattle.uv_text.specs.State.{steps_line, place_line, free_line, unused_line, lists_text, last_part, part_after}
+use Rattle.uv_text.specs.Image.{link_line, ends_line, heap_line, places_line, counts_line, rest_part, layout_part, layout_text}
+use Rattle.uv_text.specs.Recording.{script_part, recording_part, recording_text}
 use Rattle.uv_text.proofs.Recordings.{called_is, steps_are, whole}
 
 -- ---- parts from one on

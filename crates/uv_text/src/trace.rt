@@ -23,7 +23,8 @@ pub fn push_seen(text: &mut Vec<u8>, script: &Script, seen: Seen) -> Result<(), 
     ensures { OnOk result (text.new.items ≡ text.old.items ++ seen_text script.now seen) }
 {
     push_line(text, script, seen)?;
-    text.extend_from_slice(b"\n")
+    text.push(b'\n')?;
+    Ok(())
 }
 
 /// Puts a trace line behind a text, without a line feed.
@@ -48,7 +49,7 @@ pub fn push_line(text: &mut Vec<u8>, script: &Script, seen: Seen) -> Result<(), 
         Seen::Call(name, id) => push_handle(text, script, b"call ", name, id),
         Seen::After(digest, name, id) => {
             push_handle(text, script, b"after ", name, id)?;
-            text.extend_from_slice(b" ")?;
+            text.push(b' ')?;
             push_end(text, digest)
         }
         Seen::Closed(name, id) => push_handle(text, script, b"closed ", name, id),
@@ -72,7 +73,7 @@ fn push_end(text: &mut Vec<u8>, digest: Option<[u8; 32]>) -> Result<(), AllocErr
     match digest {
         Some(digest) => {
             text.extend_from_slice(Code::Ok.word().as_bytes())?;
-            text.extend_from_slice(b" ")?;
+            text.push(b' ')?;
             push_digest(text, digest)
         }
         None => text.extend_from_slice(Code::Ecanceled.word().as_bytes()),
@@ -134,7 +135,7 @@ fn push_handle(
 {
     text.extend_from_slice(word)?;
     script.names().push_name(text, name)?;
-    text.extend_from_slice(b" ")?;
+    text.push(b' ')?;
     push_id(text, id)
 }
 
@@ -166,7 +167,7 @@ pub(crate) fn push_id(text: &mut Vec<u8>, id: Id) -> Result<(), AllocError>
     ensures { OnOk result (text.new.items ≡ text.old.items ++ id_text id) }
 {
     push_number(text, u64::from(id.slot))?;
-    text.extend_from_slice(b".")?;
+    text.push(b'.')?;
     push_number(text, u64::from(id.generation))
 }
 

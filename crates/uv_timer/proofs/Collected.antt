@@ -1,17 +1,5 @@
 -- A timer that is due goes to the end of the ready list.
-use Rattle.std.proofs.Common.{ℕ, [], ◌∷◌, ◌++◌, Option, option_and_then, sym, ap, ◌∙◌, subst}
-use Rattle.uv_ids.specs.declared.id.Id.{Id}
-use Rattle.uv_records.specs.declared.handle.HandleRecord.{HandleRecord}
-use Rattle.uv_records.specs.declared.lists.ListName.TheVariants.{Ready}
-use Rattle.uv_arena.specs.Image.{Image, members}
-use Rattle.uv_arena.specs.Calls.{IsPushed}
-use Rattle.uv_handle.proofs.Closed.{same_count}
-use Rattle.uv_heap.specs.Array.{Heap}
-use Rattle.uv_timer.specs.declared.change.Times.{Times}
-use Rattle.uv_timer.specs.declared.undo.TimerUndo.{TimerUndo}
-use Rattle.uv_timer.specs.Changes.{collecting}
-use Rattle.uv_timer.specs.Timed.{timed, with_arena, timer_undone, CanUndoTimer}
-use Rattle.uv_timer.specs.Timers.{IsDue, IsRescheduled, IsCollected}
+use Rattle.uv_timer.proofs.Names.{ℕ, [], ◌∷◌, ◌++◌, Option, option_and_then, sym, ap, ◌∙◌, subst, Id, HandleRecord, Ready, Image, members, IsPushed, same_count, Heap, Times, TimerUndo, collecting, timed, with_arena, timer_undone, CanUndoTimer, IsDue, IsRescheduled, IsCollected}
 
 module _ {X : Type 0} (read : X → Option HandleRecord) (make : HandleRecord → X) where
   pub collected : (room : ℕ) (i k j : Image X) (n m : ℕ) (a b : Heap) (s t : Times) (d : Id) (h : HandleRecord) (u : TimerUndo)

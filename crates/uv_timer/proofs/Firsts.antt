@@ -1,16 +1,5 @@
 -- The timer that is due first, and the one that is called next.
-use Rattle.std.proofs.Common.{◌≡◌, ℕ, ◌≤◌, Bool, true, false, nat_le, List, slice_get, Option, Some, None, IfSome, is_some, option_and_then, refl, sym, ap, ◌∙◌, subst, inl, inr, if◌then◌else◌}
-use Rattle.std.proofs.lemmas.Bool.{le-leb, leb-true}
-use Rattle.uv_ids.specs.declared.id.Id.{Id}
-use Rattle.uv_records.specs.declared.handle.HandleRecord.{HandleRecord}
-use Rattle.uv_records.specs.declared.lists.ListName.TheVariants.{Ready}
-use Rattle.uv_records.specs.Slots.{id_of}
-use Rattle.uv_arena.specs.Calls.{IsFirst}
-use Rattle.uv_arena.specs.Image.{Image, slot_in, slot_at, held}
-use Rattle.uv_arena.proofs.Lookups.{is_there}
-use Rattle.uv_handle.specs.Counted.{record_at}
-use Rattle.uv_heap.specs.declared.entry.Entry.{Entry}
-use Rattle.uv_timer.specs.Timers.{handle_of, handle_first, due_of, first_due, first_ready, IsDue, NoneIsDue, NoneIsReady}
+use Rattle.uv_timer.proofs.Names.{◌≡◌, ℕ, ◌≤◌, Bool, true, false, nat_le, List, slice_get, Option, Some, None, IfSome, is_some, option_and_then, refl, sym, ap, ◌∙◌, subst, inl, inr, if◌then◌else◌, le-leb, leb-true, Id, HandleRecord, Ready, id_of, IsFirst, Image, slot_in, slot_at, held, is_there, record_at, Entry, handle_of, handle_first, due_of, first_due, first_ready, IsDue, NoneIsDue, NoneIsReady}
 
 -- what is read of something is read of what is there
 is_read : {A B : Type 0} (f : A → Option B) (o : Option A) (b : B) → option_and_then f o ≡ Some b → is_some o ≡ true

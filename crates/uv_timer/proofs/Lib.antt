@@ -1,4 +1,5 @@
 mod Collected
 mod Firsts
+mod Names
 mod Order
 mod Repeating

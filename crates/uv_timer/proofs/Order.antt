@@ -1,15 +1,5 @@
 -- The array's entries and the sorted list's are the same, so a slot's entry is found in one as in the other.
-use Rattle.std.proofs.Common.{◌≡◌, ℕ, suc, ◌<◌, ◌==◌, ◌⊎◌, inl, inr, Bool, true, false, ltb, List, [], ◌∷◌, length, refl, sym, ap, ◌∙◌, subst, arith, Option, Some, None, count_by}
-use Rattle.std.specs.List.{position_or_len}
-use Rattle.std.proofs.lemmas.List.Sums.{fails_before_first}
-use Rattle.std.proofs.lemmas.Bool.{cases_Bool, eq-eqb, eqb-true, false≢true, ltb-false}
-use Rattle.uv_heap.specs.declared.entry.Entry.{Entry}
-use Rattle.uv_heap.specs.Array.{no_entry, entry_at, place_in, SlotsDiffer}
-use Rattle.uv_heap.specs.Order.{is_same, IsInOrder, without}
-use Rattle.uv_heap.proofs.OrderLemmas.{one, count_by-cons}
-use Rattle.uv_heap.proofs.Ranks.{same_is, same_itself}
-use Rattle.uv_heap.proofs.MoveLemmas.{if_when, if_true, if_false}
-use Rattle.uv_timer.specs.Timers.{cleared}
+use Rattle.uv_timer.proofs.Names.{◌≡◌, ℕ, suc, ◌<◌, ◌==◌, ◌⊎◌, inl, inr, Bool, true, false, ltb, List, [], ◌∷◌, length, refl, sym, ap, ◌∙◌, subst, arith, Option, Some, None, count_by, position_or_len, fails_before_first, cases_Bool, eq-eqb, eqb-true, false≢true, ltb-false, Entry, no_entry, entry_at, place_in, SlotsDiffer, is_same, IsInOrder, without, one, count_by-cons, same_is, same_itself, if_when, if_true, if_false, cleared}
 
 record At (x : Entry) (xs : List Entry) : Type 0 where
   pub place : ℕ

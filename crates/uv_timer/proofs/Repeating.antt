@@ -1,10 +1,5 @@
 -- Whether it repeats or not, it is the timer that it was.
-use Rattle.std.proofs.Common.{◌≡◌, ◌≢◌, Bool, true, false, ◌==◌, None, IfSome, refl, sym, ◌∙◌, if◌then◌else◌}
-use Rattle.std.proofs.lemmas.Bool.{eq-eqb, false≢true}
-use Rattle.uv_records.specs.declared.handle.HandleRecord.{HandleRecord}
-use Rattle.uv_records.specs.Handles.{stopped}
-use Rattle.uv_timer.specs.declared.change.Times.{Times}
-use Rattle.uv_timer.specs.Changes.{becoming, starting, starting_again, firing}
+use Rattle.uv_timer.proofs.Names.{◌≡◌, ◌≢◌, Bool, true, false, ◌==◌, None, IfSome, refl, sym, ◌∙◌, if◌then◌else◌, eq-eqb, false≢true, HandleRecord, stopped, Times, becoming, starting, starting_again, firing}
 
 pub firing_from : (t : Times) (h : HandleRecord) → (firing t h).from ≡ h
 firing_from t h = at (h.repeat == 0) where

@@ -1,44 +1,12 @@
 -- A handle is closed.
-use Rattle.std.proofs.Common.{◌≡◌, ◌≢◌, ℕ, Bool, true, false, ◌∷◌, map, Some, None, refl, sym, ap, ◌∙◌, subst, inl, inr}
-use Rattle.uv_ids.specs.declared.id.Id.{Id}
-use Rattle.uv_ids.specs.declared.code.Code.TheVariants.{Ok as success}
+use Rattle.uv_timing.proofs.Names.{◌≡◌, ◌≢◌, ℕ, Bool, true, false, ◌∷◌, map, Some, None, refl, sym, ap, ◌∙◌, subst, inl, inr, Id, success, HandleRecord, ListName, close_refusal, invalid_if, IsPushed, record_at, TimerUndo, becoming, Timed, with_arena, IsRescheduled, cleared, id_in, Place, close, closed, members, State, taken_off, IsReached, Content, Handle, Record, handle_of, By, IsShut, moved_by, IsFit, Image, Held, timed_of, OnlyTimed, Does, StandsFor, slots_set, map_same, Listed, list_is, ids_moved, own_id, start_is, time_is}
 use Rattle.uv_ids.specs.declared.code.Answer.TheVariants as answer
-use Rattle.uv_records.specs.declared.handle.HandleRecord.{HandleRecord}
-use Rattle.uv_records.specs.declared.lists.ListName.{ListName}
 use Rattle.uv_records.specs.declared.lists.ListName.TheVariants as name
 use Rattle.uv_records.specs.Handles as records
-use Rattle.uv_records.specs.Refusals.{close_refusal, invalid_if}
-use Rattle.uv_arena.specs.Calls.{IsPushed}
 use Rattle.uv_arena.specs.Image as arena
-use Rattle.uv_handle.specs.Counted.{record_at}
-use Rattle.uv_timer.specs.declared.undo.TimerUndo.{TimerUndo}
-use Rattle.uv_timer.specs.Changes.{becoming}
-use Rattle.uv_timer.specs.Timed.{Timed, with_arena}
-use Rattle.uv_timer.specs.Timers.{IsRescheduled, cleared}
-use Rattle.uv_requests.specs.Working.{id_in}
-use Rattle.uv_model.specs.declared.place.Place.{Place}
-use Rattle.uv_model.specs.Ops.{close, closed}
-use Rattle.uv_model.specs.Queries.{members}
-use Rattle.uv_model.specs.State.{State}
-use Rattle.uv_model.specs.Timers.{taken_off}
-use Rattle.uv_order.specs.Reached.{IsReached}
-use Rattle.uv_work.specs.declared.content.Content.{Content}
-use Rattle.uv_work.specs.declared.content.Content.TheVariants.{Handle}
-use Rattle.uv_step.specs.Record.{Record}
-use Rattle.uv_work.specs.Content.{handle_of}
-use Rattle.uv_step.specs.Does.{By, IsShut, moved_by}
-use Rattle.uv_step.specs.Fit.{IsFit}
-use Rattle.uv_step.specs.Image.{Image, Held, timed_of, OnlyTimed}
-use Rattle.uv_stands.specs.Doing.{Does}
-use Rattle.uv_stands.specs.Stands.{StandsFor}
-use Rattle.uv_stands.proofs.Holding.{slots_set, map_same}
-use Rattle.uv_stands.proofs.Lists.{Listed, list_is}
-use Rattle.uv_stands.proofs.Pools.{ids_moved}
-use Rattle.uv_stands.proofs.Absent.{own_id}
 use Rattle.uv_timing.proofs.Retimed.{retimed, AreRetimed, stands_then, list_left, timers_are}
 use Rattle.uv_timing.proofs.Stops.{ids_rescheduled}
 use Rattle.uv_timing.proofs.TakenOff.{timers_left, lists_left}
-use Rattle.uv_stands.proofs.Single.{start_is, time_is}
 
 -- but for the closing list a handle that is closed is off its lists, and no more
 closed_lists : (s : State) (d : Id) (h : HandleRecord) (l : ListName) → l ≢ name.Closing → members (closed s d h) l ≡ members (taken_off s d h) l

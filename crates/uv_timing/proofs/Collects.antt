@@ -1,47 +1,11 @@
 -- The first timer is collected, if it is due.
-use Rattle.std.proofs.Common.{◌≡◌, ◌≢◌, inl, ℕ, ◌≤◌, Bool, true, false, if◌then◌else◌, cond, nat_le, List, [], ◌∷◌, ◌++◌, map, drop, slice_get, Some, None, refl, sym, ap, ◌∙◌, subst, arith}
-use Rattle.std.specs.Ordering.{is_lt}
-use Rattle.std.proofs.lemmas.Bool.{le-leb, leb-true}
-use Rattle.std.proofs.lemmas.List.{map-append}
-use Rattle.std.proofs.lemmas.List.Sums.{sum_by-cons}
-use Rattle.uv_ids.specs.declared.id.Id.{Id}
-use Rattle.uv_records.specs.declared.handle.HandleRecord.{HandleRecord}
-use Rattle.uv_records.specs.declared.lists.ListName.{ListName}
+use Rattle.uv_timing.proofs.Names.{◌≡◌, ◌≢◌, inl, ℕ, ◌≤◌, Bool, true, false, if◌then◌else◌, cond, nat_le, List, [], ◌∷◌, ◌++◌, map, drop, slice_get, Some, None, refl, sym, ap, ◌∙◌, subst, arith, is_lt, le-leb, leb-true, map-append, sum_by-cons, Id, HandleRecord, ListName, without_none, record_at, Entry, IsHeap, is_same, IsInOrder, IsBeforeAll, first_is_root, none_in_empty, same_itself, CollectUndo, IsCollected, NoneIsDue, cleared, id_in, Place, first_due, collected, members, State, handle, with_id, Before, InOrder, Has, IsReached, Content, Handle, Record, handle_of, By, moved_by, IsFit, Image, Held, timed_of, OnlyTimed, StandsFor, timer_in, state_handle, slots_set, ids_kept, map_same, Listed, all_but_one, Collects, CollectsNone, IsOn, held_handle, own_id, holds_it, absent_active, start_is, time_is}
 use Rattle.uv_records.specs.declared.lists.ListName.TheVariants as name
 use Rattle.uv_records.specs.Handles as records
 use Rattle.uv_arena.specs.Image as arena
-use Rattle.uv_arena.proofs.Lookups.{without_none}
-use Rattle.uv_handle.specs.Counted.{record_at}
-use Rattle.uv_heap.specs.declared.entry.Entry.{Entry}
-use Rattle.uv_heap.specs.Array.{IsHeap}
-use Rattle.uv_heap.specs.Order.{is_same, IsInOrder, IsBeforeAll}
-use Rattle.uv_heap.proofs.OrderLemmas.{first_is_root, none_in_empty}
-use Rattle.uv_heap.proofs.Ranks.{same_itself}
-use Rattle.uv_timer.specs.declared.undo.CollectUndo.{CollectUndo}
-use Rattle.uv_timer.specs.Timers.{IsCollected, NoneIsDue, cleared}
-use Rattle.uv_requests.specs.Working.{id_in}
-use Rattle.uv_model.specs.declared.place.Place.{Place}
-use Rattle.uv_model.specs.Next.{first_due, collected}
-use Rattle.uv_model.specs.Queries.{members}
-use Rattle.uv_model.specs.State.{State, handle, with_id}
-use Rattle.uv_order.specs.Active.{Before, InOrder, Has}
-use Rattle.uv_order.specs.Reached.{IsReached}
-use Rattle.uv_work.specs.declared.content.Content.{Content}
-use Rattle.uv_work.specs.declared.content.Content.TheVariants.{Handle}
-use Rattle.uv_step.specs.Record.{Record}
-use Rattle.uv_work.specs.Content.{handle_of}
-use Rattle.uv_step.specs.Does.{By, moved_by}
-use Rattle.uv_step.specs.Fit.{IsFit}
-use Rattle.uv_step.specs.Image.{Image, Held, timed_of, OnlyTimed}
-use Rattle.uv_stands.specs.Stands.{StandsFor, timer_in}
-use Rattle.uv_stands.proofs.Holding.{state_handle, slots_set, ids_kept, map_same}
-use Rattle.uv_stands.proofs.Lists.{Listed, all_but_one}
-use Rattle.uv_timing.specs.Section.{Collects, CollectsNone}
-use Rattle.uv_stands.proofs.Absent.{IsOn, held_handle, own_id, holds_it, absent_active}
 use Rattle.uv_timing.proofs.Entries.{cleared_first}
 use Rattle.uv_timing.proofs.Retimed.{retimed, AreRetimed, stands_then, timers_are}
 use Rattle.uv_timing.proofs.TakenOff.{IsIts, its_timer}
-use Rattle.uv_stands.proofs.Single.{start_is, time_is}
 
 -- ---- the first of the order
 

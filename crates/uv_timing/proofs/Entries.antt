@@ -1,23 +1,6 @@
 -- The entries of the heap in their order, and the timers that they are: one entry less, and one more.
-use Rattle.std.proofs.Common.{◌≡◌, inl, inr, ℕ, ◌<◌, ◌==◌, if◌then◌else◌, cond, List, [], ◌∷◌, map, Bool, true, false, refl, ap, sym, subst, ◌∙◌}
-use Rattle.std.specs.Ordering.{match_ordering, is_eq, is_lt, ordering_reverse}
-use Rattle.std.specs.BTreeMap.{is_at}
-use Rattle.std.specs.declared.cmp.Ordering.{Ordering}
-use Rattle.std.specs.declared.cmp.Ordering.TheVariants.{Less, Equal, Greater}
-use Rattle.std.proofs.lemmas.Bool.{eqb-true, eq-eqb}
-use Rattle.uv_ids.specs.Due.{due_cmp}
-use Rattle.uv_ids.specs.declared.id.Id.{Id}
-use Rattle.uv_ids.specs.declared.due.Due.{Due}
+use Rattle.uv_timing.proofs.Names.{◌≡◌, inl, inr, ℕ, ◌<◌, ◌==◌, if◌then◌else◌, cond, List, [], ◌∷◌, map, Bool, true, false, refl, ap, sym, subst, ◌∙◌, match_ordering, is_eq, is_lt, ordering_reverse, is_at, Ordering, Less, Equal, Greater, eqb-true, eq-eqb, due_cmp, Id, Due, Entry, is_before, inserted, cleared, id_in, with_timer, without_timer, due_cmp_total, another, Has, Content, timer_in}
 use Rattle.uv_arena.specs.Image as arena
-use Rattle.uv_heap.specs.declared.entry.Entry.{Entry}
-use Rattle.uv_heap.specs.Order.{is_before, inserted}
-use Rattle.uv_timer.specs.Timers.{cleared}
-use Rattle.uv_requests.specs.Working.{id_in}
-use Rattle.uv_model.specs.Timers.{with_timer, without_timer}
-use Rattle.uv_model.proofs.Order.{due_cmp_total, another}
-use Rattle.uv_order.specs.Active.{Has}
-use Rattle.uv_work.specs.declared.content.Content.{Content}
-use Rattle.uv_stands.specs.Stands.{timer_in}
 use Rattle.uv_timing.proofs.Keys.{key_at, key_itself}
 
 abbrev pub entry_of : Due → ℕ → Entry

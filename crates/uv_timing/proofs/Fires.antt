@@ -1,51 +1,13 @@
 -- The front of the timers that are set aside is called: it is off their list, and set again if it repeats.
-use Rattle.std.proofs.Common.{◌≡◌, ◌≢◌, inl, inr, ℕ, ◌+◌, ◌==◌, ◌&&◌, Bool, true, false, if◌then◌else◌, eqb, List, ◌∷◌, map, drop, slice_get, Option, Some, None, option_and_then, refl, sym, ap, ◌∙◌, subst}
-use Rattle.std.proofs.lemmas.Bool.{both_ways, eqb-true}
-use Rattle.std.proofs.lemmas.List.{set-set}
-use Rattle.std.proofs.lemmas.Option.{same_Some}
-use Rattle.uv_ids.specs.declared.id.Id.{Id}
-use Rattle.uv_ids.specs.declared.due.Due.{Due}
-use Rattle.uv_records.specs.declared.handle.HandleRecord.{HandleRecord}
-use Rattle.uv_records.specs.declared.lists.ListName.{ListName}
+use Rattle.uv_timing.proofs.Names.{◌≡◌, ◌≢◌, inl, inr, ℕ, ◌+◌, ◌==◌, ◌&&◌, Bool, true, false, if◌then◌else◌, eqb, List, ◌∷◌, map, drop, slice_get, Option, Some, None, option_and_then, refl, sym, ap, ◌∙◌, subst, both_ways, eqb-true, set-set, same_Some, Id, Due, HandleRecord, ListName, Slot, is_timer, begun_at, without, IsFirst, IsIn, record_at, inserted, Times, TimerUndo, becoming, set_at, starting, firing, Timed, IsRescheduled, IsFired, NoneIsReady, cleared, id_in, set_back, Place, members, State, front, with_id, taken_off, with_timer, without_timer, started, restarted, due_after, IsReached, IsSetAside, Content, Handle, handle_of, Image, Held, timed_of, OnlyTimed, StandsFor, timer_in, state_handle, slots_set, map_same, Listed, all_but_one, beside_lists, record_there, front_there, Fires, FiresNone, IsOn, holds_it, has_it, start_is, time_is}
 use Rattle.uv_records.specs.declared.lists.ListName.TheVariants as name
-use Rattle.uv_records.specs.declared.slot.Slot.{Slot}
-use Rattle.uv_records.specs.Handles.{is_timer, begun_at}
 use Rattle.uv_records.specs.Slots as plain
-use Rattle.uv_records.specs.Walks.{without}
-use Rattle.uv_arena.specs.Calls.{IsFirst}
-use Rattle.uv_arena.specs.Chains.{IsIn}
 use Rattle.uv_arena.specs.Image as arena
-use Rattle.uv_handle.specs.Counted.{record_at}
-use Rattle.uv_heap.specs.Order.{inserted}
-use Rattle.uv_timer.specs.declared.change.Times.{Times}
-use Rattle.uv_timer.specs.declared.undo.TimerUndo.{TimerUndo}
-use Rattle.uv_timer.specs.Changes.{becoming, set_at, starting, firing}
-use Rattle.uv_timer.specs.Timed.{Timed}
-use Rattle.uv_timer.specs.Timers.{IsRescheduled, IsFired, NoneIsReady, cleared}
-use Rattle.uv_requests.specs.Working.{id_in}
-use Rattle.uv_requests.proofs.Rules.{set_back}
-use Rattle.uv_model.specs.declared.place.Place.{Place}
-use Rattle.uv_model.specs.Queries.{members}
-use Rattle.uv_model.specs.State.{State, front, with_id}
-use Rattle.uv_model.specs.Timers.{taken_off, with_timer, without_timer, started, restarted, due_after}
-use Rattle.uv_order.specs.Reached.{IsReached, IsSetAside}
-use Rattle.uv_work.specs.declared.content.Content.{Content}
-use Rattle.uv_work.specs.declared.content.Content.TheVariants.{Handle}
-use Rattle.uv_work.specs.Content.{handle_of}
-use Rattle.uv_step.specs.Image.{Image, Held, timed_of, OnlyTimed}
-use Rattle.uv_stands.specs.Stands.{StandsFor, timer_in}
-use Rattle.uv_stands.proofs.Holding.{state_handle, slots_set, map_same}
-use Rattle.uv_stands.proofs.Lists.{Listed, all_but_one, beside_lists}
-use Rattle.uv_stands.proofs.Naming.{record_there}
-use Rattle.uv_stands.proofs.Pools.{front_there}
-use Rattle.uv_timing.specs.Section.{Fires, FiresNone}
-use Rattle.uv_stands.proofs.Absent.{IsOn, holds_it, has_it}
 use Rattle.uv_timing.proofs.Entries.{entry_of}
 use Rattle.uv_timing.proofs.Retimed.{retimed, OnlyTimers, AreRetimed, stands_then, timers_are}
 use Rattle.uv_timing.proofs.Starts.{due_same}
 use Rattle.uv_timing.proofs.Stops.{ids_rescheduled}
 use Rattle.uv_timing.proofs.TakenOff.{inert_cleared, timers_set}
-use Rattle.uv_stands.proofs.Single.{start_is, time_is}
 
 -- ---- what is written again stays
 

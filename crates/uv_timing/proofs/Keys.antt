@@ -1,15 +1,5 @@
 -- When two timers are due alike, and when one comes before another.
-use Rattle.std.proofs.Common.{◌≡◌, inl, inr, ℕ, ◌<◌, List, [], ◌∷◌, true, refl, ap, ap₂, sym, subst, ◌∙◌}
-use Rattle.std.specs.Ordering.{ordering_then, nat_cmp, is_eq, MatchOrdering}
-use Rattle.std.specs.BTreeMap.{is_at}
-use Rattle.std.specs.declared.cmp.Ordering.{Ordering}
-use Rattle.std.specs.declared.cmp.Ordering.TheVariants.{Less, Equal, Greater}
-use Rattle.std.proofs.lemmas.Cmp.{ranked, tied_itself}
-use Rattle.uv_ids.specs.Due.{due_cmp}
-use Rattle.uv_ids.specs.declared.id.Id.{Id}
-use Rattle.uv_ids.specs.declared.due.Due.{Due}
-use Rattle.uv_model.proofs.Order.{due_cmp_total}
-use Rattle.uv_order.specs.Active.{Has, Before, InOrder}
+use Rattle.uv_timing.proofs.Names.{◌≡◌, inl, inr, ℕ, ◌<◌, List, [], ◌∷◌, true, refl, ap, ap₂, sym, subst, ◌∙◌, ordering_then, nat_cmp, is_eq, MatchOrdering, is_at, Ordering, Less, Equal, Greater, ranked, tied_itself, due_cmp, Id, Due, due_cmp_total, Has, Before, InOrder}
 
 -- ---- one key and another
 

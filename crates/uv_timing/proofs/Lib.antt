@@ -1,10 +1,11 @@
-pub mod Keys
-pub mod Entries
-pub mod Retimed
-pub mod TakenOff
-pub mod Stops
-pub mod Starts
 pub mod Closes
 pub mod Collects
+pub mod Entries
 pub mod Fires
+pub mod Keys
+mod Names
 pub mod Ordered
+pub mod Retimed
+pub mod Starts
+pub mod Stops
+pub mod TakenOff

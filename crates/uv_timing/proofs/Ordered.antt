@@ -1,28 +1,6 @@
 -- Two lists of the same entries in order are one list, where no two are due alike.
-use Rattle.std.proofs.Common.{◌≡◌, ◌⊎◌, inl, inr, ℕ, suc, ◌+◌, ◌<◌, Bool, true, false, cond, count_by, List, [], ◌∷◌, map, refl, sym, ap, ◌∙◌, subst, arith}
-use Rattle.std.specs.Prelude.{slice_index_or, Result, Ok, Err, IfOk}
-use Rattle.std.specs.List.Sorted.{IsPermutation, IsSortedBy}
-use Rattle.std.proofs.lemmas.Bool.{cases_Bool, false≢true}
-use Rattle.std.proofs.lemmas.List.Sorted.{sum_by-IsPermutation}
-use Rattle.std.proofs.lemmas.List.Sums.{sum_by-cons}
-use Rattle.uv_ids.specs.declared.id.Id.{Id}
-use Rattle.uv_ids.specs.declared.due.Due.{Due}
+use Rattle.uv_timing.proofs.Names.{◌≡◌, ◌⊎◌, inl, inr, ℕ, suc, ◌+◌, ◌<◌, Bool, true, false, cond, count_by, List, [], ◌∷◌, map, refl, sym, ap, ◌∙◌, subst, arith, slice_index_or, Result, Ok, Err, IfOk, IsPermutation, IsSortedBy, cases_Bool, false≢true, sum_by-IsPermutation, sum_by-cons, Id, Due, Entry, no_entry, is_before, is_same, NoneBefore, IsBeforeAll, IsOrdered, IsInOrder, counts_itself, ranks, same_is, State, timer_ids, InOrder, IsReached, Place, Content, Image, OfEach, StandsFor, timer_in, ids_of}
 use Rattle.uv_arena.specs.Image as arena
-use Rattle.uv_heap.specs.declared.entry.Entry.{Entry}
-use Rattle.uv_heap.specs.Array.{no_entry}
-use Rattle.uv_heap.specs.Order.{is_before, is_same, NoneBefore, IsBeforeAll, IsOrdered, IsInOrder}
-use Rattle.uv_heap.proofs.OrderLemmas.{counts_itself}
-use Rattle.uv_heap.proofs.Ranks.{ranks, same_is}
-use Rattle.uv_model.specs.State.{State}
-use Rattle.uv_model.specs.Queries.{timer_ids}
-use Rattle.uv_order.specs.Active.{InOrder}
-use Rattle.uv_order.specs.Reached.{IsReached}
-use Rattle.uv_model.specs.declared.place.Place.{Place}
-use Rattle.uv_work.specs.declared.content.Content.{Content}
-use Rattle.uv_step.specs.Image.{Image}
-use Rattle.uv_stands.specs.Doing.{OfEach}
-use Rattle.uv_stands.specs.Stands.{StandsFor, timer_in}
-use Rattle.uv_timing.specs.Section.{ids_of}
 use Rattle.uv_timing.proofs.Collects.{before_all}
 
 abbrev one : (Entry → Bool) → Entry → ℕ

@@ -1,25 +1,6 @@
 -- The memory after a change of one handle and of the timers, and what it stands for.
-use Rattle.std.proofs.Common.{◌≡◌, ℕ, eqb, List, map, refl, sym, ap, ◌∙◌, subst}
-use Rattle.uv_ids.specs.declared.id.Id.{Id}
-use Rattle.uv_ids.specs.declared.due.Due.{Due}
-use Rattle.uv_records.specs.declared.lists.ListName.{ListName}
-use Rattle.uv_records.specs.Walks.{without}
+use Rattle.uv_timing.proofs.Names.{◌≡◌, ℕ, eqb, List, map, refl, sym, ap, ◌∙◌, subst, Id, Due, ListName, without, plain_slots, Entry, IsInOrder, Timed, id_in, Place, without_id, members, State, Content, Image, timed_of, with_timed, StandsFor, AreTimers, timer_in, values_in, map_same, Listed, without_ids}
 use Rattle.uv_arena.specs.Image as arena
-use Rattle.uv_arena.specs.Image.{plain_slots}
-use Rattle.uv_heap.specs.declared.entry.Entry.{Entry}
-use Rattle.uv_heap.specs.Order.{IsInOrder}
-use Rattle.uv_timer.specs.Timed.{Timed}
-use Rattle.uv_requests.specs.Working.{id_in}
-use Rattle.uv_model.specs.declared.place.Place.{Place}
-use Rattle.uv_model.specs.Ids.{without_id}
-use Rattle.uv_model.specs.Queries.{members}
-use Rattle.uv_model.specs.State.{State}
-use Rattle.uv_work.specs.declared.content.Content.{Content}
-use Rattle.uv_step.specs.Image.{Image, timed_of, with_timed}
-use Rattle.uv_stands.specs.Stands.{StandsFor, AreTimers, timer_in, values_in}
-use Rattle.uv_stands.proofs.Holding.{map_same}
-use Rattle.uv_stands.proofs.Lists.{Listed}
-use Rattle.uv_stands.proofs.Without.{without_ids}
 
 -- ---- the memory after a change of timers
 

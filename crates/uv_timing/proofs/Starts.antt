@@ -1,50 +1,13 @@
 -- A timer is started, and started again.
-use Rattle.std.proofs.Common.{◌≡◌, ℕ, ◌+◌, ◌==◌, ◌||◌, Bool, true, false, not, if◌then◌else◌, Option, Some, None, refl, sym, ap, ◌∙◌, subst}
-use Rattle.std.proofs.lemmas.List.{set-set}
-use Rattle.uv_ids.specs.declared.id.Id.{Id}
-use Rattle.uv_ids.specs.declared.due.Due.{Due}
-use Rattle.uv_ids.specs.declared.code.Code.{Code}
-use Rattle.uv_ids.specs.declared.code.Code.TheVariants.{Ok as success}
+use Rattle.uv_timing.proofs.Names.{◌≡◌, ℕ, ◌+◌, ◌==◌, ◌||◌, Bool, true, false, not, if◌then◌else◌, Option, Some, None, refl, sym, ap, ◌∙◌, subst, set-set, Id, Due, Code, success, start, again, Does, HandleRecord, ListName, is_timer, begun_at, invalid_if, only_if, start_timer_refusal, again_refusal, plain_slots, record_at, inserted, TimerChange, TimerUndo, becoming, set_at, starting, stopping, starting_again, Timed, IsRescheduled, cleared, id_in, Place, members, State, taken_off, stopped, started, restarted, due_after, IsReached, Record, Content, Handle, handle_of, By, IsFit, Image, Held, timed_of, OnlyTimed, StandsFor, slots_set, beside_lists, own_id, start_is, time_is}
 use Rattle.uv_ids.specs.declared.code.Answer.TheVariants as answer
-use Rattle.uv_model.specs.Ops.{start, again}
-use Rattle.uv_stands.specs.Doing.{Does}
-use Rattle.uv_records.specs.declared.handle.HandleRecord.{HandleRecord}
-use Rattle.uv_records.specs.declared.lists.ListName.{ListName}
 use Rattle.uv_records.specs.Dues as dues
 use Rattle.uv_records.specs.Handles as records
-use Rattle.uv_records.specs.Handles.{is_timer, begun_at}
-use Rattle.uv_records.specs.Refusals.{invalid_if, only_if, start_timer_refusal, again_refusal}
-use Rattle.uv_arena.specs.Image.{plain_slots}
-use Rattle.uv_handle.specs.Counted.{record_at}
-use Rattle.uv_heap.specs.Order.{inserted}
-use Rattle.uv_timer.specs.declared.change.TimerChange.{TimerChange}
-use Rattle.uv_timer.specs.declared.undo.TimerUndo.{TimerUndo}
-use Rattle.uv_timer.specs.Changes.{becoming, set_at, starting, stopping, starting_again}
-use Rattle.uv_timer.specs.Timed.{Timed}
-use Rattle.uv_timer.specs.Timers.{IsRescheduled, cleared}
-use Rattle.uv_requests.specs.Working.{id_in}
-use Rattle.uv_model.specs.declared.place.Place.{Place}
-use Rattle.uv_model.specs.Queries.{members}
-use Rattle.uv_model.specs.State.{State}
-use Rattle.uv_model.specs.Timers.{taken_off, stopped, started, restarted, due_after}
-use Rattle.uv_order.specs.Reached.{IsReached}
 use Rattle.uv_step.specs.Change as change
-use Rattle.uv_step.specs.Record.{Record}
-use Rattle.uv_work.specs.declared.content.Content.{Content}
-use Rattle.uv_work.specs.declared.content.Content.TheVariants.{Handle}
-use Rattle.uv_work.specs.Content.{handle_of}
-use Rattle.uv_step.specs.Does.{By}
-use Rattle.uv_step.specs.Fit.{IsFit}
-use Rattle.uv_step.specs.Image.{Image, Held, timed_of, OnlyTimed}
-use Rattle.uv_stands.specs.Stands.{StandsFor}
-use Rattle.uv_stands.proofs.Holding.{slots_set}
-use Rattle.uv_stands.proofs.Lists.{beside_lists}
-use Rattle.uv_stands.proofs.Absent.{own_id}
 use Rattle.uv_timing.proofs.Entries.{entry_of}
 use Rattle.uv_timing.proofs.Retimed.{retimed, OnlyTimers, AreRetimed, stands_then, list_left, timers_are}
 use Rattle.uv_timing.proofs.Stops.{ids_rescheduled, stopped_retimed}
 use Rattle.uv_timing.proofs.TakenOff.{timers_set, lists_left}
-use Rattle.uv_stands.proofs.Single.{start_is, time_is}
 
 -- when a timer is due is the same in the memory and in the state
 pub due_same : (i : Image Place) (s : State) (timeout : ℕ) → StandsFor i s

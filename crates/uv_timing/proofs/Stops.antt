@@ -1,45 +1,12 @@
 -- A timer is stopped.
-use Rattle.std.proofs.Common.{◌≡◌, ℕ, Bool, true, false, not, if◌then◌else◌, eqb, Some, refl, ap, ◌∙◌, subst}
-use Rattle.uv_ids.specs.declared.id.Id.{Id}
-use Rattle.uv_ids.specs.declared.code.Code.TheVariants.{Ok as success}
+use Rattle.uv_timing.proofs.Names.{◌≡◌, ℕ, Bool, true, false, not, if◌then◌else◌, eqb, Some, refl, ap, ◌∙◌, subst, Id, success, HandleRecord, ListName, is_timer, without, record_at, TimerChange, TimerUndo, stopping, Timed, IsRescheduled, cleared, id_in, Place, without_id, stop, members, State, taken_off, stopped, IsReached, Content, Handle, Record, handle_of, By, IsFit, Image, Held, timed_of, OnlyTimed, Does, StandsFor, slots_set, ids_kept, Listed, beside_lists, list_stays, IsOn, timer_kind, held_handle, own_id, stays, ready_stays, not_idle, not_prepare, not_check, not_async, start_is, time_is}
 use Rattle.uv_ids.specs.declared.code.Answer.TheVariants as answer
 use Rattle.uv_ids.specs.declared.phase.Kind.TheVariants as kind
-use Rattle.uv_records.specs.declared.handle.HandleRecord.{HandleRecord}
-use Rattle.uv_records.specs.declared.lists.ListName.{ListName}
 use Rattle.uv_records.specs.declared.lists.ListName.TheVariants as name
-use Rattle.uv_records.specs.Handles.{is_timer}
-use Rattle.uv_records.specs.Walks.{without}
 use Rattle.uv_arena.specs.Image as arena
-use Rattle.uv_handle.specs.Counted.{record_at}
-use Rattle.uv_timer.specs.declared.change.TimerChange.{TimerChange}
-use Rattle.uv_timer.specs.declared.undo.TimerUndo.{TimerUndo}
-use Rattle.uv_timer.specs.Changes.{stopping}
-use Rattle.uv_timer.specs.Timed.{Timed}
-use Rattle.uv_timer.specs.Timers.{IsRescheduled, cleared}
-use Rattle.uv_requests.specs.Working.{id_in}
-use Rattle.uv_model.specs.declared.place.Place.{Place}
-use Rattle.uv_model.specs.Ids.{without_id}
-use Rattle.uv_model.specs.Ops.{stop}
-use Rattle.uv_model.specs.Queries.{members}
-use Rattle.uv_model.specs.State.{State}
-use Rattle.uv_model.specs.Timers.{taken_off, stopped}
-use Rattle.uv_order.specs.Reached.{IsReached}
-use Rattle.uv_work.specs.declared.content.Content.{Content}
-use Rattle.uv_work.specs.declared.content.Content.TheVariants.{Handle}
 use Rattle.uv_step.specs.Change as change
-use Rattle.uv_step.specs.Record.{Record}
-use Rattle.uv_work.specs.Content.{handle_of}
-use Rattle.uv_step.specs.Does.{By}
-use Rattle.uv_step.specs.Fit.{IsFit}
-use Rattle.uv_step.specs.Image.{Image, Held, timed_of, OnlyTimed}
-use Rattle.uv_stands.specs.Doing.{Does}
-use Rattle.uv_stands.specs.Stands.{StandsFor}
-use Rattle.uv_stands.proofs.Holding.{slots_set, ids_kept}
-use Rattle.uv_stands.proofs.Lists.{Listed, beside_lists, list_stays}
-use Rattle.uv_stands.proofs.Absent.{IsOn, timer_kind, held_handle, own_id, stays, ready_stays, not_idle, not_prepare, not_check, not_async}
 use Rattle.uv_timing.proofs.Retimed.{retimed, AreRetimed, stands_then, list_left, timers_are}
 use Rattle.uv_timing.proofs.TakenOff.{timers_left, lists_left}
-use Rattle.uv_stands.proofs.Single.{start_is, time_is}
 
 -- ids stay where one handle is rescheduled
 pub ids_rescheduled : (i : Image Place) (n : Timed Content) (room : ℕ) (d : Id) (c : TimerChange) (u : TimerUndo)

@@ -1,34 +1,10 @@
 -- A handle off the order of timers and off its lists, in the memory and in the state.
-use Rattle.std.proofs.Common.{◌≡◌, inl, inr, ℕ, ◌<◌, ◌&&◌, ◌==◌, if◌then◌else◌, Bool, true, false, List, [], ◌∷◌, map, Some, refl, sym, ap, ◌∙◌, subst}
-use Rattle.std.proofs.lemmas.Bool.{and_parts, and_from, both_ways}
-use Rattle.uv_ids.specs.declared.id.Id.{Id}
-use Rattle.uv_ids.specs.declared.due.Due.{Due}
+use Rattle.uv_timing.proofs.Names.{◌≡◌, inl, inr, ℕ, ◌<◌, ◌&&◌, ◌==◌, if◌then◌else◌, Bool, true, false, List, [], ◌∷◌, map, Some, refl, sym, ap, ◌∙◌, subst, and_parts, and_from, both_ways, Id, Due, HandleRecord, ListName, is_timer, record_at, Entry, inserted, cleared, id_in, Place, without_id, members, State, taken_off, with_timer, without_timer, Has, IsTimer, IsReached, Content, handle_of, IsFit, Image, StandsFor, timer_in, timer_kind, own_id, holds_it, stays, not_waiting, not_done, not_done_yet, not_closing, not_closing_yet}
 use Rattle.uv_ids.specs.declared.phase.Kind.TheVariants as kind
-use Rattle.uv_records.specs.declared.handle.HandleRecord.{HandleRecord}
-use Rattle.uv_records.specs.declared.lists.ListName.{ListName}
 use Rattle.uv_records.specs.declared.lists.ListName.TheVariants as name
-use Rattle.uv_records.specs.Handles.{is_timer}
 use Rattle.uv_arena.specs.Image as arena
-use Rattle.uv_handle.specs.Counted.{record_at}
-use Rattle.uv_heap.specs.declared.entry.Entry.{Entry}
-use Rattle.uv_heap.specs.Order.{inserted}
-use Rattle.uv_timer.specs.Timers.{cleared}
-use Rattle.uv_requests.specs.Working.{id_in}
-use Rattle.uv_model.specs.declared.place.Place.{Place}
-use Rattle.uv_model.specs.Ids.{without_id}
-use Rattle.uv_model.specs.Queries.{members}
-use Rattle.uv_model.specs.State.{State}
-use Rattle.uv_model.specs.Timers.{taken_off, with_timer, without_timer}
-use Rattle.uv_order.specs.Active.{Has, IsTimer}
-use Rattle.uv_order.specs.Reached.{IsReached}
-use Rattle.uv_work.specs.declared.content.Content.{Content}
-use Rattle.uv_work.specs.Content.{handle_of}
-use Rattle.uv_step.specs.Fit.{IsFit}
-use Rattle.uv_step.specs.Image.{Image}
-use Rattle.uv_stands.specs.Stands.{StandsFor, timer_in}
 use Rattle.uv_timing.proofs.Keys.{one_id}
 use Rattle.uv_timing.proofs.Entries.{entry_of, id_there, cleared_key, cleared_none, inserted_as}
-use Rattle.uv_stands.proofs.Absent.{timer_kind, own_id, holds_it, stays, not_waiting, not_done, not_done_yet, not_closing, not_closing_yet}
 
 -- ---- the timers without one
 

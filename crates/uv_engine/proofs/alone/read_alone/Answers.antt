@@ -1,7 +1,5 @@
-use Rattle.std.proofs.lemmas.Result.{err_from_is_err_and}
-use Rattle.uv_engine.specs.Input.{left}
+use Rattle.uv_engine.proofs.Names.{err_from_is_err_and, left, arith}
 use Rattle.uv_engine.proofs.Fronts.{no_front, read_is_start, reads_alone, parsed_fault}
-use Rattle.std.proofs.Common.{arith}
 use Rattle.uv_engine.proofs.Faults.{on_answer, no_read}
 use Rattle.uv_engine.proofs.alone.read_alone.Goals as goal
 

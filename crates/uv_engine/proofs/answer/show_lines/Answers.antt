@@ -1,5 +1,4 @@
-use Rattle.std.proofs.Common.{[]}
-use Rattle.std.proofs.lemmas.Result.{err_from_is_err_and}
+use Rattle.uv_engine.proofs.Names.{[], err_from_is_err_and}
 use Rattle.uv_engine.proofs.Gathers.{cut_here, cut_by, gathered_more, line_next}
 use Rattle.uv_engine.proofs.answer.show_lines.Goals as goal
 

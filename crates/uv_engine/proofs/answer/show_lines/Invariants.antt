@@ -1,7 +1,4 @@
-use Rattle.std.proofs.Common.{◌≡◌, ◌++◌, drop}
-use Rattle.std.specs.List.{flat_map}
-use Rattle.uv_text.specs.Trace.{seen_text}
-use Rattle.uv_engine.specs.Gather.{Gathered}
+use Rattle.uv_engine.proofs.Names.{◌≡◌, ◌++◌, drop, flat_map, seen_text, Gathered}
 use Rattle.uv_engine.proofs.answer.show_lines.Given as goal
 
 -- what is left to gather are the lines that are left

@@ -1,6 +1,4 @@
-use Rattle.std.proofs.Common.{Ok, Err, arith}
-use Rattle.std.proofs.lemmas.Result.{err_from_is_err_and}
-use Rattle.uv_engine.specs.Input.{left}
+use Rattle.uv_engine.proofs.Names.{Ok, Err, arith, err_from_is_err_and, left}
 use Rattle.uv_engine.proofs.Starting.{no_start, no_machine, talked, begun_session, reads_whole}
 use Rattle.uv_engine.proofs.Faults.{taken, no_memory, talked_within, start_converses, memory_converses, talk_converses}
 use Rattle.uv_engine.proofs.conversation.converse_within.Goals as goal

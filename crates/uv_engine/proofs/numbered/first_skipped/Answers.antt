@@ -1,7 +1,4 @@
-use Rattle.std.proofs.Common.{◌+◌, [], ◌∷◌, refl, ap, sym, ◌∙◌, arith, length-append}
-use Rattle.std.proofs.lemmas.Bool.{both_ways}
-use Rattle.uv_script.proofs.AfterLines.{line_number, lines_step}
-use Rattle.uv_script.proofs.Checks.{is_skipped_decides}
+use Rattle.uv_engine.proofs.Names.{◌+◌, [], ◌∷◌, refl, ap, sym, ◌∙◌, arith, length-append, both_ways, line_number, lines_step, is_skipped_decides}
 use Rattle.uv_engine.proofs.Recordings.{none_step, skipped_here}
 use Rattle.uv_engine.proofs.numbered.first_skipped.Goals as goal
 

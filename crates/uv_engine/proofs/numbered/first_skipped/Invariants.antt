@@ -1,6 +1,4 @@
-use Rattle.std.proofs.Common.{◌≡◌, ◌++◌, length, map}
-use Rattle.uv_script.specs.Lines.{lines_of}
-use Rattle.uv_engine.specs.Start.{NoneSkipped}
+use Rattle.uv_engine.proofs.Names.{◌≡◌, ◌++◌, length, map, lines_of, NoneSkipped}
 use Rattle.uv_engine.proofs.numbered.first_skipped.Given as goal
 
 abbrev pub invariant-loop-line : goal.invariant-loop-line

@@ -1,6 +1,4 @@
-use Rattle.std.proofs.Common.{[], arith}
-use Rattle.std.proofs.lemmas.Result.{err_from_is_err_and}
-use Rattle.uv_engine.specs.Recordings.{unread_in, Start, InScript, InCalls, Whole}
+use Rattle.uv_engine.proofs.Names.{[], arith, err_from_is_err_and, unread_in, Start, InScript, InCalls, Whole}
 use Rattle.uv_engine.proofs.Recordings.{reads_then}
 use Rattle.uv_engine.proofs.Replays.{fails_then, has_verdict}
 use Rattle.uv_engine.proofs.Faults.{taken, no_memory}

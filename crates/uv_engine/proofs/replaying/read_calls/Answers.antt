@@ -1,8 +1,5 @@
-use Rattle.std.proofs.Common.{ℕ, ◌+◌, arith, refl, ap, sym, subst, ◌∙◌}
-use Rattle.std.proofs.lemmas.Bool.{both_ways}
-use Rattle.uv_text.specs.Recorded.{IsCallbackLine}
+use Rattle.uv_engine.proofs.Names.{ℕ, ◌+◌, arith, refl, ap, sym, subst, ◌∙◌, both_ways, IsCallbackLine, err_from_is_err_and}
 use Rattle.uv_engine.proofs.Replays.{calls_none, calls_more, calls_end, calls_bad, calls_missing}
-use Rattle.std.proofs.lemmas.Result.{err_from_is_err_and}
 use Rattle.uv_engine.proofs.Faults.{no_read, no_memory}
 use Rattle.uv_engine.proofs.replaying.read_calls.Goals as goal
 

@@ -1,7 +1,4 @@
-use Rattle.std.proofs.Common.{◌≡◌, ◌+◌, ◌≤◌, List, length}
-use Rattle.uv_ids.specs.declared.event.Event.{Event}
-use Rattle.uv_engine.specs.Input.{left, size, EndIsSeen}
-use Rattle.uv_engine.specs.Taking.{SpendsBudget, SpendsGiven}
+use Rattle.uv_engine.proofs.Names.{◌≡◌, ◌+◌, ◌≤◌, List, length, Event, left, size, EndIsSeen, SpendsBudget, SpendsGiven}
 use Rattle.uv_engine.proofs.Replays.{CallsSo}
 use Rattle.uv_engine.proofs.replaying.read_calls.Given as goal
 

@@ -1,8 +1,5 @@
-use Rattle.std.proofs.Common.{arith, refl, ap, sym, ◌∙◌}
-use Rattle.uv_script.specs.Program.{Program}
-use Rattle.uv_model.proofs.Runs.{accepts-nil}
+use Rattle.uv_engine.proofs.Names.{arith, refl, ap, sym, ◌∙◌, Program, accepts-nil, err_from_is_err_and}
 use Rattle.uv_engine.proofs.Replays.{steps_none, steps_more, steps_end, steps_bad}
-use Rattle.std.proofs.lemmas.Result.{err_from_is_err_and}
 use Rattle.uv_engine.proofs.Faults.{no_read, no_memory}
 use Rattle.uv_engine.proofs.replaying.read_steps.Goals as goal
 

@@ -1,7 +1,4 @@
-use Rattle.std.proofs.Common.{◌≡◌, ◌+◌, ◌≤◌, length}
-use Rattle.uv_model.specs.After.{STEPS}
-use Rattle.uv_engine.specs.Input.{left, size, EndIsSeen}
-use Rattle.uv_engine.specs.Taking.{SpendsBudget, SpendsGiven}
+use Rattle.uv_engine.proofs.Names.{◌≡◌, ◌+◌, ◌≤◌, length, STEPS, left, size, EndIsSeen, SpendsBudget, SpendsGiven}
 use Rattle.uv_engine.proofs.Replays.{StepsSo}
 use Rattle.uv_engine.proofs.replaying.read_steps.Given as goal
 

@@ -1,5 +1,4 @@
-use Rattle.std.proofs.lemmas.Result.{err_from_is_err_and}
-use Rattle.uv_engine.specs.Verdict.{judged}
+use Rattle.uv_engine.proofs.Names.{err_from_is_err_and, judged}
 use Rattle.uv_engine.proofs.Replays.{fails_replay}
 use Rattle.uv_engine.proofs.Faults.{on_answer, reading_replays, telling_replays}
 use Rattle.uv_engine.proofs.replaying.replay_within.Goals as goal

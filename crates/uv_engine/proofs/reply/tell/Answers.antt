@@ -1,6 +1,4 @@
-use Rattle.std.proofs.Common.{ℕ, List, ◌++◌, ap, sym, ◌∙◌, append_assoc, append-nil}
-use Rattle.uv_engine.specs.Reply.{appended_text, break_text}
-use Rattle.uv_engine.specs.Steps.{last_seen}
+use Rattle.uv_engine.proofs.Names.{ℕ, List, ◌++◌, ap, sym, ◌∙◌, append_assoc, append-nil, appended_text, break_text, last_seen}
 use Rattle.uv_engine.proofs.Replies.{told_all, told_break, told_length, told_on, told_after, told_text}
 use Rattle.uv_engine.proofs.reply.tell.Goals as goal
 

@@ -1,6 +1,4 @@
-use Rattle.std.proofs.Common.{◌≡◌, ◌≤◌}
-use Rattle.uv_engine.specs.Input.{left, size, EndIsSeen}
-use Rattle.uv_engine.specs.Taking.{SpendsBudget, SpendsGiven}
+use Rattle.uv_engine.proofs.Names.{◌≡◌, ◌≤◌, left, size, EndIsSeen, SpendsBudget, SpendsGiven}
 use Rattle.uv_engine.proofs.Starting.{CanBegin}
 use Rattle.uv_engine.proofs.script.read_front.Given as goal
 

@@ -1,6 +1,5 @@
-use Rattle.std.proofs.Common.{◌≡◌, ◌-◌, ◌<◌, ◌++◌, length}
-use Rattle.uv_text.specs.Parts.{parts_from, in_parts}
-use Rattle.uv_engine.specs.Gather.{Gathered}
+use Rattle.uv_engine.proofs.Names.{◌≡◌, ◌-◌, ◌<◌, ◌++◌, length, parts_from, Gathered}
+use Rattle.uv_text.specs.Parts.{in_parts}
 use Rattle.uv_engine.proofs.showing.show_parts.Given as goal
 
 -- what is left to gather are the parts that are left

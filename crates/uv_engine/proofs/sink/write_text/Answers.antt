@@ -1,6 +1,4 @@
-use Rattle.std.proofs.Common.{arith, ◌∙◌, subst, ℕ}
-use Rattle.std.proofs.lemmas.Grind.{common_steps}
-use Rattle.uv_engine.specs.Devices.{Counted}
+use Rattle.uv_engine.proofs.Names.{arith, ◌∙◌, subst, ℕ, common_steps, Counted}
 use Rattle.uv_engine.proofs.Text.{wrote_more, beginning}
 use Rattle.uv_engine.proofs.sink.write_text.Goals as goal
 

@@ -1,10 +1,5 @@
-use Rattle.std.proofs.Common.{◌≡◌, ℕ, ◌-◌, List, length, take, sym, ◌∙◌, ap, arith}
-use Rattle.std.specs.List.{swap}
-use Rattle.std.proofs.lemmas.List.{length-take-le}
-use Rattle.std.proofs.lemmas.List.Edits.{length-swap}
-use Rattle.uv_heap.specs.declared.entry.Entry.{Entry}
-use Rattle.uv_heap.specs.Moves.{Moved, settled, removed}
-use Rattle.uv_heap.specs.Array.{entry_at}
+use Rattle.uv_heap.proofs.Names.{◌≡◌, ℕ, ◌-◌, List, length, take, sym, ◌∙◌, ap, arith, swap, length-take-le, length-swap, Entry, Moved, entry_at}
+use Rattle.uv_heap.specs.Moves.{settled, removed}
 use Rattle.uv_heap.proofs.MoveLemmas.{settled_within}
 use Rattle.uv_heap.proofs.UndoLemmas.{removed_last, removed_inner, avoids_is, avoids_removed}
 use Rattle.uv_heap.proofs.changes.remove.Goals as goal

@@ -1,5 +1,4 @@
-use Rattle.std.proofs.Common.{◌≡◌, ℕ, ◌-◌, List, length, take, sym, ◌∙◌, ap}
-use Rattle.uv_heap.specs.declared.entry.Entry.{Entry}
+use Rattle.uv_heap.proofs.Names.{◌≡◌, ℕ, ◌-◌, List, length, take, sym, ◌∙◌, ap, Entry}
 use Rattle.uv_heap.specs.Undo.{lowered}
 use Rattle.uv_heap.proofs.MoveLemmas.{length-lowered}
 use Rattle.uv_heap.proofs.UndoLemmas.{push_undone_is}

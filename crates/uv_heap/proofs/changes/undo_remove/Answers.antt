@@ -1,8 +1,4 @@
-use Rattle.std.proofs.Common.{◌≡◌, ℕ, ◌<◌, ◌++◌, ◌∷◌, [], List, length, ◌∙◌, ap, arith}
-use Rattle.std.specs.List.{swap}
-use Rattle.std.proofs.lemmas.List.{length_push}
-use Rattle.uv_heap.specs.declared.entry.Entry.{Entry}
-use Rattle.uv_heap.specs.Undo.{returned}
+use Rattle.uv_heap.proofs.Names.{◌≡◌, ℕ, ◌<◌, ◌++◌, ◌∷◌, [], List, length, ◌∙◌, ap, arith, swap, length_push, Entry, returned}
 use Rattle.uv_heap.proofs.UndoLemmas.{removal_undone_last, removal_undone_inner, avoids_from, avoids_is, avoids_returned, length-returned}
 use Rattle.uv_heap.proofs.changes.undo_remove.Goals as goal
 

@@ -1,7 +1,4 @@
-use Rattle.std.proofs.Common.{◌≡◌, ◌<◌, ◌-◌, length, false, sym, ◌∙◌, ap, arith, refl}
-use Rattle.std.proofs.lemmas.Bool.{false≢true, false_from_ne_true}
-use Rattle.std.proofs.lemmas.List.Edits.{length-swap}
-use Rattle.uv_heap.specs.Moves.{Moved, must_sink}
+use Rattle.uv_heap.proofs.Names.{◌≡◌, ◌<◌, ◌-◌, length, false, sym, ◌∙◌, ap, arith, refl, false≢true, false_from_ne_true, length-swap, Moved, must_sink}
 use Rattle.uv_heap.proofs.MoveLemmas.{moved_down_more, moved_down_end, child_is, child_within}
 use Rattle.uv_heap.proofs.sift.move_down.Goals as goal
 

@@ -1,6 +1,4 @@
-use Rattle.std.proofs.Common.{sym, ◌∙◌, ap, arith}
-use Rattle.std.proofs.lemmas.List.Edits.{length-swap}
-use Rattle.uv_heap.specs.Moves.{Moved}
+use Rattle.uv_heap.proofs.Names.{sym, ◌∙◌, ap, arith, length-swap, Moved}
 use Rattle.uv_heap.proofs.MoveLemmas.{moved_up_more, moved_up_end}
 use Rattle.uv_heap.proofs.sift.move_up.Goals as goal
 

@@ -1,5 +1,4 @@
-use Rattle.std.proofs.Common.{sym, ◌∙◌, arith}
-use Rattle.std.proofs.lemmas.List.Edits.{length-swap}
+use Rattle.uv_heap.proofs.Names.{sym, ◌∙◌, arith, length-swap}
 use Rattle.uv_heap.proofs.MoveLemmas.{raised_more, raised_end}
 use Rattle.uv_heap.proofs.sift.raise.Goals as goal
 

@@ -1,5 +1,4 @@
-use Rattle.std.proofs.Common.{sym, ◌∙◌, ap}
-use Rattle.uv_heap.specs.Moves.{Moved}
+use Rattle.uv_heap.proofs.Names.{sym, ◌∙◌, ap, Moved}
 use Rattle.uv_heap.proofs.MoveLemmas.{settled_up, settled_down}
 use Rattle.uv_heap.proofs.sift.settle.Goals as goal
 

@@ -1,6 +1,4 @@
-use Rattle.std.proofs.Common.{◌≡◌, map, take}
-use Rattle.uv_records.specs.Lists.{all_lists}
-use Rattle.uv_layout.specs.Laid.{shown_ends}
+use Rattle.uv_layout.proofs.Names.{◌≡◌, map, take, all_lists, shown_ends}
 use Rattle.uv_layout.proofs.laying.laid_lists.Given as goal
 
 abbrev pub invariant-loop-list : goal.invariant-loop-list

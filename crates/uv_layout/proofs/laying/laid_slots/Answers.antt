@@ -1,5 +1,4 @@
-use Rattle.std.proofs.Common.{◌+◌, sym, subst}
-use Rattle.uv_step.specs.Image.{image_of}
+use Rattle.uv_layout.proofs.Names.{◌+◌, sym, subst, image_of}
 use Rattle.uv_layout.proofs.Lies.{ShowsFirst, shows_more}
 use Rattle.uv_layout.proofs.laying.laid_slots.Goals as goal
 

@@ -1,5 +1,4 @@
-use Rattle.std.proofs.Common.{◌-◌, length}
-use Rattle.uv_arena.specs.Image.{plain_slots}
+use Rattle.uv_layout.proofs.Names.{◌-◌, length, plain_slots}
 use Rattle.uv_layout.proofs.Walked.{IsFreeWalked}
 use Rattle.uv_layout.proofs.listing.free_slots.Given as goal
 

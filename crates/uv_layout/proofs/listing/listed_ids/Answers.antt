@@ -1,5 +1,4 @@
-use Rattle.std.proofs.Common.{subst}
-use Rattle.uv_stands.proofs.Walked.{IsWalked, walk_goes}
+use Rattle.uv_layout.proofs.Names.{subst, IsWalked, walk_goes}
 use Rattle.uv_layout.proofs.listing.listed_ids.Goals as goal
 
 pub loop-next-preserved : goal.loop-next-preserved

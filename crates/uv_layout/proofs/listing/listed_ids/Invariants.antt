@@ -1,6 +1,5 @@
-use Rattle.std.proofs.Common.{◌-◌, length}
+use Rattle.uv_layout.proofs.Names.{◌-◌, length, IsWalked}
 use Rattle.uv_arena.specs.Image.{members}
-use Rattle.uv_stands.proofs.Walked.{IsWalked}
 use Rattle.uv_layout.proofs.listing.listed_ids.Given as goal
 
 abbrev pub invariant-loop-next : goal.invariant-loop-next

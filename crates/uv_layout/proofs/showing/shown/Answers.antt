@@ -1,6 +1,4 @@
-use Rattle.std.proofs.Common.{sym, ◌∙◌}
-use Rattle.uv_step.specs.Image.{image_of}
-use Rattle.uv_stands.proofs.Holding.{held_there}
+use Rattle.uv_layout.proofs.Names.{sym, ◌∙◌, image_of, held_there}
 use Rattle.uv_layout.proofs.showing.shown.Goals as goal
 
 pub returns : goal.returns

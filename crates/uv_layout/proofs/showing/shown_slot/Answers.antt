@@ -1,5 +1,4 @@
-use Rattle.std.proofs.Common.{◌<◌, length, arith}
-use Rattle.uv_step.specs.Image.{image_of}
+use Rattle.uv_layout.proofs.Names.{◌<◌, length, arith, image_of}
 use Rattle.uv_layout.proofs.Same.{slot_shown}
 use Rattle.uv_layout.proofs.showing.shown_slot.Goals as goal
 

@@ -1,5 +1,4 @@
-use Rattle.std.proofs.Common.{◌+◌, ◌≤◌, length, vec_len, vec_capacity}
-use Rattle.std.specs.Vec.Iter.{into_iter_items}
+use Rattle.uv_live.proofs.Names.{◌+◌, ◌≤◌, length, vec_len, vec_capacity, into_iter_items}
 use Rattle.uv_live.proofs.crew.join_workers.Given as goal
 
 -- there is room for the answers of those that are left

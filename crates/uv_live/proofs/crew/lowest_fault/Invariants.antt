@@ -1,5 +1,4 @@
-use Rattle.std.proofs.Common.{◌≡◌, drop}
-use Rattle.uv_live.specs.Running.{first_fault}
+use Rattle.uv_live.proofs.Names.{◌≡◌, drop, first_fault}
 use Rattle.uv_live.proofs.crew.lowest_fault.Given as goal
 
 -- none of those so far has a fault

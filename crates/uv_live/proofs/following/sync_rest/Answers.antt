@@ -1,9 +1,4 @@
-use Rattle.std.proofs.Common.{◌∙◌, ap, subst, List, Err, get_or}
-use Rattle.std.proofs.lemmas.Option.{slice_get-get_or}
-use Rattle.uv_work.specs.declared.event.PoolEvent.{PoolEvent}
-use Rattle.uv_work.specs.declared.event.PoolEvent.TheVariants.{Queue}
-use Rattle.uv_live.specs.Course.{Plan}
-use Rattle.uv_live.specs.Following.{Syncs}
+use Rattle.uv_live.proofs.Names.{◌∙◌, ap, subst, List, Err, get_or, slice_get-get_or, PoolEvent, Queue, Plan, Syncs}
 use Rattle.uv_live.proofs.Legal.{book_legal}
 use Rattle.uv_live.proofs.Places.{next_legal, may_more, more_taken, some_applied, full_there, never_refused}
 use Rattle.uv_live.proofs.following.sync_rest.Goals as goal

@@ -1,5 +1,4 @@
-use Rattle.std.proofs.Common.{◌≡◌}
-use Rattle.uv_live.specs.Following.{Follows, StaysEnded}
+use Rattle.uv_live.proofs.Names.{◌≡◌, Follows, StaysEnded}
 use Rattle.uv_live.proofs.Places.{AreApplied}
 use Rattle.uv_live.proofs.following.sync_rest.Given as goal
 

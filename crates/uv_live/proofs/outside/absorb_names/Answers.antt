@@ -1,5 +1,4 @@
-use Rattle.std.proofs.Common.{◌∙◌, arith}
-use Rattle.std.proofs.lemmas.Option.{slice_get-get_or, slice_get_within}
+use Rattle.uv_live.proofs.Names.{◌∙◌, arith, slice_get-get_or, slice_get_within}
 use Rattle.uv_live.proofs.Absorbed.{absorbs_both, carried_more, records_more}
 use Rattle.uv_live.proofs.outside.absorb_names.Goals as goal
 
@@ -7,7 +6,7 @@ pub names-preserved : goal.names-preserved
 names-preserved g c =
     let names = c.args.names.now in
     let before = c.names.invariant in
-    let one = c.in-Ok.ensures in
+    let one = c.in_ok-absorb_one.ensures in
     let within = c.names-test.true in
     record {
       board = one.board ∙ before.board;

@@ -1,5 +1,4 @@
-use Rattle.std.proofs.Common.{◌≡◌, true, take}
-use Rattle.uv_live.specs.Sending.{Absorbs, Records}
+use Rattle.uv_live.proofs.Names.{◌≡◌, true, take, Absorbs, Records}
 use Rattle.uv_live.proofs.Absorbed.{CarriedBelow}
 use Rattle.uv_live.proofs.outside.absorb_names.Given as goal
 

@@ -1,5 +1,4 @@
-use Rattle.std.proofs.Common.{ℕ, rules}
-use Rattle.uv_live.specs.Settling.{SendsFit}
+use Rattle.uv_live.proofs.Names.{ℕ, rules, SendsFit}
 use Rattle.uv_live.proofs.Shares.{one_more}
 use Rattle.uv_live.proofs.settling.all_sends_fit.Goals as goal
 

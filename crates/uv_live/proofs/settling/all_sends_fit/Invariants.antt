@@ -1,5 +1,4 @@
-use Rattle.std.proofs.Common.{◌<◌, ℕ}
-use Rattle.uv_live.specs.Settling.{SendsFit}
+use Rattle.uv_live.proofs.Names.{◌<◌, ℕ, SendsFit}
 use Rattle.uv_live.proofs.settling.all_sends_fit.Given as goal
 
 abbrev pub invariant-names : goal.invariant-names

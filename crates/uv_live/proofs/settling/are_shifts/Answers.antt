@@ -1,6 +1,4 @@
-use Rattle.std.proofs.Common.{arith, rules}
-use Rattle.std.proofs.lemmas.List.{length-map}
-use Rattle.uv_live.specs.Settling.{worked}
+use Rattle.uv_live.proofs.Names.{arith, rules, length-map, worked}
 use Rattle.uv_live.proofs.Shares.{shift_else, shift_more, shift_all}
 use Rattle.uv_live.proofs.settling.are_shifts.Goals as goal
 

@@ -1,5 +1,4 @@
-use Rattle.std.proofs.Common.{map}
-use Rattle.uv_live.specs.Settling.{worked}
+use Rattle.uv_live.proofs.Names.{map, worked}
 use Rattle.uv_live.proofs.Shares.{AreBelow}
 use Rattle.uv_live.proofs.settling.are_shifts.Given as goal
 

@@ -1,5 +1,4 @@
-use Rattle.std.proofs.Common.{rules}
-use Rattle.uv_live.specs.Settling.{worked}
+use Rattle.uv_live.proofs.Names.{rules, worked}
 use Rattle.uv_live.proofs.Shares.{share_more, share_over}
 use Rattle.uv_live.proofs.settling.do_add_up.Goals as goal
 

@@ -1,6 +1,4 @@
-use Rattle.std.proofs.Common.{◌≡◌, ◌+◌, take, map}
-use Rattle.uv_pool.specs.Book.{finish_count}
-use Rattle.uv_live.specs.Settling.{worked, counted}
+use Rattle.uv_live.proofs.Names.{◌≡◌, ◌+◌, take, map, finish_count, worked, counted}
 use Rattle.uv_live.proofs.settling.do_add_up.Given as goal
 
 abbrev pub invariant-shifts : goal.invariant-shifts

@@ -1,8 +1,4 @@
-use Rattle.std.proofs.Common.{◌∙◌, ap, List, map, sym, subst, rules}
-use Rattle.std.specs.List.{count_by}
-use Rattle.std.proofs.lemmas.List.{length-map}
-use Rattle.uv_work.specs.declared.event.PoolEvent.{PoolEvent}
-use Rattle.uv_live.specs.Settling.{AreShifts, is_cancel, worked}
+use Rattle.uv_live.proofs.Names.{◌∙◌, ap, List, map, sym, subst, rules, count_by, length-map, PoolEvent, AreShifts, is_cancel, worked}
 use Rattle.uv_live.proofs.Settled.{is_settled}
 use Rattle.uv_live.proofs.settling.do_agree.Goals as goal
 

@@ -1,7 +1,4 @@
-use Rattle.std.proofs.Common.{◌≡◌, List, subst}
-use Rattle.uv_work.specs.declared.event.PoolEvent.{PoolEvent}
-use Rattle.uv_live.specs.Following.{Decides}
-use Rattle.uv_live.specs.Settling.{part_of, worked}
+use Rattle.uv_live.proofs.Names.{◌≡◌, List, subst, PoolEvent, Decides, part_of, worked}
 use Rattle.uv_live.proofs.Shares.{is_shift_by}
 use Rattle.uv_live.proofs.settling.is_shift.Goals as goal
 

@@ -1,7 +1,5 @@
-use Rattle.std.proofs.Common.{Some, sym, subst}
+use Rattle.uv_loop.proofs.Names.{Some, sym, subst, image_of, Leads}
 use Rattle.uv_ids.specs.declared.seen.Seen.TheVariants as seen
-use Rattle.uv_step.specs.Image.{image_of}
-use Rattle.uv_loop.specs.Course.{Leads}
 use Rattle.uv_loop.proofs.acting.act.Goals as goal
 
 pub returns-in-Take-clause-leads : goal.returns-in-Take-clause-leads

@@ -1,6 +1,4 @@
-use Rattle.std.proofs.Common.{refl}
-use Rattle.uv_work.specs.Requests.{job_of}
-use Rattle.uv_step.specs.Image.{image_of}
+use Rattle.uv_loop.proofs.Names.{refl, job_of, image_of}
 use Rattle.uv_loop.proofs.Finishes.{finishes}
 use Rattle.uv_loop.proofs.acting.finish_own.Goals as goal
 

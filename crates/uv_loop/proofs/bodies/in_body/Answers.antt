@@ -1,7 +1,4 @@
-use Rattle.std.proofs.Common.{sym, subst}
-use Rattle.uv_model.specs.declared.place.Place.TheVariants.{Running}
-use Rattle.uv_step.specs.Image.{held, image_of}
-use Rattle.uv_loop.specs.Turning.{PerformsAt}
+use Rattle.uv_loop.proofs.Names.{sym, subst, Running, held, image_of, PerformsAt}
 use Rattle.uv_loop.proofs.Lines.{left, goes_on}
 use Rattle.uv_loop.proofs.bodies.in_body.Goals as goal
 

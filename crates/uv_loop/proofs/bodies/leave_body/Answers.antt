@@ -1,9 +1,4 @@
-use Rattle.std.proofs.Common.{refl, sym, subst}
-use Rattle.uv_model.specs.declared.place.Place.{Place}
-use Rattle.uv_step.specs.Image.{image_of}
-use Rattle.uv_step.specs.MemoryParts.{MemoryParts}
-use Rattle.uv_stands.specs.Stands.{StandsFor}
-use Rattle.uv_stands.proofs.Returning.{recorded_returns, extended_returns}
+use Rattle.uv_loop.proofs.Names.{refl, sym, subst, Place, image_of, MemoryParts, StandsFor, recorded_returns, extended_returns}
 use Rattle.uv_loop.proofs.bodies.leave_body.Goals as goal
 
 pub returns-clause-turns : goal.returns-clause-turns

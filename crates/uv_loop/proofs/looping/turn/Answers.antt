@@ -1,8 +1,5 @@
-use Rattle.std.proofs.Common.{slice_get, sym, ◌∙◌}
-use Rattle.uv_ids.specs.declared.event.Event.TheVariants.{Loop}
-use Rattle.uv_script.specs.Program.{order_of}
-use Rattle.uv_model.specs.Next.{next, main_step, run_step}
-use Rattle.uv_step.specs.Image.{held, image_of}
+use Rattle.uv_loop.proofs.Names.{slice_get, sym, ◌∙◌, Loop, order_of, main_step, run_step, held, image_of}
+use Rattle.uv_model.specs.Next.{next}
 use Rattle.uv_loop.proofs.Refusing.{main_there, run_there, turns_where}
 use Rattle.uv_loop.proofs.looping.turn.Goals as goal
 

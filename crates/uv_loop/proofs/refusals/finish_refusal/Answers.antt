@@ -1,5 +1,4 @@
-use Rattle.uv_step.specs.Image.{image_of}
-use Rattle.uv_loop.specs.Pooling.{MayFinish}
+use Rattle.uv_loop.proofs.Names.{image_of, MayFinish}
 use Rattle.uv_loop.proofs.Finishes.{finish_refused, finish_may}
 use Rattle.uv_loop.proofs.refusals.finish_refusal.Goals as goal
 

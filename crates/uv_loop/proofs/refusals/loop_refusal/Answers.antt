@@ -1,8 +1,4 @@
-use Rattle.std.proofs.Common.{IfNone, sym, ap, subst, ◌∙◌}
-use Rattle.uv_model.specs.Next.{Next}
-use Rattle.uv_model.specs.After.{refusal_of}
-use Rattle.uv_step.specs.Image.{image_of}
-use Rattle.uv_loop.specs.Acting.{MayAt}
+use Rattle.uv_loop.proofs.Names.{IfNone, sym, ap, subst, ◌∙◌, Next, refusal_of, image_of, MayAt}
 use Rattle.uv_loop.proofs.Refusing.{main_there, run_there}
 use Rattle.uv_loop.proofs.refusals.loop_refusal.Goals as goal
 

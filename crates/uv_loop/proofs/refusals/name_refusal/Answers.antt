@@ -1,6 +1,4 @@
-use Rattle.std.proofs.Common.{◌<◌, ◌≤◌, List, length, ap, arith}
-use Rattle.uv_records.specs.declared.named.Named.{Named}
-use Rattle.uv_step.specs.Image.{image_of}
+use Rattle.uv_loop.proofs.Names.{◌<◌, ◌≤◌, List, length, ap, arith, Named, image_of}
 use Rattle.uv_loop.proofs.Events.{send_refused, send_may, cancel_refused, cancel_may}
 use Rattle.uv_loop.proofs.refusals.name_refusal.Goals as goal
 

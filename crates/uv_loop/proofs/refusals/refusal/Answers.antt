@@ -1,6 +1,4 @@
-use Rattle.std.proofs.Common.{sym, subst}
-use Rattle.uv_step.specs.Image.{image_of}
-use Rattle.uv_loop.specs.Acting.{Refusal}
+use Rattle.uv_loop.proofs.Names.{sym, subst, image_of, Refusal}
 use Rattle.uv_loop.proofs.Refusing.{loop_refused}
 use Rattle.uv_loop.proofs.refusals.refusal.Goals as goal
 

@@ -1,5 +1,4 @@
-use Rattle.uv_step.specs.Image.{image_of}
-use Rattle.uv_loop.specs.Pooling.{MayTake}
+use Rattle.uv_loop.proofs.Names.{image_of, MayTake}
 use Rattle.uv_loop.proofs.Takes.{take_refused, take_may}
 use Rattle.uv_loop.proofs.refusals.take_refusal.Goals as goal
 

@@ -1,5 +1,4 @@
-use Rattle.std.proofs.Common.{◌≡◌, drop}
-use Rattle.uv_model.specs.Next.{next_line}
+use Rattle.uv_model.proofs.Names.{◌≡◌, drop, next_line}
 use Rattle.uv_model.proofs.bodies.body_from.Given as goal
 
 -- the first line for the call is among those that are left

@@ -1,6 +1,4 @@
-use Rattle.std.proofs.Common.{rules, not}
-use Rattle.std.proofs.lemmas.Fn.{filter_same}
-use Rattle.uv_model.specs.Ids.{same_id}
+use Rattle.uv_model.proofs.Names.{rules, not, filter_same, same_id}
 use Rattle.uv_model.proofs.ids.remove_id.Goals as goal
 
 pub returns : goal.returns

@@ -1,5 +1,4 @@
-use Rattle.std.proofs.Common.{arith, length-take}
-use Rattle.std.proofs.lemmas.Grind.{common_steps}
+use Rattle.uv_model.proofs.Names.{arith, length-take, common_steps}
 use Rattle.uv_model.proofs.Bounded.{after_able}
 use Rattle.uv_model.proofs.Runs.{after-take}
 use Rattle.uv_model.proofs.plain.follow_all.Goals as goal

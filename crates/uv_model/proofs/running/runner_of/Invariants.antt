@@ -1,5 +1,4 @@
-use Rattle.std.proofs.Common.{◌≡◌, drop}
-use Rattle.uv_model.specs.Queries.{runner_from}
+use Rattle.uv_model.proofs.Names.{◌≡◌, drop, runner_from}
 use Rattle.uv_model.proofs.running.runner_of.Given as goal
 
 -- the first that runs it is among those that are left

@@ -1,5 +1,4 @@
-use Rattle.std.proofs.Common.{ap}
-use Rattle.uv_step.specs.Image.{held, image_of}
+use Rattle.uv_ops.proofs.Names.{ap, held, image_of}
 use Rattle.uv_ops.proofs.Cancels.{cancel_unbound, cancel_refused, cancel_done, cancel_performs}
 use Rattle.uv_ops.proofs.cancelling.cancel.Goals as goal
 

@@ -1,7 +1,4 @@
-use Rattle.std.proofs.Common.{sym, ap, ◌∙◌}
-use Rattle.uv_records.specs.declared.handle.HandleRecord.{HandleRecord}
-use Rattle.uv_model.specs.State.{with_handle}
-use Rattle.uv_model.specs.Ops.{set_repeat, succeeds}
+use Rattle.uv_ops.proofs.Names.{sym, ap, ◌∙◌, HandleRecord, with_handle, set_repeat, succeeds}
 use Rattle.uv_ops.proofs.edits.set_repeat.Goals as goal
 
 pub returns-clause-performs : goal.returns-clause-performs

@@ -1,7 +1,4 @@
-use Rattle.std.proofs.Common.{ap, subst}
-use Rattle.uv_arena.specs.Calls.{RefusesInsert}
-use Rattle.uv_model.specs.Ops.{with_new}
-use Rattle.uv_step.specs.Image.{held, image_of}
+use Rattle.uv_ops.proofs.Names.{ap, subst, RefusesInsert, with_new, held, image_of}
 use Rattle.uv_ops.proofs.Made.{make_full}
 use Rattle.uv_ops.proofs.Inits.{inits_by}
 use Rattle.uv_ops.proofs.making.init.Goals as goal

@@ -1,8 +1,4 @@
-use Rattle.std.proofs.Common.{ap, subst}
-use Rattle.uv_arena.specs.Calls.{RefusesInsert}
-use Rattle.uv_work.specs.Requests.{reopened}
-use Rattle.uv_model.specs.Ops.{with_queued}
-use Rattle.uv_step.specs.Image.{held, image_of}
+use Rattle.uv_ops.proofs.Names.{ap, subst, RefusesInsert, reopened, with_queued, held, image_of}
 use Rattle.uv_ops.proofs.Made.{make_full}
 use Rattle.uv_ops.proofs.Queues.{queues}
 use Rattle.uv_ops.proofs.making.queue.Goals as goal

@@ -1,5 +1,4 @@
-use Rattle.std.proofs.Common.{◌∙◌, ◌++◌, List, [], inl, refl, sym, ap, append-nil}
-use Rattle.uv_work.specs.declared.event.PoolEvent.{PoolEvent}
+use Rattle.uv_pool.proofs.Names.{◌∙◌, ◌++◌, List, [], inl, refl, sym, ap, append-nil, PoolEvent}
 use Rattle.uv_pool.proofs.Turns.{served_turns, stopped}
 use Rattle.uv_pool.proofs.shift.worker.Goals as goal
 

@@ -1,5 +1,4 @@
-use Rattle.std.proofs.Common.{List, ◌∙◌}
-use Rattle.uv_work.specs.declared.event.PoolEvent.{PoolEvent}
+use Rattle.uv_run.proofs.Names.{List, ◌∙◌, PoolEvent}
 use Rattle.uv_run.proofs.Answers.{line_events, worker_ended}
 use Rattle.uv_run.proofs.following.finish.Goals as goal
 

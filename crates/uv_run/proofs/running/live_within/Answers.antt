@@ -1,10 +1,4 @@
-use Rattle.std.proofs.Common.{length, refl, sym, ap, ap₂, ◌∙◌, subst}
-use Rattle.uv_script.specs.Program.{Program}
-use Rattle.uv_session.specs.Shown.{Shown}
-use Rattle.uv_session.proofs.Traces.{is_documented, is_once}
-use Rattle.uv_live.specs.Course.{AreNamed}
-use Rattle.uv_live.specs.Running.{RunSettles}
-use Rattle.uv_run.specs.Bound.{plan_of, plan_within, course_of}
+use Rattle.uv_run.proofs.Names.{length, refl, sym, ap, ap₂, ◌∙◌, subst, Program, Shown, is_documented, is_once, AreNamed, RunSettles, plan_of, plan_within, course_of}
 use Rattle.uv_run.proofs.Named.{are_named}
 use Rattle.uv_run.proofs.Plans.{of_script, settled_by}
 use Rattle.uv_run.proofs.running.live_within.Goals as goal
@@ -14,14 +8,14 @@ of-requires g c =
     let lines = c.in-Ok.lines.items in
     let all = are_named c.args.script lines (c.in-Ok.ensures.items ∙ c.thread_lines.ensures.lines)
     (rw c.thread_lines.ensures.lines at c.thread_lines.ensures.known) in
-    subst (λ (p : Program). AreNamed (length p.names) lines) (sym (c.new.ensures.program ∙ c.in-Ok-begin.ensures.program)) all
+    subst (λ (p : Program). AreNamed (length p.names) lines) (sym (c.new.ensures.program ∙ c.in_ok-machine.ensures.program)) all
 
 -- it is settled by the script that was given, and its `thread` lines
 pub returns-in-Ok-live-clause-settled : goal.returns-in-Ok-live-clause-settled
 returns-in-Ok-live-clause-settled g c =
     let ran = c.in-Ok-live.session in
-    let program = ap (λ (s : Shown). s.program) c.in-Ok-of.ensures.session ∙ c.new.ensures.program ∙ c.in-Ok-begin.ensures.program in
-    let lines = c.in-Ok-of.ensures.lines ∙ c.in-Ok.ensures.items ∙ c.thread_lines.ensures.lines in
+    let program = ap (λ (s : Shown). s.program) c.in_ok-session.ensures.session ∙ c.new.ensures.program ∙ c.in_ok-machine.ensures.program in
+    let lines = c.in_ok-session.ensures.lines ∙ c.in-Ok.ensures.items ∙ c.thread_lines.ensures.lines in
     let same = ap of_script c.in-Ok-live.ensures.plan ∙ ap₂ plan_of program lines in
     subst (λ (s : Shown). RunSettles (plan_of c.args.script c.args.script.threads) (course_of s)) (sym c.into_session.ensures)
     (settled_by (plan_within ran.session ran.lines) (plan_of c.args.script c.args.script.threads) (course_of ran.session) same

@@ -1,7 +1,4 @@
-use Rattle.std.proofs.Common.{take}
-use Rattle.std.specs.List.{count_by}
-use Rattle.uv_live.specs.Settling.{is_line}
-use Rattle.uv_run.specs.Counts.{AreCounts}
+use Rattle.uv_run.proofs.Names.{take, count_by, is_line, AreCounts}
 use Rattle.uv_run.proofs.session.allowed_by.Given as goal
 
 abbrev pub invariant-lines : goal.invariant-lines

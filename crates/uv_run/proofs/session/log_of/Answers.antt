@@ -1,10 +1,6 @@
-use Rattle.std.proofs.Common.{◌≡◌, ◌∙◌, ◌+◌, ◌-◌, ◌++◌, ℕ, ap, ap₂, sym, subst, length, List, Some, arith}
+use Rattle.uv_run.proofs.Names.{◌≡◌, ◌∙◌, ◌+◌, ◌-◌, ◌++◌, ℕ, ap, ap₂, sym, subst, length, List, Some, arith, Event, PoolEvent, Program, events_in}
 use Rattle.std.specs.Prelude.{slice_get}
-use Rattle.uv_ids.specs.declared.event.Event.{Event}
-use Rattle.uv_work.specs.declared.event.PoolEvent.{PoolEvent}
-use Rattle.uv_script.specs.Program.{Program}
 use Rattle.uv_model.specs.After.{seen_by}
-use Rattle.uv_run.specs.Events.{events_in}
 use Rattle.uv_run.proofs.Steps.{events_step, all_events, seen_within}
 use Rattle.uv_run.proofs.session.log_of.Goals as goal
 

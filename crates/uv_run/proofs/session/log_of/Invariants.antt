@@ -1,7 +1,5 @@
-use Rattle.std.proofs.Common.{◌≡◌, take}
+use Rattle.uv_run.proofs.Names.{◌≡◌, take, pool_events, those}
 use Rattle.uv_model.specs.After.{seen_by}
-use Rattle.uv_order.specs.PoolEvents.{pool_events}
-use Rattle.uv_session.proofs.Traces.{those}
 use Rattle.uv_run.proofs.session.log_of.Given as goal
 
 -- the events of the steps so far

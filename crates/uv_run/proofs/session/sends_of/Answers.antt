@@ -1,9 +1,4 @@
-use Rattle.std.proofs.Common.{◌∙◌, ◌+◌, ℕ, List, ap, sym, subst, take}
-use Rattle.std.specs.List.{count_by}
-use Rattle.uv_ids.specs.declared.event.Event.TheVariants.{Loop}
-use Rattle.uv_live.specs.Settling.{is_send}
-use Rattle.uv_run.specs.Counts.{AreCounts}
-use Rattle.uv_run.specs.declared.counts.Counts.{Counts}
+use Rattle.uv_run.proofs.Names.{◌∙◌, ◌+◌, ℕ, List, ap, sym, subst, take, count_by, Loop, is_send, AreCounts, Counts}
 use Rattle.uv_run.proofs.Counting.{sends_more, no_sends_more, not_sent}
 use Rattle.uv_run.proofs.session.sends_of.Goals as goal
 use Rattle.uv_run.proofs.session.sends_of.Goals.{in-Send, in_default}

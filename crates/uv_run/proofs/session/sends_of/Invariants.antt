@@ -1,7 +1,4 @@
-use Rattle.std.proofs.Common.{take}
-use Rattle.std.specs.List.{count_by}
-use Rattle.uv_live.specs.Settling.{is_send}
-use Rattle.uv_run.specs.Counts.{AreCounts}
+use Rattle.uv_run.proofs.Names.{take, count_by, is_send, AreCounts}
 use Rattle.uv_run.proofs.session.sends_of.Given as goal
 
 abbrev pub invariant-steps : goal.invariant-steps

@@ -1,7 +1,4 @@
-use Rattle.std.proofs.Common.{rules, ◌↔◌, IsTrue}
-use Rattle.std.proofs.lemmas.Bool.Decides.{same_from_decides}
-use Rattle.uv_script.specs.Lines.{IsLine}
-use Rattle.uv_script.specs.Checks.{is_line}
+use Rattle.uv_script.proofs.ProofNames.{rules, ◌↔◌, IsTrue, same_from_decides, IsLine, is_line}
 use Rattle.uv_script.proofs.Checks.{is_line_decides}
 use Rattle.uv_script.proofs.lines.is_line.Goals as goal
 

@@ -1,5 +1,4 @@
-use Rattle.std.proofs.Common.{◌≡◌, true, refl, rules}
-use Rattle.uv_script.specs.Checks.{is_skipped}
+use Rattle.uv_script.proofs.ProofNames.{◌≡◌, true, refl, rules, is_skipped}
 use Rattle.uv_script.proofs.Checks.{is_skipped_decides}
 use Rattle.uv_script.proofs.lines.is_skipped.Goals as goal
 

@@ -1,5 +1,4 @@
-use Rattle.std.proofs.Common.{◌≡◌, ◌++◌, map, drop}
-use Rattle.uv_script.specs.Text.{callback_line, lines_text}
+use Rattle.uv_script.proofs.ProofNames.{◌≡◌, ◌++◌, map, drop, callback_line, lines_text}
 use Rattle.uv_script.proofs.text.push_callback.Given as goal
 
 -- what is written, with the lines that are left, is all

@@ -1,5 +1,4 @@
-use Rattle.std.proofs.Common.{◌+◌, [], ◌∷◌, ◌++◌, map, drop, ap, ◌∙◌, arith}
-use Rattle.uv_script.specs.Text.{main_line, lines_text}
+use Rattle.uv_script.proofs.ProofNames.{◌+◌, [], ◌∷◌, ◌++◌, map, drop, ap, ◌∙◌, arith, main_line, lines_text}
 use Rattle.uv_script.proofs.Texts.{line_turn, lines_end}
 use Rattle.uv_script.proofs.text.push_main.Goals as goal
 

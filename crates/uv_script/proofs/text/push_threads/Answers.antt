@@ -1,5 +1,4 @@
-use Rattle.std.proofs.Common.{◌+◌, [], ◌∷◌, ◌++◌, map, drop, ap, ◌∙◌, arith}
-use Rattle.uv_script.specs.Text.{thread_line, lines_text}
+use Rattle.uv_script.proofs.ProofNames.{◌+◌, [], ◌∷◌, ◌++◌, map, drop, ap, ◌∙◌, arith, thread_line, lines_text}
 use Rattle.uv_script.proofs.Texts.{line_turn, lines_end}
 use Rattle.uv_script.proofs.text.push_threads.Goals as goal
 

@@ -1,8 +1,4 @@
-use Rattle.std.proofs.Common.{◌↔◌, IsTrue, arith}
-use Rattle.std.proofs.lemmas.Grind.{common_steps}
-use Rattle.std.proofs.lemmas.Bool.Decides.{same_from_decides}
-use Rattle.uv_script.specs.Words.{IsName}
-use Rattle.uv_script.specs.Checks.{is_name}
+use Rattle.uv_script.proofs.ProofNames.{◌↔◌, IsTrue, arith, common_steps, same_from_decides, IsName, is_name}
 use Rattle.uv_script.proofs.Checks.{is_name_decides}
 use Rattle.uv_script.proofs.words.is_name.Goals as goal
 

@@ -1,8 +1,4 @@
-use Rattle.std.proofs.Common.{if◌then◌else◌, refl, subst}
-use Rattle.uv_model.specs.State.{refreshed}
-use Rattle.uv_model.specs.Next.{refreshes}
-use Rattle.uv_step.specs.Image.{image_of}
-use Rattle.uv_stands.specs.Stands.{StandsFor}
+use Rattle.uv_sections.proofs.Names.{if◌then◌else◌, refl, subst, refreshed, refreshes, image_of, StandsFor}
 use Rattle.uv_sections.proofs.beginning.begin_run.Goals as goal
 
 pub returns-clause-goes : goal.returns-clause-goes

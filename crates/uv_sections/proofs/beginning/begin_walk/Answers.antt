@@ -1,8 +1,4 @@
-use Rattle.std.proofs.Common.{Some, sym}
-use Rattle.uv_ids.specs.declared.seen.Seen.TheVariants.{Section}
-use Rattle.uv_records.specs.Walks.{all_yet}
-use Rattle.uv_model.specs.State.{watched, with_watched}
-use Rattle.uv_model.specs.Next.{Moves, at}
+use Rattle.uv_sections.proofs.Names.{Some, sym, Section, all_yet, watched, with_watched, Moves, at}
 use Rattle.uv_sections.proofs.beginning.begin_walk.Goals as goal
 
 pub returns-clause-goes : goal.returns-clause-goes

@@ -1,5 +1,4 @@
-use Rattle.uv_ids.specs.declared.seen.Callback.TheVariants.{Close}
-use Rattle.uv_step.specs.Image.{held, image_of}
+use Rattle.uv_sections.proofs.Names.{Close, held, image_of}
 use Rattle.uv_sections.proofs.Called.{few_calls, close_goes}
 use Rattle.uv_sections.proofs.freeing.close_front.Goals as goal
 

@@ -1,5 +1,4 @@
-use Rattle.uv_ids.specs.declared.seen.Callback.TheVariants.{After}
-use Rattle.uv_step.specs.Image.{held, image_of}
+use Rattle.uv_sections.proofs.Names.{After, held, image_of}
 use Rattle.uv_sections.proofs.Called.{few_calls, collect_goes}
 use Rattle.uv_sections.proofs.freeing.collect_request.Goals as goal
 

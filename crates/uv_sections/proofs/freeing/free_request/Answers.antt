@@ -1,5 +1,4 @@
-use Rattle.uv_records.specs.declared.lists.ListName.TheVariants.{DoneYet}
-use Rattle.uv_step.specs.Image.{image_of}
+use Rattle.uv_sections.proofs.Names.{DoneYet, image_of}
 use Rattle.uv_sections.proofs.Ends.{request_gone}
 use Rattle.uv_sections.proofs.Firsts.{none_asked}
 use Rattle.uv_sections.proofs.freeing.free_request.Goals as goal

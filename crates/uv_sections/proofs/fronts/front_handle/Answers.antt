@@ -1,5 +1,4 @@
-use Rattle.std.proofs.Common.{None, Some}
-use Rattle.uv_step.specs.Image.{image_of}
+use Rattle.uv_sections.proofs.Names.{None, Some, image_of}
 use Rattle.uv_sections.proofs.Firsts.{front_is}
 use Rattle.uv_sections.proofs.fronts.front_handle.Goals as goal
 

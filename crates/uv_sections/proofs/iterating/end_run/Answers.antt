@@ -1,8 +1,4 @@
-use Rattle.std.proofs.Common.{◌+◌, Bool, false, Some, ap}
-use Rattle.uv_ids.specs.declared.seen.Seen.TheVariants.{End}
-use Rattle.uv_model.specs.declared.place.Place.TheVariants.{Main}
-use Rattle.uv_model.specs.State.{State}
-use Rattle.uv_model.specs.Next.{Moves}
+use Rattle.uv_sections.proofs.Names.{◌+◌, Bool, false, Some, ap, End, Main, State, Moves}
 use Rattle.uv_sections.proofs.iterating.end_run.Goals as goal
 
 pub returns-clause-goes : goal.returns-clause-goes

@@ -1,8 +1,4 @@
-use Rattle.std.proofs.Common.{Bool, ap, sym, ◌∙◌}
-use Rattle.uv_ids.specs.declared.order.Order.{Order}
-use Rattle.uv_model.specs.declared.place.Way.{Way}
-use Rattle.uv_model.specs.Next.{goes_by, way}
-use Rattle.uv_script.specs.Program.{order_of}
+use Rattle.uv_sections.proofs.Names.{Bool, ap, sym, ◌∙◌, Order, Way, goes_by, way, order_of}
 use Rattle.uv_sections.proofs.iterating.turn.Goals as goal
 
 pub returns-clause-goes : goal.returns-clause-goes

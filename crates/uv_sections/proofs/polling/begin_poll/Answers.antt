@@ -1,12 +1,5 @@
-use Rattle.std.proofs.Common.{ℕ, Option, Some, sym, ap, ◌∙◌, subst}
+use Rattle.uv_sections.proofs.Names.{ℕ, Option, Some, sym, ap, ◌∙◌, subst, Place, Poll, deadline_of, Moves, at, image_of, MemoryParts, StandsFor}
 use Rattle.uv_ids.specs.declared.seen.Seen.TheVariants as seen
-use Rattle.uv_model.specs.declared.place.Place.{Place}
-use Rattle.uv_model.specs.declared.place.Stage.TheVariants.{Poll}
-use Rattle.uv_model.specs.Timeout.{deadline_of}
-use Rattle.uv_model.specs.Next.{Moves, at}
-use Rattle.uv_step.specs.Image.{image_of}
-use Rattle.uv_step.specs.MemoryParts.{MemoryParts}
-use Rattle.uv_stands.specs.Stands.{StandsFor}
 use Rattle.uv_sections.proofs.polling.begin_poll.Goals as goal
 
 pub returns-clause-goes : goal.returns-clause-goes

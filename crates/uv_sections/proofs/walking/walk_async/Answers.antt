@@ -1,5 +1,4 @@
-use Rattle.uv_ids.specs.declared.seen.Callback.TheVariants.{Handle}
-use Rattle.uv_step.specs.Image.{held, image_of}
+use Rattle.uv_sections.proofs.Names.{Handle, held, image_of}
 use Rattle.uv_sections.proofs.Called.{few_calls, async_goes}
 use Rattle.uv_sections.proofs.walking.walk_async.Goals as goal
 

@@ -1,6 +1,4 @@
-use Rattle.std.proofs.Common.{Option, is_some, sym, ap, ◌∙◌}
-use Rattle.uv_work.specs.declared.content.Content.{Content}
-use Rattle.uv_step.specs.Image.{image_of}
+use Rattle.uv_stands.proofs.ProofNames.{Option, is_some, sym, ap, ◌∙◌, Content, image_of}
 use Rattle.uv_stands.proofs.Naming.{bound_live}
 use Rattle.uv_stands.proofs.names.is_live.Goals as goal
 

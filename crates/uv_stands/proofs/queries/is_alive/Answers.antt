@@ -1,5 +1,4 @@
-use Rattle.std.proofs.Common.{◌∙◌, arith}
-use Rattle.uv_step.specs.Image.{image_of}
+use Rattle.uv_stands.proofs.ProofNames.{◌∙◌, arith, image_of}
 use Rattle.uv_stands.proofs.Living.{alive_handles, alive_requests, alive_closing}
 use Rattle.uv_stands.proofs.queries.is_alive.Goals as goal
 

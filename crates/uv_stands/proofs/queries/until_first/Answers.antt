@@ -1,6 +1,4 @@
-use Rattle.uv_model.specs.Limits.{LONGEST_POLL}
-use Rattle.std.proofs.Common.{ℕ, min, Some, None, sym, ap, ◌∙◌}
-use Rattle.uv_step.specs.Image.{image_of}
+use Rattle.uv_stands.proofs.ProofNames.{LONGEST_POLL, ℕ, min, Some, None, sym, ap, ◌∙◌, image_of}
 use Rattle.uv_stands.proofs.First.{first_timer}
 use Rattle.uv_stands.proofs.queries.until_first.Goals as goal
 

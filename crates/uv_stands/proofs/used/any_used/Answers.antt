@@ -1,6 +1,4 @@
-use Rattle.std.proofs.Common.{◌<◌, length, is_some, ap, ◌∙◌, arith}
-use Rattle.uv_records.specs.declared.slot.Slot.{Slot}
-use Rattle.uv_work.specs.declared.content.Content.{Content}
+use Rattle.uv_stands.proofs.ProofNames.{◌<◌, length, is_some, ap, ◌∙◌, arith, Slot, Content}
 use Rattle.uv_stands.proofs.Slots.{any_here, any_behind}
 use Rattle.uv_stands.proofs.used.any_used.Goals as goal
 

@@ -1,9 +1,4 @@
-use Rattle.std.proofs.Common.{◌≡◌, drop, is_some}
-use Rattle.std.specs.List.{list_any}
-use Rattle.uv_records.specs.declared.slot.Slot.{Slot}
-use Rattle.uv_arena.specs.Image.{held_slots}
-use Rattle.uv_work.specs.declared.content.Content.{Content}
-use Rattle.uv_step.specs.Image.{held}
+use Rattle.uv_stands.proofs.ProofNames.{◌≡◌, drop, is_some, list_any, Slot, held_slots, Content, held}
 use Rattle.uv_stands.proofs.used.any_used.Given as goal
 
 -- no slot before this one holds anything

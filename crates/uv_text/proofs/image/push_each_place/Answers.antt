@@ -1,5 +1,4 @@
-use Rattle.std.proofs.Common.{◌++◌, ap, ◌∙◌, arith}
-use Rattle.uv_text.specs.Image.{place_text}
+use Rattle.uv_text.proofs.Names.{◌++◌, ap, ◌∙◌, arith, place_text}
 use Rattle.uv_text.proofs.Pieces.{each_turn, each_end}
 use Rattle.uv_text.proofs.image.push_each_place.Goals as goal
 

@@ -1,6 +1,4 @@
-use Rattle.std.proofs.Common.{◌≡◌, ◌++◌, take}
-use Rattle.std.specs.List.{flat_map}
-use Rattle.uv_text.specs.Image.{place_text}
+use Rattle.uv_text.proofs.Names.{◌≡◌, ◌++◌, take, flat_map, place_text}
 use Rattle.uv_text.proofs.image.push_each_place.Given as goal
 
 -- those before this one

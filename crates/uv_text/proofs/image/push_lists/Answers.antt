@@ -1,5 +1,4 @@
-use Rattle.std.proofs.Common.{arith}
-use Rattle.uv_text.specs.Image.{named_ends}
+use Rattle.uv_text.proofs.Names.{arith, named_ends}
 use Rattle.uv_text.proofs.Pieces.{each_end}
 use Rattle.uv_text.proofs.image.push_lists.Goals as goal
 

@@ -1,6 +1,4 @@
-use Rattle.std.proofs.Common.{◌≡◌, ◌++◌, take}
-use Rattle.std.specs.List.{flat_map}
-use Rattle.uv_text.specs.Image.{named_ends}
+use Rattle.uv_text.proofs.Names.{◌≡◌, ◌++◌, take, flat_map, named_ends}
 use Rattle.uv_text.proofs.image.push_lists.Given as goal
 
 -- those before this one

@@ -1,5 +1,4 @@
-use Rattle.std.proofs.Common.{◌≡◌, ◌++◌}
-use Rattle.uv_text.specs.Parts.{parts_from}
+use Rattle.uv_text.proofs.Names.{◌≡◌, ◌++◌, parts_from}
 use Rattle.uv_text.proofs.parts.push_parts.Given as goal
 
 -- those before this one

@@ -1,6 +1,5 @@
-use Rattle.std.proofs.Common.{◌∙◌, arith}
+use Rattle.uv_text.proofs.Names.{◌∙◌, arith, member_text}
 use Rattle.uv_model.specs.After.{after}
-use Rattle.uv_text.specs.State.{member_text}
 use Rattle.uv_text.proofs.Pieces.{each_turn, each_end}
 use Rattle.uv_text.proofs.state.push_ids.Goals as goal
 

@@ -1,7 +1,5 @@
-use Rattle.std.proofs.Common.{◌≡◌, ◌++◌, take}
-use Rattle.std.specs.List.{flat_map}
+use Rattle.uv_text.proofs.Names.{◌≡◌, ◌++◌, take, flat_map, member_text}
 use Rattle.uv_model.specs.After.{after}
-use Rattle.uv_text.specs.State.{member_text}
 use Rattle.uv_text.proofs.state.push_ids.Given as goal
 
 -- those before this one

@@ -1,6 +1,5 @@
-use Rattle.std.proofs.Common.{◌≡◌, ◌++◌, take, codes}
-use Rattle.std.specs.List.{flat_map}
-use Rattle.uv_text.specs.State.{numbered}
+use Rattle.uv_text.proofs.Names.{◌≡◌, ◌++◌, take, flat_map, numbered}
+use Rattle.std.proofs.Common.{codes}
 use Rattle.uv_text.proofs.state.push_numbers.Given as goal
 
 -- those before this one

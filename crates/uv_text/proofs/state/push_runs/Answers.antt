@@ -1,7 +1,5 @@
-use Rattle.std.proofs.Common.{◌≡◌, ◌++◌, length, Option, ap, ◌∙◌, arith}
-use Rattle.uv_ids.specs.declared.id.Id.{Id}
+use Rattle.uv_text.proofs.Names.{◌≡◌, ◌++◌, length, Option, ap, ◌∙◌, arith, Id, run_text, runs_upto}
 use Rattle.uv_model.specs.After.{after}
-use Rattle.uv_text.specs.State.{run_text, runs_upto}
 use Rattle.uv_text.proofs.Pieces.{one_more, runs_upto-more}
 use Rattle.uv_text.proofs.state.push_runs.Goals as goal
 

@@ -1,6 +1,5 @@
-use Rattle.std.proofs.Common.{◌≡◌, ◌++◌}
+use Rattle.uv_text.proofs.Names.{◌≡◌, ◌++◌, runs_upto}
 use Rattle.uv_model.specs.After.{after}
-use Rattle.uv_text.specs.State.{runs_upto}
 use Rattle.uv_text.proofs.state.push_runs.Given as goal
 
 -- those before this one

@@ -1,7 +1,4 @@
-use Rattle.std.proofs.Common.{◌≡◌, refl, sym, ap, ◌∙◌, subst, None}
-use Rattle.uv_heap.specs.declared.entry.Entry.{Entry}
-use Rattle.uv_heap.specs.Array.{place_in}
-use Rattle.uv_timer.specs.Timers.{taken_off}
+use Rattle.uv_timer.proofs.Names.{◌≡◌, refl, sym, ap, ◌∙◌, subst, None, Entry, place_in, taken_off}
 use Rattle.uv_timer.proofs.Order.{order_none, order_one, lacks_slot}
 use Rattle.uv_timer.proofs.hook.unhook.Goals as goal
 

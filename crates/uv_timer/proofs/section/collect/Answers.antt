@@ -1,6 +1,4 @@
-use Rattle.std.proofs.Common.{sym, subst}
-use Rattle.uv_timer.specs.Timed.{timed}
-use Rattle.uv_timer.specs.Timers.{IsRescheduled, IsCollected}
+use Rattle.uv_timer.proofs.Names.{sym, subst, timed, IsRescheduled, IsCollected}
 use Rattle.uv_timer.proofs.Collected.{collected}
 use Rattle.uv_timer.proofs.section.collect.Goals as goal
 

@@ -1,6 +1,4 @@
-use Rattle.std.proofs.Common.{option_and_then, refl, ap}
-use Rattle.uv_records.specs.Slots.{id_of}
-use Rattle.uv_arena.specs.Image.{slot_at}
+use Rattle.uv_timer.proofs.Names.{option_and_then, refl, ap, id_of, slot_at}
 use Rattle.uv_timer.proofs.section.handle_in.Goals as goal
 
 pub returns-in-None-clause-none : goal.returns-in-None-clause-none

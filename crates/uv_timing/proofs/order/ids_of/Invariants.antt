@@ -1,5 +1,4 @@
-use Rattle.std.proofs.Common.{◌≡◌, take}
-use Rattle.uv_timing.specs.Section.{ids_of}
+use Rattle.uv_timing.proofs.Names.{◌≡◌, take, ids_of}
 use Rattle.uv_timing.proofs.order.ids_of.Given as goal
 
 -- those before this one

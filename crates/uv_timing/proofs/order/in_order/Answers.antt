@@ -1,7 +1,4 @@
-use Rattle.std.proofs.Common.{◌∙◌, subst, rules}
-use Rattle.std.specs.List.Sorted.{IsPermutation}
-use Rattle.std.proofs.lemmas.List.Sorted.{answers_always}
-use Rattle.uv_heap.specs.declared.entry.Entry.{Entry}
+use Rattle.uv_timing.proofs.Names.{◌∙◌, subst, rules, IsPermutation, answers_always, Entry}
 use Rattle.uv_timing.proofs.Ordered.{sorted_in_order}
 use Rattle.uv_timing.proofs.order.in_order.Goals as goal
 

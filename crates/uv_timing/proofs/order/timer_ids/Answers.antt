@@ -1,6 +1,4 @@
-use Rattle.std.proofs.Common.{sym, subst}
-use Rattle.uv_heap.specs.Order.{IsInOrder}
-use Rattle.uv_step.specs.Image.{image_of}
+use Rattle.uv_timing.proofs.Names.{sym, subst, IsInOrder, image_of}
 use Rattle.uv_timing.proofs.Ordered.{if_read}
 use Rattle.uv_timing.proofs.order.timer_ids.Goals as goal
 

@@ -1,5 +1,4 @@
-use Rattle.std.proofs.Common.{refl}
-use Rattle.std.proofs.lemmas.Result.{err_from_is_err_and}
+use Rattle.uv_engine.proofs.Names.{refl, err_from_is_err_and}
 use Rattle.uv_engine.proofs.Gathers.{one_text, one_fault}
 use Rattle.uv_engine.proofs.conversation.Conversation.perform.Goals as goal
 

@@ -1,5 +1,4 @@
-use Rattle.std.proofs.Common.{◌∙◌, sym, []}
-use Rattle.std.proofs.lemmas.Result.{err_from_is_err_and}
+use Rattle.uv_engine.proofs.Names.{◌∙◌, sym, [], err_from_is_err_and}
 use Rattle.uv_engine.proofs.Gathers.{gathered_more, gathered_by, gathered_all, cut_by, cut_here}
 use Rattle.uv_engine.proofs.Loops.{turn_on, turn_after, turn_off, off_after, no_turn, no_turn_after}
 use Rattle.uv_engine.proofs.conversation.Conversation.run_loop.Goals as goal

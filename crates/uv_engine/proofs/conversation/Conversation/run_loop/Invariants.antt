@@ -1,5 +1,4 @@
-use Rattle.std.proofs.Common.{◌≡◌, ◌-◌, ◌++◌}
-use Rattle.uv_engine.specs.Gather.{Gathered}
+use Rattle.uv_engine.proofs.Names.{◌≡◌, ◌-◌, ◌++◌, Gathered}
 use Rattle.uv_engine.specs.Reply.{loop_text, loop_after}
 use Rattle.uv_engine.proofs.conversation.Conversation.run_loop.Given as goal
 

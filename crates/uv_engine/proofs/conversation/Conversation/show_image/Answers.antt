@@ -1,8 +1,5 @@
-use Rattle.std.proofs.Common.{codes, refl}
-use Rattle.std.proofs.lemmas.Result.{err_from_is_err_and}
-use Rattle.uv_text.specs.Image.{image_text}
-use Rattle.uv_text.proofs.Showing.{is_image}
-use Rattle.uv_engine.specs.Out.{lies, refused}
+use Rattle.uv_engine.proofs.Names.{codes, refl, err_from_is_err_and, image_text, is_image, lies}
+use Rattle.uv_engine.specs.Out.{refused}
 use Rattle.uv_engine.proofs.Gathers.{one_text, one_fault}
 use Rattle.uv_engine.proofs.conversation.Conversation.show_image.Goals as goal
 

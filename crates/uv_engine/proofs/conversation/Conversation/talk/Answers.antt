@@ -1,7 +1,4 @@
-use Rattle.std.proofs.Common.{arith, ap, ◌∙◌}
-use Rattle.std.proofs.lemmas.Result.{err_from_is_err_and}
-use Rattle.uv_script.specs.Lines.{lines_of}
-use Rattle.uv_script.specs.Program.{Program}
+use Rattle.uv_engine.proofs.Names.{arith, ap, ◌∙◌, err_from_is_err_and, lines_of, Program}
 use Rattle.uv_engine.proofs.Faults.{on_ok}
 use Rattle.uv_engine.proofs.Talking.{can_write, can_answer, can_next, cut_waiting, cut_writing, cut_answer, talk_ends, talk_quits}
 use Rattle.uv_engine.proofs.conversation.Conversation.talk.Goals as goal

@@ -1,7 +1,4 @@
-use Rattle.std.proofs.Common.{◌≡◌}
-use Rattle.uv_script.specs.Lines.{lines_of}
-use Rattle.uv_engine.specs.Input.{left, size, EndIsSeen}
-use Rattle.uv_engine.specs.Taking.{SpendsBudget, SpendsGiven}
+use Rattle.uv_engine.proofs.Names.{◌≡◌, lines_of, left, size, EndIsSeen, SpendsBudget, SpendsGiven}
 use Rattle.uv_engine.proofs.Talking.{CanTalkOn}
 use Rattle.uv_engine.proofs.conversation.Conversation.talk.Given as goal
 

@@ -1,6 +1,4 @@
-use Rattle.std.proofs.Common.{◌≡◌, true}
-use Rattle.uv_engine.specs.Input.{left, size, turns_left, EndIsSeen}
-use Rattle.uv_engine.specs.Taking.{SpendsBudget, SpendsGiven}
+use Rattle.uv_engine.proofs.Names.{◌≡◌, true, left, size, turns_left, EndIsSeen, SpendsBudget, SpendsGiven}
 use Rattle.uv_engine.proofs.input.Input.next_line.Given as goal
 
 -- what is left stays

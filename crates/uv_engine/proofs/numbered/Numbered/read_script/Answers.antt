@@ -1,9 +1,6 @@
-use Rattle.std.proofs.Common.{ℕ, List, length, ap, subst, ◌∙◌, refl}
-use Rattle.uv_script.specs.Lines.{lines_of}
-use Rattle.uv_engine.specs.Start.{NoneSkipped, IsFirstSkipped, FindsSkipped}
+use Rattle.uv_engine.proofs.Names.{ℕ, List, length, ap, subst, ◌∙◌, refl, lines_of, NoneSkipped, IsFirstSkipped, FindsSkipped, err_from_is_err_and}
 use Rattle.uv_engine.proofs.Recordings.{front_bad, front_skipped}
 use Rattle.uv_engine.proofs.Replays.{front_read}
-use Rattle.std.proofs.lemmas.Result.{err_from_is_err_and}
 use Rattle.uv_engine.proofs.Faults.{no_read}
 use Rattle.uv_engine.proofs.numbered.Numbered.read_script.Goals as goal
 

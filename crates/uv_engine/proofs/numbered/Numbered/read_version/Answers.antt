@@ -1,8 +1,6 @@
-use Rattle.std.proofs.Common.{ℕ, ◌+◌, ap, sym, ◌∙◌}
-use Rattle.uv_engine.specs.Recordings.{Start}
+use Rattle.uv_engine.proofs.Names.{ℕ, ◌+◌, ap, sym, ◌∙◌, Start, err_from_is_err_and}
 use Rattle.uv_engine.proofs.Recordings.{bad_end}
 use Rattle.uv_engine.proofs.Replays.{version_read, version_bad}
-use Rattle.std.proofs.lemmas.Result.{err_from_is_err_and}
 use Rattle.uv_engine.proofs.Faults.{no_read}
 use Rattle.uv_engine.proofs.numbered.Numbered.read_version.Goals as goal
 

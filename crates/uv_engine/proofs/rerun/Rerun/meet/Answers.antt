@@ -1,7 +1,4 @@
-use Rattle.std.proofs.Common.{◌≡◌, rules, None, ap, sym, ◌∙◌}
-use Rattle.std.proofs.lemmas.Bool.{both_ways}
-use Rattle.uv_script.specs.Program.{Program}
-use Rattle.uv_text.specs.Trace.{line_text}
+use Rattle.uv_engine.proofs.Names.{◌≡◌, rules, None, ap, sym, ◌∙◌, both_ways, Program, line_text}
 use Rattle.uv_engine.proofs.Reruns.{met_other, met_past}
 use Rattle.uv_engine.proofs.rerun.Rerun.meet.Goals.{in-Some+in_ok-is_next-in-Some, in-None}
 use Rattle.uv_engine.proofs.rerun.Rerun.meet.Goals as goal

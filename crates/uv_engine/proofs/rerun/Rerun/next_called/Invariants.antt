@@ -1,5 +1,4 @@
-use Rattle.std.proofs.Common.{◌≡◌, ◌-◌, ◌≤◌, length}
-use Rattle.uv_engine.specs.Rerun.{called_from}
+use Rattle.uv_engine.proofs.Names.{◌≡◌, ◌-◌, ◌≤◌, length, called_from}
 use Rattle.uv_engine.proofs.rerun.Rerun.next_called.Given as goal
 
 -- none of the steps that were looked at calls back

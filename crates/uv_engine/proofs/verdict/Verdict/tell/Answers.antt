@@ -1,6 +1,4 @@
-use Rattle.std.proofs.Common.{List, ℕ, ◌++◌, ap, ◌∙◌}
-use Rattle.std.proofs.lemmas.Result.{err_from_is_err_and}
-use Rattle.uv_engine.specs.Verdict.{verdict_text}
+use Rattle.uv_engine.proofs.Names.{List, ℕ, ◌++◌, ap, ◌∙◌, err_from_is_err_and, verdict_text}
 use Rattle.uv_engine.proofs.Replays.{told_short}
 use Rattle.uv_engine.proofs.verdict.Verdict.tell.Goals as goal
 

@@ -1,9 +1,4 @@
-use Rattle.std.proofs.Common.{◌≡◌, ◌+◌, sym, ap, ◌∙◌, subst}
-use Rattle.uv_records.specs.Handles.{inited, keeps_alive}
-use Rattle.uv_records.specs.Count.{one_if}
-use Rattle.uv_arena.specs.Calls.{IsInserted}
-use Rattle.uv_handle.specs.Counted.{counted, Fits32}
-use Rattle.uv_handle.specs.Changes.{IsAdded}
+use Rattle.uv_handle.proofs.Names.{◌≡◌, ◌+◌, sym, ap, ◌∙◌, subst, inited, keeps_alive, one_if, IsInserted, counted, Fits32, IsAdded}
 use Rattle.uv_handle.proofs.Changed.{add_fits, added}
 use Rattle.uv_handle.proofs.handles.Handles.add.Goals as goal
 

@@ -1,8 +1,4 @@
-use Rattle.std.proofs.Common.{◌≡◌, ◌+◌, Bool, sym, ◌∙◌, subst}
-use Rattle.uv_records.specs.Count.{one_if}
-use Rattle.uv_arena.proofs.Contents.{set_done}
-use Rattle.uv_handle.specs.Counted.{counted, Fits32}
-use Rattle.uv_handle.specs.Changes.{IsChanged}
+use Rattle.uv_handle.proofs.Names.{◌≡◌, ◌+◌, Bool, sym, ◌∙◌, subst, one_if, set_done, counted, Fits32, IsChanged}
 use Rattle.uv_handle.proofs.Changed.{change_fits, changed}
 use Rattle.uv_handle.proofs.handles.Handles.change.Goals as goal
 

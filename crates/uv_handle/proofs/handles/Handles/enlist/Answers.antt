@@ -1,6 +1,4 @@
-use Rattle.std.proofs.Common.{sym, subst}
-use Rattle.uv_handle.specs.Counted.{counted}
-use Rattle.uv_handle.specs.Changes.{IsEnlisted}
+use Rattle.uv_handle.proofs.Names.{sym, subst, counted, IsEnlisted}
 use Rattle.uv_handle.proofs.Closed.{enlist_done}
 use Rattle.uv_handle.proofs.handles.Handles.enlist.Goals as goal
 

@@ -1,7 +1,4 @@
-use Rattle.std.proofs.Common.{◌≡◌, ◌+◌, ℕ, Bool, sym, subst}
-use Rattle.uv_records.specs.Count.{one_if}
-use Rattle.uv_handle.specs.Counted.{counted, Fits32}
-use Rattle.uv_handle.specs.Changes.{IsTaken}
+use Rattle.uv_handle.proofs.Names.{◌≡◌, ◌+◌, ℕ, Bool, sym, subst, one_if, counted, Fits32, IsTaken}
 use Rattle.uv_handle.proofs.Closed.{take_fits, take_done}
 use Rattle.uv_handle.proofs.handles.Handles.release.Goals as goal
 

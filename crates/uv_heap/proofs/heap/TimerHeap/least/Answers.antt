@@ -1,9 +1,5 @@
 -- The root is the least.
-use Rattle.std.proofs.Common.{◌≡◌, List, [], ◌∷◌, Some, ◌∙◌, ap, IfSome}
-use Rattle.std.specs.List.{slice_get}
-use Rattle.uv_heap.specs.declared.entry.Entry.{Entry}
-use Rattle.uv_heap.specs.Order.{IsInOrder, IsBeforeAll, NoneBefore}
-use Rattle.uv_heap.specs.Array.{IsHeap}
+use Rattle.uv_heap.proofs.Names.{◌≡◌, List, [], ◌∷◌, Some, ◌∙◌, ap, IfSome, slice_get, Entry, IsInOrder, IsBeforeAll, NoneBefore, IsHeap}
 use Rattle.uv_heap.proofs.OrderLemmas.{least_first, first_is_root, none_in_empty}
 use Rattle.uv_heap.proofs.heap.TimerHeap.least.Goals as goal
 

@@ -1,7 +1,5 @@
 -- A push keeps the heap and the order of timers, and is taken back exactly.
-use Rattle.std.proofs.Common.{◌≡◌, ℕ, List, length, ◌∙◌, ap, arith}
-use Rattle.uv_heap.specs.declared.entry.Entry.{Entry}
-use Rattle.uv_heap.specs.Array.{Heap}
+use Rattle.uv_heap.proofs.Names.{◌≡◌, ℕ, List, length, ◌∙◌, ap, arith, Entry, Heap}
 use Rattle.uv_heap.specs.Moves.{pushed}
 use Rattle.uv_heap.specs.Undo.{push_undone}
 use Rattle.uv_heap.proofs.HeapOrder.{heap_pushed}

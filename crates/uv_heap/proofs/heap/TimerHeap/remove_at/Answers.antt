@@ -1,9 +1,6 @@
 -- A removal keeps the heap and the order of timers, and is taken back exactly.
-use Rattle.std.proofs.Common.{◌≡◌, ◌<◌, ℕ, List, length, sym, ◌∙◌, ap, arith}
-use Rattle.uv_heap.specs.declared.entry.Entry.{Entry}
-use Rattle.uv_heap.specs.Array.{Heap, entry_at}
+use Rattle.uv_heap.proofs.Names.{◌≡◌, ◌<◌, ℕ, List, length, sym, ◌∙◌, ap, arith, Entry, Heap, entry_at, HeapRemoveUndo}
 use Rattle.uv_heap.specs.Moves.{removed}
-use Rattle.uv_heap.specs.declared.undo.HeapRemoveUndo.{HeapRemoveUndo}
 use Rattle.uv_heap.specs.Undo.{removal_undone}
 use Rattle.uv_heap.proofs.HeapOrder.{heap_removed}
 use Rattle.uv_heap.proofs.OrderLemmas.{order_removed}

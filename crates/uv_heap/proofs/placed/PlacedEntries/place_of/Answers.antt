@@ -1,7 +1,5 @@
 -- The stored place is where the array has the slot.
-use Rattle.std.proofs.Common.{◌≡◌, sym, ap, ◌∙◌, None, get_or, Option, ℕ, List}
-use Rattle.std.proofs.lemmas.List.{get_or_past}
-use Rattle.uv_heap.specs.Array.{Heap, place_in}
+use Rattle.uv_heap.proofs.Names.{◌≡◌, sym, ap, ◌∙◌, None, get_or, Option, ℕ, List, get_or_past, Heap, place_in}
 use Rattle.uv_heap.proofs.PlaceLemmas.{place_in_is, stored_within, stored_slot}
 use Rattle.uv_heap.proofs.placed.PlacedEntries.place_of.Goals as goal
 

@@ -1,6 +1,5 @@
 -- The last entry and its place go.
-use Rattle.std.proofs.Common.{sym, ◌∙◌, ap}
-use Rattle.uv_heap.specs.Array.{Heap}
+use Rattle.uv_heap.proofs.Names.{sym, ◌∙◌, ap, Heap}
 use Rattle.uv_heap.proofs.PlaceLemmas.{places_popped}
 use Rattle.uv_heap.proofs.placed.PlacedEntries.pop.Goals as goal
 

@@ -1,8 +1,5 @@
 -- A slot with no place has memory, and the places stay right.
-use Rattle.std.proofs.Common.{◌≡◌, sym, ◌∙◌, arith, length, None, ◌<◌, get_or, ℕ, List, Option, ap}
-use Rattle.uv_heap.specs.declared.entry.Entry.{Entry}
-use Rattle.uv_heap.specs.Array.{Heap, place_in}
-use Rattle.uv_heap.specs.Places.{ArePlaces}
+use Rattle.uv_heap.proofs.Names.{◌≡◌, sym, ◌∙◌, arith, length, None, ◌<◌, get_or, ℕ, List, Option, ap, Entry, Heap, place_in, ArePlaces}
 use Rattle.uv_heap.proofs.PlaceLemmas.{place_in_is, is_free, places_pushed}
 use Rattle.uv_heap.proofs.placed.PlacedEntries.push.Goals as goal
 

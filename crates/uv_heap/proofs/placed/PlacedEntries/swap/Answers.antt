@@ -1,9 +1,5 @@
 -- The places of both entries change.
-use Rattle.std.proofs.Common.{◌≡◌, ◌∙◌, ap, arith, length, ◌<◌}
-use Rattle.std.specs.List.{swap}
-use Rattle.std.proofs.lemmas.List.{get_or_read}
-use Rattle.std.proofs.lemmas.List.Edits.{length-swap}
-use Rattle.uv_heap.specs.Array.{Heap, entry_at, no_entry}
+use Rattle.uv_heap.proofs.Names.{◌≡◌, ◌∙◌, ap, arith, length, ◌<◌, swap, get_or_read, length-swap, Heap, entry_at, no_entry}
 use Rattle.uv_heap.proofs.Lists.{swapped_at}
 use Rattle.uv_heap.proofs.PlaceLemmas.{places_swapped}
 use Rattle.uv_heap.proofs.placed.PlacedEntries.swap.Goals as goal

@@ -1,5 +1,4 @@
-use Rattle.std.proofs.Common.{◌≡◌, ◌+◌, ℕ, subst, arith}
-use Rattle.uv_live.specs.Sending.{threads_below}
+use Rattle.uv_live.proofs.Names.{◌≡◌, ◌+◌, ℕ, subst, arith, threads_below}
 use Rattle.uv_live.proofs.outside.Outside.start.Goals as goal
 
 pub returns-clause-threads : goal.returns-clause-threads

@@ -1,5 +1,4 @@
-use Rattle.std.proofs.Common.{◌≡◌, ◌+◌}
-use Rattle.uv_live.specs.Sending.{threads_below}
+use Rattle.uv_live.proofs.Names.{◌≡◌, ◌+◌, threads_below}
 use Rattle.uv_live.proofs.outside.Outside.start.Given as goal
 
 abbrev pub invariant-threads : goal.invariant-threads

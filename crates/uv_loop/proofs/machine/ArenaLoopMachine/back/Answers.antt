@@ -1,6 +1,5 @@
-use Rattle.uv_step.specs.Image.{held, image_of}
+use Rattle.uv_loop.proofs.Names.{held, image_of, events_of}
 use Rattle.uv_loop.proofs.Courses.{course_dropped, course_shorter, drops}
-use Rattle.uv_loop.specs.Taken.{events_of}
 use Rattle.uv_loop.proofs.Told.{events_take}
 use Rattle.uv_loop.proofs.machine.ArenaLoopMachine.back.Goals as goal
 

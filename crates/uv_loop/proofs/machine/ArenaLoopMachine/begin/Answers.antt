@@ -1,7 +1,6 @@
-use Rattle.uv_step.specs.Image.{held}
+use Rattle.uv_loop.proofs.Names.{held, events_of}
 use Rattle.uv_loop.proofs.Courses.{course_new}
 use Rattle.uv_loop.proofs.Simulation.{fresh_stands}
-use Rattle.uv_loop.specs.Taken.{events_of}
 use Rattle.uv_loop.proofs.Told.{events_same}
 use Rattle.uv_loop.proofs.machine.ArenaLoopMachine.begin.Goals as goal
 

@@ -1,14 +1,6 @@
-use Rattle.std.proofs.Common.{◌≡◌, [], ◌∷◌, ◌++◌, Some, sym, ap, ◌∙◌, inl, arith}
-use Rattle.uv_ids.specs.declared.event.Event.TheVariants.{Finish}
-use Rattle.uv_ids.specs.declared.fault.Why.TheVariants.{NoWork}
-use Rattle.uv_work.specs.Requests.{job_of}
-use Rattle.uv_model.specs.Handing.{job_run}
-use Rattle.uv_step.specs.Image.{held, image_of}
-use Rattle.uv_loop.specs.Pooling.{MayFinish}
-use Rattle.uv_stands.proofs.Returning.{recorded_returns}
+use Rattle.uv_loop.proofs.Names.{◌≡◌, [], ◌∷◌, ◌++◌, Some, sym, ap, ◌∙◌, inl, arith, Finish, NoWork, job_of, job_run, held, image_of, MayFinish, recorded_returns, events_of}
 use Rattle.uv_loop.proofs.Courses.{course_moved, answers_ok, answers_memory, result_refused, asked}
 use Rattle.uv_loop.proofs.Finishes.{finish_refused, finish_may, other_refused, job_there}
-use Rattle.uv_loop.specs.Taken.{events_of}
 use Rattle.uv_loop.proofs.Told.{few_events, events_told, events_same}
 use Rattle.uv_loop.proofs.machine.ArenaLoopMachine.finish_with.Goals as goal
 

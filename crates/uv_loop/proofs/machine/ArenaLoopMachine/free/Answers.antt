@@ -1,7 +1,4 @@
-use Rattle.std.proofs.Common.{◌≡◌, ap, ◌∙◌}
-use Rattle.uv_records.specs.Slots.{Slots}
-use Rattle.uv_work.specs.declared.content.Content.{Content}
-use Rattle.uv_step.specs.Image.{held}
+use Rattle.uv_loop.proofs.Names.{◌≡◌, ap, ◌∙◌, Slots, Content, held}
 use Rattle.uv_loop.proofs.Courses.{asked}
 use Rattle.uv_loop.proofs.machine.ArenaLoopMachine.free.Goals as goal
 

@@ -1,9 +1,4 @@
-use Rattle.std.proofs.Common.{◌≡◌, ◌==◌, ap, ◌∙◌}
-use Rattle.std.specs.List.{list_any}
-use Rattle.uv_records.specs.Slots.{Slots}
-use Rattle.uv_model.specs.Queries.{is_free}
-use Rattle.uv_work.specs.declared.content.Content.{Content}
-use Rattle.uv_step.specs.Image.{held}
+use Rattle.uv_loop.proofs.Names.{◌≡◌, ◌==◌, ap, ◌∙◌, list_any, Slots, is_free, Content, held}
 use Rattle.uv_loop.proofs.Courses.{asked}
 use Rattle.uv_loop.proofs.machine.ArenaLoopMachine.is_free.Goals as goal
 

@@ -1,8 +1,5 @@
-use Rattle.std.proofs.Common.{refl, subst}
+use Rattle.uv_loop.proofs.Names.{refl, subst, ShowsAll, IsWhole, lies_for, Course}
 use Rattle.uv_model.specs.After.{after}
-use Rattle.uv_layout.specs.Laid.{ShowsAll}
-use Rattle.uv_layout.proofs.Lies.{IsWhole, lies_for}
-use Rattle.uv_loop.specs.Course.{Course}
 use Rattle.uv_loop.proofs.machine.ArenaLoopMachine.layout.Goals as goal
 
 pub returns-clause-layout : goal.returns-clause-layout

@@ -1,6 +1,5 @@
-use Rattle.std.proofs.Common.{◌≡◌, sym}
+use Rattle.uv_loop.proofs.Names.{◌≡◌, sym, held}
 use Rattle.uv_model.specs.State.{named}
-use Rattle.uv_step.specs.Image.{held}
 use Rattle.uv_loop.proofs.Courses.{asked}
 use Rattle.uv_loop.proofs.machine.ArenaLoopMachine.named.Goals as goal
 

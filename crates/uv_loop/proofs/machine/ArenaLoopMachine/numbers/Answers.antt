@@ -1,7 +1,4 @@
-use Rattle.std.proofs.Common.{◌≡◌}
-use Rattle.uv_model.specs.declared.numbers.Numbers.{Numbers}
-use Rattle.uv_model.specs.Queries.{numbers}
-use Rattle.uv_step.specs.Image.{held}
+use Rattle.uv_loop.proofs.Names.{◌≡◌, Numbers, numbers, held}
 use Rattle.uv_loop.proofs.Courses.{asked}
 use Rattle.uv_loop.proofs.machine.ArenaLoopMachine.numbers.Goals as goal
 

@@ -1,8 +1,6 @@
-use Rattle.std.proofs.Common.{◌≡◌, ◌∙◌}
-use Rattle.uv_step.specs.Image.{held}
+use Rattle.uv_loop.proofs.Names.{◌≡◌, ◌∙◌, held, place_is}
 use Rattle.uv_loop.proofs.Courses.{asked}
 use Rattle.uv_loop.proofs.machine.ArenaLoopMachine.place.Goals as goal
-use Rattle.uv_stands.proofs.Single.{place_is}
 
 pub returns : goal.returns
 returns c =

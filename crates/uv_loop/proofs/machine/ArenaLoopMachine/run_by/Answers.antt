@@ -1,9 +1,6 @@
-use Rattle.std.proofs.Common.{◌≡◌, option_and_then, slice_get, ap, ◌∙◌}
-use Rattle.uv_model.specs.Queries.{run_by}
-use Rattle.uv_step.specs.Image.{held}
+use Rattle.uv_loop.proofs.Names.{◌≡◌, option_and_then, slice_get, ap, ◌∙◌, run_by, held, running_is}
 use Rattle.uv_loop.proofs.Courses.{asked}
 use Rattle.uv_loop.proofs.machine.ArenaLoopMachine.run_by.Goals as goal
-use Rattle.uv_stands.proofs.Single.{running_is}
 
 pub returns : goal.returns
 returns c =

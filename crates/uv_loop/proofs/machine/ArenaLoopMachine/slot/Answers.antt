@@ -1,5 +1,4 @@
-use Rattle.std.proofs.Common.{◌≡◌, slice_get, sym}
-use Rattle.uv_step.specs.Image.{held}
+use Rattle.uv_loop.proofs.Names.{◌≡◌, slice_get, sym, held}
 use Rattle.uv_loop.proofs.Courses.{asked}
 use Rattle.uv_loop.proofs.machine.ArenaLoopMachine.slot.Goals as goal
 

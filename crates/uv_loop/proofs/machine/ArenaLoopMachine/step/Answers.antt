@@ -1,9 +1,6 @@
-use Rattle.std.proofs.Common.{[], ◌∷◌, ◌++◌, sym, ap, ◌∙◌, subst, arith}
-use Rattle.uv_step.specs.Image.{held, image_of}
-use Rattle.uv_loop.specs.Course.{IsCourse}
+use Rattle.uv_loop.proofs.Names.{[], ◌∷◌, ◌++◌, sym, ap, ◌∙◌, subst, arith, held, image_of, IsCourse, events_of}
 use Rattle.uv_loop.proofs.Courses.{course_moved, course_roomier, course_same, course_seen, answers_ok, answers_wanting, answers_refusing}
 use Rattle.uv_loop.proofs.Ready.{granted, course_ready, course_last, course_clear}
-use Rattle.uv_loop.specs.Taken.{events_of}
 use Rattle.uv_loop.proofs.Told.{few_events, events_told, events_same}
 use Rattle.uv_loop.proofs.machine.ArenaLoopMachine.step.Goals as goal
 

@@ -1,6 +1,4 @@
-use Rattle.std.proofs.Common.{◌≡◌}
-use Rattle.uv_model.specs.Queries.{timer_ids}
-use Rattle.uv_step.specs.Image.{held}
+use Rattle.uv_loop.proofs.Names.{◌≡◌, timer_ids, held}
 use Rattle.uv_loop.proofs.Courses.{asked_each}
 use Rattle.uv_loop.proofs.machine.ArenaLoopMachine.timers.Goals as goal
 

@@ -1,6 +1,4 @@
-use Rattle.std.proofs.Common.{◌≡◌, ◌∙◌, length}
-use Rattle.uv_layout.proofs.Same.{slots_long}
-use Rattle.uv_step.specs.Image.{held, image_of}
+use Rattle.uv_loop.proofs.Names.{◌≡◌, ◌∙◌, length, slots_long, held, image_of}
 use Rattle.uv_loop.proofs.Courses.{asked}
 use Rattle.uv_loop.proofs.machine.ArenaLoopMachine.used.Goals as goal
 

@@ -1,9 +1,6 @@
-use Rattle.std.proofs.Common.{◌≡◌, ap, ◌∙◌}
-use Rattle.uv_model.specs.Queries.{runner_from, worker_of}
-use Rattle.uv_step.specs.Image.{held}
+use Rattle.uv_loop.proofs.Names.{◌≡◌, ap, ◌∙◌, runner_from, worker_of, held, running_is}
 use Rattle.uv_loop.proofs.Courses.{asked}
 use Rattle.uv_loop.proofs.machine.ArenaLoopMachine.worker_of.Goals as goal
-use Rattle.uv_stands.proofs.Single.{running_is}
 
 pub returns : goal.returns
 returns c =

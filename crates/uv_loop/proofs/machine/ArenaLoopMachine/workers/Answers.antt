@@ -1,9 +1,6 @@
-use Rattle.std.proofs.Common.{◌≡◌, Option, List, length, ap, ◌∙◌}
-use Rattle.uv_ids.specs.declared.id.Id.{Id}
-use Rattle.uv_step.specs.Image.{held}
+use Rattle.uv_loop.proofs.Names.{◌≡◌, Option, List, length, ap, ◌∙◌, Id, held, running_is}
 use Rattle.uv_loop.proofs.Courses.{asked}
 use Rattle.uv_loop.proofs.machine.ArenaLoopMachine.workers.Goals as goal
-use Rattle.uv_stands.proofs.Single.{running_is}
 
 pub returns : goal.returns
 returns c =

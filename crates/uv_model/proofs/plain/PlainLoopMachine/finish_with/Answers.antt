@@ -1,5 +1,4 @@
-use Rattle.std.proofs.Common.{refl, arith}
-use Rattle.uv_ids.specs.declared.event.Event.TheVariants.{Finish}
+use Rattle.uv_model.proofs.Names.{refl, arith, Finish}
 use Rattle.uv_model.proofs.Kept.{stays, kept_more, answers_refused_result}
 use Rattle.uv_model.proofs.plain.PlainLoopMachine.finish_with.Goals as goal
 

@@ -1,5 +1,4 @@
-use Rattle.std.proofs.Common.{◌≡◌, ◌++◌}
-use Rattle.uv_model.specs.Queries.{timer_ids}
+use Rattle.uv_model.proofs.Names.{◌≡◌, ◌++◌, timer_ids}
 use Rattle.uv_model.proofs.state.LoopState.timer_ids.Given as goal
 
 -- those that are left stand behind those that were taken

@@ -1,5 +1,4 @@
-use Rattle.std.proofs.Common.{Ok, arith}
-use Rattle.uv_pool.specs.Held.{contents_of, hold_of}
+use Rattle.uv_pool.proofs.Names.{Ok, arith, contents_of, hold_of}
 use Rattle.uv_pool.proofs.Keeps.{finish_keeps, counted}
 use Rattle.uv_pool.proofs.book.PoolBook.finish.Goals as goal
 

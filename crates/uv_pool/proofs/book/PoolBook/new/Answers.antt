@@ -1,8 +1,4 @@
-use Rattle.std.proofs.Common.{◌+◌, Option, None, sym, subst, arith}
-use Rattle.std.proofs.lemmas.List.{length-replicate}
-use Rattle.uv_work.specs.declared.job.Job.{Job}
-use Rattle.uv_pool.specs.Book.{IsCounted}
-use Rattle.uv_pool.specs.Contents.{Contents, fresh}
+use Rattle.uv_pool.proofs.Names.{◌+◌, Option, None, sym, subst, arith, length-replicate, Job, IsCounted, Contents, fresh}
 use Rattle.uv_pool.proofs.Replays.{replays_fresh}
 use Rattle.uv_pool.proofs.book.PoolBook.new.Goals as goal
 

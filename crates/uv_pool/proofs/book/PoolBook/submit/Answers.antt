@@ -1,5 +1,4 @@
-use Rattle.std.proofs.Common.{arith}
-use Rattle.uv_pool.specs.Held.{contents_of, hold_of}
+use Rattle.uv_pool.proofs.Names.{arith, contents_of, hold_of}
 use Rattle.uv_pool.proofs.Keeps.{submit_keeps, counted}
 use Rattle.uv_pool.proofs.book.PoolBook.submit.Goals as goal
 

@@ -1,5 +1,4 @@
-use Rattle.std.proofs.Common.{rules, ◌+◌, arith, None, refl}
-use Rattle.uv_pool.specs.Held.{rows_of, place_of}
+use Rattle.uv_pool.proofs.Names.{rules, ◌+◌, arith, None, refl, rows_of, place_of}
 use Rattle.uv_pool.proofs.Found.{removed, waits_within}
 use Rattle.uv_pool.proofs.Kept.{kept_cancel}
 use Rattle.uv_pool.proofs.Results.{added_none}

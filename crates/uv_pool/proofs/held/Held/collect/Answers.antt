@@ -1,6 +1,5 @@
-use Rattle.std.proofs.Common.{rules, ◌≡◌, ◌∷◌, refl}
+use Rattle.uv_pool.proofs.Names.{rules, ◌≡◌, ◌∷◌, refl, rows_of, place_of}
 use Rattle.uv_pool.proofs.Kept.{kept_collect, kept_same}
-use Rattle.uv_pool.specs.Held.{rows_of, place_of}
 use Rattle.uv_pool.proofs.Results.{front_result, collect_clears}
 use Rattle.uv_pool.proofs.held.Held.collect.Goals as goal
 

@@ -1,6 +1,5 @@
-use Rattle.std.proofs.Common.{rules, ◌+◌, arith, Some}
+use Rattle.uv_pool.proofs.Names.{rules, ◌+◌, arith, Some, rows_of, place_of}
 use Rattle.uv_pool.proofs.Kept.{kept_finish}
-use Rattle.uv_pool.specs.Held.{rows_of, place_of}
 use Rattle.uv_pool.proofs.Results.{finish_sets}
 use Rattle.uv_pool.proofs.held.Held.finish.Goals as goal
 

@@ -1,7 +1,4 @@
-use Rattle.std.proofs.Common.{◌≡◌, Some, None, sym, ◌∙◌, false}
-use Rattle.uv_work.specs.Ids.{same_id}
-use Rattle.uv_pool.specs.Rows.{id_at}
-use Rattle.uv_pool.specs.Held.{rows_of, place_of}
+use Rattle.uv_pool.proofs.Names.{◌≡◌, Some, None, sym, ◌∙◌, false, same_id, id_at, rows_of, place_of}
 use Rattle.uv_pool.proofs.Standing.{unknown_nowhere, elsewhere_nowhere, other_id}
 use Rattle.uv_pool.proofs.held.Held.looked_up.Goals as goal
 

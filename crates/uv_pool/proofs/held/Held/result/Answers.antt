@@ -1,6 +1,4 @@
-use Rattle.std.proofs.Common.{◌≡◌, Some, sym, ◌∙◌, ap}
-use Rattle.uv_pool.specs.Held.{rows_of, place_of}
-use Rattle.uv_pool.specs.Rows.{at_number, id_of_done}
+use Rattle.uv_pool.proofs.Names.{◌≡◌, Some, sym, ◌∙◌, ap, rows_of, place_of, at_number, id_of_done}
 use Rattle.uv_pool.proofs.Found.{result_there}
 use Rattle.uv_pool.proofs.held.Held.result.Goals as goal
 

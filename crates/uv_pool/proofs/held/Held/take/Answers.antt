@@ -1,5 +1,4 @@
-use Rattle.std.proofs.Common.{rules, arith, refl}
-use Rattle.std.proofs.lemmas.Option.{slice_get_within}
+use Rattle.uv_pool.proofs.Names.{rules, arith, refl, slice_get_within}
 use Rattle.uv_pool.proofs.Kept.{kept_take, kept_same}
 use Rattle.uv_pool.proofs.held.Held.take.Goals as goal
 

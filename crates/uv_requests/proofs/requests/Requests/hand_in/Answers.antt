@@ -1,8 +1,5 @@
-use Rattle.std.proofs.Common.{sym, ap, ◌∙◌}
-use Rattle.uv_work.specs.declared.job.Job.{Job}
-use Rattle.uv_work.specs.Tasks.{text_of}
+use Rattle.uv_requests.proofs.Names.{sym, ap, ◌∙◌, Job, text_of, set_done}
 use Rattle.uv_work.specs.Digests.{digest_of}
-use Rattle.uv_arena.proofs.Contents.{set_done}
 use Rattle.uv_requests.proofs.Ending.{finish_done}
 use Rattle.uv_requests.proofs.requests.Requests.hand_in.Goals as goal
 

@@ -1,5 +1,4 @@
-use Rattle.std.proofs.Common.{◌≡◌, ap, ◌∙◌, option_and_then}
-use Rattle.uv_arena.proofs.Contents.{content_is}
+use Rattle.uv_requests.proofs.Names.{◌≡◌, ap, ◌∙◌, option_and_then, content_is}
 use Rattle.uv_requests.proofs.Collected.{collect_done}
 use Rattle.uv_requests.proofs.requests.Requests.release.Goals as goal
 

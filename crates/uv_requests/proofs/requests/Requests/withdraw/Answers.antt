@@ -1,5 +1,4 @@
-use Rattle.std.proofs.Common.{refl, ap, ◌∙◌, option_and_then}
-use Rattle.uv_arena.proofs.Contents.{set_done}
+use Rattle.uv_requests.proofs.Names.{refl, ap, ◌∙◌, option_and_then, set_done}
 use Rattle.uv_requests.proofs.Ending.{cancel_done}
 use Rattle.uv_requests.proofs.requests.Requests.withdraw.Goals as goal
 

@@ -1,5 +1,4 @@
-use Rattle.std.proofs.Common.{ℕ, List, sym, subst}
-use Rattle.uv_run.specs.Bound.{IsBound}
+use Rattle.uv_run.proofs.Names.{ℕ, List, sym, subst, IsBound}
 use Rattle.uv_run.proofs.Binding.{sent_bound}
 use Rattle.uv_run.proofs.session.LiveSessionFollower.send.Goals as goal
 

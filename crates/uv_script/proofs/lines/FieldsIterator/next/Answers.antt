@@ -1,5 +1,4 @@
-use Rattle.std.proofs.Common.{length, ap, sym, ◌∙◌, rules}
-use Rattle.uv_script.specs.Fields.{fields_left}
+use Rattle.uv_script.proofs.ProofNames.{length, ap, sym, ◌∙◌, rules, fields_left}
 use Rattle.uv_script.proofs.Cuts.{fields-cut, fields-last}
 use Rattle.uv_script.proofs.lines.FieldsIterator.next.Goals as goal
 

@@ -1,5 +1,4 @@
-use Rattle.std.proofs.Common.{◌≡◌, length, ap, sym, ◌∙◌, arith, rules}
-use Rattle.std.proofs.lemmas.Grind.{common_steps}
+use Rattle.uv_script.proofs.ProofNames.{◌≡◌, length, ap, sym, ◌∙◌, arith, rules, common_steps}
 use Rattle.uv_script.proofs.Cuts.{lines-cut, lines-rest}
 use Rattle.uv_script.proofs.lines.LinesIterator.next.Goals as goal
 

@@ -1,5 +1,4 @@
-use Rattle.std.proofs.Common.{ℕ, List, [], ◌∷◌, ◌++◌, map, Contains, ap, sym, subst, ◌∙◌}
-use Rattle.uv_script.specs.Names.{AreNames}
+use Rattle.uv_script.proofs.ProofNames.{ℕ, List, [], ◌∷◌, ◌++◌, map, Contains, ap, sym, subst, ◌∙◌, AreNames}
 use Rattle.uv_script.proofs.Fresh.{goes_last, AreNames-push}
 use Rattle.uv_script.proofs.names.Names.declare.Goals as goal
 

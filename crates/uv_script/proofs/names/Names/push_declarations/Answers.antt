@@ -1,6 +1,4 @@
-use Rattle.std.proofs.Common.{◌<◌, ◌+◌, [], ◌∷◌, ◌++◌, length, map, drop, ap, ◌∙◌, arith, append_assoc}
-use Rattle.std.specs.Prelude.{codes}
-use Rattle.uv_script.specs.Text.{name_text, var_line, lines_text}
+use Rattle.uv_script.proofs.ProofNames.{◌<◌, ◌+◌, [], ◌∷◌, ◌++◌, length, map, drop, ap, ◌∙◌, arith, append_assoc, codes, name_text, var_line, lines_text}
 use Rattle.uv_script.proofs.Texts.{name_turn}
 use Rattle.uv_script.proofs.names.Names.push_declarations.Goals as goal
 

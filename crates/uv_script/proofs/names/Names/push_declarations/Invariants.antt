@@ -1,5 +1,4 @@
-use Rattle.std.proofs.Common.{◌≡◌, ◌++◌, map, drop}
-use Rattle.uv_script.specs.Text.{var_line, lines_text}
+use Rattle.uv_script.proofs.ProofNames.{◌≡◌, ◌++◌, map, drop, var_line, lines_text}
 use Rattle.uv_script.proofs.names.Names.push_declarations.Given as goal
 
 -- what is written, with the lines that are left, is all

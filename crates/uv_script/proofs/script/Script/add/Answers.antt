@@ -1,8 +1,5 @@
-use Rattle.std.proofs.Common.{refl, subst, rules}
+use Rattle.uv_script.proofs.ProofNames.{refl, subst, rules, Declares, InCallback, Sizes, HasWorkers, Orders, HasRoom, IsReadScript, IsSaid, said}
 use Rattle.uv_script.specs.declared.statement.Statement.{Statement}
-use Rattle.uv_script.specs.Grammar.{Declares, InCallback, Sizes, HasWorkers, Orders, HasRoom, IsReadScript}
-use Rattle.uv_script.specs.Reading.{IsSaid}
-use Rattle.uv_script.specs.Said.{said}
 use Rattle.uv_script.proofs.AfterLines.{said_sound}
 use Rattle.uv_script.proofs.Kept.{uncounted_more}
 use Rattle.uv_script.proofs.script.Script.add.Goals as goal

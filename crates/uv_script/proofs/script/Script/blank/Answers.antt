@@ -1,5 +1,4 @@
-use Rattle.std.proofs.Common.{subst, rules}
-use Rattle.uv_script.specs.Grammar.{IsReadScript}
+use Rattle.uv_script.proofs.ProofNames.{subst, rules, IsReadScript}
 use Rattle.uv_script.proofs.Kept.{blank_read}
 use Rattle.uv_script.proofs.script.Script.blank.Goals as goal
 

@@ -1,5 +1,4 @@
-use Rattle.std.proofs.Common.{rules, refl, subst}
-use Rattle.uv_script.specs.Grammar.{Declares, IsReadScript}
+use Rattle.uv_script.proofs.ProofNames.{rules, refl, subst, Declares, IsReadScript}
 use Rattle.uv_script.proofs.Kept.{counted_more}
 use Rattle.uv_script.proofs.script.Script.declare.Goals as goal
 

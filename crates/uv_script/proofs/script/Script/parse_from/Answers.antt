@@ -1,6 +1,4 @@
-use Rattle.std.proofs.Common.{◌+◌, [], ◌∷◌, refl, ap, sym, ◌∙◌, subst, arith, length-append}
-use Rattle.uv_script.specs.Grammar.{Draft, ReadsAll, none, blank}
-use Rattle.uv_script.specs.Program.{Program}
+use Rattle.uv_script.proofs.ProofNames.{◌+◌, [], ◌∷◌, refl, ap, sym, ◌∙◌, subst, arith, length-append, Draft, ReadsAll, none, blank, Program}
 use Rattle.uv_script.proofs.AfterLines.{distinct_none, line_number, lines_step, reads_step, all_read, line_fault}
 use Rattle.uv_script.proofs.script.Script.parse_from.Goals as goal
 

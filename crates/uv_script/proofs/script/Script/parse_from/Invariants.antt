@@ -1,6 +1,4 @@
-use Rattle.std.proofs.Common.{◌≡◌, ◌++◌, length, map}
-use Rattle.uv_script.specs.Grammar.{ReadsAll, blank}
-use Rattle.uv_script.specs.Lines.{lines_of}
+use Rattle.uv_script.proofs.ProofNames.{◌≡◌, ◌++◌, length, map, ReadsAll, blank, lines_of}
 use Rattle.uv_script.proofs.script.Script.parse_from.Given as goal
 
 abbrev pub invariant-loop-line : goal.invariant-loop-line

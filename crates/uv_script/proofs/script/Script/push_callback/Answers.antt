@@ -1,8 +1,4 @@
-use Rattle.std.proofs.Common.{◌≡◌, ◌<◌, length, Some, arith, refl, ap, sym, ◌∙◌, subst, slice_get, unwrap_or}
-use Rattle.std.specs.Prelude.{slice_set}
-use Rattle.std.proofs.lemmas.Option.{slice_get-get_or}
-use Rattle.uv_script.specs.Grammar.{InCallback, with_statement, IsReadScript}
-use Rattle.uv_script.specs.Program.{Program, no_callbacks, with_line}
+use Rattle.uv_script.proofs.ProofNames.{◌≡◌, ◌<◌, length, Some, arith, refl, ap, sym, ◌∙◌, subst, slice_get, unwrap_or, slice_set, slice_get-get_or, InCallback, with_statement, IsReadScript, Program, no_callbacks, with_line}
 use Rattle.uv_script.proofs.Kept.{counted_more}
 use Rattle.uv_script.proofs.script.Script.push_callback.Goals as goal
 

@@ -1,5 +1,4 @@
-use Rattle.std.proofs.Common.{◌≡◌, ◌<◌, ◌+◌, ◌++◌, length, drop, ap, ◌∙◌, arith}
-use Rattle.uv_script.specs.Text.{callback_lines, lines_text}
+use Rattle.uv_script.proofs.ProofNames.{◌≡◌, ◌<◌, ◌+◌, ◌++◌, length, drop, ap, ◌∙◌, arith, callback_lines, lines_text}
 use Rattle.uv_script.proofs.Texts.{callbacks_turn, callbacks_end}
 use Rattle.uv_script.proofs.script.Script.push_callbacks.Goals as goal
 

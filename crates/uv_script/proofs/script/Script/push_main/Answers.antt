@@ -1,5 +1,4 @@
-use Rattle.std.proofs.Common.{rules, refl, subst}
-use Rattle.uv_script.specs.Grammar.{InMain, IsReadScript}
+use Rattle.uv_script.proofs.ProofNames.{rules, refl, subst, InMain, IsReadScript}
 use Rattle.uv_script.proofs.Kept.{counted_more}
 use Rattle.uv_script.proofs.script.Script.push_main.Goals as goal
 

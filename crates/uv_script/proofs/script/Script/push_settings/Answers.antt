@@ -1,6 +1,4 @@
-use Rattle.std.proofs.Common.{[], ◌∷◌, ◌++◌, ap, ◌∙◌}
-use Rattle.uv_script.specs.Program.{arena_size, worker_count, order_of}
-use Rattle.uv_script.specs.Text.{order_line, workers_line, slots_line}
+use Rattle.uv_script.proofs.ProofNames.{[], ◌∷◌, ◌++◌, ap, ◌∙◌, arena_size, worker_count, order_of, order_line, workers_line, slots_line}
 use Rattle.uv_script.proofs.Texts.{three_lines}
 use Rattle.uv_script.proofs.script.Script.push_settings.Goals as goal
 

@@ -1,7 +1,5 @@
-use Rattle.std.proofs.Common.{ap, sym, ◌∙◌}
-use Rattle.uv_script.specs.Lines.{fields_of}
+use Rattle.uv_script.proofs.ProofNames.{ap, sym, ◌∙◌, fields_of, said}
 use Rattle.uv_script.specs.Reading.{statement_of}
-use Rattle.uv_script.specs.Said.{said}
 use Rattle.uv_script.proofs.Agrees.{statement_sound}
 use Rattle.uv_script.proofs.Checks.{is_line_decides}
 use Rattle.uv_script.proofs.script.Script.read_line.Goals as goal

@@ -1,5 +1,4 @@
-use Rattle.std.proofs.Common.{arith}
-use Rattle.std.proofs.lemmas.Grind.{common_steps}
+use Rattle.uv_session.proofs.Names.{arith, common_steps}
 use Rattle.uv_session.proofs.Moves.{moved_more}
 use Rattle.uv_session.proofs.session.Session.back.Goals as goal
 

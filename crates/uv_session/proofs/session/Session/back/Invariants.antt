@@ -1,5 +1,4 @@
-use Rattle.std.proofs.Common.{◌≡◌, ◌≤◌, length}
-use Rattle.uv_session.specs.Shown.{moved_back}
+use Rattle.uv_session.proofs.Names.{◌≡◌, ◌≤◌, length, moved_back}
 use Rattle.uv_session.proofs.session.Session.back.Given as goal
 
 abbrev pub invariant-loop : goal.invariant-loop

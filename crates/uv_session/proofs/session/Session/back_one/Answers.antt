@@ -1,5 +1,4 @@
-use Rattle.std.proofs.Common.{◌<◌, arith}
-use Rattle.std.proofs.lemmas.Grind.{common_steps}
+use Rattle.uv_session.proofs.Names.{◌<◌, arith, common_steps}
 use Rattle.uv_session.proofs.Moves.{split_moved}
 use Rattle.uv_session.proofs.session.Session.back_one.Goals as goal
 

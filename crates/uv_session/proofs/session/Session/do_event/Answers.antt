@@ -1,6 +1,4 @@
-use Rattle.std.proofs.Common.{take, arith}
-use Rattle.std.proofs.lemmas.Grind.{common_steps}
-use Rattle.uv_model.proofs.Runs.{accepts-push, accepts-take}
+use Rattle.uv_session.proofs.Names.{take, arith, common_steps, accepts-push, accepts-take}
 use Rattle.uv_session.proofs.session.Session.do_event.Goals as goal
 
 pub invariant_of-self-2 : goal.invariant_of-self-2

@@ -1,8 +1,4 @@
-use Rattle.std.proofs.Common.{take, refl, arith, length-take}
-use Rattle.std.proofs.lemmas.Grind.{common_steps}
-use Rattle.std.proofs.lemmas.Result.{err_from_is_err_and}
-use Rattle.uv_model.proofs.Runs.{accepts-push, accepts-take}
-use Rattle.uv_ids.specs.declared.event.Event.TheVariants.{Finish}
+use Rattle.uv_session.proofs.Names.{take, refl, arith, length-take, common_steps, err_from_is_err_and, accepts-push, accepts-take, Finish}
 use Rattle.uv_session.proofs.Handed.{responds_err}
 use Rattle.uv_session.proofs.session.Session.finish_with.Goals as goal
 

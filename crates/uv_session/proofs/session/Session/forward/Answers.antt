@@ -1,5 +1,4 @@
-use Rattle.std.proofs.Common.{arith}
-use Rattle.std.proofs.lemmas.Grind.{common_steps}
+use Rattle.uv_session.proofs.Names.{arith, common_steps}
 use Rattle.uv_session.proofs.Moves.{forward_more}
 use Rattle.uv_session.proofs.session.Session.forward.Goals as goal
 

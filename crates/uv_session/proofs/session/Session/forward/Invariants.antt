@@ -1,5 +1,4 @@
-use Rattle.std.proofs.Common.{◌≡◌, ◌≤◌, length}
-use Rattle.uv_session.specs.Moving.{moved_forward}
+use Rattle.uv_session.proofs.Names.{◌≡◌, ◌≤◌, length, moved_forward}
 use Rattle.uv_session.proofs.session.Session.forward.Given as goal
 
 abbrev pub invariant-loop : goal.invariant-loop

@@ -1,8 +1,6 @@
-use Rattle.std.proofs.Common.{◌<◌, length, arith}
-use Rattle.std.proofs.lemmas.Grind.{common_steps}
-use Rattle.uv_model.specs.After.{STEPS, after, IsMove}
+use Rattle.uv_session.proofs.Names.{◌<◌, length, arith, common_steps, STEPS, IsMove, accepts-at, only_memory}
+use Rattle.uv_model.specs.After.{after}
 use Rattle.uv_model.specs.Next.{next}
-use Rattle.uv_model.proofs.Runs.{accepts-at, only_memory}
 use Rattle.uv_session.proofs.session.Session.forward_one.Goals as goal
 
 pub returns-in-Err-clause-err : goal.returns-in-Err-clause-err

@@ -1,5 +1,4 @@
-use Rattle.std.proofs.Common.{◌≤◌, length}
-use Rattle.uv_session.specs.Moving.{NoneFrom}
+use Rattle.uv_session.proofs.Names.{◌≤◌, length, NoneFrom}
 use Rattle.uv_session.proofs.session.Session.last_break.Given as goal
 
 -- none from this step on matches

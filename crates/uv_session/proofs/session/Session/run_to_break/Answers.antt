@@ -1,6 +1,4 @@
-use Rattle.std.proofs.Common.{◌-◌, ◌<◌, ◌∙◌, ap, arith}
-use Rattle.std.proofs.lemmas.Grind.{common_steps}
-use Rattle.uv_session.specs.Shown.{Shown}
+use Rattle.uv_session.proofs.Names.{◌-◌, ◌<◌, ◌∙◌, ap, arith, common_steps, Shown}
 use Rattle.uv_session.proofs.Stopping.{at_break, at_end, goes_on, is_done}
 use Rattle.uv_session.proofs.session.Session.run_to_break.Goals as goal
 

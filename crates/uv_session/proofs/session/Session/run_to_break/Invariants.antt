@@ -1,8 +1,4 @@
-use Rattle.std.proofs.Common.{◌-◌, Result}
-use Rattle.uv_ids.specs.declared.fault.Fault.{Fault}
-use Rattle.uv_session.specs.declared.breaks.Stop.{Stop}
-use Rattle.uv_session.specs.Shown.{Shown}
-use Rattle.uv_session.specs.Moving.{RunsTo}
+use Rattle.uv_session.proofs.Names.{◌-◌, Result, Fault, Stop, Shown, RunsTo}
 use Rattle.uv_session.proofs.session.Session.run_to_break.Given as goal
 
 -- however the rest of the run ends, the whole run ends so

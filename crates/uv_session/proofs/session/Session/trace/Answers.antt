@@ -1,5 +1,4 @@
-use Rattle.std.proofs.Common.{◌≤◌, ◌-◌, length, arith, ◌∙◌}
-use Rattle.std.proofs.lemmas.Grind.{common_steps}
+use Rattle.uv_session.proofs.Names.{◌≤◌, ◌-◌, length, arith, ◌∙◌, common_steps}
 use Rattle.uv_session.proofs.Traces.{those_all, is_documented, is_once, is_legal}
 use Rattle.uv_session.proofs.session.Session.trace.Goals as goal
 

@@ -1,13 +1,4 @@
-use Rattle.std.proofs.Common.{None, ap, subst}
-use Rattle.uv_records.specs.declared.handle.HandleRecord.{HandleRecord}
-use Rattle.uv_timer.specs.Changes.{becoming}
-use Rattle.uv_timer.specs.Timed.{timed}
-use Rattle.uv_timer.specs.Timers.{IsRescheduled}
-use Rattle.uv_work.specs.declared.content.Content.TheVariants.{Handle}
-use Rattle.uv_step.specs.View.{kept}
-use Rattle.uv_step.specs.Record.{Record}
-use Rattle.uv_work.specs.Content.{handle_of}
-use Rattle.uv_step.specs.Image.{image_of, timed_of}
+use Rattle.uv_step.proofs.Names.{None, ap, subst, HandleRecord, becoming, timed, IsRescheduled, Handle, kept, Record, handle_of, image_of, timed_of}
 use Rattle.uv_step.proofs.Steps.{shut}
 use Rattle.uv_step.proofs.memory.Memory.close.Goals as goal
 

@@ -1,7 +1,4 @@
-use Rattle.std.proofs.Common.{◌+◌, arith}
-use Rattle.std.proofs.lemmas.Grind.{common_steps}
-use Rattle.uv_step.specs.View.{kept}
-use Rattle.uv_step.specs.Image.{image_of}
+use Rattle.uv_step.proofs.Names.{◌+◌, arith, common_steps, kept, image_of}
 use Rattle.uv_step.proofs.Rows.{called}
 use Rattle.uv_step.proofs.memory.Memory.count_call.Goals as goal
 

@@ -1,5 +1,4 @@
-use Rattle.uv_step.specs.View.{kept}
-use Rattle.uv_step.specs.Image.{image_of, counted_of}
+use Rattle.uv_step.proofs.Names.{kept, image_of, counted_of}
 use Rattle.uv_step.proofs.Steps.{freed, freed_does}
 use Rattle.uv_step.proofs.memory.Memory.end_handle.Goals as goal
 

@@ -1,5 +1,4 @@
-use Rattle.uv_step.specs.View.{kept}
-use Rattle.uv_step.specs.Image.{image_of}
+use Rattle.uv_step.proofs.Names.{kept, image_of}
 use Rattle.uv_step.proofs.Steps.{queued}
 use Rattle.uv_step.proofs.memory.Memory.queue.Goals as goal
 

@@ -1,5 +1,4 @@
-use Rattle.uv_step.specs.View.{kept}
-use Rattle.uv_step.specs.Image.{image_of}
+use Rattle.uv_step.proofs.Names.{kept, image_of}
 use Rattle.uv_step.proofs.Steps.{rescheduled}
 use Rattle.uv_step.proofs.memory.Memory.reschedule.Goals as goal
 

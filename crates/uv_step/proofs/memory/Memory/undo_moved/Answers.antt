@@ -1,5 +1,4 @@
-use Rattle.std.proofs.Common.{subst, rules}
-use Rattle.uv_step.specs.Fit.{IsFit}
+use Rattle.uv_step.proofs.Names.{subst, rules, IsFit}
 use Rattle.uv_step.proofs.memory.Memory.undo_moved.Goals as goal
 
 pub invariant_of-self : goal.invariant_of-self

@@ -1,7 +1,4 @@
-use Rattle.std.proofs.Common.{ap, sym, subst, refl}
-use Rattle.uv_step.specs.Fit.{IsFit}
-use Rattle.uv_step.specs.Image.{image_of}
-use Rattle.uv_step.specs.View.{kept}
+use Rattle.uv_step.proofs.Names.{ap, sym, subst, refl, IsFit, image_of, kept}
 use Rattle.uv_step.proofs.Rows.{unwound_by}
 use Rattle.uv_step.proofs.memory.Memory.unwind.Goals as goal
 

@@ -1,7 +1,4 @@
-use Rattle.std.proofs.Common.{subst}
-use Rattle.uv_step.specs.View.{kept}
-use Rattle.uv_step.specs.Does.{FirstIs}
-use Rattle.uv_step.specs.Image.{image_of}
+use Rattle.uv_step.proofs.Names.{subst, kept, FirstIs, image_of}
 use Rattle.uv_step.proofs.Steps.{walked}
 use Rattle.uv_step.proofs.memory.Memory.walk.Goals as goal
 

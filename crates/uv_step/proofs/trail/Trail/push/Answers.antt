@@ -13,7 +13,7 @@ returns-in-Small-clause-records g c =
     small_records c.self.inside.rows.items c.push_reserved.new.self.items c.self.inside.smalls.items c.self.inside.mediums.items
     c.self.inside.larges.items
     c.push_reserved-in-Small.new.self.items c.entry.result row.Smalls c.args.last.now c.push_reserved.ensures.items refl
-    c.push_reserved-in-Small.ensures.items (small_kept c.kept-record.result c.entry.result c.in-Small.change c.args.last.now c.entry.ensures
+    c.push_reserved-in-Small.ensures.items (small_kept c.kept-record.result.now c.entry.result c.in-Small.change c.args.last.now c.entry.ensures
     c.in-Small.is c.kept-record.ensures)
     c.self.invariant ∙ ap (λ t. t.records ++ c.args.last.now ∷ []) c.self.view_is
 
@@ -28,7 +28,7 @@ returns-in-Medium-clause-records g c =
     medium_records c.self.inside.rows.items c.push_reserved-in-Medium.new.self.items c.self.inside.smalls.items c.self.inside.mediums.items
     c.self.inside.larges.items
     c.push_reserved-in-Medium-2.new.self.items c.entry-in-Medium.result row.Mediums c.args.last.now c.push_reserved-in-Medium.ensures.items refl
-    c.push_reserved-in-Medium-2.ensures.items (medium_kept c.kept-record.result c.entry-in-Medium.result c.in-Medium.change c.args.last.now
+    c.push_reserved-in-Medium-2.ensures.items (medium_kept c.kept-record.result.now c.entry-in-Medium.result c.in-Medium.change c.args.last.now
     c.entry-in-Medium.ensures c.in-Medium.is c.kept-record.ensures)
     c.self.invariant ∙ ap (λ t. t.records ++ c.args.last.now ∷ []) c.self.view_is
 
@@ -43,6 +43,6 @@ returns-in-Large-clause-records g c =
     large_records c.self.inside.rows.items c.push_reserved-in-Large.new.self.items c.self.inside.smalls.items c.self.inside.mediums.items
     c.self.inside.larges.items
     c.push_reserved-in-Large-2.new.self.items c.entry-in-Large.result row.Larges c.args.last.now c.push_reserved-in-Large.ensures.items refl
-    c.push_reserved-in-Large-2.ensures.items (large_kept c.kept-record.result c.entry-in-Large.result c.in-Large.change c.args.last.now
+    c.push_reserved-in-Large-2.ensures.items (large_kept c.kept-record.result.now c.entry-in-Large.result c.in-Large.change c.args.last.now
     c.entry-in-Large.ensures c.in-Large.is c.kept-record.ensures)
     c.self.invariant ∙ ap (λ t. t.records ++ c.args.last.now ∷ []) c.self.view_is

@@ -1,0 +1,85 @@
+//! Lines whose words are also names.
+
+use std::test::Fail;
+use uv_asking::{Part, Question, Said, read_part};
+use uv_ids::{Code, Phase, Var};
+use uv_script::{Names, Script};
+
+/// What a line says.
+#[derive(Clone, Copy)]
+enum Says {
+    Asks(Question),
+    Clock(u64),
+    States(u32),
+    Calls(u32, u32),
+    Bad,
+}
+
+/// The names `call`, `before`, `clock`, `states`, `of`, `stuck` and `x`, from 0.
+const NAMES: &[u8] = b"var call\nvar before\nvar clock\nvar states\nvar of\nvar stuck\nvar x\n";
+
+const LINES: [(&[u8], Says); 20] = [
+    (b"find call x", Says::Asks(Question::Call(Var(6), None))),
+    (
+        b"find call x 3",
+        Says::Asks(Question::Call(Var(6), Some(3))),
+    ),
+    (b"find call x 0", Says::Bad),
+    (
+        b"find call before",
+        Says::Asks(Question::Call(Var(1), None)),
+    ),
+    (
+        b"find call before x",
+        Says::Asks(Question::Before(Var(0), Var(6))),
+    ),
+    (b"find call before 2", Says::Bad),
+    (b"find late before 2", Says::Bad),
+    (
+        b"find before before before",
+        Says::Asks(Question::Before(Var(1), Var(1))),
+    ),
+    (b"find late x 0", Says::Asks(Question::Late(Var(6), 0))),
+    (b"find never before", Says::Asks(Question::Never(Var(1)))),
+    (b"find stuck", Says::Asks(Question::Stuck)),
+    (
+        b"find code ok of of",
+        Says::Asks(Question::Code(Code::Ok, Some(Var(4)))),
+    ),
+    (
+        b"find code EFULL",
+        Says::Asks(Question::Code(Code::Efull, None)),
+    ),
+    (b"find section poll", Says::Asks(Question::Poll)),
+    (
+        b"find section timers",
+        Says::Asks(Question::Section(Phase::Timers)),
+    ),
+    (b"most clock 5", Says::Clock(5)),
+    (b"most states 5", Says::States(5)),
+    (b"most states 0", Says::Bad),
+    (b"most call 0", Says::Calls(0, 0)),
+    (b"may wait 1", Says::Bad),
+];
+
+fn is_said(names: &Names, line: &[u8], says: Says) -> bool {
+    match (read_part(names, line), says) {
+        (Said::One(Part::Finds(found)), Says::Asks(question)) => found == question,
+        (Said::One(Part::Clock(found)), Says::Clock(ms)) => found == ms,
+        (Said::One(Part::States(found)), Says::States(states)) => found == states,
+        (Said::One(Part::Calls(found)), Says::Calls(name, calls)) => {
+            found.name.0 == name && found.calls == calls
+        }
+        (Said::Bad, Says::Bad) => true,
+        _ => false,
+    }
+}
+
+#[test]
+fn a_line_says_one_thing_also_where_its_words_are_names(rt: HostRuntime) -> Result<(), Fail> {
+    let script = Script::parse(rt.alloc(), NAMES)?;
+    for (line, says) in LINES {
+        assert!(rt; is_said(script.names(), line, says));
+    }
+    Ok(())
+}

@@ -1,0 +1,333 @@
+-- The tests of the code decide what a line says.
+use Rattle.std.proofs.Common.{if◌then◌else◌, Bool, ◌≡◌, ℕ, List, [], ◌∷◌, true, false, Option, Some, None, option_map, codes, refl, ap, sym, ◌∙◌}
+use Rattle.std.specs.Str.{bytes_eq}
+use Rattle.std.proofs.lemmas.Bool.{cond_both, both_ways}
+use Rattle.std.proofs.lemmas.Slice.Eq.{bytes_eq-Decides}
+use Rattle.uv_ids.specs.declared.id.Var.{Var}
+use Rattle.uv_ids.specs.declared.code.Code.{Code}
+use Rattle.uv_ids.specs.declared.event.Event.TheVariants as event
+use Rattle.uv_ids.specs.declared.phase.Phase.{Phase}
+use Rattle.uv_ids.specs.declared.phase.Phase.TheVariants as phase
+use Rattle.uv_ids.specs.Words.{code_word, phase_word}
+use Rattle.uv_script.specs.Lines.{fields_of}
+use Rattle.uv_script.specs.Words.{IsDeclared}
+use Rattle.uv_script.specs.Checks.{is_line, is_skipped}
+use Rattle.uv_script.specs.Reading.{place_of}
+use Rattle.uv_script.proofs.Agrees.{AreDistinct}
+use Rattle.uv_script.proofs.AfterLines.{line_begins}
+use Rattle.uv_script.proofs.Checks.{is_line_decides, is_skipped_decides}
+use Rattle.uv_script.proofs.KindWords.{choice_other}
+use Rattle.uv_asking.specs.declared.asking.Offer.{Offer}
+use Rattle.uv_asking.specs.declared.asking.Offer.TheVariants.{Step}
+use Rattle.uv_asking.specs.declared.asking.Question.{Question}
+use Rattle.uv_asking.specs.declared.asking.Question.TheVariants as question
+use Rattle.uv_asking.specs.declared.part.Part.{Part}
+use Rattle.uv_asking.specs.declared.part.Part.TheVariants.{Offers, Clock, Calls, States, Finds}
+use Rattle.uv_asking.specs.declared.part.Said.{Said}
+use Rattle.uv_asking.specs.declared.part.Said.TheVariants.{Nothing, Bad}
+use Rattle.uv_asking.specs.Limits.{MOST_COUNT, MOST_MS}
+use Rattle.uv_asking.specs.Grammar as is
+use Rattle.uv_asking.specs.Grammar.{IsWithin, IsOffer, IsQuestion, IsPart, IsNoPart, Says, nothing, one, bad}
+use Rattle.uv_asking.specs.Tests.{code_of, phase_of, number_in, offer_of, times_of, waits, may_of, calls_of, bound_of, most_of, stuck_of, section_of, plain_of, nth_call_of, late_of, numbered_of, before_of, three_of, code_name_of, four_of, question_of, part_by, part_of, said_by, said_of}
+use Rattle.uv_asking.proofs.Found.{Has, mapped, bound, Found, sure, found_is, found_map, found_both}
+use Rattle.uv_asking.proofs.FieldWords.{same, code_right, code_found, phase_right, number_right, number_found, place_right, place_found}
+
+-- ---- what is found is so
+
+-- fields, by their words
+alone : {word first : List ℕ} → word ≡ first → word ∷ [] ≡ first ∷ []
+alone e = ap (λ (w : List ℕ). w ∷ []) e
+
+front : {word first : List ℕ} (rest : List (List ℕ)) → word ≡ first → word ∷ rest ≡ first ∷ rest
+front rest e = ap (λ (w : List ℕ). w ∷ rest) e
+
+two : {a b word second : List ℕ} (rest : List (List ℕ)) → a ≡ word → b ≡ second → a ∷ b ∷ rest ≡ word ∷ second ∷ rest
+two {a} {b} {word} {second} rest e f = front (b ∷ rest) e ∙ ap (λ (w : List ℕ). word ∷ w ∷ rest) f
+
+offer_right : (names : List (List ℕ)) (what argument : List ℕ) → Has (IsOffer names what argument) (offer_of names what argument)
+unfolding offer_of
+offer_right names what argument =
+    let P : Option Offer → Type 0 = Has (IsOffer names what argument) in
+    cond_both (bytes_eq what (codes "send")) _ _ P
+    (λ a. mapped (IsDeclared names argument) (IsOffer names what argument) _ (place_of names argument) (place_right names argument)
+    (λ v h. is.send v (same _ _ a) h))
+    (λ _. cond_both (bytes_eq what (codes "cancel")) _ _ P
+    (λ a. mapped (IsDeclared names argument) (IsOffer names what argument) _ (place_of names argument) (place_right names argument)
+    (λ v h. is.cancel v (same _ _ a) h))
+    (λ _. cond_both (bytes_eq what (codes "tick")) _ _ P
+    (λ a. mapped (IsWithin 1 MOST_MS argument) (IsOffer names what argument) _ (number_in 1 MOST_MS argument) (number_right 1 MOST_MS argument)
+    (λ ms h. is.tick ms (same _ _ a) h)) (λ _. tt)))
+
+times_right : (names : List (List ℕ)) (word what argument times : List ℕ) → word ≡ codes "may" →
+    Has (IsPart names (word ∷ what ∷ argument ∷ times ∷ [])) (times_of names what argument times)
+unfolding times_of
+times_right names word what argument times w =
+    let P = IsPart names (word ∷ what ∷ argument ∷ times ∷ []) in
+    bound (IsOffer names what argument) P _ (offer_of names what argument) (offer_right names what argument)
+    (λ o h. mapped (IsWithin 1 MOST_COUNT times) P _ (number_in 1 MOST_COUNT times) (number_right 1 MOST_COUNT times)
+    (λ n k. is.may what argument o times n (front _ w) h k))
+
+waits_right : (names : List (List ℕ)) (word what : List ℕ) → word ≡ codes "may" → Has (IsPart names (word ∷ what ∷ [])) (waits what)
+unfolding waits
+waits_right names word what w =
+    cond_both (bytes_eq what (codes "wait")) _ _ (Has (IsPart names (word ∷ what ∷ []))) (λ a. is.may_wait (two [] w (same _ _ a))) (λ _. tt)
+
+may_right : (names : List (List ℕ)) (word : List ℕ) (rest : List (List ℕ)) → word ≡ codes "may" → Has (IsPart names (word ∷ rest)) (may_of names rest)
+may_right names word [] w = tt
+may_right names word (what ∷ []) w = waits_right names word what w
+may_right names word (what ∷ argument ∷ []) w = tt
+may_right names word (what ∷ argument ∷ times ∷ []) w = times_right names word what argument times w
+may_right names word (what ∷ argument ∷ times ∷ more ∷ rest) w = tt
+
+-- what a word isn't
+differs : (a b : List ℕ) → bytes_eq a b ≡ false → a ≡ b → ⊥
+differs a b e h = both_ways _ e ((bytes_eq-Decides a b).1 h)
+
+bound_right : (names : List (List ℕ)) (word what number : List ℕ) → word ≡ codes "most" →
+    Has (IsPart names (word ∷ what ∷ number ∷ [])) (bound_of names what number)
+unfolding bound_of calls_of
+bound_right names word what number w =
+    let P = IsPart names (word ∷ what ∷ number ∷ []) in
+    cond_both (bytes_eq what (codes "clock")) _ _ (Has P)
+    (λ a. mapped (IsWithin 0 MOST_MS number) P _ (number_in 0 MOST_MS number) (number_right 0 MOST_MS number)
+    (λ ms h. is.most_clock number ms (two _ w (same _ _ a)) h))
+    (λ c. cond_both (bytes_eq what (codes "states")) _ _ (Has P)
+    (λ a. mapped (IsWithin 1 MOST_COUNT number) P _ (number_in 1 MOST_COUNT number) (number_right 1 MOST_COUNT number)
+    (λ n h. is.most_states number n (two _ w (same _ _ a)) h))
+    (λ s. bound (IsDeclared names what) P _ (place_of names what) (place_right names what)
+    (λ v h. mapped (IsWithin 0 MOST_COUNT number) P _ (number_in 0 MOST_COUNT number) (number_right 0 MOST_COUNT number)
+    (λ n k. is.most_calls what v number n (front _ w) (differs what _ c) (differs what _ s) h k))))
+
+most_right : (names : List (List ℕ)) (word : List ℕ) (rest : List (List ℕ)) → word ≡ codes "most" →
+    Has (IsPart names (word ∷ rest)) (most_of names rest)
+most_right names word [] w = tt
+most_right names word (what ∷ []) w = tt
+most_right names word (what ∷ number ∷ []) w = bound_right names word what number w
+most_right names word (what ∷ number ∷ more ∷ rest) w = tt
+
+stuck_right : (names : List (List ℕ)) (what : List ℕ) → Has (IsQuestion names (what ∷ [])) (stuck_of what)
+unfolding stuck_of
+stuck_right names what =
+    cond_both (bytes_eq what (codes "stuck")) _ _ (Has (IsQuestion names (what ∷ []))) (λ a. is.stuck (alone (same _ _ a))) (λ _. tt)
+
+section_right : (names : List (List ℕ)) (what word : List ℕ) → what ≡ codes "section" → Has (IsQuestion names (what ∷ word ∷ [])) (section_of word)
+unfolding section_of
+section_right names what word w =
+    let P = IsQuestion names (what ∷ word ∷ []) in
+    cond_both (bytes_eq word (codes "poll")) _ _ (Has P) (λ a. is.poll (two [] w (same _ _ a)))
+    (λ _. mapped (λ (x : Phase). word ≡ phase_word x) P _ (phase_of word) (phase_right word) (λ x h. is.section x (two [] w h)))
+
+plain_right : (names : List (List ℕ)) (what argument : List ℕ) → Has (IsQuestion names (what ∷ argument ∷ [])) (plain_of names what argument)
+unfolding plain_of
+plain_right names what argument =
+    let P = IsQuestion names (what ∷ argument ∷ []) in
+    cond_both (bytes_eq what (codes "call")) _ _ (Has P)
+    (λ a. mapped (IsDeclared names argument) P _ (place_of names argument) (place_right names argument)
+    (λ v h. is.call argument v (front _ (same _ _ a)) h))
+    (λ _. cond_both (bytes_eq what (codes "code")) _ _ (Has P)
+    (λ a. mapped (λ (c : Code). argument ≡ code_word c) P _ (code_of argument) (code_right argument) (λ c h. is.code c (two [] (same _ _ a) h)))
+    (λ _. cond_both (bytes_eq what (codes "section")) _ _ (Has P) (λ a. section_right names what argument (same _ _ a))
+    (λ _. cond_both (bytes_eq what (codes "never")) _ _ (Has P)
+    (λ a. mapped (IsDeclared names argument) P _ (place_of names argument) (place_right names argument)
+    (λ v h. is.never argument v (front _ (same _ _ a)) h)) (λ _. tt))))
+
+nth_call_right : (names : List (List ℕ)) (what name number : List ℕ) → what ≡ codes "call" → (name ≡ codes "before" → ⊥) →
+    Has (IsQuestion names (what ∷ name ∷ number ∷ [])) (nth_call_of names name number)
+unfolding nth_call_of
+nth_call_right names what name number w other =
+    let P = IsQuestion names (what ∷ name ∷ number ∷ []) in
+    bound (IsDeclared names name) P _ (place_of names name) (place_right names name)
+    (λ v h. mapped (IsWithin 1 MOST_COUNT number) P _ (number_in 1 MOST_COUNT number) (number_right 1 MOST_COUNT number)
+    (λ n k. is.nth_call name v number n (front _ w) other h k))
+
+late_right : (names : List (List ℕ)) (what name number : List ℕ) → what ≡ codes "late" → (name ≡ codes "before" → ⊥) →
+    Has (IsQuestion names (what ∷ name ∷ number ∷ [])) (late_of names name number)
+unfolding late_of
+late_right names what name number w other =
+    let P = IsQuestion names (what ∷ name ∷ number ∷ []) in
+    bound (IsDeclared names name) P _ (place_of names name) (place_right names name)
+    (λ v h. mapped (IsWithin 0 MOST_MS number) P _ (number_in 0 MOST_MS number) (number_right 0 MOST_MS number)
+    (λ ms k. is.late name v number ms (front _ w) other h k))
+
+numbered_right : (names : List (List ℕ)) (what name number : List ℕ) → (name ≡ codes "before" → ⊥) →
+    Has (IsQuestion names (what ∷ name ∷ number ∷ [])) (numbered_of names what name number)
+unfolding numbered_of
+numbered_right names what name number other =
+    let P = IsQuestion names (what ∷ name ∷ number ∷ []) in
+    cond_both (bytes_eq what (codes "call")) _ _ (Has P) (λ a. nth_call_right names what name number (same _ _ a) other)
+    (λ _. cond_both (bytes_eq what (codes "late")) _ _ (Has P) (λ a. late_right names what name number (same _ _ a) other) (λ _. tt))
+
+before_right : (names : List (List ℕ)) (first middle second : List ℕ) → middle ≡ codes "before" →
+    Has (IsQuestion names (first ∷ middle ∷ second ∷ [])) (before_of names first second)
+unfolding before_of
+before_right names first middle second w =
+    let P = IsQuestion names (first ∷ middle ∷ second ∷ []) in
+    bound (IsDeclared names first) P _ (place_of names first) (place_right names first)
+    (λ v h. mapped (IsDeclared names second) P _ (place_of names second) (place_right names second)
+    (λ u k. is.before first v second u (ap (λ (x : List ℕ). first ∷ x ∷ second ∷ []) w) h k))
+
+three_right : (names : List (List ℕ)) (first second third : List ℕ) →
+    Has (IsQuestion names (first ∷ second ∷ third ∷ [])) (three_of names first second third)
+unfolding three_of
+three_right names first second third =
+    cond_both (bytes_eq second (codes "before")) _ _ (Has (IsQuestion names (first ∷ second ∷ third ∷ [])))
+    (λ a. before_right names first second third (same _ _ a)) (λ o. numbered_right names first second third (differs second _ o))
+
+code_name_right : (names : List (List ℕ)) (what word of name : List ℕ) → what ≡ codes "code" → of ≡ codes "of" →
+    Has (IsQuestion names (what ∷ word ∷ of ∷ name ∷ [])) (code_name_of names word name)
+unfolding code_name_of
+code_name_right names what word of name w o =
+    let P = IsQuestion names (what ∷ word ∷ of ∷ name ∷ []) in
+    bound (λ (c : Code). word ≡ code_word c) P _ (code_of word) (code_right word)
+    (λ c h. mapped (IsDeclared names name) P _ (place_of names name) (place_right names name)
+    (λ v k. is.code_of c name v (two _ w h ∙ ap (λ (x : List ℕ). codes "code" ∷ code_word c ∷ x ∷ name ∷ []) o) k))
+
+four_right : (names : List (List ℕ)) (what word of name : List ℕ) →
+    Has (IsQuestion names (what ∷ word ∷ of ∷ name ∷ [])) (four_of names what word of name)
+unfolding four_of
+four_right names what word of name =
+    let P : Option Question → Type 0 = Has (IsQuestion names (what ∷ word ∷ of ∷ name ∷ [])) in
+    cond_both (bytes_eq what (codes "code")) _ _ P
+    (λ a. cond_both (bytes_eq of (codes "of")) _ _ P (λ o. code_name_right names what word of name (same _ _ a) (same _ _ o)) (λ _. tt)) (λ _. tt)
+
+question_right : (names fields : List (List ℕ)) → Has (IsQuestion names fields) (question_of names fields)
+question_right names [] = tt
+question_right names (what ∷ []) = stuck_right names what
+question_right names (what ∷ argument ∷ []) = plain_right names what argument
+question_right names (first ∷ second ∷ third ∷ []) = three_right names first second third
+question_right names (what ∷ word ∷ of ∷ name ∷ []) = four_right names what word of name
+question_right names (what ∷ word ∷ of ∷ name ∷ more ∷ rest) = tt
+
+part_right : (names fields : List (List ℕ)) → Has (IsPart names fields) (part_of names fields)
+unfolding part_by
+part_right names [] = tt
+part_right names (word ∷ rest) =
+    let P = IsPart names (word ∷ rest) in
+    cond_both (bytes_eq word (codes "may")) _ _ (Has P) (λ a. may_right names word rest (same _ _ a))
+    (λ _. cond_both (bytes_eq word (codes "most")) _ _ (Has P) (λ a. most_right names word rest (same _ _ a))
+    (λ _. cond_both (bytes_eq word (codes "find")) _ _ (Has P)
+    (λ a. mapped (IsQuestion names rest) P _ (question_of names rest) (question_right names rest) (λ q h. is.finds rest q (front _ (same _ _ a)) h))
+    (λ _. tt)))
+
+-- ---- what is so is found
+
+offer_found : (names : List (List ℕ)) (what argument : List ℕ) (o : Offer) → IsOffer names what argument o →
+    Found (offer_of names what argument) (AreDistinct names) o
+unfolding offer_of
+offer_found names what argument o (is.send v w h) =
+    found_is (ap (λ (x : List ℕ). offer_of names x argument) w) (found_map (λ (u : Var). Step (event.Send u)) (place_found names argument v h))
+offer_found names what argument o (is.cancel v w h) =
+    found_is (ap (λ (x : List ℕ). offer_of names x argument) w) (found_map (λ (u : Var). Step (event.Cancel u)) (place_found names argument v h))
+offer_found names what argument o (is.tick ms w h) =
+    found_is (ap (λ (x : List ℕ). offer_of names x argument) w) (found_map (λ (n : ℕ). Step (event.Tick n)) (number_found 1 MOST_MS argument ms h))
+
+section_found : (x : Phase) → section_of (phase_word x) ≡ Some (question.Section x)
+unfolding section_of phase_of
+section_found phase.Pending = refl
+section_found phase.Idle = refl
+section_found phase.Prepare = refl
+section_found phase.Done = refl
+section_found phase.Async = refl
+section_found phase.Check = refl
+section_found phase.Closing = refl
+section_found phase.Timers = refl
+
+poll_found : section_of (codes "poll") ≡ Some question.Poll
+unfolding section_of
+poll_found = refl
+
+question_found : (names fields : List (List ℕ)) (q : Question) → IsQuestion names fields q → Found (question_of names fields) (AreDistinct names) q
+unfolding stuck_of plain_of three_of numbered_of nth_call_of late_of before_of four_of code_name_of
+question_found names fields q (is.stuck e) = sure (ap (question_of names) e)
+question_found names fields q (is.call name v e h) =
+    found_is (ap (question_of names) e) (found_map (λ (u : Var). question.Call u None) (place_found names name v h))
+question_found names fields q (is.code c e) =
+    sure (ap (question_of names) e ∙ ap (option_map (λ (d : Code). question.Code d None)) (code_found c))
+question_found names fields q (is.section x e) = sure (ap (question_of names) e ∙ section_found x)
+question_found names fields q (is.poll e) = sure (ap (question_of names) e ∙ poll_found)
+question_found names fields q (is.never name v e h) =
+    found_is (ap (question_of names) e) (found_map question.Never (place_found names name v h))
+question_found names fields q (is.nth_call name v number n e other h k) =
+    found_is (ap (question_of names) e ∙ choice_other name (codes "before") _ _ other)
+    (found_both (λ (u : Var) (m : ℕ). question.Call u (Some m)) (place_found names name v h) (number_found 1 MOST_COUNT number n k))
+question_found names fields q (is.late name v number ms e other h k) =
+    found_is (ap (question_of names) e ∙ choice_other name (codes "before") _ _ other)
+    (found_both (λ (u : Var) (m : ℕ). question.Late u m) (place_found names name v h) (number_found 0 MOST_MS number ms k))
+question_found names fields q (is.before first v second w e h k) =
+    found_is (ap (question_of names) e)
+    (found_both (λ (a b : Var). question.Before a b) (place_found names first v h) (place_found names second w k))
+question_found names fields q (is.code_of c name v e h) =
+    found_is (ap (question_of names) e)
+    (found_both (λ (d : Code) (u : Var). question.Code d (Some u)) (sure (code_found c)) (place_found names name v h))
+
+part_found : (names fields : List (List ℕ)) (p : Part) → IsPart names fields p → Found (part_of names fields) (AreDistinct names) p
+unfolding part_by times_of waits bound_of calls_of
+part_found names fields p (is.may what argument o times n e h k) =
+    found_is (ap (part_of names) e)
+    (found_both (λ (a : Offer) (m : ℕ). Offers (record { offer = a; times = Some m })) (offer_found names what argument o h)
+    (number_found 1 MOST_COUNT times n k))
+part_found names fields p (is.may_wait e) = sure (ap (part_of names) e)
+part_found names fields p (is.most_clock number ms e h) =
+    found_is (ap (part_of names) e) (found_map Clock (number_found 0 MOST_MS number ms h))
+part_found names fields p (is.most_states number n e h) =
+    found_is (ap (part_of names) e) (found_map States (number_found 1 MOST_COUNT number n h))
+part_found names fields p (is.most_calls name v number n e c s h k) =
+    found_is (ap (part_of names) e ∙ choice_other name (codes "clock") _ _ c ∙ choice_other name (codes "states") _ _ s)
+    (found_both (λ (u : Var) (m : ℕ). Calls (record { name = u; calls = m })) (place_found names name v h) (number_found 0 MOST_COUNT number n k))
+part_found names fields p (is.finds rest q e h) = found_is (ap (part_of names) e) (found_map Finds (question_found names rest q h))
+
+-- where nothing is found nothing is said
+none_found : (names fields : List (List ℕ)) → part_of names fields ≡ None → IsNoPart names fields
+none_found names fields z p h = let found = (part_found names fields p h).found in cc (found, z)
+
+pub found_only : (names fields : List (List ℕ)) (p : Part) → AreDistinct names → IsPart names fields p → part_of names fields ≡ Some p
+found_only names fields p distinct h = let r = part_found names fields p h in r.found ∙ ap Some (r.same distinct)
+
+no_part : (names fields : List (List ℕ)) → IsNoPart names fields → part_of names fields ≡ None
+no_part names fields none = by (part_of names fields) refl (part_right names fields) where
+  by : (o : Option Part) → part_of names fields ≡ o → Has (IsPart names fields) o → o ≡ None
+  by None e h = refl
+  by (Some p) e h = absurd (none p h)
+
+-- ---- any line
+
+-- what is said isn't skipped
+pub says_something : (names : List (List ℕ)) (line : List ℕ) (p : Part) → IsPart names (fields_of line) p → is_skipped line ≡ false
+says_something names line p (is.may what argument o times n e h k) = line_begins line _ _ _ e
+says_something names line p (is.may_wait e) = line_begins line _ _ _ e
+says_something names line p (is.most_clock number ms e h) = line_begins line _ _ _ e
+says_something names line p (is.most_states number n e h) = line_begins line _ _ _ e
+says_something names line p (is.most_calls name v number n e c s h k) = line_begins line _ _ _ e
+says_something names line p (is.finds rest q e h) = line_begins line _ _ _ e
+
+told : (names : List (List ℕ)) (line : List ℕ) → is_line line ≡ true → is_skipped line ≡ false → (r : Option Part) →
+    part_of names (fields_of line) ≡ r → Has (IsPart names (fields_of line)) r → Says names line (said_by r)
+told names line e s (Some p) z h = one p ((is_line_decides line).0 e) h
+told names line e s None z h = bad (λ _ k. both_ways _ s ((is_skipped_decides line).1 k)) (λ _. none_found names (fields_of line) z)
+
+pub says : (names : List (List ℕ)) (line : List ℕ) → Says names line (said_of names line)
+says names line = cond_both (is_line line) _ _ (Says names line)
+    (λ e. cond_both (is_skipped line) _ _ (Says names line)
+    (λ s. nothing ((is_line_decides line).0 e) ((is_skipped_decides line).0 s))
+    (λ s. told names line e s (part_of names (fields_of line)) refl (part_right names (fields_of line))))
+    (λ e. bad (λ l _. both_ways _ e ((is_line_decides line).1 l)) (λ l. absurd (both_ways _ e ((is_line_decides line).1 l))))
+
+-- what a line says is what the code reads
+pub says_only : (names : List (List ℕ)) (line : List ℕ) (said : Said) → AreDistinct names → Says names line said → said ≡ said_of names line
+says_only names line said distinct (nothing l s) = rw ((is_line_decides line).1 l, (is_skipped_decides line).1 s) refl
+says_only names line said distinct (one p l h) =
+    rw ((is_line_decides line).1 l, says_something names line p h, found_only names (fields_of line) p distinct h) refl
+says_only names line said distinct (bad skip none) = by (is_line line) refl (is_skipped line) refl where
+  by : (a : Bool) → is_line line ≡ a → (b : Bool) → is_skipped line ≡ b
+      → ◌≡◌ {A = Said} Bad (if a then (if b then Nothing else said_by (part_of names (fields_of line))) else Bad)
+  by false e b f = refl
+  by true e true f = absurd (skip ((is_line_decides line).0 e) ((is_skipped_decides line).0 f))
+  by true e false f = rw (no_part names (fields_of line) (none ((is_line_decides line).0 e))) refl
+
+pub says_one : (names : List (List ℕ)) (line : List ℕ) (a b : Said) → AreDistinct names → Says names line a → Says names line b → a ≡ b
+says_one names line a b distinct h k = says_only names line a distinct h ∙ sym (says_only names line b distinct k)
+
+pub says_read : (names : List (List ℕ)) (line : List ℕ) (said : Said) → said ≡ said_of names line → Says names line said
+says_read names line said e = rw e (says names line)
+
+pub ruleset reading = (says, says_read, says_one)

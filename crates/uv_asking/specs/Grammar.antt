@@ -1,0 +1,73 @@
+-- The lines behind `begin`: what may come from outside, how far the search goes, and what it looks for.
+use Rattle.std.specs.Prelude.{◌≡◌, ◌≢◌, ℕ, ◌≤◌, List, [], ◌∷◌, Some, None, codes}
+use Rattle.uv_ids.specs.declared.id.Var.{Var}
+use Rattle.uv_ids.specs.declared.code.Code as ids
+use Rattle.uv_ids.specs.declared.event.Event.TheVariants as event
+use Rattle.uv_ids.specs.declared.phase.Phase.{Phase}
+use Rattle.uv_ids.specs.Words.{code_word, phase_word}
+use Rattle.uv_script.specs.Lines.{fields_of, IsLine, IsSkipped}
+use Rattle.uv_script.specs.Words.{IsNumber, IsDeclared}
+use Rattle.uv_asking.specs.declared.asking.Offer.{Offer}
+use Rattle.uv_asking.specs.declared.asking.Offer.TheVariants.{Step, Wait}
+use Rattle.uv_asking.specs.declared.asking.Question.{Question}
+use Rattle.uv_asking.specs.declared.asking.Question.TheVariants as question
+use Rattle.uv_asking.specs.declared.part.Part.{Part}
+use Rattle.uv_asking.specs.declared.part.Part.TheVariants.{Offers, Clock, Calls, States, Finds}
+use Rattle.uv_asking.specs.declared.part.Said.{Said}
+use Rattle.uv_asking.specs.declared.part.Said.TheVariants.{Nothing, One, Bad}
+use Rattle.uv_asking.specs.Limits.{MOST_COUNT, MOST_MS}
+
+-- a number of this range, as it is written
+pub record IsWithin (low high : ℕ) (text : List ℕ) (n : ℕ) : Type 0 where
+  pub number : IsNumber text n
+  pub first : low ≤ n
+  pub last : n ≤ high
+
+-- the two fields behind `may` of an offer that is counted, where these names are declared
+pub data IsOffer (names : List (List ℕ)) (what argument : List ℕ) : Offer → Type 0 where
+  send : (v : Var) → what ≡ codes "send" → IsDeclared names argument v → IsOffer names what argument (Step (event.Send v))
+  cancel : (v : Var) → what ≡ codes "cancel" → IsDeclared names argument v → IsOffer names what argument (Step (event.Cancel v))
+  tick : (ms : ℕ) → what ≡ codes "tick" → IsWithin 1 MOST_MS argument ms → IsOffer names what argument (Step (event.Tick ms))
+
+-- the fields behind `find`, and the question that they are, where these names are declared. Where `before` is the second of three fields they
+-- are the last form and no other one, also where a name is called so
+pub data IsQuestion (names fields : List (List ℕ)) : Question → Type 0 where
+  stuck : fields ≡ codes "stuck" ∷ [] → IsQuestion names fields question.Stuck
+  call : (name : List ℕ) (v : Var) → fields ≡ codes "call" ∷ name ∷ [] → IsDeclared names name v → IsQuestion names fields (question.Call v None)
+  code : (c : ids.Code) → fields ≡ codes "code" ∷ code_word c ∷ [] → IsQuestion names fields (question.Code c None)
+  section : (x : Phase) → fields ≡ codes "section" ∷ phase_word x ∷ [] → IsQuestion names fields (question.Section x)
+  -- the poll is a section here
+  poll : fields ≡ codes "section" ∷ codes "poll" ∷ [] → IsQuestion names fields question.Poll
+  never : (name : List ℕ) (v : Var) → fields ≡ codes "never" ∷ name ∷ [] → IsDeclared names name v → IsQuestion names fields (question.Never v)
+  nth_call : (name : List ℕ) (v : Var) (number : List ℕ) (n : ℕ) → fields ≡ codes "call" ∷ name ∷ number ∷ [] → name ≢ codes "before" →
+      IsDeclared names name v → IsWithin 1 MOST_COUNT number n → IsQuestion names fields (question.Call v (Some n))
+  late : (name : List ℕ) (v : Var) (number : List ℕ) (ms : ℕ) → fields ≡ codes "late" ∷ name ∷ number ∷ [] → name ≢ codes "before" →
+      IsDeclared names name v → IsWithin 0 MOST_MS number ms → IsQuestion names fields (question.Late v ms)
+  before : (first : List ℕ) (v : Var) (second : List ℕ) (w : Var) → fields ≡ first ∷ codes "before" ∷ second ∷ [] → IsDeclared names first v →
+      IsDeclared names second w → IsQuestion names fields (question.Before v w)
+  code_of : (c : ids.Code) (name : List ℕ) (v : Var) → fields ≡ codes "code" ∷ code_word c ∷ codes "of" ∷ name ∷ [] → IsDeclared names name v →
+      IsQuestion names fields (question.Code c (Some v))
+
+-- the fields of a line, and what they say, where these names are declared
+pub data IsPart (names fields : List (List ℕ)) : Part → Type 0 where
+  may : (what argument : List ℕ) (o : Offer) (times : List ℕ) (n : ℕ) → fields ≡ codes "may" ∷ what ∷ argument ∷ times ∷ [] →
+      IsOffer names what argument o → IsWithin 1 MOST_COUNT times n → IsPart names fields (Offers (record { offer = o; times = Some n }))
+  may_wait : fields ≡ codes "may" ∷ codes "wait" ∷ [] → IsPart names fields (Offers (record { offer = Wait; times = None }))
+  most_clock : (number : List ℕ) (ms : ℕ) → fields ≡ codes "most" ∷ codes "clock" ∷ number ∷ [] → IsWithin 0 MOST_MS number ms →
+      IsPart names fields (Clock ms)
+  most_states : (number : List ℕ) (n : ℕ) → fields ≡ codes "most" ∷ codes "states" ∷ number ∷ [] → IsWithin 1 MOST_COUNT number n →
+      IsPart names fields (States n)
+  -- `clock` and `states` are the words here, also where a name is called so
+  most_calls : (name : List ℕ) (v : Var) (number : List ℕ) (n : ℕ) → fields ≡ codes "most" ∷ name ∷ number ∷ [] → name ≢ codes "clock" →
+      name ≢ codes "states" → IsDeclared names name v → IsWithin 0 MOST_COUNT number n → IsPart names fields (Calls (record { name = v; calls = n }))
+  finds : (rest : List (List ℕ)) (q : Question) → fields ≡ codes "find" ∷ rest → IsQuestion names rest q → IsPart names fields (Finds q)
+
+-- the fields say nothing
+abbrev pub IsNoPart : List (List ℕ) → List (List ℕ) → Type 0
+IsNoPart names fields = (part : Part) → IsPart names fields part → ⊥
+
+-- how a line is read, where these names are declared: empty lines and comments say nothing, and what is no part is bad
+pub data Says (names : List (List ℕ)) (line : List ℕ) : Said → Type 0 where
+  nothing : IsLine line → IsSkipped line → Says names line Nothing
+  one : (part : Part) → IsLine line → IsPart names (fields_of line) part → Says names line (One part)
+  bad : (IsLine line → IsSkipped line → ⊥) → (IsLine line → IsNoPart names (fields_of line)) → Says names line Bad

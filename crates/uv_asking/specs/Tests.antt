@@ -1,0 +1,194 @@
+-- How a line behind `begin` is read, as tests that the code computes; beside each clause that cites one stands the rule itself.
+use Rattle.std.specs.Prelude.{ℕ, List, [], ◌∷◌, ◌&&◌, nat_le, Option, Some, None, option_map, option_and_then, if◌then◌else◌, codes}
+use Rattle.std.specs.Str.{bytes_eq}
+use Rattle.uv_ids.specs.declared.id.Var.{Var}
+use Rattle.uv_ids.specs.declared.code.Code as ids
+use Rattle.uv_ids.specs.declared.code.Code.TheVariants as code
+use Rattle.uv_ids.specs.declared.event.Event.TheVariants as event
+use Rattle.uv_ids.specs.declared.phase.Phase.{Phase}
+use Rattle.uv_ids.specs.declared.phase.Phase.TheVariants as phase
+use Rattle.uv_script.specs.Lines.{fields_of}
+use Rattle.uv_script.specs.Checks.{is_line, is_skipped, number_of}
+use Rattle.uv_script.specs.Reading.{place_of}
+use Rattle.uv_asking.specs.declared.asking.Offer.{Offer}
+use Rattle.uv_asking.specs.declared.asking.Offer.TheVariants.{Step, Wait}
+use Rattle.uv_asking.specs.declared.asking.Question.{Question}
+use Rattle.uv_asking.specs.declared.asking.Question.TheVariants as question
+use Rattle.uv_asking.specs.declared.part.Part.{Part}
+use Rattle.uv_asking.specs.declared.part.Part.TheVariants.{Offers, Clock, Calls, States, Finds}
+use Rattle.uv_asking.specs.declared.part.Said.{Said}
+use Rattle.uv_asking.specs.declared.part.Said.TheVariants.{Nothing, One, Bad}
+use Rattle.uv_asking.specs.Limits.{MOST_COUNT, MOST_MS}
+
+-- the code that a word names
+unfoldable pub code_of : List ℕ → Option ids.Code
+code_of word =
+    if bytes_eq word (codes "ok") then Some code.Ok
+    else if bytes_eq word (codes "EINVAL") then Some code.Einval
+    else if bytes_eq word (codes "EBUSY") then Some code.Ebusy
+    else if bytes_eq word (codes "ECANCELED") then Some code.Ecanceled
+    else if bytes_eq word (codes "EBOUND") then Some code.Ebound
+    else if bytes_eq word (codes "EFULL") then Some code.Efull
+    else if bytes_eq word (codes "ESTALE") then Some code.Estale
+    else if bytes_eq word (codes "EKIND") then Some code.Ekind
+    else None
+
+-- the section that a word names
+unfoldable pub phase_of : List ℕ → Option Phase
+phase_of word =
+    if bytes_eq word (codes "pending") then Some phase.Pending
+    else if bytes_eq word (codes "idle") then Some phase.Idle
+    else if bytes_eq word (codes "prepare") then Some phase.Prepare
+    else if bytes_eq word (codes "done") then Some phase.Done
+    else if bytes_eq word (codes "async") then Some phase.Async
+    else if bytes_eq word (codes "check") then Some phase.Check
+    else if bytes_eq word (codes "closing") then Some phase.Closing
+    else if bytes_eq word (codes "timers") then Some phase.Timers
+    else None
+
+-- a number, if it is of this range
+abbrev pub if_within : ℕ → ℕ → ℕ → Option ℕ
+if_within low high n = if nat_le low n && nat_le n high then Some n else None
+
+unfoldable pub number_in : ℕ → ℕ → List ℕ → Option ℕ
+number_in low high text = option_and_then (if_within low high) (number_of text)
+
+-- the two fields behind `may` of an offer that is counted
+unfoldable pub offer_of : List (List ℕ) → List ℕ → List ℕ → Option Offer
+offer_of names what argument =
+    if bytes_eq what (codes "send") then option_map (λ (v : Var). Step (event.Send v)) (place_of names argument)
+    else if bytes_eq what (codes "cancel") then option_map (λ (v : Var). Step (event.Cancel v)) (place_of names argument)
+    else if bytes_eq what (codes "tick") then option_map (λ (ms : ℕ). Step (event.Tick ms)) (number_in 1 MOST_MS argument)
+    else None
+
+-- an offer with how often it may be taken
+abbrev pub counted : Offer → Option ℕ → Option Part
+counted o times = option_map (λ (n : ℕ). Offers (record { offer = o; times = Some n })) times
+
+-- the three fields behind `may`
+unfoldable pub times_of : List (List ℕ) → List ℕ → List ℕ → List ℕ → Option Part
+times_of names what argument times = option_and_then (λ (o : Offer). counted o (number_in 1 MOST_COUNT times)) (offer_of names what argument)
+
+-- the one field behind `may`
+unfoldable pub waits : List ℕ → Option Part
+waits what = if bytes_eq what (codes "wait") then Some (Offers (record { offer = Wait; times = None })) else None
+
+-- the fields behind `may`
+abbrev pub may_of : List (List ℕ) → List (List ℕ) → Option Part
+may_of names [] = None
+may_of names (what ∷ []) = waits what
+may_of names (what ∷ argument ∷ []) = None
+may_of names (what ∷ argument ∷ times ∷ []) = times_of names what argument times
+may_of names (what ∷ argument ∷ times ∷ more ∷ rest) = None
+
+-- a name's bound
+abbrev pub calls_by : Var → Option ℕ → Option Part
+calls_by v calls = option_map (λ (n : ℕ). Calls (record { name = v; calls = n })) calls
+
+unfoldable pub calls_of : List (List ℕ) → List ℕ → List ℕ → Option Part
+calls_of names name number = option_and_then (λ (v : Var). calls_by v (number_in 0 MOST_COUNT number)) (place_of names name)
+
+-- the two fields behind `most`
+unfoldable pub bound_of : List (List ℕ) → List ℕ → List ℕ → Option Part
+bound_of names what number =
+    if bytes_eq what (codes "clock") then option_map Clock (number_in 0 MOST_MS number)
+    else if bytes_eq what (codes "states") then option_map States (number_in 1 MOST_COUNT number)
+    else calls_of names what number
+
+-- the fields behind `most`
+abbrev pub most_of : List (List ℕ) → List (List ℕ) → Option Part
+most_of names [] = None
+most_of names (what ∷ []) = None
+most_of names (what ∷ number ∷ []) = bound_of names what number
+most_of names (what ∷ number ∷ more ∷ rest) = None
+
+-- the one field behind `find`
+unfoldable pub stuck_of : List ℕ → Option Question
+stuck_of what = if bytes_eq what (codes "stuck") then Some question.Stuck else None
+
+-- a section's word, or `poll`
+unfoldable pub section_of : List ℕ → Option Question
+section_of word = if bytes_eq word (codes "poll") then Some question.Poll else option_map question.Section (phase_of word)
+
+-- the two fields behind `find`
+unfoldable pub plain_of : List (List ℕ) → List ℕ → List ℕ → Option Question
+plain_of names what argument =
+    if bytes_eq what (codes "call") then option_map (λ (v : Var). question.Call v None) (place_of names argument)
+    else if bytes_eq what (codes "code") then option_map (λ (c : ids.Code). question.Code c None) (code_of argument)
+    else if bytes_eq what (codes "section") then section_of argument
+    else if bytes_eq what (codes "never") then option_map question.Never (place_of names argument)
+    else None
+
+-- the number of a call, and how late one is
+abbrev pub call_by : Var → Option ℕ → Option Question
+call_by v number = option_map (λ (n : ℕ). question.Call v (Some n)) number
+
+abbrev pub late_by : Var → Option ℕ → Option Question
+late_by v number = option_map (λ (ms : ℕ). question.Late v ms) number
+
+unfoldable pub nth_call_of : List (List ℕ) → List ℕ → List ℕ → Option Question
+nth_call_of names name number = option_and_then (λ (v : Var). call_by v (number_in 1 MOST_COUNT number)) (place_of names name)
+
+unfoldable pub late_of : List (List ℕ) → List ℕ → List ℕ → Option Question
+late_of names name number = option_and_then (λ (v : Var). late_by v (number_in 0 MOST_MS number)) (place_of names name)
+
+-- a word, a name and a number
+unfoldable pub numbered_of : List (List ℕ) → List ℕ → List ℕ → List ℕ → Option Question
+numbered_of names what name number =
+    if bytes_eq what (codes "call") then nth_call_of names name number
+    else if bytes_eq what (codes "late") then late_of names name number
+    else None
+
+-- two names
+abbrev pub before_by : Var → Option Var → Option Question
+before_by v second = option_map (λ (w : Var). question.Before v w) second
+
+unfoldable pub before_of : List (List ℕ) → List ℕ → List ℕ → Option Question
+before_of names first second = option_and_then (λ (v : Var). before_by v (place_of names second)) (place_of names first)
+
+-- the three fields behind `find`
+unfoldable pub three_of : List (List ℕ) → List ℕ → List ℕ → List ℕ → Option Question
+three_of names first second third =
+    if bytes_eq second (codes "before") then before_of names first third else numbered_of names first second third
+
+-- a code, and the name that it is answered to
+abbrev pub code_by : ids.Code → Option Var → Option Question
+code_by c name = option_map (λ (v : Var). question.Code c (Some v)) name
+
+unfoldable pub code_name_of : List (List ℕ) → List ℕ → List ℕ → Option Question
+code_name_of names word name = option_and_then (λ (c : ids.Code). code_by c (place_of names name)) (code_of word)
+
+-- the four fields behind `find`
+unfoldable pub four_of : List (List ℕ) → List ℕ → List ℕ → List ℕ → List ℕ → Option Question
+four_of names what word of name =
+    if bytes_eq what (codes "code") then (if bytes_eq of (codes "of") then code_name_of names word name else None) else None
+
+-- the fields behind `find`
+abbrev pub question_of : List (List ℕ) → List (List ℕ) → Option Question
+question_of names [] = None
+question_of names (what ∷ []) = stuck_of what
+question_of names (what ∷ argument ∷ []) = plain_of names what argument
+question_of names (first ∷ second ∷ third ∷ []) = three_of names first second third
+question_of names (what ∷ word ∷ of ∷ name ∷ []) = four_of names what word of name
+question_of names (what ∷ word ∷ of ∷ name ∷ more ∷ rest) = None
+
+-- the first field, and those behind it
+unfoldable pub part_by : List (List ℕ) → List ℕ → List (List ℕ) → Option Part
+part_by names word rest =
+    if bytes_eq word (codes "may") then may_of names rest
+    else if bytes_eq word (codes "most") then most_of names rest
+    else if bytes_eq word (codes "find") then option_map Finds (question_of names rest)
+    else None
+
+-- the fields of a line
+abbrev pub part_of : List (List ℕ) → List (List ℕ) → Option Part
+part_of names [] = None
+part_of names (word ∷ rest) = part_by names word rest
+
+abbrev pub said_by : Option Part → Said
+said_by (Some part) = One part
+said_by None = Bad
+
+-- a line, where these names are declared
+abbrev pub said_of : List (List ℕ) → List ℕ → Said
+said_of names line = if is_line line then (if is_skipped line then Nothing else said_by (part_of names (fields_of line))) else Bad

@@ -1,0 +1,12 @@
+//! What a search through the orders of a run is asked: what may come from outside, how far it goes, and what it looks for.
+#![tactic(auto)]
+
+mod asking;
+mod line;
+mod part;
+mod question;
+mod words;
+
+pub use asking::{Asking, Most, Offer, Offered, Question};
+pub use line::{every_line_says, read_part};
+pub use part::{Part, Said};

@@ -1,0 +1,157 @@
+//! The reader of the lines behind `begin`.
+ghost use Rattle.std.specs.Prelude.{◌≡◌, ◌≢◌, ℕ, List, AllPairs};
+ghost use Rattle.uv_script.specs.Lines.{fields_of};
+ghost use Rattle.uv_asking.specs.declared.part.Said.{Said};
+ghost use Rattle.uv_asking.specs.Grammar.{Says};
+ghost use Rattle.uv_asking.specs.Tests.{said_of, part_of, may_of, waits, times_of, offer_of, most_of, bound_of, calls_of};
+
+use crate::asking::{Most, Offer, Offered};
+use crate::part::{Part, Said};
+use crate::question::question;
+use crate::words::{MOST_MS, count_from, number_in};
+use uv_ids::{Event, is};
+use uv_script::{Fields, Names, is_line, is_skipped};
+
+/// Reads a line, without its line feed, where these names are declared.
+#[tactic(auto, using(crate::proofs::Agreement::reading))]
+pub fn read_part(names: &Names, line: &[u8]) -> Said
+    ensures rule { Says names.now line.now result }
+    ensures test { result ≡ said_of names.now line.now }
+{
+    read(names, line)
+}
+
+fn read(names: &Names, line: &[u8]) -> Said
+    ensures { result ≡ said_of names.now line.now }
+{
+    if !is_line(line) {
+        return Said::Bad;
+    }
+    if is_skipped(line) {
+        return Said::Nothing;
+    }
+    match part_in(names, Fields::of(line)) {
+        Some(part) => Said::One(part),
+        None => Said::Bad,
+    }
+}
+
+#[tactic(auto, unfolding(crate::specs::Tests::part_by))]
+fn part_in(names: &Names, mut fields: Fields<'_>) -> Option<Part>
+    ensures { result ≡ part_of names.now fields.entry }
+{
+    let word = fields.next()?;
+    if is(word, b"may") {
+        may(names, fields)
+    } else if is(word, b"most") {
+        most(names, fields)
+    } else if is(word, b"find") {
+        let question = question(names, fields)?;
+        Some(Part::Finds(question))
+    } else {
+        None
+    }
+}
+
+/// What stands behind `may`.
+fn may(names: &Names, mut fields: Fields<'_>) -> Option<Part>
+    ensures { result ≡ may_of names.now fields.entry }
+{
+    let what = fields.next()?;
+    let Some(argument) = fields.next() else {
+        return waits(what);
+    };
+    let times = fields.next()?;
+    match fields.next() {
+        None => counted(names, what, argument, times),
+        Some(_) => None,
+    }
+}
+
+#[tactic(auto, unfolding(crate::specs::Tests::waits))]
+fn waits(what: &[u8]) -> Option<Part>
+    ensures { result ≡ waits what.now }
+{
+    if is(what, b"wait") {
+        Some(Part::Offers(Offered {
+            offer: Offer::Wait,
+            times: None,
+        }))
+    } else {
+        None
+    }
+}
+
+#[tactic(auto, unfolding(crate::specs::Tests::times_of))]
+fn counted(names: &Names, what: &[u8], argument: &[u8], times: &[u8]) -> Option<Part>
+    ensures { result ≡ times_of names.now what.now argument.now times.now }
+{
+    let offer = offer(names, what, argument)?;
+    let times = count_from(1, times)?;
+    Some(Part::Offers(Offered {
+        offer,
+        times: Some(times),
+    }))
+}
+
+#[tactic(auto, unfolding(crate::specs::Tests::offer_of))]
+fn offer(names: &Names, what: &[u8], argument: &[u8]) -> Option<Offer>
+    ensures { result ≡ offer_of names.now what.now argument.now }
+{
+    if is(what, b"send") {
+        let name = names.number(argument)?;
+        Some(Offer::Step(Event::Send(name)))
+    } else if is(what, b"cancel") {
+        let name = names.number(argument)?;
+        Some(Offer::Step(Event::Cancel(name)))
+    } else if is(what, b"tick") {
+        let ms = number_in(1, MOST_MS, argument)?;
+        Some(Offer::Step(Event::Tick(ms)))
+    } else {
+        None
+    }
+}
+
+/// What stands behind `most`.
+fn most(names: &Names, mut fields: Fields<'_>) -> Option<Part>
+    ensures { result ≡ most_of names.now fields.entry }
+{
+    let what = fields.next()?;
+    let number = fields.next()?;
+    match fields.next() {
+        None => bound(names, what, number),
+        Some(_) => None,
+    }
+}
+
+#[tactic(auto, unfolding(crate::specs::Tests::bound_of))]
+fn bound(names: &Names, what: &[u8], number: &[u8]) -> Option<Part>
+    ensures { result ≡ bound_of names.now what.now number.now }
+{
+    if is(what, b"clock") {
+        let ms = number_in(0, MOST_MS, number)?;
+        Some(Part::Clock(ms))
+    } else if is(what, b"states") {
+        let states = count_from(1, number)?;
+        Some(Part::States(states))
+    } else {
+        calls(names, what, number)
+    }
+}
+
+#[tactic(auto, unfolding(crate::specs::Tests::calls_of))]
+fn calls(names: &Names, name: &[u8], number: &[u8]) -> Option<Part>
+    ensures { result ≡ calls_of names.now name.now number.now }
+{
+    let name = names.number(name)?;
+    let calls = count_from(0, number)?;
+    Some(Part::Calls(Most { name, calls }))
+}
+
+/// Every line is read in some way, and in one alone where no name is declared twice.
+#[tactic(auto, using(crate::proofs::Agreement::reading))]
+pub fn every_line_says()
+    ensures some { (names : List (List ℕ)) (line : List ℕ) → Says names line (said_of names line) }
+    ensures one { (names : List (List ℕ)) (line : List ℕ) (a b : Said) → AllPairs (λ x y. x ≢ y) names → Says names line a → Says names line b
+        → a ≡ b }
+{}

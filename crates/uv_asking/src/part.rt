@@ -1,0 +1,29 @@
+//! What the lines behind `begin` say.
+
+use crate::asking::{Most, Offered, Question};
+
+/// What one line says.
+#[derive(Clone, Copy)]
+pub enum Part {
+    /// `may send NAME N`, `may cancel NAME N`, `may tick MS N`: so often at the most, N from 1 to 2^32 - 1 and MS from 1 to 2^62
+    /// (own). `may wait`: as often as one likes.
+    Offers(Offered),
+    /// `most clock MS`, up to 2^62 (own). It is the clock also where a name is called `clock`.
+    Clock(u64),
+    /// `most NAME CALLS`, up to 2^32 - 1 (own). A name that is called `clock` or `states` can't be bounded.
+    Calls(Most),
+    /// `most states N`, from 1 to 2^32 - 1 (own). It is the states also where a name is called `states`.
+    States(u32),
+    /// `find ..`. Where `before` is the second of three fields it is `find NAME before NAME`, also where a name is called `before`.
+    Finds(Question),
+}
+
+/// How a line is read.
+#[derive(Clone, Copy)]
+pub enum Said {
+    /// An empty line, or a comment.
+    Nothing,
+    One(Part),
+    /// Anything else.
+    Bad,
+}

@@ -1,0 +1,25 @@
+-- Offers that lead on.
+use Rattle.std.proofs.Common.{◌≡◌, ℕ, zero, suc, ◌<◌, ◌⊎◌, inl, inr, Bool, true, false, ◌&&◌, Some, is_none, refl, ap, subst, arith}
+use Rattle.uv_find.specs.Orders.{Rules, Place, Led, led}
+use Rattle.uv_find.specs.Questions.{none_leads}
+
+or_last : (k n : ℕ) → k < suc n → (k ≡ n) ⊎ (k < n)
+or_last zero zero l = inl refl
+or_last zero (suc n) l = inr (omega arith)
+or_last (suc k) zero l = absurd (omega arith)
+or_last (suc k) (suc n) l = elim (or_last k n (omega arith)) [ inl e ↦ inl (ap suc e) | inr m ↦ inr (omega arith) ]
+
+and_false : (b : Bool) → (b && false) ≡ false
+and_false true = refl
+and_false false = refl
+
+-- one of the first offers leads on
+pub leads_some : (r : Rules) (p : Place) (k n : ℕ) (l : Led) → k < n → led r p k ≡ Some l → none_leads r p n ≡ false
+leads_some r p k zero l below goes = absurd (omega arith)
+leads_some r p k (suc n) l below goes = by (or_last k n below) (λ m. leads_some r p k n l m goes)
+  where
+    by : ((k ≡ n) ⊎ (k < n)) → (k < n → none_leads r p n ≡ false) → (none_leads r p n && is_none (led r p n)) ≡ false
+    by (inl e) more =
+        let here : led r p n ≡ Some l = subst (λ x. led r p x ≡ Some l) e goes in
+        rw here (and_false (none_leads r p n))
+    by (inr m) more = rw (more m) refl

@@ -1,0 +1,5 @@
+pub mod Idle
+pub mod Taking
+pub mod Leading
+pub mod Moving
+pub mod Results

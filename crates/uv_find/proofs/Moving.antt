@@ -1,0 +1,132 @@
+-- Moves of a search are events of a loop, and events are moves.
+use Rattle.std.proofs.Common.{◌≡◌, ℕ, zero, suc, ◌<◌, Bool, true, List, [], ◌∷◌, ◌++◌, length, refl, sym, ap, subst, ◌∙◌, Option, Some, None, slice_get, append_assoc, arith}
+use Rattle.std.proofs.lemmas.Grind.{common_steps}
+use Rattle.uv_ids.specs.declared.event.Event.{Event}
+use Rattle.uv_search.specs.Ways.{LeadTo, Answers}
+use Rattle.uv_asking.specs.declared.asking.Offered.{Offered}
+use Rattle.uv_find.specs.Orders.{Rules, Place, Led, led, leads_on, placed, event_at, offered_by}
+use Rattle.uv_find.specs.Questions.{answers}
+use Rattle.uv_find.specs.Courses as courses
+use Rattle.uv_find.specs.Courses.{Course, LeadsOn}
+use Rattle.uv_find.specs.Spots.{Spot, spot_of, next_spot}
+use Rattle.uv_find.specs.Laws.{led_leads}
+
+-- the spot after an event
+abbrev pub after_event : Spot → Led → Spot
+after_event s l = record { place = l.place; steps = s.steps ++ l.event ∷ [] }
+
+module _ (r : Rules) where
+  abbrev pub LeadsTo : Spot → List ℕ → Spot → Type 0
+  LeadsTo s is t = LeadTo (λ _. length r.offers) (next_spot r) s is t
+
+  -- ---- a move is an event
+
+  pub move_is : (s t : Spot) (i : ℕ) (b : Bool) → next_spot r s i ≡ Some (t, b)
+      → (l : Led) × ((led r s.place i ≡ Some l) × (t ≡ after_event s l) × (b ≡ answers r s.place l))
+  move_is s t i b goes = by (led r s.place i) refl goes
+    where
+      by : (o : Option Led) → led r s.place i ≡ o → spot_of r s o ≡ Some (t, b)
+          → (l : Led) × ((led r s.place i ≡ Some l) × (t ≡ after_event s l) × (b ≡ answers r s.place l))
+      by None e h = absurd (let f : ⊥ = cc in f)
+      by (Some l) e h =
+          let pair : ◌≡◌ {A = Spot × Bool} (after_event s l, answers r s.place l) (t, b) = cc in
+          (l, (e, sym (ap (λ x. x.0) pair), sym (ap (λ x. x.1) pair)))
+
+  -- moves are a course
+  pub moves_course : (s : Spot) (is : List ℕ) (t : Spot) → LeadsTo s is t
+      → (es : List Event) × (Course r s.place es t.place × (t.steps ≡ s.steps ++ es))
+  moves_course s [] t e = ([], (ap (λ x. x.place) e, ap (λ x. x.steps) e ∙ grind (arith, common_steps)))
+  moves_course s (i ∷ is) t (m, b, offered, goes, rest) =
+      let one = move_is s m i b goes in
+      let l = one.0 in
+      let place : m.place ≡ l.place = ap (λ x. x.place) one.1.1 in
+      let steps : m.steps ≡ s.steps ++ l.event ∷ [] = ap (λ x. x.steps) one.1.1 in
+      let more = moves_course m is t rest in (
+        l.event ∷ more.0,
+        (
+          (l, refl, led_leads r s.place i l one.1.0, subst (λ x. Course r x more.0 t.place) place more.1.0),
+          more.1.1 ∙ ap (λ xs. xs ++ more.0) steps ∙ append_assoc s.steps (l.event ∷ []) more.0,
+        ),
+      )
+
+  -- ---- an event is a move
+
+  offered_below : (n : ℕ) (offers : List Offered) (o : Offered) → slice_get offers n ≡ Some o → n < length offers
+  offered_below zero [] o e = absurd (let f : ⊥ = cc in f)
+  offered_below (suc n) [] o e = absurd (let f : ⊥ = cc in f)
+  offered_below zero (x ∷ xs) o e = omega arith
+  offered_below (suc n) (x ∷ xs) o e = let m = offered_below n xs o e in omega arith
+
+  event_below : (p : Place) (n : ℕ) (e : Event) → event_at r p n ≡ Some e → n < length r.offers
+  event_below p n e h = by (slice_get r.offers n) refl h
+    where
+      by : (o : Option Offered) → slice_get r.offers n ≡ o → offered_by r p o (slice_get p.left n) ≡ Some e → n < length r.offers
+      by None is g = absurd (let f : ⊥ = cc in f)
+      by (Some o) is g = offered_below n r.offers o is
+
+  leads_led : (p : Place) (l : Led) (on : LeadsOn r p l) → led r p on.number ≡ Some l
+  leads_led p l on =
+      let event : leads_on r.most r.program p.state (event_at r p on.number) ≡ Some (l.event, l.place.state, l.line) =
+      rw (on.offered, on.accepted, on.within) refl in
+      ap (placed r p on.number) event
+      ∙ ap (λ (q : Place). Some (record l { place = q })) (sym on.taken)
+
+  -- a course is moves
+  pub course_moves : (s : Spot) (es : List Event) (q : Place) → Course r s.place es q
+      → (is : List ℕ) × LeadsTo s is (record { place = q; steps = s.steps ++ es })
+  course_moves s [] q e =
+      let none : s.steps ++ [] ≡ s.steps = grind (arith, common_steps) in
+      ([], λ i. record { place = e i; steps = none i })
+  course_moves s (e ∷ es) q (l, is_event, on, rest) =
+      let more = course_moves (after_event s l) es q rest in
+      let goes : next_spot r s on.number ≡ Some (after_event s l, answers r s.place l) = ap (spot_of r s) (leads_led s.place l on) in
+      let below = event_below s.place on.number l.event on.offered in
+      let steps : (s.steps ++ l.event ∷ []) ++ es ≡ s.steps ++ e ∷ es =
+      append_assoc s.steps (l.event ∷ []) es ∙ ap (λ x. s.steps ++ x ∷ es) is_event in (
+        on.number ∷ more.0,
+        (
+          after_event s l,
+          answers r s.place l,
+          below,
+          goes,
+          subst (λ xs. LeadsTo (after_event s l) more.0 (record { place = q; steps = xs })) steps more.1,
+        ),
+      )
+
+  -- ---- answers
+
+  abbrev pub WayAnswers : Spot → List ℕ → ℕ → Spot → Type 0
+  WayAnswers s is i t = Answers (λ _. length r.offers) (next_spot r) s is i t
+
+  pub moves_answer : (s : Spot) (is : List ℕ) (i : ℕ) (t : Spot) → WayAnswers s is i t
+      → (es : List Event) × (l : Led) × (courses.Answers r s.place es l × (t.place ≡ l.place) × (t.steps ≡ s.steps ++ (es ++ l.event ∷ [])))
+  moves_answer s is i t a =
+      let way = moves_course s is a.place a.way in
+      let one = move_is a.place t i true a.answers in
+      let l = one.0 in
+      let steps : t.steps ≡ a.place.steps ++ l.event ∷ [] = ap (λ x. x.steps) one.1.1 in (
+        way.0,
+        l,
+        (
+          record { place = a.place.place; course = way.1.0; leads = led_leads r a.place.place i l one.1.0; answers = sym one.1.2 },
+          ap (λ x. x.place) one.1.1,
+          steps ∙ ap (λ xs. xs ++ l.event ∷ []) way.1.1 ∙ append_assoc s.steps way.0 (l.event ∷ []),
+        ),
+      )
+
+  pub course_answers : (s : Spot) (es : List Event) (l : Led) → courses.Answers r s.place es l
+      → (is : List ℕ) × (i : ℕ) × (t : Spot) × WayAnswers s is i t
+  course_answers s es l a =
+      let way = course_moves s es a.place a.course in
+      let here : Spot = record { place = a.place; steps = s.steps ++ es } in
+      let goes : next_spot r here a.leads.number ≡ Some (after_event here l, answers r a.place l) = ap (spot_of r here) (leads_led a.place l a.leads) in (
+        way.0,
+        a.leads.number,
+        after_event here l,
+        record {
+          place = here;
+          way = way.1;
+          offered = event_below a.place a.leads.number l.event a.leads.offered;
+          answers = subst (λ b. next_spot r here a.leads.number ≡ Some (after_event here l, b)) a.answers goes;
+        },
+      )

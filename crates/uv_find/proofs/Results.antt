@@ -1,0 +1,92 @@
+-- What a search of spots says of orders.
+use Rattle.std.proofs.Common.{◌≡◌, ℕ, ◌≤◌, List, [], ◌∷◌, ◌++◌, length, refl, sym, subst, ◌∙◌}
+use Rattle.uv_ids.specs.declared.event.Event.{Event}
+use Rattle.uv_model.proofs.Runs.{after-nil}
+use Rattle.uv_search.specs.Settled as settled
+use Rattle.uv_find.specs.declared.finding.Answer.TheVariants as answer
+use Rattle.uv_find.specs.Orders.{Rules, Place}
+use Rattle.uv_find.specs.Courses.{Course}
+use Rattle.uv_find.specs.Spots.{Spot, next_spot, spot_code, first_spot, IsSpot, IsDeep}
+use Rattle.uv_find.specs.Found.{AreReached, Finds, KeysTell}
+use Rattle.uv_find.specs.Laws.{places_tell, leads_spot}
+use Rattle.uv_find.proofs.Moving.{after_event, moves_course, course_moves, moves_answer, course_answers}
+
+module _ (r : Rules) (s : Spot) where
+  abbrev AreKeys : ℕ → List (List ℕ) → Type 0
+  AreKeys number keys = settled.AreKeys (λ _. length r.offers) (next_spot r) spot_code IsDeep s number keys
+
+  reached : (number : ℕ) (keys : List (List ℕ)) → AreKeys number keys → AreReached r s.place number keys
+  reached number keys k = record {
+    count = k.count;
+    distinct = k.distinct;
+    each = λ x has. (
+        let w = k.each x has in
+        let way = moves_course r s w.0 w.1 w.2 in
+        (way.0, w.1.place, way.1.0, w.3)
+        );
+  }
+
+  pub found_way : (limit : ℕ) (way : List ℕ) (number : ℕ) (t : Spot) → number ≤ limit
+      → settled.IsWay (λ _. length r.offers) (next_spot r) spot_code IsDeep s way t → (keys : List (List ℕ)) × AreKeys number keys
+      → Finds r s limit (answer.Found number) t
+  found_way limit way number t few (is, i, whole, answers) keys =
+      let a = moves_answer r s is i t answers in
+      let l = a.1 in (
+        few,
+        (a.0 ++ l.event ∷ [], (a.2.2, (a.0, l, refl, a.2.0, a.2.1))),
+        (keys.0, reached number keys.0 keys.1),
+      )
+
+  pub found_never : (limit number : ℕ) (t : Spot) → number ≤ limit
+      → settled.Never (λ _. length r.offers) (next_spot r) spot_code IsDeep s number → Finds r s limit (answer.Never number) t
+  found_never limit number t few n = (
+    few,
+    record {
+      never = λ es l a. (let w = course_answers r s es l a in n.none w.0 w.1 w.2 w.3);
+      keys = n.keys;
+      are = reached number n.keys n.are;
+      all = λ es q course. (
+          let w = course_moves r s es q course in
+          n.all w.0 (record { place = q; steps = s.steps ++ es }) w.1
+          );
+    },
+  )
+
+  pub found_more : (limit : ℕ) (t : Spot) → settled.HasMore (λ _. length r.offers) (next_spot r) spot_code IsDeep s limit
+      → Finds r s limit answer.Unsettled t
+  found_more limit t m =
+      let w = m.more in
+      let way = moves_course r s w.0 w.1 w.2 in
+      record {
+        keys = m.keys;
+        are = reached limit m.keys m.are;
+        more = (way.0, w.1.place, way.1.0, w.3);
+      }
+
+  pub found_deep : (limit : ℕ) (t u : Spot) → settled.IsTooDeep (λ _. length r.offers) (next_spot r) spot_code IsDeep s u
+      → Finds r s limit answer.TooDeep t
+  found_deep limit t u d =
+      let way = moves_course r s d.0 u d.1 in
+      (u, way.0, way.1.1, way.1.0, d.2)
+
+-- where the same moves were taken back, it is the same
+pub same_back : {X : Type 0} (p u : X) (ps us xs : List X) → xs ≡ p ∷ ps → xs ≡ u ∷ us → u ≡ p
+same_back p u ps us xs e f =
+    let one : u ∷ us ≡ p ∷ ps = sym f ∙ e in
+    cc
+
+-- ---- keys
+
+course_spot : (r : Rules) (s : Spot) (es : List Event) (q : Place) → IsSpot r s → Course r s.place es q
+    → (steps : List Event) × IsSpot r (record { place = q; steps = steps })
+course_spot r s [] q is e = (s.steps, subst (λ p. IsSpot r (record { place = p; steps = s.steps })) (sym e) is)
+course_spot r s (e ∷ es) q is (l, is_event, on, rest) = course_spot r (after_event s l) es q (leads_spot r s l is on) rest
+
+first_is : (r : Rules) → IsSpot r (first_spot r)
+first_is r = record { state = sym (after-nil r.program); bounded = refl }
+
+pub keys_tell : KeysTell
+keys_tell r es fs p q c d same =
+    let a = course_spot r (first_spot r) es p (first_is r) c in
+    let b = course_spot r (first_spot r) fs q (first_is r) d in
+    places_tell r (record { place = p; steps = a.0 }) (record { place = q; steps = b.0 }) a.1 b.1 same

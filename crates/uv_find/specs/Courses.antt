@@ -1,0 +1,34 @@
+-- Lists of events that may come in this order.
+use Rattle.std.specs.Prelude.{◌≡◌, ℕ, true, List, [], ◌∷◌, ◌++◌, Some}
+use Rattle.uv_ids.specs.declared.event.Event.{Event}
+use Rattle.uv_model.specs.Next.{Moves, next}
+use Rattle.uv_find.specs.Orders.{Rules, Place, Led, event_at, taken, is_within}
+use Rattle.uv_find.specs.Questions.{answers}
+
+-- from a place an event leads on: it is offered there, the loop accepts it, and the bounds hold then
+pub record LeadsOn (r : Rules) (p : Place) (l : Led) : Type 0 where
+  pub number : ℕ
+  pub offered : event_at r p number ≡ Some l.event
+  pub accepted : next r.program p.state l.event ≡ Moves l.place.state l.line
+  pub within : is_within r.most l.place.state ≡ true
+  pub taken : l.place ≡ taken r p number l.place.state
+
+-- these events, one after another, lead from one place to another
+abbrev pub Course : Rules → Place → List Event → Place → Type 0
+Course r p [] q = q ≡ p
+Course r p (e ∷ es) q = (l : Led) × (l.event ≡ e) × LeadsOn r p l × Course r l.place es q
+
+-- behind these events this one leads on, and answers the question
+pub record Answers (r : Rules) (p : Place) (es : List Event) (l : Led) : Type 0 where
+  pub place : Place
+  pub course : Course r p es place
+  pub leads : LeadsOn r place l
+  pub answers : answers r place l ≡ true
+
+-- behind no events, however many, is one that answers the question
+abbrev pub NeverAnswered : Rules → Place → Type 0
+NeverAnswered r p = (es : List Event) (l : Led) → Answers r p es l → ⊥
+
+-- these events answer the question: the last of them does, and leads here
+abbrev pub IsAnswer : Rules → Place → List Event → Place → Type 0
+IsAnswer r p es q = (before : List Event) × (l : Led) × (es ≡ before ++ l.event ∷ []) × Answers r p before l × (q ≡ l.place)

@@ -1,0 +1,138 @@
+-- What is asked of a step.
+use Rattle.std.specs.Prelude.{ℕ, zero, suc, ◌-◌, ◌==◌, ◌&&◌, Bool, true, false, nat_le, is_none, length, Option, Some, None, slice_get, if◌then◌else◌}
+use Rattle.uv_ids.specs.declared.id.Var.{Var}
+use Rattle.uv_ids.specs.declared.seen.Callback.{Callback}
+use Rattle.uv_ids.specs.declared.seen.Callback.TheVariants as callback
+use Rattle.uv_ids.specs.declared.seen.Seen.{Seen}
+use Rattle.uv_ids.specs.declared.seen.Seen.TheVariants as seen
+use Rattle.uv_records.specs.Handles.{is_timer}
+use Rattle.uv_records.specs.Names.{count_of}
+use Rattle.uv_records.specs.Slots.{held}
+use Rattle.uv_script.specs.declared.op.Op.{Op}
+use Rattle.uv_script.specs.declared.op.Op.TheVariants as op
+use Rattle.uv_script.specs.Program.{Program, op_at, is_for}
+use Rattle.uv_work.specs.declared.content.Content.{Content}
+use Rattle.uv_work.specs.declared.content.Content.TheVariants as content
+use Rattle.uv_model.specs.declared.place.Place as loop
+use Rattle.uv_model.specs.declared.place.Place.TheVariants.{Main, Running}
+use Rattle.uv_model.specs.State.{State, named}
+use Rattle.uv_session.specs.Breaks.{answers_code, begins_section, begins_poll}
+use Rattle.uv_asking.specs.declared.asking.Question.{Question}
+use Rattle.uv_asking.specs.declared.asking.Question.TheVariants as asks
+use Rattle.uv_find.specs.Orders.{Rules, Place, Led, led, is_blocked}
+
+-- ---- what a line says, and the state after it
+
+-- the callback that a line begins: which one, and of which name
+abbrev pub begun : Seen → Option (Callback × Var)
+begun (seen.Call v id) = Some (callback.Handle, v)
+begun (seen.After digest v id) = Some (callback.After, v)
+begun (seen.Closed v id) = Some (callback.Close, v)
+begun l = None
+
+-- it is one of this name, and with a number that one
+abbrev pub is_call : Var → Option ℕ → State → Option (Callback × Var) → Bool
+is_call name n s None = false
+is_call name n s (Some b) = (b.1.0 == name.0) && is_for (count_of b.0 (named s name).calls) n
+
+-- no callback of this name was called
+abbrev pub is_uncalled : State → Var → Bool
+is_uncalled s name =
+    let calls = (named s name).calls in
+    (calls.handle == 0) && (calls.after == 0) && (calls.close == 0)
+
+-- the name that an op names
+abbrev pub op_name : Op → Option Var
+op_name (op.Init v kind) = Some v
+op_name (op.Start v timeout repeat) = Some v
+op_name (op.StartWatcher v) = Some v
+op_name (op.Stop v) = Some v
+op_name (op.Again v) = Some v
+op_name (op.SetRepeat v repeat) = Some v
+op_name (op.DueIn v) = Some v
+op_name (op.Ref v) = Some v
+op_name (op.Unref v) = Some v
+op_name (op.HasRef v) = Some v
+op_name (op.IsActive v) = Some v
+op_name (op.Close v) = Some v
+op_name (op.IsClosing v) = Some v
+op_name (op.Send v) = Some v
+op_name (op.Queue v task) = Some v
+op_name (op.Cancel v) = Some v
+op_name op.CloseLoop = None
+op_name op.StopLoop = None
+op_name op.UpdateTime = None
+op_name op.Now = None
+op_name op.IsAlive = None
+op_name op.Timeout = None
+
+abbrev pub name_in : Option Op → Option Var
+name_in None = None
+name_in (Some o) = op_name o
+
+-- the name of which a line tells what was answered: to an op, a cancel or a send, or by its after callback
+abbrev pub answered_name : Program → Seen → Option Var
+answered_name p (seen.Op site answer) = name_in (op_at p site)
+answered_name p (seen.After digest v id) = Some v
+answered_name p (seen.Cancel v answer) = Some v
+answered_name p (seen.Send v code) = Some v
+answered_name p l = None
+
+abbrev pub is_name : Var → Option Var → Bool
+is_name name None = false
+is_name name (Some v) = v.0 == name.0
+
+-- of this name, or of any
+abbrev pub is_of : Option Var → Option Var → Bool
+is_of None v = true
+is_of (Some name) v = is_name name v
+
+-- a slot holds a timer
+abbrev pub holds_timer : Option Content → Bool
+holds_timer (Some (content.Handle h)) = is_timer h.kind
+holds_timer _ = false
+
+-- the line calls the timer of this name, which was due then, so many ms after that or later
+abbrev pub is_late : Var → ℕ → ℕ → State → Seen → Bool
+is_late name ms due s (seen.Call v id) = (v.0 == name.0) && holds_timer (held s.arena.slots id) && nat_le ms (s.clock - due)
+is_late name ms due s l = false
+
+-- a line answers the question, in the state after it; the timer that is asked about was due then
+abbrev pub answers_line : Program → Question → ℕ → State → Seen → Bool
+answers_line p (asks.Call name n) due s l = is_call name n s (begun l)
+answers_line p (asks.Code code name) due s l = answers_code code l && is_of name (answered_name p l)
+answers_line p (asks.Section word) due s l = begins_section word l
+answers_line p asks.Poll due s l = begins_poll l
+answers_line p (asks.Never name) due s l = false
+answers_line p asks.Stuck due s l = false
+answers_line p (asks.Late name ms) due s l = is_late name ms due s l
+answers_line p (asks.Before name other) due s l = is_call name None s (begun l) && is_uncalled s other
+
+abbrev pub line_answers : Program → Question → ℕ → State → Option Seen → Bool
+line_answers p q due s None = false
+line_answers p q due s (Some l) = answers_line p q due s l
+
+-- ---- what a place says
+
+-- the main program is at its end
+abbrev pub has_ended : Program → loop.Place → Bool
+has_ended p (Main line) = is_none (slice_get p.main line)
+has_ended p (Running run) = false
+
+-- none of the first offers leads on
+abbrev pub none_leads : Rules → Place → ℕ → Bool
+none_leads r p zero = true
+none_leads r p (suc n) = none_leads r p n && is_none (led r p n)
+
+abbrev pub place_answers : Rules → Place → Question → Bool
+place_answers r p (asks.Never name) = has_ended r.program p.state.place && is_uncalled p.state name
+place_answers r p asks.Stuck = is_blocked r.program p.state && none_leads r p (length r.offers)
+place_answers r p _ = false
+
+-- a step with this line that led here answers the question, where that was kept of a due time before it
+abbrev pub step_answers : Rules → ℕ → Place → Option Seen → Bool
+step_answers r due p line = if line_answers r.program r.question due p.state line then true else place_answers r p r.question
+
+-- from this place, an event that led on answers the question
+abbrev pub answers : Rules → Place → Led → Bool
+answers r p l = step_answers r p.due l.place l.line

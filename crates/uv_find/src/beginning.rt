@@ -1,0 +1,39 @@
+//! Where a search of orders begins.
+ghost use Rattle.std.specs.Prelude.{◌≡◌, IfOk};
+ghost use Rattle.uv_find.specs.Orders.{at_will, every_offer, times_of};
+
+use std::alloc::{AllocError, Global};
+use uv_asking::{Asking, Offer, Offered};
+use uv_ids::Event;
+
+/// An offer that may be taken as often as one likes.
+fn at_will(offer: Offer) -> Offered
+    ensures { result ≡ at_will offer }
+{
+    Offered { offer, times: None }
+}
+
+/// Every offer of a script with so many workers, with those that are asked for.
+pub(crate) fn every_offer(
+    alloc: Global,
+    workers: u16,
+    asked: &[Offered],
+) -> Result<Vec<Offered>, AllocError>
+    ensures { IfOk result (λ offers. offers.items ≡ every_offer workers asked.now) }
+{
+    let mut offers = Vec::new(alloc);
+    offers.push(at_will(Offer::Step(Event::Loop)))?;
+    offers.push(at_will(Offer::Take))?;
+    'workers: for worker in 0..workers {
+        offers.push(at_will(Offer::Step(Event::Finish(worker))))?;
+    }
+    offers.extend_from_slice(asked)?;
+    Ok(offers)
+}
+
+/// How often each offer may be taken.
+pub(crate) fn times_of(alloc: Global, offers: &[Offered]) -> Result<Vec<Option<u32>>, AllocError>
+    ensures { IfOk result (λ times. times.items ≡ times_of offers.now) }
+{
+    offers.iter().map(|offered| offered.times).collect(alloc)
+}

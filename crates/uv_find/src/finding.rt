@@ -1,0 +1,53 @@
+//! A search through all orders.
+ghost use Rattle.std.specs.Prelude.{◌≡◌, IfOk};
+ghost use Rattle.uv_find.specs.Found.{Finds, KeysTell};
+
+use crate::orders::Orders;
+use std::alloc::{AllocError, Global};
+use uv_model::Machine;
+use uv_search::{Found, Reached, go_back, search, shorten};
+
+/// So many moves are made at most to make the steps that are found fewer (own).
+const EFFORT: usize = 2_097_152;
+
+/// What a search of orders finds.
+#[derive(Clone, Copy, PartialEq, Eq)]
+pub enum Answer {
+    /// The last step answers the question. So many places were kept until then.
+    Found(usize),
+    /// No steps do, however many. They lead to so many places.
+    Never(usize),
+    /// Steps lead to more places than may be kept.
+    Unsettled,
+    /// Steps lead to where no more of them may be taken.
+    TooDeep,
+}
+
+/// Searches from where the orders stand, and keeps so many places at most. Of the steps that are found, each is left out, with those
+/// that aren't accepted without it, as long as the rest still answers: those from outside first.
+pub fn find<M: Machine>(
+    alloc: Global,
+    orders: &mut Orders<M>,
+    limit: usize,
+) -> Result<Answer, AllocError>
+    ensures found { IfOk result (λ answer. Finds orders.old.rules orders.old.spot limit answer orders.new.spot) }
+    ensures rules { orders.new.rules ≡ orders.old.rules }
+{
+    match search(alloc, orders, limit)? {
+        Found::Way(Reached { way, keys }) => {
+            go_back(orders, way.len());
+            match shorten(alloc, orders, way, EFFORT)? {
+                Some(_) => Ok(Answer::Found(keys)),
+                None => Ok(Answer::TooDeep),
+            }
+        }
+        Found::Never(places) => Ok(Answer::Never(places)),
+        Found::Unsettled => Ok(Answer::Unsettled),
+        Found::TooDeep => Ok(Answer::TooDeep),
+    }
+}
+
+/// The key of a place tells which one it is, of those that steps lead to. It does nothing, and is called for its clause.
+pub fn place_keys_tell()
+    ensures { KeysTell }
+{}

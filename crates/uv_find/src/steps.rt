@@ -1,0 +1,234 @@
+//! The event that an offer is, and one step of a session.
+ghost use Rattle.std.specs.Prelude.{◌≡◌, ◌<◌, ◌-◌, ◌&&◌, nat_le, take, length, IfOk};
+ghost use Rattle.uv_find.specs.Orders.{idle_among, take_by, is_blocked, deadline_at, wait_until, event_of, keeps_clock, timed, may_take, offered_here, is_called_within, is_within};
+ghost use Rattle.uv_find.specs.Steps.{Stands, StepsWithin, TakesOffer, state_in};
+ghost use Rattle.uv_model.specs.After.{after};
+ghost use Rattle.uv_script.specs.Program.{worker_count};
+
+use std::alloc::AllocError;
+use uv_asking::{Most, Offer};
+use uv_ids::{Event, Fault, Why};
+use uv_model::{Machine, Outcome, Place, Stage};
+use uv_records::Calls;
+use uv_session::Session;
+
+/// Takes the last step back.
+pub fn take_back<M: Machine>(session: &mut Session<M>)
+    requires some { 0 < length session.old.standing }
+    requires back { M.BackWantsMemory → ⊥ }
+    ensures { Stands session.old (take (length session.old.standing - 1) session.old.standing) session.new }
+{
+    match session.back(1) {
+        Ok(()) => {}
+        Err(_) => {}
+    }
+}
+
+/// Whether the loop is blocked. Nothing changes.
+pub fn is_blocked<M: Machine>(session: &mut Session<M>) -> Result<bool, AllocError>
+    requires room { length session.old.standing < session.old.limit }
+    requires back { M.BackWantsMemory → ⊥ }
+    ensures same { Stands session.old session.old.standing session.new }
+    ensures blocked { IfOk result (λ blocked. blocked ≡ is_blocked session.old.program (state_in session.old)) }
+{
+    match session.do_event(Event::Loop) {
+        Ok(_) => {
+            take_back(session);
+            Ok(false)
+        }
+        Err(Fault::Refused(Why::Blocked)) => Ok(true),
+        Err(Fault::Refused(_)) => Ok(false),
+        Err(_) => Err(AllocError),
+    }
+}
+
+/// The least worker that runs no request.
+fn idle_worker<M: Machine>(machine: &M) -> Option<u16>
+    ensures { result ≡ idle_among (after (M.program machine.now) (M.standing machine.now)) (worker_count (M.program machine.now)) }
+{
+    let workers = machine.script().workers();
+    'workers: for worker in 0..workers {
+        if machine.run_by(worker as usize).is_none() {
+            return Some(worker);
+        }
+    }
+    None
+}
+
+/// The event in which it takes a request.
+fn take_by(worker: Option<u16>) -> Option<Event>
+    ensures { result ≡ take_by worker }
+{
+    match worker {
+        None => None,
+        Some(worker) => Some(Event::Take(worker)),
+    }
+}
+
+/// The deadline of a poll.
+fn deadline_at(place: Place) -> Option<u64>
+    ensures { result ≡ deadline_at place }
+{
+    match place {
+        Place::Main(_) => None,
+        Place::Running(run) => match run.stage {
+            Stage::Poll(deadline) => deadline,
+            _ => None,
+        },
+    }
+}
+
+/// The event in which the clock goes on to a deadline, where the loop is blocked. Nothing changes.
+fn wait_until<M: Machine>(
+    session: &mut Session<M>,
+    deadline: Option<u64>,
+) -> Result<Option<Event>, AllocError>
+    requires room { length session.old.standing < session.old.limit }
+    requires back { M.BackWantsMemory → ⊥ }
+    ensures same { Stands session.old session.old.standing session.new }
+    ensures event { IfOk result (λ event. event ≡ wait_until session.old.program (state_in session.old) deadline) }
+{
+    match deadline {
+        None => Ok(None),
+        Some(deadline) => {
+            let clock = session.machine().numbers().clock;
+            if is_blocked(session)? {
+                Ok(Some(Event::Tick(deadline.saturating_sub(clock))))
+            } else {
+                Ok(None)
+            }
+        }
+    }
+}
+
+/// The event that an offer is here. Nothing changes.
+fn event_of<M: Machine>(session: &mut Session<M>, offer: Offer) -> Result<Option<Event>, AllocError>
+    requires room { length session.old.standing < session.old.limit }
+    requires back { M.BackWantsMemory → ⊥ }
+    ensures same { Stands session.old session.old.standing session.new }
+    ensures event { IfOk result (λ event. event ≡ event_of session.old.program (state_in session.old) offer) }
+{
+    match offer {
+        Offer::Step(event) => Ok(Some(event)),
+        Offer::Take => Ok(take_by(idle_worker(session.machine()))),
+        Offer::Wait => {
+            let deadline = deadline_at(session.machine().place());
+            wait_until(session, deadline)
+        }
+    }
+}
+
+/// Whether the clock stays within its bound, from here.
+fn keeps_clock(most: Option<u64>, clock: u64, event: Event) -> bool
+    ensures { result ≡ keeps_clock most clock event }
+{
+    match (most, event) {
+        (Some(most), Event::Tick(ms)) => match clock.checked_add(ms) {
+            Some(time) => time <= most,
+            None => false,
+        },
+        _ => true,
+    }
+}
+
+/// An event that leaves the clock within its bound.
+fn timed(most: Option<u64>, clock: u64, event: Option<Event>) -> Option<Event>
+    ensures { result ≡ timed most clock event }
+{
+    match event {
+        None => None,
+        Some(event) => {
+            if keeps_clock(most, clock, event) {
+                Some(event)
+            } else {
+                None
+            }
+        }
+    }
+}
+
+/// Whether an offer may still be taken.
+fn may_take(left: Option<u32>) -> bool
+    ensures { result ≡ may_take left }
+{
+    match left {
+        None => true,
+        Some(left) => 0 < left,
+    }
+}
+
+/// The event that an offer is here, if it may be taken. Nothing changes.
+pub fn offered_here<M: Machine>(
+    session: &mut Session<M>,
+    most: Option<u64>,
+    offer: Offer,
+    left: Option<u32>,
+) -> Result<Option<Event>, AllocError>
+    requires room { length session.old.standing < session.old.limit }
+    requires back { M.BackWantsMemory → ⊥ }
+    ensures same { Stands session.old session.old.standing session.new }
+    ensures event { IfOk result (λ event. event ≡ offered_here session.old.program most (state_in session.old) offer left) }
+{
+    if !may_take(left) {
+        return Ok(None);
+    }
+    let clock = session.machine().numbers().clock;
+    let event = event_of(session, offer)?;
+    Ok(timed(most, clock, event))
+}
+
+/// Whether each of the calls is within a bound.
+fn is_called_within(calls: Calls, most: u32) -> bool
+    ensures { result ≡ ((nat_le calls.handle most && nat_le calls.after most) && nat_le calls.close most) }
+{
+    calls.handle <= most && calls.after <= most && calls.close <= most
+}
+
+/// Whether the bounds on calls hold.
+fn is_within<M: Machine>(machine: &M, most: &[Most]) -> bool
+    ensures { result ≡ is_within most.now (after (M.program machine.now) (M.standing machine.now)) }
+{
+    most.iter().all(|bound| is_called_within(machine.named(bound.name).calls, bound.calls))
+}
+
+/// Does a step, if the loop accepts it and the bounds on calls hold then; none is done else.
+pub fn step_within<M: Machine>(
+    session: &mut Session<M>,
+    event: Event,
+    most: &[Most],
+) -> Result<Option<Outcome>, AllocError>
+    requires room { length session.old.standing < session.old.limit }
+    requires back { M.BackWantsMemory → ⊥ }
+    ensures { StepsWithin most.now session.old event result session.new }
+{
+    match session.do_event(event) {
+        Ok(outcome) => {
+            if is_within(session.machine(), most) {
+                Ok(Some(outcome))
+            } else {
+                take_back(session);
+                Ok(None)
+            }
+        }
+        Err(Fault::Refused(_)) => Ok(None),
+        Err(_) => Err(AllocError),
+    }
+}
+
+/// Takes an offer that may be taken so often, if the loop accepts it and the bounds hold then; nothing changes else.
+pub fn take_offer<M: Machine>(
+    session: &mut Session<M>,
+    clock: Option<u64>,
+    most: &[Most],
+    offer: Offer,
+    left: Option<u32>,
+) -> Result<Option<Outcome>, AllocError>
+    requires room { length session.old.standing < session.old.limit }
+    requires back { M.BackWantsMemory → ⊥ }
+    ensures { TakesOffer clock most.now session.old offer left result session.new }
+{
+    match offered_here(session, clock, offer, left)? {
+        None => Ok(None),
+        Some(event) => step_within(session, event, most),
+    }
+}

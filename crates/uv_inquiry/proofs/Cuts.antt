@@ -1,0 +1,50 @@
+-- The line `begin` cuts an input.
+use Rattle.std.proofs.Common.{◌≡◌, ◌≢◌, ℕ, ◌+◌, ◌-◌, ◌≤◌, List, [], ◌∷◌, ◌++◌, Bool, length, take, refl, ap, sym, ◌∙◌, subst, arith, codes}
+use Rattle.std.proofs.lemmas.List.{length-append}
+use Rattle.std.proofs.Math.Seq.{take-append_seam}
+use Rattle.uv_engine.specs.Input.{TakesLine}
+use Rattle.uv_engine.specs.Out.{Begins, NeverBegins, here, here_at_end, later}
+use Rattle.uv_engine.specs.Start.{with_line}
+use Rattle.uv_engine.proofs.Starting.{CanBegin, can_start, can_go_on, front_begun, front_missing}
+
+-- no line up to the rest is `begin`
+pub record Reached (input rest : List ℕ) : Type 0 where
+  pub text : List ℕ
+  pub can : CanBegin input text rest
+
+pub reached_start : (input : List ℕ) → Reached input input
+reached_start input = record { text = []; can = can_start input }
+
+pub reached_next : {input rest line after : List ℕ} (fed : Bool) → Reached input rest → TakesLine rest line fed after → line ≢ codes "begin" →
+    Reached input after
+reached_next {line = line} fed h taken other = record { text = h.text ++ with_line line fed; can = can_go_on fed h.can taken other refl }
+
+pub reached_few : {input rest : List ℕ} → Reached input rest → length rest ≤ length input
+reached_few {input} {rest} h =
+    let whole = ap length h.can.whole in
+    let parts = length-append h.text rest in
+    omega arith
+
+pub reached_begin : {input rest line after : List ℕ} (fed : Bool) → Reached input rest → TakesLine rest line fed after → line ≡ codes "begin" →
+    Begins input (take (length input - length rest) input) after
+reached_begin {input} {rest} {line} {after} fed h taken e =
+    subst (λ (xs : List ℕ). Begins input xs after) (sym front) (front_begun after fed h.can taken e)
+  where
+    size : length input - length rest ≡ length h.text
+    size = let whole = ap length h.can.whole in let parts = length-append h.text rest in omega arith
+
+    front : take (length input - length rest) input ≡ h.text
+    front = ap (λ (n : ℕ). take n input) size ∙ ap (take (length h.text)) h.can.whole ∙ take-append_seam h.text rest
+
+pub reached_end : {input rest : List ℕ} → Reached input rest → rest ≡ [] → NeverBegins input
+reached_end h e = (front_missing h.can e).0
+
+-- what the line leaves is shorter than the input
+pub parts_few : {input script lines : List ℕ} → Begins input script lines → length script + length lines + 5 ≤ length input
+parts_few (here {commands = c}) = let all = length-append (codes "begin\n") c in omega arith
+parts_few here_at_end = omega arith
+parts_few (later {line = line} {rest = rest} {script = script} {commands = c} free other k) =
+    let shorter = parts_few k in
+    let all = length-append line (10 ∷ rest) in
+    let front = length-append line (10 ∷ script) in
+    omega arith

@@ -1,0 +1,9 @@
+pub mod Steps
+pub mod Lines
+pub mod Cuts
+pub mod Pieces
+pub mod Inquiries
+pub mod Ops
+pub mod Begun
+pub mod Once
+pub mod Sessions

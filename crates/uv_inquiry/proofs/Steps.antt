@@ -1,0 +1,120 @@
+-- What is said for the first time.
+use Rattle.std.proofs.Common.{◌≡◌, ℕ, ◌==◌, ◌||◌, Bool, true, false, not, nat_lt, List, [], ◌∷◌, length, Option, Some, None, refl, ap, sym, subst}
+use Rattle.std.specs.Prelude.{is_none}
+use Rattle.std.specs.List.{list_any, AllByRecursion}
+use Rattle.std.proofs.lemmas.Bool.{and_parts, and_from, ltb-true, lt-ltb, eqb-true, both_ways}
+use Rattle.std.proofs.lemmas.Bool.Decides.{Decides-eqb}
+use Rattle.uv_ids.specs.declared.id.Var.{Var}
+use Rattle.uv_ids.specs.declared.event.Event.{Event}
+use Rattle.uv_ids.specs.declared.event.Event.TheVariants as event
+use Rattle.uv_asking.specs.declared.asking.Offer.{Offer}
+use Rattle.uv_asking.specs.declared.asking.Offer.TheVariants.{Step, Take, Wait}
+use Rattle.uv_asking.specs.declared.asking.Offered.{Offered}
+use Rattle.uv_asking.specs.declared.asking.Most.{Most}
+use Rattle.uv_asking.specs.declared.part.Part.{Part}
+use Rattle.uv_asking.specs.declared.part.Part.TheVariants.{Offers, Clock, Calls, States, Finds}
+use Rattle.uv_asking.specs.Limits.{MOST_OFFERS}
+use Rattle.uv_inquiry.specs.Drafts.{Draft, IsNew}
+use Rattle.uv_inquiry.specs.Tests.{same_step, same_offer, has_offer, has_bound, is_new}
+
+abbrev var_of : ℕ → Var
+var_of n = record { 0 = n }
+
+pub var_is : (v w : Var) → (v.0 == w.0) ≡ true → v ≡ w
+var_is v w e = ap var_of (eqb-true v.0 w.0 e)
+
+pub itself : (n : ℕ) → (n == n) ≡ true
+itself n = (Decides-eqb n n).1 refl
+
+step_is : (a b : Event) → same_step a b ≡ true → a ≡ b
+step_is event.Loop event.Loop e = refl
+step_is (event.Take m) (event.Take n) e = ap event.Take (eqb-true m n e)
+step_is (event.Finish m) (event.Finish n) e = ap event.Finish (eqb-true m n e)
+step_is (event.Cancel v) (event.Cancel w) e = ap event.Cancel (var_is v w e)
+step_is (event.Send v) (event.Send w) e = ap event.Send (var_is v w e)
+step_is (event.Tick m) (event.Tick n) e = ap event.Tick (eqb-true m n e)
+step_is _ _ e = absurd cc
+
+step_self : (a : Event) → same_step a a ≡ true
+step_self event.Loop = refl
+step_self (event.Take n) = itself n
+step_self (event.Finish n) = itself n
+step_self (event.Cancel v) = itself v.0
+step_self (event.Send v) = itself v.0
+step_self (event.Tick n) = itself n
+
+offer_is : (a b : Offer) → same_offer a b ≡ true → a ≡ b
+offer_is (Step a) (Step b) e = ap Step (step_is a b e)
+offer_is Take Take e = refl
+offer_is Wait Wait e = refl
+offer_is _ _ e = absurd cc
+
+offer_self : (a : Offer) → same_offer a a ≡ true
+offer_self (Step a) = step_self a
+offer_self Take = refl
+offer_self Wait = refl
+
+pub neither : (a b : Bool) → (a || b) ≡ false → (a ≡ false) × (b ≡ false)
+neither false false e = (refl, refl)
+neither _ _ e = absurd cc
+
+both_false : (a b : Bool) → a ≡ false → b ≡ false → (a || b) ≡ false
+both_false false false e f = refl
+both_false _ _ e f = absurd cc
+
+not_true : (b : Bool) → not b ≡ true → b ≡ false
+not_true false e = refl
+not_true true e = absurd cc
+
+is_false : (b : Bool) → (b ≡ true → ⊥) → b ≡ false
+is_false false h = refl
+is_false true h = absurd (h refl)
+
+-- where a test finds none, none is so; and the other way round
+none_so : {A : Type 0} (test : A → Bool) (So : A → Type 0) → ((x : A) → So x → test x ≡ true) → (xs : List A) → list_any test xs ≡ false →
+    AllByRecursion (λ (x : A). So x → ⊥) xs
+none_so test So says [] e = tt
+none_so test So says (x ∷ xs) e =
+    let parts = neither (test x) (list_any test xs) e in
+    (λ h. both_ways _ parts.0 (says x h), none_so test So says xs parts.1)
+
+none_found : {A : Type 0} (test : A → Bool) (So : A → Type 0) → ((x : A) → test x ≡ true → So x) → (xs : List A) →
+    AllByRecursion (λ (x : A). So x → ⊥) xs → list_any test xs ≡ false
+none_found test So says [] h = refl
+none_found test So says (x ∷ xs) (first, rest) =
+    both_false (test x) (list_any test xs) (is_false (test x) (λ e. first (says x e))) (none_found test So says xs rest)
+
+none_is : {A : Type 0} (o : Option A) → is_none o ≡ true → o ≡ None
+none_is None e = refl
+none_is (Some x) e = absurd cc
+
+is_offer : (o : Offer) (p : Offered) → p.offer ≡ o → same_offer p.offer o ≡ true
+is_offer o p e = subst (λ (x : Offer). same_offer x o ≡ true) (sym e) (offer_self o)
+
+is_bound : (v : Var) (m : Most) → m.name ≡ v → (m.name.0 == v.0) ≡ true
+is_bound v m e = subst (λ (w : Var). (w.0 == v.0) ≡ true) (sym e) (itself v.0)
+
+pub new_sound : (d : Draft) (part : Part) → is_new d part ≡ true → IsNew d part
+new_sound d (Offers o) e =
+    let tests = and_parts (nat_lt (length d.offers) MOST_OFFERS) (not (has_offer o.offer d.offers)) e in (
+      ltb-true (length d.offers) MOST_OFFERS tests.0,
+      none_so (λ (p : Offered). same_offer p.offer o.offer) (λ (p : Offered). p.offer ≡ o.offer) (is_offer o.offer) d.offers
+          (not_true (has_offer o.offer d.offers) tests.1),
+    )
+new_sound d (Clock ms) e = none_is d.clock e
+new_sound d (Calls m) e =
+    none_so (λ (n : Most). n.name.0 == m.name.0) (λ (n : Most). n.name ≡ m.name) (is_bound m.name) d.most
+    (not_true (has_bound m.name.0 d.most) e)
+new_sound d (States n) e = none_is d.states e
+new_sound d (Finds q) e = none_is d.question e
+
+pub new_complete : (d : Draft) (part : Part) → IsNew d part → is_new d part ≡ true
+new_complete d (Offers o) (few, none) =
+    and_from (nat_lt (length d.offers) MOST_OFFERS) (not (has_offer o.offer d.offers)) (lt-ltb (length d.offers) MOST_OFFERS few)
+    (ap not (none_found (λ (p : Offered). same_offer p.offer o.offer) (λ (p : Offered). p.offer ≡ o.offer) (λ p e. offer_is p.offer o.offer e)
+    d.offers none))
+new_complete d (Clock ms) h = ap is_none h
+new_complete d (Calls m) h =
+    ap not (none_found (λ (n : Most). n.name.0 == m.name.0) (λ (n : Most). n.name ≡ m.name) (λ n e. var_is n.name m.name e) d.most h)
+new_complete d (States n) h = ap is_none h
+new_complete d (Finds q) h = ap is_none h

@@ -1,0 +1,60 @@
+-- The texts of answers, each with its line feed.
+use Rattle.std.specs.Prelude.{ℕ, ◌==◌, List, [], ◌∷◌, ◌++◌, length, map, Option, Some, None, if◌then◌else◌, codes, decimal}
+use Rattle.std.specs.List.{flat_map}
+use Rattle.uv_ids.specs.declared.event.Event.{Event}
+use Rattle.uv_script.specs.Program.{Program}
+use Rattle.uv_script.specs.Text.{name_text, lines_text, script_text}
+use Rattle.uv_text.specs.Recording.{step_line}
+use Rattle.uv_asking.specs.declared.asking.Most.{Most}
+use Rattle.uv_asking.specs.Asked.{Asked}
+
+-- so many of something
+unfoldable pub steps_text : ℕ → List ℕ
+steps_text n = decimal n ++ (if n == 1 then codes " step" else codes " steps")
+
+unfoldable pub states_text : ℕ → List ℕ
+states_text n = decimal n ++ (if n == 1 then codes " state" else codes " states")
+
+unfoldable pub calls_text : ℕ → List ℕ
+calls_text n = decimal n ++ (if n == 1 then codes " call of " else codes " calls of ")
+
+-- the session of a script and its steps, as a conversation reads it: the script, `begin`, and a line for each step
+unfoldable pub session_text : Program → List Event → List ℕ
+session_text p es = script_text p ++ codes "begin\n" ++ lines_text (map (step_line p.names) es)
+
+-- these steps answer the question, and so many states were seen
+unfoldable pub found_text : Program → List Event → ℕ → List ℕ
+found_text p es states = codes "found in " ++ steps_text (length es) ++ codes ", " ++ states_text states ++ codes "\n" ++ session_text p es
+
+-- a name's bound
+unfoldable pub bound_text : List (List ℕ) → Most → List ℕ
+bound_text names m = calls_text m.calls ++ name_text names m.name
+
+-- a name's bound behind another one
+unfoldable pub more_bound : List (List ℕ) → Most → List ℕ
+more_bound names m = codes ", " ++ bound_text names m
+
+abbrev pub more_bounds : List (List ℕ) → List Most → List ℕ
+more_bounds names most = flat_map (more_bound names) most
+
+-- the bounds that were given: the clock's, and then those of names in the order of their lines
+abbrev pub within_text : List (List ℕ) → Option ℕ → List Most → List ℕ
+within_text names (Some ms) most = codes " within clock " ++ decimal ms ++ more_bounds names most
+within_text names None [] = []
+within_text names None (m ∷ most) = codes " within " ++ bound_text names m ++ more_bounds names most
+
+-- no order of steps within the bounds answers the question, and so many states were seen
+unfoldable pub never_text : Program → Asked → ℕ → List ℕ
+never_text p a states = codes "never" ++ within_text p.names a.clock a.most ++ codes ": " ++ states_text states ++ codes ", every order\n"
+
+-- there are more states than were to be kept
+unfoldable pub unsettled_text : ℕ → List ℕ
+unsettled_text states = codes "not settled within " ++ states_text states ++ codes "\n"
+
+-- an order of steps has more of them than a session holds
+abbrev pub too_deep_text : List ℕ
+too_deep_text = codes "not settled within 16777216 steps\n"
+
+-- the states may have no end
+abbrev pub no_end_text : List ℕ
+no_end_text = codes "no bound is given, and the script repeats: there may be no end of states\n"

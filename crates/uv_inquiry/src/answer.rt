@@ -1,0 +1,205 @@
+//! The texts of answers.
+ghost use Rattle.std.specs.Prelude.{◌≡◌, ◌++◌, None, IfOk, IfErr, OnOk};
+ghost use Rattle.uv_ids.specs.declared.fault.Fault.TheVariants.{Memory};
+ghost use Rattle.uv_asking.specs.Asked.{asked_in};
+ghost use Rattle.uv_inquiry.specs.Texts.{steps_text, states_text, calls_text, found_text, bound_text, more_bound, more_bounds, within_text, never_text, unsettled_text, too_deep_text, no_end_text};
+
+use crate::inquiry::Inquiry;
+use crate::session::push_session;
+use std::alloc::{AllocError, Global};
+use uv_asking::{Asking, Most};
+use uv_ids::{Event, Fault};
+use uv_script::{Names, Script, push_number};
+
+/// The steps that answer the question, as a session that a conversation reads, behind a line of how many they are and how many
+/// states were seen.
+pub fn found_text(
+    alloc: Global,
+    script: &Script,
+    steps: &[Event],
+    states: u64,
+) -> Result<Vec<u8>, Fault>
+    ensures text { IfOk result (λ text. text.items ≡ found_text script.now steps.now states) }
+    ensures err { IfErr result (λ fault. fault ≡ Memory) }
+{
+    let mut text = Vec::new(alloc);
+    push_found(&mut text, script, steps, states)?;
+    Ok(text)
+}
+
+/// Puts the steps that answer the question behind a text.
+#[tactic(auto, unfolding(crate::specs::Texts::found_text))]
+pub fn push_found(
+    text: &mut Vec<u8>,
+    script: &Script,
+    steps: &[Event],
+    states: u64,
+) -> Result<(), AllocError>
+    ensures { OnOk result (text.new.items ≡ text.old.items ++ found_text script.now steps.now states) }
+{
+    text.extend_from_slice(b"found in ")?;
+    push_steps(text, steps.len() as u64)?;
+    text.extend_from_slice(b", ")?;
+    push_states(text, states)?;
+    text.extend_from_slice(b"\n")?;
+    push_session(text, script, steps)
+}
+
+/// That no order of steps within the bounds answers the question, and how many states were seen.
+pub fn never_text(alloc: Global, inquiry: &Inquiry, states: u64) -> Result<Vec<u8>, Fault>
+    ensures text { IfOk result (λ text. text.items ≡ never_text inquiry.now.script (asked_in inquiry.now.asking) states) }
+    ensures err { IfErr result (λ fault. fault ≡ Memory) }
+{
+    let mut text = Vec::new(alloc);
+    push_never(&mut text, inquiry, states)?;
+    Ok(text)
+}
+
+/// Puts that no order of steps answers the question behind a text.
+#[tactic(auto, unfolding(crate::specs::Texts::never_text))]
+pub fn push_never(text: &mut Vec<u8>, inquiry: &Inquiry, states: u64) -> Result<(), AllocError>
+    ensures { OnOk result (text.new.items ≡ text.old.items ++ never_text inquiry.now.script (asked_in inquiry.now.asking) states) }
+{
+    text.extend_from_slice(b"never")?;
+    push_within(text, inquiry.script.names(), &inquiry.asking)?;
+    text.extend_from_slice(b": ")?;
+    push_states(text, states)?;
+    text.extend_from_slice(b", every order\n")
+}
+
+/// That there are more states than were to be kept.
+pub fn unsettled_text(alloc: Global, states: u64) -> Result<Vec<u8>, Fault>
+    ensures text { IfOk result (λ text. text.items ≡ unsettled_text states) }
+    ensures err { IfErr result (λ fault. fault ≡ Memory) }
+{
+    let mut text = Vec::new(alloc);
+    push_unsettled(&mut text, states)?;
+    Ok(text)
+}
+
+/// Puts that there are more states than were to be kept behind a text.
+#[tactic(auto, unfolding(crate::specs::Texts::unsettled_text))]
+pub fn push_unsettled(text: &mut Vec<u8>, states: u64) -> Result<(), AllocError>
+    ensures { OnOk result (text.new.items ≡ text.old.items ++ unsettled_text states) }
+{
+    text.extend_from_slice(b"not settled within ")?;
+    push_states(text, states)?;
+    text.extend_from_slice(b"\n")?;
+    Ok(())
+}
+
+/// That an order of steps has more of them than a session holds.
+pub fn too_deep_text(alloc: Global) -> Result<Vec<u8>, Fault>
+    ensures text { IfOk result (λ text. text.items ≡ too_deep_text) }
+    ensures err { IfErr result (λ fault. fault ≡ Memory) }
+{
+    let mut text = Vec::new(alloc);
+    push_too_deep(&mut text)?;
+    Ok(text)
+}
+
+/// Puts that an order of steps has more of them than a session holds behind a text.
+pub fn push_too_deep(text: &mut Vec<u8>) -> Result<(), AllocError>
+    ensures { OnOk result (text.new.items ≡ text.old.items ++ too_deep_text) }
+{
+    text.extend_from_slice(b"not settled within 16777216 steps\n")
+}
+
+/// The warning where `may_never_end` holds.
+pub fn no_end_text() -> &'static str
+    ensures { result.now ≡ no_end_text }
+{
+    "no bound is given, and the script repeats: there may be no end of states\n"
+}
+
+#[tactic(auto, unfolding(crate::specs::Texts::steps_text))]
+fn push_steps(text: &mut Vec<u8>, steps: u64) -> Result<(), AllocError>
+    ensures { OnOk result (text.new.items ≡ text.old.items ++ steps_text steps) }
+{
+    push_number(text, steps)?;
+    if steps == 1 {
+        text.extend_from_slice(b" step")
+    } else {
+        text.extend_from_slice(b" steps")
+    }
+}
+
+#[tactic(auto, unfolding(crate::specs::Texts::states_text))]
+fn push_states(text: &mut Vec<u8>, states: u64) -> Result<(), AllocError>
+    ensures { OnOk result (text.new.items ≡ text.old.items ++ states_text states) }
+{
+    push_number(text, states)?;
+    if states == 1 {
+        text.extend_from_slice(b" state")
+    } else {
+        text.extend_from_slice(b" states")
+    }
+}
+
+#[tactic(auto, unfolding(crate::specs::Texts::calls_text))]
+fn push_calls(text: &mut Vec<u8>, calls: u32) -> Result<(), AllocError>
+    ensures { OnOk result (text.new.items ≡ text.old.items ++ calls_text calls) }
+{
+    push_number(text, calls as u64)?;
+    if calls == 1 {
+        text.extend_from_slice(b" call of ")
+    } else {
+        text.extend_from_slice(b" calls of ")
+    }
+}
+
+/// A name's bound.
+#[tactic(auto, unfolding(crate::specs::Texts::bound_text))]
+fn push_bound(text: &mut Vec<u8>, names: &Names, most: Most) -> Result<(), AllocError>
+    ensures { OnOk result (text.new.items ≡ text.old.items ++ bound_text names.now most) }
+{
+    push_calls(text, most.calls)?;
+    names.push_name(text, most.name)
+}
+
+/// A name's bound behind another one.
+#[tactic(auto, unfolding(crate::specs::Texts::more_bound))]
+fn push_more(text: &mut Vec<u8>, names: &Names, most: Most) -> Result<(), AllocError>
+    ensures { OnOk result (text.new.items ≡ text.old.items ++ more_bound names.now most) }
+{
+    text.extend_from_slice(b", ")?;
+    push_bound(text, names, most)
+}
+
+fn push_more_bounds(text: &mut Vec<u8>, names: &Names, most: &[Most]) -> Result<(), AllocError>
+    ensures { OnOk result (text.new.items ≡ text.old.items ++ more_bounds names.now most.now) }
+{
+    for bound in most {
+        push_more(text, names, *bound)?;
+    }
+    Ok(())
+}
+
+/// The bounds, behind the word `within`.
+fn push_within(text: &mut Vec<u8>, names: &Names, asking: &Asking) -> Result<(), AllocError>
+    ensures { OnOk result (text.new.items ≡ text.old.items ++ within_text names.now asking.now.clock asking.now.most.items) }
+{
+    match asking.clock {
+        Some(ms) => {
+            text.extend_from_slice(b" within clock ")?;
+            push_number(text, ms)?;
+            push_more_bounds(text, names, &asking.most)?;
+            Ok(())
+        }
+        None => push_names_within(text, names, &asking.most),
+    }
+}
+
+/// The bounds of names, behind the word `within`.
+fn push_names_within(text: &mut Vec<u8>, names: &Names, most: &[Most]) -> Result<(), AllocError>
+    ensures { OnOk result (text.new.items ≡ text.old.items ++ within_text names.now None most.now) }
+{
+    match most {
+        [] => Ok(()),
+        [first, more @ ..] => {
+            text.extend_from_slice(b" within ")?;
+            push_bound(text, names, *first)?;
+            push_more_bounds(text, names, more)
+        }
+    }
+}

@@ -1,0 +1,194 @@
+//! What the lines behind `begin` have said so far.
+ghost use Rattle.std.specs.Prelude.{◌≡◌, ◌≢◌, ◌<◌, ◌+◌, ◌-◌, ◌^◌, length, AllPairs, OnOk, option_map};
+ghost use Rattle.std.specs.List.{list_any};
+ghost use Rattle.uv_script.specs.Lines.{lines_of};
+ghost use Rattle.uv_asking.specs.Asked.{asked_in};
+ghost use Rattle.uv_inquiry.specs.Drafts.{unsaid, with_part, finished};
+ghost use Rattle.uv_inquiry.specs.Tests.{same_step, same_offer, has_offer, has_bound, is_new, ReadsLine, ReadsLines, ReadsAsking};
+
+use std::alloc::{AllocError, Global};
+use std::marker::Model;
+use uv_asking::{Asking, Most, Offer, Offered, Part, Question, Said, read_part};
+use uv_ids::{Event, Fault, Var};
+use uv_script::{Lines, Names, line_count};
+
+/// The most lines `may` (own).
+const MOST_OFFERS: usize = 256;
+
+/// How many states are kept where no line says it (own).
+const DEFAULT_STATES: u32 = 10_000_000;
+
+/// What was said so far.
+#[derive(Drop)]
+pub(crate) struct Draft {
+    offers: Vec<Offered>,
+    clock: Option<u64>,
+    most: Vec<Most>,
+    states: Option<u32>,
+    question: Option<Question>,
+}
+
+impl Model for Draft {
+    ghost use Rattle.uv_inquiry.specs.Drafts as parts;
+
+    ghost Value = { parts.Draft };
+
+    ghost view = { λ d. record {
+      offers = d.offers.items;
+      clock = d.clock;
+      most = d.most.items;
+      states = d.states;
+      question = d.question;
+    } };
+}
+
+/// Whether one step is the other.
+fn same_step(one: Event, other: Event) -> bool
+    ensures { result ≡ same_step one other }
+{
+    one == other
+}
+
+/// Whether one offer is the other.
+fn same_offer(one: Offer, other: Offer) -> bool
+    ensures { result ≡ same_offer one other }
+{
+    match (one, other) {
+        (Offer::Step(one), Offer::Step(other)) => same_step(one, other),
+        (Offer::Take, Offer::Take) => true,
+        (Offer::Wait, Offer::Wait) => true,
+        _ => false,
+    }
+}
+
+fn has_offer(offers: &[Offered], offer: Offer) -> bool
+    ensures { result ≡ has_offer offer offers.now }
+{
+    offers
+        .iter()
+        .any(|offered| same_offer(offered.offer, offer))
+}
+
+fn has_bound(most: &[Most], name: Var) -> bool
+    ensures { result ≡ has_bound name.0 most.now }
+{
+    most.iter().any(|bound| bound.name.0 == name.0)
+}
+
+impl Draft {
+    /// Nothing was said.
+    fn new(alloc: Global) -> Draft
+        ensures { result ≡ unsaid }
+    {
+        Draft {
+            offers: Vec::new(alloc),
+            clock: None,
+            most: Vec::new(alloc),
+            states: None,
+            question: None,
+        }
+    }
+
+    /// Whether that is said for the first time, and there is room for it.
+    fn is_new(&self, part: Part) -> bool
+        ensures { result ≡ is_new self.now part }
+    {
+        match part {
+            Part::Offers(offered) => {
+                self.offers.len() < MOST_OFFERS && !has_offer(&self.offers, offered.offer)
+            }
+            Part::Clock(_) => self.clock.is_none(),
+            Part::Calls(most) => !has_bound(&self.most, most.name),
+            Part::States(_) => self.states.is_none(),
+            Part::Finds(_) => self.question.is_none(),
+        }
+    }
+
+    /// Adds what one more line says.
+    fn add(&mut self, part: Part) -> Result<(), AllocError>
+        ensures { OnOk result (self.new ≡ with_part self.old part) }
+    {
+        match part {
+            Part::Offers(offered) => self.offers.push(offered)?,
+            Part::Clock(ms) => self.clock = Some(ms),
+            Part::Calls(most) => self.most.push(most)?,
+            Part::States(states) => self.states = Some(states),
+            Part::Finds(question) => self.question = Some(question),
+        }
+        Ok(())
+    }
+
+    /// Reads one more line, of this number.
+    fn read_line(&mut self, names: &Names, number: usize, line: &[u8]) -> Result<(), Fault>
+        ensures { ReadsLine names.now self.old line.now number result self.new }
+    {
+        match read_part(names, line) {
+            Said::Nothing => Ok(()),
+            Said::One(part) => {
+                if !self.is_new(part) {
+                    return Err(Fault::Script { line: number });
+                }
+                match self.add(part) {
+                    Ok(()) => Ok(()),
+                    Err(_) => Err(Fault::Memory),
+                }
+            }
+            Said::Bad => Err(Fault::Script { line: number }),
+        }
+    }
+
+    /// What is asked, if a question was said.
+    fn finish(self) -> Option<Asking>
+        ensures { option_map asked_in result ≡ finished self }
+    {
+        let question = self.question?;
+        Some(Asking {
+            offers: self.offers,
+            clock: self.clock,
+            most: self.most,
+            states: self.states.unwrap_or(DEFAULT_STATES),
+            question,
+        })
+    }
+}
+
+/// Reads the lines of a text, where so many lines stand before it.
+fn read_lines(alloc: Global, names: &Names, text: &[u8], before: usize) -> Result<Draft, Fault>
+    requires distinct { AllPairs (λ x y. x ≢ y) names.now }
+    requires few { before + length text.now < 2 ^ 64 - 1 }
+    ensures { ReadsLines names.now text.now before result }
+{
+    let mut draft = Draft::new(alloc);
+    let mut number = before;
+    for line in Lines::of(text) {
+        number += 1;
+        match draft.read_line(names, number, line) {
+            Ok(()) => {}
+            Err(fault) => return Err(fault),
+        }
+    }
+    Ok(draft)
+}
+
+/// What a text behind `begin` asks, where so many lines stand before it, `begin` among them.
+pub(crate) fn read_asking(
+    alloc: Global,
+    names: &Names,
+    text: &[u8],
+    before: usize,
+) -> Result<Asking, Fault>
+    requires distinct { AllPairs (λ x y. x ≢ y) names.now }
+    requires few { before + length text.now < 2 ^ 64 - 1 }
+    ensures { ReadsAsking names.now text.now before result }
+{
+    let draft = match read_lines(alloc, names, text, before) {
+        Ok(draft) => draft,
+        Err(fault) => return Err(fault),
+    };
+    match draft.finish() {
+        Some(asking) => Ok(asking),
+        None => Err(Fault::Script {
+            line: before + line_count(text) + 1,
+        }),
+    }
+}

@@ -1,0 +1,19 @@
+//! A script with what is asked of it: how such an input is read, and the texts of the answers.
+#![tactic(auto)]
+
+mod answer;
+mod draft;
+mod front;
+mod input;
+mod inquiry;
+mod repeats;
+mod session;
+
+pub use answer::{
+    found_text, never_text, no_end_text, push_found, push_never, push_too_deep, push_unsettled,
+    too_deep_text, unsettled_text,
+};
+pub use input::read_inquiry;
+pub use inquiry::{Inquiry, one_inquiry};
+pub use repeats::may_never_end;
+pub use session::session_read_back;

@@ -1,0 +1,36 @@
+-- The names that proofs of this crate bring in.
+pub use Rattle.std.proofs.Common.{Bool, Err, List, None, Ok, Option, Result, Some, [], ap, append_assoc, arith, cond, drop, false, filter, get_or, inl, inr, length, map, option_map, refl, rules, slice_get, subst, sym, take, true, vec_capacity, vec_len, ℕ, ⊎_elim, ◌++◌, ◌+◌, ◌-◌, ◌<◌, ◌==◌, ◌||◌, ◌∙◌, ◌∷◌, ◌≡◌, ◌≤◌}
+pub use Rattle.std.proofs.lemmas.Bool.{cases_lt, eqb-false, eqb-true}
+pub use Rattle.std.proofs.lemmas.List.{append-nil, drop-append-le, drop_all, get_or-map, length-map, length-take-le, map-append, take-append-drop, take_more}
+pub use Rattle.std.proofs.lemmas.List.Elements.{filter-append}
+pub use Rattle.std.proofs.lemmas.List.Sums.{sum_by_more, sum_by_more_le}
+pub use Rattle.std.proofs.lemmas.Option.{slice_get-get_or, slice_get-map, slice_get_within}
+pub use Rattle.std.specs.List.{Contains, count_by}
+pub use Rattle.std.specs.Vec.Iter.{into_iter_items}
+pub use Rattle.uv_ids.specs.declared.code.Code.{Code}
+pub use Rattle.uv_ids.specs.declared.event.Event.{Event}
+pub use Rattle.uv_ids.specs.declared.fault.Fault.{Fault}
+pub use Rattle.uv_ids.specs.declared.fault.Why.{Why}
+pub use Rattle.uv_ids.specs.declared.id.Id.{Id}
+pub use Rattle.uv_ids.specs.declared.id.Var.{Var}
+pub use Rattle.uv_ids.specs.declared.thread_line.ThreadLine.{ThreadLine}
+pub use Rattle.uv_live.specs.Course.{Course, Plan, step_of, stepped, taken}
+pub use Rattle.uv_live.specs.Following.{Applies, Decides, Follows, IsWorkers, MayTake, OnFull, StaysEnded, Syncs}
+pub use Rattle.uv_live.specs.Running.{first_fault}
+pub use Rattle.uv_live.specs.Sending.{Absorbs, Records, is_by, names_by, names_in, threads_below}
+pub use Rattle.uv_live.specs.Settling.{AreShifts, IsSettled, IsShift, SendsFit, Worked, counted, is_cancel, part_of, worked}
+pub use Rattle.uv_pool.specs.Benches.{are_turns}
+pub use Rattle.uv_pool.specs.Book.{IsReplay, Standing, finish_count}
+pub use Rattle.uv_pool.specs.Calls.{Cancels, CollectsNext, IsFull, Submits, WantsMemory}
+pub use Rattle.uv_pool.specs.Contents.{Contents, member, pool_of}
+pub use Rattle.uv_pool.specs.Hold.{Hold}
+pub use Rattle.uv_pool.specs.declared.places.Collected.{Collected}
+pub use Rattle.uv_wake.specs.Seats.{AllCarried, Carries, after_absorb}
+pub use Rattle.uv_wake.specs.declared.tickets.Ticket.{Ticket}
+pub use Rattle.uv_wake.specs.declared.views.LoopView.{LoopView}
+pub use Rattle.uv_work.proofs.Replays.{events_both, replay_more, same_when}
+pub use Rattle.uv_work.specs.Ids.{same_id}
+pub use Rattle.uv_work.specs.Pool.{IsLegal, Pool, after_events, collected_from, empty_pool, has, then_event, waits}
+pub use Rattle.uv_work.specs.declared.event.PoolEvent.{PoolEvent}
+pub use Rattle.uv_work.specs.declared.event.PoolEvent.TheVariants.{Queue}
+pub use Rattle.uv_work.specs.declared.job.Job.{Job}

@@ -1,0 +1,5 @@
+mod Lengths
+mod Codes
+mod Timers
+mod Slots
+pub mod States

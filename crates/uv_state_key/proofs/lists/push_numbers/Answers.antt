@@ -1,0 +1,16 @@
+use Rattle.std.proofs.Common.{◌++◌, ap, ◌∙◌, arith}
+use Rattle.uv_key.specs.Codes.{number_code}
+use Rattle.uv_key.proofs.Loops.{each_turn, list_end}
+use Rattle.uv_state_key.proofs.lists.push_numbers.Goals as goal
+
+pub loop-number-preserved : goal.loop-number-preserved
+loop-number-preserved c =
+    c.in_ok-push_number-2.ensures
+    ∙ ap (λ n. c.loop-number.out.items ++ number_code n) c.from.ensures
+    ∙ each_turn number_code c.args.numbers.now c.loop-number.number-index _ c.push_number.new.out.items c.loop-number.out.items (omega arith)
+    c.loop-number.invariant
+
+pub returns : goal.returns
+returns c =
+    list_end number_code c.args.numbers.now c.loop-number.number-index c.args.out.now.items c.push_number.new.out.items c.loop-number.out.items
+    (omega arith) c.in_ok-push_number.ensures c.loop-number.invariant

@@ -1,0 +1,8 @@
+use Rattle.std.proofs.Common.{◌≡◌, ◌++◌, take}
+use Rattle.std.specs.List.{flat_map}
+use Rattle.uv_key.specs.Codes.{number_code}
+use Rattle.uv_state_key.proofs.lists.push_numbers.Given as goal
+
+-- those before this one
+abbrev pub invariant-loop-number : goal.invariant-loop-number
+invariant-loop-number l = l.out.items ≡ l.initial.out.items ++ flat_map number_code (take l.number-index l.numbers)

@@ -1,0 +1,13 @@
+//! What the bytes tell.
+ghost use Rattle.std.specs.Prelude.{◌≡◌, ◌++◌, ℕ, List};
+ghost use Rattle.uv_ids.specs.declared.event.Event.{Event};
+ghost use Rattle.uv_script.specs.Program.{Program};
+ghost use Rattle.uv_model.specs.After.{after};
+ghost use Rattle.uv_state_key.specs.Key.{state_code};
+
+/// For every script and all lists of steps: where the bytes of two states that the steps lead to are equal, the states are, whatever
+/// follows the bytes. It does nothing, and is called for its clause.
+pub fn keys_tell()
+    ensures { (p : Program) (es fs : List Event) (x y : List ℕ) → state_code (after p es) ++ x ≡ state_code (after p fs) ++ y
+        → (after p es ≡ after p fs) × (x ≡ y) }
+{}

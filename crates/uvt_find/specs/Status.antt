@@ -1,0 +1,49 @@
+-- What a run of the program comes to.
+use Rattle.std.specs.Prelude.{◌≡◌, ℕ, ◌≤◌, ◌==◌, ◌++◌, true, List, [], ◌∷◌}
+use Rattle.std.specs.List.{list_any}
+use Rattle.uv_ids.specs.declared.event.Event.{Event}
+use Rattle.uv_ids.specs.declared.fault.Fault.{Fault}
+use Rattle.uv_ids.specs.declared.fault.Fault.TheVariants as fault
+use Rattle.uv_script.specs.Program.{Program}
+use Rattle.uv_engine.specs.Sink.{CutShort}
+use Rattle.uv_asking.specs.Asked.{Asked}
+use Rattle.uv_find.specs.Orders.{Place, beginning}
+use Rattle.uv_find.specs.Courses.{IsAnswer}
+use Rattle.uv_find.specs.Found.{IsNever, IsMore, IsDeepest}
+use Rattle.uv_find.specs.Spots.{rules_of}
+use Rattle.uv_inquiry.specs.Grammar.{IsInquiry, IsBadInput}
+use Rattle.uv_inquiry.specs.Texts.{found_text, never_text, unsettled_text, too_deep_text}
+
+-- the text that answers what is asked of a script, and its status
+pub data Answers (p : Program) (a : Asked) : List ℕ → ℕ → Type 0 where
+  -- these events answer the question: the last of them does
+  found : (es : List Event) (q : Place) (states : ℕ) → IsAnswer (rules_of p a) (beginning (rules_of p a)) es q → states ≤ a.states →
+      Answers p a (found_text p es states) 0
+  -- no events do, however many; they lead to so many places
+  never : (states : ℕ) → IsNever (rules_of p a) (beginning (rules_of p a)) states → states ≤ a.states → Answers p a (never_text p a states) 1
+  -- there are more places than may be kept
+  unsettled : IsMore (rules_of p a) (beginning (rules_of p a)) a.states → Answers p a (unsettled_text a.states) 3
+  -- events lead to where no more of them may be taken
+  too_deep : IsDeepest (rules_of p a) (beginning (rules_of p a)) → Answers p a too_deep_text 3
+
+-- the status of a fault
+abbrev pub status_of : Fault → ℕ
+status_of (fault.Script line) = 2
+status_of _ = 4
+
+-- the statuses with which a run may end
+abbrev pub MayEnd : ℕ → Type 0
+MayEnd status = list_any (λ s. s == status) (0 ∷ 1 ∷ 2 ∷ 3 ∷ 4 ∷ []) ≡ true
+
+-- what is written for what is asked of a script. 0, 1 or 3: the answer. 4: nothing, or a beginning of the answer
+pub data Responds (p : Program) (a : Asked) (old new : List ℕ) : ℕ → Type 0 where
+  whole : (text : List ℕ) (status : ℕ) → Answers p a text status → new ≡ old ++ text → Responds p a old new status
+  nothing : new ≡ old → Responds p a old new 4
+  cut_short : (text : List ℕ) (status : ℕ) → Answers p a text status → CutShort old text new → Responds p a old new 4
+
+-- a run: what the input asks is answered; or it has a bad line, and nothing is written; or nothing is written for want of memory, or since the
+-- reader failed
+pub data Ran (input old new : List ℕ) : ℕ → Type 0 where
+  answered : (p : Program) (a : Asked) (status : ℕ) → IsInquiry input p a → Responds p a old new status → Ran input old new status
+  bad_line : (line : ℕ) → IsBadInput input line → new ≡ old → Ran input old new 2
+  nothing_read : new ≡ old → Ran input old new 4

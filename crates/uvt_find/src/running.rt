@@ -1,0 +1,159 @@
+//! The program over any reader and writers.
+ghost use Rattle.std.specs.Prelude.{◌≡◌, ◌≢◌, ◌^◌, IfOk, IfErr, OnOk};
+ghost use Rattle.uv_engine.specs.Devices.{TakesWithin};
+ghost use Rattle.uv_engine.specs.Sink.{WritesText};
+ghost use Rattle.uv_find.specs.Spots.{rules_of, first_spot};
+ghost use Rattle.uv_ids.specs.declared.fault.Fault.TheVariants.{Memory, Write as WriteFault};
+ghost use Rattle.uv_asking.specs.Asked.{asked_in};
+ghost use Rattle.uvt_find.specs.Status.{Answers, MayEnd, Ran, Responds, status_of};
+
+use std::alloc::Global;
+use std::io::Write;
+use uv_engine::{Sink, Source, write_text};
+use uv_find::{Answer, Orders, find};
+use uv_ids::Fault;
+use uv_inquiry::{
+    Inquiry, found_text, may_never_end, never_text, no_end_text, read_inquiry, too_deep_text,
+    unsettled_text,
+};
+use uv_model::Machine;
+use uv_script::Script;
+
+/// The text of an answer, and the exit status.
+#[derive(Drop)]
+pub struct Told {
+    text: Vec<u8>,
+    status: u8,
+}
+
+/// The same script once more.
+fn copied(alloc: Global, script: &Script) -> Result<Script, Fault>
+    ensures script { IfOk result (λ copy. copy ≡ script.now) }
+    ensures err { IfErr result (λ fault. fault ≡ Memory) }
+{
+    let text = script.text()?;
+    Script::parse(alloc, text.as_slice())
+}
+
+/// Searches for what is asked, from the beginning.
+fn search<M: Machine>(
+    alloc: Global,
+    inquiry: &Inquiry,
+    orders: &mut Orders<M>,
+) -> Result<Told, Fault>
+    requires rules { orders.old.rules ≡ rules_of inquiry.now.script (asked_in inquiry.now.asking) }
+    requires spot { orders.old.spot ≡ first_spot orders.old.rules }
+    ensures told { IfOk result (λ told. Answers inquiry.now.script (asked_in inquiry.now.asking) told.text.items told.status) }
+    ensures err { IfErr result (λ fault. fault ≡ Memory) }
+{
+    let states = inquiry.asking.states;
+    match find(alloc, orders, states as usize)? {
+        Answer::Found(states) => Ok(Told {
+            text: found_text(alloc, &inquiry.script, orders.steps(), states as u64)?,
+            status: 0,
+        }),
+        Answer::Never(states) => Ok(Told {
+            text: never_text(alloc, inquiry, states as u64)?,
+            status: 1,
+        }),
+        Answer::Unsettled => Ok(Told {
+            text: unsettled_text(alloc, u64::from(states))?,
+            status: 3,
+        }),
+        Answer::TooDeep => Ok(Told {
+            text: too_deep_text(alloc)?,
+            status: 3,
+        }),
+    }
+}
+
+/// Answers what is asked of a script, over a new machine of it.
+fn answer<M: Machine>(alloc: Global, inquiry: &Inquiry) -> Result<Told, Fault>
+    requires back { M.BackWantsMemory → ⊥ }
+    ensures told { IfOk result (λ told. Answers inquiry.now.script (asked_in inquiry.now.asking) told.text.items told.status) }
+    ensures err { IfErr result (λ fault. fault ≡ Memory) }
+{
+    let machine = M::begin(alloc, copied(alloc, &inquiry.script)?)?;
+    let mut orders = Orders::new(alloc, machine, &inquiry.asking)?;
+    search(alloc, inquiry, &mut orders)
+}
+
+/// Writes a whole text, and passes it on.
+fn write_whole<W: Sink>(writer: &mut W, text: &[u8]) -> Result<(), Fault>
+    ensures text { W.Tells → WritesText result (W.written writer.old) text.now (W.written writer.new) }
+    ensures err { IfErr result (λ fault. fault ≡ WriteFault) }
+    ensures writer { OnOk result (W.failures writer.new ≡ W.failures writer.old) }
+{
+    write_text(writer, text)?;
+    if writer.flush().is_err() {
+        return Err(Fault::Write);
+    }
+    Ok(())
+}
+
+/// Says what went wrong, and gives the exit status.
+fn fail<E: Write>(fault: Fault, errors: &mut E) -> u8
+    ensures { result ≡ status_of fault }
+{
+    let _ = writeln!(errors, "uvt: {fault}");
+    match fault {
+        Fault::Script { .. } => 2,
+        _ => 4,
+    }
+}
+
+/// Says so where there may be no end of states.
+fn warn<E: Write>(inquiry: &Inquiry, errors: &mut E) {
+    if may_never_end(inquiry) {
+        let _ = write!(errors, "uvt: {}", no_end_text());
+    }
+}
+
+/// Writes the answer to what is asked of a script, and gives the exit status.
+fn respond<M: Machine, W: Sink, E: Write>(
+    alloc: Global,
+    inquiry: &Inquiry,
+    writer: &mut W,
+    errors: &mut E,
+) -> u8
+    requires back { M.BackWantsMemory → ⊥ }
+    ensures text { W.Tells → Responds inquiry.now.script (asked_in inquiry.now.asking) (W.written writer.old) (W.written writer.new) result }
+    ensures status { MayEnd result }
+    ensures writer { result ≢ 4 → W.failures writer.new ≡ W.failures writer.old }
+{
+    warn(inquiry, errors);
+    match answer::<M>(alloc, inquiry) {
+        Ok(told) => match write_whole(writer, told.text.as_slice()) {
+            Ok(()) => told.status,
+            Err(fault) => fail(fault, errors),
+        },
+        Err(fault) => fail(fault, errors),
+    }
+}
+
+/// Reads what is asked, answers it, and gives the exit status: 0 where steps are found that answer the question, 1 where none do, 3
+/// where that isn't settled, 2 for a bad line, 4 for any other fault. A fault is a line on the errors, `uvt: ` and its text. So is a
+/// warning, before the search, where there may be no end of states.
+pub fn run<M: Machine, R: Source, W: Sink, E: Write>(
+    alloc: Global,
+    reader: &mut R,
+    writer: &mut W,
+    errors: &mut E,
+) -> u8
+    requires back { M.BackWantsMemory → ⊥ }
+    ensures text { R.Tells → W.Tells → Ran (R.remaining reader.old) (W.written writer.old) (W.written writer.new) result }
+
+    // On any device, also one that doesn't tell its bytes, it ends with one of these statuses.
+    ensures status { MayEnd result }
+
+    // With any status but 4, that of want of memory and of a device that failed, it has read 2^30 bytes at the most, and neither
+    // device has failed.
+    ensures within { result ≢ 4 → R.Tells → TakesWithin (2 ^ 30) (R.remaining reader.old) (R.remaining reader.new) }
+    ensures reader { result ≢ 4 → R.failures reader.new ≡ R.failures reader.old }
+    ensures writer { result ≢ 4 → W.failures writer.new ≡ W.failures writer.old }
+{
+    match read_inquiry(alloc, reader) {
+        Ok(inquiry) => respond::<M, _, _>(alloc, &inquiry, writer, errors),
+        Err(fault) => fail(fault, errors),
+    }
+}

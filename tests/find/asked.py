@@ -1,0 +1,82 @@
+"""What the input of a search says: a script, what may come from outside, how far it goes, and what is looked for."""
+import re
+from typing import Dict, List, NamedTuple, Optional, Tuple
+
+DEFAULT_WORKERS = 4
+
+
+class Offer(NamedTuple):
+    """A step from outside: `send` and `cancel` with a name, `tick` with a number, or `wait`."""
+    word: str
+    argument: str
+    # how often it may be taken; none is as often as one likes
+    times: Optional[int]
+
+
+class Asked(NamedTuple):
+    script: List[str]
+    names: List[str]
+    # how many lines the main program has
+    main: int
+    workers: int
+    offers: List[Offer]
+    clock: Optional[int]
+    most: Dict[str, int]
+    states: Optional[int]
+    # the words behind `find`
+    question: Tuple[str, ...]
+
+
+def read(text: str) -> Asked:
+    """What such an input asks. It is one that the test itself made, or that a person gives it."""
+    lines = text.split('\n')
+    if 'begin' not in lines:
+        raise ValueError('the input has no line `begin`')
+    script = lines[:lines.index('begin')]
+    asked = Asked(script, [line.split()[1] for line in script if line.startswith('var ')], sum(line.startswith('main ') for line in script),
+                  DEFAULT_WORKERS, [], None, {}, None, ())
+    for line in script:
+        if line.startswith('workers '):
+            asked = asked._replace(workers=int(line.split()[1]))
+    for line in lines[len(script) + 1:]:
+        asked = read_line(asked, line)
+    for name in names_in(asked):
+        if name not in asked.names:
+            raise ValueError('the name %s is not declared' % name)
+    return asked
+
+
+def names_in(asked: Asked) -> List[str]:
+    """The names that the lines behind `begin` name."""
+    question = asked.question
+    named = list(asked.most) + [offer.argument for offer in asked.offers if offer.word in ('send', 'cancel')]
+    if len(question) == 3 and question[1] == 'before':
+        return named + [question[0], question[2]]
+    if question[:1] == ('code',):
+        return named + list(question[3:])
+    if question in ((), ('stuck',)) or question[0] == 'section' and len(question) == 2:
+        return named
+    if len(question) not in {'call': (2, 3), 'never': (2,), 'late': (3,)}.get(question[0], ()):
+        raise ValueError('this is no question: find ' + ' '.join(question))
+    if len(question) == 3 and not re.fullmatch('[0-9]+', question[2]):
+        raise ValueError('this is no number: ' + question[2])
+    return named + [question[1]]
+
+
+def read_line(asked: Asked, line: str) -> Asked:
+    words = line.split()
+    if not words or line.startswith('#'):
+        return asked
+    if words == ['may', 'wait']:
+        return asked._replace(offers=asked.offers + [Offer('wait', '', None)])
+    if words[0] == 'may' and len(words) == 4 and words[1] in ('send', 'cancel', 'tick'):
+        return asked._replace(offers=asked.offers + [Offer(words[1], words[2], int(words[3]))])
+    if words[0] == 'most' and len(words) == 3 and re.fullmatch('[0-9]+', words[2]):
+        if words[1] == 'clock':
+            return asked._replace(clock=int(words[2]))
+        if words[1] == 'states':
+            return asked._replace(states=int(words[2]))
+        return asked._replace(most={**asked.most, words[1]: int(words[2])})
+    if words[0] == 'find':
+        return asked._replace(question=tuple(words[1:]))
+    raise ValueError('this line asks nothing: ' + line)

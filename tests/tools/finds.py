@@ -1,0 +1,111 @@
+"""Tries the search's tool (tools/uvt-find): each example that asks, and what is said of bad lines and bad words.
+
+What each example has to answer stands here, by its question: the line of the script's run that answers it, or that no order does. How many
+states there are, and that the answers are right, is tried by tests/find."""
+
+from __future__ import annotations
+
+import os
+import subprocess
+import sys
+import tempfile
+from pathlib import Path
+from typing import Callable, NamedTuple
+
+ROOT = Path(__file__).resolve().parent.parent.parent
+EXAMPLES = ROOT / "crates" / "examples" / "data"
+TOOL = str(ROOT / "tools" / "uvt-find")
+sys.path.insert(0, str(ROOT / "tools"))
+
+import reasons  # noqa: E402
+
+SECONDS = 300
+FOUND, NEVER, BAD, UNSETTLED = 0, 1, 2, 3
+Check = Callable[..., None]
+
+
+class Due(NamedTuple):
+    """How the answer begins, its status, and the last line that the session prints."""
+
+    answer: str
+    status: int
+    last: str
+
+
+ANSWERS = {
+    "cancel-too-late": Due("found in ", FOUND, "cancel job = EBUSY"),
+    "send-or-close": Due("found in ", FOUND, "out send progress = ESTALE"),
+    "starved-pool": Due("found in ", FOUND, "end 1"),
+    "lost-retry": Due("found in ", FOUND, "start retry 10 0 = ESTALE"),
+    "closing-server": Due("found in ", FOUND, "send log = ESTALE"),
+    "debounce": Due("never within clock 200: ", NEVER, ""),
+}
+# Inputs with a bad line, and what is said of it behind the program's own line.
+BAD_LINES = [
+    ("var a\nbegin\nmay fly\nfind stuck\n", 3, "no line says `may fly`: it has the form"),
+    ("var a\nbegin\nmay send b 1\nfind stuck\n", 3, "`b` isn't declared before this line"),
+    ("var a\nbegin\nmay send a 0\nfind stuck\n", 3, "`0` is out of range: N is 1 to 4294967295"),
+    ("var a\nbegin\nmay wait\n", 4, "the line is missing that says what to look for: `find ..`"),
+    ("var a\nbegin\nmay wait\nmay wait\nfind stuck\n", 4, "`may wait` stands in line 3 already, and a search has it once at most"),
+    ("var a\nbegin\nfind stuck\nfind never a\n", 4, "a second question: line 3 has the first, and one is asked at a time"),
+    ("var a\nbegin\nfind code EBUZY\n", 3, "`EBUZY` is none of ok, EINVAL"),
+    ("var a\nbegin\nloop\nfind stuck\n", 3, "no line behind `begin` begins with `loop` here: it is may, most or find"),
+    ("var a\nmain fly a\nbegin\nfind stuck\n", 2, "`fly` is no op"),
+    ("begin\n" + "".join(f"may tick {ms} 1\n" for ms in range(1, 258)) + "find stuck\n", 258, "at most 256 lines begin with `may`"),
+]
+
+
+def run(words: list[str], text: str = "") -> subprocess.CompletedProcess[str]:
+    return subprocess.run([TOOL, *words], input=text, capture_output=True, text=True, timeout=SECONDS, env=os.environ)
+
+
+def debugged(session: str) -> list[str]:
+    """What `uvt debug` prints of a session."""
+    program = os.environ.get("UVT") or str(ROOT / "uvt")
+    return subprocess.run([program, "debug"], input=session, capture_output=True, text=True, timeout=SECONDS).stdout.splitlines()
+
+
+def try_example(check: Check, name: str, due: Due, folder: str) -> None:
+    ran = run([str(EXAMPLES / f"{name}.find")])
+    first, _, session = ran.stdout.partition("\n")
+    check(f"find, {name}", first.startswith(due.answer) and ran.returncode == due.status, (ran.returncode, first, ran.stderr))
+    if due.status != FOUND:
+        check(f"find, {name}, nothing behind the answer", session == "", session)
+        return
+    lines = debugged(session)
+    check(f"find, {name}, its session", lines[-1:] == [due.last], lines[-3:])
+    path = os.path.join(folder, name)
+    ran = run([str(EXAMPLES / f"{name}.find"), "-o", path])
+    with open(path, encoding="ascii") as file:
+        kept = file.read()
+    check(f"find, {name}, its session in a file", (kept, ran.stdout) == (session, f"{first}\n    ./uvt shell {path}\n"), (kept, ran.stdout))
+
+
+def try_lines(check: Check, folder: str) -> None:
+    """The script of an example, or of a recording, with lines of the command line."""
+    asked = ["may tick 40 1", "may wait", "find late beat 40"]
+    ran = run([str(EXAMPLES / "late-timer.uvt"), *asked])
+    check("find, lines that are typed", ran.returncode == FOUND and debugged(ran.stdout.partition("\n")[2])[-1:] == ["call beat 2.0"], ran)
+    ran = run([str(EXAMPLES / "late-timer.uvt"), *asked[:2], "find late beat 41"])
+    check("find, no order is later than its delay", ran.returncode == NEVER and ran.stdout.startswith("never: "), ran)
+    ran = run([str(EXAMPLES / "sent-session.rec"), "may wait", "most states 1", "find stuck"])
+    check("find, of a recording, and not settled", (ran.returncode, ran.stdout) == (UNSETTLED, "not settled within 1 state\n"), ran)
+    for number, (text, line, why) in enumerate(BAD_LINES):
+        path = os.path.join(folder, f"bad-{number}")
+        with open(path, "w", encoding="ascii") as file:
+            file.write(text)
+        ran = run([path])
+        said = ran.stderr.splitlines()
+        check(f"find, a bad line: {why}", (ran.returncode, ran.stdout) == (BAD, "") and f"uvt: bad script line {line}" in said
+              and any(it.startswith(f"uvt: {why}") for it in said), ran)
+    rows = {reasons.why("find", text.encode().split(b"\n")[:-1], line).row for text, line, _ in BAD_LINES}
+    check("find, each row of the table of reasons is tried", not set(reasons.ASKED_REASONS) - rows, set(reasons.ASKED_REASONS) - rows)
+    ran = run([os.path.join(folder, "nowhere")])
+    check("find, no such file", ran.returncode == 70 and "No such file" in ran.stderr and "Traceback" not in ran.stderr, ran)
+
+
+def try_find(tries) -> None:
+    with tempfile.TemporaryDirectory() as folder:
+        for name, due in ANSWERS.items():
+            try_example(tries.check, name, due, folder)
+        try_lines(tries.check, folder)
