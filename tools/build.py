@@ -1,6 +1,6 @@
 """Proves and builds the program: tools/build.py ROOT KEPT CRATE..
 
-The crates are those that the program stands on, each after those that it stands on itself, and the program last. The libraries
+The crates are those that the program stands on, each after those that it stands on itself, and the program last: uvt, or uvt_find. The libraries
 are proved side by side, in copies of the repository beside it (tools/lanes.py). Then the program is built in the repository
 itself, where the kit's command takes over what was proved in the copies: so what was proved stands in crates/*/out
 afterwards, for the next build and for `rt check`. Where the build is stopped or fails, the copies stay, and the next one
@@ -20,6 +20,8 @@ from progress import Progress, clock
 
 # What a check of a crate takes of the memory, in bytes.
 EACH = 1_600_000_000
+# The words that each program is started with, and an input that it answers with status 0.
+STARTED = {'uvt': (['debug'], b'begin\n'), 'uvt_find': ([], b'var a\nmain now\nbegin\nfind never a\n')}
 
 
 class Stopped(Exception):
@@ -32,8 +34,12 @@ SIGNALS = (signal.SIGINT, signal.SIGTERM, signal.SIGHUP)
 def stop(*_: object) -> None:
     # (at a terminal two of them come)
     for number in SIGNALS:
-        signal.signal(number, signal.SIG_IGN)
+        signal.signal(number, pass_over)
     raise Stopped
+
+
+def pass_over(*_: object) -> None:
+    """(a signal that is ignored while it waits for its turn would leave a traceback)"""
 
 
 def room_of(root: str) -> str:
@@ -62,17 +68,18 @@ def processors() -> int:
     return max(found, 1)
 
 
-def build_program(root: str, progress: Progress, lanes: Lanes) -> None:
-    """Builds the program in the repository, and starts it on a script without a step, to see that it answers. It gets all processors, four at
+def build_program(root: str, program: str, progress: Progress, lanes: Lanes) -> None:
+    """Builds the program in the repository, and starts it on a short input, to see that it answers. It gets all processors, four at
     most, as nobody else waits for one."""
-    progress.begins('uvt')
-    folder = os.path.join(root, 'crates', 'uvt')
-    command = Command('uvt', ['run', '--jobs', str(min(4, lanes.processors)), '--', 'debug'], folder, lanes.said, b'begin\n')
-    lanes.running['uvt'] = command, '', lanes.processors
+    progress.begins(program)
+    folder = os.path.join(root, 'crates', program)
+    words, text = STARTED[program]
+    command = Command(program, ['run', '--jobs', str(min(4, lanes.processors)), '--'] + words, folder, lanes.said, text)
+    lanes.running[program] = command, '', lanes.processors
     try:
         lanes.next_end()
     finally:
-        del lanes.running['uvt']
+        del lanes.running[program]
         command.end()
 
 
@@ -80,13 +87,13 @@ def build(root: str, kept: str, names: List[str]) -> None:
     of = crates.read(root, names)
     at_once = processors()
     progress = Progress(of, at_once)
-    why = 'the sources or the kit have changed' if os.path.exists(os.path.join(kept, 'uvt')) else 'there is no proved program yet'
+    why = 'the sources or the kit have changed' if os.path.exists(os.path.join(kept, names[-1])) else 'there is no proved program yet'
     progress.say('%s: proving and building it, of %d crates, %d at a time: about %d minutes from nothing, if this machine does nothing else' % (
         why, len(of), at_once, round(expected(of, at_once) / 60)))
     room = room_of(root)
     lanes = Lanes(root, room, of, at_once, progress)
     lanes.build(names[:-1])
-    build_program(root, progress, lanes)
+    build_program(root, names[-1], progress, lanes)
     shutil.rmtree(room, ignore_errors=True)
     progress.say('built after %s; from now on each call starts at once' % clock(progress.elapsed()))
 

@@ -169,10 +169,13 @@ compile_changed() {
 make() {
     made=$1 tool=$root/tools/$2
     shift 2
-    # (a signal ends the build with all that it has started)
+    # (a signal ends the build with all that it has started; at a terminal the builder has an interrupt from there, too, and what it says
+    # it was ended by has to be the same of both)
     python3 "$tool" "$@" </dev/null 9>&- &
     builder=$!
-    trap 'kill "$builder" 2>/dev/null' INT HUP TERM
+    for it in INT HUP TERM; do
+        trap "kill -$it $builder 2>/dev/null" "$it"
+    done
     while :; do
         wait "$builder"
         status=$?
