@@ -1,8 +1,8 @@
 """Crates are proved side by side, each by the kit's own command in a copy of the repository.
 
 The kit lets one command at a time work in a crate and in all that the crate stands on, and all crates stand on one. So each
-lane is a copy of its own. What a command proves in one copy the kit gives to the commands in the others, and to those in
-the repository itself, where the files are the same: nothing is proved twice."""
+lane is a copy of its own. A library that is built in one lane is given to the others and to the repository, with the stamp by which the
+kit knows of which sources it is: so it is proved once. (It is the same bytes wherever it is built.)"""
 import contextlib
 import os
 import queue
@@ -63,6 +63,34 @@ def copy_sources(root: str, lane: str, crates: Dict[str, Crate]) -> None:
         file.writelines(crate.line + '\n' for crate in crates.values())
 
 
+def stamp_of(library: str) -> bytes:
+    try:
+        with open(os.path.join(library, 'stamp'), 'rb') as file:
+            return file.read()
+    except OSError:
+        return b''
+
+
+def link(source: str, target: str) -> None:
+    """The same file in another place, or where the file systems are two a copy of it."""
+    try:
+        os.link(source, target)
+    except OSError:
+        shutil.copy2(source, target)
+
+
+def give(library: str, target: str) -> None:
+    """A library as the kit has built it, in another copy of the repository. Where that can't be, the kit builds it there again."""
+    if not stamp_of(library) or stamp_of(library) == stamp_of(target):
+        return
+    with contextlib.suppress(OSError):
+        shutil.rmtree(target + '.new', ignore_errors=True)
+        shutil.copytree(library, target + '.new', copy_function=link)
+        shutil.rmtree(target, ignore_errors=True)
+        os.rename(target + '.new', target)
+    shutil.rmtree(target + '.new', ignore_errors=True)
+
+
 class Lanes:
     def __init__(self, root: str, room: str, crates: Dict[str, Crate], processors: int, progress: Progress) -> None:
         self.root, self.room, self.crates, self.processors, self.progress = root, room, crates, processors, progress
@@ -70,12 +98,14 @@ class Lanes:
         self.said: 'queue.Queue[Tuple[Command, Optional[str]]]' = queue.Queue()
         self.running: Dict[str, Tuple[Command, str, int]] = {}  # each crate's command, lane and processors
         self.free: List[str] = []
+        self.lanes: List[str] = []
 
     def build(self, names: List[str]) -> None:
         """Builds the libraries of these crates, which stand on one another and on nothing else."""
         for number in range(min(self.processors, len(names))):
             lane = os.path.join(self.room, 'lane-%d' % number)
             copy_sources(self.root, lane, self.crates)
+            self.lanes.append(lane)
             self.free.insert(0, lane)
         left = sorted(names, key=lambda name: -self.chains[name])
         try:
@@ -83,10 +113,17 @@ class Lanes:
                 self.start_ready(left)
                 command = self.next_end()
                 _, lane, _ = self.running.pop(command.name)
+                self.share(command.name, lane)
                 self.free.append(lane)
         finally:
             for command, _, _ in self.running.values():
                 command.end()
+
+    def share(self, name: str, lane: str) -> None:
+        """Gives a library that was built in a lane to all who may stand on it."""
+        place = os.path.join('crates', name, 'out', 'rlib')
+        for folder in self.lanes + [self.root]:
+            give(os.path.join(lane, place), os.path.join(folder, place))
 
     def start_ready(self, left: List[str]) -> None:
         """Starts those that only stand on what is done, as `chosen` has them."""
