@@ -3,20 +3,18 @@ import os
 from typing import Dict, List, NamedTuple
 
 
-# What the proof of a crate took from nothing by one process, in processor seconds in a quiet run. Of a crate
-# that isn't here it is reckoned from its lines.
+# What the proof of a crate took from nothing by one process, in seconds, with three others beside it (of those that took two, by
+# BY_JOBS). Of a crate that isn't here it is reckoned from its lines.
 MEASURED = {
-    'uv_ids': 74, 'uv_records': 36, 'uv_work': 38, 'uv_script': 283, 'uv_heap': 66, 'uv_model': 355, 'uv_order': 22, 'uv_session': 103,
-    'uv_text': 255, 'uv_engine': 259, 'uv_words': 76, 'uv_raw': 20, 'uv_arena': 122, 'uv_requests': 88, 'uv_handle': 47, 'uv_watch': 35,
-    'uv_timer': 60, 'uv_step': 189, 'uv_stands': 74, 'uv_timing': 60, 'uv_ops': 151, 'uv_sections': 170, 'uv_layout': 107,
-    'uv_loop': 190, 'uv_pool': 165, 'uv_wake': 36, 'uv_live': 212, 'uv_run': 102, 'uv_cli': 220, 'uvt': 250,
+    'uv_ids': 68, 'uv_records': 50, 'uv_work': 39, 'uv_script': 277, 'uv_heap': 59, 'uv_model': 453, 'uv_order': 50, 'uv_session': 130,
+    'uv_text': 266, 'uv_engine': 300, 'uv_words': 91, 'uv_raw': 45, 'uv_arena': 143, 'uv_requests': 104, 'uv_handle': 61, 'uv_watch': 46,
+    'uv_timer': 89, 'uv_step': 399, 'uv_stands': 77, 'uv_timing': 72, 'uv_ops': 150, 'uv_sections': 180, 'uv_layout': 107,
+    'uv_loop': 230, 'uv_pool': 204, 'uv_wake': 40, 'uv_live': 302, 'uv_run': 140, 'uv_cli': 175, 'uvt': 200,
 }
 # The last two go by the clock, whatever processors they have: their modules wait for one another.
 IN_A_ROW = ('uv_cli', 'uvt')
-# How much of that time the others take by the clock with so many processes, of which each reads what the crate stands on for itself;
-# and how much longer all of them take side by side.
+# How much of that time the others take by the clock with so many processes, of which each reads what the crate stands on for itself.
 BY_JOBS = {1: 1.0, 2: 0.62, 3: 0.5, 4: 0.44}
-BESIDE = 1.15
 
 
 class Crate(NamedTuple):

@@ -12,7 +12,7 @@ import subprocess
 import threading
 from typing import Container, Dict, List, Optional, Set, Tuple
 
-from crates import BESIDE, BY_JOBS, IN_A_ROW, Crate, chains
+from crates import BY_JOBS, IN_A_ROW, Crate, chains
 from progress import Progress
 
 PARTS = ('src', 'specs', 'proofs')
@@ -202,7 +202,7 @@ def expected(crates: Dict[str, Crate], processors: int) -> float:
         for name, jobs in chosen(crates, longest, done, running, left, processors):
             left.remove(name)
             running[name] = jobs
-            ends[name] = now + crates[name].weight * (1 if name in IN_A_ROW else BESIDE * BY_JOBS[jobs])
+            ends[name] = now + crates[name].weight * (1 if name in IN_A_ROW else BY_JOBS[jobs])
         name = min(running, key=lambda it: ends[it])
         now = ends[name]
         del running[name]
