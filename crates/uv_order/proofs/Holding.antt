@@ -1,9 +1,9 @@
 -- What the slots hold, and the lists of ids of handles.
-use Rattle.uv_order.proofs.Names.{◌≡◌, ◌⊎◌, inl, inr, ℕ, ◌<◌, List, ◌∷◌, ◌++◌, Bool, true, false, Option, Some, None, slice_set, refl, ap, sym, subst, ◌∙◌, arith, same_Some, Id, Var, Due, HandleRecord, Slot, held, Content, handle_in, same_id, without_id, with_timer, without_timer, Has, InOrder, has_id, AreDistinct}
+use Rattle.uv_order.proofs.Names.{◌≡◌, ◌⊎◌, inl, inr, ℕ, ◌<◌, List, ◌∷◌, ◌++◌, Bool, true, false, Option, Some, None, slice_set, refl, ap, sym, subst, ◌∙◌, arith, same_Some, Id, Var, Due, HandleRecord, Slot, held, Content, handle_in, same_id, without_id, with_timer, without_timer, Has, InOrder, has_id, AreDistinct, if◌then◌else◌}
 use Rattle.std.specs.Prelude.{option_map}
 use Rattle.uv_ids.specs.declared.phase.Kind.TheVariants as kind
 use Rattle.uv_work.specs.declared.content.Content.TheVariants as content
-use Rattle.uv_order.proofs.Contents.{slot_with, holds, Turns, set_turns, emptied, emptied_turns, as_handle}
+use Rattle.uv_order.proofs.Contents.{slot_with, turned_to, holds, Turns, set_turns, emptied, emptied_turns, as_handle}
 use Rattle.uv_order.proofs.IdLists.{same, other, turned, Each, each_mapped, each_without, absent, distinct_without, still_there, without_absent, each_middle, distinct_middle, has_new_middle, has_old_middle, each_but, distinct_but, has_but}
 use Rattle.uv_order.proofs.TimerKeys.{one_id, not_before_itself, before_each, still_has, had, in_order_without, IsNew, has_new, has_old, new_or_old, in_order_with, is_new}
 
@@ -80,6 +80,19 @@ pub record Grown (slots more : List (Slot Content)) (id : Id) (x : HandleRecord)
 pub grown : (slots more : List (Slot Content)) (id : Id) (x : HandleRecord) → Turns slots more id None (Some (content.Handle x)) →
     Grown slots more id x
 grown slots more id x t = record { here = ap handle_in t.here; others = λ i d. ap handle_in (t.others i d); new = ap handle_in t.before }
+
+-- so what is held after each is one equation
+pub put_at : (slots : List (Slot Content)) (id : Id) (h x : HandleRecord) → held_at slots id ≡ Some h → (i : Id) →
+    held_at (put slots id x) i ≡ (if same_id i id then Some x else held_at slots i)
+put_at slots id h x e i = grind (arith, turned_to (put_turns slots id h x e))
+
+pub emptied_at : (slots : List (Slot Content)) (id : Id) (h : HandleRecord) (n : ℕ) → held_at slots id ≡ Some h → (i : Id) →
+    held_at (emptied slots id n) i ≡ (if same_id i id then None else held_at slots i)
+emptied_at slots id h n e i = grind (arith, turned_to (emptied_turns slots id (content.Handle h) n (is_held slots id h e)))
+
+pub grown_at : {slots more : List (Slot Content)} {id : Id} {x : HandleRecord} → Grown slots more id x → (i : Id) →
+    held_at more i ≡ (if same_id i id then Some x else held_at slots i)
+grown_at {slots = slots} {more = more} {id = id} {x = x} g i = grind (arith, same, other)
 
 -- no handle changes
 abbrev pub SameHandles : List (Slot Content) → List (Slot Content) → Type 0

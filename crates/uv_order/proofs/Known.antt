@@ -264,7 +264,7 @@ known_gone p past v arena more names id h n e l last others k = record {
   closed = λ i c. later i (same_id i id) refl (k.closed i c);
   over = λ i c. over i (or_cases (same_id id i) (has_closed_line past i) c);
   worked = worked_idle p past (seen.Closed v id) (record arena { slots = emptied arena.slots id n; free = more }) _ _
-      (record { queued = λ i. refl; taken = λ i. refl; finished = λ i. refl; over = λ i. refl; cancelled = λ i. refl })
+      (assumption)
       (worked_same p past arena (record arena { slots = emptied arena.slots id n; free = more }) _ _
       (same_requests arena.slots _ id _ _ (emptied_turns arena.slots id (content.Handle h) n (is_held arena.slots id h e)) refl refl) gone k.worked);
 } where

@@ -68,13 +68,8 @@ record SameLists (now was : State) : Type 0 where
   closing : now.closing.yet ≡ was.closing.yet
   done : now.done.yet ≡ was.done.yet
 
-lists : {now was : State} → now.ready ≡ was.ready → now.idle.yet ≡ was.idle.yet → now.prepare.yet ≡ was.prepare.yet →
-    now.check.yet ≡ was.check.yet → now.async.yet ≡ was.async.yet → now.closing.yet ≡ was.closing.yet → now.done.yet ≡ was.done.yet →
-    SameLists now was
-lists r i p c a cl d = record { ready = r; idle = i; prepare = p; check = c; async = a; closing = cl; done = d }
-
 same_lists : (s : State) → SameLists s s
-same_lists s = lists refl refl refl refl refl refl refl
+same_lists s = assumption
 
 -- nobody is taken off, and the lists stay
 quiet : (s : State) (o : Op) (d : ops.Done) → TakesNone (names_at s) o d.answer → lasting d.state ≡ after_op o s → SameCalls d.state.names s.names →
@@ -127,17 +122,14 @@ taken_one s v t ids e = rw (one_taken s v t e) (left_one ids t.0)
 
 stop_effect : (s : State) (v : Var) (t : Id × HandleRecord) → live_handle s v ≡ Ok t → (t.1.kind ≡ kind.Async → ⊥) → Kept s →
     Effect s (op.Stop v) (ops.stop s t.0 t.1)
-stop_effect s v t e apart k = record {
-  lasts = refl;
-  calls = same_calls s.names;
-  ready = taken_one s v t s.ready e;
-  idle = taken_one s v t s.idle.yet e;
-  prepare = taken_one s v t s.prepare.yet e;
-  check = taken_one s v t s.check.yet e;
-  async = not_yet s kind.Async s.async t.0 t.1 (live_held s v t e) apart k.async;
-  closing = refl;
-  done = refl;
-}
+stop_effect s v t e apart k = assumption (
+  same_calls s.names,
+  taken_one s v t s.ready e,
+  taken_one s v t s.idle.yet e,
+  taken_one s v t s.prepare.yet e,
+  taken_one s v t s.check.yet e,
+  not_yet s kind.Async s.async t.0 t.1 (live_held s v t e) apart k.async,
+)
 
 close_effect : (s : State) (v : Var) (t : Id × HandleRecord) → live_handle s v ≡ Ok t → Effect s (op.Close v) (ops.close s t.0 t.1)
 close_effect s v t e = grind arith
@@ -181,7 +173,7 @@ start_effect : (s : State) (v : Var) (timeout repeat : ℕ) (t : Id × HandleRec
 start_effect s v timeout repeat t e is k =
     timer_effect s (started (stopped s t.0 t.1) t.0 t.1 timeout repeat) (op.Start v timeout repeat) v t e is k
     (start_off v timeout repeat) refl refl refl
-    (lists refl refl refl refl refl refl refl)
+    (assumption)
 
 again_effect : (s : State) (v : Var) (t : Id × HandleRecord) → live_handle s v ≡ Ok t → t.1.kind ≡ kind.Timer → Kept s →
     Effect s (op.Again v) (ops.again
@@ -189,8 +181,8 @@ again_effect : (s : State) (v : Var) (t : Id × HandleRecord) → live_handle s 
 again_effect s v t e is k =
     cond_both (t.1.repeat == 0) (stopped s t.0 t.1) (started (stopped s t.0 t.1) t.0 t.1 t.1.repeat t.1.repeat) (λ (u : State). Effect s (op.Again
     v) (ops.succeeds u))
-    (λ z. by (stopped s t.0 t.1) refl refl (lists refl refl refl refl refl refl refl))
-    (λ z. by (started (stopped s t.0 t.1) t.0 t.1 t.1.repeat t.1.repeat) refl refl (lists refl refl refl refl refl refl refl))
+    (λ z. by (stopped s t.0 t.1) refl refl (assumption))
+    (λ z. by (started (stopped s t.0 t.1) t.0 t.1 t.1.repeat t.1.repeat) refl refl (assumption))
   where
     by : (u : State) → lasting u ≡ lasting s → u.names ≡ s.names → SameLists u (stopped s t.0 t.1) → Effect s (op.Again v) (ops.succeeds u)
     by u same names lists = timer_effect s u (op.Again v) v t e is k (λ word. refl) refl same names lists
@@ -243,8 +235,8 @@ simple s o d e lasts names lists = still s o d e lasts (rw names (same_calls s.n
 
 new_effect : (s : State) (v : Var) (q : Kind) (id : Id) → Effect s (op.Init v q) (record { state = ops.with_new s v q id; answer = answer.Id id })
 new_effect s v kind.Timer id = still s (op.Init v kind.Timer) _ refl refl (bound_calls s.names v.0 _ refl)
-    (lists refl refl refl refl refl refl refl)
-new_effect s v each id = still s (op.Init v each) _ refl refl (bound_calls s.names v.0 _ refl) (lists refl refl refl refl refl refl refl)
+    (assumption)
+new_effect s v each id = still s (op.Init v each) _ refl refl (bound_calls s.names v.0 _ refl) (assumption)
 
 asked_effect : (s : State) (o : Op) (a : Answer) → IsAsked o → Effect s o (ops.says s a)
 asked_effect s o a (which.due_in v) = simple s (op.DueIn v) _ refl refl refl (same_lists s)
@@ -260,17 +252,17 @@ did_op_effect s o d (which.refused o' c r may) k = refused_effect s o' (lasts_re
 did_op_effect s o d (which.asked o' a is) k = asked_effect s o' a is
 did_op_effect s o d (which.made v q id e) k = new_effect s v q id
 did_op_effect s o d (which.queued v task id e) k =
-    still s (op.Queue v task) _ refl refl (bound_calls s.names v.0 _ refl) (lists refl refl refl refl refl refl refl)
+    still s (op.Queue v task) _ refl refl (bound_calls s.names v.0 _ refl) (assumption)
 did_op_effect s o d (which.started v timeout repeat t e is stays) k = start_effect s v timeout repeat t e is k
 did_op_effect s o d (which.again v t e is stays) k = again_effect s v t e is k
 did_op_effect s o d (which.stopped v t e sync) k = stop_effect s v t e sync k
 did_op_effect s o d (which.closed v t e stays) k = close_effect s v t e
 did_op_effect s o d (which.watching v watcher.Idle t e is off stays) k =
-    simple s (op.StartWatcher v) _ refl refl refl (lists refl refl refl refl refl refl refl)
+    simple s (op.StartWatcher v) _ refl refl refl (assumption)
 did_op_effect s o d (which.watching v each t e is off stays) k =
-    simple s (op.StartWatcher v) _ refl refl refl (lists refl refl refl refl refl refl refl)
-did_op_effect s o d (which.referenced o' u flag t e (which.ref v)) k = simple s o _ refl refl refl (lists refl refl refl refl refl refl refl)
-did_op_effect s o d each k = simple s o d refl refl refl (lists refl refl refl refl refl refl refl)
+    simple s (op.StartWatcher v) _ refl refl refl (assumption)
+did_op_effect s o d (which.referenced o' u flag t e (which.ref v)) k = simple s o _ refl refl refl (assumption)
+did_op_effect s o d each k = simple s o d refl refl refl (assumption)
 
 pub op_effect : (s : State) (o : Op) → Kept s → Effect s o (do_op s o)
 op_effect s o k = did_op_effect s o (do_op s o) (op_did s o) k

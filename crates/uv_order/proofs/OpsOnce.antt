@@ -9,7 +9,7 @@ use Rattle.uv_records.specs.declared.lists.WatcherKind.TheVariants as watcher
 use Rattle.uv_records.specs.Handles as records
 use Rattle.uv_work.specs.declared.content.Content.TheVariants as content
 use Rattle.uv_model.specs.Ops as ops
-use Rattle.uv_order.proofs.IdLists.{same, itself, turned, still_absent, without_itself}
+use Rattle.uv_order.proofs.IdLists.{on_list, same, itself, turned, still_absent, without_itself}
 use Rattle.uv_order.proofs.Contents.{Turns}
 use Rattle.uv_order.proofs.Holding.{name_in, name_at, names_turned, same_handles, put, put_same}
 use Rattle.uv_order.proofs.OpCases as which
@@ -42,7 +42,7 @@ known_by p past o d q k place e = known_quiet p past (seen.Op place d.answer) d.
 -- a refused `close` closes nothing
 pub refused_close : (v : Var) (c : Code) → IsRefusal c → IsQuietOp (op.Close v) (answer.Code c) × IsIdleOp (op.Close v) (answer.Code c)
 refused_close v code.Ok no_success = absurd (no_success refl)
-refused_close v each no_success = (record { binding = λ u b. refl; closing = refl; made = λ i. refl }, λ i. (refl, refl))
+refused_close v each no_success = assumption
 
 -- the record of a handle changes, which goes on closing or not as before
 pub changed : (p : Program) (past : List Seen) (s : State) (t : Id × HandleRecord) (x : HandleRecord) → handle s t.0 ≡ Some t.1 →
@@ -179,11 +179,6 @@ queued_known p past s v task id e kept k place at =
       by true h rest = inr refl
       by false h rest = rest h
 
--- who waits, as the loop asks it and as the lines do
-pub on_list : (ids : List Id) (id : Id) → list_any (same_id id) ids ≡ true → has_id ids id ≡ true
-on_list [] id e = cc e
-on_list (x ∷ ids) id e = grind (arith, turned, on_list ids id)
-
 pub fewer : (ids : List Id) (id i : Id) → has_id (without_id ids id) i ≡ true → has_id ids i ≡ true
 fewer ids id i e = grind (arith, still_absent)
 
@@ -231,7 +226,7 @@ harmless (op.Init v q) e a = cc e
 harmless (op.Queue v task) e a = cc e
 harmless (op.Cancel v) e a = cc e
 harmless (op.Close v) e a = cc e
-harmless each e a = (record { binding = λ u b. refl; closing = refl; made = λ i. refl }, λ i. (refl, refl))
+harmless each e a = assumption
 
 pub asked_harmless : (o : Op) → IsAsked o → is_harmless o ≡ true
 asked_harmless o (which.due_in v) = refl
@@ -239,7 +234,7 @@ asked_harmless o each = refl
 
 pub refused_harmless : (o : Op) (c : Code) → IsRefusal c → IsQuietOp o (answer.Code c) × IsIdleOp o (answer.Code c)
 refused_harmless (op.Close v) c r = refused_close v c r
-refused_harmless each c r = (record { binding = λ u b. refl; closing = refl; made = λ i. refl }, λ i. (refl, refl))
+refused_harmless each c r = assumption
 
 cancel_op_known : (p : Program) (past : List Seen) (s : State) (v : Var) (t : Id × Request) → IsLive s v t.0 (content.Request t.1) →
     list_any (same_id t.0) s.waiting ≡ true → KnownAt p past s →
@@ -250,7 +245,7 @@ cancel_op_known p past s v t live on k place at = cancel_told p past (seen.Op pl
   finished = λ i. refl;
   over = λ i. refl;
   cancelled = λ i. rw (is_answered p place (op.Cancel v) (answer.Cancelled t.0) at) refl;
-}) (quiet_op p place (op.Cancel v) (answer.Cancelled t.0) at (record { binding = λ u b. refl; closing = refl; made = λ i. refl })) live.holds on k
+}) (quiet_op p place (op.Cancel v) (answer.Cancelled t.0) at (assumption)) live.holds on k
 
 did_op_known : (p : Program) (past : List Seen) (s : State) (o : Op) (d : ops.Done) → DidOp s o d → Kept s → KnownAt p past s → KnownBy p past o d
 did_op_known p past s o d (which.refused o' c r may) kept k = known_by p past o d (refused_harmless o' c r) k

@@ -1,8 +1,8 @@
 -- The requests: those that wait for a worker or are run by one are open, those that are done are ended; none stands twice, and no other
 -- request is held.
-use Rattle.uv_order.proofs.Names.{arith, ◌≡◌, ℕ, zero, suc, ◌||◌, List, [], ◌∷◌, ◌++◌, Bool, true, false, Option, Some, None, slice_get, slice_set, replicate, refl, ap, sym, subst, ◌∙◌, append_assoc, append-nil, list_any, both_ways, false_from_ne_true, same_Some, Id, HandleRecord, Slot, held, Walk, is_open, Content, Request, request_in, same_id, without_id, has_id, AreDistinct, run_ids}
+use Rattle.uv_order.proofs.Names.{arith, ◌≡◌, ◌⊎◌, ℕ, zero, suc, ◌||◌, List, [], ◌∷◌, ◌++◌, Bool, true, false, Option, Some, None, slice_get, slice_set, replicate, refl, ap, sym, subst, ◌∙◌, append_assoc, append-nil, list_any, or-true, both_ways, false_from_ne_true, same_Some, Id, HandleRecord, Slot, held, Walk, is_open, Content, Request, request_in, same_id, without_id, has_id, AreDistinct, run_ids}
 use Rattle.uv_work.specs.declared.content.Content.TheVariants as content
-use Rattle.uv_order.proofs.IdLists.{same, other, itself, turned, has_new_middle, distinct_middle, distinct_but, without_absent, distinct_front}
+use Rattle.uv_order.proofs.IdLists.{has_both, same, other, itself, turned, has_new_middle, distinct_middle, distinct_but, without_absent, distinct_front}
 use Rattle.uv_order.proofs.Contents.{Turns}
 use Rattle.uv_order.proofs.Holding.{held_at, put, put_turns}
 
@@ -205,6 +205,24 @@ lets_go (Some x ∷ running) (suc k) id e =
       are = ap (λ (is : List Id). x ∷ is) t.are;
     }
 
+-- it runs it so far
+pub runs_now : (running : List (Option Id)) (k : ℕ) (id : Id) → slice_get running k ≡ Some (Some id) → has_id (run_ids running) id ≡ true
+runs_now running k id e = let g = lets_go running k id e in ap (λ (ids : List Id). has_id ids id) g.were ∙ has_new_middle g.front g.behind id
+
+-- those behind the front that is taken wait too, and aren't it; who is run then is it, or was run before; and who is run once one is let go
+-- was run before, and isn't it
+pub fewer_wait : (ids more rest behind : List Id) (id i : Id) → ids ≡ id ∷ rest → behind ≡ rest → has_id (rest ++ more) id ≡ false →
+    has_id behind i ≡ true → (has_id ids i ≡ true) × (same_id id i ≡ false)
+fewer_wait ids more rest behind id i e f apart h = grind (arith, has_both, same)
+
+pub more_run : (were are front behind : List Id) (id i : Id) → were ≡ front ++ behind → are ≡ front ++ id ∷ behind → has_id are i ≡ true →
+    (id ≡ i) ⊎ (has_id were i ≡ true)
+more_run were are front behind id i e f h = grind (arith, has_both, same)
+
+pub fewer_run : (were are front behind : List Id) (id i : Id) → were ≡ front ++ id ∷ behind → are ≡ front ++ behind →
+    has_id (front ++ behind) id ≡ false → has_id are i ≡ true → (has_id were i ≡ true) × (same_id id i ≡ false)
+fewer_run were are front behind id i e f apart h = grind (arith, has_both, same)
+
 pub none_run : (n : ℕ) → run_ids (replicate n None) ≡ []
 none_run zero = refl
 none_run (suc n) = none_run n
@@ -265,6 +283,17 @@ ended_by slots more done id r x t opened over k = subst (AllAsk more HasEnded) (
 its_open : (slots : List (Slot Content)) (ids : List Id) (id : Id) (r : Request) → asked_at slots id ≡ Some r → has_id ids id ≡ true →
     AllAsk slots IsOpen ids → IsOpen r
 its_open slots ids id r e h k = let a = k.each id h in subst IsOpen (same_Some _ _ (sym a.holds ∙ e)) a.fits
+
+-- and so it is of one that waits, or is run
+pub waits_open : (slots : List (Slot Content)) (waiting : List Id) (running : List (Option Id)) (done : Walk Id) (id : Id) (r : Request) →
+    held slots id ≡ Some (content.Request r) → has_id waiting id ≡ true → Works slots waiting running done → IsOpen r
+waits_open slots waiting running done id r e on k =
+    its_open slots (waiting ++ run_ids running) id r (ap request_in e) (has_both waiting (run_ids running) id ∙ rw on refl) k.open_ones
+
+pub runs_open : (slots : List (Slot Content)) (waiting : List Id) (running : List (Option Id)) (done : Walk Id) (id : Id) (r : Request) →
+    held slots id ≡ Some (content.Request r) → has_id (run_ids running) id ≡ true → Works slots waiting running done → IsOpen r
+runs_open slots waiting running done id r e on k = its_open slots (waiting ++ run_ids running) id r (ap request_in e)
+    (has_both waiting (run_ids running) id ∙ rw on (or-true (has_id waiting id))) k.open_ones
 
 -- a request that waits is cancelled
 pub works_cancelled : (slots more : List (Slot Content)) (waiting : List Id) (running : List (Option Id)) (done : Walk Id) (id : Id)
