@@ -103,12 +103,10 @@ front_stays s q w t every f kept =
     opened t.1 (its_handle s.arena.slots (Watches q) t.0 t.1 f.holds its).active (kept.sound t.0 t.1 f.holds)
 
 moved_known : (p : Program) (past : List Seen) (s : State) (q : WatcherKind) (id : Id) → KnownAt p past s → KnownAt p past (front_moved s q id)
-moved_known p past s watcher.Idle id k = k
-moved_known p past s each id k = k
+moved_known p past s q id k = grind arith
 
 moved_holds : (s : State) (q : WatcherKind) (id i : Id) → handle (front_moved s q id) i ≡ handle s i
-moved_holds s watcher.Idle id i = refl
-moved_holds s each id i = refl
+moved_holds s q id i = grind arith
 
 watched_stays : (s : State) (q : WatcherKind) (t : Id × HandleRecord) → FrontOf s (watched s q).yet t → Kept s → t.1.closing ≡ false
 watched_stays s q t f kept = front_stays s (kind_as q) (watched s q) t (everyone s q kept) f kept

@@ -30,9 +30,6 @@ past_end [] y z (suc i) e f = cc f
 past_end (s ∷ slots) y z zero e f = cc e
 past_end (s ∷ slots) y z (suc i) e f = let rest = past_end slots y z i e f in (ap suc rest.0, rest.1)
 
-at_end : (slots : List (Slot Content)) (y : Slot Content) → slice_get (slots ++ y ∷ []) (length slots) ≡ Some y
-at_end slots y = grind (arith, elements)
-
 none_at_end : (slots : List (Slot Content)) → slice_get slots (length slots) ≡ None
 none_at_end slots = slice_get_past slots (length slots) (omega arith)
 
@@ -60,9 +57,6 @@ holds slots id c e = holds_in slots id c (slice_get slots id.slot) refl e
 
 in_slot : (id : Id) (slot : Slot Content) → slot.generation ≡ id.generation → look id (Some slot) ≡ slot.content
 in_slot id slot e = rw (eq-eqb slot.generation id.generation e) refl
-
-pub other_generation : (i : Id) (slot : Slot Content) → (slot.generation ≡ i.generation → ⊥) → look i (Some slot) ≡ None
-other_generation i slot d = grind arith
 
 -- ---- one id turns
 

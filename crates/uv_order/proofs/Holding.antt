@@ -118,15 +118,7 @@ its_handle slots P id h e f = subst P (same_Some _ _ (sym f.holds ∙ e)) f.fits
 pub fits_put : (slots : List (Slot Content)) (P : HandleRecord → Type 0) (id : Id) (h x : HandleRecord) → held_at slots id ≡ Some h → (P h → P x) →
     (i : Id) →
     Fits slots P i → Fits (put slots id x) P i
-fits_put slots P id h x e f i k = at (same_id i id) refl where
-  at : (b : Bool) → same_id i id ≡ b → Fits (put slots id x) P i
-  at true s = let is = same i id s in record {
-    handle = x;
-    holds = ap (held_at (put slots id x)) is ∙ put_same slots id h x e;
-    fits = f
-        (its_handle slots P id h e (subst (Fits slots P) is k));
-  }
-  at false s = record { handle = k.handle; holds = put_other slots id i h x e (other i id s) ∙ k.holds; fits = k.fits }
+fits_put slots P id h x e f i k = grind (arith, same, put_at slots id h x e)
 
 pub fits_other : (slots : List (Slot Content)) (P : HandleRecord → Type 0) (id : Id) (h x : HandleRecord) → held_at slots id ≡ Some h → (i : Id) →
     (i ≡ id → ⊥) →
@@ -280,19 +272,7 @@ fits_emptied slots P id h n e i d k = record { handle = k.handle; holds = emptie
 pub fitted_emptied : (slots : List (Slot Content)) (P : HandleRecord → Type 0) (id : Id) (h : HandleRecord) (n : ℕ) → held_at slots id ≡ Some h → (i
     : Id) →
     Fits (emptied slots id n) P i → (i ≡ id → ⊥) × Fits slots P i
-fitted_emptied slots P id h n e i l = (
-  apart,
-  record {
-    handle = l.handle;
-    holds = sym (emptied_other slots id i h n e apart) ∙ l.holds;
-    fits = l.fits;
-  },
-) where
-  clash : held_at (emptied slots id n) id ≡ Some l.handle → ⊥
-  clash f = cc (sym (emptied_same slots id h n e) ∙ f)
-
-  apart : i ≡ id → ⊥
-  apart is = clash (ap (held_at (emptied slots id n)) (sym is) ∙ l.holds)
+fitted_emptied slots P id h n e i l = grind (arith, emptied_same, emptied_other)
 
 pub lists_emptied : (slots : List (Slot Content)) (P : HandleRecord → Type 0) (id : Id) (h : HandleRecord) (n : ℕ) (ids : List Id) → held_at slots
     id ≡ Some h → (P h → ⊥) →

@@ -113,9 +113,6 @@ pub each_middle : (P : Id → Type 0) (xs ys : List Id) (id : Id) → P id → E
 each_middle P [] ys id p h = (p, h)
 each_middle P (x ∷ xs) ys id p h = (h.0, each_middle P xs ys id p h.1)
 
-has_no_middle : (xs ys : List Id) (id i : Id) → same_id id i ≡ false → has_id (xs ++ ys) i ≡ false → has_id (xs ++ id ∷ ys) i ≡ false
-has_no_middle xs ys id i d h = grind (arith, has_both)
-
 pub distinct_middle : (xs ys : List Id) (id : Id) → AreDistinct (xs ++ ys) → has_id (xs ++ ys) id ≡ false → AreDistinct (xs ++ id ∷ ys)
 distinct_middle [] ys id h d = (d, h)
 distinct_middle (x ∷ xs) ys id h d = grind (arith, has_both, turned, distinct_middle xs ys id h.1)

@@ -202,37 +202,8 @@ pub known_bound : {waiting runs few : List Id} (p : Program) (past : List Seen) 
     closes o (answer.Id id) ≡ None → n.id ≡ Some id → SameHandles now.slots arena.slots →
     ((i : Id) → IsGone arena.slots arena.free i → IsGone now.slots now.free i) → Worked p (seen.Op place (answer.Id id) ∷ past) now few runs →
     Known p past arena names waiting runs → Known p (seen.Op place (answer.Id id) ∷ past) now (slice_set names v.0 n) few runs
-known_bound p past place v o arena now names id n e bind make called quiet is handles gone w k = record {
-  binding = λ u i f. rw said (bind u (bound p past u) ∙ binding u i (v.0 == u.0) refl f);
-  made = λ i u f. rw said (ap (λ (x : Option Var). first_of x (made_as p past i)) (make i) ∙ made i u (same_id id i) (called i u f));
-  closing = λ i f. rw said (rw quiet (k.closing i (fits_same now.slots arena.slots Closes (λ j. sym (handles j)) i f)));
-  closed = λ i c. later i (k.closed i (sym (ap (λ (x : Option Var). is_bound p past i x || was_closed p past i) nobody) ∙ c));
-  over = λ i c. gone i (k.over i c);
-  worked = w;
-} where
-  later : (i : Id) → IsShut arena i → IsShut now i
-  later i (inl c) = inl (fits_same arena.slots now.slots Closes handles i c)
-  later i (inr g) = inr (gone i g)
-
-  said : answered p (seen.Op place (answer.Id id)) ≡ Some (record { op = o; answer = answer.Id id })
-  said = is_answered p place o (answer.Id id) e
-
-  nobody : closes_by (answered p (seen.Op place (answer.Id id))) ≡ None
-  nobody = ap closes_by said ∙ quiet
-
-  made : (i : Id) (u : Var) (b : Bool) → (if b then Some v else name_at arena.slots i) ≡ Some u →
-      first_of (if b then Some v else None) (made_as p past i) ≡ Some u
-  made i u true f = f
-  made i u false f = k.made i u f
-
-  binding : (u : Var) (i : Id) (b : Bool) → (v.0 == u.0) ≡ b → id_in (slice_set names v.0 n) u ≡ Some i →
-      (if v.0 == u.0 then Some id else bound p past u) ≡ Some i
-  binding u i true f g =
-      let here : v.0 ≡ u.0 = eqb-true v.0 u.0 f in
-      rw f (sym is ∙ own_id names v.0 n i (ap (λ (j : ℕ). (unwrap_or (slice_get (slice_set names v.0 n) j) unbound).id) here ∙ g))
-  binding u i false f g =
-      let apart : u.0 ≡ v.0 → ⊥ = λ is. both_ways (v.0 == u.0) f (eq-eqb v.0 u.0 (sym is)) in
-      rw f (k.binding u i (ap (λ (o : Option Named). (unwrap_or o unbound).id) (sym (set_there names v.0 u.0 n apart)) ∙ g))
+known_bound p past place v o arena now names id n e bind make called quiet is handles gone w k =
+    grind (arith, is_answered, fits_same, own_id, set_there, eqb-true, eq-eqb)
 
 -- a slot is taken for a handle that doesn't close
 pub known_grown : {waiting runs : List Id} (p : Program) (past : List Seen) (arena more : Slots Content) (names : List Named) (id : Id)
@@ -242,13 +213,6 @@ pub known_grown : {waiting runs : List Id} (p : Program) (past : List Seen) (are
     ((i : Id) → IsGone arena.slots arena.free i → IsGone more.slots more.free i) →
     Known p past arena names waiting runs → Known p past more names waiting runs
 known_grown p past arena more names id x grown same_asked stays called gone k = grind (arith, same, other, open_shut, worked_same)
-
--- no handle changes
-pub known_same : {waiting runs few more : List Id} (p : Program) (past : List Seen) (arena now : Slots Content) (names : List Named) →
-    SameHandles now.slots arena.slots → NoNewNames now.slots arena.slots →
-    ((i : Id) → IsGone arena.slots arena.free i → IsGone now.slots now.free i) → Worked p past now few more →
-    Known p past arena names waiting runs → Known p past now names few more
-known_same p past arena now names f called gone w k = grind arith
 
 -- a closing handle has its `closed` line, and its slot is freed or retired
 pub known_gone : {waiting runs : List Id} (p : Program) (past : List Seen) (v : Var) (arena : Slots Content) (more : List ℕ) (names : List Named)

@@ -74,23 +74,10 @@ same_lists s = assumption
 -- nobody is taken off, and the lists stay
 quiet : (s : State) (o : Op) (d : ops.Done) → TakesNone (names_at s) o d.answer → lasting d.state ≡ after_op o s → SameCalls d.state.names s.names →
     SameLists d.state s → Effect s o d
-quiet s o d none lasts calls lists = record {
-  lasts = lasts;
-  calls = calls;
-  ready = same phase.Timers d.state.ready s.ready lists.ready;
-  idle = same phase.Idle d.state.idle.yet s.idle.yet lists.idle;
-  prepare = same phase.Prepare d.state.prepare.yet s.prepare.yet lists.prepare;
-  check = same phase.Check d.state.check.yet s.check.yet lists.check;
-  async = same phase.Async d.state.async.yet s.async.yet lists.async;
-  closing = lists.closing;
-  done = lists.done;
-} where
-  same : (word : Phase) (now was : List Id) → now ≡ was → now ≡ left_of was (taken_off word (names_at s) o d.answer)
-  same word now was e = rw (none word) (e ∙ sym (none_off was))
+quiet s o d none lasts calls lists = grind (arith, none_off)
 
 pub refusal_takes_none : (names : Names) (o : Op) (c : Code) → IsRefusal c → TakesNone names o (answer.Code c)
-refusal_takes_none names o code.Ok no_success word = absurd (no_success refl)
-refusal_takes_none names o each no_success word = refl
+refusal_takes_none names o c no_success word = grind arith
 
 -- an op that is refused, or that only answers
 says_effect : (s : State) (o : Op) (a : Answer) → TakesNone (names_at s) o a → after_op o s ≡ lasting s → Effect s o (ops.says s a)
@@ -165,8 +152,7 @@ timer_effect s u o v t e is k off lasts same names lists = record {
   none_by word ids none = ap (λ (x : Option Var). left_of ids (ids_of (names_at s) x)) (sym none ∙ sym (off word))
 
 pub start_off : (v : Var) (timeout repeat : ℕ) (word : Phase) → off_by word (op.Start v timeout repeat) ≡ off_by word (op.Again v)
-start_off v timeout repeat phase.Pending = refl
-start_off v timeout repeat each = refl
+start_off v timeout repeat word = grind arith
 
 start_effect : (s : State) (v : Var) (timeout repeat : ℕ) (t : Id × HandleRecord) → live_handle s v ≡ Ok t → t.1.kind ≡ kind.Timer → Kept s →
     Effect s (op.Start v timeout repeat) (ops.start s timeout repeat t.0 t.1)
@@ -190,23 +176,11 @@ again_effect s v t e is k =
 -- ---- the other ops
 
 pub none_taken : (names : Names) (o : Op) (a : Answer) → ((word : Phase) → off_by word o ≡ None) → TakesNone names o a
-none_taken names o (answer.Code code.Ok) e word = ap (ids_of names) (e word)
-none_taken names o each e word = refl
+none_taken names o a e word = grind arith
 
 -- such an op takes nobody off in any section
 abbrev pub Harmless : Op → Type 0
 Harmless o = (word : Phase) → off_by word o ≡ None
-
-pub by_word : (o : Op) → off_by phase.Pending o ≡ None → off_by phase.Idle o ≡ None → off_by phase.Prepare o ≡ None → off_by phase.Done o ≡ None →
-    off_by phase.Async o ≡ None → off_by phase.Check o ≡ None → off_by phase.Closing o ≡ None → off_by phase.Timers o ≡ None → Harmless o
-by_word o a b c d e f g h phase.Pending = a
-by_word o a b c d e f g h phase.Idle = b
-by_word o a b c d e f g h phase.Prepare = c
-by_word o a b c d e f g h phase.Done = d
-by_word o a b c d e f g h phase.Async = e
-by_word o a b c d e f g h phase.Check = f
-by_word o a b c d e f g h phase.Closing = g
-by_word o a b c d e f g h phase.Timers = h
 
 -- all but these are such
 abbrev pub takes : Op → Bool
@@ -217,11 +191,7 @@ takes (op.Close v) = true
 takes o = false
 
 pub harmless : (o : Op) → takes o ≡ false → Harmless o
-harmless (op.Start v timeout repeat) e = cc e
-harmless (op.Stop v) e = cc e
-harmless (op.Again v) e = cc e
-harmless (op.Close v) e = cc e
-harmless each e = by_word each refl refl refl refl refl refl refl refl
+harmless o e word = grind arith
 
 -- it leaves all of that as it was
 still : (s : State) (o : Op) (d : ops.Done) → takes o ≡ false → lasting d.state ≡ after_op o s → SameCalls d.state.names s.names →
@@ -243,9 +213,7 @@ asked_effect s o a (which.due_in v) = simple s (op.DueIn v) _ refl refl refl (sa
 asked_effect s o a each = simple s o _ refl refl refl (same_lists s)
 
 lasts_refused : (s : State) (o : Op) → MayRefuse o → after_op o s ≡ lasting s
-lasts_refused s op.StopLoop may = absurd may
-lasts_refused s op.UpdateTime may = absurd may
-lasts_refused s each may = refl
+lasts_refused s o may = grind arith
 
 did_op_effect : (s : State) (o : Op) (d : ops.Done) → DidOp s o d → Kept s → Effect s o d
 did_op_effect s o d (which.refused o' c r may) k = refused_effect s o' (lasts_refused s o' may) c r

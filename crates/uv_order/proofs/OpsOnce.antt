@@ -39,11 +39,6 @@ pub known_by : (p : Program) (past : List Seen) (o : Op) (d : ops.Done) → IsQu
 known_by p past o d q k place e = known_quiet p past (seen.Op place d.answer) d.state.arena d.state.names (quiet_op p place o d.answer e q.0)
     (idle_op p place o d.answer e q.1) k
 
--- a refused `close` closes nothing
-pub refused_close : (v : Var) (c : Code) → IsRefusal c → IsQuietOp (op.Close v) (answer.Code c) × IsIdleOp (op.Close v) (answer.Code c)
-refused_close v code.Ok no_success = absurd (no_success refl)
-refused_close v each no_success = assumption
-
 -- the record of a handle changes, which goes on closing or not as before
 pub changed : (p : Program) (past : List Seen) (s : State) (t : Id × HandleRecord) (x : HandleRecord) → handle s t.0 ≡ Some t.1 →
     x.closing ≡ t.1.closing → x.name ≡ t.1.name →
@@ -66,8 +61,7 @@ again_known p past s t e k = cond_both (t.1.repeat == 0) _ _ (KnownAt p past) (�
 pub gone_taken : (s : Slots Content) (free : List ℕ) (id : Id) (x : Content) → s.free ≡ free → AreFree s.slots free → next_id s.slots s.unused free ≡
     Some id →
     (i : Id) → IsGone s.slots free i → IsGone (taken_from free id x s).slots (taken_from free id x s).free i
-gone_taken s [] id x same free e i g = grind (arith, same, gone_push)
-gone_taken s (n ∷ ns) id x same free e i g = grind (arith, same_Some, gone_fill)
+gone_taken s free id x eq are e i g = grind (arith, same, same_Some, gone_push, gone_fill)
 
 -- the id that the next taking gives isn't gone
 pub next_not_gone : (s : Slots Content) (free : List ℕ) (id : Id) → s.free ≡ free → AreFree s.slots free → next_id s.slots s.unused free ≡ Some id →
@@ -222,19 +216,13 @@ is_harmless (op.Close v) = false
 is_harmless o = true
 
 pub harmless : (o : Op) → is_harmless o ≡ true → Harmless o
-harmless (op.Init v q) e a = cc e
-harmless (op.Queue v task) e a = cc e
-harmless (op.Cancel v) e a = cc e
-harmless (op.Close v) e a = cc e
-harmless each e a = assumption
+harmless o e a = grind arith
 
 pub asked_harmless : (o : Op) → IsAsked o → is_harmless o ≡ true
-asked_harmless o (which.due_in v) = refl
-asked_harmless o each = refl
+asked_harmless o a = grind arith
 
 pub refused_harmless : (o : Op) (c : Code) → IsRefusal c → IsQuietOp o (answer.Code c) × IsIdleOp o (answer.Code c)
-refused_harmless (op.Close v) c r = refused_close v c r
-refused_harmless each c r = assumption
+refused_harmless o c r = grind arith
 
 cancel_op_known : (p : Program) (past : List Seen) (s : State) (v : Var) (t : Id × Request) → IsLive s v t.0 (content.Request t.1) →
     list_any (same_id t.0) s.waiting ≡ true → KnownAt p past s →

@@ -102,12 +102,7 @@ apart_done s t id was is turns opened k = done_same s t (s.done.yet ++ s.done.li
 -- a request is queued
 queued_pool : (s : State) (v : Var) (task : Task) (id : Id) → next_free s.arena ≡ Some id → Kept s → Working s →
     after_event (pool_of s) (event.Queue id) ≡ Some (pool_of (ops.with_queued s v task id))
-queued_pool s v task id e kept k =
-    let c = content.Request (queued v task) in
-    let t = ops.with_queued s v task id in
-    let turns : Turns s.arena.slots t.arena.slots id None (Some c) = (fills s.arena s.arena.free id c refl kept.free e).0 in
-    let new = not_in s id (ap request_in turns.before) k in
-    rw new (ap Some (equal_pools _ _ _ _ _ _ refl refl (sym (apart_done s t id None (Some c) turns (λ r f. cc f) k))))
+queued_pool s v task id e kept k = grind (arith, fills, not_in, apart_done)
 
 -- a list without its first one of an id, where none stands twice
 without_first : (ids : List Id) (id : Id) → AreDistinct ids → without ids id ≡ without_id ids id
@@ -118,9 +113,7 @@ without_first (x ∷ ids) id d = grind (arith, same, without_absent, without_fir
 last_done : (s t : State) (id : Id) (b : Bool) → done_as t id ≡ record { id = id; finished = b } →
     map (done_as t) (s.done.yet ++ s.done.list) ≡ map (done_as s) (s.done.yet ++ s.done.list) →
     map (done_as t) (s.done.yet ++ (s.done.list ++ id ∷ [])) ≡ map (done_as s) (s.done.yet ++ s.done.list) ++ record { id = id; finished = b } ∷ []
-last_done s t id b e f =
-    ap (map (done_as t)) (sym (append_assoc s.done.yet s.done.list (id ∷ []))) ∙ map-append (done_as t) (s.done.yet ++ s.done.list) (id ∷ [])
-    ∙ ap (λ (ds : List Ended). ds ++ done_as t id ∷ []) f ∙ ap (λ (d : Ended). map (done_as s) (s.done.yet ++ s.done.list) ++ d ∷ []) e
+last_done s t id b e f = grind (arith, append_assoc, map-append)
 
 its_outcome : (s t : State) (id : Id) (r x : Request) → Turns s.arena.slots t.arena.slots id (Some (content.Request r)) (Some (content.Request x)) →
     done_as t id ≡ record { id = id; finished = was_finished (Some x) }

@@ -177,43 +177,7 @@ pub worked_taken : (p : Program) (past : List Seen) (arena : Slots Content) (wai
     ((i : Id) → has_id rest i ≡ true → (has_id waiting i ≡ true) × (same_id id i ≡ false)) →
     ((i : Id) → has_id more i ≡ true → (id ≡ i) ⊎ (has_id runs i ≡ true)) → Worked p past arena waiting runs →
     Worked p (seen.Take n v id ∷ past) arena rest more
-worked_taken p past arena waiting runs rest more n v id r holds opened waits fewer most k = record {
-  queued = k.queued;
-  known = k.known;
-  over = k.over;
-  taken = λ i e f. taken i (or_cases (same_id id i) (has_take_line past i) e) f;
-  finished = λ i e. rw (k.finished i e) (or-true (same_id id i));
-  waits = λ i e. let w = fewer i e in rw (w.1, k.waits i w.0) refl;
-  runs_now = λ i e. runs_now i (most i e);
-  ended = λ i y e. ends i y e y.outcome refl (k.ended i y e);
-  cancelled = k.cancelled;
-  uncancelled = λ i e. k.uncancelled i (fewer i e).0;
-} where
-  taken : (i : Id) → (same_id id i ≡ true) ⊎ (has_take_line past i ≡ true) → queued_task p past i ≡ None → ⊥
-  taken i (inl s) f =
-      none-some r.task (sym f ∙ ap (queued_task p past) (sym (same id i s)) ∙ k.queued id r holds)
-  taken i (inr e) f = k.taken i e f
-
-  unfinished : has_finish_line past id ≡ false
-  unfinished = false_from_ne_true (has_finish_line past id) (λ e. both_ways (has_take_line past id) (k.waits id waits) (k.finished id e))
-
-  runs_now : (i : Id) → (id ≡ i) ⊎ (has_id runs i ≡ true) → ((same_id id i || has_take_line past i) ≡ true) × (has_finish_line past i ≡ false)
-  runs_now i (inl is) = (rw (itself id i is) refl, ap (has_finish_line past) (sym is) ∙ unfinished)
-  runs_now i (inr e) = let was = k.runs_now i e in (rw was.0 (or-true (same_id id i)), was.1)
-
-  ends : (i : Id) (y : Request) → asked_at arena.slots i ≡ Some y → (o : Outcome) → y.outcome ≡ o → EndsTrue p past i y.task o →
-      EndsTrue p (seen.Take n v id ∷ past) i y.task o
-  ends i y e Open f g = tt
-  ends i y e (Finished digest) f g = (rw g.0 (or-true (same_id id i)), g.1, g.2)
-  ends i y e Cancelled f g = (at (same_id id i) refl, g.1) where
-    clash : ◌≡◌ {A = Bool} false true → ⊥
-    clash c = cc c
-
-    at : (b : Bool) → same_id id i ≡ b → (b || has_take_line past i) ≡ false
-    at false s = g.0
-    at true s =
-        let is : r ≡ y = same_Some _ _ (sym holds ∙ ap (asked_at arena.slots) (same id i s) ∙ e) in
-        absurd (clash (sym (ap (λ (z : Request). is_open z.outcome) is ∙ ap is_open f) ∙ opened))
+worked_taken p past arena waiting runs rest more n v id r holds opened waits fewer most k = grind (arith, same, itself)
 
 -- a worker finishes a request that it runs
 pub worked_finished : (p : Program) (past : List Seen) (arena : Slots Content) (waiting runs few : List Id) (n : ℕ) (v : Var) (id : Id) →
@@ -342,6 +306,4 @@ worked_collected p past arena more waiting runs digest v id r t now gone k = rec
 -- what the after callback of a request that ended says
 pub says_true : (p : Program) (past : List Seen) (id : Id) (task : Task) (o : Outcome) → is_open o ≡ false → EndsTrue p past id task o →
     SaysTrue p past id task (digest_in o)
-says_true p past id task Open e f = cc e
-says_true p past id task (Finished digest) e f = f
-says_true p past id task Cancelled e f = f
+says_true p past id task o e f = grind arith

@@ -366,7 +366,4 @@ works_collected slots more waiting running done id rest r t e k =
 -- the section of those that are done begins
 pub works_begun : (slots : List (Slot Content)) (waiting : List Id) (running : List (Option Id)) (done : Walk Id) → done.yet ≡ [] →
     Works slots waiting running done → Works slots waiting running (record { list = []; yet = done.list })
-works_begun slots waiting running done e k = record {
-  open_ones = k.open_ones;
-  ended = subst (AllAsk slots HasEnded) (ap (λ (ids : List Id). done.list ++ ids) e ∙ append-nil done.list) k.ended;
-}
+works_begun slots waiting running done e k = grind (arith, append-nil)
