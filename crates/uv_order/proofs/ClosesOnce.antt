@@ -146,7 +146,8 @@ freed_known p past s t e kept k = cond_both (t.0.generation == (arena_size p).la
 closed_known : (p : Program) (past : List Seen) (s : State) (run : Run) (t : Id × HandleRecord) → FrontOf s s.closing.yet t → Kept s →
     KnownAt p past s → Follows p past (calls p (record s {
       arena = freed (arena_size p).last_generation t.0 s.arena;
-      closing = record s.closing { yet = drop 1 s.closing.yet };
+      closing = record s.closing
+          { yet = drop 1 s.closing.yet };
     }) run callback.Close t.1.name (seen.Closed t.1.name t.0))
 closed_known p past s run t f kept k =
     let yet = each_back (Fits s.arena.slots Closes) s.closing.list s.closing.yet kept.closing.lists.each in
@@ -161,7 +162,8 @@ closed_known p past s run t f kept k =
 ended_known : (p : Program) (past : List Seen) (s : State) (run : Run) (t : Id × Request) → FrontRequest s s.done.yet t → Kept s → Working s →
     KnownAt p past s → Follows p past (calls p (record s {
       arena = freed (arena_size p).last_generation t.0 s.arena;
-      done = record s.done { yet = drop 1 s.done.yet };
+      done = record s.done
+          { yet = drop 1 s.done.yet };
     }) run callback.After t.1.name (seen.After (digest_in t.1.outcome) t.1.name t.0))
 ended_known p past s run t f kept work k =
     let last = (arena_size p).last_generation in
@@ -193,8 +195,7 @@ refused_says : (p : Program) (past : List Seen) (v : Var) (c : Code) → IsRefus
 refused_says p past v code.Ok no_success = absurd (no_success refl)
 refused_says p past v each no_success = tt
 
-cancel_says : (p : Program) (past : List Seen) (s : State) (v : Var) → KnownAt p past s →
-    CancelSays p past v (ops.cancel s (live_request s v)).answer
+cancel_says : (p : Program) (past : List Seen) (s : State) (v : Var) → KnownAt p past s → CancelSays p past v (ops.cancel s (live_request s v)).answer
 cancel_says p past s v k = cancel_both s v (λ (d : ops.Done). CancelSays p past v d.answer) (refused_says p past v)
     (λ t live on. record {
       names = k.binding v t.0 live.bound;

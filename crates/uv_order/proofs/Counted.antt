@@ -51,20 +51,16 @@ counted_sent p names told sent k = grind arith
 
 -- one more of a callback is none more of another
 told_more : (kind other : Callback) (v u : Var) (id : Id) (told : Told) (c : Calls) → (v.0 == u.0) ≡ true →
-    count_of other c ≡ times (told_of other told) u →
-    count_of other (counted kind c) ≡ times (told_of other (told_call kind v id told)) u
+    count_of other c ≡ times (told_of other told) u → count_of other (counted kind c) ≡ times (told_of other (told_call kind v id told)) u
 told_more kind other v u id told c f one = grind arith
 
 told_same : (kind other : Callback) (v u : Var) (id : Id) (told : Told) → (v.0 == u.0) ≡ false →
-    times (told_of other (told_call kind v id told)) u ≡ times
-    (told_of other told) u
+    times (told_of other (told_call kind v id told)) u ≡ times (told_of other told) u
 told_same kind other v u id told f = grind arith
 
 -- a name is called once more
 pub counted_call : (p : Program) (names : List Named) (told : Told) (kind : Callback) (v : Var) (id : Id) (x : Named) →
-    x.calls ≡ counted kind (counts_in
-    names v) →
-    Counted p names told → Counted p (slice_set names v.0 x) (told_call kind v id told)
+    x.calls ≡ counted kind (counts_in names v) → Counted p names told → Counted p (slice_set names v.0 x) (told_call kind v id told)
 counted_call p names told kind v id x e k = grind (arith, eqb-true, eq-eqb, set_long, set_here, set_there, told_more, told_same)
 
 -- a name without lines has the same body in each call

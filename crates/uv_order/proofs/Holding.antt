@@ -116,25 +116,21 @@ its_handle slots P id h e f = subst P (same_Some _ _ (sym f.holds ∙ e)) f.fits
 
 -- another handle is changed, or this one in a way that lets it fit
 pub fits_put : (slots : List (Slot Content)) (P : HandleRecord → Type 0) (id : Id) (h x : HandleRecord) → held_at slots id ≡ Some h → (P h → P x) →
-    (i : Id) →
-    Fits slots P i → Fits (put slots id x) P i
+    (i : Id) → Fits slots P i → Fits (put slots id x) P i
 fits_put slots P id h x e f i k = grind (arith, same, put_at slots id h x e)
 
 pub fits_other : (slots : List (Slot Content)) (P : HandleRecord → Type 0) (id : Id) (h x : HandleRecord) → held_at slots id ≡ Some h → (i : Id) →
-    (i ≡ id → ⊥) →
-    Fits slots P i → Fits (put slots id x) P i
+    (i ≡ id → ⊥) → Fits slots P i → Fits (put slots id x) P i
 fits_other slots P id h x e i d k = record { handle = k.handle; holds = put_other slots id i h x e d ∙ k.holds; fits = k.fits }
 
 -- it fitted before, unless it is the one that was changed
-pub fitted : (slots : List (Slot Content)) (P : HandleRecord → Type 0) (id : Id) (h x : HandleRecord) → held_at slots id ≡ Some h → (i : Id) → (i ≡
-    id → ⊥) →
-    Fits (put slots id x) P i → Fits slots P i
+pub fitted : (slots : List (Slot Content)) (P : HandleRecord → Type 0) (id : Id) (h x : HandleRecord) → held_at slots id ≡ Some h → (i : Id) →
+    (i ≡ id → ⊥) → Fits (put slots id x) P i → Fits slots P i
 fitted slots P id h x e i d k = record { handle = k.handle; holds = sym (put_other slots id i h x e d) ∙ k.holds; fits = k.fits }
 
 -- it fitted before, where the changed one did if it does now
 pub fits_back : (slots : List (Slot Content)) (P : HandleRecord → Type 0) (id : Id) (h x : HandleRecord) → held_at slots id ≡ Some h → (P x → P h) →
-    (i : Id) →
-    Fits (put slots id x) P i → Fits slots P i
+    (i : Id) → Fits (put slots id x) P i → Fits slots P i
 fits_back slots P id h x e g i l = grind (arith, holds, same, other, fitted, its_handle, put_same)
 
 -- no handle changes
@@ -147,18 +143,16 @@ pub record Lists (slots : List (Slot Content)) (P : HandleRecord → Type 0) (id
   pub each : Each (Fits slots P) ids
   pub distinct : AreDistinct ids
 
-pub lists_put : (slots : List (Slot Content)) (P : HandleRecord → Type 0) (id : Id) (h x : HandleRecord) (ids : List Id) → held_at slots id ≡ Some h
-    → (P h → P x) →
-    Lists slots P ids → Lists (put slots id x) P ids
+pub lists_put : (slots : List (Slot Content)) (P : HandleRecord → Type 0) (id : Id) (h x : HandleRecord) (ids : List Id) → held_at slots id ≡ Some h →
+    (P h → P x) → Lists slots P ids → Lists (put slots id x) P ids
 lists_put slots P id h x ids e f k = record {
   each = each_mapped (Fits slots P) (Fits (put slots id x) P)
       (fits_put slots P id h x e f) ids k.each;
   distinct = k.distinct;
 }
 
-pub lists_without : (slots : List (Slot Content)) (P : HandleRecord → Type 0) (id : Id) (h x : HandleRecord) (ids : List Id) → held_at slots id ≡
-    Some h →
-    Lists slots P ids → Lists (put slots id x) P (without_id ids id)
+pub lists_without : (slots : List (Slot Content)) (P : HandleRecord → Type 0) (id : Id) (h x : HandleRecord) (ids : List Id) →
+    held_at slots id ≡ Some h → Lists slots P ids → Lists (put slots id x) P (without_id ids id)
 lists_without slots P id h x ids e k = record {
   each = each_without (Fits slots P) (Fits (put slots id x) P) id
       (λ i d f. fits_other slots P id h x e i d f) ids k.each;
@@ -170,9 +164,8 @@ pub lists_same : (slots more : List (Slot Content)) (P : HandleRecord → Type 0
 lists_same slots more P ids f k = grind (arith, each_mapped, fits_same)
 
 -- a handle that doesn't fit is on no such list
-pub not_listed : (slots : List (Slot Content)) (P : HandleRecord → Type 0) (id : Id) (h : HandleRecord) (ids : List Id) → held_at slots id ≡ Some h
-    → (P h → ⊥) →
-    Lists slots P ids → has_id ids id ≡ false
+pub not_listed : (slots : List (Slot Content)) (P : HandleRecord → Type 0) (id : Id) (h : HandleRecord) (ids : List Id) → held_at slots id ≡ Some h →
+    (P h → ⊥) → Lists slots P ids → has_id ids id ≡ false
 not_listed slots P id h ids e f k = absent (Fits slots P) id (λ g. f (its_handle slots P id h e g)) ids k.each
 
 -- ---- all handles of which something holds
@@ -186,15 +179,13 @@ pub everyone_same : (slots more : List (Slot Content)) (P : HandleRecord → Typ
 everyone_same slots more P ids f k = grind (arith, fits_same, lists_same)
 
 -- a handle is changed that fits before and after, or doesn't
-pub everyone_put : (slots : List (Slot Content)) (P : HandleRecord → Type 0) (id : Id) (h x : HandleRecord) (ids : List Id) → held_at slots id ≡
-    Some h →
-    (P h → P x) → (P x → P h) → Everyone slots P ids → Everyone (put slots id x) P ids
+pub everyone_put : (slots : List (Slot Content)) (P : HandleRecord → Type 0) (id : Id) (h x : HandleRecord) (ids : List Id) →
+    held_at slots id ≡ Some h → (P h → P x) → (P x → P h) → Everyone slots P ids → Everyone (put slots id x) P ids
 everyone_put slots P id h x ids e f g k = grind (arith, fits_back, lists_put)
 
 -- one that doesn't fit any more is taken off
-pub everyone_without : (slots : List (Slot Content)) (P : HandleRecord → Type 0) (id : Id) (h x : HandleRecord) (ids : List Id) → held_at slots id ≡
-    Some h →
-    (P x → ⊥) → Everyone slots P ids → Everyone (put slots id x) P (without_id ids id)
+pub everyone_without : (slots : List (Slot Content)) (P : HandleRecord → Type 0) (id : Id) (h x : HandleRecord) (ids : List Id) →
+    held_at slots id ≡ Some h → (P x → ⊥) → Everyone slots P ids → Everyone (put slots id x) P (without_id ids id)
 everyone_without slots P id h x ids e g k = record {
   lists = lists_without slots P id h x ids e k.lists;
   all = λ i l. at i l
@@ -205,9 +196,8 @@ everyone_without slots P id h x ids e g k = record {
   at i l false s = still_there ids id i s (k.all i (fitted slots P id h x e i (other i id s) l))
 
 -- one that fits from now on is put in front
-pub everyone_front : (slots : List (Slot Content)) (P : HandleRecord → Type 0) (id : Id) (h x : HandleRecord) (ids : List Id) → held_at slots id ≡
-    Some h →
-    (P h → ⊥) → P x → Everyone slots P ids → Everyone (put slots id x) P (id ∷ ids)
+pub everyone_front : (slots : List (Slot Content)) (P : HandleRecord → Type 0) (id : Id) (h x : HandleRecord) (ids : List Id) →
+    held_at slots id ≡ Some h → (P h → ⊥) → P x → Everyone slots P ids → Everyone (put slots id x) P (id ∷ ids)
 everyone_front slots P id h x ids e f g k =
     let away : has_id ids id ≡ false = not_listed slots P id h ids e f k.lists in
     let rest : Lists (put slots id x) P ids = subst (Lists (put slots id x) P) (without_absent ids id away)
@@ -228,24 +218,20 @@ fits_grown slots more P id x g i k = grind arith
 
 -- it fitted before, unless it is the new one
 pub fitted_grown : (slots more : List (Slot Content)) (P : HandleRecord → Type 0) (id : Id) (x : HandleRecord) → Grown slots more id x → (i : Id) →
-    Fits more P i →
-    ((i ≡ id) × P x) ⊎ Fits slots P i
+    Fits more P i → ((i ≡ id) × P x) ⊎ Fits slots P i
 fitted_grown slots more P id x g i l = grind arith
 
-pub lists_grown : (slots more : List (Slot Content)) (P : HandleRecord → Type 0) (id : Id) (x : HandleRecord) (ids : List Id) → Grown slots more id
-    x →
-    Lists slots P ids → Lists more P ids
+pub lists_grown : (slots more : List (Slot Content)) (P : HandleRecord → Type 0) (id : Id) (x : HandleRecord) (ids : List Id) →
+    Grown slots more id x → Lists slots P ids → Lists more P ids
 lists_grown slots more P id x ids g k = grind (arith, each_mapped, fits_grown)
 
-pub everyone_grown : (slots more : List (Slot Content)) (P : HandleRecord → Type 0) (id : Id) (x : HandleRecord) (ids : List Id) → Grown slots more
-    id x → (P x → ⊥) →
-    Everyone slots P ids → Everyone more P ids
+pub everyone_grown : (slots more : List (Slot Content)) (P : HandleRecord → Type 0) (id : Id) (x : HandleRecord) (ids : List Id) →
+    Grown slots more id x → (P x → ⊥) → Everyone slots P ids → Everyone more P ids
 everyone_grown slots more P id x ids g d k = grind (arith, fitted_grown, lists_grown)
 
 -- the new one is listed, anywhere
-pub everyone_listed : (slots more : List (Slot Content)) (P : HandleRecord → Type 0) (id : Id) (x : HandleRecord) (xs ys : List Id) → Grown slots
-    more id x → P x →
-    Everyone slots P (xs ++ ys) → Everyone more P (xs ++ id ∷ ys)
+pub everyone_listed : (slots more : List (Slot Content)) (P : HandleRecord → Type 0) (id : Id) (x : HandleRecord) (xs ys : List Id) →
+    Grown slots more id x → P x → Everyone slots P (xs ++ ys) → Everyone more P (xs ++ id ∷ ys)
 everyone_listed slots more P id x xs ys g fits k = record {
   lists = record {
     each = each_middle (Fits more P) xs ys id (record {
@@ -264,34 +250,29 @@ everyone_listed slots more P id x xs ys g fits k = record {
   clash h e = cc (sym g.new ∙ e)
 
 -- a slot is emptied, whose handle fitted nowhere
-pub fits_emptied : (slots : List (Slot Content)) (P : HandleRecord → Type 0) (id : Id) (h : HandleRecord) (n : ℕ) → held_at slots id ≡ Some h → (i :
-    Id) → (i ≡ id → ⊥) →
-    Fits slots P i → Fits (emptied slots id n) P i
+pub fits_emptied : (slots : List (Slot Content)) (P : HandleRecord → Type 0) (id : Id) (h : HandleRecord) (n : ℕ) → held_at slots id ≡ Some h →
+    (i : Id) → (i ≡ id → ⊥) → Fits slots P i → Fits (emptied slots id n) P i
 fits_emptied slots P id h n e i d k = record { handle = k.handle; holds = emptied_other slots id i h n e d ∙ k.holds; fits = k.fits }
 
-pub fitted_emptied : (slots : List (Slot Content)) (P : HandleRecord → Type 0) (id : Id) (h : HandleRecord) (n : ℕ) → held_at slots id ≡ Some h → (i
-    : Id) →
-    Fits (emptied slots id n) P i → (i ≡ id → ⊥) × Fits slots P i
+pub fitted_emptied : (slots : List (Slot Content)) (P : HandleRecord → Type 0) (id : Id) (h : HandleRecord) (n : ℕ) → held_at slots id ≡ Some h →
+    (i : Id) → Fits (emptied slots id n) P i → (i ≡ id → ⊥) × Fits slots P i
 fitted_emptied slots P id h n e i l = grind (arith, emptied_same, emptied_other)
 
-pub lists_emptied : (slots : List (Slot Content)) (P : HandleRecord → Type 0) (id : Id) (h : HandleRecord) (n : ℕ) (ids : List Id) → held_at slots
-    id ≡ Some h → (P h → ⊥) →
-    Lists slots P ids → Lists (emptied slots id n) P ids
+pub lists_emptied : (slots : List (Slot Content)) (P : HandleRecord → Type 0) (id : Id) (h : HandleRecord) (n : ℕ) (ids : List Id) →
+    held_at slots id ≡ Some h → (P h → ⊥) → Lists slots P ids → Lists (emptied slots id n) P ids
 lists_emptied slots P id h n ids e d k = record {
   each = each_mapped (Fits slots P) (Fits (emptied slots id n) P) (λ i f. fits_emptied slots P id h n e i (λ is. d (its_handle slots P id h e (subst
       (Fits slots P) is f))) f) ids k.each;
   distinct = k.distinct;
 }
 
-pub everyone_emptied : (slots : List (Slot Content)) (P : HandleRecord → Type 0) (id : Id) (h : HandleRecord) (n : ℕ) (ids : List Id) → held_at
-    slots id ≡ Some h → (P h → ⊥) →
-    Everyone slots P ids → Everyone (emptied slots id n) P ids
+pub everyone_emptied : (slots : List (Slot Content)) (P : HandleRecord → Type 0) (id : Id) (h : HandleRecord) (n : ℕ) (ids : List Id) →
+    held_at slots id ≡ Some h → (P h → ⊥) → Everyone slots P ids → Everyone (emptied slots id n) P ids
 everyone_emptied slots P id h n ids e d k = grind (arith, fitted_emptied, lists_emptied)
 
 -- the one whose slot is emptied is the first of a list, and leaves it
-pub everyone_rest : (slots : List (Slot Content)) (P : HandleRecord → Type 0) (id : Id) (h : HandleRecord) (n : ℕ) (xs ys : List Id) → held_at slots
-    id ≡ Some h →
-    Everyone slots P (xs ++ id ∷ ys) → Everyone (emptied slots id n) P (xs ++ ys)
+pub everyone_rest : (slots : List (Slot Content)) (P : HandleRecord → Type 0) (id : Id) (h : HandleRecord) (n : ℕ) (xs ys : List Id) →
+    held_at slots id ≡ Some h → Everyone slots P (xs ++ id ∷ ys) → Everyone (emptied slots id n) P (xs ++ ys)
 everyone_rest slots P id h n xs ys e k = record {
   lists = record {
     each = each_but (Fits slots P) (Fits (emptied slots id n) P) xs ys id (λ i d f. fits_emptied slots P id h n e i d f) k.lists.distinct
@@ -324,9 +305,8 @@ pub times_put : (slots : List (Slot Content)) (drawn : ℕ) (ts : List (Due × I
 times_put slots drawn ts id h x e f g k = grind (arith, fits_back, fits_put)
 
 -- an active timer becomes inactive
-pub times_without : (slots : List (Slot Content)) (drawn : ℕ) (ts : List (Due × Id)) (key : Due) (id : Id) (h x : HandleRecord) → held_at slots id ≡
-    Some h →
-    IsSet key h → x.active ≡ false → Times slots drawn ts → Times (put slots id x) drawn (without_timer ts key)
+pub times_without : (slots : List (Slot Content)) (drawn : ℕ) (ts : List (Due × Id)) (key : Due) (id : Id) (h x : HandleRecord) →
+    held_at slots id ≡ Some h → IsSet key h → x.active ≡ false → Times slots drawn ts → Times (put slots id x) drawn (without_timer ts key)
 times_without slots drawn ts key id h x e a off k = record {
   each = λ other_key i l.
       let m = had ts key other_key i k.sorted l in
@@ -407,13 +387,11 @@ times_with slots drawn more ts key id h x e off a number less k = record {
   at other_key i l false s = has_old ts key other_key id i fresh (k.all other_key i (fitted slots (IsSet other_key) id h x e i (other i id s) l))
 
 -- one handle more, which is no active timer
-pub times_grown : (slots more : List (Slot Content)) (drawn : ℕ) (ts : List (Due × Id)) (id : Id) (x : HandleRecord) → Grown slots more id x → ((key
-    : Due) → IsSet key x → ⊥) →
-    Times slots drawn ts → Times more drawn ts
+pub times_grown : (slots more : List (Slot Content)) (drawn : ℕ) (ts : List (Due × Id)) (id : Id) (x : HandleRecord) → Grown slots more id x →
+    ((key : Due) → IsSet key x → ⊥) → Times slots drawn ts → Times more drawn ts
 times_grown slots more drawn ts id x g d k = grind arith
 
 -- and one less
-pub times_emptied : (slots : List (Slot Content)) (drawn : ℕ) (ts : List (Due × Id)) (id : Id) (h : HandleRecord) (n : ℕ) → held_at slots id ≡ Some
-    h →
-    ((key : Due) → IsSet key h → ⊥) → Times slots drawn ts → Times (emptied slots id n) drawn ts
+pub times_emptied : (slots : List (Slot Content)) (drawn : ℕ) (ts : List (Due × Id)) (id : Id) (h : HandleRecord) (n : ℕ) →
+    held_at slots id ≡ Some h → ((key : Due) → IsSet key h → ⊥) → Times slots drawn ts → Times (emptied slots id n) drawn ts
 times_emptied slots drawn ts id h n e d k = grind (arith, fits_emptied, fitted_emptied, its_handle)

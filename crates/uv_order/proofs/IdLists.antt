@@ -142,9 +142,8 @@ each_apart : (P Q : Id → Type 0) (ys : List Id) (id : Id) → ((i : Id) → (i
 each_apart P Q [] id f h e = tt
 each_apart P Q (y ∷ ys) id f h e = grind (arith, other, each_apart P Q ys id f)
 
-pub each_but : (P Q : Id → Type 0) (xs ys : List Id) (id : Id) → ((i : Id) → (i ≡ id → ⊥) → P i → Q i) → AreDistinct (xs ++ id ∷ ys) → Each P (xs ++
-    id ∷ ys) →
-    Each Q (xs ++ ys)
+pub each_but : (P Q : Id → Type 0) (xs ys : List Id) (id : Id) → ((i : Id) → (i ≡ id → ⊥) → P i → Q i) → AreDistinct (xs ++ id ∷ ys) →
+    Each P (xs ++ id ∷ ys) → Each Q (xs ++ ys)
 each_but P Q [] ys id f d h = each_apart P Q ys id f d.0 h.1
 each_but P Q (x ∷ xs) ys id f d h = (f x (gone xs ys id x d.0) h.0, each_but P Q xs ys id f d.1 h.1)
 

@@ -71,14 +71,12 @@ not_over p past arena names id h e k = grind arith
 -- ---- changes without a line
 
 pub known_names : {waiting runs : List Id} (p : Program) (past : List Seen) (arena : Slots Content) (now was : List Named) → SameIds now was →
-    Known p past arena was waiting runs →
-    Known p past arena now waiting runs
+    Known p past arena was waiting runs → Known p past arena now waiting runs
 known_names p past arena now was same k = grind arith
 
 -- a handle changes that closes as before
 pub known_put : {waiting runs : List Id} (p : Program) (past : List Seen) (arena : Slots Content) (names : List Named) (id : Id)
-    (h x : HandleRecord) →
-    held_at arena.slots id ≡ Some h → x.closing ≡ h.closing → x.name ≡ h.name → Known p past arena names waiting runs →
+    (h x : HandleRecord) → held_at arena.slots id ≡ Some h → x.closing ≡ h.closing → x.name ≡ h.name → Known p past arena names waiting runs →
     Known p past (record arena { slots = put arena.slots id x }) names waiting runs
 known_put p past arena names id h x e o called k = record {
   binding = k.binding;
@@ -147,10 +145,9 @@ idle_op p place o a e q = grind arith
 
 -- a handle that doesn't close is closed
 pub known_close : {waiting runs : List Id} (p : Program) (past : List Seen) (place : Site) (v : Var) (arena : Slots Content) (names : List Named)
-    (id : Id)
-    (h x : HandleRecord) → op_at p place ≡ Some (op.Close v) → id_in names v ≡ Some id → held_at arena.slots id ≡ Some h → x.closing ≡ true →
-    x.name ≡ h.name → Known p past arena names waiting runs →
-    Known p (seen.Op place (answer.Code code.Ok) ∷ past) (record arena { slots = put arena.slots id x }) names waiting runs
+    (id : Id) (h x : HandleRecord) → op_at p place ≡ Some (op.Close v) → id_in names v ≡ Some id → held_at arena.slots id ≡ Some h →
+    x.closing ≡ true → x.name ≡ h.name → Known p past arena names waiting runs → Known p (seen.Op place (answer.Code code.Ok) ∷ past)
+    (record arena { slots = put arena.slots id x }) names waiting runs
 known_close p past place v arena names id h x e is holds shut called k = record {
   binding = λ u i f. rw said (k.binding u i f);
   made = λ i u f. rw said (k.made i u (put_names arena.slots id h x holds called i u f));
@@ -207,11 +204,10 @@ known_bound p past place v o arena now names id n e bind make called quiet is ha
 
 -- a slot is taken for a handle that doesn't close
 pub known_grown : {waiting runs : List Id} (p : Program) (past : List Seen) (arena more : Slots Content) (names : List Named) (id : Id)
-    (x : HandleRecord) →
-    Grown arena.slots more.slots id x → SameRequests more.slots arena.slots → x.closing ≡ false →
+    (x : HandleRecord) → Grown arena.slots more.slots id x → SameRequests more.slots arena.slots → x.closing ≡ false →
     ((i : Id) (v : Var) → name_at more.slots i ≡ Some v → made_as p past i ≡ Some v) →
-    ((i : Id) → IsGone arena.slots arena.free i → IsGone more.slots more.free i) →
-    Known p past arena names waiting runs → Known p past more names waiting runs
+    ((i : Id) → IsGone arena.slots arena.free i → IsGone more.slots more.free i) → Known p past arena names waiting runs →
+    Known p past more names waiting runs
 known_grown p past arena more names id x grown same_asked stays called gone k = grind (arith, same, other, open_shut, worked_same)
 
 -- a closing handle has its `closed` line, and its slot is freed or retired

@@ -90,8 +90,7 @@ refused_effect s o lasts c no_success = says_effect s o (answer.Code c) (refusal
 
 -- a handle of another kind isn't on a list of watchers
 not_yet : (s : State) (q : Kind) (w : Walk Id) (id : Id) (h : HandleRecord) → handle s id ≡ Some h → (h.kind ≡ q → ⊥) →
-    Everyone s.arena.slots (Watches q) (members w) →
-    without_id w.yet id ≡ left_of w.yet []
+    Everyone s.arena.slots (Watches q) (members w) → without_id w.yet id ≡ left_of w.yet []
 not_yet s q w id h e d l =
     let away : has_id w.yet id ≡ false = has_back w.list w.yet id (not_listed s.arena.slots (Watches q) id h (members w) e (λ x. d x.kind) l.lists) in
     without_absent w.yet id away ∙ sym (none_off w.yet)
@@ -161,9 +160,8 @@ start_effect s v timeout repeat t e is k =
     (start_off v timeout repeat) refl refl refl
     (assumption)
 
-again_effect : (s : State) (v : Var) (t : Id × HandleRecord) → live_handle s v ≡ Ok t → t.1.kind ≡ kind.Timer → Kept s →
-    Effect s (op.Again v) (ops.again
-    s t.0 t.1)
+again_effect : (s : State) (v : Var) (t : Id × HandleRecord) → live_handle s v ≡ Ok t → t.1.kind ≡ kind.Timer → Kept s → Effect s (op.Again v)
+    (ops.again s t.0 t.1)
 again_effect s v t e is k =
     cond_both (t.1.repeat == 0) (stopped s t.0 t.1) (started (stopped s t.0 t.1) t.0 t.1 t.1.repeat t.1.repeat) (λ (u : State). Effect s (op.Again
     v) (ops.succeeds u))

@@ -58,9 +58,8 @@ again_known p past s t e k = cond_both (t.1.repeat == 0) _ _ (KnownAt p past) (�
     (λ z. twice p past s t (records.stopped t.1) _ e refl refl refl refl k)
 
 -- the next taking
-pub gone_taken : (s : Slots Content) (free : List ℕ) (id : Id) (x : Content) → s.free ≡ free → AreFree s.slots free → next_id s.slots s.unused free ≡
-    Some id →
-    (i : Id) → IsGone s.slots free i → IsGone (taken_from free id x s).slots (taken_from free id x s).free i
+pub gone_taken : (s : Slots Content) (free : List ℕ) (id : Id) (x : Content) → s.free ≡ free → AreFree s.slots free →
+    next_id s.slots s.unused free ≡ Some id → (i : Id) → IsGone s.slots free i → IsGone (taken_from free id x s).slots (taken_from free id x s).free i
 gone_taken s free id x eq are e i g = grind (arith, same, same_Some, gone_push, gone_fill)
 
 -- the id that the next taking gives isn't gone
@@ -105,14 +104,12 @@ new_or_old slots more id c v i u is t e = grind arith
 -- so the lines tell it of each
 made_now : (p : Program) (past : List Seen) (place : Site) (o : Op) (slots more : List (Slot Content)) (id : Id) (c : Content) (v : Var) (i : Id)
     (u : Var) → op_at p place ≡ Some o → ((j : Id) → makes o (answer.Id id) j ≡ (if same_id id j then Some v else None)) → name_in c ≡ v →
-    Turns slots more id None (Some c) →
-    ((j : Id) (w : Var) → name_at slots j ≡ Some w → made_as p (seen.Op place (answer.Id id) ∷ past) j ≡ Some w) →
+    Turns slots more id None (Some c) → ((j : Id) (w : Var) → name_at slots j ≡ Some w → made_as p (seen.Op place (answer.Id id) ∷ past) j ≡ Some w) →
     name_at more i ≡ Some u → made_as p (seen.Op place (answer.Id id) ∷ past) i ≡ Some u
 made_now p past place o slots more id c v i u e m is t k h = grind arith
 
 pub new_known : (p : Program) (past : List Seen) (s : State) (v : Var) (q : Kind) (id : Id) → next_free s.arena ≡ Some id → Kept s →
-    KnownAt p past s →
-    KnownBy p past (op.Init v q) (record { state = ops.with_new s v q id; answer = answer.Id id })
+    KnownAt p past s → KnownBy p past (op.Init v q) (record { state = ops.with_new s v q id; answer = answer.Id id })
 new_known p past s v q id e kept k place at = by q at where
   turns : (x : Kind) → Turns s.arena.slots (taken id (content.Handle (inited v x)) s.arena).slots id None (Some (content.Handle (inited v x)))
   turns x = (fills s.arena s.arena.free id (content.Handle (inited v x)) refl kept.free e).0

@@ -102,8 +102,7 @@ record SectionOn (p : Program) (told : Told) (past : List Seen) (word : Phase) (
   rest : GoesOn p (Running mode number (Within part walk)) told past was ls
 
 section_on : (p : Program) (at : Position) (told : Told) (past : List Seen) (was : Lasting) (l : Line) (word : Phase) (ls : List Line) →
-    l.seen ≡ seen.Section word → GoesOn p at told past was (l ∷ ls) →
-    SectionOn p (told_by p told (names_by p past) l.seen) (l.seen ∷ past) word ls
+    l.seen ≡ seen.Section word → GoesOn p at told past was (l ∷ ls) → SectionOn p (told_by p told (names_by p past) l.seen) (l.seen ∷ past) word ls
 section_on p at told past was l word ls e (line {to = to} f g h) =
     let b : Begins word to = subst (Opening l to) e (opening p told (names_by p past) l at to g) in
     record {
@@ -194,9 +193,8 @@ within_on p m i part (x ∷ xs) ls w told past was a (line {to = to} e g h) =
 
 op_on : (p : Program) (m : Mode) (i : ℕ) (part : Section) (w : Walk) (told : Told) (past : List Seen) (was : Lasting) (l : Line) (place : Site)
     (o : Op) (a : Answer) (ls : List Line) → l.seen ≡ seen.Op place a → op_at p place ≡ Some o →
-    GoesOn p (Running m i (Within part w)) told past was (l ∷ ls) →
-    WalkOn p m i part (λ id. has_id (taken_off (word_of part) (names_by p past) o a) id ≡ true) (told_by p told (names_by p past) l.seen)
-    (l.seen ∷ past) ls
+    GoesOn p (Running m i (Within part w)) told past was (l ∷ ls) → WalkOn p m i part
+    (λ id. has_id (taken_off (word_of part) (names_by p past) o a) id ≡ true) (told_by p told (names_by p past) l.seen) (l.seen ∷ past) ls
 op_on p m i part w told past was l place o a ls e is (line {to = to} f g h) =
     let s = stays p told (names_by p past) m i part w l to (ap is_within e) g in
     let t : Tells p told (names_by p past) part w s.walk (seen.Op place a) = subst (Tells p told (names_by p past) part w s.walk) e s.tells in

@@ -59,9 +59,8 @@ begun_call p u r v = record (with_named u v (record (named u v) { calls = counte
 -- the callback of a handle begins in a section, in a state that may have changed
 pub call_follows : (p : Program) (told : Told) (s u : State) (run r : Run) (part : Section) (w : Walk) (t : Id × HandleRecord) (behind : List Id) →
     callback_in (word_of part) ≡ callback.Handle → CallsNext (word_of part) told w t.0 behind → handle s t.0 ≡ Some t.1 → u.names ≡ s.names →
-    lasting u ≡ lasting s → Counted p s.names told →
-    (IsBody p (body_from p callback.Handle t.1.name (count_of callback.Handle (counted callback.Handle (named u t.1.name).calls)) 0)
-    (called p told callback.Handle w behind t.1.name).body →
+    lasting u ≡ lasting s → Counted p s.names told → (IsBody p (body_from p callback.Handle t.1.name
+    (count_of callback.Handle (counted callback.Handle (named u t.1.name).calls)) 0) (called p told callback.Handle w behind t.1.name).body →
     StandsAt p (begun_call p u r t.1.name) (begun_call p u r t.1.name).place
     (Running run.mode run.line (Within part (called p told callback.Handle w behind t.1.name)))) →
     Follows p told (Running run.mode run.line (Within part w)) s (call p u r t.0 t.1.name)
@@ -179,11 +178,9 @@ timers_call timers_of.Iteration told w id more n b = record { done = b; passed =
 
 -- a timer is called from the ready list, in a state that may have started it again
 pub call_timer : (p : Program) (told : Told) (s u : State) (run : Run) (part : TimersOf) (w : Walk) (t : Id × HandleRecord) (more : List Id) →
-    handle s
-    t.0 ≡ Some t.1 →
-    u.names ≡ s.names → lasting u ≡ lasting s → OnlyReady (rest (t.0 ∷ more) u) w → u.ready ≡ more → w.body ≡ [] → Counted p s.names told →
-    Follows p told (Running run.mode run.line (Within (section_of part) w)) s (call p u (record run { stage = stage.Timers part Firing }) t.0
-    t.1.name)
+    handle s t.0 ≡ Some t.1 → u.names ≡ s.names → lasting u ≡ lasting s → OnlyReady (rest (t.0 ∷ more) u) w → u.ready ≡ more → w.body ≡ [] →
+    Counted p s.names told → Follows p told (Running run.mode run.line (Within (section_of part) w)) s
+    (call p u (record run { stage = stage.Timers part Firing }) t.0 t.1.name)
 call_timer p told s u run part w t more h names lasts o ready b c =
     let next = next_of w t.0 more (sym o.ready) in
     call_follows p told s u run (record run { stage = stage.Timers part Firing }) (section_of part) w t next.behind (timers_word part)
@@ -191,9 +188,8 @@ call_timer p told s u run part w t more h names lasts o ready b c =
     (λ is. running (fires is) (timers_left part (rest u.ready u) (called p told callback.Handle w next.behind t.1.name) (assumption (ready ∙ next.left, o))))
 
 pub fire_follows : (p : Program) (told : Told) (s : State) (run : Run) (part : TimersOf) (w : Walk) → lives s ≡ is_alive s → Kept s →
-    Counted p s.names told →
-    Leaves (rest s.ready s) (Within (section_of part) w) → w.body ≡ [] → Follows p told (Running run.mode run.line (Within (section_of part) w)) s
-    (step.fire p s run part)
+    Counted p s.names told → Leaves (rest s.ready s) (Within (section_of part) w) → w.body ≡ [] →
+    Follows p told (Running run.mode run.line (Within (section_of part) w)) s (step.fire p s run part)
 fire_follows p told s run part w alive k c l b =
     let o = left_timers part (rest s.ready s) w l in
     found_both (front s s.ready) _ _ (Follows p told (Running run.mode run.line (Within (section_of part) w)) s)
@@ -233,8 +229,7 @@ late_due s (t ∷ ts) drawn k e = at (nat_le t.0.at s.time) refl e where
   at false late f = none_due s.time t ts k.sorted late
 
 pub collect_follows : (p : Program) (told : Told) (s : State) (run : Run) (part : TimersOf) (w : Walk) → lives s ≡ is_alive s → Kept s →
-    Counted p s.names told →
-    Leaves (rest (s.ready ++ due_now s) s) (Within (section_of part) w) → w.body ≡ [] →
+    Counted p s.names told → Leaves (rest (s.ready ++ due_now s) s) (Within (section_of part) w) → w.body ≡ [] →
     Follows p told (Running run.mode run.line (Within (section_of part) w)) s (step.collect p s run part)
 collect_follows p told s run part w alive k c l b =
     let o = left_timers part (rest (s.ready ++ due_now s) s) w l in

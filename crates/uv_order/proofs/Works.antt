@@ -271,9 +271,8 @@ works_queued slots more waiting running done id r t opened k = record {
 }
 
 -- a request ends
-ended_by : (slots more : List (Slot Content)) (done : Walk Id) (id : Id) (r x : Request) →
-    Turns slots more id (Some (content.Request r)) (Some (content.Request x)) → IsOpen r → HasEnded x →
-    AllAsk slots HasEnded (done.list ++ done.yet) →
+ended_by : (slots more : List (Slot Content)) (done : Walk Id) (id : Id) (r x : Request) → Turns slots more id (Some (content.Request r))
+    (Some (content.Request x)) → IsOpen r → HasEnded x → AllAsk slots HasEnded (done.list ++ done.yet) →
     AllAsk more HasEnded ((done.list ++ id ∷ []) ++ done.yet)
 ended_by slots more done id r x t opened over k = subst (AllAsk more HasEnded) (sym (append_assoc done.list (id ∷ []) done.yet))
     (more_middle slots more HasEnded id (Some (content.Request r)) (Some (content.Request x)) x done.list done.yet t
