@@ -166,6 +166,28 @@ pub worked_finished : (p : Program) (past : List Seen) (arena : Slots Content) (
     Worked p past arena waiting runs → Worked p (seen.Finish n v id ∷ past) arena waiting few
 worked_finished p past arena waiting runs few n v id on fewer k = grind arith
 
+-- an id under which nothing is held, and which isn't gone, wasn't queued
+not_queued : (p : Program) (past : List Seen) (arena : Slots Content) (waiting runs : List Id) (id : Id) → held arena.slots id ≡ None →
+    (IsGone arena.slots arena.free id → ⊥) → Worked p past arena waiting runs → queued_task p past id ≡ None
+not_queued p past arena waiting runs id e fresh k = at (queued_task p past id) refl where
+  at : (o : Option Task) → queued_task p past id ≡ o → o ≡ None
+  at None f = refl
+  at (Some x) f = elim (k.known id x f) [ inl a ↦ absurd (none-some a.request (sym (ap request_in e) ∙ a.holds)) | inr g ↦ absurd (fresh g) ]
+
+queued_now : (task : Task) (id : Id) (x : Request) (was now : Id → Option Request) (told : Id → Option Task) → x.task ≡ task →
+    ((i : Id) → now i ≡ (if same_id i id then Some x else was i)) → ((i : Id) (y : Request) → was i ≡ Some y → told i ≡ Some y.task) → (i : Id)
+    (y : Request) → now i ≡ Some y → first_of (if same_id id i then Some task else None) (told i) ≡ Some y.task
+queued_now task id x was now told e f k i y h = grind (arith, turned)
+
+-- the line of a `queue` changes nothing that others ended by
+still_ended : (p : Program) (past : List Seen) (place : Site) (v : Var) (task : Task) (id : Id) → op_at p place ≡ Some (op.Queue v task) → (i : Id)
+    (x : Task) (o : Outcome) → EndsTrue p past i x o → EndsTrue p (seen.Op place (answer.Id id) ∷ past) i x o
+still_ended p past place v task id e i x o g = grind arith
+
+of_both : (f : Id → Bool) (waiting : List Id) (id : Id) → f id ≡ false → ((i : Id) → has_id waiting i ≡ true → f i ≡ false) → (i : Id) →
+    (id ≡ i) ⊎ (has_id waiting i ≡ true) → f i ≡ false
+of_both f waiting id e k i h = grind arith
+
 -- a request is queued under an id that isn't gone and stands for nothing
 pub worked_queued : (p : Program) (past : List Seen) (place : Site) (v : Var) (task : Task) (arena more : Slots Content)
     (waiting runs listed : List Id)
@@ -174,78 +196,48 @@ pub worked_queued : (p : Program) (past : List Seen) (place : Site) (v : Var) (t
     ((i : Id) → IsGone arena.slots arena.free i → IsGone more.slots more.free i) → Worked p past arena waiting runs →
     Worked p (seen.Op place (answer.Id id) ∷ past) more listed runs
 worked_queued p past place v task arena more waiting runs listed id e t fresh most gone k = record {
-  queued = λ i y h. rw (asked i) (queued_now i y h (same_id i id) refl);
-  known = λ i x h. known_now i x (sym (asked i) ∙ h) (same_id id i) refl;
+  queued = λ i y h. rw (asked i) (queued_now task id x (asked_at arena.slots) (asked_at more.slots) (queued_task p past) refl asks k.queued i y h);
+  known = λ i z h. known_now i z (sym (asked i) ∙ h) (same_id id i) refl;
   over = λ i h. gone i (k.over i h);
   taken = λ i h f. k.taken i h (still_none i (sym (asked i) ∙ f));
   finished = k.finished;
-  waits = λ i h. waits i (most i h);
+  waits = λ i h. of_both (has_take_line past) waiting id (false_from_ne_true _ (λ f. k.taken id f never)) k.waits i (most i h);
   runs_now = k.runs_now;
-  ended = λ i y h. ended_now i y h (same_id i id) refl;
+  ended = λ i y h. elim (ends_now p (seen.Op place (answer.Id id) ∷ past) id x (asked_at arena.slots) (asked_at more.slots) asks
+      (asked id ∙ rw (itself id id refl) refl) tt i y h) [
+        | inl old ↦ still_ended p past place v task id e i y.task y.outcome (k.ended i y old)
+        | inr new ↦ new.1
+      ];
   cancelled = λ i h f. k.cancelled i (sym (no_cancel i) ∙ h) (still_none i (sym (asked i) ∙ f));
-  uncancelled = λ i h. no_cancel i ∙ uncancelled i (most i h);
+  uncancelled = λ i h. no_cancel i
+      ∙ of_both (has_cancel_line p past) waiting id (false_from_ne_true _ (λ f. k.cancelled id f never)) k.uncancelled i (most i h);
 } where
+  x : Request
+  x = queued v task
+
+  asks : (i : Id) → asked_at more.slots i ≡ (if same_id i id then Some x else asked_at arena.slots i)
+  asks i = turned_asks arena.slots more.slots id _ _ t i
+
+  never : queued_task p past id ≡ None
+  never = not_queued p past arena waiting runs id t.before fresh k
+
   no_cancel : (i : Id) → has_cancel_line p (seen.Op place (answer.Id id) ∷ past) i ≡ has_cancel_line p past i
-  no_cancel i = ap (λ (o : Option Answered). cancelled_by o i || has_cancel_line p past i)
-      (ap (option_map (λ (o : Op). record { op = o; answer = answer.Id id })) e)
+  no_cancel i = rw e refl
 
   asked : (i : Id) → queued_task p (seen.Op place (answer.Id id) ∷ past) i ≡ first_of (if same_id id i then Some task else None)
       (queued_task p past i)
-  asked i = ap (λ (o : Option Answered). first_of (queued_by o i) (queued_task p past i))
-      (ap (option_map (λ (o : Op). record { op = o; answer = answer.Id id })) e)
-
-  never : (b : Option Task) → queued_task p past id ≡ b → b ≡ None
-  never None f = refl
-  never (Some x) f = absurd (at (k.known id x f)) where
-    at : IsAsked arena id ⊎ IsGone arena.slots arena.free id → ⊥
-    at (inl a) = none-some a.request (sym (ap request_in t.before) ∙ a.holds)
-    at (inr g) = fresh g
-
-  untaken : has_take_line past id ≡ false
-  untaken = false_from_ne_true (has_take_line past id) (λ h. k.taken id h (never (queued_task p past id) refl))
+  asked i = rw e refl
 
   still_none : (i : Id) → first_of (if same_id id i then Some task else None) (queued_task p past i) ≡ None → queued_task p past i ≡ None
-  still_none i f = at (same_id id i) f where
-    at : (b : Bool) → first_of (if b then Some task else None) (queued_task p past i) ≡ None → queued_task p past i ≡ None
-    at true g = cc g
-    at false g = g
+  still_none i f = grind arith
 
-  its : (i : Id) (y : Request) → asked_at more.slots i ≡ Some y → same_id i id ≡ true → queued v task ≡ y
-  its i y h s = same_Some _ _ (sym (ap request_in t.here) ∙ ap (asked_at more.slots) (sym (same i id s)) ∙ h)
-
-  queued_now : (i : Id) (y : Request) → asked_at more.slots i ≡ Some y → (b : Bool) → same_id i id ≡ b →
-      first_of (if same_id id i then Some task else None) (queued_task p past i) ≡ Some y.task
-  queued_now i y h true s = rw (turned id i, s) (ap (λ (z : Request). Some z.task) (its i y h s))
-  queued_now i y h false s = rw (turned id i, s) (k.queued i y (sym (ap request_in (t.others i (other i id s))) ∙ h))
-
-  known_now : (i : Id) (x : Task) → first_of (if same_id id i then Some task else None) (queued_task p past i) ≡ Some x → (b : Bool) →
+  known_now : (i : Id) (z : Task) → first_of (if same_id id i then Some task else None) (queued_task p past i) ≡ Some z → (b : Bool) →
       same_id id i ≡ b → IsAsked more i ⊎ IsGone more.slots more.free i
-  known_now i x h true s =
-      inl (record { request = queued v task; holds = ap (asked_at more.slots) (sym (same id i s)) ∙ ap request_in t.here })
-  known_now i x h false s = at (k.known i x (sym (ap (λ (b : Bool). first_of (if b then Some task else None) (queued_task p past i)) s) ∙ h)) where
-    at : IsAsked arena i ⊎ IsGone arena.slots arena.free i → IsAsked more i ⊎ IsGone more.slots more.free i
-    at (inl a) = inl (record { request = a.request; holds = ap request_in (t.others i (other i id (turned i id ∙ s))) ∙ a.holds })
-    at (inr g) = inr (gone i g)
-
-  unasked : has_cancel_line p past id ≡ false
-  unasked = false_from_ne_true (has_cancel_line p past id) (λ h. k.cancelled id h (never (queued_task p past id) refl))
-
-  uncancelled : (i : Id) → (id ≡ i) ⊎ (has_id waiting i ≡ true) → has_cancel_line p past i ≡ false
-  uncancelled i (inl is) = ap (has_cancel_line p past) (sym is) ∙ unasked
-  uncancelled i (inr h) = k.uncancelled i h
-
-  waits : (i : Id) → (id ≡ i) ⊎ (has_id waiting i ≡ true) → has_take_line past i ≡ false
-  waits i (inl is) = ap (has_take_line past) (sym is) ∙ untaken
-  waits i (inr h) = k.waits i h
-
-  ended_now : (i : Id) (y : Request) → asked_at more.slots i ≡ Some y → (b : Bool) → same_id i id ≡ b →
-      EndsTrue p (seen.Op place (answer.Id id) ∷ past) i y.task y.outcome
-  ended_now i y h true s = subst (λ (z : Request). EndsTrue p (seen.Op place (answer.Id id) ∷ past) i z.task z.outcome) (its i y h s) tt
-  ended_now i y h false s = lines i y.task y.outcome (k.ended i y (sym (ap request_in (t.others i (other i id s))) ∙ h)) where
-    lines : (j : Id) (x : Task) (o : Outcome) → EndsTrue p past j x o → EndsTrue p (seen.Op place (answer.Id id) ∷ past) j x o
-    lines j x Open g = tt
-    lines j x (Finished digest) g = g
-    lines j x Cancelled g = (g.0, no_cancel j ∙ g.1)
+  known_now i z h true s = inl (record { request = x; holds = asks i ∙ rw (turned i id, s) refl })
+  known_now i z h false s = elim (k.known i z (sym (ap (λ (b : Bool). first_of (if b then Some task else None) (queued_task p past i)) s) ∙ h)) [
+    | inl a ↦ inl (asked_still arena more id x asks i a)
+    | inr g ↦ inr (gone i g)
+  ]
 
 -- no request is held under it any more
 asked_before : (was now : Id → Option Request) (id : Id) → ((i : Id) → now i ≡ (if same_id i id then None else was i)) → (i : Id) (y : Request) →
