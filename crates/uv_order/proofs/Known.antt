@@ -6,8 +6,8 @@ use Rattle.uv_ids.specs.declared.seen.Seen.TheVariants as seen
 use Rattle.uv_script.specs.declared.op.Op.TheVariants as op
 use Rattle.uv_work.specs.declared.content.Content.TheVariants as content
 use Rattle.uv_order.proofs.IdLists.{same, other, itself}
-use Rattle.uv_order.proofs.Contents.{emptied, emptied_turns}
-use Rattle.uv_order.proofs.Holding.{name_at, NoNewNames, put_names, names_turned, held_at, is_held, put, put_same, put_other, emptied_same, emptied_other, Fits, fits_put, fits_same, SameHandles, Grown}
+use Rattle.uv_order.proofs.Contents.{Turns, emptied, emptied_turns}
+use Rattle.uv_order.proofs.Holding.{name_at, NoNewNames, put_names, names_turned, held_at, is_held, put, put_same, put_other, emptied_same, emptied_other, Fits, fits_put, fits_back, fitted, fits_emptied, fitted_emptied, fits_same, SameHandles, Grown}
 use Rattle.uv_order.proofs.Counted.{set_there}
 use Rattle.uv_order.proofs.Keeping.{has_number, Closes, open_shut}
 use Rattle.uv_order.proofs.Gone.{IsGone, gone_put, gone_emptied, gone_now}
@@ -74,34 +74,28 @@ pub known_names : {waiting runs : List Id} (p : Program) (past : List Seen) (are
     Known p past arena was waiting runs → Known p past arena now waiting runs
 known_names p past arena now was same k = grind arith
 
+-- what is held turns: nothing is called otherwise, who closes then closed before, and who closed closes still, or is gone
+known_held : {waiting runs : List Id} (p : Program) (past : List Seen) (arena more : Slots Content) (names : List Named) →
+    NoNewNames more.slots arena.slots → ((i : Id) → Fits more.slots Closes i → Fits arena.slots Closes i) →
+    ((i : Id) → Fits arena.slots Closes i → IsShut more i) → ((i : Id) → IsGone arena.slots arena.free i → IsGone more.slots more.free i) →
+    SameRequests more.slots arena.slots → Known p past arena names waiting runs → Known p past more names waiting runs
+known_held p past arena more names called was still gone asks k = record {
+  binding = k.binding;
+  made = λ i v f. k.made i v (called i v f);
+  closing = λ i f. k.closing i (was i f);
+  closed = λ i c. elim (k.closed i c) [ inl f ↦ still i f | inr g ↦ inr (gone i g) ];
+  over = λ i c. gone i (k.over i c);
+  worked = worked_same p past arena more _ _ asks gone k.worked;
+}
+
 -- a handle changes that closes as before
 pub known_put : {waiting runs : List Id} (p : Program) (past : List Seen) (arena : Slots Content) (names : List Named) (id : Id)
     (h x : HandleRecord) → held_at arena.slots id ≡ Some h → x.closing ≡ h.closing → x.name ≡ h.name → Known p past arena names waiting runs →
     Known p past (record arena { slots = put arena.slots id x }) names waiting runs
-known_put p past arena names id h x e o called k = record {
-  binding = k.binding;
-  made = λ i v f. k.made i v (put_names arena.slots id h x e called i v f);
-  closing = λ i f. closing i f (same_id i id) refl;
-  closed = λ i c. shut i (k.closed i c);
-  over = λ i c. gone_put arena.slots arena.free id h x i e (k.over i c);
-  worked = worked_same p past arena (record arena { slots = put arena.slots id x }) _ _ (same_put arena.slots id h x e)
-      (λ i g. gone_put arena.slots arena.free id h x i e g) k.worked;
-} where
-  closing : (i : Id) → Fits (put arena.slots id x) Closes i → (b : Bool) → same_id i id ≡ b → was_closed p past i ≡ true
-  closing i f true s =
-      let is : i ≡ id = same i id s in
-      let y : f.handle ≡ x = same_Some _ _ (sym f.holds ∙ ap (held_at (put arena.slots id x)) is ∙ put_same arena.slots id h x e) in
-      let was : h.closing ≡ true = sym o ∙ ap (λ (z : HandleRecord). z.closing) (sym y) ∙ f.fits in
-      subst (λ (j : Id). was_closed p past j ≡ true) (sym is) (k.closing id (record { handle = h; holds = e; fits = was }))
-  closing i f false s = k.closing i (record {
-    handle = f.handle;
-    holds = sym (put_other arena.slots id i h x e (other i id s)) ∙ f.holds;
-    fits = f.fits;
-  })
-
-  shut : (i : Id) → IsShut arena i → IsShut (record arena { slots = put arena.slots id x }) i
-  shut i (inl f) = inl (fits_put arena.slots Closes id h x e (λ c. o ∙ c) i f)
-  shut i (inr g) = inr (gone_put arena.slots arena.free id h x i e g)
+known_put p past arena names id h x e o called k =
+    known_held p past arena (record arena { slots = put arena.slots id x }) names (put_names arena.slots id h x e called)
+    (fits_back arena.slots Closes id h x e (λ c. sym o ∙ c)) (λ i f. inl (fits_put arena.slots Closes id h x e (λ c. o ∙ c) i f))
+    (λ i g. gone_put arena.slots arena.free id h x i e g) (same_put arena.slots id h x e) k
 
 -- ---- lines
 
@@ -172,11 +166,7 @@ known_close p past place v arena names id h x e is holds shut called k = record 
   closing : (i : Id) → Fits (put arena.slots id x) Closes i → (b : Bool) → same_id i id ≡ b →
       (is_some_id i (bound p past v) || was_closed p past i) ≡ true
   closing i f true s = or_left _ _ (ap (is_some_id i) its_id ∙ itself id i (sym (same i id s)))
-  closing i f false s = or_right _ _ (k.closing i (record {
-    handle = f.handle;
-    holds = sym (put_other arena.slots id i h x holds (other i id s)) ∙ f.holds;
-    fits = f.fits;
-  }))
+  closing i f false s = or_right _ _ (k.closing i (fitted arena.slots Closes id h x holds i (other i id s) f))
 
   closed : (i : Id) → (is_some_id i (bound p past v) ≡ true) ⊎ (was_closed p past i ≡ true) →
       IsShut (record arena { slots = put arena.slots id x }) i
@@ -185,10 +175,10 @@ known_close p past place v arena names id h x e is holds shut called k = record 
     holds = ap (held_at (put arena.slots id x)) (sym (same id i (sym (ap (is_some_id i) its_id) ∙ c))) ∙ put_same arena.slots id h x holds;
     fits = shut;
   })
-  closed i (inr c) = earlier (k.closed i c) where
-    earlier : IsShut arena i → IsShut (record arena { slots = put arena.slots id x }) i
-    earlier (inl f) = inl (fits_put arena.slots Closes id h x holds (λ g. shut) i f)
-    earlier (inr g) = inr (gone_put arena.slots arena.free id h x i holds g)
+  closed i (inr c) = elim (k.closed i c) [
+    | inl f ↦ inl (fits_put arena.slots Closes id h x holds (λ g. shut) i f)
+    | inr g ↦ inr (gone_put arena.slots arena.free id h x i holds g)
+  ]
 
 -- the line of an op binds a name
 pub known_bound : {waiting runs few : List Id} (p : Program) (past : List Seen) (place : Site) (v : Var) (o : Op) (arena now : Slots Content)
@@ -210,41 +200,39 @@ pub known_grown : {waiting runs : List Id} (p : Program) (past : List Seen) (are
     Known p past more names waiting runs
 known_grown p past arena more names id x grown same_asked stays called gone k = grind (arith, same, other, open_shut, worked_same)
 
+-- the `closed` line of a handle that is gone
+known_over : {waiting runs : List Id} (p : Program) (past : List Seen) (v : Var) (arena : Slots Content) (names : List Named) (id : Id) →
+    IsGone arena.slots arena.free id → Known p past arena names waiting runs → Known p (seen.Closed v id ∷ past) arena names waiting runs
+known_over p past v arena names id g k = record {
+  binding = k.binding;
+  made = k.made;
+  closing = k.closing;
+  closed = k.closed;
+  over = λ i c. grind (arith, same);
+  worked = worked_idle p past (seen.Closed v id) arena _ _ (assumption) k.worked;
+}
+
 -- a closing handle has its `closed` line, and its slot is freed or retired
 pub known_gone : {waiting runs : List Id} (p : Program) (past : List Seen) (v : Var) (arena : Slots Content) (more : List ℕ) (names : List Named)
     (id : Id) (h : HandleRecord)
     (n : ℕ) → held_at arena.slots id ≡ Some h → id.generation ≤ n → (id.generation < n) ⊎ (has_number more id.slot ≡ false) →
     ((m : ℕ) → (m ≡ id.slot → ⊥) → has_number arena.free m ≡ false → has_number more m ≡ false) → Known p past arena names waiting runs →
     Known p (seen.Closed v id ∷ past) (record arena { slots = emptied arena.slots id n; free = more }) names waiting runs
-known_gone p past v arena more names id h n e l last others k = record {
-  binding = k.binding;
-  made = λ i u f. k.made i u (names_turned arena.slots (emptied arena.slots id n) id _ _
-      (emptied_turns arena.slots id (content.Handle h) n (is_held arena.slots id h e)) (λ u g. cc g) i u f);
-  closing = λ i f. k.closing i (earlier i f (same_id i id) refl);
-  closed = λ i c. later i (same_id i id) refl (k.closed i c);
-  over = λ i c. over i (or_cases (same_id id i) (has_closed_line past i) c);
-  worked = worked_idle p past (seen.Closed v id) (record arena { slots = emptied arena.slots id n; free = more }) _ _
-      (assumption)
-      (worked_same p past arena (record arena { slots = emptied arena.slots id n; free = more }) _ _
-      (same_requests arena.slots _ id _ _ (emptied_turns arena.slots id (content.Handle h) n (is_held arena.slots id h e)) refl refl) gone k.worked);
-} where
-  earlier : (i : Id) → Fits (emptied arena.slots id n) Closes i → (b : Bool) → same_id i id ≡ b → Fits arena.slots Closes i
-  earlier i f true s = absurd (none-some f.handle (sym (emptied_same arena.slots id h n e)
-      ∙ ap (held_at (emptied arena.slots id n)) (sym (same i id s)) ∙ f.holds))
-  earlier i f false s = record { handle = f.handle; holds = sym (emptied_other arena.slots id i h n e (other i id s)) ∙ f.holds; fits = f.fits }
+known_gone p past v arena more names id h n e l last others k =
+    known_over p past v now names id gone_id (known_held p past arena now names (names_turned arena.slots now.slots id _ _ turns (λ u g. cc g))
+    (λ i f. (fitted_emptied arena.slots Closes id h n e i f).1) (λ i f. still i f (same_id i id) refl)
+    (λ i g. gone_emptied arena.slots arena.free more id (content.Handle h) n i (is_held arena.slots id h e) l others g)
+    (same_requests arena.slots now.slots id _ _ turns refl refl) k)
+  where
+    now : Slots Content
+    now = record arena { slots = emptied arena.slots id n; free = more }
 
-  gone : (i : Id) → IsGone arena.slots arena.free i → IsGone (emptied arena.slots id n) more i
-  gone i g = gone_emptied arena.slots arena.free more id (content.Handle h) n i (is_held arena.slots id h e) l others g
+    turns : Turns arena.slots (emptied arena.slots id n) id (Some (content.Handle h)) None
+    turns = emptied_turns arena.slots id (content.Handle h) n (is_held arena.slots id h e)
 
-  now : (i : Id) → i ≡ id → IsGone (emptied arena.slots id n) more i
-  now i is = subst (IsGone (emptied arena.slots id n) more) (sym is) (gone_now arena.slots more id (content.Handle h) n
-      (is_held arena.slots id h e) last)
+    gone_id : IsGone now.slots now.free id
+    gone_id = gone_now arena.slots more id (content.Handle h) n (is_held arena.slots id h e) last
 
-  later : (i : Id) (b : Bool) → same_id i id ≡ b → IsShut arena i → IsShut (record arena { slots = emptied arena.slots id n; free = more }) i
-  later i true s k = inr (now i (same i id s))
-  later i false s (inl f) = inl (record { handle = f.handle; holds = emptied_other arena.slots id i h n e (other i id s) ∙ f.holds; fits = f.fits })
-  later i false s (inr g) = inr (gone i g)
-
-  over : (i : Id) → (same_id id i ≡ true) ⊎ (has_closed_line past i ≡ true) → IsGone (emptied arena.slots id n) more i
-  over i (inl s) = now i (sym (same id i s))
-  over i (inr c) = gone i (k.over i c)
+    still : (i : Id) → Fits arena.slots Closes i → (b : Bool) → same_id i id ≡ b → IsShut now i
+    still i f true s = inr (subst (IsGone now.slots now.free) (sym (same i id s)) gone_id)
+    still i f false s = inl (fits_emptied arena.slots Closes id h n e i (other i id s) f)
